@@ -7,5 +7,3 @@ pub mod Clears
 pub mod Usage
 pub mod Leaps
 pub mod NewRows
-pub mod Growth
-pub mod Transitions

@@ -1,3 +1,4 @@
 pub mod StartSlots
 pub mod Builds
 pub mod OneState
+pub mod Costs

@@ -7,7 +7,6 @@ pub mod Units
 pub mod Reach
 pub mod Agreement
 pub mod Costs
-pub mod Cached
 pub mod Directions
 pub mod Runs
 pub mod Mixed

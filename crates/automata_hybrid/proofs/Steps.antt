@@ -1,5 +1,4 @@
 pub mod Effects
-pub mod StartTags
 pub mod Ids
 pub mod Starts
 pub mod Steps

@@ -1,5 +1,4 @@
 pub mod Reports
-pub mod Cached
 pub mod Progress
 pub mod Calls
 pub mod Sets
@@ -9,5 +8,4 @@ pub mod Bounds
 pub mod Parts
 pub mod Units
 pub mod Follows
-pub mod SetsFollow
 pub mod SetsByPaths

@@ -4,7 +4,5 @@ pub mod Stores
 pub mod Caches
 pub mod Usage
 pub mod Clears
-pub mod Changes
-pub mod Growth
 pub mod Progress
 pub mod States

@@ -5,3 +5,5 @@ pub mod Pieces
 pub mod Searches
 pub mod Steps
 pub mod Walks
+pub mod Calls
+pub mod Known

@@ -1,20 +1,21 @@
 //! Laws that searches and walks stand on. The contract of each function is the law; what it does is to cite others.
 ghost use Rattle.automata_hybrid.specs.Cache.Caches.{IsCacheOf, IsStoreOf};
-ghost use Rattle.automata_hybrid.specs.Calls.Steps.{StartsFollow, StepsFollow};
+ghost use Rattle.automata_hybrid.specs.Known.Bounds.{CachesAreKnown};
+ghost use Rattle.automata_hybrid.specs.Known.Cached.{KnownStays};
+ghost use Rattle.automata_hybrid.specs.Known.Effects.{EventsFollow, IdsAreKnown, StartsFollow, StepsFollow};
+ghost use Rattle.automata_hybrid.specs.Known.Follows.{PassesCost, SearchesFollow};
+ghost use Rattle.automata_hybrid.specs.Known.PiecesFollow.{PieceAnswersFollow, PiecesFollow};
+ghost use Rattle.automata_hybrid.specs.Known.WalksFollow.{CallsFollow, SetsFollow};
 ghost use Rattle.automata_hybrid.specs.Machines.Machine.{IsSized};
-ghost use Rattle.automata_hybrid.specs.Pieces.Follows.{PieceAnswersFollow, PiecesFollow};
 ghost use Rattle.automata_hybrid.specs.Pieces.Matching.{StatesHaveMatching};
 ghost use Rattle.automata_hybrid.specs.Pieces.Whole.{PiecesAreWhole};
-ghost use Rattle.automata_hybrid.specs.Walks.Follows.{CallsFollow, SetsFollow};
 ghost use Rattle.automata_hybrid.specs.Walks.SetsByPaths.{SetsHaveMatching};
 ghost use Rattle.automata_hybrid.specs.Searches.Agreement.{AnswersAgree, WalksAgree};
-ghost use Rattle.automata_hybrid.specs.Searches.Follows.{PassesCost, SearchesFollow};
-ghost use Rattle.automata_hybrid.specs.Searches.Cached.{KnownStays};
 ghost use Rattle.automata_hybrid.specs.Steps.BySteps.{FirstMatchIsFound};
 
 use crate::cache::Cache;
 use crate::dfa::DFA;
-use automata_base::laws::{passes_report_paths, reported_is_right, walk_is_right};
+use automata_base::laws::{passes_report_paths, reported_is_right, steps_are_right, walk_is_right};
 
 /// What was searched before, and how large the cache is, shows in no answer: two searches of one automaton, match kind
 /// and input that answer find the same.
@@ -48,22 +49,40 @@ pub fn cache_is_within(dfa: &DFA, cache: &Cache)
     cache.see_bounds();
 }
 
-/// What follows of what a search makes of its cache: how often it determinizes, and when it clears nothing; that until
-/// the next clear nothing is lost; that all that it used is cached after an answer; that with all that cached nothing
-/// changes but the progress; and why it fails. And what passes cost that have ended one after another.
-pub fn searches_follow()
-    ensures searches { SearchesFollow }
-    ensures passes { PassesCost }
-{}
+/// What a cache of a DFA knows is what these laws are about: its rows have states of no greater cost than a state may
+/// have, none of them dead; it has all start slots; and its accounted bytes are within the capacity. And it knows each
+/// ID from which a step may be taken.
+pub fn caches_are_known(dfa: &DFA)
+    ensures known { CachesAreKnown dfa.now }
+    ensures ids { IdsAreKnown dfa.now }
+{
+    dfa.see_machine();
+}
 
-/// What follows of a step, and of a call for a start state: how often it determinizes, how the cache grows, what it
-/// computes, what is cached after it, and what changes nothing.
-pub fn steps_follow()
-    ensures steps { StepsFollow }
-    ensures starts { StartsFollow }
-{}
+/// What follows of what a search makes of what its cache knows: how often it determinizes, and when it clears nothing;
+/// that until the next clear nothing is lost; that all that it used is cached after an answer; that nothing changes but
+/// the progress if all that was cached before; and when it fails with out of memory alone. And what passes cost that
+/// have ended one after another.
+pub fn searches_follow(dfa: &DFA)
+    ensures searches { SearchesFollow dfa.now }
+    ensures passes { PassesCost dfa.now }
+{
+    dfa.see_machine();
+    steps_are_right(dfa.get_nfa());
+}
 
-/// If all that a search uses was cached, and no row, start state or transition was lost, it is still cached.
+/// What follows of what an event makes of what its cache knows, and so of a step and of a call for a start state: how
+/// often it determinizes, what stays, which row is added, when the cache is cleared, and what is cached then.
+pub fn steps_follow(dfa: &DFA)
+    ensures events { EventsFollow dfa.now }
+    ensures steps { StepsFollow dfa.now }
+    ensures starts { StartsFollow dfa.now }
+{
+    dfa.see_machine();
+    steps_are_right(dfa.get_nfa());
+}
+
+/// If all that a search uses was cached, and until a clear nothing was lost, it is still cached.
 pub fn known_stays(dfa: &DFA)
     ensures { KnownStays dfa.now }
 {
@@ -100,26 +119,33 @@ pub fn states_have_matching(dfa: &DFA)
     let _states = dfa.get_nfa().states();
 }
 
-/// What follows of what reading a piece, or asking for the answer of a search in pieces, makes of the cache: how often
-/// it determinizes, how the cache grows, when nothing is cleared, and when it fails with out of memory alone.
-pub fn pieces_follow()
-    ensures pieces { PiecesFollow }
-    ensures answers { PieceAnswersFollow }
-{}
+/// What follows of what reading a piece, or asking for the answer of a search in pieces, makes of what its cache knows:
+/// how often it determinizes, what stays, when nothing is cleared, and when it fails with out of memory alone.
+pub fn pieces_follow(dfa: &DFA)
+    ensures pieces { PiecesFollow dfa.now }
+    ensures answers { PieceAnswersFollow dfa.now }
+{
+    dfa.see_machine();
+    steps_are_right(dfa.get_nfa());
+}
 
-/// What follows of the run of a call of an overlapping search: how often it determinizes, how the cache grows, what is
-/// cached after it, that nothing changes but the progress if all that it uses is cached, and why it fails.
+/// What follows of what a call of an overlapping search makes of what its cache knows: how often it determinizes, what
+/// stays, what is cached after it, and that nothing changes but the progress if all that it uses is cached.
 pub fn calls_follow(dfa: &DFA)
     ensures { CallsFollow dfa.now }
 {
+    dfa.see_machine();
+    steps_are_right(dfa.get_nfa());
     let _skips = dfa.skips();
 }
 
-/// What follows of the run of the search for a set of patterns: how often it determinizes, how the cache grows, what is
-/// cached after it, that nothing changes but the progress if all that it uses is cached, and why it fails.
+/// What follows of what the search for a set of patterns makes of what its cache knows: how often it determinizes, what
+/// stays, what is cached after it, and that nothing changes but the progress if all that it uses is cached.
 pub fn sets_follow(dfa: &DFA)
     ensures { SetsFollow dfa.now }
 {
+    dfa.see_machine();
+    steps_are_right(dfa.get_nfa());
     walk_is_right(dfa.get_nfa());
     let _skips = dfa.skips();
 }

@@ -6,14 +6,18 @@ use Rattle.automata_hybrid.specs.declared.cache.Found.{Found}
 use Rattle.automata_hybrid.specs.declared.cache.row.Row.{Row}
 use Rattle.automata_hybrid.specs.Cache.Caches.{CacheView}
 use Rattle.automata_hybrid.specs.Cache.Clears.{row_of}
-use Rattle.automata_hybrid.specs.Cache.Changes.{ClearsFirst, JustGrows, cleared_saving, grown, put_found}
+use Rattle.automata_hybrid.specs.Private.Cache.Changes.{grown, put_found}
+use Rattle.automata_hybrid.specs.Private.Cache.Changes.{ClearsFirst, JustGrows, cleared_saving_in_store}
 use Rattle.automata_hybrid.specs.Private.Cache.Changes.{AddsNext, AddsRow}
 use Rattle.automata_hybrid.specs.Private.Cache.LookUps.{IsLookedUp}
 use Rattle.automata_hybrid.specs.Machines.Machine.{Machine}
-use Rattle.automata_hybrid.specs.Cache.Stores.{KeepsStarts, Stored, with_table}
-use Rattle.automata_hybrid.specs.Cache.Table.{IsKnownState, Lacks, Names, Rows, id_of}
+use Rattle.automata_hybrid.specs.Cache.Stores.{Stored}
+use Rattle.automata_hybrid.specs.Private.Cache.Stores.{KeepsStarts, with_table}
+use Rattle.automata_hybrid.specs.Cache.Table.{Names, Rows, id_of}
+use Rattle.automata_hybrid.specs.Private.Cache.Table.{Lacks}
+use Rattle.automata_hybrid.specs.Private.Cache.Table.{IsKnownState}
 use Rattle.automata_hybrid.specs.Private.Cache.Table.{IsNewState}
-use Rattle.automata_hybrid.specs.Cache.Usage.{Fits, cleared, refuses_to_clear}
+use Rattle.automata_hybrid.specs.Private.Cache.Usage.{Fits, cleared, refuses_to_clear}
 use Rattle.automata_hybrid.specs.Private.Cache.Usage.{IsCleared}
 use Rattle.automata_hybrid.proofs.Steps.Effects.{only-grown}
 
@@ -92,7 +96,7 @@ pub next_fits :
     → ((id : ℕ) (p : Powerset) → Names old.table id p → Names new.table id p) → Names new.table next q
     → AddsNext old new from q from next
 next_fits old new from next q fits e kept named =
-    record { row = adds_fits old (cleared_saving old from) new (record { state = q; started = false }) next fits e named; saved = kept from }
+    record { row = adds_fits old (cleared_saving_in_store old from) new (record { state = q; started = false }) next fits e named; saved = kept from }
 
 -- a state stepped to that does not fit: the row stepped from was put back
 pub next_clears :
@@ -114,7 +118,7 @@ next_clears old fresh between new from now next q full clear put of saved absent
   r : Row
   r = record { state = q; started = false }
 
-  all : between ≡ cleared_saving old from
+  all : between ≡ cleared_saving_in_store old from
   all = put ∙ (λ i. with_table (clear.value i) (put_found (clear.value i).table (row_of old.table from)))
 
   slots : between.starts ≡ fresh.starts

@@ -14,10 +14,12 @@ use Rattle.automata_hybrid.specs.Machines.StartSlots.{slot_behind}
 use Rattle.automata_hybrid.specs.declared.cache.row.Row.{Row}
 use Rattle.automata_hybrid.specs.Cache.Ids.{dead_id}
 use Rattle.automata_hybrid.specs.Machines.Machine.{Machine}
-use Rattle.automata_hybrid.specs.Cache.Table.{Leads, Names, Rows, id_of, with_row}
-use Rattle.automata_hybrid.specs.Cache.Clears.{AllStarts, row_of, with_row_once, Kept, keep_found, IsSlot, LeadsToStart}
+use Rattle.automata_hybrid.specs.Cache.Table.{Leads, Names, Rows, id_of}
+use Rattle.automata_hybrid.specs.Private.Cache.Table.{with_row}
+use Rattle.automata_hybrid.specs.Cache.Clears.{AllStarts, row_of, IsSlot, LeadsToStart}
+use Rattle.automata_hybrid.specs.Private.Cache.Clears.{with_row_once, Kept, keep_found}
 use Rattle.automata_hybrid.specs.Private.Cache.Clears.{KeepsSlot}
-use Rattle.automata_hybrid.specs.Cache.Clears.{keep_slot, keep_slots}
+use Rattle.automata_hybrid.specs.Private.Cache.Clears.{keep_slot, keep_slots}
 use Rattle.automata_hybrid.specs.Private.Cache.Clears.{IsPut}
 use Rattle.automata_hybrid.proofs.Caches.Rows.{Leads-more, at_push, find_id-push_other}
 use Rattle.std.specs.Option.{is_some, unwrap_or}

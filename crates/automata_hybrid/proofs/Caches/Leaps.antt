@@ -1,9 +1,9 @@
 -- How leaps are made of a table: steps on one class, levels of them, and the cells of the last level.
 use Rattle.std.proofs.Common.{ℕ, zero, suc, ◌≡◌, ◌∙◌, ◌+◌, ◌-◌, ◌*◌, ◌/◌, ◌%◌, ◌^◌, ◌<◌, ◌≤◌, ◌⊎◌, inl, inr, Bool, true, false}
-use Rattle.std.proofs.Common.{List, [], ◌∷◌, ◌++◌, length, refl, slice_index, sym, ap, subst, arith, cond, Option, None, Some}
+use Rattle.std.proofs.Common.{List, [], ◌∷◌, ◌++◌, length, refl, slice_index, sym, ap, subst, arith, Option, None, Some}
 use Rattle.std.proofs.Common.{drop, slice_get, slice_set, sum_by, take}
 use Rattle.std.proofs.Math.Nat.{mul-le-mul_left, mul-le-mul_right, pow-le-pow_left}
-use Rattle.std.proofs.lemmas.Bool.{cases_lt, le-ltb, lt-ltb}
+use Rattle.std.proofs.lemmas.Bool.{cases_lt}
 use Rattle.std.proofs.lemmas.List.{get_or-append-add, get_or-drop, get_or-set_other, get_or-take, get_or_append_left, get_or_push, length-append}
 use Rattle.std.proofs.lemmas.List.{length-drop, length-set, length-take-le}
 use Rattle.std.proofs.lemmas.Nat.{div-mul-add, mod-mul-add}
@@ -12,17 +12,18 @@ use Rattle.automata_base.specs.Nfas.Nodes.{Automaton}
 use Rattle.automata_base.specs.Powersets.Accounting.{cell_size, entry_size, fixed_rows_cost, minimum_capacity, row_size}
 use Rattle.automata_hybrid.specs.Cache.Ids.{offset_limit, unknown_id}
 use Rattle.automata_hybrid.specs.Private.Cache.Leaps.{AreCacheParts, AreLeaps, AreLeapSteps, IsLevel, IsLevelCell, IsLeapStep, LeadsToRow, LeapsTo}
-use Rattle.automata_hybrid.specs.Private.Cache.Leaps.{ReachesRow, first_cell, leaps_bytes, mark}
-use Rattle.automata_hybrid.specs.Cache.Stores.{Stored, with_next, with_start}
+use Rattle.automata_hybrid.specs.Private.Cache.Leaps.{ReachesRow, leaps_bytes, mark}
+use Rattle.automata_hybrid.specs.Cache.Stores.{Stored}
+use Rattle.automata_hybrid.specs.Private.Cache.Stores.{with_next, with_start_in_store}
 use Rattle.automata_hybrid.specs.Cache.Clears.{AllStarts, IsSlot, LeadsToStart}
 use Rattle.automata_base.proofs.Paths.Orders.{some_inj}
-use Rattle.automata_hybrid.specs.Cache.Table.{RowsFitCells, Rows, cell_at, row_cost, with_cell}
+use Rattle.automata_hybrid.specs.Cache.Table.{RowsFitCells, Rows, cell_at, row_cost}
+use Rattle.automata_hybrid.specs.Private.Cache.Table.{with_cell}
 use Rattle.automata_hybrid.specs.Cache.Usage.{usage}
 use Rattle.automata_hybrid.specs.Private.Cache.Usage.{IsCache}
 use Rattle.automata_hybrid.specs.declared.cache.settings.Settings.{Settings}
 use Rattle.automata_hybrid.specs.Machines.Machine.{Machine}
 use Rattle.automata_hybrid.specs.declared.cache.leaps.Leaps.{Leaps}
-use Rattle.automata_hybrid.specs.declared.cache.leaps.Shape.{Shape}
 
 -- classes are few, and so are sequences of few of them
 pub power_small : (n count : ℕ) → n ≤ 32 → count ≤ 4 → n ^ count ≤ 2 ^ 20
@@ -285,7 +286,7 @@ starts_set t xs slot id all leads s i e = go (slice_get_set xs slot id s i e) wh
   go (inl here) = subst (λ n. IsSlot t n i) (sym here.0) (subst (IsSlot t slot) (sym here.1) (inr leads))
   go (inr there) = all s i there
 
-pub cache_start : (c : Stored) (s : Settings) (slot id : ℕ) → LeadsToStart c.table id slot → IsCache c s → IsCache (with_start c slot id) s
+pub cache_start : (c : Stored) (s : Settings) (slot id : ℕ) → LeadsToStart c.table id slot → IsCache c s → IsCache (with_start_in_store c slot id) s
 cache_start c s slot id leads held =
     let long : length (slice_set c.starts slot id) ≡ length c.starts = length-set c.starts slot id in
     record {

@@ -17,7 +17,8 @@ use Rattle.std.specs.List.{sum_by}
 use Rattle.std.proofs.lemmas.List.Sums.{sum_by-cons}
 use Rattle.automata_hybrid.specs.Cache.Table.{CellLeads, CellQuits, CellUnknown}
 use Rattle.automata_hybrid.specs.Cache.Table.{Rows, has_patterns, find_id, Names, IsRowId, IsCell, row_id, LeadsByClass}
-use Rattle.automata_hybrid.specs.Cache.Table.{with_cell, cell_at, RowsFitCells, IsStepped}
+use Rattle.automata_hybrid.specs.Cache.Table.{cell_at, RowsFitCells, IsStepped}
+use Rattle.automata_hybrid.specs.Private.Cache.Table.{with_cell}
 use Rattle.automata_hybrid.specs.Private.Cache.Table.{HasState}
 use Rattle.automata_hybrid.specs.Cache.Table.{row_cost}
 use Rattle.automata_hybrid.proofs.Caches.Rows.{inside}

@@ -12,11 +12,14 @@ use Rattle.std.proofs.lemmas.List.{length-replicate, get_or-replicate}
 use Rattle.std.proofs.lemmas.Option.{slice_get_within, get_or_from_slice_get}
 use Rattle.automata_hybrid.specs.declared.cache.settings.Settings.{Settings}
 use Rattle.automata_hybrid.specs.declared.cache.progress.Searched.{Searched}
-use Rattle.automata_hybrid.specs.Cache.Table.{Rows, Leads, Names, row_cost, with_row, fixed_rows}
+use Rattle.automata_hybrid.specs.Cache.Table.{Rows, Leads, Names, row_cost, fixed_rows}
+use Rattle.automata_hybrid.specs.Private.Cache.Table.{with_row}
 use Rattle.automata_hybrid.specs.Cache.Clears.{AllStarts}
-use Rattle.automata_hybrid.specs.Cache.Stores.{Stored, with_table, fresh_store}
+use Rattle.automata_hybrid.specs.Cache.Stores.{Stored, fresh_store}
+use Rattle.automata_hybrid.specs.Private.Cache.Stores.{with_table}
 use Rattle.automata_hybrid.specs.Private.Cache.Stores.{cache_settings}
-use Rattle.automata_hybrid.specs.Cache.Usage.{usage, Fits}
+use Rattle.automata_hybrid.specs.Cache.Usage.{usage}
+use Rattle.automata_hybrid.specs.Private.Cache.Usage.{Fits}
 use Rattle.automata_hybrid.specs.Private.Cache.Usage.{IsCache}
 
 -- in a cache with so few rows a new state fits

@@ -1,5 +1,5 @@
 -- What a search in pieces answers over an input, by what a pass over it does.
-use Rattle.std.proofs.Common.{ℕ, suc, ◌≡◌, ◌<◌, ◌≤◌, ◌+◌, ◌-◌, ◌^◌, ◌⊎◌, inl, inr, true, false, List, [], ◌∷◌, length}
+use Rattle.std.proofs.Common.{ℕ, suc, ◌≡◌, ◌<◌, ◌≤◌, ◌+◌, ◌-◌, ◌^◌, true, false, List, [], ◌∷◌, length}
 use Rattle.std.proofs.Common.{Bool, Option, Some, None, refl, sym, ap, ◌∙◌, subst, arith}
 use Rattle.std.specs.Prelude.{Ok}
 use Rattle.automata_base.specs.Answers.OfPasses.{ReportedEndsAreRight, ReportedIsRight}
@@ -20,8 +20,9 @@ use Rattle.automata_hybrid.specs.Cache.Table.{Leads, Names}
 use Rattle.automata_hybrid.specs.Machines.Machine.{Machine}
 use Rattle.automata_hybrid.specs.Pieces.Answers.{BeginsAfter, EndsHere, HasBegun, IsPieceAt, IsWhole, ReadsOn, StandsAfter}
 use Rattle.automata_hybrid.specs.Pieces.Answers.{WasGiven, WasGivenAll, from_first}
-use Rattle.automata_hybrid.specs.Pieces.Progress.{ReadsThrough, ReadsPieceUpto}
-use Rattle.automata_hybrid.specs.Pieces.State.{PiecesView, found_in}
+use Rattle.automata_hybrid.specs.Private.Pieces.Progress.{ReadsThroughInStore, ReadsPieceUptoInStore}
+use Rattle.automata_hybrid.specs.Pieces.State.{PiecesView}
+use Rattle.automata_hybrid.specs.Private.Pieces.State.{found_in}
 use Rattle.automata_hybrid.specs.Searches.PassContracts.{IsPassAnswer}
 use Rattle.automata_hybrid.specs.Searches.PassState.{IsAt, half_at, half_of}
 use Rattle.automata_hybrid.specs.Searches.Passes.{HasReadNoQuit, IsFound, Reads, Skips, WithoutBase, reported_in}
@@ -29,6 +30,7 @@ use Rattle.automata_hybrid.specs.Searches.Passes.{state_in, tape_in}
 use Rattle.automata_hybrid.specs.Searches.PieceRuns.{piece_input, piece_state, piece_trace}
 use Rattle.automata_hybrid.specs.Private.Searches.Units.{IsReadAnswer}
 use Rattle.automata_hybrid.specs.Steps.Starts.{IsStartAnswer, MayStart}
+use Rattle.automata_hybrid.specs.Private.Searches.PieceRuns.{HasFound, IsDeadAfter, IsDecidedAlong}
 use Rattle.automata_hybrid.proofs.Pieces.Runs.{pass_clean, pass_found, pass_next, pass_state}
 use Rattle.automata_hybrid.proofs.Searches.Bounds.{lies_in}
 use Rattle.automata_hybrid.proofs.Searches.Directions.{begins_alive, begins_dead}
@@ -154,7 +156,7 @@ module _ (m : Machine) (q : Powerset) (piece : List ℕ) (old new : PiecesView) 
   pub reads_through :
       (id : ℕ) (row end : CacheView) (held : Powerset)
       → new.state ≡ Some held → held ≡ piece_state m piece q (length piece) → new.read ≡ old.read + length piece
-      → ReadsThrough m piece old q id found row end → ReadsOn m piece old new
+      → ReadsThroughInStore m piece old q id found row end → ReadsOn m piece old new
   reads_through id row end held stood state read through input n given here = record {
     plain = given.plain;
     undone = given.undone;
@@ -187,7 +189,7 @@ module _ (m : Machine) (q : Powerset) (piece : List ℕ) (old new : PiecesView) 
     }
 
   -- or its answer stands
-  module _ (k : ℕ) (row end : CacheView) (over : ReadsPieceUpto m piece old q k found row end) (input : Input) (n : ℕ)
+  module _ (k : ℕ) (row end : CacheView) (over : ReadsPieceUptoInStore m piece old q k found row end) (input : Input) (n : ℕ)
       (given : WasGiven m input n old) (here : IsPieceAt input n piece) where
     before : StandsAfter m input n q old
     before = given.stands q was
@@ -225,9 +227,9 @@ module _ (m : Machine) (q : Powerset) (piece : List ℕ) (old new : PiecesView) 
         (reported_in Forward m input (suc (n + k))) l first refl (λ f. some_half some (ap (half_of Forward input) f))) ∙ r.2 first))
 
     answer :
-        (piece_state m piece q (suc k) ≡ dead) ⊎ ((old.earliest ≡ true) × (found ≡ None → ⊥))
+        IsDecidedAlong (piece_trace m piece old.earliest q) (piece_input piece old.earliest) k found
         → IsPassAnswer Forward m input (from_first input.start new.found)
-    answer (inl d) =
+    answer (IsDeadAfter d) =
         let dies : state_in Forward m input (suc (n + k)) ≡ dead =
         pass_next m input n q piece given.inside here before.state k low ∙ d in
         record {
@@ -238,7 +240,7 @@ module _ (m : Machine) (q : Powerset) (piece : List ℕ) (old new : PiecesView) 
           clean = clean_all Forward m input (suc (n + k)) given.may.0 clean (λ j l r. r.1 (dead_more Forward m input (suc (n + k)) j l dies));
           supported = given.may.1;
         }
-    answer (inr (e, some)) =
+    answer (HasFound e some) =
         let first : input.earliest ≡ true = sym given.early ∙ e in record {
           found = read ∙ found_first Forward m input (suc (n + k)) (omega (arith, few)) first (some_half some);
           clean = clean_all Forward m input (suc (n + k)) given.may.0 clean (stops first some);
@@ -257,7 +259,7 @@ module _ (m : Machine) (q : Powerset) (piece : List ℕ) (old new : PiecesView) 
     }
 
   pub reads_over :
-      (k : ℕ) (row end : CacheView) → new.state ≡ None → ReadsPieceUpto m piece old q k found row end → ReadsOn m piece old new
+      (k : ℕ) (row end : CacheView) → new.state ≡ None → ReadsPieceUptoInStore m piece old q k found row end → ReadsOn m piece old new
   reads_over k row end none over input n given here = over_given k row end over input n given here none
 
 -- what one pass answers is what a search returns for the whole span, where no offset is skipped

@@ -1,11 +1,8 @@
 -- Under `MatchKind::All` the state of a pass reports the patterns of the paths that end in a match there.
-use Rattle.std.proofs.Common.{ℕ, suc, ◌≡◌, ◌∙◌, ◌-◌, ◌≤◌, Some, arith, subst, sym}
-use Rattle.automata_base.specs.Answers.Answers.{IsInput}
-use Rattle.automata_base.specs.Haystacks.Input.{Input}
+use Rattle.std.proofs.Common.{arith, subst, sym}
 use Rattle.automata_base.specs.Lists.{IsSet}
 use Rattle.automata_base.specs.Nfas.Accepted.{IsChecked}
 use Rattle.automata_base.specs.Nfas.Nodes.{nfa_of}
-use Rattle.automata_base.specs.Paths.Starts.{mode_start}
 use Rattle.automata_base.specs.Retraced.Passes.{reported_at}
 use Rattle.automata_base.specs.declared.util.search.Direction.TheVariants.{Forward}
 use Rattle.automata_base.specs.declared.util.search.MatchKind.{MatchKind}
@@ -14,7 +11,6 @@ use Rattle.automata_base.proofs.Answers.Total.{tape_units}
 use Rattle.automata_base.proofs.Paths.Finals.{set_right}
 use Rattle.automata_base.proofs.Powersets.PassReports.{reported_is}
 use Rattle.automata_base.proofs.Powersets.ReportsAreRight.{start_below}
-use Rattle.automata_config.specs.Options.{match_kind_of}
 use Rattle.automata_hybrid.specs.Machines.Machine.{Machine}
 use Rattle.automata_hybrid.specs.Pieces.Matching.{MatchesAt, StatesHaveMatching}
 use Rattle.automata_hybrid.specs.Searches.Passes.{tape_in}

@@ -18,7 +18,7 @@ use Rattle.automata_base.proofs.Answers.Bytes.{forward_next, nth_between}
 use Rattle.automata_config.specs.Options.{match_kind_of}
 use Rattle.automata_hybrid.specs.Machines.Machine.{Machine}
 use Rattle.automata_hybrid.specs.Pieces.Answers.{IsPieceAt, from_first}
-use Rattle.automata_hybrid.specs.Pieces.State.{found_in}
+use Rattle.automata_hybrid.specs.Private.Pieces.State.{found_in}
 use Rattle.automata_hybrid.specs.Searches.PieceRuns.{piece_input, piece_state, piece_trace}
 use Rattle.automata_hybrid.specs.Searches.Traces.{reported_along}
 use Rattle.automata_hybrid.specs.Searches.PassState.{half_of}

@@ -17,17 +17,19 @@ use Rattle.automata_hybrid.specs.Cache.Caches.{CacheView}
 use Rattle.automata_hybrid.specs.Cache.Ids.{HasDeadTag}
 use Rattle.automata_hybrid.specs.Cache.Table.{Leads, Names, Rows}
 use Rattle.automata_hybrid.specs.Machines.Machine.{Machine}
-use Rattle.automata_hybrid.specs.Pieces.Answers.{BeginsAfter, IsPieceAt, from_first}
-use Rattle.automata_hybrid.specs.Pieces.Progress.{ReadsThrough, ReadsPieceUpto}
-use Rattle.automata_hybrid.specs.Pieces.State.{PiecesView, found_in}
+use Rattle.automata_hybrid.specs.Pieces.Answers.{IsPieceAt, from_first}
+use Rattle.automata_hybrid.specs.Private.Pieces.Progress.{ReadsThroughInStore, ReadsPieceUptoInStore}
+use Rattle.automata_hybrid.specs.Pieces.State.{PiecesView}
+use Rattle.automata_hybrid.specs.Private.Pieces.State.{found_in}
 use Rattle.automata_hybrid.specs.Pieces.Walks.{AtMatch, AtPieceEnd, EndsWith, HasBegunWalk, HasWalked, IsAtMatch, HasNoMatch, IsWalked}
-use Rattle.automata_hybrid.specs.Pieces.Walks.{StopsAt, WalksAt, WalksOn, patterns_at, patterns_here}
+use Rattle.automata_hybrid.specs.Pieces.Walks.{patterns_at, patterns_here}
 use Rattle.automata_hybrid.specs.Private.Pieces.Walks.{StandsInRow}
 use Rattle.automata_hybrid.specs.Searches.PassState.{half_at, half_of}
 use Rattle.automata_hybrid.specs.Searches.Passes.{HasReadNoQuit, Skips, state_in, tape_in}
 use Rattle.automata_hybrid.specs.Searches.PieceRuns.{piece_input, piece_state, piece_trace}
 use Rattle.automata_hybrid.specs.Private.Searches.Units.{IsReadAnswer}
 use Rattle.automata_hybrid.specs.Steps.Starts.{IsStartAnswer}
+use Rattle.automata_hybrid.specs.Private.Searches.PieceRuns.{HasFound, IsDeadAfter, IsDecidedAlong}
 use Rattle.automata_hybrid.proofs.Pieces.Answers.{leads_begin, may_begin}
 use Rattle.automata_hybrid.proofs.Pieces.Runs.{pass_clean, pass_next, pass_state}
 use Rattle.automata_hybrid.proofs.Searches.Directions.{begins_alive, begins_dead}
@@ -199,7 +201,7 @@ module _ (m : Machine) (q : Powerset) (piece : List ℕ) (old new : PiecesView) 
   pub walks_through :
       (t : Rows) (id : ℕ) (found : Option HalfMatch) (row end : CacheView)
       → StandsInRow t id (old.read + length piece) None old new → Names t id (piece_state m piece q (length piece - 0))
-      → ReadsThrough m piece old q id found row end → IsWalked m piece old new (length piece)
+      → ReadsThroughInStore m piece old q id found row end → IsWalked m piece old new (length piece)
   walks_through t id found row end stands named through = record {
     few = omega arith;
     all = λ e. refl;
@@ -233,7 +235,7 @@ module _ (m : Machine) (q : Powerset) (piece : List ℕ) (old new : PiecesView) 
   }
 
   -- up to a byte
-  module _ (i : ℕ) (found : Option HalfMatch) (row end : CacheView) (upto : ReadsPieceUpto m piece old q i found row end) where
+  module _ (i : ℕ) (found : Option HalfMatch) (row end : CacheView) (upto : ReadsPieceUptoInStore m piece old q i found row end) where
     low : i < length piece
     low = let l = upto.reads.0 in omega (arith, l)
 
@@ -249,9 +251,11 @@ module _ (m : Machine) (q : Powerset) (piece : List ℕ) (old new : PiecesView) 
     -- what it finds is why it stops: if nothing, the state is dead
     pub dead_upto : found ≡ None → piece_state m piece q (suc i) ≡ dead
     dead_upto none = go upto.over where
-      go : (piece_state m piece q (suc i) ≡ dead) ⊎ ((old.earliest ≡ true) × (found ≡ None → ⊥)) → piece_state m piece q (suc i) ≡ dead
-      go (inl dies) = dies
-      go (inr more) = absurd (more.1 none)
+      go :
+          IsDecidedAlong (piece_trace m piece old.earliest q) (piece_input piece old.earliest) i found
+          → piece_state m piece q (suc i) ≡ dead
+      go (IsDeadAfter dies) = dies
+      go (HasFound early some) = absurd (some none)
 
     -- else the state has a row
     pub named_upto :

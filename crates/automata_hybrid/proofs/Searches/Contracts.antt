@@ -1,16 +1,14 @@
 -- What searches return whatever the cache.
-use Rattle.std.proofs.Common.{ℕ, ◌≡◌, Option, Some, None, refl, sym, ap, subst}
+use Rattle.std.proofs.Common.{ℕ, ◌≡◌, Option, Some, None, refl, ap, subst}
 use Rattle.std.specs.Prelude.{Result, Ok, Err, IfErr, IfOk}
-use Rattle.std.specs.Result.{IsErrAnd, result_err}
+use Rattle.std.specs.Result.{result_err}
 use Rattle.automata_base.specs.Answers.Answers.{Half}
-use Rattle.automata_base.specs.Haystacks.Input.{Input}
 use Rattle.automata_base.specs.Haystacks.Matches.{HalfMatch}
-use Rattle.automata_base.specs.declared.util.search.Direction.TheVariants.{Forward}
 use Rattle.automata_config.specs.declared.error.SearchError.{SearchError}
 use Rattle.automata_hybrid.specs.Cache.Stores.{Stored}
 use Rattle.automata_hybrid.specs.Cache.Caches.{IsStoreOf}
 use Rattle.automata_hybrid.specs.Machines.Machine.{Machine}
-use Rattle.automata_hybrid.specs.Searches.Contracts.{IsBased, IsHalf, based_half}
+use Rattle.automata_hybrid.specs.Searches.Contracts.{based_half}
 use Rattle.automata_hybrid.specs.Private.Searches.Contracts.{halves}
 use Rattle.automata_hybrid.specs.Searches.Passes.{WithoutBase, with_base}
 use Rattle.automata_hybrid.proofs.Cases.{same_err}

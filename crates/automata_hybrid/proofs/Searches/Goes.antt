@@ -1,7 +1,9 @@
 -- Units that are read one after another, and the end of a pass after them.
-use Rattle.std.proofs.Common.{ℕ, zero, suc, ◌≡◌, ◌∙◌, ◌+◌, ◌-◌, ◌<◌, ◌≤◌, ◌⊎◌, Option, inl, inr, refl, sym, ap, subst, arith}
+use Rattle.std.proofs.Common.{ℕ, zero, suc, ◌≡◌, ◌∙◌, ◌+◌, ◌-◌, ◌<◌, ◌≤◌, ◌⊎◌, Option, length, inl, inr, refl, sym, ap, subst, arith}
 use Rattle.std.proofs.Common.{eq-or-lt_of_le}
+use Rattle.std.specs.Prelude.{Result, Ok, Err}
 use Rattle.automata_base.specs.Haystacks.Input.{Input}
+use Rattle.automata_base.specs.Haystacks.Matches.{HalfMatch}
 use Rattle.automata_base.specs.Paths.Paths.{next}
 use Rattle.automata_base.specs.Powersets.Powerset.{Powerset}
 use Rattle.automata_base.specs.declared.util.search.Direction.{Direction}
@@ -10,16 +12,20 @@ use Rattle.automata_hybrid.specs.Cache.Caches.{CacheView, IsStoreOf, with_store}
 use Rattle.automata_hybrid.specs.Cache.Progress.{progress_finished}
 use Rattle.automata_hybrid.specs.Cache.Stores.{with_searched}
 use Rattle.automata_hybrid.specs.Cache.Table.{Names}
-use Rattle.automata_hybrid.specs.Calls.Events.{Does, FindsCached, IsStepLeft, Step, ended, moved}
-use Rattle.automata_hybrid.specs.Calls.Steps.{StartFailsAt}
+use Rattle.automata_hybrid.specs.Calls.Events.{Step}
+use Rattle.automata_hybrid.specs.Private.Calls.Events.{Does, FindsCached, IsStepLeft, ended_in_store, moved_in_store}
+use Rattle.automata_hybrid.specs.Private.Calls.Steps.{StartFailsAtInStore}
 use Rattle.automata_hybrid.specs.Machines.Machine.{Machine, unit_class}
+use Rattle.automata_hybrid.specs.Private.Searches.PassContracts.{IsLastRead, IsPassResult, IsRest}
 use Rattle.automata_hybrid.specs.Private.Searches.PassState.{HasLearnedAlong}
-use Rattle.automata_hybrid.specs.Searches.Progress.{EndsAtLast, Goes, GoesAlong, HasNoStart, IsLeftAlong, IsLeftAt}
-use Rattle.automata_hybrid.specs.Searches.Progress.{IsReadAlong, IsStoppedAt, IsUnitRead, unit_event, with_search_ended}
-use Rattle.automata_hybrid.specs.Searches.Progress.{with_search_moved}
+use Rattle.automata_hybrid.specs.Private.Searches.Progress.{EndsAtLast, Goes, GoesAlong, HasItsStart, HasNoStart, IsLeftAlong, IsLeftAt}
+use Rattle.automata_hybrid.specs.Searches.Progress.{unit_event}
+use Rattle.automata_hybrid.specs.Private.Searches.Progress.{IsReadAlong, IsStoppedAt, IsUnitRead, with_search_ended}
+use Rattle.automata_hybrid.specs.Private.Searches.Progress.{StopsAtUnit, with_search_begun, with_search_moved}
 use Rattle.automata_hybrid.specs.Searches.Traces.{Trace, pass_trace}
-use Rattle.automata_hybrid.specs.Searches.Passes.{HasReadNoQuit, IsUnitError, Reads, given_up_offset, state_in, tape_in}
-use Rattle.automata_hybrid.proofs.Searches.PassState.{reads_before}
+use Rattle.automata_hybrid.specs.Searches.Passes.{HasReadNoQuit, Reads, given_up_offset, state_in, tape_in}
+use Rattle.automata_hybrid.specs.Private.Searches.Passes.{IsUnitError}
+use Rattle.automata_hybrid.proofs.Searches.PassState.{reads_before, stops_last}
 use Rattle.automata_hybrid.proofs.Steps.Starts.{does_keep}
 use Rattle.automata_hybrid.proofs.Steps.Steps.{unit_no_quit}
 
@@ -123,7 +129,43 @@ pub pass_stopped :
 pass_stopped way m input k old mid new e reads clean refused all left =
     let upto : 0 + all.units ≡ k = all.upto in
     let same : all.units ≡ k = omega (arith, upto) in
-    (k, mid, reads, clean, refused, subst (λ n. Goes way m input 0 n old mid) same all.goes, left)
+    record {
+      units = k;
+      clean = clean;
+      mid = mid;
+      goes = subst (λ n. Goes way m input 0 n old mid) same all.goes;
+      reads = reads;
+      error = refused;
+      left = left;
+    }
+
+-- where the units before are read, reading the last one is the rest of a pass
+pub last_rest :
+    (way : Direction) (m : Machine) (input : Input) (old mid new : CacheView) (r : Result (Option HalfMatch) SearchError)
+    → input.end - input.start ≡ length (tape_in way input).bytes → Reads way m input (input.end - input.start)
+    → HasReadNoQuit way m input (input.end - input.start) → GoesTo way m input 0 (input.end - input.start) old mid
+    → IsLastRead way m input mid new r → IsRest way m input old new r
+last_rest way m input old mid new (Ok half) units reads clean before last = record {
+  answer = last.answer;
+  ended =
+      pass_last way m input (input.end - input.start) old last.mid new reads
+      (stops_last way m input (input.end - input.start) units (suc (input.end - input.start)) (omega arith))
+      (goes_more way m input 0 old (input.end - input.start) mid last.mid before last.read) last.ended;
+}
+last_rest way m input old mid new (Err e) units reads clean before last =
+    pass_stopped way m input (input.end - input.start) old mid new e reads clean last.error before last.left
+
+-- where a pass has its start state, and its search begins, what its rest returns is what it returns
+pub rest_passes :
+    (way : Direction) (m : Machine) (input : Input) (old mid begun new : CacheView)
+    (r : Result (Option HalfMatch) SearchError) → HasItsStart way m input old mid
+    → begun ≡ with_search_begun way input 0 mid → IsRest way m input begun new r → IsPassResult way m input old new r
+rest_passes way m input old mid begun new (Ok half) starts begins rest = record {
+  answer = rest.answer;
+  ends = (mid, starts, subst (λ (v : CacheView). EndsAtLast way m input v new) begins rest.ended);
+}
+rest_passes way m input old mid begun new (Err e) starts begins rest =
+    StopsAtUnit mid starts (subst (λ (v : CacheView). IsStoppedAt way m input v new e) begins rest)
 
 -- a pass whose start is dead reads nothing
 pub pass_dies :
@@ -137,28 +179,28 @@ module _ (s : Trace) (way : Direction) (m : Machine) (input : Input) (k id at : 
     (named : Names c.store.table id (s.state k)) where
   -- and read
   pub taken_along :
-      ((q : Powerset) → Names c.store.table id q → Does m (Step q unit) c (moved at c) new) → IsReadAlong s way m input k c new
+      ((q : Powerset) → Names c.store.table id q → Does m (Step q unit) c (moved_in_store at c) new) → IsReadAlong s way m input k c new
   taken_along taken =
-      subst (λ a. Does m (Step (s.state k) (next (tape_in way input) k)) c (moved a c) new) (sym place)
-      (subst (λ u. Does m (Step (s.state k) u) c (moved at c) new) (sym is) (taken (s.state k) named))
+      subst (λ a. Does m (Step (s.state k) (next (tape_in way input) k)) c (moved_in_store a c) new) (sym place)
+      (subst (λ u. Does m (Step (s.state k) u) c (moved_in_store at c) new) (sym is) (taken (s.state k) named))
 
   -- or not
   pub left_along :
-      ((q : Powerset) → Names c.store.table id q → IsStepLeft m q unit (moved at c) (ended at c) new) → IsLeftAlong s way m input k c new
+      ((q : Powerset) → Names c.store.table id q → IsStepLeft m q unit (moved_in_store at c) (ended_in_store at c) new) → IsLeftAlong s way m input k c new
   left_along left =
-      subst (λ a. IsStepLeft m (s.state k) (next (tape_in way input) k) (moved a c) (ended a c) new) (sym place)
-      (subst (λ u. IsStepLeft m (s.state k) u (moved at c) (ended at c) new) (sym is) (left (s.state k) named))
+      subst (λ a. IsStepLeft m (s.state k) (next (tape_in way input) k) (moved_in_store a c) (ended_in_store a c) new) (sym place)
+      (subst (λ u. IsStepLeft m (s.state k) u (moved_in_store at c) (ended_in_store at c) new) (sym is) (left (s.state k) named))
 
 -- the same in a pass
 module _ (way : Direction) (m : Machine) (input : Input) (k id at : ℕ) (unit : Option ℕ) (c new : CacheView)
     (is : next (tape_in way input) k ≡ unit) (place : given_up_offset way input k ≡ at)
     (named : Names c.store.table id (state_in way m input k)) where
   pub taken_here :
-      ((q : Powerset) → Names c.store.table id q → Does m (Step q unit) c (moved at c) new) → IsUnitRead way m input k c new
+      ((q : Powerset) → Names c.store.table id q → Does m (Step q unit) c (moved_in_store at c) new) → IsUnitRead way m input k c new
   taken_here = taken_along (pass_trace way m input) way m input k id at unit c new is place named
 
   pub left_here :
-      ((q : Powerset) → Names c.store.table id q → IsStepLeft m q unit (moved at c) (ended at c) new) → IsLeftAt way m input k c new
+      ((q : Powerset) → Names c.store.table id q → IsStepLeft m q unit (moved_in_store at c) (ended_in_store at c) new) → IsLeftAt way m input k c new
   left_here = left_along (pass_trace way m input) way m input k id at unit c new is place named
 
 -- a search was ended at the offset of a unit
@@ -166,12 +208,12 @@ pub ended_here :
     (way : Direction) (input : Input) (k at : ℕ) (mid new : CacheView) → given_up_offset way input k ≡ at
     → new ≡ with_store mid (with_searched mid.store (progress_finished mid.store.searched at))
     → new ≡ with_search_ended way input k mid
-ended_here way input k at mid new place last = last ∙ ap (λ a. ended a mid) (sym place)
+ended_here way input k at mid new place last = last ∙ ap (λ a. ended_in_store a mid) (sym place)
 
 -- a start that failed
 pub unstarted :
     (way : Direction) (m : Machine) (input : Input) (behind_at start_at : ℕ) (old new : CacheView) (e : SearchError)
-    → StartFailsAt m input.anchored (tape_in way input).before behind_at start_at old new e → HasNoStart way m input old new
+    → StartFailsAtInStore m input.anchored (tape_in way input).before behind_at start_at old new e → HasNoStart way m input old new
 unstarted way m input behind_at start_at old new e h = (h.refused.fails, h.refused.barred)
 
 -- all units from the first one on, before a place

@@ -1,6 +1,6 @@
 -- Passes over cached transitions alone: how they end, and what they make of the cache and of the progress.
-use Rattle.std.proofs.Common.{ℕ, suc, ◌≡◌, ◌∙◌, ◌+◌, ◌-◌, ◌<◌, ◌≤◌, ◌⊎◌, inl, inr, length, Option, None, Some, true, false}
-use Rattle.std.proofs.Common.{refl, sym, ap, subst, arith}
+use Rattle.std.proofs.Common.{ℕ, suc, ◌≡◌, ◌+◌, ◌-◌, ◌<◌, ◌≤◌, ◌⊎◌, inl, inr, length, Option, None, Some, true, false}
+use Rattle.std.proofs.Common.{refl, sym, subst, arith}
 use Rattle.std.proofs.lemmas.Bool.{cases_lt}
 use Rattle.automata_base.specs.Haystacks.Input.{Input}
 use Rattle.automata_base.specs.Haystacks.Matches.{HalfMatch}
@@ -19,9 +19,10 @@ use Rattle.automata_hybrid.specs.Private.Searches.PassContracts.{IsKnownEnd, IsK
 use Rattle.automata_hybrid.specs.Searches.PassState.{half_at}
 use Rattle.automata_hybrid.specs.Private.Searches.PassState.{HasLearnedUnit}
 use Rattle.automata_hybrid.specs.Searches.Passes.{Reads, given_up_offset, state_in, tape_in}
-use Rattle.automata_hybrid.specs.Searches.Progress.{EndsAtLast, with_search_begun}
+use Rattle.automata_hybrid.specs.Private.Searches.Progress.{EndsAtLast, with_search_begun}
 use Rattle.automata_hybrid.specs.Private.Searches.Units.{IsReadAnswer}
-use Rattle.automata_hybrid.specs.Steps.Steps.{IsStepAnswer, KnowsStep}
+use Rattle.automata_hybrid.specs.Steps.Steps.{IsStepAnswer}
+use Rattle.automata_hybrid.specs.Private.Steps.Steps.{KnowsStep}
 use Rattle.automata_hybrid.specs.Machines.Machine.{quits_on, unit_class}
 use Rattle.automata_hybrid.proofs.Searches.PassContracts.{dead_answer, dead_stops, first_answer, first_stops, last_answer}
 use Rattle.automata_hybrid.proofs.Searches.PassState.{at_reads, more_at, more_leads, reads_before, stops_last}

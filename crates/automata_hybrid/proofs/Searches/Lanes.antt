@@ -13,11 +13,11 @@ use Rattle.std.proofs.lemmas.Nat.Bits.{bit_at_above, bit_at_and, bit_at-trailing
 use Rattle.std.proofs.Math.Nat.{two-pow-succ}
 use Rattle.std.proofs.lemmas.List.{length-map}
 use Rattle.automata_base.specs.declared.util.search.Direction.{Direction}
-use Rattle.automata_hybrid.specs.Private.Searches.SelfLoops.{above, byte_in, lane_of}
+use Rattle.automata_hybrid.specs.Private.Searches.SelfLoops.{steps_above, byte_in, lane_of}
 
 -- a byte is outside a range
 abbrev pub is_outside : ℕ → ℕ → ℕ → Bool
-is_outside low size byte = leb size (above low byte)
+is_outside low size byte = leb size (steps_above low byte)
 
 splat_zip2 : {Z : Type 0} (f : ℕ → ℕ → Z) (x : ℕ) (ys : List ℕ) → zip2 f (replicate (length ys) x) ys ≡ map (f x) ys
 splat_zip2 f x [] = refl
@@ -35,14 +35,14 @@ mask_of low size v =
 
 mask_is : (low size : ℕ) (v : List ℕ) → length v ≡ 32 → mask_of low size v ≡ mask_l (map (is_outside low size) v)
 mask_is low size v long =
-    let places : zip2 (λ a b. (a + (256 - b)) % 256) v (replicate 32 low) ≡ map (above low) v = zip2_splat (λ (a b : ℕ). (a + (256 - b)) % 256) v 32 low long in
-    let many : length (map (above low) v) ≡ 32 = length-map v (above low) ∙ long in
+    let places : zip2 (λ a b. (a + (256 - b)) % 256) v (replicate 32 low) ≡ map (steps_above low) v = zip2_splat (λ (a b : ℕ). (a + (256 - b)) % 256) v 32 low long in
+    let many : length (map (steps_above low) v) ≡ 32 = length-map v (steps_above low) ∙ long in
     ap (λ us. mask_l (map (top 7) (zip2 (λ a b. cond (leb a b) 255 0) (replicate 32 size) us)) % 2 ^ 64) places
     ∙ (ap (λ ms. mask_l ms % 2 ^ 64)
-    (tops_compared w8 leb (replicate 32 size) (map (above low) v)
-    ∙ (ap (λ n. zip2 leb (replicate n size) (map (above low) v)) (sym many)
-    ∙ (splat_zip2 leb size (map (above low) v)
-    ∙ map-map (leb size) (above low) v)))
+    (tops_compared w8 leb (replicate 32 size) (map (steps_above low) v)
+    ∙ (ap (λ n. zip2 leb (replicate n size) (map (steps_above low) v)) (sym many)
+    ∙ (splat_zip2 leb size (map (steps_above low) v)
+    ∙ map-map (leb size) (steps_above low) v)))
     ∙ mask_l-mod (map (is_outside low size) v) 64 (omega (arith, length-map v (is_outside low size), long)))
 
 module _ (low size : ℕ) (xs : List ℕ) (i : ℕ) (room : i + 32 ≤ length xs) where
@@ -56,9 +56,9 @@ module _ (low size : ℕ) (xs : List ℕ) (i : ℕ) (room : i + 32 ≤ length xs
       (subst (λ n. mask_l (map (is_outside low size) (chunk i 32 xs)) < 2 ^ n) lanes (mask_l-lt (map (is_outside low size) (chunk i 32 xs))))
 
   -- a lane whose bit is not set is in the range
-  pub mask_near : (k : ℕ) → k < 32 → bit_at (mask_of low size (chunk i 32 xs)) k ≡ 0 → above low (slice_index xs (i + k)) < size
+  pub mask_near : (k : ℕ) → k < 32 → bit_at (mask_of low size (chunk i 32 xs)) k ≡ 0 → steps_above low (slice_index xs (i + k)) < size
   mask_near k few clear =
-      omega (arith, leb-false size (above low (slice_index xs (i + k))) (sym lane ∙ unset _ (sym (bit_mask_l (map (is_outside low size) (chunk i 32 xs)) k) ∙ bit)))
+      omega (arith, leb-false size (steps_above low (slice_index xs (i + k))) (sym lane ∙ unset _ (sym (bit_mask_l (map (is_outside low size) (chunk i 32 xs)) k) ∙ bit)))
     where
       bit : bit_at (mask_l (map (is_outside low size) (chunk i 32 xs))) k ≡ 0
       bit = sym (ap (λ m. bit_at m k) (mask_is low size (chunk i 32 xs) long)) ∙ clear

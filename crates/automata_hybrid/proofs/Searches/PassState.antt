@@ -21,7 +21,8 @@ use Rattle.automata_config.specs.declared.error.SearchError.{SearchError}
 use Rattle.automata_hybrid.specs.Cache.Stores.{Stored}
 use Rattle.automata_hybrid.specs.Machines.Machine.{Machine}
 use Rattle.automata_hybrid.specs.Searches.PassState.{half_of, half_at, found_over, IsAt}
-use Rattle.automata_hybrid.specs.Searches.Passes.{IsStepError, IsUnitError, MeetsNoQuit, Reads}
+use Rattle.automata_hybrid.specs.Searches.Passes.{MeetsNoQuit, Reads}
+use Rattle.automata_hybrid.specs.Private.Searches.Passes.{IsStepError, IsUnitError}
 use Rattle.automata_hybrid.specs.Searches.Passes.{given_up_offset, state_in, tape_in, reported_in, unit_offset}
 use Rattle.automata_hybrid.specs.Steps.Starts.{quit_behind}
 use Rattle.automata_hybrid.specs.Cache.Table.{Rows, Leads, Names}
@@ -283,11 +284,6 @@ pub if_err :
     {A E : Type 0} (r : Result A E) (e : E) (P : E → Type 0) → IsErrAnd r (λ x. x ≡ e) → P e → IfErr r P
 if_err (Ok a) e P h p = tt
 if_err (Err x) e P h p = subst P (sym h) p
-
-pub if_both :
-    {A E : Type 0} (r : Result A E) (P Q R : E → Type 0) → ((e : E) → P e → Q e → R e) → IfErr r P → IfErr r Q → IfErr r R
-if_both (Ok a) P Q R f p q = tt
-if_both (Err e) P Q R f p q = f e p q
 
 pub some_is : (o : Option HalfMatch) → true ≡ is_some o → o ≡ None → ⊥
 some_is None h e = false_true (sym h)

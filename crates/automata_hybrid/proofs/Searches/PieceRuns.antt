@@ -1,6 +1,6 @@
 -- A run along a trace that is over with a byte, or fails at one; and that of a piece, whose errors are counted from a place
 -- before it.
-use Rattle.std.proofs.Common.{ℕ, suc, ◌≡◌, ◌∙◌, ◌+◌, ◌-◌, ◌/◌, ◌%◌, ◌^◌, ◌<◌, Bool, true, List, Option, Some, None, inl, inr, refl, sym}
+use Rattle.std.proofs.Common.{ℕ, suc, ◌≡◌, ◌∙◌, ◌+◌, ◌-◌, ◌/◌, ◌%◌, ◌^◌, ◌<◌, Bool, true, List, Option, Some, None, refl, sym}
 use Rattle.std.proofs.Common.{ap, slice_get, subst}
 use Rattle.automata_base.specs.Answers.Answers.{offset_in}
 use Rattle.automata_base.specs.Haystacks.Input.{Input}
@@ -9,24 +9,25 @@ use Rattle.automata_base.specs.Paths.Paths.{next as unit_of}
 use Rattle.automata_base.specs.Powersets.Powerset.{Powerset, dead}
 use Rattle.automata_base.specs.declared.util.search.Direction.{Direction}
 use Rattle.automata_base.specs.declared.util.search.Direction.TheVariants.{Forward}
-use Rattle.automata_base.specs.declared.util.search.MatchErrorKind.TheVariants.{Quit as QuitAt, GaveUp}
-use Rattle.automata_base.specs.declared.util.search.MatchErrorKind.TheVariants.{UnsupportedAnchored as UnsupportedMode}
 use Rattle.automata_config.specs.declared.error.SearchError.{SearchError}
-use Rattle.automata_config.specs.declared.error.SearchError.TheVariants as search
 use Rattle.automata_hybrid.specs.Cache.Caches.{CacheView}
 use Rattle.automata_hybrid.specs.Cache.Stores.{Stored}
 use Rattle.automata_hybrid.specs.Cache.Table.{RowsFitCells, Leads, Names, Rows}
 use Rattle.automata_hybrid.specs.Machines.Machine.{Machine}
 use Rattle.automata_hybrid.specs.Searches.PassState.{IsAtAlong, half_at, half_of}
-use Rattle.automata_hybrid.specs.Searches.Passes.{IsStepError, tape_in}
-use Rattle.automata_hybrid.specs.Searches.PieceRuns.{GoesFromStart, IsOverAlong, IsStoppedAlong, ReadsAlong}
+use Rattle.automata_hybrid.specs.Searches.Passes.{tape_in}
+use Rattle.automata_hybrid.specs.Private.Searches.Passes.{IsStepError}
+use Rattle.automata_hybrid.specs.Searches.PieceRuns.{ReadsAlong}
+use Rattle.automata_hybrid.specs.Private.Searches.PieceRuns.{GoesFromStart, IsOverAlong, IsStoppedAlong}
 use Rattle.automata_hybrid.specs.Private.Searches.PieceRuns.{HasOffset, error_from}
 use Rattle.automata_hybrid.specs.Searches.PieceRuns.{piece_input, piece_trace}
-use Rattle.automata_hybrid.specs.Searches.Progress.{IsLeftAlong, IsReadAlong, with_search_begun, with_search_ended}
+use Rattle.automata_hybrid.specs.Private.Searches.Progress.{IsLeftAlong, IsReadAlong, with_search_begun, with_search_ended}
 use Rattle.automata_hybrid.specs.Searches.Traces.{Trace}
 use Rattle.automata_hybrid.specs.Private.Searches.Traces.{IsTrace}
 use Rattle.automata_hybrid.specs.Private.Searches.Units.{IsReadAnswer}
 use Rattle.automata_hybrid.specs.declared.cache.row.Row.{Row}
+use Rattle.automata_hybrid.specs.Private.Searches.Passes.{FindsNoRoom, LacksMemoryInStore, MeetsQuitByte}
+use Rattle.automata_hybrid.specs.Private.Searches.PieceRuns.{HasFound, IsDeadAfter}
 use Rattle.automata_hybrid.proofs.Caches.Places.{Names-Placed, Placed-HasState}
 use Rattle.automata_hybrid.proofs.Searches.Directions.{quit_free}
 use Rattle.automata_hybrid.proofs.Searches.Goes.{GoesToAlong, goes_all, goes_more}
@@ -69,7 +70,7 @@ module _ {s : Trace} (way : Direction) (m : Machine) (input : Input) (trace : Is
       reported =
           at.reported
           ∙ ap (half_of way input) (sym (quiet_along trace k (ap (λ (q : Powerset). q.patterns) dies)));
-      over = inl dies;
+      over = IsDeadAfter dies;
       effect = (c', gone, ends);
     }
 
@@ -82,7 +83,7 @@ module _ {s : Trace} (way : Direction) (m : Machine) (input : Input) (trace : Is
       reads = reads_here;
       clean = clean_along trace c.store.table c'.store.table k id id' (Some byte) found found' at unit answer.named (quit_free m byte answer.clean);
       reported = more_along trace c.store.table c'.store.table k id id' (Some byte) found found' at unit answer.named reports;
-      over = inr (early, some);
+      over = HasFound early some;
       effect = (c', gone, ends);
     }
 
@@ -96,21 +97,19 @@ piece_is_trace m piece earliest q = record { steps = λ k. refl; reports = λ k.
 pub step_error_from :
     (m : Machine) (c : Stored) (q : Powerset) (unit : Option ℕ) (base at : ℕ) (e : SearchError)
     → IsStepError m c q unit at at e → IsStepError m c q unit (base + at) (base + at) (error_from base e)
-step_error_from m c q unit base at (search.Match (QuitAt byte offset)) (read, quits, here) = (read, quits, ap (λ n. base + n) here)
-step_error_from m c q unit base at (search.Match (GaveUp offset)) (free, gives_up, here) = (free, gives_up, ap (λ n. base + n) here)
-step_error_from m c q unit base at (search.Match (UnsupportedMode mode)) e = e
-step_error_from m c q unit base at search.OutOfMemory e = e
-step_error_from m c q unit base at search.NotAPair e = e
+step_error_from m c q unit base at e (MeetsQuitByte byte offset read quits here) =
+    MeetsQuitByte byte (base + offset) read quits (ap (λ n. base + n) here)
+step_error_from m c q unit base at e (FindsNoRoom offset free gives_up here) =
+    FindsNoRoom (base + offset) free gives_up (ap (λ n. base + n) here)
+step_error_from m c q unit base at e (LacksMemoryInStore free lacks) = LacksMemoryInStore free lacks
 
 -- it has this offset, if it has one
 pub step_error_offset :
     (m : Machine) (c : Stored) (q : Powerset) (unit : Option ℕ) (at : ℕ) (e : SearchError) (P : ℕ → Type 0)
     → P at → IsStepError m c q unit at at e → HasOffset P e
-step_error_offset m c q unit at (search.Match (QuitAt byte offset)) P p (read, quits, here) = subst P (sym here) p
-step_error_offset m c q unit at (search.Match (GaveUp offset)) P p (free, gives_up, here) = subst P (sym here) p
-step_error_offset m c q unit at (search.Match (UnsupportedMode mode)) P p e = tt
-step_error_offset m c q unit at search.OutOfMemory P p e = tt
-step_error_offset m c q unit at search.NotAPair P p e = tt
+step_error_offset m c q unit at e P p (MeetsQuitByte byte offset read quits here) = subst P (sym here) p
+step_error_offset m c q unit at e P p (FindsNoRoom offset free gives_up here) = subst P (sym here) p
+step_error_offset m c q unit at e P p (LacksMemoryInStore free lacks) = tt
 
 -- a run that fails, with an error counted from a place before
 pub stopped_from :

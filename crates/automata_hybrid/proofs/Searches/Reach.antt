@@ -1,5 +1,5 @@
 -- Where no quit byte is in reach, no clear limit is set and the mode is supported, a search fails by memory alone.
-use Rattle.std.proofs.Common.{ℕ, zero, suc, ◌≡◌, ◌∙◌, ◌≤◌, ◌+◌, ◌-◌, inl, inr, Bool, true, false, cond, length, Option}
+use Rattle.std.proofs.Common.{ℕ, zero, suc, ◌≡◌, ◌∙◌, ◌≤◌, ◌+◌, ◌-◌, Bool, true, false, cond, length, Option}
 use Rattle.std.proofs.Common.{Some, None, refl, sym, ap, subst, arith}
 use Rattle.automata_base.specs.Answers.Answers.{later}
 use Rattle.automata_base.specs.ByteClasses.Classes.{is_quit}
@@ -10,18 +10,20 @@ use Rattle.automata_base.specs.Powersets.Powerset.{Powerset}
 use Rattle.automata_base.specs.Haystacks.Tapes.{byte_before}
 use Rattle.automata_base.specs.declared.util.search.Direction.{Direction}
 use Rattle.automata_base.specs.declared.util.search.Direction.TheVariants.{Forward, Backward}
-use Rattle.automata_base.specs.declared.util.search.MatchErrorKind.TheVariants.{Quit as QuitAt, GaveUp}
-use Rattle.automata_base.specs.declared.util.search.MatchErrorKind.TheVariants.{UnsupportedAnchored as UnsupportedMode}
 use Rattle.automata_base.proofs.Paths.Orders.{some_inj, none_some}
 use Rattle.automata_config.specs.declared.error.StartError.TheVariants as start
 use Rattle.automata_config.specs.declared.error.SearchError.{SearchError}
 use Rattle.automata_config.specs.declared.error.SearchError.TheVariants as search
 use Rattle.automata_hybrid.specs.Cache.Stores.{Stored}
-use Rattle.automata_hybrid.specs.Cache.Usage.{GivesUp, refuses_at}
+use Rattle.automata_hybrid.specs.Private.Cache.Usage.{refuses_at}
+use Rattle.automata_hybrid.specs.Private.Cache.Usage.{GivesUpInStore}
 use Rattle.automata_hybrid.specs.Machines.Machine.{Machine}
-use Rattle.automata_hybrid.specs.Searches.Passes.{tape_in, NoQuitInReach, IsSearchError, IsPassError, IsStepError}
+use Rattle.automata_hybrid.specs.Searches.Passes.{tape_in, NoQuitInReach}
+use Rattle.automata_hybrid.specs.Private.Searches.Passes.{IsSearchError, IsPassError, IsStepError}
 use Rattle.automata_hybrid.specs.Machines.StartSlots.{supports}
-use Rattle.automata_hybrid.specs.Steps.Starts.{quit_behind, IsStartErrorAt}
+use Rattle.automata_hybrid.specs.Steps.Starts.{quit_behind}
+use Rattle.automata_hybrid.specs.Private.Steps.Starts.{IsStartErrorAt}
+use Rattle.automata_hybrid.specs.Private.Searches.Passes.{AtItsStart, AtUnit, FindsNoRoom, LacksMemoryInStore, MeetsQuitByte}
 use Rattle.automata_hybrid.proofs.Searches.PassState.{false_true}
 use Rattle.automata_hybrid.proofs.Searches.Units.{forward_unit, forward_units, backward_unit, backward_units}
 use Rattle.automata_config.specs.Options.{minimum_cache_clear_count_of}
@@ -61,7 +63,7 @@ unit_reach Backward input k byte l w n h =
     ∙ (ap (next (tape_in Backward input)) e ∙ h) in
     before_reach input (input.end - k) byte (omega (arith, u, n, l)) (omega arith) read
 
-later_reach :
+pub later_reach :
     (way : Direction) (k : ℕ) (input : Input) (byte : ℕ) → input.start + k ≤ input.end → InReach (later way k input) byte → InReach input byte
 later_reach Forward k input byte l r = (r.0, (let a : input.start + k ≤ r.0 + 1 = r.1 in omega (arith, a)), r.2, r.3)
 later_reach Backward k input byte l r = (r.0, r.1, (let a : r.0 ≤ input.end - k = r.2 in omega (arith, a)), r.3)
@@ -75,7 +77,7 @@ is_behind m (Some b) byte e = go (is_quit m.quits b) refl e where
   go true f e = (e, subst (λ n. is_quit m.quits n ≡ true) (some_inj e) f)
   go false f e = absurd (none_some e)
 
-pub no_limit : (m : Machine) (c : Stored) (q : Powerset) → c.table.of ≡ m → minimum_cache_clear_count_of m.config ≡ None → GivesUp c q → ⊥
+pub no_limit : (m : Machine) (c : Stored) (q : Powerset) → c.table.of ≡ m → minimum_cache_clear_count_of m.config ≡ None → GivesUpInStore c q → ⊥
 no_limit m c q same free gives =
     let limit : minimum_cache_clear_count_of c.table.of.config ≡ None = ap (λ (n : Machine). minimum_cache_clear_count_of n.config) same ∙ free in
     let rule : refuses_at (minimum_cache_clear_count_of c.table.of.config) c ≡ true = gives.2 in
@@ -101,16 +103,14 @@ module _ (way : Direction) (m : Machine) (c : Stored) (input : Input) (undone : 
   pub step_memory :
       (j quit_at given_up_at : ℕ) (q : Powerset) (e : SearchError)
       → j ≤ length (tape_in way input).bytes → IsStepError m c q (next (tape_in way input) j) quit_at given_up_at e → e ≡ search.OutOfMemory
-  step_memory j quit_at given_up_at q (search.Match (QuitAt byte offset)) l r =
-      absurd (unquit byte (unit_reach way input j byte undone few l r.0) r.1)
-  step_memory j quit_at given_up_at q (search.Match (UnsupportedMode reported)) l r = absurd r
-  step_memory j quit_at given_up_at q (search.Match (GaveUp offset)) l r = absurd (no_limit m c _ same free r.1)
-  step_memory j quit_at given_up_at q search.OutOfMemory l r = refl
-  step_memory j quit_at given_up_at q search.NotAPair l r = absurd r
+  step_memory j quit_at given_up_at q e l (MeetsQuitByte byte offset read quits here) =
+      absurd (unquit byte (unit_reach way input j byte undone few l read) quits)
+  step_memory j quit_at given_up_at q e l (FindsNoRoom offset other gives_up here) = absurd (no_limit m c _ same free gives_up)
+  step_memory j quit_at given_up_at q e l (LacksMemoryInStore other lacks) = refl
 
   pass_memory : (e : SearchError) → IsPassError way m c input e → e ≡ search.OutOfMemory
-  pass_memory e (inl r) = start_memory _ _ e r
-  pass_memory e (inr r) = step_memory r.0 _ _ _ e r.2.0 r.4
+  pass_memory e (AtItsStart why) = start_memory _ _ e why
+  pass_memory e (AtUnit k behind reads before why) = step_memory k _ _ _ e reads.0 why
 
 -- a search that no named cause forbids fails by out of memory alone
 pub refused_memory :

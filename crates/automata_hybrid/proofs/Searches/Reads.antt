@@ -6,15 +6,15 @@ use Rattle.automata_base.specs.Powersets.Powerset.{Powerset, dead}
 use Rattle.automata_config.specs.declared.error.SearchError.{SearchError}
 use Rattle.automata_hybrid.specs.Cache.Caches.{CacheView}
 use Rattle.automata_hybrid.specs.Cache.Table.{Leads, Names}
-use Rattle.automata_hybrid.specs.Calls.Events.{EndsAtQuit, FailsToStep, ended, moved}
+use Rattle.automata_hybrid.specs.Private.Calls.Events.{EndsAtQuit, FailsToStep, ended_in_store, moved_in_store}
 use Rattle.automata_base.specs.ByteClasses.Classes.{is_quit}
 use Rattle.automata_base.specs.Retraced.Steps.{successor}
 use Rattle.automata_config.specs.Options.{match_kind_of}
 use Rattle.automata_hybrid.specs.Cache.Ids.{HasQuitTag}
 use Rattle.automata_hybrid.specs.Machines.Machine.{Machine}
 use Rattle.automata_hybrid.specs.Steps.Steps.{IsStepAnswer}
-use Rattle.automata_hybrid.specs.Private.Searches.Units.{IsReadEffect, IsStepTaken, ReadFails, StepFailsAt}
-use Rattle.automata_hybrid.specs.Searches.Passes.{IsStepError}
+use Rattle.automata_hybrid.specs.Private.Searches.Units.{FailsToRead, HasRead, IsReadAnswer, IsStepTaken, ReadFails, StepFailsAt}
+use Rattle.automata_hybrid.specs.Private.Searches.Passes.{IsStepError}
 use Rattle.automata_hybrid.specs.Machines.Machine.{quits_on}
 use Rattle.automata_hybrid.proofs.Steps.Ids.{quits, refused}
 
@@ -26,10 +26,10 @@ at_err (Err x) e P h p = subst (λ v. P (Err v)) (sym h) p
 -- a failed step is a refusal to read the unit
 pub reported_refusal :
     (m : Machine) (id : ℕ) (unit : Option ℕ) (quit_at at : ℕ) (old new : CacheView) (e : SearchError)
-    → StepFailsAt m id unit at (moved at old) new e → ReadFails m id unit quit_at at old new e
+    → StepFailsAt m id unit at (moved_in_store at old) new e → ReadFails m id unit quit_at at old new e
 reported_refusal m id unit quit_at at old new e h q n =
     subst (IsStepError m new.store q unit quit_at at) (sym h.reported)
-    (refused m (moved at old).store new.store q unit quit_at at h.error h.refused.clean
+    (refused m (moved_in_store at old).store new.store q unit quit_at at h.error h.refused.clean
     (λ other names known. (h.refused.fails q n).unknown (other, names, known))
     (ap (λ (v : CacheView). v.store) (h.refused.fails q n).unchanged) (λ c. h.refused.gives_up c q n))
 
@@ -44,30 +44,30 @@ at_quit m id unit byte old new next is a small low tag q named =
     (λ clean p n. subst (λ u. Leads new.store.table next (successor m.nfa (match_kind_of m.config) p u)) is
     (a.named (subst (λ u. quits_on m u ≡ false) (sym is) clean) p n)) named
 
--- what reading a unit makes of the cache, from what the step does
+-- what reading a unit returns, from what the step does
 module _ (m : Machine) (id : ℕ) (unit : Option ℕ) (at : ℕ) (old : CacheView)
     (alive : (q : Powerset) → Names old.store.table id q → q ≡ dead → ⊥) where
   pub unit_read :
-      {T : Type 0} (answer : T) (new : CacheView) → IsStepTaken m id unit at old new → quits_on m unit ≡ false
-      → IsReadEffect m id unit at old new (Ok answer)
-  unit_read answer new step clean = record { alive = alive; taken = step.taken clean; left = tt }
+      (next : ℕ) (new : CacheView) → IsReadAnswer m id unit old new next → IsStepTaken m id unit at old new
+      → HasRead m id unit at old new next
+  unit_read next new answer step = record { answer = answer; alive = alive; taken = step.taken answer.clean }
 
   -- the step was refused
   pub unit_left :
-      {T : Type 0} (new : CacheView) (e : SearchError) → StepFailsAt m id unit at (moved at old) new e
-      → IsReadEffect {T = T} m id unit at old new (Err e)
-  unit_left new e r = record {
+      (quit_at : ℕ) (new : CacheView) (e : SearchError) → StepFailsAt m id unit at (moved_in_store at old) new e
+      → FailsToRead m id unit quit_at at old new e
+  unit_left quit_at new e r = record {
+    refused = reported_refusal m id unit quit_at at old new e r;
     alive = alive;
-    taken = tt;
     left = λ q named. FailsToStep r.refused.clean (r.refused.fails q named);
   }
 
   -- or it met a quit byte, and has ended there
   pub unit_quits :
-      {T : Type 0} (next new : CacheView) (e : SearchError) → quits_on m unit ≡ true → IsStepTaken m id unit at old next
-      → new ≡ ended at next → IsReadEffect {T = T} m id unit at old new (Err e)
-  unit_quits next new e on step last = record {
+      (quit_at : ℕ) (next new : CacheView) (e : SearchError) → quits_on m unit ≡ true → IsStepTaken m id unit at old next
+      → new ≡ ended_in_store at next → ReadFails m id unit quit_at at old new e → FailsToRead m id unit quit_at at old new e
+  unit_quits quit_at next new e on step last refused = record {
+    refused = refused;
     alive = alive;
-    taken = tt;
-    left = λ q named. EndsAtQuit on (last ∙ ap (λ (v : CacheView). ended at v) (step.quit on));
+    left = λ q named. EndsAtQuit on (last ∙ ap (λ (v : CacheView). ended_in_store at v) (step.quit on));
   }

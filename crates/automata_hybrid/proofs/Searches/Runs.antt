@@ -10,7 +10,8 @@ use Rattle.automata_base.specs.Powersets.Powerset.{Powerset}
 use Rattle.automata_base.specs.Retraced.Steps.{successor}
 use Rattle.automata_base.specs.declared.util.search.Direction.{Direction}
 use Rattle.automata_config.specs.Options.{match_kind_of}
-use Rattle.automata_hybrid.specs.Cache.Stores.{IsKnownTransition, Stored, cell_of}
+use Rattle.automata_hybrid.specs.Cache.Stores.{Stored, cell_of}
+use Rattle.automata_hybrid.specs.Private.Cache.Stores.{IsKnownTransition}
 use Rattle.automata_hybrid.specs.Cache.Ids.{quit_id}
 use Rattle.automata_hybrid.specs.Private.Cache.Ids.{HasOnly, IsRunTag}
 use Rattle.automata_hybrid.specs.Steps.Steps.{known_step}

@@ -1,7 +1,7 @@
 -- Spans tried one after another.
 use Rattle.std.proofs.Common.{ℕ, suc, ◌≡◌, ◌<◌, ◌≤◌, ◌+◌, ◌⊎◌, inl, inr, Bool, true, Option, Some, None, false, refl, sym, ap}
 use Rattle.std.proofs.Common.{ap₂, ◌∙◌, subst, arith}
-use Rattle.automata_base.specs.Answers.Answers.{Half, later, offset_in, IsSplit, Tries}
+use Rattle.automata_base.specs.Answers.Answers.{Half, later, offset_in, IsSplit, SpanIsDone, SpanReportsNone, StopsAtSplit, Tries}
 use Rattle.automata_base.specs.declared.util.search.Anchored.TheVariants.{No}
 use Rattle.automata_base.specs.Haystacks.Input.{Input}
 use Rattle.automata_base.specs.Haystacks.Matches.{HalfMatch}
@@ -43,7 +43,7 @@ module _ (T : Input → Option Pair → Type 0) (S : Type 0) (way : Direction) (
   pub tries_more :
       (k : ℕ) → Tries T S way input k → S → input.anchored ≡ No → input.start + k ≤ input.end
       → IsSplit T way (later way k input) → Tries T S way input (suc k)
-  tries_more k tries s free l split = (inr (s, free), before) where
+  tries_more k tries s free l split = record { comes = inr (s, free); before = before } where
     before : (j : ℕ) → j < suc k → (input.start + j ≤ input.end) × IsSplit T way (later way j input)
     before j less = go (eq_or_less j k less) where
       eq_or_less : (j k : ℕ) → j < suc k → (j ≡ k) ⊎ (j < k)
@@ -51,7 +51,7 @@ module _ (T : Input → Option Pair → Type 0) (S : Type 0) (way : Direction) (
 
       go : (j ≡ k) ⊎ (j < k) → (input.start + j ≤ input.end) × IsSplit T way (later way j input)
       go (inl e) = (omega (arith, l, e), subst (λ i. IsSplit T way (later way i input)) (sym e) split)
-      go (inr h) = tries.1 j h
+      go (inr h) = tries.before j h
 
 -- a pass over the span that begins `k` places later was made
 module _ (way : Direction) (m : Machine) (input now : Input) (k : ℕ) (same : now ≡ later way k input)
@@ -66,7 +66,7 @@ module _ (way : Direction) (m : Machine) (input now : Input) (k : ℕ) (same : n
   pub finds_none : None ≡ found_over way m now → MeetsNoQuit way m now → IsFound way m input None
   finds_none e c =
       let none : reported_over way m.nfa (match_kind_of m.config) (later way k input) ≡ None = half_none way (later way k input) _ (sym (there None e)) in
-      (k, tries, inr (inl (sym none, clear c)))
+      (k, tries, SpanReportsNone (sym none, clear c))
 
   stands : (half : HalfMatch) → Some half ≡ found_over way m now → Stands way (later way k input) (reported_over way m.nfa (match_kind_of m.config) (later way k input)) half
   stands half e = half_stands way (later way k input) (reported_over way m.nfa (match_kind_of m.config) (later way k input)) half (there (Some half) e)
@@ -80,8 +80,19 @@ module _ (way : Direction) (m : Machine) (input now : Input) (k : ℕ) (same : n
       (half : HalfMatch) → Some half ≡ found_over way m now → MeetsNoQuit way m now
       → (Skips m → is_split now.haystack half.offset ≡ false) → IsFound way m input (Some (with_base half now.start))
   finds_some half e c keeps =
-      let s : Stands way (later way k input) (reported_over way m.nfa (match_kind_of m.config) (later way k input)) half = stands half e in
-      (k, s.pair, tries, within, (sym s.reported, clear c), (λ skips. sym (split_at half s) ∙ keeps skips), s.pattern, s.offset, ap (λ (i : Input). i.start) same)
+      let s : Stands way (later way k input) (reported_over way m.nfa (match_kind_of m.config) (later way k input)) half = stands half e in (
+        k,
+        tries,
+        record {
+          pair = s.pair;
+          within = within;
+          reported = (sym s.reported, clear c);
+          whole = λ skips. sym (split_at half s) ∙ keeps skips;
+          pattern = s.pattern;
+          offset = s.offset;
+          base = ap (λ (i : Input). i.start) same;
+        },
+      )
 
   split_there :
       (half : HalfMatch) → Some half ≡ found_over way m now → MeetsNoQuit way m now
@@ -97,7 +108,7 @@ module _ (way : Direction) (m : Machine) (input now : Input) (k : ℕ) (same : n
   pub finds_split :
       (half : HalfMatch) → Some half ≡ found_over way m now → MeetsNoQuit way m now → Skips m
       → is_split now.haystack half.offset ≡ true → (input.anchored ≡ No → ⊥) → IsFound way m input None
-  finds_split half e c skips split anchored = (k, tries, inr (inr (skips, anchored, split_there half e c split)))
+  finds_split half e c skips split anchored = (k, tries, StopsAtSplit skips anchored (split_there half e c split))
 
   -- and another one goes on
   pub tries_on :
@@ -109,7 +120,7 @@ module _ (way : Direction) (m : Machine) (input now : Input) (k : ℕ) (same : n
   -- after it no other span is tried, where it found nothing
   pub none_stops : None ≡ found_over way m now → (j : ℕ) → k < j → Tries (Finds way m) (Skips m) way input j → ⊥
   none_stops e j less tried =
-      let split : IsSplit (Finds way m) way (later way k input) = (tried.1 k less).1 in
+      let split : IsSplit (Finds way m) way (later way k input) = (tried.before k less).1 in
       let none : reported_over way m.nfa (match_kind_of m.config) (later way k input) ≡ None = half_none way (later way k input) _ (sym (there None e)) in
       some_none (split.1.0 ∙ none)
 
@@ -117,11 +128,11 @@ module _ (way : Direction) (m : Machine) (input now : Input) (k : ℕ) (same : n
   pub some_stops :
       (half : HalfMatch) → Some half ≡ found_over way m now → (Skips m → is_split now.haystack half.offset ≡ false)
       → (j : ℕ) → k < j → Tries (Finds way m) (Skips m) way input j → ⊥
-  some_stops half e keeps j less tried = go tried.0 where
+  some_stops half e keeps j less tried = go tried.comes where
     go : (j ≡ 0) ⊎ (Skips m × (input.anchored ≡ No)) → ⊥
     go (inl z) = omega (arith, z, less)
     go (inr skips) =
-        let split : IsSplit (Finds way m) way (later way k input) = (tried.1 k less).1 in
+        let split : IsSplit (Finds way m) way (later way k input) = (tried.before k less).1 in
         let s : Stands way (later way k input) (reported_over way m.nfa (match_kind_of m.config) (later way k input)) half = stands half e in
         let same : split.0 ≡ s.pair = some_inj (split.1.0 ∙ s.reported) in
         let place : is_split (later way k input).haystack (offset_in way (later way k input) s.pair.place) ≡ true =
@@ -131,7 +142,7 @@ module _ (way : Direction) (m : Machine) (input now : Input) (k : ℕ) (same : n
 
   -- or where the search is anchored
   pub anchored_stops : (input.anchored ≡ No → ⊥) → (j : ℕ) → k < j → Tries (Finds way m) (Skips m) way input j → ⊥
-  anchored_stops anchored j less tried = go tried.0 where
+  anchored_stops anchored j less tried = go tried.comes where
     go : (j ≡ 0) ⊎ (Skips m × (input.anchored ≡ No)) → ⊥
     go (inl z) = omega (arith, z, less)
     go (inr skips) = anchored skips.1
@@ -140,7 +151,7 @@ module _ (way : Direction) (m : Machine) (input now : Input) (k : ℕ) (same : n
 pub finds_no_more :
     (way : Direction) (m : Machine) (input : Input) (k : ℕ)
     → Tries (Finds way m) (Skips m) way input k → input.end < input.start + k → IsFound way m input None
-finds_no_more way m input k tries past = (k, tries, inl past)
+finds_no_more way m input k tries past = (k, tries, SpanIsDone past)
 
 -- what a search finds is what its passes report
 pub found_reported :

@@ -1,5 +1,5 @@
 -- Searches by steps stand where their steps led.
-use Rattle.std.proofs.Common.{ℕ, suc, ◌≡◌, ◌∙◌, ◌+◌, ◌*◌, ◌-◌, ◌<◌, ◌≤◌, ◌⊎◌, inl, inr, Bool, true, false}
+use Rattle.std.proofs.Common.{ℕ, suc, ◌≡◌, ◌∙◌, ◌+◌, ◌*◌, ◌-◌, ◌<◌, ◌≤◌, inl, inr, Bool, true, false}
 use Rattle.std.proofs.Common.{length, Option, Some, None, refl, sym, ap, subst, arith, get_or, add-zero}
 use Rattle.std.specs.Prelude.{IsBitSet}
 use Rattle.automata_base.specs.Answers.Answers.{later}
@@ -25,6 +25,7 @@ use Rattle.automata_hybrid.specs.Steps.Starts.{IsStartAnswer}
 use Rattle.automata_hybrid.specs.Steps.Steps.{IsStepAnswer}
 use Rattle.automata_hybrid.specs.Machines.Machine.{quits_on}
 use Rattle.automata_hybrid.specs.Cache.Table.{Leads, Names, Rows}
+use Rattle.automata_hybrid.specs.Steps.BySteps.{IsDead, IsUnmatched, LeadsToId}
 use Rattle.automata_hybrid.proofs.Caches.Places.{bit_of, zero_one}
 use Rattle.automata_hybrid.proofs.Searches.PassState.{clean_dead, clean_ends, clean_last, clean_start, more_at, more_dead}
 use Rattle.automata_hybrid.proofs.Searches.PassState.{more_ends, more_last, starts_at, starts_dead, state_first, state_more}
@@ -63,16 +64,13 @@ stands_first m input old new id tagged early undone inside answer = record {
 
   go :
       Leads new.store.table id (start_state_of m.nfa input.anchored (byte_before input.haystack input.start))
-      → ((id ≡ dead_id m.stride) × IsFirstMatch m input None)
-      ⊎ IsUnderway Forward m new.store.table input (input.start - input.start) id None
+      → LeadsToId m new input input.start id
   go (inl (e, d)) =
       let dies : state_in Forward m input 0 ≡ dead = sym (state_first Forward m input) ∙ d in
-      inl (
-        e ∙ ap (λ (n : Machine). dead_id n.stride) tagged.of,
-        record { found = starts_dead Forward m input dies; clean = clean_start Forward m input dies answer.may.0; supported = answer.may.1 },
-      )
+      IsDead (e ∙ ap (λ (n : Machine). dead_id n.stride) tagged.of)
+      (record { found = starts_dead Forward m input dies; clean = clean_start Forward m input dies answer.may.0; supported = answer.may.1 })
   go (inr n) =
-      inr (subst (λ k. IsUnderway Forward m new.store.table input k id None) zero_in (record {
+      IsUnmatched (subst (λ k. IsUnderway Forward m new.store.table input k id None) zero_in (record {
         undone = undone;
         may = answer.may;
         at = starts_at Forward m new.store.table input id (subst (Names new.store.table id) (state_first Forward m input) n);
@@ -127,7 +125,7 @@ module _ (m : Machine) (input : Input) (old new : CacheView) (at id to : ℕ) (u
         upto = omega (arith, less);
         inside = stands.inside;
         row = answer.row;
-        state = inl (stays, none);
+        state = IsDead stays none;
       };
       last = λ silent unquit end. none;
     }
@@ -212,17 +210,18 @@ module _ (m : Machine) (input : Input) (old new : CacheView) (at id to : ℕ) (u
 
         goes_on :
             Leads new.store.table to (successor m.nfa (match_kind_of m.config) (state_in Forward m input k) u)
-            → ((to ≡ dead_id m.stride) × IsFirstMatch m input None)
-            ⊎ IsUnderway Forward m new.store.table input (suc k) to None
-        goes_on (inl (e, d)) = inl (e ∙ ap (λ (n : Machine). dead_id n.stride) after.of, dies_here e d)
+            → LeadsToId m new input (at + 1) to
+        goes_on (inl (e, d)) = IsDead (e ∙ ap (λ (n : Machine). dead_id n.stride) after.of) (dies_here e d)
         goes_on (inr n) =
             let there : Names new.store.table to (state_in Forward m input (suc k)) =
             subst (Names new.store.table to) (sym (state_more Forward m input k ∙ ap (successor m.nfa (match_kind_of m.config) (state_in Forward m input k)) reads_unit)) n in
-            inr (record {
+            IsUnmatched (subst (λ n. IsUnderway Forward m new.store.table input n to None) more (record {
               undone = under.undone;
               may = under.may;
               at = more_at Forward m old.store.table new.store.table input k id to u None None under.at reads_unit reads free (at, place, reports) (λ e. refl) (λ l. there);
-            })
+            })) where
+              more : suc k ≡ at + 1 - input.start
+              more = omega (arith, from)
 
         on_here : at < input.end → StandsAt m new input (at + 1) to
         on_here less = record {
@@ -231,12 +230,8 @@ module _ (m : Machine) (input : Input) (old new : CacheView) (at id to : ℕ) (u
           upto = omega (arith, less);
           inside = stands.inside;
           row = answer.row;
-          state =
-              subst (λ n. ((to ≡ dead_id m.stride) × IsFirstMatch m input None) ⊎ IsUnderway Forward m new.store.table input n to None)
-              more (goes_on (reads (state_in Forward m input k) under.at.named));
-        } where
-          more : suc k ≡ at + 1 - input.start
-          more = omega (arith, from)
+          state = goes_on (reads (state_in Forward m input k) under.at.named);
+        }
 
     -- a quit byte leads to quit
     quit_to : quits_on m u ≡ true → to ≡ quit_id m.stride
@@ -260,9 +255,9 @@ module _ (m : Machine) (input : Input) (old new : CacheView) (at id to : ℕ) (u
       last = λ silent unquit end. end_here q silent end;
     }
 
-  go : ((id ≡ dead_id m.stride) × IsFirstMatch m input None) ⊎ IsUnderway Forward m old.store.table input (at - input.start) id None → IsStepAt m new input at to
-  go (inl (e, none)) = dead_steps e none
-  go (inr under) = state_steps under (quits_on m u) refl
+  go : LeadsToId m old input at id → IsStepAt m new input at to
+  go (IsDead e none) = dead_steps e none
+  go (IsUnmatched under) = state_steps under (quits_on m u) refl
 
   pub stands_step : IsStepAt m new input at to
   stands_step = go stands.state
@@ -272,10 +267,10 @@ pub run_found :
     (m : Machine) (input : Input) (half : Option HalfMatch)
     → (Skips m → ⊥) → input.start ≤ input.end → IsFirstMatch m input half → WithoutBase (IsFound Forward m input) half
 run_found m input None plain undone run =
-    (None, finds_none Forward m input input 0 (first_span input) (inl refl, λ j less. absurd (omega (arith, less))) (omega (arith, undone)) run.found run.clean, refl)
+    (None, finds_none Forward m input input 0 (first_span input) (record { comes = inl refl; before = λ j less. absurd (omega (arith, less)) }) (omega (arith, undone)) run.found run.clean, refl)
 run_found m input (Some half) plain undone run = (
   Some (with_base half input.start),
-  finds_some Forward m input input 0 (first_span input) (inl refl, λ j less. absurd (omega (arith, less))) (omega (arith, undone)) half run.found run.clean (λ skips. absurd (plain skips)),
+  finds_some Forward m input input 0 (first_span input) (record { comes = inl refl; before = λ j less. absurd (omega (arith, less)) }) (omega (arith, undone)) half run.found run.clean (λ skips. absurd (plain skips)),
   refl,
 )
 

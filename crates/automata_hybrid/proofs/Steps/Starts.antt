@@ -13,19 +13,23 @@ use Rattle.automata_config.specs.declared.error.SearchError.{SearchError}
 use Rattle.automata_hybrid.specs.declared.cache.row.Row.{Row}
 use Rattle.automata_hybrid.specs.Cache.Ids.{unknown_id}
 use Rattle.automata_hybrid.specs.Machines.Machine.{Machine}
-use Rattle.automata_hybrid.specs.Cache.Table.{HasItsMatchTag, Lacks, Leads, Names}
+use Rattle.automata_hybrid.specs.Cache.Table.{HasItsMatchTag, Leads, Names}
+use Rattle.automata_hybrid.specs.Private.Cache.Table.{Lacks}
 use Rattle.automata_hybrid.specs.Cache.Table.{Rows}
-use Rattle.automata_hybrid.specs.Cache.Stores.{Stored, IsKnownStart, KeepsStarts, with_start}
-use Rattle.automata_hybrid.specs.Cache.Usage.{GivesUp, cleared}
-use Rattle.automata_hybrid.specs.Cache.Changes.{ClearsFirst, IsStarted, JustGrows, StartsAdded, StartsKnown}
+use Rattle.automata_hybrid.specs.Cache.Stores.{Stored}
+use Rattle.automata_hybrid.specs.Private.Cache.Stores.{KeepsStarts}
+use Rattle.automata_hybrid.specs.Private.Cache.Stores.{IsKnownStart, with_start_in_store}
+use Rattle.automata_hybrid.specs.Private.Cache.Usage.{cleared}
+use Rattle.automata_hybrid.specs.Private.Cache.Changes.{IsStarted, StartsAdded, StartsKnown}
 use Rattle.automata_hybrid.specs.Private.Cache.Changes.{AddsRow}
 use Rattle.automata_hybrid.specs.Cache.Caches.{CacheView, HoldsRow, IsCacheOf, IsStoreOf, counted, with_store}
-use Rattle.automata_hybrid.specs.Cache.Progress.{saturated}
-use Rattle.automata_config.specs.declared.error.StartError.{StartError}
-use Rattle.automata_hybrid.specs.Calls.Events.{Does, Event, FindsCached, MakesAnew, MayAsk, Start}
-use Rattle.automata_hybrid.specs.Calls.Steps.{StartFails, StartFailsAt}
-use Rattle.automata_hybrid.specs.Steps.Starts.{IsStartAnswer, IsStartError, IsStartErrorAt, MayStart, quit_behind}
-use Rattle.automata_hybrid.specs.Steps.Starts.{KnowsStart, known_start, start_row}
+use Rattle.automata_hybrid.specs.Calls.Events.{Event, Start}
+use Rattle.automata_hybrid.specs.Private.Calls.Events.{Does, FindsCached, MakesAnew, MayAsk}
+use Rattle.automata_hybrid.specs.Private.Calls.Steps.{StartFailsAtInStore}
+use Rattle.automata_hybrid.specs.Steps.Starts.{IsStartAnswer, MayStart, quit_behind}
+use Rattle.automata_hybrid.specs.Private.Steps.Starts.{IsStartError, IsStartErrorAt}
+use Rattle.automata_hybrid.specs.Steps.Starts.{known_start, start_row}
+use Rattle.automata_hybrid.specs.Private.Steps.Starts.{KnowsStart}
 use Rattle.automata_hybrid.specs.Private.Steps.Starts.{IsStartSlot}
 use Rattle.automata_hybrid.proofs.Searches.PassState.{false_true}
 use Rattle.automata_hybrid.proofs.Machines.StartSlots.{starts_alike}
@@ -121,7 +125,7 @@ keeps_written old xs slot id keeps found other k = go (cases_lt other slot) (cas
 -- the start state was there
 pub computes_known :
     (m : Machine) (mode : Anchored) (behind : Option ℕ) (old mid new : CacheView) (slot id : ℕ) (key : Powerset)
-    → mid ≡ counted old → new ≡ with_store mid (with_start mid.store slot id) → Leads mid.store.table id key
+    → mid ≡ counted old → new ≡ with_store mid (with_start_in_store mid.store slot id) → Leads mid.store.table id key
     → key ≡ start_state_of m.nfa mode behind
     → slice_index new.store.starts slot ≡ id → slice_index new.store.starts slot < unknown_id
     → ComputesStart m mode behind old new slot id
@@ -138,8 +142,8 @@ computes_known m mode behind old mid new slot id key was e leads same written fo
   before : mid.store ≡ old.store
   before = ap (λ (v : CacheView). v.store) was
 
-  stored : new.store ≡ with_start old.store slot id
-  stored = ap (λ (v : CacheView). v.store) e ∙ ap (λ (s : Stored). with_start s slot id) before
+  stored : new.store ≡ with_start_in_store old.store slot id
+  stored = ap (λ (v : CacheView). v.store) e ∙ ap (λ (s : Stored). with_start_in_store s slot id) before
 
   there : Leads old.store.table id (start_state_of m.nfa mode behind)
   there =
@@ -150,7 +154,7 @@ computes_known m mode behind old mid new slot id key was e leads same written fo
 pub computes_new :
     (m : Machine) (mode : Anchored) (behind : Option ℕ) (old mid between new : CacheView) (slot id : ℕ) (state key : Powerset) (started : Bool)
     → mid ≡ counted old → AddsRow mid.store (cleared mid.store) between.store (record { state = state; started = started }) id → between.count ≡ mid.count
-    → new ≡ with_store between (with_start between.store slot id) → state ≡ key → Lacks mid.store.table key
+    → new ≡ with_store between (with_start_in_store between.store slot id) → state ≡ key → Lacks mid.store.table key
     → key ≡ start_state_of m.nfa mode behind → started ≡ specialize_start_states_of m.config
     → slice_index new.store.starts slot ≡ id → slice_index new.store.starts slot < unknown_id
     → ComputesStart m mode behind old new slot id
@@ -167,7 +171,7 @@ computes_new m mode behind old mid between new slot id state key started was add
   before : mid.store ≡ old.store
   before = ap (λ (v : CacheView). v.store) was
 
-  stored : new.store ≡ with_start between.store slot id
+  stored : new.store ≡ with_start_in_store between.store slot id
   stored = ap (λ (v : CacheView). v.store) e
 
   none : Lacks old.store.table (start_state_of m.nfa mode behind)
@@ -182,24 +186,6 @@ computes_new m mode behind old mid between new slot id state key started was add
   added =
       subst (λ (r : Row). AddsRow old.store (cleared old.store) between.store r id) row
       (subst (λ (s : Stored). AddsRow s (cleared s) between.store (record { state = state; started = started }) id) before adds)
-
-pub started_clears :
-    (old new : Stored) (slot id : ℕ) (r : Row) → old.clears < 2 ^ 64 → IsStarted old slot r new id → old.clears ≤ new.clears
-started_clears old new slot id r small (StartsKnown leads e) =
-    let c : new.clears ≡ old.clears = ap (λ (s : Stored). s.clears) e in omega (arith, c)
-started_clears old new slot id r small (StartsAdded lacks between (JustGrows fits g) to e) =
-    let c : new.clears ≡ old.clears = ap (λ (s : Stored). s.clears) e ∙ ap (λ (s : Stored). s.clears) g in omega (arith, c)
-started_clears old new slot id r small (StartsAdded lacks between (ClearsFirst full may g) to e) =
-    let c : new.clears ≡ saturated (old.clears + 1) = ap (λ (s : Stored). s.clears) e ∙ ap (λ (s : Stored). s.clears) g in
-    omega (arith, c, small)
-
--- what was started had room, or the cache could be cleared
-pub started_room :
-    (old new : Stored) (slot id : ℕ) (r : Row) → IsStarted old slot r new id → GivesUp old r.state → ⊥
-started_room old new slot id r (StartsKnown (inl (e, d)) s) g = g.0.1 d
-started_room old new slot id r (StartsKnown (inr n) s) g = none_some (sym g.0.0 ∙ n)
-started_room old new slot id r (StartsAdded lacks between (JustGrows fits s) to e) g = g.1 fits
-started_room old new slot id r (StartsAdded lacks between (ClearsFirst full may s) to e) g = false_true (sym may ∙ g.2)
 
 -- what a computed start answers, and what it makes of the cache
 module _ (m : Machine) (mode : Anchored) (behind : Option ℕ) (old new : CacheView) (slot id : ℕ) (made : ComputesStart m mode behind old new slot id)
@@ -244,7 +230,7 @@ may_or_not m mode behind = go (quit_behind m behind) refl (supports m mode) refl
 -- why a search has no start state, of the states as they are after the refusal
 pub refusal_at :
     (m : Machine) (mode : Anchored) (behind : Option ℕ) (behind_at start_at : ℕ) (old new : CacheView) (e : SearchError)
-    → StartFailsAt m mode behind behind_at start_at old new e
+    → StartFailsAtInStore m mode behind behind_at start_at old new e
     → IsStartErrorAt m new.store mode behind behind_at start_at e
 refusal_at m mode behind behind_at start_at old new e h = (
   h.error,

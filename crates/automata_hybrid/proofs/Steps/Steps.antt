@@ -1,5 +1,5 @@
 -- Steps: what a call answers and changes, from what its parts do.
-use Rattle.std.proofs.Common.{ℕ, ◌≡◌, ◌+◌, ◌^◌, ◌<◌, ◌≤◌, Bool, true, false, Option, None, Some, refl, sym}
+use Rattle.std.proofs.Common.{ℕ, ◌≡◌, ◌+◌, ◌<◌, ◌≤◌, Bool, true, false, Option, None, Some, refl, sym}
 use Rattle.std.proofs.Common.{ap, ◌∙◌, subst, arith, inl, inr}
 use Rattle.std.specs.Prelude.{slice_index}
 use Rattle.automata_base.specs.ByteClasses.Classes.{is_quit}
@@ -7,22 +7,25 @@ use Rattle.automata_base.specs.Powersets.Powerset.{Powerset}
 use Rattle.automata_base.specs.Retraced.Steps.{successor}
 use Rattle.automata_base.proofs.Paths.Orders.{none_some, some_inj}
 use Rattle.automata_base.specs.Powersets.Passes.{IsUnit}
-use Rattle.automata_hybrid.specs.Cache.Stores.{IsKnownTransition, KeepsStarts, Stored, cell_of, with_next}
-use Rattle.automata_hybrid.specs.Cache.Usage.{GivesUp}
-use Rattle.automata_hybrid.specs.Cache.Changes.{ClearsFirst, IsComputed, IsStateAdded, JustGrows, WritesAdded, WritesKnown, cleared_saving}
+use Rattle.automata_hybrid.specs.Cache.Stores.{Stored, cell_of}
+use Rattle.automata_hybrid.specs.Private.Cache.Stores.{KeepsStarts}
+use Rattle.automata_hybrid.specs.Private.Cache.Stores.{IsKnownTransition, with_next}
+use Rattle.automata_hybrid.specs.Private.Cache.Changes.{IsComputed, IsStateAdded, WritesAdded, WritesKnown, cleared_saving_in_store}
 use Rattle.automata_hybrid.specs.Private.Cache.Changes.{AddsNext}
 use Rattle.automata_hybrid.specs.Cache.Caches.{CacheView, HoldsRow, IsCacheOf, IsStoreOf, counted, with_store}
 use Rattle.automata_hybrid.specs.Cache.Ids.{fixed_from, quit_id, unknown_id}
 use Rattle.automata_hybrid.specs.Machines.Machine.{Machine}
-use Rattle.automata_hybrid.specs.Cache.Progress.{saturated}
-use Rattle.automata_hybrid.specs.Calls.Events.{Does, FindsCached, IsCached, MakesAnew, Step, moved}
-use Rattle.automata_hybrid.specs.Calls.Steps.{IsStepRun}
+use Rattle.automata_hybrid.specs.Calls.Events.{Step}
+use Rattle.automata_hybrid.specs.Private.Calls.Events.{Does, FindsCached, IsCached, MakesAnew, moved_in_store}
+use Rattle.automata_hybrid.specs.Private.Calls.Steps.{IsStepRunInStore}
 use Rattle.automata_hybrid.specs.Private.Searches.Units.{IsStepTaken}
-use Rattle.automata_hybrid.specs.Steps.Steps.{IsStepAnswer, KnowsStep, known_step}
+use Rattle.automata_hybrid.specs.Steps.Steps.{IsStepAnswer, known_step}
+use Rattle.automata_hybrid.specs.Private.Steps.Steps.{KnowsStep}
 use Rattle.automata_hybrid.specs.Private.Steps.Steps.{IsCellRead}
 use Rattle.automata_hybrid.specs.Machines.Machine.{quits_on, unit_class}
 use Rattle.automata_hybrid.specs.Cache.Table.{CellLeads, CellQuits, CellUnknown}
-use Rattle.automata_hybrid.specs.Cache.Table.{HasCells, HasItsMatchTag, IsCell, IsRowId, Lacks, Leads, LeadsByClass}
+use Rattle.automata_hybrid.specs.Cache.Table.{HasCells, HasItsMatchTag, IsCell, IsRowId, Leads, LeadsByClass}
+use Rattle.automata_hybrid.specs.Private.Cache.Table.{Lacks}
 use Rattle.automata_hybrid.specs.Cache.Table.{Names, Rows}
 use Rattle.automata_hybrid.proofs.Steps.Effects.{cached-computed, one_id}
 use Rattle.automata_hybrid.proofs.Searches.PassState.{false_true}
@@ -33,7 +36,7 @@ use Rattle.automata_config.specs.Options.{match_kind_of}
 pub same_run :
     (m : Machine) (id : ℕ) (unit : Option ℕ) (c : CacheView)
     → ((q : Powerset) → Names c.store.table id q → (unit_class m unit < m.stride) × IsStoreOf c.store m × KnowsStep m c.store id unit)
-    → IsStepRun m id unit c c
+    → IsStepRunInStore m id unit c c
 same_run m id unit c known = record {
   fixed = λ h. refl;
   quit = λ h. refl;
@@ -49,7 +52,7 @@ step_unknown m id unit c unknown q named (other, names, known) =
 
 -- of a search that moved before it made a step
 module _ (m : Machine) (id : ℕ) (unit : Option ℕ) (at : ℕ) (old new : CacheView) where
-  pub moved_answer : (next : ℕ) → IsStepAnswer m id unit (moved at old) new next → IsStepAnswer m id unit old new next
+  pub moved_answer : (next : ℕ) → IsStepAnswer m id unit (moved_in_store at old) new next → IsStepAnswer m id unit old new next
   moved_answer next a = record {
     row = a.row;
     tag = a.tag;
@@ -60,15 +63,15 @@ module _ (m : Machine) (id : ℕ) (unit : Option ℕ) (at : ℕ) (old new : Cach
   }
 
   pub moved_run :
-      (KnowsStep m old.store id unit → ⊥) → quits_on m unit ≡ false → IsStepRun m id unit (moved at old) new
+      (KnowsStep m old.store id unit → ⊥) → quits_on m unit ≡ false → IsStepRunInStore m id unit (moved_in_store at old) new
       → IsStepTaken m id unit at old new
   moved_run unknown clean run = record {
     quit = λ on. absurd (false_true (sym clean ∙ on));
     taken = λ free q named. go q named (run.does free q named);
   } where
     go :
-        (q : Powerset) → Names old.store.table id q → Does m (Step q unit) (moved at old) (moved at old) new
-        → Does m (Step q unit) old (moved at old) new
+        (q : Powerset) → Names old.store.table id q → Does m (Step q unit) (moved_in_store at old) (moved_in_store at old) new
+        → Does m (Step q unit) old (moved_in_store at old) new
     go q named (FindsCached asked after cached same) = absurd (step_unknown m id unit old unknown q named cached)
     go q named (MakesAnew asked after not made) = MakesAnew asked after not made
 
@@ -232,8 +235,8 @@ computes_new m id unit old mid between new class from next state key was adds co
           (let to : key ≡ successor m.nfa (match_kind_of m.config) q unit = same q n in
           let none : Lacks old.store.table (successor m.nfa (match_kind_of m.config) q unit) =
           subst (λ (s : Stored). Lacks s.table (successor m.nfa (match_kind_of m.config) q unit)) before (subst (λ (p : Powerset). Lacks mid.store.table p) to lacks) in
-          let grew : IsStateAdded old.store (cleared_saving old.store id) (record { state = successor m.nfa (match_kind_of m.config) q unit; started = false }) between.store =
-          subst (λ (p : Powerset). IsStateAdded old.store (cleared_saving old.store id) (record { state = p; started = false }) between.store) (is ∙ to) added.row.effect in
+          let grew : IsStateAdded old.store (cleared_saving_in_store old.store id) (record { state = successor m.nfa (match_kind_of m.config) q unit; started = false }) between.store =
+          subst (λ (p : Powerset). IsStateAdded old.store (cleared_saving_in_store old.store id) (record { state = p; started = false }) between.store) (is ∙ to) added.row.effect in
           WritesAdded none from between.store grew (added.saved q n) (subst (λ (p : Powerset). Names between.store.table next p) (is ∙ to) added.row.named) refl);
       leads = λ q n. inr (subst (λ (p : Powerset). Names between.store.table next p) (is ∙ same q n) added.row.named);
       starts = added.row.starts;
@@ -245,25 +248,6 @@ computes_new m id unit old mid between new class from next state key was adds co
 
     added : AddsNext old.store between.store id state from next
     added = subst (λ (s : Stored). AddsNext s between.store id state from next) before adds
-
-pub computed_clears :
-    (old new : Stored) (id class next : ℕ) (q target : Powerset)
-    → old.clears < 2 ^ 64 → IsComputed old id class q target new next → old.clears ≤ new.clears
-computed_clears old new id class next q target small (WritesKnown leads e) =
-    let c : new.clears ≡ old.clears = ap (λ (s : Stored). s.clears) e in omega (arith, c)
-computed_clears old new id class next q target small (WritesAdded lacks from between (JustGrows fits g) n to e) =
-    let c : new.clears ≡ old.clears = ap (λ (s : Stored). s.clears) e ∙ ap (λ (s : Stored). s.clears) g in omega (arith, c)
-computed_clears old new id class next q target small (WritesAdded lacks from between (ClearsFirst full may g) n to e) =
-    let c : new.clears ≡ saturated (old.clears + 1) = ap (λ (s : Stored). s.clears) e ∙ ap (λ (s : Stored). s.clears) g in
-    omega (arith, c, small)
-
--- what was computed had room, or the cache could be cleared
-pub computed_room :
-    (old new : Stored) (id class next : ℕ) (q target : Powerset) → IsComputed old id class q target new next → GivesUp old target → ⊥
-computed_room old new id class next q target (WritesKnown (inl (e, d)) s) g = g.0.1 d
-computed_room old new id class next q target (WritesKnown (inr n) s) g = none_some (sym g.0.0 ∙ n)
-computed_room old new id class next q target (WritesAdded lacks from between (JustGrows fits s) n to e) g = g.1 fits
-computed_room old new id class next q target (WritesAdded lacks from between (ClearsFirst full may s) n to e) g = false_true (sym may ∙ g.2)
 
 -- what a computed step answers, and what it makes of the cache
 module _ (m : Machine) (id : ℕ) (unit : Option ℕ) (old new : CacheView) (class next : ℕ) (step : ComputesStep m id unit old new class next)
@@ -283,7 +267,7 @@ module _ (m : Machine) (id : ℕ) (unit : Option ℕ) (old new : CacheView) (cla
         (cached-computed old.store new.store id class next q _ n (step.done q n) cells (subst (λ (d : Machine). class < d.stride) (sym of) below));
   }
 
-  pub computed_run : IsStoreOf new.store m → IsStepRun m id unit old new
+  pub computed_run : IsStoreOf new.store m → IsStepRunInStore m id unit old new
   computed_run sound = record {
     fixed = λ high. absurd (omega (arith, low, high));
     quit = λ q. absurd (false_true (sym clean ∙ q));

@@ -2,7 +2,7 @@
 use Rattle.std.proofs.Common.{ℕ, suc, ◌≡◌, ◌<◌, ◌≤◌, ◌+◌, ◌-◌, ◌⊎◌, ◌↔◌, inl, inr, Bool, false, List, [], ◌∷◌, ◌++◌}
 use Rattle.std.proofs.Common.{length, Some, None, refl, sym, ap, ap₂, ◌∙◌, subst, arith, length-append, get_or}
 use Rattle.std.specs.Prelude.{Err, IsTrue, Ok, OnErr, OnOk, Result}
-use Rattle.automata_base.specs.Answers.Answers.{offset_in}
+use Rattle.automata_base.specs.Answers.Answers.{KeepsSplit, SkipsSplit, WalksNoSpan, offset_in}
 use Rattle.automata_base.specs.Haystacks.Input.{Input}
 use Rattle.automata_base.specs.Haystacks.Matches.{HalfMatch}
 use Rattle.automata_base.specs.Powersets.Powerset.{Powerset}
@@ -11,19 +11,17 @@ use Rattle.automata_base.specs.Haystacks.Tapes.{is_split}
 use Rattle.automata_base.specs.declared.util.search.Direction.{Direction}
 use Rattle.automata_base.specs.Retraced.Passes.{pairs_reported}
 use Rattle.automata_base.proofs.Powersets.WalkReports.{walks_one}
-use Rattle.automata_hybrid.specs.Cache.Caches.{CacheView, counted}
-use Rattle.automata_hybrid.specs.Cache.Growth.{HasRoom, IsGrown}
 use Rattle.automata_hybrid.specs.Machines.Machine.{Machine}
 use Rattle.automata_hybrid.specs.Searches.Passes.{HasReadNoQuit, Skips, state_in, tape_in}
 use Rattle.automata_hybrid.specs.Steps.Starts.{MayStart}
 use Rattle.automata_hybrid.specs.Cache.Table.{IsRowState, Rows}
-use Rattle.automata_hybrid.specs.Walks.Answers.{AreWalked, HasItsState, HasReported, HasReportedAll}
+use Rattle.automata_hybrid.specs.Walks.Answers.{AreWalked, HasReported, HasReportedAll}
 use Rattle.automata_hybrid.specs.Private.Walks.Answers.{Arrives, Finishes}
 use Rattle.automata_hybrid.specs.Walks.Answers.{HasReportedAt, HasReportedBy, StandsAtState, ReportsNext, WalkMeetsNoQuit}
-use Rattle.automata_hybrid.specs.Walks.Answers.{half_nth, start_count}
+use Rattle.automata_hybrid.specs.Walks.Answers.{half_nth}
 use Rattle.automata_hybrid.specs.Walks.State.{At, Ended, Fresh, Stage, Walk, without_match}
 use Rattle.automata_hybrid.specs.Private.Walks.State.{ended_walk, with_match}
-use Rattle.automata_hybrid.proofs.Caches.Growth.{clears_none, clears_none_back}
+use Rattle.automata_hybrid.specs.Walks.Answers.{MetNoQuit, WasDone}
 use Rattle.automata_hybrid.proofs.Searches.PassState.{false_true}
 use Rattle.automata_hybrid.proofs.Walks.Reports.{Begins, finish_all, half_at_place, half_after, half_past, place_length}
 use Rattle.automata_hybrid.proofs.Walks.Reports.{reported_more, reported_rises, walked_all, walked_begin}
@@ -50,8 +48,8 @@ module _ (way : Direction) (m : Machine) (input : Input) where
   -- nothing is reported by no unit
   pub reported_none : Skips m ⊎ (Skips m → ⊥) → HasReportedBy way m input 0 0
   unfolding pairs_reported
-  reported_none (inl s) = record { pairs = []; unsplit = inl (s, refl); count = refl }
-  reported_none (inr n) = record { pairs = []; unsplit = inr (n, refl); count = refl }
+  reported_none (inl s) = record { pairs = []; unsplit = SkipsSplit s refl; count = refl }
+  reported_none (inr n) = record { pairs = []; unsplit = KeepsSplit n refl; count = refl }
 
   -- all that a place reports
   pub reported_place :
@@ -142,7 +140,7 @@ module _ (way : Direction) (m : Machine) (input : Input) where
   next_done w v units done on k t = go w.stage t on where
     go : (s : Stage) → HasReportedAt way m input s w.units w.reported k → (s ≡ Ended → ⊥) → HasReported way m input (ended_walk v units) (suc k) × ((pairs : List Pair) → AreWalked way m input pairs → ((ended_walk v units).found ≡ half_nth pairs k) × (length pairs ≤ k → Ended ≡ Ended))
     go Fresh (none, first) on =
-        ends v units k (record { clean = inl done; pairs = []; all = inl (done, refl); none_left = omega arith })
+        ends v units k (record { clean = WasDone done; pairs = []; all = WalksNoSpan done refl; none_left = omega arith })
     go (At q) s on = absurd (omega (arith, done, s.undone))
     go Ended t on = absurd (on refl)
 
@@ -153,7 +151,7 @@ module _ (way : Direction) (m : Machine) (input : Input) where
       → HasReportedBy way m input (suc (length (tape_in way input).bytes)) k → HasReportedAll way m input k
   all_reported k s may clean t =
       record {
-        clean = inr (may, clean);
+        clean = MetNoQuit may clean;
         pairs = t.pairs;
         all = walked_all way m input t.pairs s t.unsplit;
         none_left = omega (arith, t.count);
@@ -271,15 +269,6 @@ reported_least way m input v k reported on j n l t = go v.stage reported on wher
       reported_rises way m input (suc s.place) j (s.earlier + length here.patterns) n (omega (arith, l, s.one_after)) (reported_place way m input s.place s.earlier s.unskipped s.before) t in
       omega (arith, rises, s.few, all, s.count)
   go Ended t on = absurd (on refl)
-
--- nothing is cleared where there is room for the units left and a start, or a state put back
-pub walk_clears_none :
-    (old new : CacheView) (s : Stage) (n : ℕ)
-    → IsGrown old (counted new) → (HasItsState old.store.table s → IsGrown old new) → new.count ≤ old.count + n + start_count s
-    → HasRoom old.store (n + 1) → new.store.clears ≡ old.store.clears
-walk_clears_none old new Fresh n g there few room = clears_none old new (n + 1) (there tt) (omega (arith, few)) room
-walk_clears_none old new (At q) n g there few room = clears_none_back old new n g (omega (arith, few)) room
-walk_clears_none old new Ended n g there few room = clears_none_back old new n g (omega (arith, few)) room
 
 -- it stays a walk over its input
 pub still_walk :

@@ -1,7 +1,7 @@
 -- Going on with a walk: what the functions under its calls answer, and what they make of their cache.
 use Rattle.automata_hybrid.specs.declared.cache.handle.Handle.{Handle}
-use Rattle.std.proofs.Common.{ℕ, suc, ◌≡◌, ◌∙◌, inl, inr, false, Option, None, Some, refl, sym, ap, subst, arith}
-use Rattle.std.specs.Prelude.{IfErr, IfOk, OnErr, OnOk, Result}
+use Rattle.std.proofs.Common.{ℕ, suc, ◌≡◌, ◌∙◌, false, Option, None, Some, refl, sym, ap, subst, arith}
+use Rattle.std.specs.Prelude.{IfErr, IfOk, OnErr, OnOk, Result, Ok, Err}
 use Rattle.std.proofs.lemmas.Result.{IfErr-weaker, IfOk-weaker}
 use Rattle.automata_base.specs.Answers.Answers.{offset_in}
 use Rattle.automata_base.specs.Haystacks.Input.{Input}
@@ -19,29 +19,39 @@ use Rattle.automata_config.specs.declared.error.SearchError.TheVariants as searc
 use Rattle.automata_hybrid.specs.Cache.Caches.{CacheView, IsStoreOf}
 use Rattle.automata_hybrid.specs.Private.Cache.Growth.{AddFails}
 use Rattle.automata_hybrid.specs.Cache.Stores.{Stored}
-use Rattle.automata_hybrid.specs.Cache.Table.{IsKnownState, Leads, Rows}
-use Rattle.automata_hybrid.specs.Cache.Usage.{GivesUp}
+use Rattle.automata_hybrid.specs.Cache.Table.{Leads, Rows}
+use Rattle.automata_hybrid.specs.Private.Cache.Table.{IsKnownState}
+use Rattle.automata_hybrid.specs.Private.Cache.Usage.{GivesUpInStore}
 use Rattle.automata_hybrid.specs.Machines.Machine.{Machine}
 use Rattle.automata_hybrid.specs.Machines.StartSlots.{supports}
 use Rattle.automata_hybrid.specs.Searches.Contracts.{IsUnsupported, unsupported_error}
 use Rattle.automata_hybrid.specs.Searches.Passes.{behind_offset, given_up_offset, state_in, tape_in}
 use Rattle.automata_hybrid.specs.Private.Searches.PassState.{step_error}
-use Rattle.automata_hybrid.specs.Searches.Progress.{HasItsStart, start_event}
-use Rattle.automata_hybrid.specs.Calls.Steps.{StartFailsAt}
-use Rattle.automata_hybrid.specs.Steps.Starts.{IsStartAnswer, IsStartError, IsStartErrorAt, quit_behind}
+use Rattle.automata_hybrid.specs.Searches.Progress.{start_event}
+use Rattle.automata_hybrid.specs.Private.Searches.Progress.{HasItsStart}
+use Rattle.automata_hybrid.specs.Private.Calls.Steps.{StartFailsAtInStore}
+use Rattle.automata_hybrid.specs.Steps.Starts.{IsStartAnswer, quit_behind}
+use Rattle.automata_hybrid.specs.Private.Steps.Starts.{IsStartError, IsStartErrorAt}
 use Rattle.automata_hybrid.specs.Steps.Starts.{start_search_error}
-use Rattle.automata_hybrid.specs.Walks.Answers.{HasItsState, HasNoRoom, HasReportedAt, IsPutBackError, IsResumeError}
-use Rattle.automata_hybrid.specs.Walks.Answers.{IsWalkOf, ReportsNext, RunsOut}
-use Rattle.automata_hybrid.specs.Private.Walks.Parts.{IsCallAnswer, IsResumeAnswer}
-use Rattle.automata_hybrid.specs.Walks.Progress.{CallReads, EndsCall, FailsOnItsWay, FailsToGoOn, HasEnded, HasItsRow}
-use Rattle.automata_hybrid.specs.Walks.Progress.{HasMore, HasNoneLeft, IsNotResumed, IsResumed, IsWalkRun, LeavesCall}
-use Rattle.automata_hybrid.specs.Walks.Progress.{ReadsNoUnit, ReadsNone, ReadsSome, WasThere}
+use Rattle.automata_hybrid.specs.Private.Walks.Answers.{FindsNone, GoesOn, ReadsMore, ReportsOneMore}
+use Rattle.automata_hybrid.specs.Walks.Answers.{HasReportedAt}
+use Rattle.automata_hybrid.specs.Private.Walks.Answers.{HasItsState, HasNoRoom, IsPutBackError, IsResumeError}
+use Rattle.automata_hybrid.specs.Walks.Answers.{IsWalkOf, ReportsNext}
+use Rattle.automata_hybrid.specs.Private.Walks.Answers.{RunsOut}
+use Rattle.automata_hybrid.specs.Private.Walks.Parts.{IsCallAnswer, IsCallResult, IsResumeAnswer}
+use Rattle.automata_hybrid.specs.Walks.Progress.{HasEnded}
+use Rattle.automata_hybrid.specs.Private.Walks.Progress.{CallReadsInStore, EndsCallInStore, FailsOnItsWayInStore, FailsToGoOnInStore, HasItsRow}
+use Rattle.automata_hybrid.specs.Walks.Progress.{HasMore, HasNoneLeft}
+use Rattle.automata_hybrid.specs.Private.Walks.Progress.{IsNotResumedInStore, IsResumed, IsWalkRunInStore, LeavesCallInStore}
+use Rattle.automata_hybrid.specs.Walks.Progress.{ReadsNoUnit}
+use Rattle.automata_hybrid.specs.Private.Walks.Progress.{ReadsNoneInStore, ReadsSomeInStore, WasThere}
 use Rattle.automata_hybrid.specs.Walks.State.{At, Ended, Fresh, Ids, Keeping, Stage}
 use Rattle.automata_hybrid.specs.Private.Walks.State.{Holds, HoldsNone, IsHeldAt, IsHeldItself}
 use Rattle.automata_hybrid.specs.Walks.State.{States, Walk, without_match}
 use Rattle.automata_hybrid.specs.Private.Walks.State.{keeping_of}
 use Rattle.automata_hybrid.specs.declared.search.walk.Held.{Held}
 use Rattle.automata_hybrid.specs.declared.search.walk.Held.TheVariants as held
+use Rattle.automata_hybrid.specs.Walks.Answers.{MetNoQuit, WasDone}
 use Rattle.automata_hybrid.proofs.Searches.PassState.{false_true, state_first}
 use Rattle.automata_hybrid.proofs.Searches.Goes.{unstarted}
 use Rattle.automata_hybrid.proofs.Steps.Starts.{does_ask, refusal_at}
@@ -61,11 +71,11 @@ unsupported_start m c mode behind behind_at start_at e (error, why, reported, un
 -- so is the call that was to begin the walk
 pub unsupported_call :
     (keeping : Keeping) (way : Direction) (m : Machine) (input : Input) (w : Walk) (old new : CacheView) (e : SearchError)
-    → w.stage ≡ Fresh → IsUnsupported way m input → LeavesCall keeping way m input w old new e → e ≡ unsupported_error input
-unsupported_call keeping way m input w old new e fresh u (FailsToGoOn reads why none) =
+    → w.stage ≡ Fresh → IsUnsupported way m input → LeavesCallInStore keeping way m input w old new e → e ≡ unsupported_error input
+unsupported_call keeping way m input w old new e fresh u (FailsToGoOnInStore reads why none) =
     unsupported_start m new.store input.anchored (tape_in way input).before _ _ e
     (subst (λ (s : Stage). IsResumeError way m new.store input s w.units e) fresh why) u.behind u.mode
-unsupported_call keeping way m input w old new e fresh u (FailsOnItsWay reads begun resumed stopped) =
+unsupported_call keeping way m input w old new e fresh u (FailsOnItsWayInStore reads begun resumed stopped) =
     let starts : HasItsStart way m input old begun = subst (λ (s : Stage). IsResumed way m input s old begun) fresh resumed in
     absurd (false_true (sym u.mode ∙ (does_ask m (start_event way input) old old begun starts).1))
 
@@ -78,14 +88,19 @@ supported_call way m input walk next (k, reported) reports u = go next.stage (re
   go Fresh (none, first) = omega (arith, none)
   go (At q) t = false_true (sym u.mode ∙ t.may.1)
   go Ended t = elim t.clean [
-    | inl done ↦ omega (arith, done, u.undone)
-    | inr (may, clean) ↦ false_true (sym u.mode ∙ may.1)
+    | WasDone done ↦ omega (arith, done, u.undone)
+    | MetNoQuit may clean ↦ false_true (sym u.mode ∙ may.1)
   ]
 
 -- whether the walk had a match before changes nothing
 module _ (way : Direction) (m : Machine) (input : Input) (w next : Walk) where
+  on_matched : GoesOn (without_match w) next → GoesOn w next
+  on_matched (FindsNone none) = FindsNone none
+  on_matched (ReadsMore on more) = ReadsMore on more
+  on_matched (ReportsOneMore on same more) = ReportsOneMore on same more
+
   pub answer_matched : IsCallAnswer way m input (without_match w) next → IsCallAnswer way m input w next
-  answer_matched a = record { reports = a.reports; goes_on = a.goes_on }
+  answer_matched a = record { reports = a.reports; goes_on = on_matched a.goes_on }
 
   none_matched : ReadsNoUnit input (without_match w) → ReadsNoUnit input w
   none_matched (HasEnded over) = HasEnded over
@@ -97,7 +112,7 @@ module _ (way : Direction) (m : Machine) (input : Input) (w next : Walk) where
   some_matched reads (HasMore q at few) = reads (HasMore q at few)
   some_matched reads (HasNoneLeft past) = reads (HasNoneLeft past)
 
-  reads_matched : (old new : CacheView) → CallReads way m input (without_match w) next old new → CallReads way m input w next old new
+  reads_matched : (old new : CacheView) → CallReadsInStore way m input (without_match w) next old new → CallReadsInStore way m input w next old new
   reads_matched old new c = record {
     some = some_matched c.some;
     begun = c.begun;
@@ -108,29 +123,38 @@ module _ (way : Direction) (m : Machine) (input : Input) (w next : Walk) where
     read = c.read;
   }
 
-  ends_matched : (old new : CacheView) → EndsCall way m input (without_match w) next old new → EndsCall way m input w next old new
-  ends_matched old new (ReadsNone over none same still) = ReadsNone over (none_matched none) same still
-  ends_matched old new (ReadsSome over c) = ReadsSome over (reads_matched old new c)
+  ends_matched : (old new : CacheView) → EndsCallInStore way m input (without_match w) next old new → EndsCallInStore way m input w next old new
+  ends_matched old new (ReadsNoneInStore over none same still) = ReadsNoneInStore over (none_matched none) same still
+  ends_matched old new (ReadsSomeInStore over c) = ReadsSomeInStore over (reads_matched old new c)
 
   leaves_matched :
       (keeping : Keeping) (old new : CacheView) (e : SearchError)
-      → LeavesCall keeping way m input (without_match w) old new e → LeavesCall keeping way m input w old new e
-  leaves_matched keeping old new e (FailsToGoOn reads why none) = FailsToGoOn (some_matched reads) why none
-  leaves_matched keeping old new e (FailsOnItsWay reads begun resumed stopped) =
-      FailsOnItsWay (some_matched reads) begun resumed stopped
+      → LeavesCallInStore keeping way m input (without_match w) old new e → LeavesCallInStore keeping way m input w old new e
+  leaves_matched keeping old new e (FailsToGoOnInStore reads why none) = FailsToGoOnInStore (some_matched reads) why none
+  leaves_matched keeping old new e (FailsOnItsWayInStore reads begun resumed stopped) =
+      FailsOnItsWayInStore (some_matched reads) begun resumed stopped
 
   pub run_matched :
       (keeping : Keeping) (old new : CacheView) (error : Option SearchError)
-      → IsWalkRun keeping way m input (without_match w) next old new error → IsWalkRun keeping way m input w next old new error
+      → IsWalkRunInStore keeping way m input (without_match w) next old new error → IsWalkRunInStore keeping way m input w next old new error
   run_matched keeping old new None e = record { of = e.of; run = ends_matched old new e.run }
   run_matched keeping old new (Some error) e = record { of = e.of; run = leaves_matched keeping old new error e.run }
+
+  pub called_matched :
+      (keeping : Keeping) (old new : CacheView) (r : Result (Unit {0}) SearchError)
+      → IsCallResult keeping way m input (without_match w) next old new r → IsCallResult keeping way m input w next old new r
+  called_matched keeping old new (Ok unit) called = record {
+    answer = answer_matched called.answer;
+    effect = run_matched keeping old new None called.effect;
+  }
+  called_matched keeping old new (Err e) called = run_matched keeping old new (Some e) called
 
 -- how a call failed, by what is kept
 pub left_by :
     (kept keeping : Keeping) (way : Direction) (m : Machine) (input : Input) (w next : Walk) (old new : CacheView) (e : SearchError)
-    → kept ≡ keeping → IsWalkRun kept way m input w next old new (Some e) → LeavesCall keeping way m input w old new e
+    → kept ≡ keeping → IsWalkRunInStore kept way m input w next old new (Some e) → LeavesCallInStore keeping way m input w old new e
 left_by kept keeping way m input w next old new e same run =
-    subst (λ k. LeavesCall k way m input w old new e) same run.run
+    subst (λ k. LeavesCallInStore k way m input w old new e) same run.run
 
 -- what is held by itself is held whatever the cache
 pub held_itself : (t : Rows) (s : Stage) (h : Held) → IsHeldItself s h → IsHeldAt t s h × (keeping_of h ≡ States)
@@ -169,8 +193,8 @@ held_there t (At q) (held.Row None) at ids = absurd at
 pub run_none :
     (keeping : Keeping) (way : Direction) (m : Machine) (input : Input) (w next : Walk) (c : CacheView)
     → IsStoreOf c.store m → ReadsNoUnit input w → next.units ≡ w.units → (next.stage ≡ Ended → next.found ≡ None)
-    → IsWalkRun keeping way m input w next c c None
-run_none keeping way m input w next c sound none same over = record { of = sound; run = ReadsNone over none same refl }
+    → IsWalkRunInStore keeping way m input w next c c None
+run_none keeping way m input w next c sound none same over = record { of = sound; run = ReadsNoneInStore over none same refl }
 
 -- a walk that has not begun goes on from its start
 module _ (way : Direction) (m : Machine) (input : Input) (w : Walk) (old new : CacheView) (r : Result ℕ SearchError)
@@ -188,7 +212,7 @@ module _ (way : Direction) (m : Machine) (input : Input) (w : Walk) (old new : C
     first = (subst (λ (s : Stage). HasReportedAt way m input s w.units w.reported k) fresh reported).1
 
   pub start_error :
-      IfErr r (StartFailsAt m input.anchored (tape_in way input).before (behind_offset way input) (offset_in way input 0) old new)
+      IfErr r (StartFailsAtInStore m input.anchored (tape_in way input).before (behind_offset way input) (offset_in way input 0) old new)
       → IfErr r (IsResumeError way m new.store input w.stage w.units)
   start_error h =
       subst (λ (s : Stage). IfErr r (IsResumeError way m new.store input s w.units)) (sym fresh)
@@ -198,10 +222,10 @@ module _ (way : Direction) (m : Machine) (input : Input) (w : Walk) (old new : C
   start_resumed had = subst (λ (s : Stage). OnOk r (IsResumed way m input s old new)) (sym fresh) had
 
   pub start_left :
-      IfErr r (StartFailsAt m input.anchored (tape_in way input).before (behind_offset way input) (offset_in way input 0) old new)
-      → OnErr r (IsNotResumed way m input w.stage old new)
+      IfErr r (StartFailsAtInStore m input.anchored (tape_in way input).before (behind_offset way input) (offset_in way input 0) old new)
+      → OnErr r (IsNotResumedInStore way m input w.stage old new)
   start_left h =
-      subst (λ (s : Stage). OnErr r (IsNotResumed way m input s old new)) (sym fresh)
+      subst (λ (s : Stage). OnErr r (IsNotResumedInStore way m input s old new)) (sym fresh)
       (IfErr-weaker r _ _ (λ e x. unstarted way m input (behind_offset way input) (offset_in way input 0) old new e x) h)
 
 -- a walk that has begun goes on from the state that it holds
@@ -217,9 +241,9 @@ module _ (way : Direction) (m : Machine) (input : Input) (t : Rows) (w : Walk) (
         subst (λ (p : Powerset). HasItsRow m p old new) (subst (λ (x : Held). Holds t x q) holds at).0 row
 
   -- or was not put back, and nothing has changed
-  pub back_left : new ≡ old → IsNotResumed way m input w.stage old new
+  pub back_left : new ≡ old → IsNotResumedInStore way m input w.stage old new
   back_left same = go w.stage fresh on where
-    go : (s : Stage) → (s ≡ Fresh → ⊥) → (s ≡ Ended → ⊥) → IsNotResumed way m input s old new
+    go : (s : Stage) → (s ≡ Fresh → ⊥) → (s ≡ Ended → ⊥) → IsNotResumedInStore way m input s old new
     go Fresh fresh on = absurd (fresh refl)
     go Ended fresh on = absurd (on refl)
     go (At q) fresh on = same
@@ -239,13 +263,13 @@ module _ (way : Direction) (m : Machine) (input : Input) (t : Rows) (w : Walk) (
       why : (e : StepError) → AddFails old new handle.state e → r ≡ step_error e (given_up_offset way input w.units) → IsPutBackError new.store q (given_up_offset way input w.units) r
       why (step.Cache err) refused reported =
           HasNoRoom
-          (subst (GivesUp new.store) same (subst (λ (v : CacheView). GivesUp v.store handle.state) (sym refused.kept) (refused.gives_up.0 tt)))
+          (subst (GivesUpInStore new.store) same (subst (λ (v : CacheView). GivesUpInStore v.store handle.state) (sym refused.kept) (refused.gives_up.0 tt)))
           reported
       why step.OutOfMemory refused reported =
           RunsOut
           (λ has. lacks (subst (λ (v : CacheView). IsKnownState v.store.table handle.state) refused.kept (subst (IsKnownState new.store.table) (sym same) has)))
           (λ gives. refused.gives_up.1
-          (subst (λ (v : CacheView). GivesUp v.store handle.state) refused.kept (subst (GivesUp new.store) (sym same) gives)))
+          (subst (λ (v : CacheView). GivesUpInStore v.store handle.state) refused.kept (subst (GivesUpInStore new.store) (sym same) gives)))
           reported
 
 -- one of a set goes on from the ID of its row

@@ -1,21 +1,27 @@
 -- What the calls of a walk make of their cache and of the progress.
 use Rattle.std.proofs.Common.{ℕ, suc, ◌≡◌, ◌+◌, ◌≤◌, length, inl, inr, refl, sym, subst, arith}
-use Rattle.automata_base.specs.Answers.Answers.{AreUnsplit, with_offsets, without_split}
+use Rattle.automata_base.specs.Answers.Answers.{AreUnsplit, KeepsSplit, SkipsSplit, with_offsets, without_split}
 use Rattle.automata_base.specs.Haystacks.Input.{Input}
 use Rattle.automata_base.specs.declared.util.search.Direction.{Direction}
 use Rattle.automata_config.specs.declared.error.SearchError.{SearchError}
 use Rattle.automata_hybrid.specs.Cache.Caches.{CacheView}
-use Rattle.automata_hybrid.specs.Cache.Stores.{Stored}
 use Rattle.automata_hybrid.specs.Walks.Cached.{IsToRead}
 use Rattle.automata_hybrid.specs.Machines.Machine.{Machine}
-use Rattle.automata_hybrid.specs.Searches.Progress.{Goes, IsLeftAt}
-use Rattle.automata_hybrid.specs.Walks.Progress.{FailsAfterUnit, FailsAtUnit, FailsOnItsWay, FailsToGoOn, HasEnded, HasMore}
-use Rattle.automata_hybrid.specs.Walks.Progress.{HasNoneLeft, IsCallLeftAt, IsCallStopped, LeavesCall, ReadsNoUnit}
+use Rattle.automata_hybrid.specs.Private.Walks.Answers.{IsArrival}
+use Rattle.automata_hybrid.specs.Private.Walks.Parts.{HasAdvanced}
+use Rattle.automata_hybrid.specs.declared.search.walk.advance.Arrival.{Arrival}
+use Rattle.automata_hybrid.specs.Private.Searches.Progress.{IsLeftAt}
+use Rattle.automata_hybrid.specs.Walks.Progress.{HasEnded, HasMore}
+use Rattle.automata_hybrid.specs.Private.Walks.Progress.{FailsAfterUnit, FailsAtUnitInStore, FailsOnItsWayInStore, FailsToGoOnInStore}
+use Rattle.automata_hybrid.specs.Walks.Progress.{HasNoneLeft, ReadsNoUnit}
+use Rattle.automata_hybrid.specs.Private.Walks.Progress.{IsCallLeftAtInStore, IsCallStoppedInStore, LeavesCallInStore}
 use Rattle.automata_hybrid.specs.Searches.Cached.{IsOfInput}
-use Rattle.automata_hybrid.specs.Searches.Passes.{HasReadNoQuit, IsUnitError, Skips}
-use Rattle.automata_hybrid.specs.Walks.Answers.{HasReportedBy, IsWalkErrorAt, IsSilent, WalkReads, pairs_reported_in}
+use Rattle.automata_hybrid.specs.Searches.Passes.{HasReadNoQuit, Skips}
+use Rattle.automata_hybrid.specs.Private.Searches.Passes.{IsUnitError}
+use Rattle.automata_hybrid.specs.Walks.Answers.{HasReportedBy, IsSilent, WalkReads, pairs_reported_in}
 use Rattle.automata_hybrid.specs.Walks.Follows.{IsKnownError}
 use Rattle.automata_hybrid.specs.Walks.State.{Ids, Keeping, States, Walk}
+use Rattle.automata_hybrid.specs.Walks.Follows.{IsHoldError, IsInputError}
 use Rattle.automata_hybrid.proofs.Searches.PassState.{dead_more}
 use Rattle.automata_hybrid.proofs.Searches.Goes.{GoesTo, goes_some}
 use Rattle.automata_hybrid.proofs.Walks.Reports.{reported_rises}
@@ -33,17 +39,17 @@ pub silent_before :
 silent_before way m input from j to more less silent k t = subst (HasReportedBy way m input j) same here.1 where
   one :
       AreUnsplit (Skips m) way input (pairs_reported_in way m input from) t.pairs → (n : ℕ) × HasReportedBy way m input j n
-  one (inl skips) = (
+  one (SkipsSplit skips same) = (
     length (without_split input.haystack (with_offsets way input (pairs_reported_in way m input j))),
     record {
       pairs = without_split input.haystack (with_offsets way input (pairs_reported_in way m input j));
-      unsplit = inl (skips.0, refl);
+      unsplit = SkipsSplit skips refl;
       count = refl;
     },
   )
-  one (inr none) = (
+  one (KeepsSplit keeps same) = (
     length (with_offsets way input (pairs_reported_in way m input j)),
-    record { pairs = with_offsets way input (pairs_reported_in way m input j); unsplit = inr (none.0, refl); count = refl },
+    record { pairs = with_offsets way input (pairs_reported_in way m input j); unsplit = KeepsSplit keeps refl; count = refl },
   )
 
   here : (n : ℕ) × HasReportedBy way m input j n
@@ -56,16 +62,19 @@ silent_before way m input from j to more less silent k t = subst (HasReportedBy 
       omega (arith, up, down)
 
 -- a walk has read units up to where it is
-pub arrived_read :
-    (way : Direction) (m : Machine) (input : Input) (from k units : ℕ) (old new : CacheView) → from ≤ k → suc k ≡ units
-    → WalkReads way m input k → GoesTo way m input from (suc k) old new
-    → (n : ℕ) × (units ≡ suc (from + n)) × WalkReads way m input (from + n) × Goes way m input from (suc n) old new
-arrived_read way m input from k units old new more same reads all = go (goes_some way m input from k old new more all) where
-  go :
-      ((n : ℕ) × (from + n ≡ k) × Goes way m input from (suc n) old new)
-      → (n : ℕ) × (units ≡ suc (from + n)) × WalkReads way m input (from + n)
-      × Goes way m input from (suc n) old new
-  go (n, here, read) = (n, omega (arith, here, same), subst (WalkReads way m input) (sym here) reads, read)
+pub has_advanced :
+    (way : Direction) (m : Machine) (input : Input) (from k : ℕ) (a : Arrival) (old new : CacheView) → from ≤ k
+    → suc k ≡ a.units → WalkReads way m input k → GoesTo way m input from (suc k) old new
+    → IsArrival way m new.store.table input from a.id a.units → HasAdvanced way m input from old new a
+has_advanced way m input from k a old new more same reads all arrives =
+    let some = goes_some way m input from k old new more all in
+    record {
+      arrives = arrives;
+      before = some.0;
+      counted = omega (arith, some.1, same);
+      reads = subst (WalkReads way m input) (sym some.1) reads;
+      goes = some.2;
+    }
 
 -- a call that failed at a unit
 pub call_stopped :
@@ -73,7 +82,7 @@ pub call_stopped :
     → WalkReads way m input k → HasReadNoQuit way m input k → IsSilent way m input from k
     → IsUnitError way m new.store input k e
     → (run : CacheView) → GoesTo way m input from k old run → IsLeftAt way m input k run new
-    → IsCallStopped Ids way m input from old new e
+    → IsCallStoppedInStore Ids way m input from old new e
 call_stopped way m input from k old new e reads clean silent refused run all left = record {
   units = all.units;
   reads = subst (WalkReads way m input) (sym all.upto) reads;
@@ -81,7 +90,7 @@ call_stopped way m input from k old new e reads clean silent refused run all lef
   silent = subst (IsSilent way m input from) (sym all.upto) silent;
   mid = run;
   goes = all.goes;
-  left = subst (λ j. IsCallLeftAt Ids way m input j run new e) (sym all.upto) (FailsAtUnit refused left);
+  left = subst (λ j. IsCallLeftAtInStore Ids way m input j run new e) (sym all.upto) (FailsAtUnitInStore refused left);
 }
 
 -- a call that is to read units reads some
@@ -94,26 +103,19 @@ reads_some input w r (HasNoneLeft past) = omega (arith, r.undone, r.left, past)
 -- a call that fails is to read units
 pub left_reads :
     (keeping : Keeping) (way : Direction) (m : Machine) (input : Input) (w : Walk) (old new : CacheView) (e : SearchError)
-    → LeavesCall keeping way m input w old new e → ReadsNoUnit input w → ⊥
-left_reads keeping way m input w old new e (FailsToGoOn reads why none) = reads
-left_reads keeping way m input w old new e (FailsOnItsWay reads begun resumed stopped) = reads
-
--- a failed step is a refusal at its unit, whatever is kept
-pub step_refuses :
-    (keeping : Keeping) (way : Direction) (m : Machine) (c : Stored) (input : Input) (j : ℕ) (e : SearchError)
-    → IsUnitError way m c input j e → IsWalkErrorAt keeping way m c input j e
-step_refuses Ids way m c input j e r = r
-step_refuses States way m c input j e r = inl r
+    → LeavesCallInStore keeping way m input w old new e → ReadsNoUnit input w → ⊥
+left_reads keeping way m input w old new e (FailsToGoOnInStore reads why none) = reads
+left_reads keeping way m input w old new e (FailsOnItsWayInStore reads begun resumed stopped) = reads
 
 step_leaves :
     (keeping : Keeping) (way : Direction) (m : Machine) (input : Input) (k : ℕ) (old new : CacheView) (e : SearchError)
-    → IsCallLeftAt Ids way m input k old new e → IsCallLeftAt keeping way m input k old new e
-step_leaves keeping way m input k old new e (FailsAtUnit refused left) = FailsAtUnit refused left
+    → IsCallLeftAtInStore Ids way m input k old new e → IsCallLeftAtInStore keeping way m input k old new e
+step_leaves keeping way m input k old new e (FailsAtUnitInStore refused left) = FailsAtUnitInStore refused left
 step_leaves keeping way m input k old new e (FailsAfterUnit kept unheld read) = absurd (let is : Ids ≡ States = kept in cc)
 
 pub call_leaves :
     (keeping : Keeping) (way : Direction) (m : Machine) (input : Input) (from : ℕ) (old new : CacheView) (e : SearchError)
-    → IsCallStopped Ids way m input from old new e → IsCallStopped keeping way m input from old new e
+    → IsCallStoppedInStore Ids way m input from old new e → IsCallStoppedInStore keeping way m input from old new e
 call_leaves keeping way m input from old new e stopped = record {
   units = stopped.units;
   reads = stopped.reads;
@@ -124,9 +126,9 @@ call_leaves keeping way m input from old new e stopped = record {
   left = step_leaves keeping way m input (from + stopped.units) stopped.mid new e stopped.left;
 }
 
--- a refusal for what was given is one of a call that has cached all
-pub known_refusal :
-    (keeping : Keeping) (way : Direction) (m : Machine) (input : Input) (w : Walk) (e : SearchError) → IsOfInput e
-    → IsKnownError keeping way m input w e
-known_refusal Ids way m input w e given = given
-known_refusal States way m input w e given = inl given
+-- where IDs are kept, a call that has cached all fails because of its input alone
+pub of_input :
+    (way : Direction) (m : Machine) (input : Input) (w : Walk) (e : SearchError)
+    → IsKnownError Ids way m input w e → IsOfInput e
+of_input way m input w e (IsInputError given) = given
+of_input way m input w e (IsHoldError kept j past unheld) = absurd (let is : Ids ≡ States = kept in cc)

@@ -14,9 +14,11 @@ use Rattle.automata_hybrid.specs.Machines.Machine.{Machine}
 use Rattle.automata_hybrid.specs.Searches.Passes.{NoQuitInReach, tape_in}
 use Rattle.automata_hybrid.specs.Machines.StartSlots.{supports}
 use Rattle.automata_hybrid.specs.Searches.Contracts.{IsMemory, IsUnhindered}
-use Rattle.automata_hybrid.specs.Walks.Answers.{HasNoRoom, IsResumeError, RunsOut}
-use Rattle.automata_hybrid.specs.Walks.Progress.{FailsAfterUnit, FailsAtUnit, FailsOnItsWay, FailsToGoOn, HasNoneLeft}
-use Rattle.automata_hybrid.specs.Walks.Progress.{IsCallLeftAt, IsSetRun, LeavesCall, LeavesSet, ReadsNoUnit}
+use Rattle.automata_hybrid.specs.Private.Walks.Answers.{HasNoRoom, IsResumeError, RunsOut}
+use Rattle.automata_hybrid.specs.Walks.Progress.{HasNoneLeft}
+use Rattle.automata_hybrid.specs.Private.Walks.Progress.{FailsAfterUnit, FailsAtUnitInStore, FailsOnItsWayInStore, FailsToGoOnInStore}
+use Rattle.automata_hybrid.specs.Walks.Progress.{ReadsNoUnit}
+use Rattle.automata_hybrid.specs.Private.Walks.Progress.{IsCallLeftAtInStore, IsSetRunInStore, LeavesCallInStore, LeavesSetInStore}
 use Rattle.automata_hybrid.specs.Walks.State.{At, Ended, Fresh, Ids, Keeping, Stage, Walk}
 use Rattle.automata_hybrid.proofs.Searches.Reach.{InReach, no_limit, start_memory, step_memory}
 use Rattle.automata_config.specs.Options.{minimum_cache_clear_count_of}
@@ -43,21 +45,21 @@ module _ (way : Direction) (m : Machine) (new : CacheView) (input : Input)
 
   at_memory :
       (keeping : Keeping) (j : ℕ) (mid : CacheView) (e : SearchError)
-      → input.start ≤ input.end → j ≤ length (tape_in way input).bytes → IsCallLeftAt keeping way m input j mid new e → e ≡ search.OutOfMemory
-  at_memory keeping j mid e s l (FailsAtUnit r left) = step_memory way m new.store input s few same clean mode free j _ _ _ e l r
+      → input.start ≤ input.end → j ≤ length (tape_in way input).bytes → IsCallLeftAtInStore keeping way m input j mid new e → e ≡ search.OutOfMemory
+  at_memory keeping j mid e s l (FailsAtUnitInStore r left) = step_memory way m new.store input s few same clean mode free j _ _ _ e l r
   at_memory keeping j mid e s l (FailsAfterUnit kept r read) = r.memory
 
-  pub call_memory : (keeping : Keeping) (w : Walk) (old : CacheView) (e : SearchError) → LeavesCall keeping way m input w old new e → e ≡ search.OutOfMemory
-  call_memory keeping w old e (FailsToGoOn reads why none) = resume_memory w.stage w.units e (reads_undone input w reads) why
-  call_memory keeping w old e (FailsOnItsWay reads begun resumed s) =
+  pub call_memory : (keeping : Keeping) (w : Walk) (old : CacheView) (e : SearchError) → LeavesCallInStore keeping way m input w old new e → e ≡ search.OutOfMemory
+  call_memory keeping w old e (FailsToGoOnInStore reads why none) = resume_memory w.stage w.units e (reads_undone input w reads) why
+  call_memory keeping w old e (FailsOnItsWayInStore reads begun resumed s) =
       at_memory keeping (w.units + s.units) s.mid e (reads_undone input w reads) s.reads.0 s.left
 
 -- so does the search for a set
 pub set_memory :
     {T : Type 0} (m : Machine) (new : CacheView) (input : Input) (set joined : List Bool) (old : CacheView) (r : Result T SearchError)
     → input.end ≤ length input.haystack → new.store.table.of ≡ m → IsUnhindered m input
-    → IsSetRun m input set joined old new (result_err r) → IfErr r IsMemory
+    → IsSetRunInStore m input set joined old new (result_err r) → IfErr r IsMemory
 set_memory m new input set joined old (Ok t) few same f run = tt
 set_memory m new input set joined old (Err e) few same f run = go run.run where
-  go : LeavesSet m input set joined old new e → IsMemory e
+  go : LeavesSetInStore m input set joined old new e → IsMemory e
   go s = call_memory Forward m new input few same f.reach f.supported f.clears Ids s.walk s.mid e s.left

@@ -2,7 +2,8 @@
 use Rattle.std.proofs.Common.{ℕ, zero, suc, ◌≡◌, ◌<◌, ◌≤◌, ◌+◌, ◌⊎◌, inl, inr, Bool, true, false, cond, List, [], ◌∷◌}
 use Rattle.std.proofs.Common.{◌++◌, length, Some, None, refl, sym, ap, ap₂, ◌∙◌, subst, arith, length-append}
 use Rattle.std.proofs.Common.{eq-or-lt_of_le, get_or}
-use Rattle.automata_base.specs.Answers.Answers.{AreUnsplit, offset_in, with_offsets, without_split}
+use Rattle.automata_base.specs.Answers.Answers.{AreUnsplit, KeepsSplit, SkipsSplit, WalksNoSpan, WalksSpan, offset_in, with_offsets}
+use Rattle.automata_base.specs.Answers.Answers.{without_split}
 use Rattle.automata_base.specs.ByteClasses.Classes.{is_quit}
 use Rattle.automata_base.specs.Haystacks.Input.{Input}
 use Rattle.automata_base.specs.Paths.Paths.{next}
@@ -72,35 +73,29 @@ module _ (way : Direction) (m : Machine) (input : Input) where
       → (Skips m → is_split input.haystack (offset_in way input i) ≡ false)
       → AreUnsplit (Skips m) way input (pairs_reported_in way m input i) pairs
       → AreUnsplit (Skips m) way input (pairs_reported_in way m input (suc i)) (pairs ++ at_place (offset_in way input i) (at i))
-  reported_more i pairs free (inl (s, e)) = inl (
-    s,
-    sym (ap (λ (zs : List Pair). without_split input.haystack (with_offsets way input zs)) (pairs_more i)
-        ∙ (ap (without_split input.haystack) (offsets_join way input (pairs_reported_in way m input i) (at_place i (at i)))
-        ∙ (unsplit_join input.haystack (with_offsets way input (pairs_reported_in way m input i)) (with_offsets way input (at_place i (at i)))
-        ∙ ap₂ (λ (xs ys : List Pair). xs ++ ys) (sym e)
-        (ap (without_split input.haystack) (place_offsets way input i (at i)) ∙ place_unsplit input.haystack (offset_in way input i) (at i) (free s))))),
-  )
-  reported_more i pairs free (inr (n, e)) = inr (
-    n,
-    sym (ap (with_offsets way input) (pairs_more i)
-        ∙ (offsets_join way input (pairs_reported_in way m input i) (at_place i (at i)) ∙ ap₂ (λ (xs ys : List Pair). xs ++ ys) (sym e) (place_offsets way input i (at i)))),
-  )
+  reported_more i pairs free (SkipsSplit s e) = SkipsSplit s
+      (sym (ap (λ (zs : List Pair). without_split input.haystack (with_offsets way input zs)) (pairs_more i)
+      ∙ (ap (without_split input.haystack) (offsets_join way input (pairs_reported_in way m input i) (at_place i (at i)))
+      ∙ (unsplit_join input.haystack (with_offsets way input (pairs_reported_in way m input i)) (with_offsets way input (at_place i (at i)))
+      ∙ ap₂ (λ (xs ys : List Pair). xs ++ ys) (sym e)
+      (ap (without_split input.haystack) (place_offsets way input i (at i)) ∙ place_unsplit input.haystack (offset_in way input i) (at i) (free s))))))
+  reported_more i pairs free (KeepsSplit n e) = KeepsSplit n
+      (sym (ap (with_offsets way input) (pairs_more i)
+      ∙ (offsets_join way input (pairs_reported_in way m input i) (at_place i (at i)) ∙ ap₂ (λ (xs ys : List Pair). xs ++ ys) (sym e) (place_offsets way input i (at i)))))
 
   -- at a place that is skipped
   reported_skipped :
       (i : ℕ) (pairs : List Pair)
       → Skips m → is_split input.haystack (offset_in way input i) ≡ true
       → AreUnsplit (Skips m) way input (pairs_reported_in way m input i) pairs → AreUnsplit (Skips m) way input (pairs_reported_in way m input (suc i)) pairs
-  reported_skipped i pairs skips split (inr (n, e)) = absurd (n skips)
-  reported_skipped i pairs skips split (inl (s, e)) = inl (
-    s,
-    sym (ap (λ (zs : List Pair). without_split input.haystack (with_offsets way input zs)) (pairs_more i)
-        ∙ (ap (without_split input.haystack) (offsets_join way input (pairs_reported_in way m input i) (at_place i (at i)))
-        ∙ (unsplit_join input.haystack (with_offsets way input (pairs_reported_in way m input i)) (with_offsets way input (at_place i (at i)))
-        ∙ (ap₂ (λ (xs ys : List Pair). xs ++ ys) (sym e)
-        (ap (without_split input.haystack) (place_offsets way input i (at i)) ∙ place_split input.haystack (offset_in way input i) (at i) split)
-        ∙ join_none pairs)))),
-  )
+  reported_skipped i pairs skips split (KeepsSplit n e) = absurd (n skips)
+  reported_skipped i pairs skips split (SkipsSplit s e) = SkipsSplit s
+      (sym (ap (λ (zs : List Pair). without_split input.haystack (with_offsets way input zs)) (pairs_more i)
+      ∙ (ap (without_split input.haystack) (offsets_join way input (pairs_reported_in way m input i) (at_place i (at i)))
+      ∙ (unsplit_join input.haystack (with_offsets way input (pairs_reported_in way m input i)) (with_offsets way input (at_place i (at i)))
+      ∙ (ap₂ (λ (xs ys : List Pair). xs ++ ys) (sym e)
+      (ap (without_split input.haystack) (place_offsets way input i (at i)) ∙ place_split input.haystack (offset_in way input i) (at i) split)
+      ∙ join_none pairs)))))
 
   -- a state without patterns
   pairs_none : (i : ℕ) → at i ≡ [] → pairs_reported_in way m input (suc i) ≡ pairs_reported_in way m input i
@@ -231,7 +226,7 @@ module _ (way : Direction) (m : Machine) (input : Input) where
 
   unsplit_begin :
       (xs ys a b : List Pair) → Begins xs ys → AreUnsplit (Skips m) way input xs a → AreUnsplit (Skips m) way input ys b → Begins a b
-  unsplit_begin xs ys a b j (inl (s, e)) (inl (s', f)) =
+  unsplit_begin xs ys a b j (SkipsSplit s e) (SkipsSplit s' f) =
       record {
         rest = without_split input.haystack (with_offsets way input j.rest);
         joined =
@@ -240,9 +235,9 @@ module _ (way : Direction) (m : Machine) (input : Input) where
             ∙ (unsplit_join input.haystack (with_offsets way input xs) (with_offsets way input j.rest)
             ∙ ap (λ (zs : List Pair). zs ++ without_split input.haystack (with_offsets way input j.rest)) (sym e))));
       }
-  unsplit_begin xs ys a b j (inl (s, e)) (inr (n, f)) = absurd (n s)
-  unsplit_begin xs ys a b j (inr (n, e)) (inl (s, f)) = absurd (n s)
-  unsplit_begin xs ys a b j (inr (n, e)) (inr (n', f)) =
+  unsplit_begin xs ys a b j (SkipsSplit s e) (KeepsSplit n f) = absurd (n s)
+  unsplit_begin xs ys a b j (KeepsSplit n e) (SkipsSplit s f) = absurd (n s)
+  unsplit_begin xs ys a b j (KeepsSplit n e) (KeepsSplit n' f) =
       record {
         rest = with_offsets way input j.rest;
         joined =
@@ -255,8 +250,8 @@ module _ (way : Direction) (m : Machine) (input : Input) where
       (i : ℕ) (a b : List Pair)
       → input.start ≤ input.end → i ≤ suc (length (tape_in way input).bytes)
       → AreUnsplit (Skips m) way input (pairs_reported_in way m input i) a → AreWalked way m input b → Begins a b
-  walked_begin i a b s l u (inl (done, e)) = absurd (omega (arith, s, done))
-  walked_begin i a b s l u (inr (undone, (pairs, reported, v))) =
+  walked_begin i a b s l u (WalksNoSpan done e) = absurd (omega (arith, s, done))
+  walked_begin i a b s l u (WalksSpan undone pairs reported v) =
       unsplit_begin (pairs_reported_in way m input i) pairs a b
       (subst (λ (zs : List Pair). Begins (pairs_reported_in way m input i) zs) (sym reported) (pairs_begin i (suc (length (tape_in way input).bytes)) l)) u v
 
@@ -264,7 +259,7 @@ module _ (way : Direction) (m : Machine) (input : Input) where
   pub walked_all :
       (a : List Pair) → input.start ≤ input.end
       → AreUnsplit (Skips m) way input (pairs_reported_in way m input (suc (length (tape_in way input).bytes))) a → AreWalked way m input a
-  walked_all a s u = inr (s, (pairs_reported_in way m input (suc (length (tape_in way input).bytes)), refl, u))
+  walked_all a s u = WalksSpan s (pairs_reported_in way m input (suc (length (tape_in way input).bytes))) refl u
 
   -- more units report no fewer pairs
   pub reported_rises : (i n a b : ℕ) → i ≤ n → HasReportedBy way m input i a → HasReportedBy way m input n b → a ≤ b

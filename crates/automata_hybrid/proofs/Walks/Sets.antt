@@ -1,6 +1,6 @@
 -- The patterns that a walk puts into a set.
 use Rattle.std.proofs.Common.{ℕ, zero, suc, ◌≡◌, ◌<◌, ◌≤◌, ◌+◌, ◌-◌, ◌*◌, ◌⊎◌, ◌↔◌, inl, inr, Bool, true, false, List}
-use Rattle.std.proofs.Common.{[], ◌∷◌, length, take, set, Option, Some, None, refl, sym, ap, ap₂, ◌∙◌, ◌++◌, subst}
+use Rattle.std.proofs.Common.{[], ◌∷◌, length, take, set, Option, Some, None, refl, sym, ap, ◌∙◌, ◌++◌, subst}
 use Rattle.std.proofs.Common.{arith, length-set}
 use Rattle.std.proofs.lemmas.Bool.{cases_eq}
 use Rattle.std.proofs.lemmas.List.{get_or-set_other, get_or-set_same}
@@ -16,21 +16,20 @@ use Rattle.automata_base.specs.declared.util.search.Direction.TheVariants.{Forwa
 use Rattle.automata_base.specs.Laws.Walks.{WalkIsRight}
 use Rattle.automata_config.specs.Options.{match_kind_of}
 use Rattle.automata_base.proofs.ByteClasses.PatternsInSets.{members-few}
-use Rattle.automata_hybrid.specs.Cache.Stores.{Stored}
 use Rattle.automata_hybrid.specs.Cache.Caches.{CacheView}
-use Rattle.automata_hybrid.specs.Cache.Growth.{IsGrown}
-use Rattle.automata_hybrid.specs.Searches.Cached.{KnowsItsStart}
-use Rattle.automata_hybrid.specs.Walks.Cached.{IsOpen, KnowsItsState, KnowsWalk, KnowsWhich, LacksOne, NoPair}
+use Rattle.automata_hybrid.specs.Walks.Cached.{IsOpen, LacksOne, NoPair}
 use Rattle.automata_hybrid.specs.Machines.Machine.{Machine, engine}
 use Rattle.automata_base.specs.Powersets.Powerset.{Powerset, cost}
-use Rattle.automata_hybrid.specs.Walks.Progress.{HaveCalled, IsJoined, IsJoinedAfter, IsOpenAfter, NoCall}
+use Rattle.automata_hybrid.specs.Walks.Progress.{IsJoined, IsJoinedAfter}
+use Rattle.automata_hybrid.specs.Private.Walks.Progress.{HaveCalledInStore, NoCallInStore}
 use Rattle.automata_hybrid.specs.Searches.Passes.{tape_in}
-use Rattle.automata_hybrid.specs.Walks.Answers.{AreWalked, HasItsState, HasReported, HasReportedAt, HasReportedBy}
+use Rattle.automata_hybrid.specs.Walks.Answers.{AreWalked, HasReported, HasReportedAt}
 use Rattle.automata_hybrid.specs.Private.Walks.Answers.{GoesOn}
 use Rattle.automata_hybrid.specs.Walks.Answers.{ReportsNext, half_nth}
 use Rattle.automata_hybrid.specs.Walks.State.{At, Ended, Fresh, Stage, Walk, fresh_walk}
+use Rattle.automata_hybrid.specs.Private.Walks.Answers.{FindsNone, ReadsMore, ReportsOneMore}
 use Rattle.automata_hybrid.proofs.Searches.PassState.{false_true}
-use Rattle.automata_hybrid.proofs.Walks.Reports.{Begins, reported_rises, walked_begin}
+use Rattle.automata_hybrid.proofs.Walks.Reports.{reported_rises}
 use Rattle.automata_hybrid.proofs.Searches.Directions.{units_in}
 use Rattle.std.proofs.Math.Nat.{mul-le-mul_right}
 
@@ -291,14 +290,14 @@ module _ (m : Machine) (input : Input) (old : List Bool) where
       -- by one call more
       pub calls_more :
           (e : input.earliest ≡ false) (lacks : IsLacking (set new half.pattern true)) (cache last : CacheView)
-          → HaveCalled m input old cache (suc j.k) next last → HaveCalled m input old cache (joins_more e lacks).k next last
+          → HaveCalledInStore m input old cache (suc j.k) next last → HaveCalledInStore m input old cache (joins_more e lacks).k next last
       unfolding joins_more
       calls_more e lacks cache last called = called
 
 -- a walk that has not begun has made no call
 pub joins_begin :
     (m : Machine) (input : Input) (walk : Walk) (set : List Bool) (c : CacheView) → walk ≡ fresh_walk
-    → (j : Joins m input walk set set) × HaveCalled m input set c j.k walk c
+    → (j : Joins m input walk set set) × HaveCalledInStore m input set c j.k walk c
 joins_begin m input walk set c fresh = (
   record {
     k = 0;
@@ -308,7 +307,7 @@ joins_begin m input walk set c fresh = (
     capacity = refl;
     open_at = inl refl;
   },
-  NoCall walk c fresh refl,
+  NoCallInStore walk c fresh refl,
 )
 
 -- how many steps a walk has left, at most: for each unit as many as a state has patterns, and one more
@@ -366,11 +365,12 @@ pub on_found :
     (old new : Walk) (half : HalfMatch)
     → GoesOn old new → new.found ≡ Some half
     → (new.stage ≡ Ended → ⊥) × ((old.units < new.units) ⊎ ((new.units ≡ old.units) × (new.reported ≡ suc old.reported)))
-on_found old new half (inl none) e = absurd (none_half half (sym none ∙ e))
-on_found old new half (inr h) e = h
+on_found old new half (FindsNone none) e = absurd (none_half half (sym none ∙ e))
+on_found old new half (ReadsMore on more) e = (on, inl more)
+on_found old new half (ReportsOneMore on same more) e = (on, inr (same, more))
 
 -- two counts of the pairs that a walk has reported are one
-reported_one :
+pub reported_one :
     (m : Machine) (input : Input) (w : Walk) (a b : ℕ)
     → (w.stage ≡ Ended → ⊥) → HasReported Forward m input w a → HasReported Forward m input w b → a ≡ b
 reported_one m input w a b on t u = go w.stage on t u where
@@ -382,41 +382,9 @@ reported_one m input w a b on t u = go w.stage on t u where
       omega (arith, up, down, t.count, u.count)
   go Ended on t u = absurd (on refl)
 
-take_front : (xs ys : List Pair) → take (length xs) (xs ++ ys) ≡ xs
+pub take_front : (xs ys : List Pair) → take (length xs) (xs ++ ys) ≡ xs
 take_front [] ys = refl
 take_front (x ∷ xs) ys = ap (λ (zs : List Pair). x ∷ zs) (take_front xs ys)
-
--- a set whose walk has cached all that it uses goes on by calls that know what they use
-module _ (m : Machine) (c : Stored) (input : Input) (walk : Walk) (set : List Bool) (k : ℕ) (reported : HasReported Forward m input walk k)
-    (is_open : IsOpenAfter m input set k) (list : (pairs : List Pair) × AreWalked Forward m input pairs) where
-  still_open : (n : ℕ) (t : HasReportedBy Forward m input n k) → input.start ≤ input.end → n ≤ length (tape_in Forward input).bytes → IsOpen input set t.pairs
-  still_open n t s l =
-      let b : Begins Forward m input t.pairs list.0 = walked_begin Forward m input n t.pairs list.0 s (omega (arith, l)) t.unsplit list.1 in
-      subst (IsOpen input set) (ap₂ (λ i (zs : List Pair). take i zs) t.count b.joined ∙ take_front t.pairs b.rest) (is_open list.0 list.1)
-
-  pub which_walk : HasItsState c.table walk.stage → KnowsWhich m c input set → KnowsWalk Forward m c input walk
-  which_walk holds knows i begun ready may =
-      let same : i ≡ k = reported_one m input walk i k ready.on begun reported in
-      let all = knows ready.undone may in (
-        state walk.stage holds all.0,
-        λ n l reads clean t.
-            (let t' : HasReportedBy Forward m input n k = subst (HasReportedBy Forward m input n) same t in
-            all.1 n t'.pairs reads clean t'.unsplit (still_open n t' ready.undone reads.0)),
-      )
-    where
-      state : (s : Stage) → HasItsState c.table s → KnowsItsStart Forward m c input → KnowsItsState Forward m c input s
-      state Fresh holds begins = begins
-      state (At q) holds begins = holds
-      state Ended holds begins = tt
-
--- what its walk goes on from is cached, where its start was
-pub begun_state :
-    (m : Machine) (input : Input) (stage : Stage) (old mid : CacheView)
-    → IsGrown old mid → HasItsState mid.store.table stage → KnowsItsStart Forward m old.store input
-    → KnowsItsState Forward m mid.store input stage
-begun_state m input Fresh old mid grown holds begins = λ slot. grown.starts _ (begins slot)
-begun_state m input (At q) old mid grown holds begins = holds
-begun_state m input Ended old mid grown holds begins = tt
 
 -- a walk that has reported a pair has a span that is not done
 pub reported_undone :
@@ -427,11 +395,6 @@ reported_undone m input w k t on = go w.stage t on where
   go Fresh (none, first) on = absurd (omega (arith, none))
   go (At q) s on = s.undone
   go Ended t on = absurd (on refl)
-
-pub which_still :
-    (m : Machine) (input : Input) (set : List Bool) (old new : CacheView)
-    → IsGrown old new → new.count ≡ old.count → KnowsWhich m old.store input set → KnowsWhich m new.store input set
-which_still m input set old new g same knows = subst (λ (c : Stored). KnowsWhich m c input set) (sym (g.idle same).1) knows
 
 -- a set that is gone on with is open after the pairs that its walk has reported
 pub open_after :

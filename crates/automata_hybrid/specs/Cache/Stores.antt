@@ -1,11 +1,11 @@
 -- What contracts see of a cache, its starts and its transitions, and how one of these is written.
-use Rattle.std.specs.Prelude.{ℕ, ◌≡◌, ◌^◌, ◌<◌, ◌≤◌, List, None, length, slice_index, slice_set, replicate}
+use Rattle.std.specs.Prelude.{ℕ, ◌≡◌, ◌^◌, ◌<◌, ◌≤◌, List, None, length, slice_index, replicate}
 use Rattle.automata_hybrid.specs.declared.cache.progress.Searched.{Searched}
 use Rattle.automata_config.specs.declared.error.StepError.{StepError}
 use Rattle.automata_config.specs.declared.error.StepError.TheVariants.{Cache, OutOfMemory}
 use Rattle.automata_hybrid.specs.Cache.Ids.{unknown_id}
 use Rattle.automata_hybrid.specs.Machines.Machine.{Machine}
-use Rattle.automata_hybrid.specs.Cache.Table.{Rows, with_cell, cell_at, fresh, HasCells, HasItsMatchTag, HasLowIds}
+use Rattle.automata_hybrid.specs.Cache.Table.{Rows, cell_at, fresh, HasCells, HasItsMatchTag, HasLowIds}
 use Rattle.automata_hybrid.specs.Cache.Table.{HasNoDeadRow, HasOwnStates, HasRowIds}
 
 -- what contracts see of a cache
@@ -19,10 +19,6 @@ pub record Stored : Type 0 where
   -- The progress of searches.
   pub searched : Searched
 
--- with another table
-abbrev pub with_table : Stored → Rows → Stored
-with_table c t = record { table = t; starts = c.starts; clears = c.clears; searched = c.searched }
-
 -- a step failed for lack of room, and not of memory
 abbrev pub IsCacheError : StepError → Type 0
 IsCacheError (Cache e) = Unit {0}
@@ -32,23 +28,6 @@ IsCacheError OutOfMemory = ⊥
 abbrev pub cell_of : Stored → ℕ → ℕ → ℕ
 cell_of c id class = slice_index c.table.cells (cell_at id class)
 
--- the transition is cached
-abbrev pub IsKnownTransition : Stored → ℕ → ℕ → Type 0
-IsKnownTransition c id class = cell_of c id class < unknown_id
-
--- with a transition written
-abbrev pub with_next : Stored → ℕ → ℕ → ℕ → Stored
-with_next c id class next = with_table c (with_cell c.table id class next)
-
--- with a start written
-abbrev pub with_start : Stored → ℕ → ℕ → Stored
-with_start c slot id = record {
-  table = c.table;
-  starts = slice_set c.starts slot id;
-  clears = c.clears;
-  searched = c.searched;
-}
-
 -- a cache that nothing was done to
 abbrev pub fresh_store : Machine → Stored
 fresh_store m = record {
@@ -57,14 +36,6 @@ fresh_store m = record {
   clears = 0;
   searched = record { bytes = 0; running = None };
 }
-
--- the slot's start state is cached
-abbrev pub IsKnownStart : Stored → ℕ → Type 0
-IsKnownStart c slot = slice_index c.starts slot < unknown_id
-
--- each start state that was cached is cached
-abbrev pub KeepsStarts : List ℕ → List ℕ → Type 0
-KeepsStarts old new = (slot : ℕ) → slice_index old slot < unknown_id → slice_index new slot < unknown_id
 
 -- with another progress
 abbrev pub with_searched : Stored → Searched → Stored

@@ -1,6 +1,6 @@
 -- What contracts see of the table: the rows of the states, and what their identifiers name.
 use Rattle.std.specs.Prelude.{◌≡◌, ℕ, ◌+◌, ◌*◌, ◌%◌, ◌<◌, ◌≤◌, ◌⊎◌, ◌↔◌, List, [], ◌∷◌, ◌++◌, length, Bool}
-use Rattle.std.specs.Prelude.{true, cond, nat_lt, Option, None, Some, slice_index, slice_set, slice_get, replicate}
+use Rattle.std.specs.Prelude.{cond, nat_lt, Option, None, Some, slice_index, slice_set, slice_get, replicate}
 use Rattle.std.specs.Prelude.{take}
 use Rattle.automata_base.specs.Powersets.Powerset.{Powerset, cost}
 use Rattle.automata_base.specs.Powersets.Equal.{powerset_eq}
@@ -8,7 +8,7 @@ use Rattle.automata_base.specs.Powersets.Passes.{IsUnit}
 use Rattle.automata_hybrid.specs.declared.cache.row.Row.{Row}
 use Rattle.automata_base.specs.Powersets.Powerset.{dead}
 use Rattle.automata_hybrid.specs.Cache.Ids.{tags, dead_id, quit_id, unknown_id, fixed_from, offset_limit}
-use Rattle.automata_hybrid.specs.Cache.Ids.{HasMatchTag, HasStartTag}
+use Rattle.automata_hybrid.specs.Cache.Ids.{HasMatchTag}
 use Rattle.automata_hybrid.specs.Machines.Machine.{Machine, unit_class}
 use Rattle.automata_hybrid.specs.Machines.Reachable.{IsStateOf}
 use Rattle.automata_base.specs.Retraced.Steps.{successor}
@@ -45,10 +45,6 @@ find_id s at q (r ∷ rs) = cond (powerset_eq q r.state) (Some (row_id at r)) (f
 abbrev pub id_of : Rows → Powerset → Option ℕ
 id_of t q = find_id t.of.stride (3 * t.of.stride) q t.rows
 
--- a state that is not dead, and that no row has
-abbrev pub Lacks : Rows → Powerset → Type 0
-Lacks t q = (id_of t q ≡ None) × (q ≡ dead → ⊥)
-
 -- this ID, tags included, is that of the row of this state
 abbrev pub Names : Rows → ℕ → Powerset → Type 0
 Names t id q = id_of t q ≡ Some id
@@ -56,23 +52,6 @@ Names t id q = id_of t q ≡ Some id
 -- an ID has the match tag exactly if the state that it names has patterns
 abbrev pub HasItsMatchTag : Rows → ℕ → Type 0
 HasItsMatchTag t id = (q : Powerset) → Names t id q → HasMatchTag id ↔ (0 < length q.patterns)
-
--- a state that was there and is there has the start tag now exactly if it had it
-abbrev pub KeepsStartTags : Rows → Rows → Type 0
-KeepsStartTags old new =
-    (q : Powerset) (before now : ℕ) → Names old before q → Names new now q → HasStartTag before ↔ HasStartTag now
-
--- a state that was added has the start tag exactly if it was to have it
-abbrev pub TagsNewStates : Rows → Rows → Bool → Type 0
-TagsNewStates old new started =
-    (q : Powerset) (id : ℕ) → id_of old q ≡ None → Names new id q → HasStartTag id ↔ (started ≡ true)
-
--- some row has this state
-pub record IsKnownState (t : Rows) (q : Powerset) : Type 0 where
-  -- The ID of that row.
-  pub id : ℕ
-  -- It names the state.
-  pub named : Names t id q
 
 -- the dead ID for the dead state, and else a row's
 abbrev pub Leads : Rows → ℕ → Powerset → Type 0
@@ -100,10 +79,6 @@ fixed_rows s = replicate s unknown_id ++ (replicate s (dead_id s) ++ replicate s
 -- the fixed rows alone
 abbrev pub fresh : Machine → Rows
 fresh m = record { of = m; cells = fixed_rows m.stride; rows = [] }
-
--- with one more row
-abbrev pub with_row : Rows → Row → Rows
-with_row t r = record { of = t.of; cells = t.cells ++ t.of.template; rows = t.rows ++ r ∷ [] }
 
 -- each cached cell of a row names the next state of that row's state
 abbrev pub IsStepped : Rows → Type 0
@@ -165,7 +140,3 @@ HasNoDeadRow t = (id : ℕ) (q : Powerset) → Names t id q → q ≡ dead → �
 -- each row has a state of the automaton
 abbrev pub HasOwnStates : Rows → Type 0
 HasOwnStates t = (id : ℕ) (q : Powerset) → Names t id q → IsOwn t.of.nfa q
-
--- with a cell written
-abbrev pub with_cell : Rows → ℕ → ℕ → ℕ → Rows
-with_cell t id class next = record { of = t.of; cells = slice_set t.cells (cell_at id class) next; rows = t.rows }

@@ -1,5 +1,5 @@
 -- Searches in pieces: what contracts see of where one stands.
-use Rattle.std.specs.Prelude.{ℕ, ◌≡◌, ◌+◌, Bool, Option, Some, None}
+use Rattle.std.specs.Prelude.{ℕ, ◌≡◌, Bool, Option, Some}
 use Rattle.automata_base.specs.Haystacks.Matches.{HalfMatch}
 use Rattle.automata_base.specs.Powersets.Powerset.{Powerset}
 use Rattle.automata_hybrid.specs.Cache.Table.{IsRowState}
@@ -19,8 +19,3 @@ pub record PiecesView : Type 0 where
 -- the search belongs to this DFA: it stands at one of its states, or at none
 abbrev pub IsPiecesOf : PiecesView → Machine → Type 0
 IsPiecesOf p m = (q : Powerset) → p.state ≡ Some q → IsRowState m q
-
--- what was found in a piece that begins at an offset, by offsets from the first piece; or what was found before
-abbrev pub found_in : Option HalfMatch → (base : ℕ) → (before : Option HalfMatch) → Option HalfMatch
-found_in None base before = before
-found_in (Some half) base before = Some (record { pattern = half.pattern; offset = base + half.offset })

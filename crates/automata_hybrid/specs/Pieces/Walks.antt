@@ -1,18 +1,13 @@
 -- What a walk over a haystack in pieces reports: each offset at which patterns match, once, with these patterns.
-use Rattle.std.specs.Prelude.{ℕ, suc, ◌≡◌, ◌+◌, ◌-◌, ◌<◌, ◌≤◌, ◌⊎◌, List, [], length, Option, Some, None}
-use Rattle.std.specs.Prelude.{MatchOption, slice_get}
+use Rattle.std.specs.Prelude.{ℕ, suc, ◌≡◌, ◌+◌, ◌-◌, ◌<◌, ◌≤◌, List, [], length, Option, Some, None}
+use Rattle.std.specs.Prelude.{slice_get}
 use Rattle.automata_base.specs.Haystacks.Input.{Input}
 use Rattle.automata_base.specs.Haystacks.Matches.{HalfMatch}
 use Rattle.automata_base.specs.Powersets.Powerset.{Powerset, dead}
 use Rattle.automata_base.specs.declared.util.search.Anchored.{Anchored}
 use Rattle.automata_base.specs.declared.util.search.Direction.TheVariants.{Forward}
-use Rattle.automata_config.specs.declared.error.SearchError.{SearchError}
-use Rattle.automata_config.specs.declared.error.SearchError.TheVariants as search
-use Rattle.automata_hybrid.specs.Cache.Caches.{CacheView}
 use Rattle.automata_hybrid.specs.Machines.Machine.{Machine}
 use Rattle.automata_hybrid.specs.Pieces.Answers.{BeginsAfter, IsPieceAt, from_first}
-use Rattle.automata_hybrid.specs.Pieces.Progress.{EndsAnswer, GoesOnFrom, LeavesAnswer, LeavesPiece}
-use Rattle.automata_hybrid.specs.Pieces.Progress.{ReadsThrough, ReadsPieceUpto}
 use Rattle.automata_hybrid.specs.Pieces.State.{PiecesView}
 use Rattle.automata_hybrid.specs.Searches.PassState.{half_at}
 use Rattle.automata_hybrid.specs.Searches.Passes.{HasReadNoQuit, Skips, state_in, tape_in}
@@ -101,37 +96,6 @@ pub record IsWalked (m : Machine) (piece : List ℕ) (old new : PiecesView) (n :
   -- over each input, it stands at the next match in the piece, or there is none
   pub walks : WalksOn m piece old new n
 
--- what a call of a walk over a piece makes of the walk and of the cache, if it returns Ok
-pub data EndsWalkCall (m : Machine) (piece : List ℕ) (w next : PiecesView) (old new : CacheView) : Type 0 where
-  -- nothing could match any more, and nothing has changed
-  AlreadyDone : w.state ≡ None → next ≡ w → new ≡ old → EndsWalkCall m piece w next old new
-  -- all bytes of the piece are read
-  WalksThrough :
-      (q : Powerset) (row : CacheView) (id : ℕ) (found : Option HalfMatch) → GoesOnFrom m w q old row
-      → ReadsThrough m piece w q id found row new → next.read ≡ w.read + length piece
-      → EndsWalkCall m piece w next old new
-  -- they are read up to one at which patterns match, or after which nothing can
-  WalksUpto :
-      (q : Powerset) (row : CacheView) (i : ℕ) (found : Option HalfMatch) → GoesOnFrom m w q old row
-      → ReadsPieceUpto m piece w q i found row new → next.read ≡ w.read + suc i → EndsWalkCall m piece w next old new
-
--- why a call of a walk fails, and what that makes of the cache: as a search in pieces that ends at its first match, or
--- since the state at the match cannot be held
-pub data LeavesWalkCall (m : Machine) (piece : List ℕ) (w : PiecesView) (old new : CacheView) (e : SearchError) :
-    Type 0 where
-  -- as such a search
-  AsSearch : LeavesPiece m piece w old new e → LeavesWalkCall m piece w old new e
-  -- the count of those who share the state cannot rise
-  NotHeldAt :
-      (q : Powerset) (row : CacheView) (i : ℕ) (found : Option HalfMatch) → GoesOnFrom m w q old row
-      → ReadsPieceUpto m piece w q i found row new → e ≡ search.OutOfMemory → LeavesWalkCall m piece w old new e
-
--- what a call of a walk over a piece makes of the walk and of the cache, by the error that it returns, if it fails
-abbrev pub IsWalkCallRun :
-    Machine → (piece : List ℕ) → (w next : PiecesView) → (old new : CacheView) → Option SearchError → Type 0
-IsWalkCallRun m piece w next old new error =
-    MatchOption error (EndsWalkCall m piece w next old new) (LeavesWalkCall m piece w old new)
-
 -- a walk was given the whole span of an input, which this byte follows, or none
 pub record HasWalkedAll (m : Machine) (input : Input) (ahead : Option ℕ) (w : PiecesView) : Type 0 where
   -- it was given the bytes of the span
@@ -145,11 +109,3 @@ abbrev pub EndsWith : Machine → PiecesView → (ahead : Option ℕ) → List �
 EndsWith m w ahead patterns =
     (input : Input) → HasWalkedAll m input ahead w
     → patterns ≡ (state_in Forward m input (suc (input.end - input.start))).patterns
-
--- what asking for the end of a walk makes of the cache, by the error that it returns, if it fails: as a search in
--- pieces that is asked for its answer, but the state at the end is held, for which the count of those who share it has
--- to rise
-abbrev pub IsWalkEndRun : Machine → (ahead : Option ℕ) → PiecesView → (old new : CacheView) → Option SearchError → Type 0
-IsWalkEndRun m ahead w old new None = EndsAnswer m ahead w old new
-IsWalkEndRun m ahead w old new (Some e) =
-    LeavesAnswer m ahead w old new e ⊎ (EndsAnswer m ahead w old new × (e ≡ search.OutOfMemory))

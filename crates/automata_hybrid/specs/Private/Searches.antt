@@ -3,7 +3,9 @@ pub mod Leaps
 pub mod PassContracts
 pub mod PassState
 pub mod PieceRuns
-pub mod Progress
 pub mod SelfLoops
 pub mod Traces
 pub mod Units
+pub mod Cached
+pub mod Passes
+pub mod Progress

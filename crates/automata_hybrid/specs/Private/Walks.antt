@@ -2,3 +2,4 @@ pub mod Answers
 pub mod Contracts
 pub mod Parts
 pub mod State
+pub mod Progress

@@ -1,5 +1,5 @@
 -- Searches by steps: where a search stands that ends at its first match, and what a step of it means.
-use Rattle.std.specs.Prelude.{ℕ, ◌≡◌, ◌+◌, ◌-◌, ◌<◌, ◌≤◌, ◌⊎◌, true, length, Option, Some, None, slice_index}
+use Rattle.std.specs.Prelude.{ℕ, ◌≡◌, ◌+◌, ◌-◌, ◌<◌, ◌≤◌, true, length, Option, Some, None, slice_index}
 use Rattle.automata_base.specs.Haystacks.Input.{Input}
 use Rattle.automata_base.specs.Haystacks.Matches.{HalfMatch}
 use Rattle.automata_base.specs.Powersets.Powerset.{Powerset}
@@ -17,6 +17,13 @@ use Rattle.automata_hybrid.specs.Cache.Table.{Names}
 abbrev pub IsFirstMatch : Machine → Input → Option HalfMatch → Type 0
 IsFirstMatch m input half = IsPassAnswer Forward m input half
 
+-- where the bytes of the span before an offset lead a search that ends at its first match: to this ID
+pub data LeadsToId (m : Machine) (c : CacheView) (input : Input) (at id : ℕ) : Type 0 where
+  -- It is dead, and there is no match.
+  IsDead : id ≡ dead_id m.stride → IsFirstMatch m input None → LeadsToId m c input at id
+  -- They led to its state, no match among them and no quit byte.
+  IsUnmatched : IsUnderway Forward m c.store.table input (at - input.start) id None → LeadsToId m c input at id
+
 -- a search over an input that ends at its first match has read the bytes of the span before an offset, and is in the
 -- state of this ID
 pub record StandsAt (m : Machine) (c : CacheView) (input : Input) (at id : ℕ) : Type 0 where
@@ -30,10 +37,8 @@ pub record StandsAt (m : Machine) (c : CacheView) (input : Input) (at id : ℕ) 
   pub inside : input.end ≤ length input.haystack
   -- The cache has the row of the ID.
   pub row : HoldsRow c id
-  -- The ID is dead, and there is no match; or those bytes led to its state, no match among them and no quit byte.
-  pub state :
-      ((id ≡ dead_id m.stride) × IsFirstMatch m input None)
-      ⊎ IsUnderway Forward m c.store.table input (at - input.start) id None
+  -- The bytes led to the ID.
+  pub state : LeadsToId m c input at id
 
 -- the unit at an offset: this byte of the haystack, or its end
 abbrev pub IsUnitAt : Input → (at : ℕ) → Option ℕ → Type 0

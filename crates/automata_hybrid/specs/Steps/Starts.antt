@@ -1,6 +1,6 @@
 -- Start states: when there is one, what it is, and why a call for it fails. What it makes of the cache stands in
 -- Calls.Steps.
-use Rattle.std.specs.Prelude.{ℕ, ◌≡◌, ◌<◌, ◌≤◌, true, false, cond, length, Option, None, Some, slice_index}
+use Rattle.std.specs.Prelude.{ℕ, ◌≡◌, ◌<◌, ◌≤◌, true, cond, Option, None, Some, slice_index}
 use Rattle.automata_base.specs.ByteClasses.Classes.{is_quit}
 use Rattle.automata_base.specs.Retraced.Steps.{start_state_of}
 use Rattle.automata_base.specs.declared.util.search.Anchored.{Anchored}
@@ -14,8 +14,7 @@ use Rattle.automata_hybrid.specs.declared.cache.row.Row.{Row}
 use Rattle.automata_hybrid.specs.Cache.Ids.{dead_id}
 use Rattle.automata_hybrid.specs.Machines.Machine.{Machine}
 use Rattle.automata_hybrid.specs.Cache.Table.{HasItsMatchTag, Leads}
-use Rattle.automata_hybrid.specs.Cache.Stores.{IsKnownStart, Stored}
-use Rattle.automata_hybrid.specs.Cache.Usage.{GivesUp}
+use Rattle.automata_hybrid.specs.Cache.Stores.{Stored}
 use Rattle.automata_hybrid.specs.Cache.Caches.{CacheView, HoldsRow}
 use Rattle.automata_hybrid.specs.Machines.StartSlots.{supports, slot_behind}
 use Rattle.automata_config.specs.Options.{specialize_start_states_of}
@@ -40,26 +39,9 @@ start_row m mode behind = record {
   started = specialize_start_states_of m.config;
 }
 
--- a search may start, and its start state is cached: there is such a slot, which has an ID
-abbrev pub KnowsStart : Machine → Stored → Anchored → Option ℕ → Type 0
-KnowsStart m c mode behind =
-    MayStart m mode behind
-    × ((slot_behind m mode behind < length c.starts) × IsKnownStart c (slot_behind m mode behind))
-
 -- the ID of a start state that is cached
 abbrev pub known_start : Machine → Stored → Anchored → Option ℕ → ℕ
 known_start m c mode behind = slice_index c.starts (slot_behind m mode behind)
-
--- why there is no start state
-abbrev pub IsStartError : Machine → Stored → Anchored → Option ℕ → StartError → Type 0
--- the look-behind byte is a quit byte, and it is this one
-IsStartError m c mode behind (start.Quit byte) = quit_behind m behind ≡ Some byte
--- it is none, and the anchored mode is not supported
-IsStartError m c mode behind (start.UnsupportedAnchored reported) =
-    (quit_behind m behind ≡ None) × (supports m mode ≡ false) × (reported ≡ mode)
--- the cache does not have the state, has no room for it, and may not be cleared
-IsStartError m c mode behind (start.Cache err) = MayStart m mode behind × GivesUp c (start_state_of m.nfa mode behind)
-IsStartError m c mode behind start.OutOfMemory = MayStart m mode behind
 
 -- the error of a start state, as a search reports it: a quit byte and the "gave up" error each have an offset
 abbrev pub start_search_error : StartError → (behind at : ℕ) → SearchError
@@ -67,13 +49,6 @@ start_search_error (start.Cache err) behind at = search.Match (GaveUp at)
 start_search_error (start.Quit byte) behind at = search.Match (QuitAt byte behind)
 start_search_error (start.UnsupportedAnchored mode) behind at = search.Match (UnsupportedMode mode)
 start_search_error start.OutOfMemory behind at = search.OutOfMemory
-
--- why a search has no start state: why there is none, reported with the offset of the look-behind byte or of the start;
--- it is not cached
-abbrev pub IsStartErrorAt : Machine → Stored → Anchored → Option ℕ → (behind_at start_at : ℕ) → SearchError → Type 0
-IsStartErrorAt m c mode behind behind_at start_at e =
-    (error : StartError) × IsStartError m c mode behind error × (e ≡ start_search_error error behind_at start_at)
-    × (KnowsStart m c mode behind → ⊥)
 
 -- the ID of a start state that a call returns
 pub record IsStartAnswer (m : Machine) (mode : Anchored) (behind : Option ℕ) (old new : CacheView) (id : ℕ) :

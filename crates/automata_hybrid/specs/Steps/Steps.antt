@@ -2,17 +2,13 @@
 use Rattle.std.specs.Prelude.{ℕ, ◌≡◌, ◌<◌, ◌≤◌, true, false, Option}
 use Rattle.automata_base.specs.Powersets.Powerset.{Powerset}
 use Rattle.automata_base.specs.Retraced.Steps.{successor}
-use Rattle.automata_hybrid.specs.Cache.Stores.{Stored, IsKnownTransition, cell_of}
+use Rattle.automata_hybrid.specs.Cache.Stores.{Stored, cell_of}
 use Rattle.automata_hybrid.specs.Cache.Caches.{CacheView, HoldsRow}
 use Rattle.automata_hybrid.specs.Cache.Ids.{fixed_from, quit_id}
 use Rattle.automata_hybrid.specs.Machines.Machine.{quits_on, unit_class}
 use Rattle.automata_hybrid.specs.Machines.Machine.{Machine}
 use Rattle.automata_hybrid.specs.Cache.Table.{HasItsMatchTag, Leads, Names}
 use Rattle.automata_config.specs.Options.{match_kind_of}
-
--- the transition from a state on a unit is cached
-abbrev pub KnowsStep : Machine → Stored → (id : ℕ) → (unit : Option ℕ) → Type 0
-KnowsStep m c id unit = IsKnownTransition c id (unit_class m unit)
 
 -- the ID that a cached transition leads to
 abbrev pub known_step : Machine → Stored → (id : ℕ) → (unit : Option ℕ) → ℕ

@@ -1,5 +1,5 @@
 -- What an overlapping walk has reported, and why a call of it fails.
-use Rattle.std.specs.Prelude.{ℕ, zero, suc, ◌≡◌, ◌<◌, ◌≤◌, ◌+◌, ◌⊎◌, false, List, [], ◌∷◌, length, Option, None, Some}
+use Rattle.std.specs.Prelude.{ℕ, zero, suc, ◌≡◌, ◌<◌, ◌≤◌, ◌+◌, false, List, [], ◌∷◌, length, Option, None, Some}
 use Rattle.automata_base.specs.Answers.Answers.{AreUnsplit, offset_in}
 use Rattle.automata_base.specs.ByteClasses.Classes.{is_quit}
 use Rattle.automata_base.specs.Haystacks.Input.{Input}
@@ -11,19 +11,15 @@ use Rattle.automata_base.specs.Haystacks.Tapes.{is_split}
 use Rattle.automata_base.specs.declared.util.search.Direction.{Direction}
 use Rattle.automata_base.specs.Retraced.Passes.{pairs_reported}
 use Rattle.automata_base.specs.Laws.Walks.{AreReported}
-use Rattle.automata_base.specs.declared.util.search.MatchErrorKind.TheVariants.{GaveUp}
 use Rattle.automata_config.specs.declared.error.SearchError.{SearchError}
 use Rattle.automata_config.specs.declared.error.SearchError.TheVariants as search
-use Rattle.automata_hybrid.specs.Cache.Stores.{Stored}
-use Rattle.automata_hybrid.specs.Cache.Usage.{GivesUp}
 use Rattle.automata_hybrid.specs.Machines.Machine.{Machine}
-use Rattle.automata_hybrid.specs.Searches.Passes.{HasReadNoQuit, IsUnitError, Skips, behind_offset}
-use Rattle.automata_hybrid.specs.Searches.Passes.{given_up_offset}
+use Rattle.automata_hybrid.specs.Searches.Passes.{HasReadNoQuit, Skips}
 use Rattle.automata_hybrid.specs.Searches.Passes.{state_in, tape_in}
-use Rattle.automata_hybrid.specs.Steps.Starts.{IsStartErrorAt, MayStart}
+use Rattle.automata_hybrid.specs.Steps.Starts.{MayStart}
 use Rattle.automata_hybrid.specs.Machines.Machine.{quits_on}
-use Rattle.automata_hybrid.specs.Cache.Table.{IsKnownState, IsRowState, Rows}
-use Rattle.automata_hybrid.specs.Walks.State.{At, Ended, Fresh, Ids, Keeping, Stage, States, Walk}
+use Rattle.automata_hybrid.specs.Cache.Table.{IsRowState}
+use Rattle.automata_hybrid.specs.Walks.State.{At, Ended, Fresh, Stage, Walk}
 use Rattle.automata_config.specs.Options.{match_kind_of}
 
 -- the pairs that a pass reports by its first `k` units; their places are the pass's
@@ -91,11 +87,18 @@ pub record StandsAtState (way : Direction) (m : Machine) (input : Input) (q : Po
   -- in all those are reported, and the patterns of the state that were
   pub count : k ≡ earlier + reported
 
+-- why a walk has ended
+pub data HasComeToEnd (way : Direction) (m : Machine) (input : Input) : Type 0 where
+  -- its span was done
+  WasDone : input.end < input.start → HasComeToEnd way m input
+  -- it met no quit byte to its end
+  MetNoQuit :
+      MayStart m input.anchored (tape_in way input).before → WalkMeetsNoQuit way m input → HasComeToEnd way m input
+
 -- a walk has reported all that there is to report: its span was done, or it met no quit byte to its end
 pub record HasReportedAll (way : Direction) (m : Machine) (input : Input) (k : ℕ) : Type 0 where
   -- the span was done, or the walk met no quit byte to its end
-  pub clean :
-      (input.end < input.start) ⊎ (MayStart m input.anchored (tape_in way input).before × WalkMeetsNoQuit way m input)
+  pub clean : HasComeToEnd way m input
   -- the whole list of the walk
   pub pairs : List Pair
   -- it is what the pass reports, by offsets, without the split ones if these are skipped
@@ -126,21 +129,6 @@ ReportsNext way m input old new =
     × ((pairs : List Pair) → AreWalked way m input pairs
     → (new.found ≡ half_nth pairs k) × (length pairs ≤ k → new.stage ≡ Ended))
 
--- why the state of a walk is not put back, which the cache does not have
-pub data IsPutBackError (c : Stored) (q : Powerset) (given_up_at : ℕ) (e : SearchError) : Type 0 where
-  -- there is room for it, or the cache may be cleared, and memory runs out
-  RunsOut :
-      (IsKnownState c.table q → ⊥) → (GivesUp c q → ⊥) → e ≡ search.OutOfMemory → IsPutBackError c q given_up_at e
-  -- there is no room for it, and the cache may not be cleared
-  HasNoRoom : GivesUp c q → e ≡ search.Match (GaveUp given_up_at) → IsPutBackError c q given_up_at e
-
--- why a walk cannot go on: it has not begun and its start state fails, or it has and its state is not put back
-abbrev pub IsResumeError : Direction → Machine → Stored → Input → Stage → (units : ℕ) → SearchError → Type 0
-IsResumeError way m c input Fresh units e =
-    IsStartErrorAt m c input.anchored (tape_in way input).before (behind_offset way input) (offset_in way input 0) e
-IsResumeError way m c input (At q) units e = IsPutBackError c q (given_up_offset way input units) e
-IsResumeError way m c input Ended units e = ⊥
-
 -- the state after the unit at place `j` reports a pair, and cannot be held: the count of those who share it cannot
 -- rise, which is reported as out of memory
 pub record IsUnheld (way : Direction) (m : Machine) (input : Input) (j : ℕ) (e : SearchError) : Type 0 where
@@ -153,51 +141,9 @@ pub record IsUnheld (way : Direction) (m : Machine) (input : Input) (j : ℕ) (e
   -- the error is out of memory
   pub memory : e ≡ search.OutOfMemory
 
--- why a call fails at the unit at place `j`: the step on it does; or, if states are kept, the one after it cannot be
--- held
-abbrev pub IsWalkErrorAt : Keeping → Direction → Machine → Stored → Input → ℕ → SearchError → Type 0
-IsWalkErrorAt Ids way m c input j e = IsUnitError way m c input j e
-IsWalkErrorAt States way m c input j e = IsUnitError way m c input j e ⊎ IsUnheld way m input j e
-
--- why a call that reads units from a place on, to report the pair after the first `k`, fails at one of them
-pub record IsUnitFailure (keeping : Keeping) (way : Direction) (m : Machine) (c : Stored) (input : Input) (from k : ℕ)
-    (e : SearchError) : Type 0 where
-  -- the search may start
-  pub may : MayStart m input.anchored (tape_in way input).before
-  -- the place of the unit
-  pub place : ℕ
-  -- it is read by this call
-  pub later : from ≤ place
-  -- the walk reads it
-  pub reads : WalkReads way m input place
-  -- no unit before it is a quit byte
-  pub clean : HasReadNoQuit way m input place
-  -- the units before it report these `k` pairs
-  pub before : HasReportedBy way m input place k
-  -- the step on it fails, or the state after it cannot be held
-  pub why : IsWalkErrorAt keeping way m c input place e
-
--- why a call fails that was to report the pair after the first `k`
-pub data IsWalkError (keeping : Keeping) (way : Direction) (m : Machine) (c : Stored) (input : Input) (w : Walk)
-    (k : ℕ) (e : SearchError) : Type 0 where
-  -- the span is not done, its units report these `k` pairs, and the walk cannot go on from where it is
-  AtItsState :
-      input.start ≤ input.end → HasReportedBy way m input w.units k → IsResumeError way m c input w.stage w.units e
-      → IsWalkError keeping way m c input w k e
-  -- the span is not done, and it fails at a unit
-  AtItsUnit :
-      input.start ≤ input.end → IsUnitFailure keeping way m c input w.units k e
-      → IsWalkError keeping way m c input w k e
-
 -- the units from one place of a pass to another report nothing to a walk
 abbrev pub IsSilent : Direction → Machine → Input → (from to : ℕ) → Type 0
 IsSilent way m input from to = (k : ℕ) → HasReportedBy way m input from k → HasReportedBy way m input to k
-
--- the cache has the state that a walk goes on from
-abbrev pub HasItsState : Rows → Stage → Type 0
-HasItsState t Fresh = Unit {0}
-HasItsState t (At q) = IsKnownState t q
-HasItsState t Ended = Unit {0}
 
 -- one determinization for the start state of a walk that has not begun
 abbrev pub start_count : Stage → ℕ

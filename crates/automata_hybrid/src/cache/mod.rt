@@ -22,12 +22,14 @@ ghost use Rattle.automata_hybrid.specs.Private.Cache.Table.{HasState};
 ghost use Rattle.automata_hybrid.specs.Private.Cache.Leaps.{AreLeaps, IsShapeOf, making_bytes};
 ghost use Rattle.automata_hybrid.specs.Cache.Table.{IsRowState};
 ghost use Rattle.automata_hybrid.specs.Private.Cache.Table.{IsNewState};
-ghost use Rattle.automata_hybrid.specs.Cache.Stores.{IsSoundStore, cell_of, with_next, with_start};
+ghost use Rattle.automata_hybrid.specs.Cache.Stores.{IsSoundStore, cell_of};
+ghost use Rattle.automata_hybrid.specs.Private.Cache.Stores.{with_next, with_start_in_store};
 ghost use Rattle.automata_hybrid.specs.Cache.Stores.{with_searched};
-ghost use Rattle.automata_hybrid.specs.Cache.Usage.{cleared, usage, Fits};
+ghost use Rattle.automata_hybrid.specs.Cache.Usage.{usage};
+ghost use Rattle.automata_hybrid.specs.Private.Cache.Usage.{cleared, Fits};
 ghost use Rattle.automata_hybrid.specs.Private.Cache.Changes.{AddsNext, AddsRow};
 ghost use Rattle.automata_hybrid.specs.Cache.Caches.{HoldsRow, IsCacheOf, IsStoreOf, counted, fresh_cache, with_store};
-ghost use Rattle.automata_hybrid.specs.Cache.Growth.{PutsBack};
+ghost use Rattle.automata_hybrid.specs.Private.Cache.Growth.{PutsBack};
 ghost use Rattle.automata_hybrid.specs.Private.Cache.Growth.{AddFails};
 ghost use Rattle.automata_hybrid.specs.Private.Steps.Starts.{IsStartSlot};
 ghost use Rattle.automata_hybrid.specs.Private.Walks.State.{IsHandle};
@@ -425,7 +427,7 @@ impl Cache {
     pub(crate) fn set_start(&mut self, slot: usize, id: LazyStateID)
         requires slot { slot < length self.old.store.starts }
         requires leads { LeadsToStart self.old.store.table id slot }
-        ensures value { self.new ≡ with_store self.old (with_start self.old.store slot id) }
+        ensures value { self.new ≡ with_store self.old (with_start_in_store self.old.store slot id) }
         ensures written { slice_index self.new.store.starts slot ≡ id }
     {
         self.store.starts[slot] = id;

@@ -10,11 +10,13 @@ ghost use Rattle.automata_hybrid.specs.Private.Machines.Machine.{IsTemplate};
 ghost use Rattle.automata_hybrid.specs.Cache.Table.{id_of, Names, IsRowId};
 ghost use Rattle.automata_hybrid.specs.Private.Cache.Table.{IsNewState};
 ghost use Rattle.automata_hybrid.specs.Cache.Clears.{row_of};
-ghost use Rattle.automata_hybrid.specs.Cache.Stores.{with_table, IsCacheError, fresh_store};
+ghost use Rattle.automata_hybrid.specs.Cache.Stores.{IsCacheError, fresh_store};
+ghost use Rattle.automata_hybrid.specs.Private.Cache.Stores.{with_table};
 ghost use Rattle.automata_hybrid.specs.Private.Cache.Stores.{cache_settings};
-ghost use Rattle.automata_hybrid.specs.Cache.Usage.{usage, Fits, refuses_to_clear};
+ghost use Rattle.automata_hybrid.specs.Cache.Usage.{usage};
+ghost use Rattle.automata_hybrid.specs.Private.Cache.Usage.{Fits, refuses_to_clear};
 ghost use Rattle.automata_hybrid.specs.Private.Cache.Usage.{FitsAny, IsCleared};
-ghost use Rattle.automata_hybrid.specs.Cache.Changes.{grown, put_found};
+ghost use Rattle.automata_hybrid.specs.Private.Cache.Changes.{grown, put_found};
 
 use crate::cache::clears::{keep_row, keep_starts};
 use crate::cache::progress::Searched;

@@ -10,10 +10,12 @@ ghost use Rattle.automata_hybrid.specs.Machines.Reachable.{IsStateOf};
 ghost use Rattle.automata_hybrid.specs.Cache.Ids.{unknown_id, offset_limit};
 ghost use Rattle.automata_hybrid.specs.Machines.Machine.{marked};
 ghost use Rattle.automata_hybrid.specs.Private.Machines.Machine.{IsTemplate};
-ghost use Rattle.automata_hybrid.specs.Cache.Table.{id_of, with_row, fresh, Names, row_cost, IsRowId, LeadsByClass};
+ghost use Rattle.automata_hybrid.specs.Cache.Table.{id_of, fresh, Names, row_cost, IsRowId, LeadsByClass};
+ghost use Rattle.automata_hybrid.specs.Private.Cache.Table.{with_row};
 ghost use Rattle.automata_hybrid.specs.Private.Cache.Table.{HasState};
 ghost use Rattle.automata_hybrid.specs.Private.Cache.Table.{IsNewState, IsSoundTable};
-ghost use Rattle.automata_hybrid.specs.Cache.Table.{IsCell, cell_at, with_cell};
+ghost use Rattle.automata_hybrid.specs.Cache.Table.{IsCell, cell_at};
+ghost use Rattle.automata_hybrid.specs.Private.Cache.Table.{with_cell};
 ghost use Rattle.automata_hybrid.specs.Private.Cache.Leaps.{LeadsToRow};
 ghost use Rattle.automata_hybrid.specs.Cache.States.{held_states};
 

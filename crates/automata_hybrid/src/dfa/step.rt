@@ -10,8 +10,11 @@ ghost use Rattle.automata_hybrid.specs.Cache.Caches.{HoldsRow, IsCacheOf};
 ghost use Rattle.automata_hybrid.specs.Cache.Ids.{quit_id, unknown_id, offset_limit, HasMatchTag};
 ghost use Rattle.automata_base.specs.ByteClasses.Classes.{class_in, is_quit};
 ghost use Rattle.automata_hybrid.specs.Steps.BySteps.{StepsOn};
-ghost use Rattle.automata_hybrid.specs.Calls.Steps.{IsStepRun, StepFails};
-ghost use Rattle.automata_hybrid.specs.Steps.Steps.{IsStepAnswer, KnowsStep};
+ghost use Rattle.automata_hybrid.specs.Private.Calls.Steps.{IsStepRunInStore, StepFailsInStore};
+ghost use Rattle.automata_hybrid.specs.Known.Steps.{IsStepRun, StepFails};
+ghost use Rattle.automata_hybrid.specs.Known.Stores.{known_of};
+ghost use Rattle.automata_hybrid.specs.Steps.Steps.{IsStepAnswer};
+ghost use Rattle.automata_hybrid.specs.Private.Steps.Steps.{KnowsStep};
 ghost use Rattle.automata_hybrid.specs.Machines.Machine.{quits_on};
 ghost use Rattle.automata_config.specs.Options.{match_kind_of};
 
@@ -35,8 +38,8 @@ impl Cache {
         requires row { HoldsRow self.old id }
         ensures of { IsCacheOf self.new dfa.now }
         ensures answer { IfOk result (IsStepAnswer dfa.now id unit self.old self.new) }
-        ensures refusal { IfErr result (StepFails dfa.now id unit self.old self.new) }
-        ensures run { OnOk result (IsStepRun dfa.now id unit self.old self.new) }
+        ensures refusal { IfErr result (StepFailsInStore dfa.now id unit self.old self.new) }
+        ensures run { OnOk result (IsStepRunInStore dfa.now id unit self.old self.new) }
         ensures stands { IfOk result (StepsOn dfa.now self.old self.new id unit) }
     {
         self.see_bounds();
@@ -67,8 +70,8 @@ impl Cache {
         requires unknown { KnowsStep dfa.now self.old.store id unit → ⊥ }
         ensures of { IsCacheOf self.new dfa.now }
         ensures answer { IfOk result (IsStepAnswer dfa.now id unit self.old self.new) }
-        ensures refusal { IfErr result (StepFails dfa.now id unit self.old self.new) }
-        ensures run { OnOk result (IsStepRun dfa.now id unit self.old self.new) }
+        ensures refusal { IfErr result (StepFailsInStore dfa.now id unit self.old self.new) }
+        ensures run { OnOk result (IsStepRunInStore dfa.now id unit self.old self.new) }
     {
         self.see_bounds();
         let class = dfa.unit_class(unit);
@@ -111,10 +114,12 @@ impl DFA {
         requires row { HoldsRow cache.old id }
         ensures of { IsCacheOf cache.new self.now }
         ensures answer { IfOk result (IsStepAnswer self.now id (Some byte) cache.old cache.new) }
-        ensures refusal { IfErr result (StepFails self.now id (Some byte) cache.old cache.new) }
-        ensures run { OnOk result (IsStepRun self.now id (Some byte) cache.old cache.new) }
+        ensures refusal { IfErr result (StepFails self.now id (Some byte) (known_of cache.old) (known_of cache.new)) }
+        ensures run { OnOk result (IsStepRun self.now id (Some byte) (known_of cache.old) (known_of cache.new)) }
         ensures stands { IfOk result (StepsOn self.now cache.old cache.new id (Some byte)) }
     {
+        self.see_machine();
+        cache.see_bounds();
         cache.next(self, id, Some(byte))
     }
 
@@ -131,10 +136,12 @@ impl DFA {
         requires row { HoldsRow cache.old id }
         ensures of { IsCacheOf cache.new self.now }
         ensures answer { IfOk result (IsStepAnswer self.now id None cache.old cache.new) }
-        ensures refusal { IfErr result (StepFails self.now id None cache.old cache.new) }
-        ensures run { OnOk result (IsStepRun self.now id None cache.old cache.new) }
+        ensures refusal { IfErr result (StepFails self.now id None (known_of cache.old) (known_of cache.new)) }
+        ensures run { OnOk result (IsStepRun self.now id None (known_of cache.old) (known_of cache.new)) }
         ensures stands { IfOk result (StepsOn self.now cache.old cache.new id None) }
     {
+        self.see_machine();
+        cache.see_bounds();
         cache.next(self, id, None)
     }
 

@@ -1,20 +1,18 @@
 //! Searches. Here is what one unit does to the state of a search, and `direction` has all in which the two directions
 //! differ. `plain` has the searches for one end of a match, `walk` overlapping searches, and `pieces` those whose haystack
 //! comes in pieces. `fast` follows cached transitions for all of them.
-ghost use Rattle.std.specs.Prelude.{◌≡◌, slice_index, ◌<◌, IfOk, IfErr, OnOk};
+ghost use Rattle.std.specs.Prelude.{◌≡◌, slice_index, ◌<◌};
 ghost use Rattle.std.specs.Prelude.{Some, None, true, false};
 ghost use Rattle.automata_base.specs.Powersets.Powerset.{Powerset};
 ghost use Rattle.automata_hybrid.specs.Cache.Caches.{IsCacheOf};
 ghost use Rattle.automata_base.specs.Haystacks.Tapes.{is_split};
 ghost use Rattle.automata_hybrid.specs.Searches.PassState.{half_at};
 ghost use Rattle.automata_hybrid.specs.Private.Searches.PassState.{step_error};
-ghost use Rattle.automata_hybrid.specs.Private.Searches.Units.{IsReadAnswer, IsReadEffect, ReadFails};
-ghost use Rattle.automata_hybrid.specs.Private.Searches.Units.{IsStepTaken, StepFailsAt};
-ghost use Rattle.automata_hybrid.specs.Calls.Events.{moved};
+ghost use Rattle.automata_hybrid.specs.Private.Searches.Units.{IsRead, IsStepResult};
 ghost use Rattle.automata_hybrid.specs.Searches.Passes.{Skips};
 ghost use Rattle.automata_base.specs.declared.util.search.MatchErrorKind.TheVariants.{Quit as QuitAt};
 ghost use Rattle.automata_hybrid.specs.Cache.Ids.{unknown_id, HasMatchTag};
-ghost use Rattle.automata_hybrid.specs.Steps.Steps.{IsStepAnswer, known_step};
+ghost use Rattle.automata_hybrid.specs.Steps.Steps.{known_step};
 ghost use Rattle.automata_hybrid.specs.Private.Steps.Steps.{IsCellRead};
 ghost use Rattle.automata_hybrid.specs.Cache.Table.{IsRowId, Leads, Names};
 
@@ -99,9 +97,7 @@ impl DFA {
         requires valid { IsRowId cache.old.store.table id }
         requires cell { IsCellRead self.now cache.old.store id unit cell }
         ensures of { IsCacheOf cache.new self.now }
-        ensures answer { IfOk result (IsStepAnswer self.now id unit cache.old cache.new) }
-        ensures refusal { IfErr result (StepFailsAt self.now id unit at (moved at cache.old) cache.new) }
-        ensures run { OnOk result (IsStepTaken self.now id unit at cache.old cache.new) }
+        ensures step { IsStepResult self.now id unit at cache.old cache.new result }
     {
         cache.see_bounds();
         let _cell = cache.cell(id, self.unit_class(unit));
@@ -130,9 +126,7 @@ impl DFA {
         requires valid { IsRowId cache.old.store.table id }
         requires cell { IsCellRead self.now cache.old.store id unit cell }
         ensures of { IsCacheOf cache.new self.now }
-        ensures answer { IfOk result (IsReadAnswer self.now id unit cache.old cache.new) }
-        ensures refusal { IfErr result (ReadFails self.now id unit quit_at at cache.old cache.new) }
-        ensures effect { IsReadEffect self.now id unit at cache.old cache.new result }
+        ensures read { IsRead self.now id unit quit_at at cache.old cache.new result }
     {
         self.see_machine();
         cache.see_bounds();
@@ -186,9 +180,7 @@ impl DFA {
         requires valid { IsRowId cache.old.store.table id }
         requires met { met < unknown_id → met ≡ known_step self.now cache.old.store id unit }
         ensures of { IsCacheOf cache.new self.now }
-        ensures answer { IfOk result (IsReadAnswer self.now id unit cache.old cache.new) }
-        ensures refusal { IfErr result (ReadFails self.now id unit quit_at at cache.old cache.new) }
-        ensures effect { IsReadEffect self.now id unit at cache.old cache.new result }
+        ensures read { IsRead self.now id unit quit_at at cache.old cache.new result }
     {
         let cell = self.met_or_cell(cache, id, met, unit);
         self.read_met(cache, id, cell, unit, quit_at, at)

@@ -1,5 +1,5 @@
-use Rattle.automata_hybrid.proofs.Caches.Transitions.{known_stays}
+use Rattle.automata_hybrid.proofs.Known.SearchesFollow.{known_stays}
 use Rattle.automata_hybrid.proofs.laws.known_stays.Goals as goal
 
 pub returns : goal.returns
-returns c = known_stays c.args.dfa.now c.see_machine.ensures.bytes c.see_machine.ensures.end
+returns c = known_stays c.args.dfa.now

@@ -1,10 +1,15 @@
 use Rattle.std.proofs.Common.{subst}
+use Rattle.automata_base.specs.Answers.Within.{StatesReportOwn}
 use Rattle.automata_base.specs.Laws.Walks.{WalksAreReported}
+use Rattle.automata_hybrid.proofs.Known.Bounds.{dfa_bounds}
+use Rattle.automata_hybrid.proofs.Known.SetsFollow.{sets_follow}
 use Rattle.automata_hybrid.proofs.Searches.Skips.{skips_or_not}
-use Rattle.automata_hybrid.proofs.Walks.SetsFollow.{sets_follow}
 use Rattle.automata_hybrid.proofs.laws.sets_follow.Goals as goal
 
 pub returns : goal.returns
 returns c =
-    sets_follow c.args.dfa.now (skips_or_not c.skips-skips.result c.skips-skips.ensures.yes c.skips-skips.ensures.no)
-    (subst WalksAreReported c.get_nfa.ensures c.walk_is_right.ensures.reported)
+    sets_follow c.args.dfa.now
+    (dfa_bounds c.args.dfa.now c.see_machine.ensures.machine.sizes.greatest c.see_machine.ensures.machine.enough
+    (subst StatesReportOwn c.get_nfa.ensures c.steps_are_right.ensures.own))
+    (skips_or_not c.skips-skips.result c.skips-skips.ensures.yes c.skips-skips.ensures.no)
+    (subst WalksAreReported c.get_nfa-2.ensures c.walk_is_right.ensures.reported)

@@ -1,10 +1,62 @@
 -- What private functions and proofs need beside `Cache/Changes`; no contract of a public call reaches it.
 use Rattle.std.specs.Prelude.{◌≡◌, ℕ, ◌⊎◌, false, length}
-use Rattle.automata_base.specs.Powersets.Powerset.{Powerset}
+use Rattle.automata_base.specs.Powersets.Powerset.{Powerset, cost}
 use Rattle.automata_hybrid.specs.declared.cache.row.Row.{Row}
-use Rattle.automata_hybrid.specs.Cache.Table.{IsKnownState, Names}
-use Rattle.automata_hybrid.specs.Cache.Stores.{Stored, KeepsStarts}
-use Rattle.automata_hybrid.specs.Cache.Changes.{IsStateAdded, cleared_saving}
+use Rattle.automata_hybrid.specs.Cache.Table.{Names, Leads}
+use Rattle.automata_hybrid.specs.Private.Cache.Table.{Lacks}
+use Rattle.automata_hybrid.specs.Private.Cache.Table.{IsKnownState}
+use Rattle.automata_hybrid.specs.Cache.Stores.{Stored}
+use Rattle.automata_hybrid.specs.Private.Cache.Stores.{KeepsStarts, with_table}
+use Rattle.automata_hybrid.specs.Cache.Clears.{row_of}
+use Rattle.automata_hybrid.specs.Private.Cache.Stores.{with_next, with_start_in_store}
+use Rattle.automata_hybrid.specs.Private.Cache.Usage.{Fits, cleared, refuses_to_clear}
+use Rattle.std.specs.Prelude.{Option, None, Some}
+use Rattle.automata_hybrid.specs.Cache.Table.{Rows}
+use Rattle.automata_hybrid.specs.Private.Cache.Table.{with_row}
+use Rattle.automata_hybrid.specs.Private.Cache.Clears.{with_row_once}
+
+-- with the row that was found, if one was
+abbrev pub put_found : Rows → Option Row → Rows
+put_found t None = t
+put_found t (Some r) = with_row_once t r
+
+-- with one more row
+abbrev pub grown : Stored → Row → Stored
+grown c r = with_table c (with_row c.table r)
+
+-- cleared, the state of this ID saved, and with a new row
+abbrev pub cleared_saving_in_store : Stored → ℕ → Stored
+cleared_saving_in_store c id = with_table (cleared c) (put_found (cleared c).table (row_of c.table id))
+
+-- what adding a state that is absent does to a cache, of which a clear leaves `emptied`
+pub data IsStateAdded (old emptied : Stored) (r : Row) (new : Stored) : Type 0 where
+  -- the state fits, and the cache grows
+  JustGrows : Fits old (cost r.state) → new ≡ grown old r → IsStateAdded old emptied r new
+  -- it does not fit, and the cache is cleared first, which the clear rule allows
+  ClearsFirst :
+      (Fits old (cost r.state) → ⊥) → refuses_to_clear old ≡ false → new ≡ grown emptied r
+      → IsStateAdded old emptied r new
+
+-- the whole effect of computing a transition from a state to a target, whose ID is written in the state's row
+pub data IsComputed (old : Stored) (id class : ℕ) (q target : Powerset) (new : Stored) (next : ℕ) : Type 0 where
+  -- an ID leads to the target
+  WritesKnown :
+      Leads old.table next target → new ≡ with_next old id class next → IsComputed old id class q target new next
+  -- none does: the target is added, and its ID is written at the row of the state as it is then
+  WritesAdded :
+      Lacks old.table target → (from : ℕ) (between : Stored)
+      → IsStateAdded old (cleared_saving_in_store old id) (record { state = target; started = false }) between
+      → Names between.table from q → Names between.table next target → new ≡ with_next between from class next
+      → IsComputed old id class q target new next
+
+-- the whole effect of computing a start, whose ID is written in its slot
+pub data IsStarted (old : Stored) (slot : ℕ) (r : Row) (new : Stored) (id : ℕ) : Type 0 where
+  -- an ID leads to its state
+  StartsKnown : Leads old.table id r.state → new ≡ with_start_in_store old slot id → IsStarted old slot r new id
+  -- none does: its row is added
+  StartsAdded :
+      Lacks old.table r.state → (between : Stored) → IsStateAdded old (cleared old) r between
+      → Names between.table id r.state → new ≡ with_start_in_store between slot id → IsStarted old slot r new id
 
 -- what adding a state that is absent returns: its ID
 pub record AddsRow (old emptied new : Stored) (r : Row) (id : ℕ) : Type 0 where
@@ -24,6 +76,6 @@ pub record AddsRow (old emptied new : Stored) (r : Row) (id : ℕ) : Type 0 wher
 -- what adding a state that is absent returns, stepped to from a row: the ID of that row as it is now, and the new one
 pub record AddsNext (old new : Stored) (from : ℕ) (q : Powerset) (now next : ℕ) : Type 0 where
   -- The state was added; a clear saves the row that was stepped from.
-  pub row : AddsRow old (cleared_saving old from) new (record { state = q; started = false }) next
+  pub row : AddsRow old (cleared_saving_in_store old from) new (record { state = q; started = false }) next
   -- That row is there, and has this ID now.
   pub saved : (p : Powerset) → Names old.table from p → Names new.table now p

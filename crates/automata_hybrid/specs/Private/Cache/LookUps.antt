@@ -1,7 +1,8 @@
 -- What a look-up of a state finds.
 use Rattle.std.specs.Prelude.{◌≡◌}
 use Rattle.automata_base.specs.Powersets.Powerset.{Powerset}
-use Rattle.automata_hybrid.specs.Cache.Table.{Rows, Leads, Lacks}
+use Rattle.automata_hybrid.specs.Cache.Table.{Rows, Leads}
+use Rattle.automata_hybrid.specs.Private.Cache.Table.{Lacks}
 use Rattle.automata_hybrid.specs.declared.cache.Found.{Found}
 use Rattle.automata_hybrid.specs.declared.cache.Found.TheVariants.{Known, New}
 

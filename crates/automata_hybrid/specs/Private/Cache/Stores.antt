@@ -1,7 +1,47 @@
 -- What private functions and proofs need beside `Cache/Stores`; no contract of a public call reaches it.
+use Rattle.std.specs.Prelude.{ℕ, ◌<◌, slice_index, slice_set}
+use Rattle.automata_config.specs.Options.{minimum_cache_clear_count_of, minimum_bytes_per_state_of}
 use Rattle.automata_hybrid.specs.declared.cache.settings.Settings.{Settings}
 use Rattle.automata_hybrid.specs.Machines.Machine.{Machine}
-use Rattle.automata_config.specs.Options.{minimum_cache_clear_count_of, minimum_bytes_per_state_of}
+use Rattle.automata_hybrid.specs.Cache.Ids.{unknown_id}
+use Rattle.automata_hybrid.specs.Private.Cache.Table.{with_cell}
+use Rattle.automata_hybrid.specs.Cache.Stores.{Stored, cell_of}
+use Rattle.std.specs.Prelude.{◌≡◌, ◌^◌, ◌≤◌, List, None, length, replicate}
+use Rattle.automata_hybrid.specs.declared.cache.progress.Searched.{Searched}
+use Rattle.automata_config.specs.declared.error.StepError.{StepError}
+use Rattle.automata_config.specs.declared.error.StepError.TheVariants.{Cache, OutOfMemory}
+use Rattle.automata_hybrid.specs.Cache.Table.{Rows, cell_at, fresh, HasCells, HasItsMatchTag, HasLowIds}
+use Rattle.automata_hybrid.specs.Cache.Table.{HasNoDeadRow, HasOwnStates, HasRowIds}
+use Rattle.automata_hybrid.specs.Cache.Stores.{IsCacheError, fresh_store, with_searched, IsSoundStore}
+
+-- with another table
+abbrev pub with_table : Stored → Rows → Stored
+with_table c t = record { table = t; starts = c.starts; clears = c.clears; searched = c.searched }
+
+-- each start state that was cached is cached
+abbrev pub KeepsStarts : List ℕ → List ℕ → Type 0
+KeepsStarts old new = (slot : ℕ) → slice_index old slot < unknown_id → slice_index new slot < unknown_id
+
+-- the transition is cached
+abbrev pub IsKnownTransition : Stored → ℕ → ℕ → Type 0
+IsKnownTransition c id class = cell_of c id class < unknown_id
+
+-- with a transition written
+abbrev pub with_next : Stored → ℕ → ℕ → ℕ → Stored
+with_next c id class next = with_table c (with_cell c.table id class next)
+
+-- with a start written
+abbrev pub with_start_in_store : Stored → ℕ → ℕ → Stored
+with_start_in_store c slot id = record {
+  table = c.table;
+  starts = slice_set c.starts slot id;
+  clears = c.clears;
+  searched = c.searched;
+}
+
+-- the slot's start state is cached
+abbrev pub IsKnownStart : Stored → ℕ → Type 0
+IsKnownStart c slot = slice_index c.starts slot < unknown_id
 
 -- what the cache of a machine is bounded by
 abbrev pub cache_settings : Machine → Settings

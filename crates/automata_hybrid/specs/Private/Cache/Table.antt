@@ -1,7 +1,5 @@
 -- What private functions and proofs need beside `Cache/Table`; no contract of a public call reaches it.
-use Rattle.std.specs.Prelude.{◌≡◌, ℕ, ◌*◌, ◌≤◌, List, length}
-use Rattle.std.specs.Prelude.{Some, slice_get}
-use Rattle.std.specs.Prelude.{sum_by}
+use Rattle.std.specs.Prelude.{◌≡◌, ℕ, ◌*◌, ◌≤◌, List, length, Some, slice_get, sum_by}
 use Rattle.std.specs.HashMap.{HashMap, get}
 use Rattle.std.specs.declared.hash.FoldHasher.{FoldHasher}
 use Rattle.std.specs.declared.hash.BuildHasherDefault.{BuildHasherDefault}
@@ -10,7 +8,40 @@ use Rattle.automata_base.specs.Powersets.Equal.{powerset_eq}
 use Rattle.automata_hybrid.specs.declared.cache.row.Row.{Row}
 use Rattle.automata_hybrid.specs.Private.Machines.Machine.{IsTemplate}
 use Rattle.automata_hybrid.specs.Machines.Reachable.{IsStateOf}
-use Rattle.automata_hybrid.specs.Cache.Table.{RowsFitCells, HasCells, HasItsMatchTag, HasLowIds, HasNoDeadRow, HasOwnStates, Lacks, Rows, id_of, row_cost}
+use Rattle.automata_hybrid.specs.Cache.Table.{RowsFitCells, HasCells, HasItsMatchTag, HasLowIds, HasNoDeadRow}
+use Rattle.automata_hybrid.specs.Cache.Table.{HasOwnStates, Rows, id_of, row_cost}
+use Rattle.automata_hybrid.specs.Cache.Table.{Names}
+use Rattle.std.specs.Prelude.{◌+◌, ◌%◌, ◌<◌, ◌⊎◌, ◌↔◌, [], ◌∷◌, ◌++◌, Bool}
+use Rattle.std.specs.Prelude.{cond, nat_lt, Option, None, slice_index, slice_set, replicate}
+use Rattle.std.specs.Prelude.{take}
+use Rattle.automata_base.specs.Powersets.Passes.{IsUnit}
+use Rattle.automata_base.specs.Powersets.Powerset.{dead}
+use Rattle.automata_hybrid.specs.Cache.Ids.{tags, dead_id, quit_id, unknown_id, fixed_from, offset_limit}
+use Rattle.automata_hybrid.specs.Cache.Ids.{HasMatchTag}
+use Rattle.automata_hybrid.specs.Machines.Machine.{Machine, unit_class}
+use Rattle.automata_base.specs.Retraced.Steps.{successor}
+use Rattle.automata_config.specs.Options.{match_kind_of}
+use Rattle.automata_hybrid.specs.Machines.OwnStates.{IsOwn}
+use Rattle.automata_hybrid.specs.Cache.Table.{has_patterns, row_id, find_id, Leads, LeadsByClass, IsCell, fixed_rows, fresh, IsStepped, HasRowIds, IsRowState, IsRowId, cell_at}
+
+-- a state that is not dead, and that no row has
+abbrev pub Lacks : Rows → Powerset → Type 0
+Lacks t q = (id_of t q ≡ None) × (q ≡ dead → ⊥)
+
+-- with one more row
+abbrev pub with_row : Rows → Row → Rows
+with_row t r = record { of = t.of; cells = t.cells ++ t.of.template; rows = t.rows ++ r ∷ [] }
+
+-- with a cell written
+abbrev pub with_cell : Rows → ℕ → ℕ → ℕ → Rows
+with_cell t id class next = record { of = t.of; cells = slice_set t.cells (cell_at id class) next; rows = t.rows }
+
+-- some row has this state
+pub record IsKnownState (t : Rows) (q : Powerset) : Type 0 where
+  -- The ID of that row.
+  pub id : ℕ
+  -- It names the state.
+  pub named : Names t id q
 
 -- the map from states to IDs
 abbrev pub StateMap : Type 0

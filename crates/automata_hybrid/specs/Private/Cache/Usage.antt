@@ -1,13 +1,54 @@
 -- What private functions and proofs need beside `Cache/Usage`; no contract of a public call reaches it.
-use Rattle.std.specs.Prelude.{◌≡◌, ℕ, ◌+◌, ◌*◌, ◌^◌, ◌<◌, ◌≤◌, length, false}
+use Rattle.std.specs.Prelude.{◌≡◌, ℕ, ◌+◌, ◌*◌, ◌^◌, ◌<◌, ◌≤◌, length, false, true}
 use Rattle.automata_base.specs.Powersets.Accounting.{minimum_capacity}
+use Rattle.automata_base.specs.Powersets.Powerset.{Powerset, cost}
 use Rattle.automata_hybrid.specs.declared.cache.settings.Settings.{Settings}
 use Rattle.automata_hybrid.specs.Cache.Ids.{offset_limit}
 use Rattle.automata_hybrid.specs.Cache.Clears.{AllStarts}
+use Rattle.automata_hybrid.specs.Private.Cache.Clears.{kept}
 use Rattle.automata_hybrid.specs.Private.Cache.Clears.{KeepsAllStarts}
 use Rattle.automata_hybrid.specs.Cache.Stores.{Stored}
 use Rattle.automata_hybrid.specs.Private.Cache.Stores.{cache_settings}
-use Rattle.automata_hybrid.specs.Cache.Usage.{Fits, cleared, refuses_to_clear, usage}
+use Rattle.automata_hybrid.specs.Cache.Usage.{usage}
+use Rattle.automata_hybrid.specs.Private.Cache.Table.{Lacks}
+use Rattle.std.specs.Prelude.{Bool, cond, Option, None, Some}
+use Rattle.std.specs.Prelude.{sum_by, nat_lt}
+use Rattle.automata_base.specs.Powersets.Accounting.{cell_size, entry_size, fixed_rows_cost}
+use Rattle.automata_base.specs.Powersets.Accounting.{row_size}
+use Rattle.automata_hybrid.specs.Machines.Machine.{Machine}
+use Rattle.automata_hybrid.specs.Cache.Table.{row_cost}
+use Rattle.automata_hybrid.specs.Cache.Progress.{saturated, total_len, progress_cleared}
+use Rattle.automata_config.specs.Options.{minimum_cache_clear_count_of, minimum_bytes_per_state_of}
+use Rattle.automata_hybrid.specs.Cache.Usage.{row_usage, short_of}
+
+-- a new state of this cost fits, and so does its row's offset
+abbrev pub Fits : Stored → ℕ → Type 0
+Fits c extra =
+    (usage c + row_usage c.table.of + extra ≤ c.table.of.capacity) × (length c.table.cells < offset_limit)
+
+-- a clear is allowed up to the limit, and past it only if enough bytes were searched since the last one
+abbrev pub refuses_at : Option ℕ → Stored → Bool
+refuses_at None c = false
+refuses_at (Some limit) c =
+    cond (nat_lt c.clears limit) false (short_of (minimum_bytes_per_state_of c.table.of.config)
+    (length c.table.rows + 3) (total_len c.searched))
+
+-- the clear rule
+abbrev pub refuses_to_clear : Stored → Bool
+refuses_to_clear c = refuses_at (minimum_cache_clear_count_of c.table.of.config) c
+
+-- a clear that keeps the start states
+abbrev pub cleared : Stored → Stored
+cleared c = record {
+  table = (kept c.table c.starts).table;
+  starts = (kept c.table c.starts).starts;
+  clears = saturated (c.clears + 1);
+  searched = progress_cleared c.searched;
+}
+
+-- why a call gives up at a state: it is not there, it does not fit, and the clear rule does not allow a clear
+abbrev pub GivesUpInStore : Stored → Powerset → Type 0
+GivesUpInStore c q = Lacks c.table q × (Fits c (cost q) → ⊥) × (refuses_to_clear c ≡ true)
 
 -- any state fits
 abbrev pub FitsAny : Stored → Type 0

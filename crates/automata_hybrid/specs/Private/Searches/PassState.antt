@@ -13,7 +13,7 @@ use Rattle.automata_hybrid.specs.Machines.Machine.{Machine}
 use Rattle.automata_hybrid.specs.Cache.Table.{Rows, Names}
 use Rattle.automata_hybrid.specs.Searches.Passes.{tape_in}
 use Rattle.automata_hybrid.specs.Cache.Stores.{Stored}
-use Rattle.automata_hybrid.specs.Searches.Cached.{KnowsAlong}
+use Rattle.automata_hybrid.specs.Private.Searches.Cached.{KnowsAlong}
 use Rattle.automata_hybrid.specs.Searches.Traces.{Trace, pass_trace}
 use Rattle.automata_hybrid.specs.Private.Searches.Traces.{IsTrace}
 use Rattle.automata_hybrid.specs.Cache.Ids.{HasMatchTag, unknown_id}

@@ -10,18 +10,19 @@ use Rattle.automata_base.specs.declared.util.search.Direction.TheVariants.{Forwa
 use Rattle.automata_config.specs.Options.{match_kind_of}
 use Rattle.automata_hybrid.specs.Machines.Machine.{Machine}
 use Rattle.automata_hybrid.specs.Searches.Passes.{tape_in}
-use Rattle.automata_hybrid.specs.Cache.Stores.{IsKnownTransition, Stored}
+use Rattle.automata_hybrid.specs.Cache.Stores.{Stored}
+use Rattle.automata_hybrid.specs.Private.Cache.Stores.{IsKnownTransition}
 use Rattle.automata_hybrid.specs.Cache.Table.{Leads, Names}
 use Rattle.automata_hybrid.specs.declared.cache.self_loops.LoopRange.{LoopRange}
 use Rattle.automata_hybrid.specs.declared.cache.self_loops.KnownLoop.{KnownLoop}
 
 -- how far a byte is above another, where 0 follows 255
-abbrev pub above : ℕ → ℕ → ℕ
-above low byte = (byte + (256 - low)) % 256
+abbrev pub steps_above : ℕ → ℕ → ℕ
+steps_above low byte = (byte + (256 - low)) % 256
 
 -- a range has a byte
 abbrev pub HasByte : LoopRange → ℕ → Type 0
-HasByte r byte = above r.low byte < r.size
+HasByte r byte = steps_above r.low byte < r.size
 
 -- one of two ranges has a byte
 abbrev pub HasEither : LoopRange → LoopRange → ℕ → Type 0

@@ -2,8 +2,13 @@
 use Rattle.std.specs.Prelude.{ℕ, ◌≡◌, ◌<◌, ◌≤◌, Option}
 use Rattle.automata_hybrid.specs.Cache.Stores.{Stored}
 use Rattle.automata_hybrid.specs.Cache.Ids.{unknown_id}
-use Rattle.automata_hybrid.specs.Machines.Machine.{Machine}
-use Rattle.automata_hybrid.specs.Steps.Steps.{KnowsStep, known_step}
+use Rattle.automata_hybrid.specs.Machines.Machine.{Machine, unit_class}
+use Rattle.automata_hybrid.specs.Steps.Steps.{known_step}
+use Rattle.automata_hybrid.specs.Private.Cache.Stores.{IsKnownTransition}
+
+-- the transition from a state on a unit is cached
+abbrev pub KnowsStep : Machine → Stored → (id : ℕ) → (unit : Option ℕ) → Type 0
+KnowsStep m c id unit = IsKnownTransition c id (unit_class m unit)
 
 -- this was read in the cell of a transition: the ID that it leads to, or the unknown one if it is not cached
 abbrev pub IsCellRead : Machine → Stored → (id : ℕ) → (unit : Option ℕ) → (cell : ℕ) → Type 0

@@ -1,16 +1,45 @@
 -- What private functions and proofs need beside `Walks/Answers`; no contract of a public call reaches it.
-use Rattle.std.specs.Prelude.{ℕ, suc, ◌≡◌, ◌<◌, ◌≤◌, ◌⊎◌, false, length, Option, None, Some}
+use Rattle.std.specs.Prelude.{ℕ, suc, ◌≡◌, ◌<◌, ◌≤◌, false, length, Option, None, Some}
 use Rattle.automata_base.specs.Answers.Answers.{offset_in}
 use Rattle.automata_base.specs.Haystacks.Input.{Input}
 use Rattle.automata_base.specs.Powersets.Powerset.{Powerset}
 use Rattle.automata_base.specs.Haystacks.Tapes.{is_split}
 use Rattle.automata_base.specs.declared.util.search.Direction.{Direction}
+use Rattle.automata_base.specs.declared.util.search.MatchErrorKind.TheVariants.{GaveUp}
+use Rattle.automata_config.specs.declared.error.SearchError.{SearchError}
+use Rattle.automata_config.specs.declared.error.SearchError.TheVariants as search
 use Rattle.automata_hybrid.specs.Machines.Machine.{Machine}
-use Rattle.automata_hybrid.specs.Searches.Passes.{HasReadNoQuit, Skips}
-use Rattle.automata_hybrid.specs.Searches.Passes.{state_in, tape_in}
+use Rattle.automata_hybrid.specs.Searches.Passes.{HasReadNoQuit, Skips, state_in, tape_in, behind_offset}
+use Rattle.automata_hybrid.specs.Searches.Passes.{given_up_offset}
 use Rattle.automata_hybrid.specs.Cache.Table.{Names, Rows}
-use Rattle.automata_hybrid.specs.Walks.State.{Ended, Walk}
+use Rattle.automata_hybrid.specs.Walks.State.{Ended, Walk, At, Fresh, Stage}
 use Rattle.automata_hybrid.specs.Walks.Answers.{IsSilent, WalkMeetsNoQuit, WalkReads}
+use Rattle.automata_hybrid.specs.Cache.Stores.{Stored}
+use Rattle.automata_hybrid.specs.Private.Cache.Usage.{GivesUpInStore}
+use Rattle.automata_hybrid.specs.Private.Steps.Starts.{IsStartErrorAt}
+use Rattle.automata_hybrid.specs.Private.Cache.Table.{IsKnownState}
+
+-- why the state of a walk is not put back, which the cache does not have
+pub data IsPutBackError (c : Stored) (q : Powerset) (given_up_at : ℕ) (e : SearchError) : Type 0 where
+  -- there is room for it, or the cache may be cleared, and memory runs out
+  RunsOut :
+      (IsKnownState c.table q → ⊥) → (GivesUpInStore c q → ⊥) → e ≡ search.OutOfMemory
+      → IsPutBackError c q given_up_at e
+  -- there is no room for it, and the cache may not be cleared
+  HasNoRoom : GivesUpInStore c q → e ≡ search.Match (GaveUp given_up_at) → IsPutBackError c q given_up_at e
+
+-- why a walk cannot go on: it has not begun and its start state fails, or it has and its state is not put back
+abbrev pub IsResumeError : Direction → Machine → Stored → Input → Stage → (units : ℕ) → SearchError → Type 0
+IsResumeError way m c input Fresh units e =
+    IsStartErrorAt m c input.anchored (tape_in way input).before (behind_offset way input) (offset_in way input 0) e
+IsResumeError way m c input (At q) units e = IsPutBackError c q (given_up_offset way input units) e
+IsResumeError way m c input Ended units e = ⊥
+
+-- the cache has the state that a walk goes on from
+abbrev pub HasItsState : Rows → Stage → Type 0
+HasItsState t Fresh = Unit {0}
+HasItsState t (At q) = IsKnownState t q
+HasItsState t Ended = Unit {0}
 
 -- from its first `from` units a walk went on, without a quit byte, to a state that reports patterns at a place that is
 -- not skipped, and the ID names it
@@ -50,9 +79,12 @@ abbrev pub IsArrival : Direction → Machine → Rows → Input → (from : ℕ)
 IsArrival way m t input from None units = Finishes way m input from units
 IsArrival way m t input from (Some id) units = Arrives way m t input from id units
 
--- a call found no match, or the walk has read more units, or has reported one pattern more
-abbrev pub GoesOn : Walk → Walk → Type 0
-GoesOn old new =
-    (new.found ≡ None)
-    ⊎ ((new.stage ≡ Ended → ⊥)
-    × ((old.units < new.units) ⊎ ((new.units ≡ old.units) × (new.reported ≡ suc old.reported))))
+-- how a call of a walk has gone on
+pub data GoesOn (old new : Walk) : Type 0 where
+  -- it found no match
+  FindsNone : new.found ≡ None → GoesOn old new
+  -- the walk has read more units
+  ReadsMore : (new.stage ≡ Ended → ⊥) → old.units < new.units → GoesOn old new
+  -- it has read no more, and has reported one pattern more
+  ReportsOneMore :
+      (new.stage ≡ Ended → ⊥) → new.units ≡ old.units → new.reported ≡ suc old.reported → GoesOn old new

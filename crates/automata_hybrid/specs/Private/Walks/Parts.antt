@@ -1,7 +1,8 @@
 -- Going on with a walk: what the functions under its calls ask, what they answer, and what they make of their cache.
-use Rattle.std.specs.Prelude.{ℕ, suc, ◌≡◌, ◌+◌, ◌-◌, ◌≤◌, Result}
-use Rattle.std.specs.Prelude.{IfErr, IfOk, OnErr, OnOk}
+use Rattle.std.specs.Prelude.{ℕ, suc, ◌≡◌, ◌+◌, ◌-◌, ◌≤◌, false, None, Some, Result, Ok, Err}
+use Rattle.automata_base.specs.ByteClasses.Classes.{is_quit}
 use Rattle.automata_base.specs.Haystacks.Input.{Input}
+use Rattle.automata_base.specs.Paths.Paths.{next as unit_at}
 use Rattle.automata_base.specs.declared.util.search.Direction.{Direction}
 use Rattle.automata_config.specs.declared.error.SearchError.{SearchError}
 use Rattle.automata_hybrid.specs.declared.search.walk.advance.Arrival.{Arrival}
@@ -9,14 +10,15 @@ use Rattle.automata_hybrid.specs.Cache.Stores.{Stored}
 use Rattle.automata_hybrid.specs.Cache.Caches.{CacheView}
 use Rattle.automata_hybrid.specs.Walks.Cached.{IsToRead}
 use Rattle.automata_hybrid.specs.Machines.Machine.{Machine}
-use Rattle.automata_hybrid.specs.Searches.Progress.{Goes, IsLeftAt, IsUnitRead, with_search_moved}
-use Rattle.automata_hybrid.specs.Walks.Progress.{IsCallStopped}
+use Rattle.automata_hybrid.specs.Private.Searches.Progress.{Goes, IsLeftAt, IsUnitRead}
+use Rattle.automata_hybrid.specs.Private.Walks.Progress.{IsCallStoppedInStore, IsWalkRunInStore}
 use Rattle.automata_hybrid.specs.Searches.Passes.{state_in, tape_in}
+use Rattle.automata_hybrid.specs.Private.Searches.Passes.{IsUnitError}
 use Rattle.automata_hybrid.specs.Steps.Starts.{MayStart}
 use Rattle.automata_hybrid.specs.Cache.Table.{Leads, Names, Rows}
 use Rattle.automata_hybrid.specs.Walks.Answers.{IsWalkOf, ReportsNext, WalkReads}
-use Rattle.automata_hybrid.specs.Private.Walks.Answers.{GoesOn}
-use Rattle.automata_hybrid.specs.Walks.State.{Ids, Walk}
+use Rattle.automata_hybrid.specs.Private.Walks.Answers.{GoesOn, IsArrival}
+use Rattle.automata_hybrid.specs.Walks.State.{Ids, Keeping, Walk}
 use Rattle.automata_hybrid.specs.Private.Walks.State.{IsHeldAt, IsHeldItself}
 use Rattle.automata_hybrid.specs.Private.Walks.State.{keeping_of}
 use Rattle.automata_hybrid.specs.declared.search.walk.Held.{Held}
@@ -60,6 +62,22 @@ pub record IsCallAnswer (way : Direction) (m : Machine) (input : Input) (walk ne
   -- with a match it has read more units or reported one pattern more
   pub goes_on : GoesOn walk next
 
+-- a call of a walk has answered, and made this of its cache
+pub record AnswersCall (keeping : Keeping) (way : Direction) (m : Machine) (input : Input) (walk next : Walk)
+    (old new : CacheView) : Type 0 where
+  -- this is its answer
+  pub answer : IsCallAnswer way m input walk next
+  -- and this is what it makes of its cache
+  pub effect : IsWalkRunInStore keeping way m input walk next old new None
+
+-- what a call of a walk returns: its answer, or why it fails
+abbrev pub IsCallResult :
+    Keeping → Direction → Machine → Input → (walk next : Walk) → (old new : CacheView)
+    → Result (Unit {0}) SearchError → Type 0
+IsCallResult keeping way m input walk next old new (Ok unit) = AnswersCall keeping way m input walk next old new
+IsCallResult keeping way m input walk next old new (Err e) = IsWalkRunInStore keeping way m input walk next old new
+    (Some e)
+
 -- the ID that a walk goes on from
 pub record IsResumeAnswer (way : Direction) (m : Machine) (input : Input) (walk : Walk) (new : Stored) (id : ℕ) :
     Type 0 where
@@ -77,21 +95,46 @@ pub record StandsAfterUnits (way : Direction) (m : Machine) (t : Rows) (input : 
   -- the ID names the state after these units
   pub named : Names t id (state_in way m input units)
 
--- what reading the next unit makes of the cache
-pub record IsUnitEffect {T : Type 0} (way : Direction) (m : Machine) (input : Input) (place : ℕ) (old new : CacheView)
-    (result : Result T SearchError) : Type 0 where
-  -- if it returns Ok, the search moved to the unit, and it was read
-  pub read :
-      OnOk result (IsUnitRead way m input place old new)
-  -- if it fails, the search is left at the unit
-  pub left : OnErr result (IsLeftAt way m input place old new)
+-- a walk has read the unit at a place, which returns this ID
+pub record HasReadUnit (way : Direction) (m : Machine) (input : Input) (place : ℕ) (old new : CacheView) (id : ℕ) :
+    Type 0 where
+  -- it leads to the state after the unit
+  pub leads : Leads new.store.table id (state_in way m input (suc place))
+  -- the unit is no quit byte
+  pub clean : (byte : ℕ) → unit_at (tape_in way input) place ≡ Some byte → is_quit m.quits byte ≡ false
+  -- the search steps over it
+  pub read : IsUnitRead way m input place old new
 
--- what going on over the units of a walk from there makes of the cache
-pub record IsAdvanceEffect (way : Direction) (m : Machine) (input : Input) (units : ℕ) (old new : CacheView)
-    (result : Result Arrival SearchError) : Type 0 where
-  -- it read these units, one after another
-  pub read :
-      IfOk result (λ a. (n : ℕ) × (a.units ≡ suc (units + n)) × WalkReads way m input (units + n)
-      × Goes way m input units (suc n) old new)
-  -- or failed at one
-  pub left : IfErr result (IsCallStopped Ids way m input units old new)
+-- a walk has not read it, which returns this error
+pub record FailsToReadUnit (way : Direction) (m : Machine) (input : Input) (place : ℕ) (old new : CacheView)
+    (e : SearchError) : Type 0 where
+  -- the step on it fails for this
+  pub error : IsUnitError way m new.store input place e
+  -- the search is left at the unit
+  pub left : IsLeftAt way m input place old new
+
+-- what reading the unit at a place returns: the ID after it, or why the step on it fails
+abbrev pub IsUnitResult :
+    Direction → Machine → Input → (place : ℕ) → (old new : CacheView) → Result ℕ SearchError → Type 0
+IsUnitResult way m input place old new (Ok id) = HasReadUnit way m input place old new id
+IsUnitResult way m input place old new (Err e) = FailsToReadUnit way m input place old new e
+
+-- a walk has gone on over units, and comes to where it reports patterns, or to its end
+pub record HasAdvanced (way : Direction) (m : Machine) (input : Input) (units : ℕ) (old new : CacheView)
+    (a : Arrival) : Type 0 where
+  -- it comes there
+  pub arrives : IsArrival way m new.store.table input units a.id a.units
+  -- how many units are read before the last
+  pub before : ℕ
+  -- they are counted, and the last one too
+  pub counted : a.units ≡ suc (units + before)
+  -- the walk reads the last one
+  pub reads : WalkReads way m input (units + before)
+  -- the search steps over them
+  pub goes : Goes way m input units (suc before) old new
+
+-- what going on over the units of a walk returns: where it comes, or why it fails at one
+abbrev pub IsAdvanceResult :
+    Direction → Machine → Input → (units : ℕ) → (old new : CacheView) → Result Arrival SearchError → Type 0
+IsAdvanceResult way m input units old new (Ok a) = HasAdvanced way m input units old new a
+IsAdvanceResult way m input units old new (Err e) = IsCallStoppedInStore Ids way m input units old new e

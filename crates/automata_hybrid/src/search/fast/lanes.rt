@@ -1,7 +1,7 @@
 //! Which of 32 bytes are in a range, or in one of two, all compared at once.
 ghost use Rattle.std.specs.Prelude.{◌+◌, ◌<◌, ◌≡◌, ◌≤◌, ◌^◌, ℕ, IsTrue, length, slice_index};
 ghost use Rattle.std.specs.Int.{bit_at};
-ghost use Rattle.automata_hybrid.specs.Private.Searches.SelfLoops.{HasByte, HasEither, above, byte_in, lane_of};
+ghost use Rattle.automata_hybrid.specs.Private.Searches.SelfLoops.{HasByte, HasEither, steps_above, byte_in, lane_of};
 
 use crate::cache::self_loops::LoopRange;
 use automata_base::util::search::Direction;
@@ -16,7 +16,7 @@ pub(crate) const LANES: usize = 32;
 fn outside(low: u8, size: u8, bytes: &[u8], from: usize) -> u64
     requires { from + 32 ≤ length bytes.now }
     ensures small { result < 2 ^ 32 }
-    ensures near { (k : ℕ) → k < 32 → bit_at result k ≡ 0 → above low (slice_index bytes.now (from + k)) < size }
+    ensures near { (k : ℕ) → k < 32 → bit_at result k ≡ 0 → steps_above low (slice_index bytes.now (from + k)) < size }
 {
     let above = u8x32::from_slice(&bytes[from..]) - u8x32::splat(low);
     above.simd_ge(u8x32::splat(size)).to_bitmask()

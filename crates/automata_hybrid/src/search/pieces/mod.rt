@@ -9,17 +9,22 @@ ghost use Rattle.automata_base.specs.declared.util.search.Direction.TheVariants.
 ghost use Rattle.automata_base.specs.Powersets.Powerset.{Powerset};
 ghost use Rattle.automata_hybrid.specs.Cache.Caches.{IsCacheOf};
 ghost use Rattle.automata_hybrid.specs.Private.Cache.Growth.{AddFails};
-ghost use Rattle.automata_hybrid.specs.Cache.Table.{IsKnownState, IsRowId, IsRowState, Names};
+ghost use Rattle.automata_hybrid.specs.Cache.Table.{IsRowId, IsRowState, Names};
+ghost use Rattle.automata_hybrid.specs.Private.Cache.Table.{IsKnownState};
 ghost use Rattle.automata_hybrid.specs.Pieces.Answers.{EndsHere, HasBegun, ReadsOn};
-ghost use Rattle.automata_hybrid.specs.Pieces.Progress.{GoesOnFrom, IsAnswerRun, IsBeginRun, IsNotPutBack};
-ghost use Rattle.automata_hybrid.specs.Pieces.Progress.{IsPieceRun};
-ghost use Rattle.automata_hybrid.specs.Pieces.State.{IsPiecesOf, found_in};
+ghost use Rattle.automata_hybrid.specs.Known.Pieces.{IsAnswerRun, IsBeginRun, IsPieceRun};
+ghost use Rattle.automata_hybrid.specs.Known.Stores.{known_of};
+ghost use Rattle.automata_hybrid.specs.Private.Pieces.Progress.{GoesOnFrom, IsAnswerRunInStore};
+ghost use Rattle.automata_hybrid.specs.Private.Pieces.Progress.{IsBeginRunInStore, IsNotPutBack};
+ghost use Rattle.automata_hybrid.specs.Private.Pieces.Progress.{IsPieceRunInStore};
+ghost use Rattle.automata_hybrid.specs.Pieces.State.{IsPiecesOf};
+ghost use Rattle.automata_hybrid.specs.Private.Pieces.State.{found_in};
 ghost use Rattle.automata_hybrid.specs.Pieces.Walks.{HasBegunWalk, patterns_here};
 ghost use Rattle.automata_hybrid.specs.Private.Searches.PassState.{IsOnTrace};
 ghost use Rattle.automata_hybrid.specs.Private.Searches.PieceRuns.{HasOffset, IsEndAlong, IsPieceEnd, IsPieceStopped};
 ghost use Rattle.automata_hybrid.specs.Private.Searches.PieceRuns.{StopsAlong, error_from};
 ghost use Rattle.automata_hybrid.specs.Searches.Traces.{Trace};
-ghost use Rattle.automata_hybrid.specs.Walks.Progress.{HasItsRow};
+ghost use Rattle.automata_hybrid.specs.Private.Walks.Progress.{HasItsRow};
 ghost use Rattle.automata_hybrid.specs.Private.Walks.State.{IsHandle};
 
 pub mod walk;
@@ -251,8 +256,10 @@ impl DFA {
         ensures pieces { IfOk result (λ p. IsPiecesOf p self.now) }
         ensures begun { IfOk result (HasBegun self.now config.now.anchored config.now.look_behind earliest) }
         ensures effect { IsBeginRun self.now config.now.anchored config.now.look_behind
-            cache.old cache.new (result_err result) }
+            (known_of cache.old) (known_of cache.new) (result_err result) }
     {
+        self.see_machine();
+        cache.see_bounds();
         self.start_pieces(cache, config, earliest)
     }
 
@@ -269,13 +276,13 @@ impl DFA {
         ensures begun { IfOk result (HasBegun self.now config.now.anchored config.now.look_behind earliest) }
         ensures walk { IfOk result (HasBegunWalk self.now config.now.anchored config.now.look_behind) }
         ensures early { IfOk result (λ p. p.earliest ≡ earliest) }
-        ensures effect { IsBeginRun self.now config.now.anchored config.now.look_behind
+        ensures effect { IsBeginRunInStore self.now config.now.anchored config.now.look_behind
             cache.old cache.new (result_err result) }
     {
         if self.skips() {
             return Err(BeginError::Skips);
         }
-        let id = match self.start_state(cache, config) {
+        let id = match self.find_start(cache, config) {
             Ok(id) => id,
             Err(error) => return Err(BeginError::Start(error)),
         };
@@ -321,6 +328,30 @@ impl DFA {
         ensures reads { OnOk result (ReadsOn self.now piece.now pieces.old pieces.new) }
         ensures unchanged { OnErr result (pieces.new ≡ pieces.old) }
         ensures effect { IsPieceRun self.now piece.now pieces.old pieces.new
+            (known_of cache.old) (known_of cache.new) (result_err result) }
+    {
+        self.see_machine();
+        cache.see_bounds();
+        let whole = Input::new(piece);
+        let _haystack = whole.haystack();
+        self.take_piece(cache, pieces, piece)
+    }
+
+    /// Reads the next piece, as `read_piece`.
+    #[inline(always)]
+    fn take_piece(
+        &self,
+        cache: &mut Cache,
+        pieces: &mut Pieces,
+        piece: &[u8],
+    ) -> Result<(), SearchError>
+        requires of { IsCacheOf cache.old self.now }
+        requires pieces { IsPiecesOf pieces.old self.now }
+        ensures of { IsCacheOf cache.new self.now }
+        ensures pieces { IsPiecesOf pieces.new self.now }
+        ensures reads { OnOk result (ReadsOn self.now piece.now pieces.old pieces.new) }
+        ensures unchanged { OnErr result (pieces.new ≡ pieces.old) }
+        ensures effect { IsPieceRunInStore self.now piece.now pieces.old pieces.new
             cache.old cache.new (result_err result) }
     {
         let Some(from) = self.resume_pieces(cache, pieces)? else {
@@ -362,7 +393,29 @@ impl DFA {
         requires pieces { IsPiecesOf pieces.now self.now }
         ensures of { IsCacheOf cache.new self.now }
         ensures answer { IfOk result (EndsHere self.now pieces.now look_ahead) }
-        ensures effect { IsAnswerRun self.now look_ahead pieces.now cache.old cache.new (result_err result) }
+        ensures effect { IsAnswerRun self.now look_ahead pieces.now (known_of cache.old) (known_of cache.new)
+            (result_err result) }
+    {
+        self.see_machine();
+        cache.see_bounds();
+        let _class = self.unit_class(look_ahead);
+        self.take_answer(cache, pieces, look_ahead)
+    }
+
+    /// The match in the pieces so far, as `end_pieces` returns it.
+    #[inline(always)]
+    fn take_answer(
+        &self,
+        cache: &mut Cache,
+        pieces: &Pieces,
+        look_ahead: Option<u8>,
+    ) -> Result<Option<HalfMatch>, SearchError>
+        requires of { IsCacheOf cache.old self.now }
+        requires pieces { IsPiecesOf pieces.now self.now }
+        ensures of { IsCacheOf cache.new self.now }
+        ensures answer { IfOk result (EndsHere self.now pieces.now look_ahead) }
+        ensures effect { IsAnswerRunInStore self.now look_ahead pieces.now cache.old cache.new
+            (result_err result) }
     {
         reported_is_right(self.get_nfa());
         let Some(from) = self.resume_pieces(cache, pieces)? else {

@@ -4,11 +4,14 @@ ghost use Rattle.std.specs.Result.{result_err};
 ghost use Rattle.automata_hybrid.specs.Cache.Caches.{IsCacheOf};
 ghost use Rattle.automata_base.specs.Powersets.Powerset.{Powerset};
 ghost use Rattle.automata_hybrid.specs.Cache.Table.{IsRowId, Leads};
-ghost use Rattle.automata_hybrid.specs.Pieces.Progress.{IsBeginRun};
+ghost use Rattle.automata_hybrid.specs.Known.Pieces.{IsBeginRun, IsWalkCallRun, IsWalkEndRun};
+ghost use Rattle.automata_hybrid.specs.Known.Stores.{known_of};
 ghost use Rattle.automata_hybrid.specs.Pieces.State.{IsPiecesOf};
-ghost use Rattle.automata_hybrid.specs.Pieces.Walks.{HasBegunWalk, IsWalkCallRun, IsWalked};
+ghost use Rattle.automata_hybrid.specs.Pieces.Walks.{HasBegunWalk, IsWalked};
+ghost use Rattle.automata_hybrid.specs.Private.Pieces.Walks.{IsWalkCallRunInStore};
 ghost use Rattle.automata_hybrid.specs.Private.Pieces.Walks.{IsPiecesWalk, StandsInRow};
-ghost use Rattle.automata_hybrid.specs.Pieces.Walks.{EndsWith, IsWalkEndRun, patterns_here};
+ghost use Rattle.automata_hybrid.specs.Pieces.Walks.{EndsWith, patterns_here};
+ghost use Rattle.automata_hybrid.specs.Private.Pieces.Walks.{IsWalkEndRunInStore};
 
 use crate::cache::Cache;
 use crate::cache::handle::Handle;
@@ -16,7 +19,7 @@ use crate::dfa::DFA;
 use crate::id::LazyStateID;
 use crate::search::pieces::{BeginError, PieceEnd, Pieces, found_in};
 use automata_base::util::primitives::PatternID;
-use automata_base::util::search::{HalfMatch, MatchError};
+use automata_base::util::search::{HalfMatch, Input, MatchError};
 use automata_base::util::start;
 use automata_config::error::SearchError;
 use std::fmt;
@@ -163,8 +166,10 @@ impl DFA {
         ensures walk { IfOk result (λ w. IsPiecesOf w self.now) }
         ensures begun { IfOk result (HasBegunWalk self.now config.now.anchored config.now.look_behind) }
         ensures effect { IsBeginRun self.now config.now.anchored config.now.look_behind
-            cache.old cache.new (result_err result) }
+            (known_of cache.old) (known_of cache.new) (result_err result) }
     {
+        self.see_machine();
+        cache.see_bounds();
         match self.start_pieces(cache, config, true) {
             Ok(pieces) => Ok(PiecesWalk { pieces }),
             Err(error) => Err(error),
@@ -192,8 +197,12 @@ impl DFA {
         ensures walked { IfOk result (IsWalked self.now piece.now walk.old walk.new) }
         ensures unchanged { OnErr result (walk.new ≡ walk.old) }
         ensures effect { IsWalkCallRun self.now piece.now walk.old walk.new
-            cache.old cache.new (result_err result) }
+            (known_of cache.old) (known_of cache.new) (result_err result) }
     {
+        self.see_machine();
+        cache.see_bounds();
+        let whole = Input::new(piece);
+        let _haystack = whole.haystack();
         self.walk_pieces(cache, &mut walk.pieces, piece)
     }
 
@@ -211,7 +220,7 @@ impl DFA {
         ensures walk { IsPiecesOf pieces.new self.now × IsPiecesWalk pieces.new }
         ensures walked { IfOk result (IsWalked self.now piece.now pieces.old pieces.new) }
         ensures unchanged { OnErr result (pieces.new ≡ pieces.old) }
-        ensures effect { IsWalkCallRun self.now piece.now pieces.old pieces.new
+        ensures effect { IsWalkCallRunInStore self.now piece.now pieces.old pieces.new
             cache.old cache.new (result_err result) }
     {
         let Some(from) = self.resume_pieces(cache, pieces)? else {
@@ -252,8 +261,12 @@ impl DFA {
         requires walk { IsPiecesOf walk.now self.now }
         ensures of { IsCacheOf cache.new self.now }
         ensures ends { IfOk result (EndsWith self.now walk.now look_ahead) }
-        ensures effect { IsWalkEndRun self.now look_ahead walk.now cache.old cache.new (result_err result) }
+        ensures effect { IsWalkEndRun self.now look_ahead walk.now (known_of cache.old) (known_of cache.new)
+            (result_err result) }
     {
+        self.see_machine();
+        cache.see_bounds();
+        let _class = self.unit_class(look_ahead);
         self.end_pieces_walk(cache, &walk.pieces, look_ahead)
     }
 
@@ -268,7 +281,8 @@ impl DFA {
         requires pieces { IsPiecesOf pieces.now self.now }
         ensures of { IsCacheOf cache.new self.now }
         ensures ends { IfOk result (EndsWith self.now pieces.now look_ahead) }
-        ensures effect { IsWalkEndRun self.now look_ahead pieces.now cache.old cache.new (result_err result) }
+        ensures effect { IsWalkEndRunInStore self.now look_ahead pieces.now cache.old cache.new
+            (result_err result) }
     {
         let Some(from) = self.resume_pieces(cache, pieces)? else {
             return Ok(WalkEnd { held: None });

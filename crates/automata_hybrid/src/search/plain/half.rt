@@ -8,8 +8,12 @@ ghost use Rattle.automata_hybrid.specs.Searches.Contracts.{IsBased, IsHalf, IsUn
 ghost use Rattle.automata_hybrid.specs.Private.Searches.Contracts.{halves};
 ghost use Rattle.automata_hybrid.specs.Searches.Contracts.{unsupported_error};
 ghost use Rattle.automata_hybrid.specs.Private.Searches.PassContracts.{MayBegin, input_at};
+ghost use Rattle.automata_hybrid.specs.Private.Searches.Contracts.{IsSearchResult};
 ghost use Rattle.automata_hybrid.specs.Searches.Passes.{IsFound, WithoutBase};
-ghost use Rattle.automata_hybrid.specs.Searches.Progress.{HaveTried, IsSearchRun};
+ghost use Rattle.automata_hybrid.specs.Private.Searches.Progress.{HaveTriedInStore};
+ghost use Rattle.automata_hybrid.specs.Private.Searches.Progress.{IsSearchRunInStore};
+ghost use Rattle.automata_hybrid.specs.Known.Passes.{HaveTried, IsSearchRun};
+ghost use Rattle.automata_hybrid.specs.Known.Stores.{known_of};
 
 use crate::cache::Cache;
 use crate::dfa::DFA;
@@ -60,8 +64,10 @@ impl DFA {
         ensures found { IfOk result (WithoutBase (IsFound Forward self.now input.now)) }
 
         // What it does to the cache, and why it fails.
-        ensures effect { IsSearchRun Forward self.now input.now cache.old cache.new (result_err result) }
+        ensures effect { IsSearchRun Forward self.now input.now (known_of cache.old) (known_of cache.new)
+            (result_err result) }
     {
+        self.see_machine();
         reported_is_right(self.get_nfa());
         let _haystack = input.haystack();
         let found = self.search(cache, input, Direction::Forward);
@@ -85,10 +91,12 @@ impl DFA {
 
         // What it does to the cache, and why it fails; with an answer it makes no pass after the one over the span that
         // gave it.
-        ensures effect { IsSearchRun Forward self.now input.now cache.old cache.new (result_err result) }
+        ensures effect { IsSearchRun Forward self.now input.now (known_of cache.old) (known_of cache.new)
+            (result_err result) }
         ensures upto { IfOk result (λ o. IfSome o (λ p. HaveTried Forward self.now input.now
-            (p.1 - input.now.start + 1) cache.old cache.new)) }
+            (p.1 - input.now.start + 1) (known_of cache.old) (known_of cache.new))) }
     {
+        self.see_machine();
         reported_is_right(self.get_nfa());
         let _haystack = input.haystack();
         self.search(cache, input, Direction::Forward)
@@ -119,8 +127,10 @@ impl DFA {
         ensures found { IfOk result (WithoutBase (IsFound Backward self.now input.now)) }
 
         // What it does to the cache, and why it fails.
-        ensures effect { IsSearchRun Backward self.now input.now cache.old cache.new (result_err result) }
+        ensures effect { IsSearchRun Backward self.now input.now (known_of cache.old) (known_of cache.new)
+            (result_err result) }
     {
+        self.see_machine();
         reported_is_right(self.get_nfa());
         let _haystack = input.haystack();
         let found = self.search(cache, input, Direction::Backward);
@@ -138,9 +148,9 @@ impl DFA {
         requires { IsCacheOf cache.old self.now }
         ensures of { IsCacheOf cache.new self.now }
         ensures found { IfOk result (λ o. IsFound way self.now input.now (based_half o)) }
-        ensures effect { IsSearchRun way self.now input.now cache.old cache.new (result_err result) }
+        ensures effect { IsSearchRunInStore way self.now input.now cache.old cache.new (result_err result) }
         ensures upto { way ≡ Forward
-            → IfOk result (λ o. IfSome o (λ p. HaveTried Forward self.now input.now (p.1 - input.now.start + 1)
+            → IfOk result (λ o. IfSome o (λ p. HaveTriedInStore Forward self.now input.now (p.1 - input.now.start + 1)
             cache.old cache.new)) }
         ensures unsupported { IsUnsupported way self.now input.now
             → result ≡ Err (unsupported_error input.now) }
@@ -184,13 +194,8 @@ impl DFA {
     ) -> Result<Option<(HalfMatch, usize)>, SearchError>
         requires { MayBegin self.now cache.old (input_at haystack.now span anchored earliest) }
         ensures of { IsCacheOf cache.new self.now }
-        ensures found { IfOk result (λ o. IsFound way self.now
-            (input_at haystack.now span anchored earliest) (based_half o)) }
-        ensures effect { IsSearchRun way self.now
-            (input_at haystack.now span anchored earliest) cache.old cache.new (result_err result) }
-        ensures upto { way ≡ Forward
-            → IfOk result (λ o. IfSome o (λ p. HaveTried Forward self.now
-            (input_at haystack.now span anchored earliest) (p.1 - span.start + 1) cache.old cache.new)) }
+        ensures searched { IsSearchResult way self.now
+            (input_at haystack.now span anchored earliest) cache.old cache.new result }
         ensures unsupported { let input = input_at haystack.now span anchored earliest in
             IsUnsupported way self.now input → result ≡ Err (unsupported_error input) }
         ensures done { span.end < span.start → result ≡ Ok None }
@@ -212,11 +217,7 @@ impl DFA {
     ) -> Result<Option<(HalfMatch, usize)>, SearchError>
         requires { IsCacheOf cache.old self.now }
         ensures of { IsCacheOf cache.new self.now }
-        ensures found { IfOk result (λ o. IsFound way self.now input.now (based_half o)) }
-        ensures effect { IsSearchRun way self.now input.now cache.old cache.new (result_err result) }
-        ensures upto { way ≡ Forward
-            → IfOk result (λ o. IfSome o (λ p. HaveTried Forward self.now input.now (p.1 - input.now.start + 1)
-            cache.old cache.new)) }
+        ensures searched { IsSearchResult way self.now input.now cache.old cache.new result }
         ensures unsupported { IsUnsupported way self.now input.now
             → result ≡ Err (unsupported_error input.now) }
         ensures done { input.now.end < input.now.start → result ≡ Ok None }

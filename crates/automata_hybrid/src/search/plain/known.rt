@@ -8,7 +8,7 @@ ghost use Rattle.automata_hybrid.specs.Searches.PassContracts.{IsUnderway};
 ghost use Rattle.automata_hybrid.specs.Private.Searches.PassContracts.{IsKnownEnd, IsKnownUpto};
 ghost use Rattle.automata_hybrid.specs.Private.Searches.PassState.{IsMet, IsNextCell};
 ghost use Rattle.automata_hybrid.specs.Searches.Passes.{state_in, tape_in};
-ghost use Rattle.automata_hybrid.specs.Searches.Progress.{HasItsStart};
+ghost use Rattle.automata_hybrid.specs.Private.Searches.Progress.{HasItsStart};
 ghost use Rattle.automata_hybrid.specs.Steps.Starts.{IsStartAnswer};
 ghost use Rattle.automata_hybrid.specs.Steps.Steps.{IsStepAnswer, known_step};
 ghost use Rattle.automata_hybrid.specs.Machines.Machine.{unit_class};

@@ -1,7 +1,6 @@
 //! One run over the span of an input, in either direction.
-ghost use Rattle.std.specs.Prelude.{true, ℕ, ◌≡◌, ◌-◌, ◌<◌, ◌≤◌, Option, IfOk, IfErr, OnOk};
+ghost use Rattle.std.specs.Prelude.{true, ℕ, ◌≡◌, ◌-◌, ◌<◌, ◌≤◌, Option};
 ghost use Rattle.std.specs.Prelude.{None, Err};
-ghost use Rattle.std.specs.Result.{result_err};
 ghost use Rattle.automata_base.specs.Answers.Answers.{offset_in};
 ghost use Rattle.automata_base.specs.Haystacks.Input.{Allows};
 ghost use Rattle.automata_base.specs.Haystacks.Matches.{HalfMatch};
@@ -10,9 +9,8 @@ ghost use Rattle.automata_base.specs.Powersets.Powerset.{Powerset, dead};
 ghost use Rattle.automata_hybrid.specs.Cache.Ids.{HasMatchTag, unknown_id};
 ghost use Rattle.automata_hybrid.specs.Cache.Caches.{IsCacheOf};
 ghost use Rattle.automata_hybrid.specs.Searches.Contracts.{IsUnsupported, unsupported_error};
-ghost use Rattle.automata_hybrid.specs.Searches.PassContracts.{IsPassAnswer};
 ghost use Rattle.automata_hybrid.specs.Private.Searches.PassContracts.{IsKnownUpto};
-ghost use Rattle.automata_hybrid.specs.Private.Searches.PassContracts.{IsTakenUp, half_if};
+ghost use Rattle.automata_hybrid.specs.Private.Searches.PassContracts.{IsLastRead, IsPassResult, IsRest, IsTakenUp, half_if};
 ghost use Rattle.automata_hybrid.specs.Searches.PassContracts.{IsUnderway};
 ghost use Rattle.automata_hybrid.specs.Private.Searches.PassContracts.{input_at};
 ghost use Rattle.automata_hybrid.specs.Searches.PassState.{IsAtAlong, half_at};
@@ -20,10 +18,6 @@ ghost use Rattle.automata_hybrid.specs.Private.Searches.PassState.{HasRun, IsMet
 ghost use Rattle.automata_hybrid.specs.Private.Searches.PassContracts.{RunsAlong};
 ghost use Rattle.automata_hybrid.specs.Searches.Traces.{Trace};
 ghost use Rattle.automata_hybrid.specs.Private.Searches.Traces.{IsTrace};
-ghost use Rattle.automata_hybrid.specs.Private.Searches.Units.{IsEndProgress};
-ghost use Rattle.automata_hybrid.specs.Searches.Progress.{EndsAtLast, IsStoppedAt};
-ghost use Rattle.automata_hybrid.specs.Private.Searches.Progress.{IsPassRun};
-ghost use Rattle.automata_hybrid.specs.Searches.Passes.{IsUnitError};
 ghost use Rattle.automata_hybrid.specs.Cache.Table.{IsRowId, Names};
 
 use crate::cache::Cache;
@@ -117,10 +111,9 @@ impl DFA {
         requires of { IsCacheOf cache.old self.now }
         requires open { input.now.start ≤ input.now.end }
         ensures of { IsCacheOf cache.new self.now }
-        ensures answer { IfOk result (IsPassAnswer way self.now input.now) }
+        ensures passed { IsPassResult way self.now input.now cache.old cache.new result }
         ensures unsupported { IsUnsupported way self.now input.now
             → result ≡ Err (unsupported_error input.now) }
-        ensures effect { IsPassRun way self.now input.now cache.old cache.new (result_err result) }
     {
         cache.see_bounds();
         let start = self.known_start(cache, input, way);
@@ -178,12 +171,10 @@ impl DFA {
         requires allowed { Allows haystack.now span.start span.end }
         requires open { span.start ≤ span.end }
         ensures of { IsCacheOf cache.new self.now }
-        ensures answer { IfOk result (IsPassAnswer way self.now
-            (input_at haystack.now span anchored earliest)) }
+        ensures passed { IsPassResult way self.now
+            (input_at haystack.now span anchored earliest) cache.old cache.new result }
         ensures unsupported { let input = input_at haystack.now span anchored earliest in
             IsUnsupported way self.now input → result ≡ Err (unsupported_error input) }
-        ensures effect { IsPassRun way self.now
-            (input_at haystack.now span anchored earliest) cache.old cache.new (result_err result) }
     {
         let own = input_of(haystack, span, anchored, earliest);
         self.begin(cache, &own, way)
@@ -200,10 +191,9 @@ impl DFA {
         requires of { IsCacheOf cache.old self.now }
         requires open { input.now.start ≤ input.now.end }
         ensures of { IsCacheOf cache.new self.now }
-        ensures answer { IfOk result (IsPassAnswer way self.now input.now) }
+        ensures passed { IsPassResult way self.now input.now cache.old cache.new result }
         ensures unsupported { IsUnsupported way self.now input.now
             → result ≡ Err (unsupported_error input.now) }
-        ensures effect { IsPassRun way self.now input.now cache.old cache.new (result_err result) }
     {
         cache.see_bounds();
         let start = match self.walk_start(cache, input, way) {
@@ -308,12 +298,8 @@ impl DFA {
         requires missing { missing ≡ true → IsNextCell way self.now cache.old.store
             (input_at haystack.now span anchored earliest) from start unknown_id }
         ensures of { IsCacheOf cache.new self.now }
-        ensures answer { IfOk result (IsPassAnswer way self.now
-            (input_at haystack.now span anchored earliest)) }
-        ensures ended { OnOk result (EndsAtLast way self.now
-            (input_at haystack.now span anchored earliest) cache.old cache.new) }
-        ensures left { IfErr result (IsStoppedAt way self.now
-            (input_at haystack.now span anchored earliest) cache.old cache.new) }
+        ensures rest { IsRest way self.now
+            (input_at haystack.now span anchored earliest) cache.old cache.new result }
     {
         let own = input_of(haystack, span, anchored, earliest);
         let next = if missing {
@@ -348,9 +334,7 @@ impl DFA {
         requires next { from.at < input.now.end - input.now.start
             → IsNextCell way self.now cache.old.store input.now from.at from.id from.next }
         ensures of { IsCacheOf cache.new self.now }
-        ensures answer { IfOk result (IsPassAnswer way self.now input.now) }
-        ensures ended { OnOk result (EndsAtLast way self.now input.now cache.old cache.new) }
-        ensures left { IfErr result (IsStoppedAt way self.now input.now cache.old cache.new) }
+        ensures rest { IsRest way self.now input.now cache.old cache.new result }
     {
         cache.see_bounds();
         let last = last_place(input);
@@ -513,12 +497,8 @@ impl DFA {
         requires at { IsUnderway way self.now cache.old.store.table input.now (input.now.end - input.now.start)
             id found }
         ensures of { IsCacheOf cache.new self.now }
-        ensures answer { IfOk result (IsPassAnswer way self.now input.now) }
-        ensures refusal { IfErr result
-            (IsUnitError way self.now cache.new.store input.now (input.now.end - input.now.start)) }
         ensures alive { (q : Powerset) → Names cache.old.store.table id q → q ≡ dead → ⊥ }
-        ensures progress { IsEndProgress way self.now input.now (input.now.end - input.now.start)
-            cache.old cache.new result }
+        ensures last { IsLastRead way self.now input.now cache.old cache.new result }
     {
         cache.see_bounds();
         let last = last_place(input);

@@ -1,20 +1,17 @@
 //! How a walk goes on, in either direction, to the next state whose patterns match.
-ghost use Rattle.std.specs.Prelude.{ℕ, ◌≡◌, ◌-◌, ◌<◌, ◌≤◌, ◌⊎◌, IfOk, IfErr, OnOk, Some, []};
-ghost use Rattle.std.specs.Prelude.{true, false, suc, length};
+ghost use Rattle.std.specs.Prelude.{◌≡◌, ◌-◌, ◌<◌, ◌≤◌, ◌⊎◌, Some, []};
+ghost use Rattle.std.specs.Prelude.{true, false, length};
 ghost use Rattle.automata_base.specs.Answers.Answers.{offset_in};
-ghost use Rattle.automata_base.specs.ByteClasses.Classes.{is_quit};
-ghost use Rattle.automata_base.specs.Paths.Paths.{next};
 ghost use Rattle.automata_base.specs.Powersets.Powerset.{Powerset};
 ghost use Rattle.automata_base.specs.Haystacks.Tapes.{is_split};
 ghost use Rattle.automata_hybrid.specs.Cache.Caches.{IsCacheOf};
 ghost use Rattle.automata_hybrid.specs.Private.Searches.PassContracts.{FollowsTo};
 ghost use Rattle.automata_hybrid.specs.Private.Searches.PassState.{IsFollowed, IsMet};
-ghost use Rattle.automata_hybrid.specs.Private.Walks.Parts.{IsAdvanceEffect, IsUnitEffect, StandsAfterUnits};
-ghost use Rattle.automata_hybrid.specs.Searches.Passes.{HasReadNoQuit, IsUnitError, Skips};
-ghost use Rattle.automata_hybrid.specs.Searches.Passes.{state_in, tape_in, unit_offset};
-ghost use Rattle.automata_hybrid.specs.Cache.Table.{IsRowId, Leads, Names};
+ghost use Rattle.automata_hybrid.specs.Private.Walks.Parts.{IsAdvanceResult, IsUnitResult, StandsAfterUnits};
+ghost use Rattle.automata_hybrid.specs.Searches.Passes.{HasReadNoQuit, Skips};
+ghost use Rattle.automata_hybrid.specs.Searches.Passes.{state_in, unit_offset};
+ghost use Rattle.automata_hybrid.specs.Cache.Table.{IsRowId, Names};
 ghost use Rattle.automata_hybrid.specs.Walks.Answers.{WalkReads};
-ghost use Rattle.automata_hybrid.specs.Private.Walks.Answers.{IsArrival};
 
 use crate::cache::Cache;
 use crate::dfa::DFA;
@@ -53,13 +50,8 @@ impl DFA {
         requires at { StandsAfterUnits way self.now cache.old.store.table input.now place id }
         requires met { IsMet way self.now cache.old.store input.now place id met }
         ensures of { IsCacheOf cache.new self.now }
-        ensures leads { IfOk result (λ n. Leads cache.new.store.table n
-            (state_in way self.now input.now (suc place))) }
-        ensures clean { OnOk result ((byte : ℕ) → next (tape_in way input.now) place ≡ Some byte
-            → is_quit self.now.quits byte ≡ false) }
         ensures reads { WalkReads way self.now input.now place }
-        ensures refusal { IfErr result (IsUnitError way self.now cache.new.store input.now place) }
-        ensures effect { IsUnitEffect way self.now input.now place cache.old cache.new result }
+        ensures unit { IsUnitResult way self.now input.now place cache.old cache.new result }
     {
         cache.see_bounds();
         let at = span_offset(input, way, place);
@@ -223,9 +215,7 @@ impl DFA {
         requires from { StandsAfterUnits way self.now cache.old.store.table input.now units from }
         requires clean { HasReadNoQuit way self.now input.now units }
         ensures of { IsCacheOf cache.new self.now }
-        ensures arrives { IfOk result (λ a. IsArrival way self.now cache.new.store.table input.now units a.id
-            a.units) }
-        ensures effect { IsAdvanceEffect way self.now input.now units cache.old cache.new result }
+        ensures advanced { IsAdvanceResult way self.now input.now units cache.old cache.new result }
     {
         let _haystack = input.haystack();
         cache.see_bounds();

@@ -7,15 +7,20 @@ ghost use Rattle.automata_base.specs.declared.util.search.Direction.TheVariants.
 ghost use Rattle.automata_hybrid.specs.Private.Cache.Growth.{AddFails};
 ghost use Rattle.automata_hybrid.specs.Cache.Caches.{IsCacheOf};
 ghost use Rattle.automata_hybrid.specs.Walks.Contracts.{IsWalkCall};
-ghost use Rattle.automata_hybrid.specs.Private.Walks.Parts.{HoldsOn, IsCallAnswer, IsHeldWalk, IsKeptWalk};
+ghost use Rattle.automata_hybrid.specs.Private.Walks.Parts.{HoldsOn, IsCallResult, IsHeldWalk, IsKeptWalk};
 ghost use Rattle.automata_hybrid.specs.Private.Walks.Parts.{IsResumeAnswer, ReadsNext};
-ghost use Rattle.automata_hybrid.specs.Walks.Progress.{HasItsRow, IsNotResumed, IsResumed, IsWalkRun};
+ghost use Rattle.automata_hybrid.specs.Private.Walks.Progress.{HasItsRow, IsNotResumedInStore, IsResumed};
+ghost use Rattle.automata_hybrid.specs.Private.Walks.Progress.{IsWalkRunInStore};
+ghost use Rattle.automata_hybrid.specs.Known.Stores.{known_of};
+ghost use Rattle.automata_hybrid.specs.Known.Walks.{IsWalkRun};
 ghost use Rattle.automata_hybrid.specs.Searches.Passes.{tape_in};
 ghost use Rattle.automata_hybrid.specs.Steps.Starts.{MayStart};
-ghost use Rattle.automata_hybrid.specs.Cache.Table.{IsKnownState, IsRowState, Names};
+ghost use Rattle.automata_hybrid.specs.Cache.Table.{IsRowState, Names};
+ghost use Rattle.automata_hybrid.specs.Private.Cache.Table.{IsKnownState};
 ghost use Rattle.automata_hybrid.specs.Walks.Answers.{HasReported, HasReportedBy};
 ghost use Rattle.automata_hybrid.specs.Private.Walks.Answers.{Arrives};
-ghost use Rattle.automata_hybrid.specs.Walks.Answers.{IsResumeError, IsWalkOf};
+ghost use Rattle.automata_hybrid.specs.Walks.Answers.{IsWalkOf};
+ghost use Rattle.automata_hybrid.specs.Private.Walks.Answers.{IsResumeError};
 ghost use Rattle.automata_hybrid.specs.Walks.Answers.{ReportsNext};
 ghost use Rattle.automata_hybrid.specs.Walks.State.{At, Ended, States, without_match};
 ghost use Rattle.automata_hybrid.specs.Private.Walks.State.{IsHeldAt, keeping_of};
@@ -62,7 +67,7 @@ impl DFA {
 
         // What it does to the cache, and why it fails.
         ensures effect { IsWalkRun States Forward self.now input.now state.old state.new
-            cache.old cache.new (result_err result) }
+            (known_of cache.old) (known_of cache.new) (result_err result) }
     {
         self.try_search_overlapping(cache, input, Direction::Forward, state)
     }
@@ -85,7 +90,7 @@ impl DFA {
 
         // What it does to the cache, and why it fails.
         ensures effect { IsWalkRun States Backward self.now input.now state.old state.new
-            cache.old cache.new (result_err result) }
+            (known_of cache.old) (known_of cache.new) (result_err result) }
     {
         self.try_search_overlapping(cache, input, Direction::Backward, state)
     }
@@ -132,7 +137,7 @@ impl DFA {
         ensures refusal { IfErr result
             (IsResumeError way self.now cache.new.store input.now walk.now.stage walk.now.units) }
         ensures resumed { OnOk result (IsResumed way self.now input.now walk.now.stage cache.old cache.new) }
-        ensures left { OnErr result (IsNotResumed way self.now input.now walk.now.stage cache.old cache.new) }
+        ensures left { OnErr result (IsNotResumedInStore way self.now input.now walk.now.stage cache.old cache.new) }
     {
         cache.see_bounds();
         if walk.is_fresh() {
@@ -164,11 +169,10 @@ impl DFA {
         requires of { IsCacheOf cache.old self.now }
         requires walk { ReadsNext way self.now input.now cache.old.store.table walk.old held.old }
         ensures of { IsCacheOf cache.new self.now }
-        ensures answer { OnOk result (IsCallAnswer way self.now input.now walk.old walk.new) }
         ensures held { OnOk result (HoldsOn cache.new.store.table walk.new held.old held.new) }
         ensures err { OnErr result ((walk.new ≡ walk.old) × (held.new ≡ held.old)) }
-        ensures effect { IsWalkRun (keeping_of held.old) way self.now input.now walk.old walk.new
-            cache.old cache.new (result_err result) }
+        ensures called { IsCallResult (keeping_of held.old) way self.now input.now walk.old walk.new
+            cache.old cache.new result }
     {
         let _skips = self.skips();
         cache.see_bounds();
@@ -236,8 +240,10 @@ impl DFA {
         ensures walk { IsWalkOf way self.now input.now walk.new }
         ensures call { IsWalkCall way self.now input.now walk.old walk.new result }
         ensures effect { IsWalkRun States way self.now input.now walk.old walk.new
-            cache.old cache.new (result_err result) }
+            (known_of cache.old) (known_of cache.new) (result_err result) }
     {
+        self.see_machine();
+        let _haystack = input.haystack();
         self.call_held(cache, input, way, &mut walk.cursor, &mut walk.held)
     }
 
@@ -255,7 +261,7 @@ impl DFA {
         ensures of { IsCacheOf cache.new self.now }
         ensures walk { IsKeptWalk way self.now input.now walk.new held.new }
         ensures call { IsWalkCall way self.now input.now walk.old walk.new result }
-        ensures effect { IsWalkRun States way self.now input.now walk.old walk.new
+        ensures effect { IsWalkRunInStore States way self.now input.now walk.old walk.new
             cache.old cache.new (result_err result) }
     {
         walk_is_right(self.get_nfa());
@@ -282,11 +288,10 @@ impl DFA {
         requires of { IsCacheOf cache.old self.now }
         requires walk { IsHeldWalk way self.now input.now cache.old.store.table walk.old held.old }
         ensures of { IsCacheOf cache.new self.now }
-        ensures answer { OnOk result (IsCallAnswer way self.now input.now walk.old walk.new) }
         ensures held { OnOk result (HoldsOn cache.new.store.table walk.new held.old held.new) }
         ensures err { OnErr result ((walk.new ≡ without_match walk.old) × (held.new ≡ held.old)) }
-        ensures effect { IsWalkRun (keeping_of held.old) way self.now input.now walk.old walk.new
-            cache.old cache.new (result_err result) }
+        ensures called { IsCallResult (keeping_of held.old) way self.now input.now walk.old walk.new
+            cache.old cache.new result }
     {
         cache.see_bounds();
         walk.forget_match();

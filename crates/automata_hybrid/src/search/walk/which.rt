@@ -4,7 +4,9 @@ ghost use Rattle.std.specs.Result.{result_err};
 ghost use Rattle.automata_hybrid.specs.Cache.Caches.{IsCacheOf};
 ghost use Rattle.automata_hybrid.specs.Walks.Contracts.{IsWhich, JoinsReported};
 ghost use Rattle.automata_hybrid.specs.Private.Walks.Contracts.{IsSetReported};
-ghost use Rattle.automata_hybrid.specs.Walks.Progress.{IsSetRun};
+ghost use Rattle.automata_hybrid.specs.Known.Stores.{known_of};
+ghost use Rattle.automata_hybrid.specs.Known.Walks.{IsSetRun};
+ghost use Rattle.automata_hybrid.specs.Private.Walks.Progress.{IsSetRunInStore};
 
 use crate::cache::Cache;
 use crate::dfa::DFA;
@@ -39,8 +41,11 @@ impl DFA {
         ensures found { OnOk result (JoinsReported self.now input.now patset.old patset.new) }
 
         // What it does to the cache, why it fails, and what the set has then.
-        ensures effect { IsSetRun self.now input.now patset.old patset.new cache.old cache.new (result_err result) }
+        ensures effect { IsSetRun self.now input.now patset.old patset.new (known_of cache.old) (known_of cache.new)
+            (result_err result) }
     {
+        self.see_machine();
+        let _haystack = input.haystack();
         self.collect(cache, input, patset)
     }
 
@@ -54,7 +59,8 @@ impl DFA {
         requires { IsCacheOf cache.old self.now }
         ensures of { IsCacheOf cache.new self.now }
         ensures reported { IsSetReported self.now input.now patset.old patset.new result }
-        ensures effect { IsSetRun self.now input.now patset.old patset.new cache.old cache.new (result_err result) }
+        ensures effect { IsSetRunInStore self.now input.now patset.old patset.new cache.old cache.new
+            (result_err result) }
         ensures inside { input.now.end ≤ length input.now.haystack }
     {
         walk_is_right(self.get_nfa());

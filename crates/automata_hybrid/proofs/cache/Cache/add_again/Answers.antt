@@ -1,7 +1,7 @@
 use Rattle.std.proofs.Common.{◌∙◌, ap, subst}
 use Rattle.automata_base.specs.Powersets.Powerset.{Powerset}
 use Rattle.automata_hybrid.specs.Cache.Caches.{CacheView}
-use Rattle.automata_hybrid.specs.Cache.Growth.{PutsBack}
+use Rattle.automata_hybrid.specs.Private.Cache.Growth.{PutsBack}
 use Rattle.automata_hybrid.proofs.cache.Cache.add_again.Goals as goal
 
 pub returns-clause-of : goal.returns-clause-of

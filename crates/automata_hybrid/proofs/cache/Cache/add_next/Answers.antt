@@ -1,8 +1,8 @@
 use Rattle.std.proofs.Common.{ℕ, ◌≡◌, false, refl, sym, subst}
 use Rattle.automata_base.specs.Powersets.Powerset.{Powerset}
 use Rattle.automata_hybrid.specs.Cache.Caches.{CacheView}
-use Rattle.automata_hybrid.specs.Cache.Usage.{Fits}
-use Rattle.automata_hybrid.specs.Cache.Changes.{grown}
+use Rattle.automata_hybrid.specs.Private.Cache.Usage.{Fits}
+use Rattle.automata_hybrid.specs.Private.Cache.Changes.{grown}
 use Rattle.automata_hybrid.specs.Private.Cache.Changes.{AddsNext}
 use Rattle.automata_hybrid.specs.Cache.Table.{Names}
 use Rattle.automata_hybrid.specs.declared.cache.Cache.TheInside.{Inside}

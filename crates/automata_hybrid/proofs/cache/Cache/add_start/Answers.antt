@@ -1,8 +1,8 @@
 use Rattle.std.proofs.Common.{◌≡◌, refl, sym, subst}
 use Rattle.automata_hybrid.specs.declared.cache.row.Row.{Row}
 use Rattle.automata_hybrid.specs.Cache.Caches.{CacheView}
-use Rattle.automata_hybrid.specs.Cache.Usage.{Fits, cleared}
-use Rattle.automata_hybrid.specs.Cache.Changes.{grown}
+use Rattle.automata_hybrid.specs.Private.Cache.Usage.{Fits, cleared}
+use Rattle.automata_hybrid.specs.Private.Cache.Changes.{grown}
 use Rattle.automata_hybrid.specs.Private.Cache.Changes.{AddsRow}
 use Rattle.automata_hybrid.specs.declared.cache.Cache.TheInside.{Inside}
 use Rattle.automata_hybrid.proofs.Caches.Additions.{start_fits}

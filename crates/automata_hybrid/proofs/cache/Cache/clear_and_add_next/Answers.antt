@@ -2,11 +2,11 @@ use Rattle.std.proofs.Common.{◌≡◌, ◌∙◌, sym, subst, None}
 use Rattle.automata_hybrid.specs.declared.cache.Cache.TheInside.{Inside}
 use Rattle.automata_hybrid.specs.Cache.Caches.{CacheView}
 use Rattle.automata_base.specs.Powersets.Powerset.{cost}
-use Rattle.automata_hybrid.specs.Cache.Usage.{Fits}
-use Rattle.automata_hybrid.specs.Cache.Changes.{put_found}
+use Rattle.automata_hybrid.specs.Private.Cache.Usage.{Fits}
+use Rattle.automata_hybrid.specs.Private.Cache.Changes.{put_found}
 use Rattle.automata_hybrid.specs.Private.Cache.Changes.{AddsNext}
 use Rattle.automata_hybrid.specs.Cache.Clears.{row_of}
-use Rattle.automata_hybrid.specs.Cache.Stores.{with_table}
+use Rattle.automata_hybrid.specs.Private.Cache.Stores.{with_table}
 use Rattle.automata_hybrid.specs.Cache.Table.{Names, id_of}
 use Rattle.automata_hybrid.specs.Private.Cache.Table.{IsNewState}
 use Rattle.automata_hybrid.proofs.Caches.Additions.{new_there, next_clears}

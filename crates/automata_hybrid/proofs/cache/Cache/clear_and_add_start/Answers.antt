@@ -2,7 +2,7 @@ use Rattle.std.proofs.Common.{sym, subst}
 use Rattle.automata_hybrid.specs.declared.cache.row.Row.{Row}
 use Rattle.automata_hybrid.specs.Cache.Caches.{CacheView}
 use Rattle.automata_base.specs.Powersets.Powerset.{cost}
-use Rattle.automata_hybrid.specs.Cache.Usage.{Fits, cleared}
+use Rattle.automata_hybrid.specs.Private.Cache.Usage.{Fits, cleared}
 use Rattle.automata_hybrid.specs.Private.Cache.Changes.{AddsRow}
 use Rattle.automata_hybrid.specs.Private.Cache.Table.{IsNewState}
 use Rattle.automata_hybrid.proofs.Caches.Additions.{new_there, start_clears}

@@ -4,7 +4,7 @@ use Rattle.automata_hybrid.specs.Cache.Caches.{CacheView, counted}
 use Rattle.automata_hybrid.specs.Private.Cache.LookUps.{IsLookedUp}
 use Rattle.automata_hybrid.specs.Cache.Table.{Leads, Names}
 use Rattle.automata_hybrid.specs.Private.Cache.Table.{IsNewState}
-use Rattle.automata_hybrid.specs.Cache.Usage.{GivesUp}
+use Rattle.automata_hybrid.specs.Private.Cache.Usage.{GivesUpInStore}
 use Rattle.automata_hybrid.specs.declared.cache.Found.TheVariants.{Known, New}
 use Rattle.automata_hybrid.proofs.Caches.Additions.{looked_up, new_state}
 use Rattle.automata_hybrid.proofs.Steps.Steps.{ComputesStep, computed_answer, computed_run, computes_known}
@@ -70,8 +70,8 @@ returns-in_err-from-in-New-clause-refusal c =
     let same : c.resolve.new.self ≡ counted c.args.self.now = c.resolve.ensures.same ∙ c.determinize.ensures.counted in
     let found : IsLookedUp c.resolve.new.self.store.table c.in_ok-key.key (New c.in-New.state) = looked_up c.determinize.new.self c.resolve.new.self c.in_ok-key.key _ (New c.in-New.state) c.resolve.ensures.same c.in-New.is c.in_ok-to.ensures.found in
     if_err c.from_residual-in_err-from-in-New.result _ _ c.from_residual-in_err-from-in-New.ensures.1 (record {
-      gives_up = λ cache q named. subst (GivesUp c.args.self.now.store) (found.0 ∙ c.in_ok-key.ensures.value q named)
-          (subst (λ (v : CacheView). GivesUp v.store c.in-New.state) same (c.in_err-from-in-New.ensures.refused.gives_up.0 cache));
+      gives_up = λ cache q named. subst (GivesUpInStore c.args.self.now.store) (found.0 ∙ c.in_ok-key.ensures.value q named)
+          (subst (λ (v : CacheView). GivesUpInStore v.store c.in-New.state) same (c.in_err-from-in-New.ensures.refused.gives_up.0 cache));
       low = c.see_bounds.ensures.sound.low c.args.id c.requires.valid.0 c.requires.valid.1;
       clean = c.requires.clean;
       fails = λ q n. record {

@@ -1,9 +1,9 @@
 use Rattle.std.proofs.Common.{◌∙◌, ◌^◌, ◌<◌, ◌≤◌, ap, arith, subst, sym}
 use Rattle.std.proofs.lemmas.Grind.{common_steps}
 use Rattle.automata_hybrid.specs.Machines.Machine.{Machine}
-use Rattle.automata_hybrid.specs.Calls.Steps.{StartFails}
-use Rattle.automata_hybrid.specs.Steps.Starts.{KnowsStart}
-use Rattle.automata_hybrid.specs.Cache.Stores.{IsKnownStart}
+use Rattle.automata_hybrid.specs.Private.Calls.Steps.{StartFailsInStore}
+use Rattle.automata_hybrid.specs.Private.Steps.Starts.{KnowsStart}
+use Rattle.automata_hybrid.specs.Private.Cache.Stores.{IsKnownStart}
 use Rattle.automata_hybrid.proofs.Steps.Starts.{knows_slot, known_answer, known_run}
 use Rattle.automata_hybrid.proofs.Searches.Contracts.{is_store}
 use Rattle.automata_hybrid.proofs.cache.Cache.start.Goals as goal
@@ -31,4 +31,4 @@ compute_start-requires-clause-unknown c = λ knows.
 
 pub returns-in-Err-clause-refusal : goal.returns-in-Err-clause-refusal
 returns-in-Err-clause-refusal c =
-    subst (StartFails c.args.dfa.now c.args.mode c.args.prev c.args.self.now c.compute_start.new.self) (sym c.start_error.ensures) c.in-Err.ensures.refusal
+    subst (StartFailsInStore c.args.dfa.now c.args.mode c.args.prev c.args.self.now c.compute_start.new.self) (sym c.start_error.ensures) c.in-Err.ensures.refusal

@@ -1,4 +1,4 @@
-use Rattle.std.proofs.Common.{ℕ, suc, ◌≡◌, ◌<◌, ◌+◌, ◌-◌, inl, inr, length, refl, sym, subst, arith, ⊎_elim}
+use Rattle.std.proofs.Common.{ℕ, suc, ◌≡◌, ◌<◌, ◌+◌, ◌-◌, inl, inr, length, None, Some, refl, sym, subst, arith, ⊎_elim}
 use Rattle.std.specs.Prelude.{Result}
 use Rattle.automata_base.specs.Powersets.Powerset.{dead}
 use Rattle.automata_base.specs.declared.util.search.Direction.{Direction}
@@ -6,13 +6,13 @@ use Rattle.automata_config.specs.declared.error.SearchError.{SearchError}
 use Rattle.automata_hybrid.specs.declared.search.walk.advance.Arrival.{Arrival}
 use Rattle.automata_hybrid.specs.Cache.Caches.{CacheView}
 use Rattle.automata_hybrid.specs.Private.Searches.PassState.{IsFollowed}
-use Rattle.automata_hybrid.specs.Private.Walks.Parts.{IsAdvanceEffect}
+use Rattle.automata_hybrid.specs.Private.Walks.Parts.{IsAdvanceResult}
 use Rattle.automata_hybrid.specs.Searches.Passes.{HasReadNoQuit, state_in, tape_in}
 use Rattle.automata_hybrid.specs.Cache.Table.{Names}
 use Rattle.automata_hybrid.specs.Walks.Answers.{IsSilent, WalkReads}
 use Rattle.automata_hybrid.proofs.Searches.Runs.{followed_clean, followed_on, followed_silent, follows_none}
 use Rattle.automata_hybrid.proofs.Searches.Reads.{at_err}
-use Rattle.automata_hybrid.proofs.Walks.Progress.{arrived_read, call_stopped}
+use Rattle.automata_hybrid.proofs.Walks.Progress.{has_advanced, call_stopped}
 use Rattle.automata_hybrid.proofs.Searches.Goes.{GoesTo, goes_more, goes_none, goes_on}
 use Rattle.automata_hybrid.proofs.Searches.PassState.{false_true}
 use Rattle.automata_hybrid.proofs.Steps.Ids.{dead_tagged}
@@ -42,8 +42,8 @@ loop-read-preserved c =
     let k : ℕ = c.walk_far-stop.result.0.at in
     let f : IsFollowed d c.args.self.now c.walk_far-stop.new.cache.store c.args.input.now 0 c.loop-read.read k c.walk_far-stop.result.0.id = (followed_on (subst (λ (v : CacheView). IsFollowed d c.args.self.now v.store c.args.input.now 0 c.loop-read.read c.follow_walk-near.result.at c.follow_walk-near.result.id) (sym c.walk_far-stop.ensures.same) c.follow_walk-near.ensures.followed) c.walk_far-stop.ensures.far.followed) in
     let more : suc k ≡ k + 1 = omega arith in
-    let named : Names c.read_unit.new.cache.store.table c.in_ok-next.next (state_in d c.args.self.now c.args.input.now (suc k)) = (dead_tagged c.read_unit.new.cache.store.table c.in_ok-next.next (c.see_bounds-in-loop-read.ensures.sound.low c.in_ok-next.next) c.see_bounds-in-loop-read.ensures.sound.small _ c.in_ok-next.ensures.leads).1 (λ b. false_true (c.if-is_dead.ensures.1 b)) in
-    let clean : HasReadNoQuit d c.args.self.now c.args.input.now (suc k) = clean_more d c.args.self.now c.args.input.now k (followed_clean f c.loop-read.invariant.clean) c.in_ok-next.ensures.clean in
+    let named : Names c.read_unit.new.cache.store.table c.in_ok-next.next (state_in d c.args.self.now c.args.input.now (suc k)) = (dead_tagged c.read_unit.new.cache.store.table c.in_ok-next.next (c.see_bounds-in-loop-read.ensures.sound.low c.in_ok-next.next) c.see_bounds-in-loop-read.ensures.sound.small _ c.in_ok-next.ensures.unit.leads).1 (λ b. false_true (c.if-is_dead.ensures.1 b)) in
+    let clean : HasReadNoQuit d c.args.self.now c.args.input.now (suc k) = clean_more d c.args.self.now c.args.input.now k (followed_clean f c.loop-read.invariant.clean) c.in_ok-next.ensures.unit.clean in
     let silent : IsSilent d c.args.self.now c.args.input.now c.args.units (suc k) =
     silent_step d c.args.self.now c.args.input.now c.args.units k (followed_silent f c.loop-read.invariant.silent)
     (⊎_elim (λ s. inl s) (λ none. inr (none (state_in d c.args.self.now c.args.input.now (suc k)) named)) (c.reports.ensures.no c.if-reports.false)) in
@@ -58,107 +58,75 @@ loop-read-preserved c =
           (goes_more d c.args.self.now c.args.input.now c.args.units c.args.cache.now k c.walk_far-stop.new.cache c.read_unit.new.cache
           (goes_on d c.args.self.now c.args.input.now c.args.units c.args.cache.now (is_store c.args.cache.now.store c.args.self.now c.requires.of c.see_bounds.ensures.bounds) c.loop-read.read k c.walk_far-stop.new.cache
           (subst (λ (v : CacheView). GoesTo d c.args.self.now c.args.input.now c.args.units c.loop-read.read c.args.cache.now v) (sym c.walk_far-stop.ensures.same) c.loop-read.invariant.progress)
-          f.more (followed_clean f c.loop-read.invariant.clean) (λ j l h. (f.taken j l h).known)) c.in_ok-next.ensures.effect.read);
+          f.more (followed_clean f c.loop-read.invariant.clean) (λ j l h. (f.taken j l h).known)) c.in_ok-next.ensures.unit.read);
       reads = λ less. (k, sym more, c.in_ok-next.ensures.reads);
       upto = c.walk_far-stop.ensures.upto;
     }
 
-pub returns-then-is_dead-clause-arrives : goal.returns-then-is_dead-clause-arrives
-returns-then-is_dead-clause-arrives c =
+pub returns-in_err-next-clause-advanced : goal.returns-in_err-next-clause-advanced
+returns-in_err-next-clause-advanced c =
+    let d : Direction = c.args.way in
+    let k : ℕ = c.walk_far-stop.result.0.at in
+    let f : IsFollowed d c.args.self.now c.walk_far-stop.new.cache.store c.args.input.now 0 c.loop-read.read k c.walk_far-stop.result.0.id = (followed_on (subst (λ (v : CacheView). IsFollowed d c.args.self.now v.store c.args.input.now 0 c.loop-read.read c.follow_walk-near.result.at c.follow_walk-near.result.id) (sym c.walk_far-stop.ensures.same) c.follow_walk-near.ensures.followed) c.walk_far-stop.ensures.far.followed) in
+    at_err c.from_residual.result _ (λ (r : Result Arrival SearchError). IsAdvanceResult d c.args.self.now c.args.input.now c.args.units c.args.cache.now c.read_unit.new.cache r) c.from_residual.ensures.1
+    (call_stopped d c.args.self.now c.args.input.now c.args.units k c.args.cache.now c.read_unit.new.cache c.in_err-next.field-0.0 c.in_err-next.ensures.reads
+    (followed_clean f c.loop-read.invariant.clean) (followed_silent f c.loop-read.invariant.silent) c.in_err-next.ensures.unit.error
+    c.walk_far-stop.new.cache
+    (goes_on d c.args.self.now c.args.input.now c.args.units c.args.cache.now (is_store c.args.cache.now.store c.args.self.now c.requires.of c.see_bounds.ensures.bounds) c.loop-read.read k c.walk_far-stop.new.cache
+    (subst (λ (v : CacheView). GoesTo d c.args.self.now c.args.input.now c.args.units c.loop-read.read c.args.cache.now v) (sym c.walk_far-stop.ensures.same) c.loop-read.invariant.progress)
+    f.more (followed_clean f c.loop-read.invariant.clean) (λ j l h. (f.taken j l h).known)) c.in_err-next.ensures.unit.left)
+
+pub returns-then-is_dead-clause-advanced : goal.returns-then-is_dead-clause-advanced
+returns-then-is_dead-clause-advanced c =
     let d : Direction = c.args.way in
     let k : ℕ = c.walk_far-stop.result.0.at in
     let f : IsFollowed d c.args.self.now c.walk_far-stop.new.cache.store c.args.input.now 0 c.loop-read.read k c.walk_far-stop.result.0.id = (followed_on (subst (λ (v : CacheView). IsFollowed d c.args.self.now v.store c.args.input.now 0 c.loop-read.read c.follow_walk-near.result.at c.follow_walk-near.result.id) (sym c.walk_far-stop.ensures.same) c.follow_walk-near.ensures.followed) c.walk_far-stop.ensures.far.followed) in
     let units : c.args.input.now.end - c.args.input.now.start ≡ length (tape_in d c.args.input.now).bytes = units_in d c.args.input.now c.requires.from.undone c.last_place-last.ensures.inside in
-    let dies : state_in d c.args.self.now c.args.input.now (suc k) ≡ dead = (dead_tagged c.read_unit.new.cache.store.table c.in_ok-next.next (c.see_bounds-in-loop-read.ensures.sound.low c.in_ok-next.next) c.see_bounds-in-loop-read.ensures.sound.small _ c.in_ok-next.ensures.leads).0 (c.if-is_dead.ensures.0 refl) in
-    finish_dead d c.args.self.now c.args.input.now c.args.units k _ (omega (arith, c.loop-read.invariant.from, f.more)) (omega (arith, units, c.walk_far-stop.ensures.far.within)) (omega arith)
-    (clean_more d c.args.self.now c.args.input.now k (followed_clean f c.loop-read.invariant.clean) c.in_ok-next.ensures.clean) dies (followed_silent f c.loop-read.invariant.silent)
+    let dies : state_in d c.args.self.now c.args.input.now (suc k) ≡ dead = (dead_tagged c.read_unit.new.cache.store.table c.in_ok-next.next (c.see_bounds-in-loop-read.ensures.sound.low c.in_ok-next.next) c.see_bounds-in-loop-read.ensures.sound.small _ c.in_ok-next.ensures.unit.leads).0 (c.if-is_dead.ensures.0 refl) in
+    has_advanced d c.args.self.now c.args.input.now c.args.units k (record { id = None; units = k + 1 }) c.args.cache.now c.read_unit.new.cache (omega (arith, c.loop-read.invariant.from, f.more)) (omega arith) c.in_ok-next.ensures.reads
+    (goes_more d c.args.self.now c.args.input.now c.args.units c.args.cache.now k c.walk_far-stop.new.cache c.read_unit.new.cache
+    (goes_on d c.args.self.now c.args.input.now c.args.units c.args.cache.now (is_store c.args.cache.now.store c.args.self.now c.requires.of c.see_bounds.ensures.bounds) c.loop-read.read k c.walk_far-stop.new.cache
+    (subst (λ (v : CacheView). GoesTo d c.args.self.now c.args.input.now c.args.units c.loop-read.read c.args.cache.now v) (sym c.walk_far-stop.ensures.same) c.loop-read.invariant.progress)
+    f.more (followed_clean f c.loop-read.invariant.clean) (λ j l h. (f.taken j l h).known)) c.in_ok-next.ensures.unit.read)
+    (finish_dead d c.args.self.now c.args.input.now c.args.units k _ (omega (arith, c.loop-read.invariant.from, f.more)) (omega (arith, units, c.walk_far-stop.ensures.far.within)) (omega arith)
+    (clean_more d c.args.self.now c.args.input.now k (followed_clean f c.loop-read.invariant.clean) c.in_ok-next.ensures.unit.clean) dies (followed_silent f c.loop-read.invariant.silent))
 
-pub returns-then-reports-clause-arrives : goal.returns-then-reports-clause-arrives
-returns-then-reports-clause-arrives c =
+pub returns-then-reports-clause-advanced : goal.returns-then-reports-clause-advanced
+returns-then-reports-clause-advanced c =
     let d : Direction = c.args.way in
     let k : ℕ = c.walk_far-stop.result.0.at in
     let f : IsFollowed d c.args.self.now c.walk_far-stop.new.cache.store c.args.input.now 0 c.loop-read.read k c.walk_far-stop.result.0.id = (followed_on (subst (λ (v : CacheView). IsFollowed d c.args.self.now v.store c.args.input.now 0 c.loop-read.read c.follow_walk-near.result.at c.follow_walk-near.result.id) (sym c.walk_far-stop.ensures.same) c.follow_walk-near.ensures.followed) c.walk_far-stop.ensures.far.followed) in
     let units : c.args.input.now.end - c.args.input.now.start ≡ length (tape_in d c.args.input.now).bytes = units_in d c.args.input.now c.requires.from.undone c.last_place-last.ensures.inside in
     let more : suc k ≡ k + 1 = omega arith in
-    let named : Names c.read_unit.new.cache.store.table c.in_ok-next.next (state_in d c.args.self.now c.args.input.now (suc k)) = (dead_tagged c.read_unit.new.cache.store.table c.in_ok-next.next (c.see_bounds-in-loop-read.ensures.sound.low c.in_ok-next.next) c.see_bounds-in-loop-read.ensures.sound.small _ c.in_ok-next.ensures.leads).1 (λ b. false_true (c.if-is_dead.ensures.1 b)) in
+    let named : Names c.read_unit.new.cache.store.table c.in_ok-next.next (state_in d c.args.self.now c.args.input.now (suc k)) = (dead_tagged c.read_unit.new.cache.store.table c.in_ok-next.next (c.see_bounds-in-loop-read.ensures.sound.low c.in_ok-next.next) c.see_bounds-in-loop-read.ensures.sound.small _ c.in_ok-next.ensures.unit.leads).1 (λ b. false_true (c.if-is_dead.ensures.1 b)) in
     let yes = c.reports.ensures.yes c.if-reports.true in
-    record {
+    has_advanced d c.args.self.now c.args.input.now c.args.units k (record { id = Some c.in_ok-next.next; units = k + 1 }) c.args.cache.now c.read_unit.new.cache (omega (arith, c.loop-read.invariant.from, f.more)) (omega arith) c.in_ok-next.ensures.reads
+    (goes_more d c.args.self.now c.args.input.now c.args.units c.args.cache.now k c.walk_far-stop.new.cache c.read_unit.new.cache
+    (goes_on d c.args.self.now c.args.input.now c.args.units c.args.cache.now (is_store c.args.cache.now.store c.args.self.now c.requires.of c.see_bounds.ensures.bounds) c.loop-read.read k c.walk_far-stop.new.cache
+    (subst (λ (v : CacheView). GoesTo d c.args.self.now c.args.input.now c.args.units c.loop-read.read c.args.cache.now v) (sym c.walk_far-stop.ensures.same) c.loop-read.invariant.progress)
+    f.more (followed_clean f c.loop-read.invariant.clean) (λ j l h. (f.taken j l h).known)) c.in_ok-next.ensures.unit.read)
+    (record {
       place = k;
       one_after = sym more;
       more = omega (arith, c.loop-read.invariant.from, f.more);
       within = omega (arith, units, c.walk_far-stop.ensures.far.within);
       named = subst (λ n. Names c.read_unit.new.cache.store.table c.in_ok-next.next (state_in d c.args.self.now c.args.input.now n)) more named;
-      clean = subst (HasReadNoQuit d c.args.self.now c.args.input.now) more (clean_more d c.args.self.now c.args.input.now k (followed_clean f c.loop-read.invariant.clean) c.in_ok-next.ensures.clean);
+      clean = subst (HasReadNoQuit d c.args.self.now c.args.input.now) more (clean_more d c.args.self.now c.args.input.now k (followed_clean f c.loop-read.invariant.clean) c.in_ok-next.ensures.unit.clean);
       reports = yes.1;
       unskipped = yes.0;
       silent = followed_silent f c.loop-read.invariant.silent;
-    }
+    })
 
-pub returns-clause-arrives : goal.returns-clause-arrives
-returns-clause-arrives c =
+pub returns-clause-advanced : goal.returns-clause-advanced
+returns-clause-advanced c =
     let d : Direction = c.args.way in
     let units : c.args.input.now.end - c.args.input.now.start ≡ length (tape_in d c.args.input.now).bytes = units_in d c.args.input.now c.requires.from.undone c.last_place-last.ensures.inside in
     let all : c.loop-read.read ≡ suc (length (tape_in d c.args.input.now).bytes) = omega (arith, units, c.loop-read-test.false, c.last_place-last.ensures.place, c.loop-read.invariant.within) in
-    finish_read d c.args.self.now c.args.input.now c.args.units c.loop-read.read all c.loop-read.invariant.from c.loop-read.invariant.clean c.loop-read.invariant.silent
-
-pub returns-in_err-next-clause-effect : goal.returns-in_err-next-clause-effect
-returns-in_err-next-clause-effect c =
-    let d : Direction = c.args.way in
-    let k : ℕ = c.walk_far-stop.result.0.at in
-    let f : IsFollowed d c.args.self.now c.walk_far-stop.new.cache.store c.args.input.now 0 c.loop-read.read k c.walk_far-stop.result.0.id = (followed_on (subst (λ (v : CacheView). IsFollowed d c.args.self.now v.store c.args.input.now 0 c.loop-read.read c.follow_walk-near.result.at c.follow_walk-near.result.id) (sym c.walk_far-stop.ensures.same) c.follow_walk-near.ensures.followed) c.walk_far-stop.ensures.far.followed) in
-    at_err c.from_residual.result _ (λ (r : Result Arrival SearchError). IsAdvanceEffect d c.args.self.now c.args.input.now c.args.units c.args.cache.now c.read_unit.new.cache r) c.from_residual.ensures.1
-    (record {
-      read = tt;
-      left =
-          call_stopped d c.args.self.now c.args.input.now c.args.units k c.args.cache.now c.read_unit.new.cache c.in_err-next.field-0.0 c.in_err-next.ensures.reads
-          (followed_clean f c.loop-read.invariant.clean) (followed_silent f c.loop-read.invariant.silent) c.in_err-next.ensures.refusal
-          c.walk_far-stop.new.cache
-          (goes_on d c.args.self.now c.args.input.now c.args.units c.args.cache.now (is_store c.args.cache.now.store c.args.self.now c.requires.of c.see_bounds.ensures.bounds) c.loop-read.read k c.walk_far-stop.new.cache
-          (subst (λ (v : CacheView). GoesTo d c.args.self.now c.args.input.now c.args.units c.loop-read.read c.args.cache.now v) (sym c.walk_far-stop.ensures.same) c.loop-read.invariant.progress)
-          f.more (followed_clean f c.loop-read.invariant.clean) (λ j l h. (f.taken j l h).known)) c.in_err-next.ensures.effect.left;
-    })
-
-pub returns-then-is_dead-clause-effect : goal.returns-then-is_dead-clause-effect
-returns-then-is_dead-clause-effect c =
-    let d : Direction = c.args.way in
-    let k : ℕ = c.walk_far-stop.result.0.at in
-    let f : IsFollowed d c.args.self.now c.walk_far-stop.new.cache.store c.args.input.now 0 c.loop-read.read k c.walk_far-stop.result.0.id = (followed_on (subst (λ (v : CacheView). IsFollowed d c.args.self.now v.store c.args.input.now 0 c.loop-read.read c.follow_walk-near.result.at c.follow_walk-near.result.id) (sym c.walk_far-stop.ensures.same) c.follow_walk-near.ensures.followed) c.walk_far-stop.ensures.far.followed) in
-    record {
-      read =
-          arrived_read d c.args.self.now c.args.input.now c.args.units k (k + 1) c.args.cache.now c.read_unit.new.cache (omega (arith, c.loop-read.invariant.from, f.more)) (omega arith) c.in_ok-next.ensures.reads
-          (goes_more d c.args.self.now c.args.input.now c.args.units c.args.cache.now k c.walk_far-stop.new.cache c.read_unit.new.cache
-          (goes_on d c.args.self.now c.args.input.now c.args.units c.args.cache.now (is_store c.args.cache.now.store c.args.self.now c.requires.of c.see_bounds.ensures.bounds) c.loop-read.read k c.walk_far-stop.new.cache
-          (subst (λ (v : CacheView). GoesTo d c.args.self.now c.args.input.now c.args.units c.loop-read.read c.args.cache.now v) (sym c.walk_far-stop.ensures.same) c.loop-read.invariant.progress)
-          f.more (followed_clean f c.loop-read.invariant.clean) (λ j l h. (f.taken j l h).known)) c.in_ok-next.ensures.effect.read);
-      left = tt;
-    }
-
-pub returns-then-reports-clause-effect : goal.returns-then-reports-clause-effect
-returns-then-reports-clause-effect c =
-    let d : Direction = c.args.way in
-    let k : ℕ = c.walk_far-stop.result.0.at in
-    let f : IsFollowed d c.args.self.now c.walk_far-stop.new.cache.store c.args.input.now 0 c.loop-read.read k c.walk_far-stop.result.0.id = (followed_on (subst (λ (v : CacheView). IsFollowed d c.args.self.now v.store c.args.input.now 0 c.loop-read.read c.follow_walk-near.result.at c.follow_walk-near.result.id) (sym c.walk_far-stop.ensures.same) c.follow_walk-near.ensures.followed) c.walk_far-stop.ensures.far.followed) in
-    record {
-      read =
-          arrived_read d c.args.self.now c.args.input.now c.args.units k (k + 1) c.args.cache.now c.read_unit.new.cache (omega (arith, c.loop-read.invariant.from, f.more)) (omega arith) c.in_ok-next.ensures.reads
-          (goes_more d c.args.self.now c.args.input.now c.args.units c.args.cache.now k c.walk_far-stop.new.cache c.read_unit.new.cache
-          (goes_on d c.args.self.now c.args.input.now c.args.units c.args.cache.now (is_store c.args.cache.now.store c.args.self.now c.requires.of c.see_bounds.ensures.bounds) c.loop-read.read k c.walk_far-stop.new.cache
-          (subst (λ (v : CacheView). GoesTo d c.args.self.now c.args.input.now c.args.units c.loop-read.read c.args.cache.now v) (sym c.walk_far-stop.ensures.same) c.loop-read.invariant.progress)
-          f.more (followed_clean f c.loop-read.invariant.clean) (λ j l h. (f.taken j l h).known)) c.in_ok-next.ensures.effect.read);
-      left = tt;
-    }
-
-pub returns-clause-effect : goal.returns-clause-effect
-returns-clause-effect c =
-    let d : Direction = c.args.way in
     let less : c.args.units < c.loop-read.read = omega (arith, c.requires.from.left, c.loop-read-test.false, c.last_place-last.ensures.place) in
     let last : (k : ℕ) × (c.loop-read.read ≡ suc k) × WalkReads d c.args.self.now c.args.input.now k = c.loop-read.invariant.reads less in
-    record {
-      read =
-          arrived_read d c.args.self.now c.args.input.now c.args.units last.0 c.loop-read.read c.args.cache.now c.loop-read.cache (omega (arith, less, last.1)) (sym last.1) last.2
-          (subst (λ n. GoesTo d c.args.self.now c.args.input.now c.args.units n c.args.cache.now c.loop-read.cache) last.1 c.loop-read.invariant.progress);
-      left = tt;
-    }
+    has_advanced d c.args.self.now c.args.input.now c.args.units last.0 (record { id = None; units = c.loop-read.read }) c.args.cache.now c.loop-read.cache (omega (arith, less, last.1)) (sym last.1) last.2
+    (subst (λ n. GoesTo d c.args.self.now c.args.input.now c.args.units n c.args.cache.now c.loop-read.cache) last.1 c.loop-read.invariant.progress)
+    (finish_read d c.args.self.now c.args.input.now c.args.units c.loop-read.read all c.loop-read.invariant.from c.loop-read.invariant.clean c.loop-read.invariant.silent)
 
 pub walk_far-stop-requires-clause-near : goal.walk_far-stop-requires-clause-near
 walk_far-stop-requires-clause-near c =

@@ -1,4 +1,4 @@
-use Rattle.std.proofs.Common.{suc, ◌∙◌, None, Some, ap, inl, inr, subst, sym}
+use Rattle.std.proofs.Common.{suc, ◌∙◌, None, Some, ap, subst, sym}
 use Rattle.std.specs.Prelude.{Err, Ok, Result}
 use Rattle.automata_base.specs.declared.util.search.Direction.{Direction}
 use Rattle.automata_base.specs.Laws.Walks.{OverlappingIsReported, WalksAreReported}
@@ -7,8 +7,9 @@ use Rattle.automata_config.specs.Options.{match_kind_of}
 use Rattle.automata_config.specs.declared.error.SearchError.{SearchError}
 use Rattle.automata_hybrid.specs.Walks.State.{States, Walk}
 use Rattle.automata_hybrid.specs.Private.Walks.State.{IsHeldItself, keeping_of}
-use Rattle.automata_hybrid.specs.Walks.Progress.{IsWalkRun}
+use Rattle.automata_hybrid.specs.Private.Walks.Progress.{IsWalkRunInStore}
 use Rattle.automata_hybrid.specs.declared.search.walk.Held.{Held}
+use Rattle.automata_hybrid.specs.Private.Walks.Answers.{FindsNone, ReadsMore, ReportsOneMore}
 use Rattle.automata_hybrid.proofs.Walks.Parts.{held_itself, itself_held, left_by, supported_call, unsupported_call}
 use Rattle.automata_hybrid.proofs.Walks.Progress.{left_reads}
 use Rattle.automata_hybrid.proofs.Walks.Reach.{call_memory}
@@ -28,14 +29,14 @@ release-requires c =
 pub returns-in-Ok-clause-walk : goal.returns-in-Ok-clause-walk
 returns-in-Ok-clause-walk c =
     let walk = c.requires.walk.reported in
-    record { reported = (suc walk.0, (c.in-Ok.ensures.answer.reports walk.0 walk.1).0); itself = c.release.ensures }
+    record { reported = (suc walk.0, (c.in-Ok.ensures.called.answer.reports walk.0 walk.1).0); itself = c.release.ensures }
 
 pub returns-in-Ok-clause-call : goal.returns-in-Ok-clause-call
 returns-in-Ok-clause-call c =
     let d : Direction = c.args.way in
     let m = c.args.self.now in
     let input = c.args.input.now in
-    let reports = c.in-Ok.ensures.answer.reports in
+    let reports = c.in-Ok.ensures.called.answer.reports in
     let answered : Result (Unit {0}) SearchError = Ok tt in
     let haystack = c.haystack-haystack.ensures in
     let law : OverlappingIsReported m.nfa = subst OverlappingIsReported c.get_nfa.ensures c.walk_is_right.ensures.overlapping in
@@ -47,7 +48,11 @@ returns-in-Ok-clause-call c =
           reported_lies d m input (subst WalksAreReported c.get_nfa.ensures c.walk_is_right.ensures.reported)
           (subst WalkLiesWithin c.get_nfa.ensures c.walk_is_right.ensures.within) haystack.within.1
           c.args.walk.now c.go_on.new.walk answered c.requires.walk.reported reports tt;
-      ended = λ over. elim c.in-Ok.ensures.answer.goes_on [ inl none ↦ none | inr on ↦ absurd (on.0 over) ];
+      ended = λ over. elim c.in-Ok.ensures.called.answer.goes_on [
+        | FindsNone none ↦ none
+        | ReadsMore on more ↦ absurd (on over)
+        | ReportsOneMore on same more ↦ absurd (on over)
+      ];
       refused = tt;
       unsupported = λ fresh u. absurd (supported_call d m input c.args.walk.now c.go_on.new.walk c.requires.walk.reported reports u);
       free = λ f. tt;
@@ -56,8 +61,8 @@ returns-in-Ok-clause-call c =
 
 pub returns-in-Ok-clause-effect : goal.returns-in-Ok-clause-effect
 returns-in-Ok-clause-effect c =
-    subst (λ k. IsWalkRun k c.args.way c.args.self.now c.args.input.now c.args.walk.now c.go_on.new.walk c.args.cache.now c.go_on.new.cache None)
-    (held_itself c.args.cache.now.store.table c.args.walk.now.stage c.args.held.now c.requires.walk.itself).1 c.in-Ok.ensures.effect
+    subst (λ k. IsWalkRunInStore k c.args.way c.args.self.now c.args.input.now c.args.walk.now c.go_on.new.walk c.args.cache.now c.go_on.new.cache None)
+    (held_itself c.args.cache.now.store.table c.args.walk.now.stage c.args.held.now c.requires.walk.itself).1 c.in-Ok.ensures.called.effect
 
 pub returns-in-Err-clause-walk : goal.returns-in-Err-clause-walk
 returns-in-Err-clause-walk c =
@@ -72,8 +77,8 @@ returns-in-Err-clause-walk c =
 
 pub returns-in-Err-clause-effect : goal.returns-in-Err-clause-effect
 returns-in-Err-clause-effect c =
-    subst (λ k. IsWalkRun k c.args.way c.args.self.now c.args.input.now c.args.walk.now c.go_on.new.walk c.args.cache.now c.go_on.new.cache (Some c.in-Err.error))
-    (held_itself c.args.cache.now.store.table c.args.walk.now.stage c.args.held.now c.requires.walk.itself).1 c.in-Err.ensures.effect
+    subst (λ k. IsWalkRunInStore k c.args.way c.args.self.now c.args.input.now c.args.walk.now c.go_on.new.walk c.args.cache.now c.go_on.new.cache (Some c.in-Err.error))
+    (held_itself c.args.cache.now.store.table c.args.walk.now.stage c.args.held.now c.requires.walk.itself).1 c.in-Err.ensures.called
 
 pub returns-in-Err-clause-call : goal.returns-in-Err-clause-call
 returns-in-Err-clause-call c =
@@ -82,7 +87,7 @@ returns-in-Err-clause-call c =
     let input = c.args.input.now in
     let left =
     left_by (keeping_of c.args.held.now) States d m input c.args.walk.now c.go_on.new.walk c.args.cache.now c.go_on.new.cache c.in-Err.error
-    (held_itself c.args.cache.now.store.table c.args.walk.now.stage c.args.held.now c.requires.walk.itself).1 c.in-Err.ensures.effect in
+    (held_itself c.args.cache.now.store.table c.args.walk.now.stage c.args.held.now c.requires.walk.itself).1 c.in-Err.ensures.called in
     let refused : Result (Unit {0}) SearchError = Err c.in-Err.error in
     let haystack = c.haystack-haystack.ensures in
     record {

@@ -12,7 +12,8 @@ use Rattle.automata_config.specs.declared.error.SearchError.{SearchError}
 use Rattle.automata_hybrid.specs.Cache.Caches.{CacheView}
 use Rattle.automata_hybrid.specs.Machines.Machine.{Machine}
 use Rattle.automata_hybrid.specs.Private.Walks.Contracts.{IsSetReported}
-use Rattle.automata_hybrid.specs.Walks.Progress.{HasNoneLeft, HaveCalled, IsSetRun, OneMore}
+use Rattle.automata_hybrid.specs.Walks.Progress.{HasNoneLeft}
+use Rattle.automata_hybrid.specs.Private.Walks.Progress.{HaveCalledInStore, IsSetRunInStore, OneMoreInStore}
 use Rattle.automata_hybrid.specs.Walks.Answers.{AreWalked}
 use Rattle.automata_hybrid.specs.Walks.State.{Ended, Ids, Walk}
 use Rattle.automata_hybrid.specs.Private.Walks.State.{keeping_of}
@@ -34,7 +35,7 @@ returns-in_err-go_on-clause-reported c =
     let input : Input = c.args.input.now in
     let walk : Walk = c.walk.walk in
     let v = c.walk.invariant in
-    let left = left_by (keeping_of c.walk.held) Ids Forward m input walk c.go_on.new.walk c.walk.cache c.go_on.new.cache c.in_err-go_on.field-0.0 v.keeping c.in_err-go_on.ensures.effect in
+    let left = left_by (keeping_of c.walk.held) Ids Forward m input walk c.go_on.new.walk c.walk.cache c.go_on.new.cache c.in_err-go_on.field-0.0 v.keeping c.in_err-go_on.ensures.called in
     at_err c.from_residual.result _ (λ (x : Result (Unit {0}) SearchError). IsSetReported m input c.args.patset.now c.walk.patset x) c.from_residual.ensures.1
     (record {
       found = tt;
@@ -53,8 +54,8 @@ returns-in_err-go_on-clause-effect c =
     let walk : Walk = c.walk.walk in
     let v = c.walk.invariant in
     let j = v.joins.0 in
-    let left = left_by (keeping_of c.walk.held) Ids Forward m input walk c.go_on.new.walk c.walk.cache c.go_on.new.cache c.in_err-go_on.field-0.0 v.keeping c.in_err-go_on.ensures.effect in
-    at_err c.from_residual.result _ (λ (r : Result (Unit {0}) SearchError). IsSetRun m input c.args.patset.now c.walk.patset c.args.cache.now new (result_err r)) c.from_residual.ensures.1
+    let left = left_by (keeping_of c.walk.held) Ids Forward m input walk c.go_on.new.walk c.walk.cache c.go_on.new.cache c.in_err-go_on.field-0.0 v.keeping c.in_err-go_on.ensures.called in
+    at_err c.from_residual.result _ (λ (r : Result (Unit {0}) SearchError). IsSetRunInStore m input c.args.patset.now c.walk.patset c.args.cache.now new (result_err r)) c.from_residual.ensures.1
     (record {
       of = (is_store c.args.cache.now.store c.args.self.now c.requires c.see_bounds.ensures.bounds);
       run = record {
@@ -77,7 +78,7 @@ returns-in_default-clause-reported c =
     let set : List Bool = c.walk.patset in
     let v = c.walk.invariant in
     let j = v.joins.0 in
-    let reports = c.in_ok-go_on.ensures.answer.reports in
+    let reports = c.in_ok-go_on.ensures.called.answer.reports in
     let reported : WalksAreReported m.nfa = subst WalksAreReported c.get_nfa.ensures c.walk_is_right.ensures.reported in
     let list : (pairs : List Pair) × AreWalked Forward m input pairs = reported Forward (match_kind_of m.config) input in
     let found = joins_all m input old c.walk.walk c.go_on.new.walk set j reports list (sym c.get_match.ensures ∙ c.in_default.«is») in
@@ -102,7 +103,7 @@ returns-in_default-clause-effect c =
     let j = v.joins.0 in
     let reported : WalksAreReported m.nfa = subst WalksAreReported c.get_nfa.ensures c.walk_is_right.ensures.reported in
     let list : (pairs : List Pair) × AreWalked Forward m input pairs = reported Forward (match_kind_of m.config) input in
-    let a = c.in_ok-go_on.ensures.answer in
+    let a = c.in_ok-go_on.ensures.called.answer in
     let after = (a.reports j.k j.reported).1 list.0 list.1 in
     let last : next.stage ≡ Ended = after.1 (half_none list.0 j.k (sym after.0 ∙ (sym c.get_match.ensures ∙ c.in_default.«is»))) in
     record {
@@ -111,8 +112,8 @@ returns-in_default-clause-effect c =
         calls = suc j.k;
         walk = next;
         called =
-            OneMore j.k walk next mid new v.joins.1 (open_after m input walk c.args.patset.now c.walk.patset j) v.there a.reports
-            c.in_ok-go_on.ensures.effect.run;
+            OneMoreInStore j.k walk next mid new v.joins.1 (open_after m input walk c.args.patset.now c.walk.patset j) v.there a.reports
+            c.in_ok-go_on.ensures.called.effect.run;
         last = inl last;
       };
     }
@@ -127,7 +128,7 @@ returns-then-is_full-clause-reported c =
     let walk : Walk = c.walk.walk in
     let next : Walk = c.go_on.new.walk in
     let j = c.walk.invariant.joins.0 in
-    let a = c.in_ok-go_on.ensures.answer in
+    let a = c.in_ok-go_on.ensures.called.answer in
     let reported : WalksAreReported m.nfa = subst WalksAreReported c.get_nfa.ensures c.walk_is_right.ensures.reported in
     let list : (pairs : List Pair) × AreWalked Forward m input pairs = reported Forward (match_kind_of m.config) input in
     let seen : next.found ≡ Some half = sym c.get_match.ensures ∙ c.in-Some.«is» in
@@ -156,7 +157,7 @@ returns-then-is_full-clause-effect c =
     let next : Walk = c.go_on.new.walk in
     let v = c.walk.invariant in
     let j = v.joins.0 in
-    let a = c.in_ok-go_on.ensures.answer in
+    let a = c.in_ok-go_on.ensures.called.answer in
     let found : next.found ≡ Some c.in-Some.half = sym c.get_match.ensures ∙ c.in-Some.«is» in
     record {
       of = (is_store c.args.cache.now.store c.args.self.now c.requires c.see_bounds.ensures.bounds);
@@ -164,8 +165,8 @@ returns-then-is_full-clause-effect c =
         calls = suc j.k;
         walk = next;
         called =
-            OneMore j.k walk next mid new v.joins.1 (open_after m input walk c.args.patset.now c.walk.patset j) v.there a.reports
-            c.in_ok-go_on.ensures.effect.run;
+            OneMoreInStore j.k walk next mid new v.joins.1 (open_after m input walk c.args.patset.now c.walk.patset j) v.there a.reports
+            c.in_ok-go_on.ensures.called.effect.run;
         last = inr (λ pairs walked.
             closes input c.args.patset.now (set c.walk.patset c.in-Some.half.pattern true) pairs j.k c.in-Some.half
             (sym ((a.reports j.k j.reported).1 pairs walked).0 ∙ found) (length-set c.walk.patset c.in-Some.half.pattern true ∙ j.capacity)
@@ -184,7 +185,7 @@ returns-then-get_earliest-clause-reported c =
     let walk : Walk = c.walk.walk in
     let next : Walk = c.go_on.new.walk in
     let j = c.walk.invariant.joins.0 in
-    let a = c.in_ok-go_on.ensures.answer in
+    let a = c.in_ok-go_on.ensures.called.answer in
     let reported : WalksAreReported m.nfa = subst WalksAreReported c.get_nfa.ensures c.walk_is_right.ensures.reported in
     let list : (pairs : List Pair) × AreWalked Forward m input pairs = reported Forward (match_kind_of m.config) input in
     let seen : next.found ≡ Some half = sym c.get_match.ensures ∙ c.in-Some.«is» in
@@ -212,7 +213,7 @@ returns-then-get_earliest-clause-effect c =
     let next : Walk = c.go_on.new.walk in
     let v = c.walk.invariant in
     let j = v.joins.0 in
-    let a = c.in_ok-go_on.ensures.answer in
+    let a = c.in_ok-go_on.ensures.called.answer in
     let found : next.found ≡ Some c.in-Some.half = sym c.get_match.ensures ∙ c.in-Some.«is» in
     record {
       of = (is_store c.args.cache.now.store c.args.self.now c.requires c.see_bounds.ensures.bounds);
@@ -220,8 +221,8 @@ returns-then-get_earliest-clause-effect c =
         calls = suc j.k;
         walk = next;
         called =
-            OneMore j.k walk next mid new v.joins.1 (open_after m input walk c.args.patset.now c.walk.patset j) v.there a.reports
-            c.in_ok-go_on.ensures.effect.run;
+            OneMoreInStore j.k walk next mid new v.joins.1 (open_after m input walk c.args.patset.now c.walk.patset j) v.there a.reports
+            c.in_ok-go_on.ensures.called.effect.run;
         last = inr (λ pairs walked.
             closes input c.args.patset.now (set c.walk.patset c.in-Some.half.pattern true) pairs j.k c.in-Some.half
             (sym ((a.reports j.k j.reported).1 pairs walked).0 ∙ found) (length-set c.walk.patset c.in-Some.half.pattern true ∙ j.capacity)
@@ -234,10 +235,10 @@ pub walk-smaller : goal.walk-smaller
 walk-smaller c =
     let found : c.go_on.new.walk.found ≡ Some c.in-Some.half = sym c.get_match.ensures ∙ c.in-Some.«is» in
     let put : c.try_insert.new.self ≡ set c.walk.patset c.in-Some.half.pattern true = c.try_insert.ensures.inserted ∙ ap (λ n. set c.walk.patset n true) c.pattern.ensures in
-    let on = on_found c.walk.walk c.go_on.new.walk c.in-Some.half c.in_ok-go_on.ensures.answer.goes_on found in
+    let on = on_found c.walk.walk c.go_on.new.walk c.in-Some.half c.in_ok-go_on.ensures.called.answer.goes_on found in
     let j = c.walk.invariant.joins.0 in
     steps_less c.args.self.now c.args.input.now c.haystack-haystack.ensures.within.1 c.walk.walk c.go_on.new.walk
-    (stands_well c.args.self.now c.args.input.now c.haystack-haystack.ensures.within.1 c.go_on.new.walk j.k (c.in_ok-go_on.ensures.answer.reports j.k j.reported).0 on.0) on.1
+    (stands_well c.args.self.now c.args.input.now c.haystack-haystack.ensures.within.1 c.go_on.new.walk j.k (c.in_ok-go_on.ensures.called.answer.reports j.k j.reported).0 on.0) on.1
 
 pub walk-init : goal.walk-init
 walk-init c = record {
@@ -257,7 +258,7 @@ walk-preserved c =
     let list : (pairs : List Pair) × AreWalked Forward c.args.self.now c.args.input.now pairs = reported Forward (match_kind_of c.args.self.now.config) c.args.input.now in
     let found : c.go_on.new.walk.found ≡ Some c.in-Some.half = sym c.get_match.ensures ∙ c.in-Some.«is» in
     let put : c.try_insert.new.self ≡ set c.walk.patset c.in-Some.half.pattern true = c.try_insert.ensures.inserted ∙ ap (λ n. set c.walk.patset n true) c.pattern.ensures in
-    let on = on_found c.walk.walk c.go_on.new.walk c.in-Some.half c.in_ok-go_on.ensures.answer.goes_on found in
+    let on = on_found c.walk.walk c.go_on.new.walk c.in-Some.half c.in_ok-go_on.ensures.called.answer.goes_on found in
     let j = c.walk.invariant.joins.0 in
     let lacks : IsLacking (set c.walk.patset c.in-Some.half.pattern true) = lacking _ 0 (λ full.
     let whole : IsTrue c.is_full.result = c.is_full.ensures.1 (subst (λ (s : List Bool). length (members s) ≡ length s) (sym put) full) in
@@ -271,15 +272,15 @@ walk-preserved c =
       holds = c.in_ok-go_on.ensures.held.holds;
       keeping = c.in_ok-go_on.ensures.held.keeping ∙ c.walk.invariant.keeping;
       done = λ past. (
-          let undone = reported_undone c.args.self.now c.args.input.now c.go_on.new.walk j.k (c.in_ok-go_on.ensures.answer.reports j.k j.reported).0 on.0 in
+          let undone = reported_undone c.args.self.now c.args.input.now c.go_on.new.walk j.k (c.in_ok-go_on.ensures.called.answer.reports j.k j.reported).0 on.0 in
           absurd (omega (arith, past, undone)));
-      begins = λ u. absurd (supported_call Forward c.args.self.now c.args.input.now c.walk.walk c.go_on.new.walk (j.k, j.reported) c.in_ok-go_on.ensures.answer.reports u);
+      begins = λ u. absurd (supported_call Forward c.args.self.now c.args.input.now c.walk.walk c.go_on.new.walk (j.k, j.reported) c.in_ok-go_on.ensures.called.answer.reports u);
       joins =
-          subst (λ (s : List Bool). (i : Joins c.args.self.now c.args.input.now c.go_on.new.walk c.args.patset.now s) × HaveCalled c.args.self.now c.args.input.now c.args.patset.now c.args.cache.now i.k c.go_on.new.walk c.go_on.new.cache) (sym put) (
-            joins_more c.args.self.now c.args.input.now c.args.patset.now c.walk.walk c.go_on.new.walk c.walk.patset c.walk.invariant.joins.0 c.in_ok-go_on.ensures.answer.reports list c.in-Some.half found (sym c.get_earliest.ensures ∙ c.if-get_earliest.false) lacks,
-            calls_more c.args.self.now c.args.input.now c.args.patset.now c.walk.walk c.go_on.new.walk c.walk.patset c.walk.invariant.joins.0 c.in_ok-go_on.ensures.answer.reports list c.in-Some.half found (sym c.get_earliest.ensures ∙ c.if-get_earliest.false) lacks c.args.cache.now c.go_on.new.cache
-                (OneMore j.k c.walk.walk c.go_on.new.walk c.walk.cache c.go_on.new.cache c.walk.invariant.joins.1
+          subst (λ (s : List Bool). (i : Joins c.args.self.now c.args.input.now c.go_on.new.walk c.args.patset.now s) × HaveCalledInStore c.args.self.now c.args.input.now c.args.patset.now c.args.cache.now i.k c.go_on.new.walk c.go_on.new.cache) (sym put) (
+            joins_more c.args.self.now c.args.input.now c.args.patset.now c.walk.walk c.go_on.new.walk c.walk.patset c.walk.invariant.joins.0 c.in_ok-go_on.ensures.called.answer.reports list c.in-Some.half found (sym c.get_earliest.ensures ∙ c.if-get_earliest.false) lacks,
+            calls_more c.args.self.now c.args.input.now c.args.patset.now c.walk.walk c.go_on.new.walk c.walk.patset c.walk.invariant.joins.0 c.in_ok-go_on.ensures.called.answer.reports list c.in-Some.half found (sym c.get_earliest.ensures ∙ c.if-get_earliest.false) lacks c.args.cache.now c.go_on.new.cache
+                (OneMoreInStore j.k c.walk.walk c.go_on.new.walk c.walk.cache c.go_on.new.cache c.walk.invariant.joins.1
                 (open_after c.args.self.now c.args.input.now c.walk.walk c.args.patset.now c.walk.patset j)
-                c.walk.invariant.there c.in_ok-go_on.ensures.answer.reports c.in_ok-go_on.ensures.effect.run),
+                c.walk.invariant.there c.in_ok-go_on.ensures.called.answer.reports c.in_ok-go_on.ensures.called.effect.run),
           );
     }

@@ -2,8 +2,8 @@ use Rattle.std.proofs.Common.{◌≡◌, ◌<◌}
 use Rattle.automata_hybrid.specs.Cache.Caches.{IsCacheOf}
 use Rattle.automata_base.specs.declared.util.search.Direction.TheVariants.{Forward}
 use Rattle.automata_hybrid.specs.Searches.Contracts.{IsUnsupported}
-use Rattle.automata_hybrid.specs.Walks.Progress.{HaveCalled}
-use Rattle.automata_hybrid.specs.Walks.Answers.{HasItsState}
+use Rattle.automata_hybrid.specs.Private.Walks.Progress.{HaveCalledInStore}
+use Rattle.automata_hybrid.specs.Private.Walks.Answers.{HasItsState}
 use Rattle.automata_hybrid.specs.Walks.State.{Ended, Fresh, Ids}
 use Rattle.automata_hybrid.specs.Private.Walks.State.{IsHeldAt, keeping_of}
 use Rattle.automata_hybrid.proofs.Walks.Sets.{Joins, steps_left}
@@ -18,7 +18,7 @@ invariant-walk l = record {
   on : l.walk.stage ≡ Ended → ⊥;
   holds : IsHeldAt l.cache.store.table l.walk.stage l.held;
   keeping : keeping_of l.held ≡ Ids;
-  joins : (j : Joins l.self l.input l.walk l.fn.patset l.patset) × HaveCalled l.self l.input l.fn.patset l.fn.cache j.k l.walk l.cache;
+  joins : (j : Joins l.self l.input l.walk l.fn.patset l.patset) × HaveCalledInStore l.self l.input l.fn.patset l.fn.cache j.k l.walk l.cache;
 }
 
 abbrev pub decreases-walk : goal.decreases-walk

@@ -7,12 +7,11 @@ use Rattle.automata_hybrid.specs.Searches.PassState.{IsAt}
 use Rattle.automata_hybrid.specs.Cache.Caches.{CacheView, IsCacheOf, IsStoreOf}
 use Rattle.automata_hybrid.specs.Private.Steps.Steps.{IsCellRead}
 use Rattle.automata_hybrid.specs.Searches.Passes.{Reads, given_up_offset, tape_in}
-use Rattle.std.proofs.lemmas.Result.{IfOk-weaker}
 use Rattle.automata_hybrid.proofs.Searches.PassContracts.{dead_answer, first_answer}
-use Rattle.automata_hybrid.proofs.Searches.Goes.{GoesTo, ended_here, goes_known, goes_more, goes_none, goes_on, left_here, pass_last}
+use Rattle.automata_hybrid.proofs.Searches.Goes.{GoesTo, ended_here, goes_known, goes_more, goes_none, goes_on, last_rest, left_here, pass_last}
 use Rattle.automata_hybrid.proofs.Searches.Goes.{pass_stopped, taken_here}
-use Rattle.automata_hybrid.proofs.Searches.PassState.{at_reads, stops_dead, stops_ends, stops_last, more_leads, more_at}
-use Rattle.automata_hybrid.proofs.Searches.PassState.{unit_refuses, if_both, false_true}
+use Rattle.automata_hybrid.proofs.Searches.PassState.{at_reads, stops_dead, stops_ends, more_leads, more_at}
+use Rattle.automata_hybrid.proofs.Searches.PassState.{unit_refuses, false_true}
 use Rattle.automata_hybrid.proofs.Searches.PassState.{none_is, some_is}
 use Rattle.automata_hybrid.proofs.Searches.Traces.{pass_is_trace}
 use Rattle.automata_hybrid.proofs.Searches.Directions.{quit_free, span_unit, units_in}
@@ -52,16 +51,6 @@ find_end-requires-clause-at c =
       at = subst (λ k. IsAt d c.args.self.now c.loop-run.cache.store.table c.args.input.now k c.loop-run.run.id c.loop-run.run.found) same c.loop-run.invariant.at;
     }
 
-pub returns-then-is_dead-clause-answer : goal.returns-then-is_dead-clause-answer
-returns-then-is_dead-clause-answer c =
-    let d : Direction = c.args.way in
-    let k : ℕ = c.run_on-met.result.at in
-    let inside : k < c.args.input.now.end - c.args.input.now.start = omega (arith, c.run_on-met.ensures.within) in
-    let at : IsAt d c.args.self.now c.loop-run.cache.store.table c.args.input.now k c.run_on-met.result.id c.run_on-met.result.found = c.run_on-met.ensures.at in
-    let read : next (tape_in d c.args.input.now) k ≡ Some c.byte_at-byte.result = c.byte_at-byte.ensures in
-    let few : k ≤ length (tape_in d c.args.input.now).bytes = (let u = units_in d c.args.input.now c.requires.at.at.undone c.last_place-last.ensures.inside in omega (arith, u, inside)) in
-    dead_answer d c.args.self.now c.args.input.now k c.run_on-met.result.id _ c.run_on-met.result.found c.loop-run.cache c.read_met.new.cache (record { undone = c.requires.at.at.undone; may = c.requires.at.at.may; at = at }) read c.in-Ok.next None c.in-Ok.ensures.answer (λ l. (dead_tagged c.read_met.new.cache.store.table c.in-Ok.next (c.see_bounds-in-loop-run.ensures.sound.low c.in-Ok.next) c.see_bounds-in-loop-run.ensures.sound.small _ l).0 (c.if-is_dead.ensures.0 refl)) few
-
 pub found_at-found-requires-clause-leads : goal.found_at-found-requires-clause-leads
 found_at-found-requires-clause-leads c =
     let d : Direction = c.args.way in
@@ -70,17 +59,7 @@ found_at-found-requires-clause-leads c =
     let at : IsAt d c.args.self.now c.loop-run.cache.store.table c.args.input.now k c.run_on-met.result.id c.run_on-met.result.found = c.run_on-met.ensures.at in
     let read : next (tape_in d c.args.input.now) k ≡ Some c.byte_at-byte.result = c.byte_at-byte.ensures in
     let few : k ≤ length (tape_in d c.args.input.now).bytes = (let u = units_in d c.args.input.now c.requires.at.at.undone c.last_place-last.ensures.inside in omega (arith, u, inside)) in
-    (_, more_leads d c.args.self.now c.loop-run.cache.store.table c.read_met.new.cache.store.table c.args.input.now k c.run_on-met.result.id c.in-Ok.next _ c.run_on-met.result.found None at read c.in-Ok.ensures.answer.named (quit_free c.args.self.now _ c.in-Ok.ensures.answer.clean))
-
-pub returns-then-is_some-clause-answer : goal.returns-then-is_some-clause-answer
-returns-then-is_some-clause-answer c =
-    let d : Direction = c.args.way in
-    let k : ℕ = c.run_on-met.result.at in
-    let inside : k < c.args.input.now.end - c.args.input.now.start = omega (arith, c.run_on-met.ensures.within) in
-    let at : IsAt d c.args.self.now c.loop-run.cache.store.table c.args.input.now k c.run_on-met.result.id c.run_on-met.result.found = c.run_on-met.ensures.at in
-    let read : next (tape_in d c.args.input.now) k ≡ Some c.byte_at-byte.result = c.byte_at-byte.ensures in
-    let few : k ≤ length (tape_in d c.args.input.now).bytes = (let u = units_in d c.args.input.now c.requires.at.at.undone c.last_place-last.ensures.inside in omega (arith, u, inside)) in
-    first_answer d c.args.self.now c.args.input.now k c.run_on-met.result.id _ c.run_on-met.result.found c.loop-run.cache c.read_met.new.cache (record { undone = c.requires.at.at.undone; may = c.requires.at.at.may; at = at }) read c.in-Ok.next c.found_at-found.result c.in-Ok.ensures.answer c.place_offset.result c.place_offset.ensures.value c.found_at-found.ensures (sym c.get_earliest.ensures ∙ c.if-get_earliest.true) (some_is c.found_at-found.result c.if-is_some.ensures) few
+    (_, more_leads d c.args.self.now c.loop-run.cache.store.table c.read_met.new.cache.store.table c.args.input.now k c.run_on-met.result.id c.in-Ok.next _ c.run_on-met.result.found None at read c.in-Ok.ensures.read.answer.named (quit_free c.args.self.now _ c.in-Ok.ensures.read.answer.clean))
 
 pub run-near-requires : goal.run-near-requires
 run-near-requires c =
@@ -96,7 +75,7 @@ run-near-requires c =
     let more : suc k ≡ c.run_on-met.result.at + 1 = omega arith in
     let at = subst (λ n. IsAt d c.args.self.now c.read_met.new.cache.store.table c.args.input.now n c.in-Ok.next c.found_at-found.result) more
     (more_at d c.args.self.now c.loop-run.cache.store.table c.read_met.new.cache.store.table c.args.input.now k c.run_on-met.result.id c.in-Ok.next _ c.run_on-met.result.found c.found_at-found.result at read
-    c.in-Ok.ensures.answer.named (quit_free c.args.self.now _ c.in-Ok.ensures.answer.clean) (c.place_offset.result, c.place_offset.ensures.value, c.found_at-found.ensures) first
+    c.in-Ok.ensures.read.answer.named (quit_free c.args.self.now _ c.in-Ok.ensures.read.answer.clean) (c.place_offset.result, c.place_offset.ensures.value, c.found_at-found.ensures) first
     (λ l. (dead_tagged c.read_met.new.cache.store.table c.in-Ok.next (c.see_bounds-in-loop-run.ensures.sound.low c.in-Ok.next) c.see_bounds-in-loop-run.ensures.sound.small _ l).1
     (λ b. false_true (c.if-is_dead.ensures.1 b)))) in (
       c.in-Ok.ensures.of,
@@ -142,7 +121,7 @@ loop-run-preserved c =
     let sound = is_store c.read_met.new.cache.store c.args.self.now c.in-Ok.ensures.of c.see_bounds-in-loop-run.ensures.bounds in
     let behind : GoesTo d c.args.self.now c.args.input.now 0 (c.run_on-met.result.at + 1) c.args.cache.now c.read_met.new.cache =
     subst (λ n. GoesTo d c.args.self.now c.args.input.now 0 n c.args.cache.now c.read_met.new.cache) more (goes_more d c.args.self.now c.args.input.now 0 c.args.cache.now k c.loop-run.cache c.read_met.new.cache before
-    (taken_here d c.args.self.now c.args.input.now k c.run_on-met.result.id c.byte_offset-offset.result (Some _) c.loop-run.cache c.read_met.new.cache read given at.named c.in-Ok.ensures.effect.taken)) in
+    (taken_here d c.args.self.now c.args.input.now k c.run_on-met.result.id c.byte_offset-offset.result (Some _) c.loop-run.cache c.read_met.new.cache read given at.named c.in-Ok.ensures.read.taken)) in
     let far = c.go_far-far.ensures.runs (c.run_on-met.result.at + 1) c.run-near.ensures.runs in
     let of : IsCacheOf c.go_far-far.new.cache c.args.self.now = subst (λ (v : CacheView). IsCacheOf v c.args.self.now) (sym c.go_far-far.ensures.same) c.in-Ok.ensures.of in
     record {
@@ -164,8 +143,8 @@ read_met-requires-clause-valid c =
     let at : IsAt d c.args.self.now c.loop-run.cache.store.table c.args.input.now c.run_on-met.result.at c.run_on-met.result.id c.run_on-met.result.found = c.run_on-met.ensures.at in
     (_, at.named)
 
-pub returns-in-Err-clause-left : goal.returns-in-Err-clause-left
-returns-in-Err-clause-left c =
+pub returns-in-Err-clause-rest : goal.returns-in-Err-clause-rest
+returns-in-Err-clause-rest c =
     let d : Direction = c.args.way in
     let k : ℕ = c.run_on-met.result.at in
     let inside : k < c.args.input.now.end - c.args.input.now.start = omega (arith, c.run_on-met.ensures.within) in
@@ -177,14 +156,14 @@ returns-in-Err-clause-left c =
     let read : next (tape_in d c.args.input.now) k ≡ Some c.byte_at-byte.result = c.byte_at-byte.ensures in
     let few : k ≤ length (tape_in d c.args.input.now).bytes = (let u = units_in d c.args.input.now c.requires.at.at.undone c.last_place-last.ensures.inside in omega (arith, u, inside)) in
     pass_stopped d c.args.self.now c.args.input.now k c.args.cache.now c.loop-run.cache c.read_met.new.cache c.in-Err.error
-    (at_reads d c.args.self.now c.loop-run.cache.store.table c.args.input.now k c.run_on-met.result.id c.run_on-met.result.found at few c.in-Err.ensures.effect.alive) at.clean
+    (at_reads d c.args.self.now c.loop-run.cache.store.table c.args.input.now k c.run_on-met.result.id c.run_on-met.result.found at few c.in-Err.ensures.read.alive) at.clean
     (unit_refuses d c.args.self.now c.loop-run.cache.store.table c.read_met.new.cache.store c.args.input.now k c.run_on-met.result.id c.byte_offset-offset.result c.byte_offset-offset.result _ c.run_on-met.result.found c.in-Err.error
-    at read (sym c.byte_offset-offset.ensures.unit) given c.in-Err.ensures.refusal)
+    at read (sym c.byte_offset-offset.ensures.unit) given c.in-Err.ensures.read.refused)
     before
-    (left_here d c.args.self.now c.args.input.now k c.run_on-met.result.id c.byte_offset-offset.result (Some _) c.loop-run.cache c.read_met.new.cache read given at.named c.in-Err.ensures.effect.left)
+    (left_here d c.args.self.now c.args.input.now k c.run_on-met.result.id c.byte_offset-offset.result (Some _) c.loop-run.cache c.read_met.new.cache read given at.named c.in-Err.ensures.read.left)
 
-pub returns-then-is_dead-clause-ended : goal.returns-then-is_dead-clause-ended
-returns-then-is_dead-clause-ended c =
+pub returns-then-is_dead-clause-rest : goal.returns-then-is_dead-clause-rest
+returns-then-is_dead-clause-rest c =
     let d : Direction = c.args.way in
     let k : ℕ = c.run_on-met.result.at in
     let inside : k < c.args.input.now.end - c.args.input.now.start = omega (arith, c.run_on-met.ensures.within) in
@@ -195,15 +174,20 @@ returns-then-is_dead-clause-ended c =
     c.loop-run.run.at k c.loop-run.cache c.loop-run.invariant.progress c.run_on-met.ensures.run.more at.clean c.run_on-met.ensures.run.known in
     let read : next (tape_in d c.args.input.now) k ≡ Some c.byte_at-byte.result = c.byte_at-byte.ensures in
     let few : k ≤ length (tape_in d c.args.input.now).bytes = (let u = units_in d c.args.input.now c.requires.at.at.undone c.last_place-last.ensures.inside in omega (arith, u, inside)) in
-    let stops : Reads d c.args.self.now c.args.input.now (suc k) → ⊥ = stops_dead d c.args.self.now c.loop-run.cache.store.table c.read_met.new.cache.store.table c.args.input.now k c.run_on-met.result.id c.in-Ok.next _ c.run_on-met.result.found None at read c.in-Ok.ensures.answer.named (quit_free c.args.self.now _ c.in-Ok.ensures.answer.clean) (λ l. (dead_tagged c.read_met.new.cache.store.table c.in-Ok.next (c.see_bounds-in-loop-run.ensures.sound.low c.in-Ok.next) c.see_bounds-in-loop-run.ensures.sound.small _ l).0 (c.if-is_dead.ensures.0 refl)) (suc k) (omega arith) in
-    pass_last d c.args.self.now c.args.input.now k c.args.cache.now c.read_met.new.cache c.end_search.new.self
-    (at_reads d c.args.self.now c.loop-run.cache.store.table c.args.input.now k c.run_on-met.result.id c.run_on-met.result.found at few c.in-Ok.ensures.effect.alive) stops
-    (goes_more d c.args.self.now c.args.input.now 0 c.args.cache.now k c.loop-run.cache c.read_met.new.cache before
-    (taken_here d c.args.self.now c.args.input.now k c.run_on-met.result.id c.byte_offset-offset.result (Some _) c.loop-run.cache c.read_met.new.cache read given at.named c.in-Ok.ensures.effect.taken))
-    (ended_here d c.args.input.now k c.byte_offset-offset.result c.read_met.new.cache c.end_search.new.self given c.end_search.ensures.value)
+    let stops : Reads d c.args.self.now c.args.input.now (suc k) → ⊥ = stops_dead d c.args.self.now c.loop-run.cache.store.table c.read_met.new.cache.store.table c.args.input.now k c.run_on-met.result.id c.in-Ok.next _ c.run_on-met.result.found None at read c.in-Ok.ensures.read.answer.named (quit_free c.args.self.now _ c.in-Ok.ensures.read.answer.clean) (λ l. (dead_tagged c.read_met.new.cache.store.table c.in-Ok.next (c.see_bounds-in-loop-run.ensures.sound.low c.in-Ok.next) c.see_bounds-in-loop-run.ensures.sound.small _ l).0 (c.if-is_dead.ensures.0 refl)) (suc k) (omega arith) in
+    record {
+      answer =
+          dead_answer d c.args.self.now c.args.input.now k c.run_on-met.result.id _ c.run_on-met.result.found c.loop-run.cache c.read_met.new.cache (record { undone = c.requires.at.at.undone; may = c.requires.at.at.may; at = at }) read c.in-Ok.next None c.in-Ok.ensures.read.answer (λ l. (dead_tagged c.read_met.new.cache.store.table c.in-Ok.next (c.see_bounds-in-loop-run.ensures.sound.low c.in-Ok.next) c.see_bounds-in-loop-run.ensures.sound.small _ l).0 (c.if-is_dead.ensures.0 refl)) few;
+      ended =
+          pass_last d c.args.self.now c.args.input.now k c.args.cache.now c.read_met.new.cache c.end_search.new.self
+          (at_reads d c.args.self.now c.loop-run.cache.store.table c.args.input.now k c.run_on-met.result.id c.run_on-met.result.found at few c.in-Ok.ensures.read.alive) stops
+          (goes_more d c.args.self.now c.args.input.now 0 c.args.cache.now k c.loop-run.cache c.read_met.new.cache before
+          (taken_here d c.args.self.now c.args.input.now k c.run_on-met.result.id c.byte_offset-offset.result (Some _) c.loop-run.cache c.read_met.new.cache read given at.named c.in-Ok.ensures.read.taken))
+          (ended_here d c.args.input.now k c.byte_offset-offset.result c.read_met.new.cache c.end_search.new.self given c.end_search.ensures.value);
+    }
 
-pub returns-then-is_some-clause-ended : goal.returns-then-is_some-clause-ended
-returns-then-is_some-clause-ended c =
+pub returns-then-is_some-clause-rest : goal.returns-then-is_some-clause-rest
+returns-then-is_some-clause-rest c =
     let d : Direction = c.args.way in
     let k : ℕ = c.run_on-met.result.at in
     let inside : k < c.args.input.now.end - c.args.input.now.start = omega (arith, c.run_on-met.ensures.within) in
@@ -214,15 +198,20 @@ returns-then-is_some-clause-ended c =
     c.loop-run.run.at k c.loop-run.cache c.loop-run.invariant.progress c.run_on-met.ensures.run.more at.clean c.run_on-met.ensures.run.known in
     let read : next (tape_in d c.args.input.now) k ≡ Some c.byte_at-byte.result = c.byte_at-byte.ensures in
     let few : k ≤ length (tape_in d c.args.input.now).bytes = (let u = units_in d c.args.input.now c.requires.at.at.undone c.last_place-last.ensures.inside in omega (arith, u, inside)) in
-    let stops : Reads d c.args.self.now c.args.input.now (suc k) → ⊥ = stops_ends d c.args.self.now c.loop-run.cache.store.table c.read_met.new.cache.store.table c.args.input.now k c.run_on-met.result.id c.in-Ok.next _ c.run_on-met.result.found c.found_at-found.result at read c.in-Ok.ensures.answer.named (quit_free c.args.self.now _ c.in-Ok.ensures.answer.clean) (c.place_offset.result, c.place_offset.ensures.value, c.found_at-found.ensures) (sym c.get_earliest.ensures ∙ c.if-get_earliest.true) (some_is c.found_at-found.result c.if-is_some.ensures) (suc k) (omega arith) in
-    pass_last d c.args.self.now c.args.input.now k c.args.cache.now c.read_met.new.cache c.end_search-then-is_some.new.self
-    (at_reads d c.args.self.now c.loop-run.cache.store.table c.args.input.now k c.run_on-met.result.id c.run_on-met.result.found at few c.in-Ok.ensures.effect.alive) stops
-    (goes_more d c.args.self.now c.args.input.now 0 c.args.cache.now k c.loop-run.cache c.read_met.new.cache before
-    (taken_here d c.args.self.now c.args.input.now k c.run_on-met.result.id c.byte_offset-offset.result (Some _) c.loop-run.cache c.read_met.new.cache read given at.named c.in-Ok.ensures.effect.taken))
-    (ended_here d c.args.input.now k c.byte_offset-offset.result c.read_met.new.cache c.end_search-then-is_some.new.self given c.end_search-then-is_some.ensures.value)
+    let stops : Reads d c.args.self.now c.args.input.now (suc k) → ⊥ = stops_ends d c.args.self.now c.loop-run.cache.store.table c.read_met.new.cache.store.table c.args.input.now k c.run_on-met.result.id c.in-Ok.next _ c.run_on-met.result.found c.found_at-found.result at read c.in-Ok.ensures.read.answer.named (quit_free c.args.self.now _ c.in-Ok.ensures.read.answer.clean) (c.place_offset.result, c.place_offset.ensures.value, c.found_at-found.ensures) (sym c.get_earliest.ensures ∙ c.if-get_earliest.true) (some_is c.found_at-found.result c.if-is_some.ensures) (suc k) (omega arith) in
+    record {
+      answer =
+          first_answer d c.args.self.now c.args.input.now k c.run_on-met.result.id _ c.run_on-met.result.found c.loop-run.cache c.read_met.new.cache (record { undone = c.requires.at.at.undone; may = c.requires.at.at.may; at = at }) read c.in-Ok.next c.found_at-found.result c.in-Ok.ensures.read.answer c.place_offset.result c.place_offset.ensures.value c.found_at-found.ensures (sym c.get_earliest.ensures ∙ c.if-get_earliest.true) (some_is c.found_at-found.result c.if-is_some.ensures) few;
+      ended =
+          pass_last d c.args.self.now c.args.input.now k c.args.cache.now c.read_met.new.cache c.end_search-then-is_some.new.self
+          (at_reads d c.args.self.now c.loop-run.cache.store.table c.args.input.now k c.run_on-met.result.id c.run_on-met.result.found at few c.in-Ok.ensures.read.alive) stops
+          (goes_more d c.args.self.now c.args.input.now 0 c.args.cache.now k c.loop-run.cache c.read_met.new.cache before
+          (taken_here d c.args.self.now c.args.input.now k c.run_on-met.result.id c.byte_offset-offset.result (Some _) c.loop-run.cache c.read_met.new.cache read given at.named c.in-Ok.ensures.read.taken))
+          (ended_here d c.args.input.now k c.byte_offset-offset.result c.read_met.new.cache c.end_search-then-is_some.new.self given c.end_search-then-is_some.ensures.value);
+    }
 
-pub returns-clause-ended : goal.returns-clause-ended
-returns-clause-ended c =
+pub returns-clause-rest : goal.returns-clause-rest
+returns-clause-rest c =
     let d : Direction = c.args.way in
     let same : c.loop-run.run.at ≡ c.args.input.now.end - c.args.input.now.start = omega (arith, c.loop-run-test.false, c.loop-run.invariant.within, c.last_place-last.ensures.place) in
     let k : ℕ = c.args.input.now.end - c.args.input.now.start in
@@ -230,25 +219,7 @@ returns-clause-ended c =
     let units : k ≡ length (tape_in d c.args.input.now).bytes = units_in d c.args.input.now c.requires.at.at.undone c.last_place-last.ensures.inside in
     let before : GoesTo d c.args.self.now c.args.input.now 0 k c.args.cache.now c.loop-run.cache = subst (λ k. GoesTo d c.args.self.now c.args.input.now 0 k c.args.cache.now c.loop-run.cache) same c.loop-run.invariant.progress in
     let reads : Reads d c.args.self.now c.args.input.now k = at_reads d c.args.self.now c.loop-run.cache.store.table c.args.input.now k c.loop-run.run.id c.loop-run.run.found at (omega (arith, units)) c.find_end.ensures.alive in
-    IfOk-weaker c.find_end.result _ _
-    (λ _ ended. pass_last d c.args.self.now c.args.input.now k c.args.cache.now ended.0 c.find_end.new.cache reads
-    (λ r. stops_last d c.args.self.now c.args.input.now k units (suc k) (omega arith) r)
-    (goes_more d c.args.self.now c.args.input.now 0 c.args.cache.now k c.loop-run.cache ended.0 before ended.1) ended.2)
-    c.find_end.ensures.progress.ended
-
-pub returns-clause-left : goal.returns-clause-left
-returns-clause-left c =
-    let d : Direction = c.args.way in
-    let same : c.loop-run.run.at ≡ c.args.input.now.end - c.args.input.now.start = omega (arith, c.loop-run-test.false, c.loop-run.invariant.within, c.last_place-last.ensures.place) in
-    let k : ℕ = c.args.input.now.end - c.args.input.now.start in
-    let at : IsAt d c.args.self.now c.loop-run.cache.store.table c.args.input.now k c.loop-run.run.id c.loop-run.run.found = subst (λ k. IsAt d c.args.self.now c.loop-run.cache.store.table c.args.input.now k c.loop-run.run.id c.loop-run.run.found) same c.loop-run.invariant.at in
-    let units : k ≡ length (tape_in d c.args.input.now).bytes = units_in d c.args.input.now c.requires.at.at.undone c.last_place-last.ensures.inside in
-    let before : GoesTo d c.args.self.now c.args.input.now 0 k c.args.cache.now c.loop-run.cache = subst (λ k. GoesTo d c.args.self.now c.args.input.now 0 k c.args.cache.now c.loop-run.cache) same c.loop-run.invariant.progress in
-    let reads : Reads d c.args.self.now c.args.input.now k = at_reads d c.args.self.now c.loop-run.cache.store.table c.args.input.now k c.loop-run.run.id c.loop-run.run.found at (omega (arith, units)) c.find_end.ensures.alive in
-    if_both c.find_end.result _ _ _
-    (λ error refused left. pass_stopped d c.args.self.now c.args.input.now k c.args.cache.now c.loop-run.cache c.find_end.new.cache error
-    reads at.clean refused before left)
-    c.find_end.ensures.refusal c.find_end.ensures.progress.left
+    last_rest d c.args.self.now c.args.input.now c.args.cache.now c.loop-run.cache c.find_end.new.cache c.find_end.result units reads at.clean before c.find_end.ensures.last
 
 pub loop-run-smaller : goal.loop-run-smaller
 loop-run-smaller c =

@@ -20,56 +20,41 @@ pub found_at-requires-clause-leads : goal.found_at-requires-clause-leads
 found_at-requires-clause-leads c =
     let q : Powerset = state_in c.args.way c.args.self.now c.args.input.now (c.args.input.now.end - c.args.input.now.start) in
     let after : Powerset = successor c.args.self.now.nfa (match_kind_of c.args.self.now.config) q c.unit_at-unit.result in
-    (after, subst (λ (t : Rows). Leads t c.in-Ok.next after) (sym c.end_search.ensures.table) (c.in-Ok.ensures.answer.named q c.requires.at.at.named))
+    (after, subst (λ (t : Rows). Leads t c.in-Ok.next after) (sym c.end_search.ensures.table) (c.in-Ok.ensures.read.answer.named q c.requires.at.at.named))
 
-pub returns-clause-answer : goal.returns-clause-answer
-returns-clause-answer c =
+pub returns-clause-last : goal.returns-clause-last
+returns-clause-last c =
     let d : Direction = c.args.way in
     let k : ℕ = c.args.input.now.end - c.args.input.now.start in
     let unit : next (tape_in d c.args.input.now) k ≡ c.unit_at-unit.result = sym (c.unit_at-unit.ensures ∙ ap (next (tape_in d c.args.input.now)) c.last_place-last.ensures.place) in
     let place : c.place_offset.result ≡ offset_in d c.args.input.now k = c.place_offset.ensures.value ∙ ap (offset_in d c.args.input.now) c.last_place-last.ensures.place in
+    let given : given_up_offset d c.args.input.now k ≡ c.span_offset-at.result = sym (c.span_offset-at.ensures.value ∙ ap (given_up_offset d c.args.input.now) c.last_place-last.ensures.place) in
     let units : k ≡ length (tape_in d c.args.input.now).bytes = units_in d c.args.input.now c.requires.at.undone c.last_place-last.ensures.inside in
-    last_answer d c.args.self.now c.args.input.now k c.args.id c.unit_at-unit.result c.args.found c.args.cache.now c.read.new.cache c.requires.at unit c.in-Ok.next c.found_at.result c.in-Ok.ensures.answer c.place_offset.result place
-    (λ q l. c.found_at.ensures q (subst (λ (t : Rows). Leads t c.in-Ok.next q) (sym c.end_search.ensures.table) l)) units
-
-pub returns-clause-alive : goal.returns-clause-alive
-returns-clause-alive c = c.in-Ok.ensures.effect.alive
-
-pub returns-clause-progress : goal.returns-clause-progress
-returns-clause-progress c =
-    let d : Direction = c.args.way in
-    let k : ℕ = c.args.input.now.end - c.args.input.now.start in
-    let unit : next (tape_in d c.args.input.now) k ≡ c.unit_at-unit.result = sym (c.unit_at-unit.ensures ∙ ap (next (tape_in d c.args.input.now)) c.last_place-last.ensures.place) in
-    let place : given_up_offset d c.args.input.now k ≡ c.span_offset-at.result = sym (c.span_offset-at.ensures.value ∙ ap (given_up_offset d c.args.input.now) c.last_place-last.ensures.place) in
     record {
-      ended = (
-        c.read.new.cache,
-        taken_here d c.args.self.now c.args.input.now k c.args.id c.span_offset-at.result c.unit_at-unit.result c.args.cache.now c.read.new.cache unit place c.requires.at.at.named c.in-Ok.ensures.effect.taken,
-        ended_here d c.args.input.now k c.span_offset-at.result c.read.new.cache c.end_search.new.self place c.end_search.ensures.value,
-      );
-      left = tt;
+      answer =
+          last_answer d c.args.self.now c.args.input.now k c.args.id c.unit_at-unit.result c.args.found c.args.cache.now c.read.new.cache c.requires.at unit c.in-Ok.next c.found_at.result c.in-Ok.ensures.read.answer c.place_offset.result place
+          (λ q l. c.found_at.ensures q (subst (λ (t : Rows). Leads t c.in-Ok.next q) (sym c.end_search.ensures.table) l)) units;
+      mid = c.read.new.cache;
+      read = taken_here d c.args.self.now c.args.input.now k c.args.id c.span_offset-at.result c.unit_at-unit.result c.args.cache.now c.read.new.cache unit given c.requires.at.at.named c.in-Ok.ensures.read.taken;
+      ended = ended_here d c.args.input.now k c.span_offset-at.result c.read.new.cache c.end_search.new.self given c.end_search.ensures.value;
     }
 
-pub returns-in-Err-clause-refusal : goal.returns-in-Err-clause-refusal
-returns-in-Err-clause-refusal c =
-    let d : Direction = c.args.way in
-    let k : ℕ = c.args.input.now.end - c.args.input.now.start in
-    let unit : next (tape_in d c.args.input.now) k ≡ c.unit_at-unit.result = sym (c.unit_at-unit.ensures ∙ ap (next (tape_in d c.args.input.now)) c.last_place-last.ensures.place) in
-    let place : given_up_offset d c.args.input.now k ≡ c.span_offset-at.result = sym (c.span_offset-at.ensures.value ∙ ap (given_up_offset d c.args.input.now) c.last_place-last.ensures.place) in
-    let quits : c.unit_offset.result ≡ unit_offset d c.args.input.now k = c.unit_offset.ensures ∙ ap (unit_offset d c.args.input.now) c.last_place-last.ensures.place in
-    unit_refuses d c.args.self.now c.args.cache.now.store.table c.read.new.cache.store c.args.input.now k c.args.id c.unit_offset.result c.span_offset-at.result c.unit_at-unit.result c.args.found c.in-Err.error
-    c.requires.at.at unit (sym quits) place c.in-Err.ensures.refusal
+pub returns-clause-alive : goal.returns-clause-alive
+returns-clause-alive c = c.in-Ok.ensures.read.alive
 
 pub returns-in-Err-clause-alive : goal.returns-in-Err-clause-alive
-returns-in-Err-clause-alive c = c.in-Err.ensures.effect.alive
+returns-in-Err-clause-alive c = c.in-Err.ensures.read.alive
 
-pub returns-in-Err-clause-progress : goal.returns-in-Err-clause-progress
-returns-in-Err-clause-progress c =
+pub returns-in-Err-clause-last : goal.returns-in-Err-clause-last
+returns-in-Err-clause-last c =
     let d : Direction = c.args.way in
     let k : ℕ = c.args.input.now.end - c.args.input.now.start in
     let unit : next (tape_in d c.args.input.now) k ≡ c.unit_at-unit.result = sym (c.unit_at-unit.ensures ∙ ap (next (tape_in d c.args.input.now)) c.last_place-last.ensures.place) in
-    let place : given_up_offset d c.args.input.now k ≡ c.span_offset-at.result = sym (c.span_offset-at.ensures.value ∙ ap (given_up_offset d c.args.input.now) c.last_place-last.ensures.place) in
+    let given : given_up_offset d c.args.input.now k ≡ c.span_offset-at.result = sym (c.span_offset-at.ensures.value ∙ ap (given_up_offset d c.args.input.now) c.last_place-last.ensures.place) in
+    let quits : c.unit_offset.result ≡ unit_offset d c.args.input.now k = c.unit_offset.ensures ∙ ap (unit_offset d c.args.input.now) c.last_place-last.ensures.place in
     record {
-      ended = tt;
-      left = left_here d c.args.self.now c.args.input.now k c.args.id c.span_offset-at.result c.unit_at-unit.result c.args.cache.now c.read.new.cache unit place c.requires.at.at.named c.in-Err.ensures.effect.left;
+      error =
+          unit_refuses d c.args.self.now c.args.cache.now.store.table c.read.new.cache.store c.args.input.now k c.args.id c.unit_offset.result c.span_offset-at.result c.unit_at-unit.result c.args.found c.in-Err.error
+          c.requires.at.at unit (sym quits) given c.in-Err.ensures.read.refused;
+      left = left_here d c.args.self.now c.args.input.now k c.args.id c.span_offset-at.result c.unit_at-unit.result c.args.cache.now c.read.new.cache unit given c.requires.at.at.named c.in-Err.ensures.read.left;
     }

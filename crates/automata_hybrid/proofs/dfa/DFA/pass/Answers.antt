@@ -1,4 +1,5 @@
-use Rattle.std.proofs.Common.{Option, ◌≡◌, ◌+◌, ◌<◌, ◌^◌, None, Some, inr, subst, sym, refl, arith}
+use Rattle.std.specs.Prelude.{Ok, Err}
+use Rattle.std.proofs.Common.{Option, ◌≡◌, ◌+◌, ◌<◌, ◌^◌, None, subst, sym, arith}
 use Rattle.std.proofs.lemmas.Grind.{common_steps}
 use Rattle.automata_base.specs.Haystacks.Input.{Allows, Input}
 use Rattle.automata_base.specs.Haystacks.Matches.{HalfMatch}
@@ -6,14 +7,14 @@ use Rattle.automata_base.specs.declared.util.search.Direction.{Direction}
 use Rattle.automata_hybrid.specs.Cache.Caches.{CacheView, with_store, IsStoreOf}
 use Rattle.automata_hybrid.specs.Cache.Progress.{saturated, total_len}
 use Rattle.automata_hybrid.specs.Cache.Stores.{with_searched}
-use Rattle.automata_hybrid.specs.Private.Searches.PassContracts.{IsKnownUpto, half_if}
-use Rattle.automata_hybrid.specs.Searches.Progress.{EndsAtLast, IsStoppedAt, with_search_begun}
-use Rattle.automata_hybrid.specs.Private.Searches.Progress.{IsPassRun}
-use Rattle.automata_hybrid.specs.Calls.Events.{begun}
+use Rattle.automata_hybrid.specs.Private.Searches.PassContracts.{IsKnownUpto, IsPassResult, IsRest, half_if}
+use Rattle.automata_hybrid.specs.Private.Searches.Progress.{with_search_begun}
+use Rattle.automata_hybrid.specs.Private.Calls.Events.{begun_in_store}
 use Rattle.automata_hybrid.proofs.Searches.Directions.{begins_alive}
 use Rattle.automata_hybrid.proofs.Searches.KnownPasses.{known_ended}
 use Rattle.automata_hybrid.proofs.Searches.PassContracts.{same_input}
 use Rattle.automata_hybrid.proofs.Searches.Contracts.{is_store}
+use Rattle.automata_hybrid.proofs.Searches.Goes.{rest_passes}
 use Rattle.automata_hybrid.proofs.Searches.PassState.{starts_at}
 use Rattle.automata_hybrid.proofs.Steps.Ids.{low_bit}
 use Rattle.automata_hybrid.specs.Cache.Ids.{unknown_id}
@@ -33,18 +34,22 @@ known_pass-known-requires-clause-at c =
           (λ b. (let l : c.known_start-start.result < 2 ^ 29 = grind (arith, common_steps, c.if-is_fixed.ensures) in low_bit 30 c.known_start-start.result (omega (arith, l)) b)));
     }
 
-pub returns-then-has_ended-clause-effect : goal.returns-then-has_ended-clause-effect
-returns-then-has_ended-clause-effect c =
+pub returns-then-has_ended-clause-passed : goal.returns-then-has_ended-clause-passed
+returns-then-has_ended-clause-passed c =
     let d : Direction = c.args.way in
     let low : c.known_start-start.result < 2 ^ 31 = grind (arith, common_steps, c.if-is_fixed.ensures) in
     let sound : IsStoreOf c.args.cache.now.store c.args.self.now = (is_store c.args.cache.now.store c.args.self.now c.requires.of c.see_bounds.ensures.bounds) in
     let end = c.known_pass-known.ensures.ended (c.has_ended.ensures.yes c.if-has_ended.true) in
     let counted = subst (λ n. c.count_search.new.self ≡ with_store c.args.cache.now (with_searched c.args.cache.now.store (record { bytes = saturated (total_len c.args.cache.now.store.searched + n); running = None })))
-    c.bytes_read.ensures c.count_search.ensures.value in (
-      c.args.cache.now,
-      c.known_start-start.ensures.run low,
-      known_ended d c.args.self.now c.args.input.now c.known_pass-known.result.at c.known_pass-known.result.id c.args.cache.now c.known_pass-known.result.found c.count_search.new.self end sound counted,
-    )
+    c.bytes_read.ensures c.count_search.ensures.value in
+    record {
+      answer = end.answer;
+      ends = (
+        c.args.cache.now,
+        c.known_start-start.ensures.run low,
+        known_ended d c.args.self.now c.args.input.now c.known_pass-known.result.at c.known_pass-known.result.id c.args.cache.now c.known_pass-known.result.found c.count_search.new.self end sound counted,
+      );
+    }
 
 pub rest-requires-clause-at : goal.rest-requires-clause-at
 rest-requires-clause-at c =
@@ -68,35 +73,32 @@ rest-requires-clause-missing c = λ missing.
     (subst (λ (v : CacheView). IsNextCell d c.args.self.now v.store c.args.input.now c.known_pass-known.result.at c.known_pass-known.result.id unknown_id) (sym c.search_start.ensures.value)
     (cell.0, cell.1))
 
-pub returns-in-Ok-rest-clause-effect : goal.returns-in-Ok-rest-clause-effect
-returns-in-Ok-rest-clause-effect c =
+pub returns-in-Ok-rest-clause-passed : goal.returns-in-Ok-rest-clause-passed
+returns-in-Ok-rest-clause-passed c =
     let d : Direction = c.args.way in
     let low : c.known_start-start.result < 2 ^ 31 = grind (arith, common_steps, c.if-is_fixed.ensures) in
+    let same = same_input c.args.input.now c.haystack-2.result.now c.get_span-2.result c.get_anchored-2.result c.get_earliest-2.result c.haystack-2.ensures.same c.get_span-2.ensures.start c.get_span-2.ensures.end c.get_anchored-2.ensures c.get_earliest-2.ensures in
     let begins : c.search_start.new.self ≡ with_search_begun d c.args.input.now 0 c.args.cache.now =
-    subst (λ at. c.search_start.new.self ≡ begun at c.args.cache.now) c.span_offset.ensures.value c.search_start.ensures.value in (
-      c.args.cache.now,
-      c.known_start-start.ensures.run low,
-      subst (λ (v : CacheView). EndsAtLast d c.args.self.now c.args.input.now v c.rest.new.cache) begins
-          (subst (λ (i : Input). EndsAtLast d c.args.self.now i c.search_start.new.self c.rest.new.cache) (same_input c.args.input.now c.haystack-2.result.now c.get_span-2.result c.get_anchored-2.result c.get_earliest-2.result c.haystack-2.ensures.same c.get_span-2.ensures.start c.get_span-2.ensures.end c.get_anchored-2.ensures c.get_earliest-2.ensures) c.in-Ok-rest.ensures.ended),
-    )
+    subst (λ at. c.search_start.new.self ≡ begun_in_store at c.args.cache.now) c.span_offset.ensures.value c.search_start.ensures.value in
+    rest_passes d c.args.self.now c.args.input.now c.args.cache.now c.args.cache.now c.search_start.new.self c.rest.new.cache (Ok c.in-Ok-rest.found) (c.known_start-start.ensures.run low) begins
+    (subst (λ (i : Input). IsRest d c.args.self.now i c.search_start.new.self c.rest.new.cache (Ok c.in-Ok-rest.found)) same c.in-Ok-rest.ensures.rest)
 
-pub returns-in-Err-rest-clause-effect : goal.returns-in-Err-rest-clause-effect
-returns-in-Err-rest-clause-effect c =
+pub returns-in-Err-rest-clause-passed : goal.returns-in-Err-rest-clause-passed
+returns-in-Err-rest-clause-passed c =
     let d : Direction = c.args.way in
     let low : c.known_start-start.result < 2 ^ 31 = grind (arith, common_steps, c.if-is_fixed.ensures) in
+    let same = same_input c.args.input.now c.haystack-2.result.now c.get_span-2.result c.get_anchored-2.result c.get_earliest-2.result c.haystack-2.ensures.same c.get_span-2.ensures.start c.get_span-2.ensures.end c.get_anchored-2.ensures c.get_earliest-2.ensures in
     let begins : c.search_start.new.self ≡ with_search_begun d c.args.input.now 0 c.args.cache.now =
-    subst (λ at. c.search_start.new.self ≡ begun at c.args.cache.now) c.span_offset.ensures.value c.search_start.ensures.value in
-    inr (
-      c.args.cache.now,
-      c.known_start-start.ensures.run low,
-      subst (λ (v : CacheView). IsStoppedAt d c.args.self.now c.args.input.now v c.rest.new.cache c.in-Err-rest.error) begins
-          (subst (λ (i : Input). IsStoppedAt d c.args.self.now i c.search_start.new.self c.rest.new.cache c.in-Err-rest.error) (same_input c.args.input.now c.haystack-2.result.now c.get_span-2.result c.get_anchored-2.result c.get_earliest-2.result c.haystack-2.ensures.same c.get_span-2.ensures.start c.get_span-2.ensures.end c.get_anchored-2.ensures c.get_earliest-2.ensures) c.in-Err-rest.ensures.left),
-    )
+    subst (λ at. c.search_start.new.self ≡ begun_in_store at c.args.cache.now) c.span_offset.ensures.value c.search_start.ensures.value in
+    rest_passes d c.args.self.now c.args.input.now c.args.cache.now c.args.cache.now c.search_start.new.self c.rest.new.cache (Err c.in-Err-rest.error) (c.known_start-start.ensures.run low) begins
+    (subst (λ (i : Input). IsRest d c.args.self.now i c.search_start.new.self c.rest.new.cache (Err c.in-Err-rest.error)) same c.in-Err-rest.ensures.rest)
 
-pub returns-in-Ok-clause-effect : goal.returns-in-Ok-clause-effect
-returns-in-Ok-clause-effect c =
-    subst (λ (i : Input). IsPassRun c.args.way c.args.self.now i c.args.cache.now c.begin_of.new.cache None) (same_input c.args.input.now c.haystack.result.now c.get_span.result c.get_anchored.result c.get_earliest.result c.haystack.ensures.same c.get_span.ensures.start c.get_span.ensures.end c.get_anchored.ensures c.get_earliest.ensures) c.in-Ok.ensures.effect
+pub returns-in-Ok-clause-passed : goal.returns-in-Ok-clause-passed
+returns-in-Ok-clause-passed c =
+    let same = same_input c.args.input.now c.haystack.result.now c.get_span.result c.get_anchored.result c.get_earliest.result c.haystack.ensures.same c.get_span.ensures.start c.get_span.ensures.end c.get_anchored.ensures c.get_earliest.ensures in
+    subst (λ (i : Input). IsPassResult c.args.way c.args.self.now i c.args.cache.now c.begin_of.new.cache (Ok c.in-Ok.found)) same c.in-Ok.ensures.passed
 
-pub returns-in-Err-clause-effect : goal.returns-in-Err-clause-effect
-returns-in-Err-clause-effect c =
-    subst (λ (i : Input). IsPassRun c.args.way c.args.self.now i c.args.cache.now c.begin_of.new.cache (Some c.in-Err.error)) (same_input c.args.input.now c.haystack.result.now c.get_span.result c.get_anchored.result c.get_earliest.result c.haystack.ensures.same c.get_span.ensures.start c.get_span.ensures.end c.get_anchored.ensures c.get_earliest.ensures) c.in-Err.ensures.effect
+pub returns-in-Err-clause-passed : goal.returns-in-Err-clause-passed
+returns-in-Err-clause-passed c =
+    let same = same_input c.args.input.now c.haystack.result.now c.get_span.result c.get_anchored.result c.get_earliest.result c.haystack.ensures.same c.get_span.ensures.start c.get_span.ensures.end c.get_anchored.ensures c.get_earliest.ensures in
+    subst (λ (i : Input). IsPassResult c.args.way c.args.self.now i c.args.cache.now c.begin_of.new.cache (Err c.in-Err.error)) same c.in-Err.ensures.passed

@@ -2,8 +2,9 @@ use Rattle.std.proofs.Common.{ℕ, ◌≡◌, ◌∙◌, None, Some, refl, subst
 use Rattle.std.specs.Prelude.{OnErr, Result}
 use Rattle.automata_base.proofs.Paths.Orders.{none_some}
 use Rattle.automata_config.specs.declared.error.StepError.{StepError}
-use Rattle.automata_hybrid.specs.Cache.Table.{IsKnownState, id_of}
-use Rattle.automata_hybrid.specs.Walks.Progress.{IsPutBack, WasThere}
+use Rattle.automata_hybrid.specs.Cache.Table.{id_of}
+use Rattle.automata_hybrid.specs.Private.Cache.Table.{IsKnownState}
+use Rattle.automata_hybrid.specs.Private.Walks.Progress.{IsPutBack, WasThere}
 use Rattle.automata_hybrid.proofs.Caches.Additions.{new_state}
 use Rattle.automata_hybrid.proofs.Searches.Contracts.{is_store}
 use Rattle.automata_hybrid.proofs.Searches.Reads.{at_err}

@@ -1,7 +1,7 @@
 use Rattle.std.proofs.Common.{◌∙◌, ap, refl, sym, subst}
 use Rattle.automata_hybrid.specs.Pieces.State.{IsPiecesOf, PiecesView}
 use Rattle.automata_hybrid.specs.Private.Pieces.State.{held_state, pieces_view}
-use Rattle.automata_hybrid.specs.Pieces.Progress.{IsNotPutBack}
+use Rattle.automata_hybrid.specs.Private.Pieces.Progress.{IsNotPutBack}
 use Rattle.automata_hybrid.proofs.Pieces.Progress.{not_put_back}
 use Rattle.automata_hybrid.proofs.dfa.DFA.resume_pieces.Goals as goal
 

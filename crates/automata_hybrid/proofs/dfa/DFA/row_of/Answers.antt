@@ -1,6 +1,6 @@
 use Rattle.std.proofs.Common.{rules, refl}
 use Rattle.automata_hybrid.specs.Cache.Table.{Names}
-use Rattle.automata_hybrid.specs.Walks.Progress.{WasThere}
+use Rattle.automata_hybrid.specs.Private.Walks.Progress.{WasThere}
 use Rattle.automata_hybrid.proofs.Searches.Contracts.{is_store}
 use Rattle.automata_hybrid.proofs.dfa.DFA.row_of.Goals as goal
 

@@ -6,7 +6,8 @@ use Rattle.automata_config.specs.declared.error.SearchError.{SearchError}
 use Rattle.automata_hybrid.specs.Cache.Table.{Names}
 use Rattle.automata_hybrid.specs.Machines.Machine.{Machine}
 use Rattle.automata_hybrid.specs.Private.Searches.PassState.{IsOnTrace}
-use Rattle.automata_hybrid.specs.Searches.PieceRuns.{IsStoppedAlong, piece_input, piece_trace}
+use Rattle.automata_hybrid.specs.Searches.PieceRuns.{piece_input, piece_trace}
+use Rattle.automata_hybrid.specs.Private.Searches.PieceRuns.{IsStoppedAlong}
 use Rattle.automata_hybrid.specs.Private.Searches.PieceRuns.{IsEndAlong, StopsAlong}
 use Rattle.automata_hybrid.proofs.Searches.PieceRuns.{names_state, piece_is_trace, state_named, step_error_offset, stopped_from}
 use Rattle.automata_hybrid.proofs.dfa.DFA.run_piece.Goals as goal

@@ -2,11 +2,11 @@ use Rattle.std.proofs.Common.{ℕ, Option, suc, ◌≡◌, ◌∙◌, ◌+◌, �
 use Rattle.automata_base.specs.declared.util.search.Direction.TheVariants.{Forward}
 use Rattle.automata_hybrid.specs.Cache.Caches.{CacheView, IsCacheOf, IsStoreOf}
 use Rattle.automata_hybrid.specs.Cache.Table.{Leads, Names, Rows}
-use Rattle.automata_hybrid.specs.Calls.Events.{begun}
+use Rattle.automata_hybrid.specs.Private.Calls.Events.{begun_in_store}
 use Rattle.automata_hybrid.specs.Searches.PassState.{IsAtAlong}
 use Rattle.automata_hybrid.specs.Searches.Passes.{given_up_offset}
-use Rattle.automata_hybrid.specs.Searches.PieceRuns.{IsStoppedAlong}
-use Rattle.automata_hybrid.specs.Searches.Progress.{with_search_begun}
+use Rattle.automata_hybrid.specs.Private.Searches.PieceRuns.{IsStoppedAlong}
+use Rattle.automata_hybrid.specs.Private.Searches.Progress.{with_search_begun}
 use Rattle.automata_hybrid.specs.Private.Steps.Steps.{IsCellRead}
 use Rattle.automata_hybrid.proofs.Searches.Contracts.{is_store}
 use Rattle.automata_hybrid.proofs.Searches.Directions.{quit_free, span_unit}
@@ -34,7 +34,7 @@ next_known-requires g c =
 pub loop-run-init : goal.loop-run-init
 loop-run-init g c =
     let begins : c.search_start.new.self ≡ with_search_begun Forward c.args.input.now 0 c.args.cache.now =
-    subst (λ at. c.search_start.new.self ≡ begun at c.args.cache.now) c.span_offset.ensures.value c.search_start.ensures.value in
+    subst (λ at. c.search_start.new.self ≡ begun_in_store at c.args.cache.now) c.span_offset.ensures.value c.search_start.ensures.value in
     record {
       of = subst (λ (t : Rows). t.of ≡ c.args.self.now) (sym c.search_start.ensures.table) c.requires.0;
       within = omega arith;
@@ -61,9 +61,9 @@ found_at-found-requires-clause-leads g c =
     let inside : c.loop-run.run.at < c.args.input.now.end - c.args.input.now.start = omega (arith, c.loop-run-test.true, c.last_place-last.ensures.place) in
     let given : given_up_offset Forward c.args.input.now c.loop-run.run.at ≡ c.byte_offset-offset.result = span_unit Forward c.args.input.now c.loop-run.run.at inside ∙ sym c.byte_offset-offset.ensures.unit in (
       _,
-      leads_on Forward c.args.self.now c.args.input.now c.requires.1.0.trace c.loop-run.run.at c.loop-run.run.id c.byte_at-byte.result c.loop-run.run.found c.args.cache.now c.loop-run.cache c.loop-run.invariant.at c.byte_at-byte.ensures inside c.in-Ok.ensures.effect.alive c.loop-run.invariant.progress
-          c.in-Ok.next c.read_met.new.cache c.in-Ok.ensures.answer
-          (taken_along g.trace Forward c.args.self.now c.args.input.now c.loop-run.run.at c.loop-run.run.id c.byte_offset-offset.result (Some _) c.loop-run.cache c.read_met.new.cache c.byte_at-byte.ensures given c.loop-run.invariant.at.named c.in-Ok.ensures.effect.taken),
+      leads_on Forward c.args.self.now c.args.input.now c.requires.1.0.trace c.loop-run.run.at c.loop-run.run.id c.byte_at-byte.result c.loop-run.run.found c.args.cache.now c.loop-run.cache c.loop-run.invariant.at c.byte_at-byte.ensures inside c.in-Ok.ensures.read.alive c.loop-run.invariant.progress
+          c.in-Ok.next c.read_met.new.cache c.in-Ok.ensures.read.answer
+          (taken_along g.trace Forward c.args.self.now c.args.input.now c.loop-run.run.at c.loop-run.run.id c.byte_offset-offset.result (Some _) c.loop-run.cache c.read_met.new.cache c.byte_at-byte.ensures given c.loop-run.invariant.at.named c.in-Ok.ensures.read.taken),
     )
 
 pub run-near-requires : goal.run-near-requires
@@ -77,7 +77,7 @@ run-near-requires g c =
     let more : suc k ≡ c.loop-run.run.at + 1 = omega arith in
     let at = subst (λ n. IsAtAlong g.trace Forward c.args.self.now c.read_met.new.cache.store.table c.args.input.now n c.in-Ok.next c.found_at-found.result) more
     (at_along c.requires.1.0.trace c.loop-run.cache.store.table c.read_met.new.cache.store.table k c.loop-run.run.id c.in-Ok.next (Some c.byte_at-byte.result) c.loop-run.run.found c.found_at-found.result c.loop-run.invariant.at c.byte_at-byte.ensures
-    c.in-Ok.ensures.answer.named (quit_free c.args.self.now _ c.in-Ok.ensures.answer.clean) (c.place_offset.result, c.place_offset.ensures.value, c.found_at-found.ensures) first
+    c.in-Ok.ensures.read.answer.named (quit_free c.args.self.now _ c.in-Ok.ensures.read.answer.clean) (c.place_offset.result, c.place_offset.ensures.value, c.found_at-found.ensures) first
     (λ l. (dead_tagged c.read_met.new.cache.store.table c.in-Ok.next (c.see_bounds.ensures.sound.low c.in-Ok.next) c.see_bounds.ensures.sound.small _ l).1
     (λ b. false_true (c.if-is_dead.ensures.1 b)))) in (
       c.in-Ok.ensures.of,
@@ -112,13 +112,13 @@ loop-run-preserved g c =
     let k : ℕ = c.loop-run.run.at in
     let inside : k < c.args.input.now.end - c.args.input.now.start = omega (arith, c.loop-run-test.true, c.last_place-last.ensures.place) in
     let given : given_up_offset Forward c.args.input.now k ≡ c.byte_offset-offset.result = span_unit Forward c.args.input.now k inside ∙ sym c.byte_offset-offset.ensures.unit in
-    let begun : CacheView = with_search_begun Forward c.args.input.now 0 c.args.cache.now in
+    let begun_in_store : CacheView = with_search_begun Forward c.args.input.now 0 c.args.cache.now in
     let more : suc k ≡ c.loop-run.run.at + 1 = omega arith in
     let sound = is_store c.read_met.new.cache.store c.args.self.now c.in-Ok.ensures.of c.see_bounds.ensures.bounds in
-    let behind : GoesToAlong g.trace Forward c.args.self.now c.args.input.now 0 (c.loop-run.run.at + 1) begun c.read_met.new.cache =
-    subst (λ n. GoesToAlong g.trace Forward c.args.self.now c.args.input.now 0 n begun c.read_met.new.cache) more
-    (goes_more Forward c.args.self.now c.args.input.now 0 begun k c.loop-run.cache c.read_met.new.cache c.loop-run.invariant.progress
-    (taken_along g.trace Forward c.args.self.now c.args.input.now k c.loop-run.run.id c.byte_offset-offset.result (Some _) c.loop-run.cache c.read_met.new.cache c.byte_at-byte.ensures given c.loop-run.invariant.at.named c.in-Ok.ensures.effect.taken)) in
+    let behind : GoesToAlong g.trace Forward c.args.self.now c.args.input.now 0 (c.loop-run.run.at + 1) begun_in_store c.read_met.new.cache =
+    subst (λ n. GoesToAlong g.trace Forward c.args.self.now c.args.input.now 0 n begun_in_store c.read_met.new.cache) more
+    (goes_more Forward c.args.self.now c.args.input.now 0 begun_in_store k c.loop-run.cache c.read_met.new.cache c.loop-run.invariant.progress
+    (taken_along g.trace Forward c.args.self.now c.args.input.now k c.loop-run.run.id c.byte_offset-offset.result (Some _) c.loop-run.cache c.read_met.new.cache c.byte_at-byte.ensures given c.loop-run.invariant.at.named c.in-Ok.ensures.read.taken)) in
     let far = c.go_far-far.ensures.runs (c.loop-run.run.at + 1) c.run-near.ensures.runs in
     record {
       of = subst (λ (v : CacheView). IsCacheOf v c.args.self.now) (sym c.go_far-far.ensures.same) c.in-Ok.ensures.of;
@@ -127,9 +127,9 @@ loop-run-preserved g c =
       at = far.at;
       read = c.go_far-far.ensures.read;
       progress =
-          goes_known Forward c.args.self.now c.args.input.now 0 begun (c.loop-run.run.at + 1) c.go_far-far.result.0.at c.go_far-far.new.cache
+          goes_known Forward c.args.self.now c.args.input.now 0 begun_in_store (c.loop-run.run.at + 1) c.go_far-far.result.0.at c.go_far-far.new.cache
           (subst (λ (v : CacheView). IsStoreOf v.store c.args.self.now) (sym c.go_far-far.ensures.same) sound)
-          (subst (λ (v : CacheView). GoesToAlong g.trace Forward c.args.self.now c.args.input.now 0 (c.loop-run.run.at + 1) begun v) (sym c.go_far-far.ensures.same) behind)
+          (subst (λ (v : CacheView). GoesToAlong g.trace Forward c.args.self.now c.args.input.now 0 (c.loop-run.run.at + 1) begun_in_store v) (sym c.go_far-far.ensures.same) behind)
           far.run.more far.at.clean far.run.known;
     }
 
@@ -145,9 +145,9 @@ returns-in-Err-clause-left g c =
     let given : given_up_offset Forward c.args.input.now k ≡ c.byte_offset-offset.result = span_unit Forward c.args.input.now k inside ∙ sym c.byte_offset-offset.ensures.unit in (
       k,
       subst (λ at. IsStoppedAlong g.trace Forward c.args.self.now c.args.input.now k at c.args.cache.now c.read_met.new.cache c.in-Err.error) c.byte_offset-offset.ensures.unit
-          (stopped_along Forward c.args.self.now c.args.input.now c.requires.1.0.trace k c.loop-run.run.id c.byte_at-byte.result c.loop-run.run.found c.args.cache.now c.loop-run.cache c.loop-run.invariant.at c.byte_at-byte.ensures inside c.in-Err.ensures.effect.alive c.loop-run.invariant.progress
-          c.byte_offset-offset.result c.read_met.new.cache c.in-Err.error c.in-Err.ensures.refusal
-          (left_along g.trace Forward c.args.self.now c.args.input.now k c.loop-run.run.id c.byte_offset-offset.result (Some _) c.loop-run.cache c.read_met.new.cache c.byte_at-byte.ensures given c.loop-run.invariant.at.named c.in-Err.ensures.effect.left)),
+          (stopped_along Forward c.args.self.now c.args.input.now c.requires.1.0.trace k c.loop-run.run.id c.byte_at-byte.result c.loop-run.run.found c.args.cache.now c.loop-run.cache c.loop-run.invariant.at c.byte_at-byte.ensures inside c.in-Err.ensures.read.alive c.loop-run.invariant.progress
+          c.byte_offset-offset.result c.read_met.new.cache c.in-Err.error c.in-Err.ensures.read.refused
+          (left_along g.trace Forward c.args.self.now c.args.input.now k c.loop-run.run.id c.byte_offset-offset.result (Some _) c.loop-run.cache c.read_met.new.cache c.byte_at-byte.ensures given c.loop-run.invariant.at.named c.in-Err.ensures.read.left)),
     )
 
 pub returns-then-is_dead-clause-end : goal.returns-then-is_dead-clause-end
@@ -155,11 +155,11 @@ returns-then-is_dead-clause-end g c =
     let k : ℕ = c.loop-run.run.at in
     let inside : k < c.args.input.now.end - c.args.input.now.start = omega (arith, c.loop-run-test.true, c.last_place-last.ensures.place) in
     let given : given_up_offset Forward c.args.input.now k ≡ c.byte_offset-offset.result = span_unit Forward c.args.input.now k inside ∙ sym c.byte_offset-offset.ensures.unit in
-    let read = taken_along g.trace Forward c.args.self.now c.args.input.now k c.loop-run.run.id c.byte_offset-offset.result (Some _) c.loop-run.cache c.read_met.new.cache c.byte_at-byte.ensures given c.loop-run.invariant.at.named c.in-Ok.ensures.effect.taken in
-    let leads = leads_on Forward c.args.self.now c.args.input.now c.requires.1.0.trace k c.loop-run.run.id c.byte_at-byte.result c.loop-run.run.found c.args.cache.now c.loop-run.cache c.loop-run.invariant.at c.byte_at-byte.ensures inside c.in-Ok.ensures.effect.alive c.loop-run.invariant.progress
-    c.in-Ok.next c.read_met.new.cache c.in-Ok.ensures.answer read in (
-      over_dead Forward c.args.self.now c.args.input.now c.requires.1.0.trace k c.loop-run.run.id c.byte_at-byte.result c.loop-run.run.found c.args.cache.now c.loop-run.cache c.loop-run.invariant.at c.byte_at-byte.ensures inside c.in-Ok.ensures.effect.alive c.loop-run.invariant.progress
-          c.in-Ok.next c.read_met.new.cache c.in-Ok.ensures.answer read c.end_search.new.self
+    let read = taken_along g.trace Forward c.args.self.now c.args.input.now k c.loop-run.run.id c.byte_offset-offset.result (Some _) c.loop-run.cache c.read_met.new.cache c.byte_at-byte.ensures given c.loop-run.invariant.at.named c.in-Ok.ensures.read.taken in
+    let leads = leads_on Forward c.args.self.now c.args.input.now c.requires.1.0.trace k c.loop-run.run.id c.byte_at-byte.result c.loop-run.run.found c.args.cache.now c.loop-run.cache c.loop-run.invariant.at c.byte_at-byte.ensures inside c.in-Ok.ensures.read.alive c.loop-run.invariant.progress
+    c.in-Ok.next c.read_met.new.cache c.in-Ok.ensures.read.answer read in (
+      over_dead Forward c.args.self.now c.args.input.now c.requires.1.0.trace k c.loop-run.run.id c.byte_at-byte.result c.loop-run.run.found c.args.cache.now c.loop-run.cache c.loop-run.invariant.at c.byte_at-byte.ensures inside c.in-Ok.ensures.read.alive c.loop-run.invariant.progress
+          c.in-Ok.next c.read_met.new.cache c.in-Ok.ensures.read.answer read c.end_search.new.self
           ((dead_tagged c.read_met.new.cache.store.table c.in-Ok.next (c.see_bounds.ensures.sound.low c.in-Ok.next) c.see_bounds.ensures.sound.small _ leads).0 (c.if-is_dead.ensures.0 refl))
           (ended_here Forward c.args.input.now k c.byte_offset-offset.result c.read_met.new.cache c.end_search.new.self given c.end_search.ensures.value),
       subst (λ (t : Rows). Leads t c.in-Ok.next (g.trace.state (suc k))) (sym c.end_search.ensures.table) leads,
@@ -170,11 +170,11 @@ returns-then-is_some-clause-end g c =
     let k : ℕ = c.loop-run.run.at in
     let inside : k < c.args.input.now.end - c.args.input.now.start = omega (arith, c.loop-run-test.true, c.last_place-last.ensures.place) in
     let given : given_up_offset Forward c.args.input.now k ≡ c.byte_offset-offset.result = span_unit Forward c.args.input.now k inside ∙ sym c.byte_offset-offset.ensures.unit in
-    let read = taken_along g.trace Forward c.args.self.now c.args.input.now k c.loop-run.run.id c.byte_offset-offset.result (Some _) c.loop-run.cache c.read_met.new.cache c.byte_at-byte.ensures given c.loop-run.invariant.at.named c.in-Ok.ensures.effect.taken in
-    let leads = leads_on Forward c.args.self.now c.args.input.now c.requires.1.0.trace k c.loop-run.run.id c.byte_at-byte.result c.loop-run.run.found c.args.cache.now c.loop-run.cache c.loop-run.invariant.at c.byte_at-byte.ensures inside c.in-Ok.ensures.effect.alive c.loop-run.invariant.progress
-    c.in-Ok.next c.read_met.new.cache c.in-Ok.ensures.answer read in (
-      over_first Forward c.args.self.now c.args.input.now c.requires.1.0.trace k c.loop-run.run.id c.byte_at-byte.result c.loop-run.run.found c.args.cache.now c.loop-run.cache c.loop-run.invariant.at c.byte_at-byte.ensures inside c.in-Ok.ensures.effect.alive c.loop-run.invariant.progress
-          c.in-Ok.next c.read_met.new.cache c.in-Ok.ensures.answer read c.found_at-found.result c.end_search-then-is_some.new.self
+    let read = taken_along g.trace Forward c.args.self.now c.args.input.now k c.loop-run.run.id c.byte_offset-offset.result (Some _) c.loop-run.cache c.read_met.new.cache c.byte_at-byte.ensures given c.loop-run.invariant.at.named c.in-Ok.ensures.read.taken in
+    let leads = leads_on Forward c.args.self.now c.args.input.now c.requires.1.0.trace k c.loop-run.run.id c.byte_at-byte.result c.loop-run.run.found c.args.cache.now c.loop-run.cache c.loop-run.invariant.at c.byte_at-byte.ensures inside c.in-Ok.ensures.read.alive c.loop-run.invariant.progress
+    c.in-Ok.next c.read_met.new.cache c.in-Ok.ensures.read.answer read in (
+      over_first Forward c.args.self.now c.args.input.now c.requires.1.0.trace k c.loop-run.run.id c.byte_at-byte.result c.loop-run.run.found c.args.cache.now c.loop-run.cache c.loop-run.invariant.at c.byte_at-byte.ensures inside c.in-Ok.ensures.read.alive c.loop-run.invariant.progress
+          c.in-Ok.next c.read_met.new.cache c.in-Ok.ensures.read.answer read c.found_at-found.result c.end_search-then-is_some.new.self
           (c.place_offset.result, c.place_offset.ensures.value, c.found_at-found.ensures) (sym c.get_earliest.ensures ∙ c.if-get_earliest.true) (some_is c.found_at-found.result c.if-is_some.ensures)
           (ended_here Forward c.args.input.now k c.byte_offset-offset.result c.read_met.new.cache c.end_search-then-is_some.new.self given c.end_search-then-is_some.ensures.value),
       subst (λ (t : Rows). Leads t c.in-Ok.next (g.trace.state (suc k))) (sym c.end_search-then-is_some.ensures.table) leads,

@@ -3,7 +3,7 @@ use Rattle.automata_base.specs.declared.util.search.Direction.TheVariants.{Forwa
 use Rattle.automata_hybrid.specs.Cache.Caches.{IsCacheOf}
 use Rattle.automata_hybrid.specs.Searches.PassState.{IsAtAlong}
 use Rattle.automata_hybrid.specs.Private.Searches.PassState.{IsNextCell}
-use Rattle.automata_hybrid.specs.Searches.Progress.{with_search_begun}
+use Rattle.automata_hybrid.specs.Private.Searches.Progress.{with_search_begun}
 use Rattle.automata_hybrid.proofs.Searches.Goes.{GoesToAlong}
 use Rattle.automata_hybrid.proofs.dfa.DFA.run_span.Given as goal
 

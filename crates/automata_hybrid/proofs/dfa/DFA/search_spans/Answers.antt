@@ -9,7 +9,7 @@ use Rattle.automata_base.specs.declared.util.search.Direction.{Direction}
 use Rattle.automata_base.specs.declared.util.search.Direction.TheVariants.{Forward}
 use Rattle.automata_hybrid.specs.Searches.Passes.{Finds, IsFound, Skips, with_base}
 use Rattle.automata_hybrid.specs.Machines.StartSlots.{supports}
-use Rattle.automata_hybrid.specs.Searches.Progress.{PassesEnd, HaveTried}
+use Rattle.automata_hybrid.specs.Private.Searches.Progress.{PassesEndInStore, HaveTriedInStore}
 use Rattle.automata_hybrid.proofs.Searches.Directions.{later_anchored, later_none, later_on, later_start, skipped, skipped_last}
 use Rattle.automata_hybrid.proofs.Searches.Directions.{skipped_more, skipped_within}
 use Rattle.automata_hybrid.specs.Searches.Contracts.{IsUnsupported, unsupported_error}
@@ -21,34 +21,6 @@ use Rattle.automata_hybrid.proofs.Searches.Skips.{finds_some, finds_split, tries
 use Rattle.automata_hybrid.proofs.Searches.SpanRuns.{run_after, run_before, run_refused, spans_ended, spans_run}
 use Rattle.automata_hybrid.proofs.dfa.DFA.search_spans.Goals as goal
 
-pub returns-in_default-clause-found : goal.returns-in_default-clause-found
-returns-in_default-clause-found c =
-    let d : Direction = c.args.way in
-    let k : ℕ = skipped c.args.input.now c.loop-later.later in
-    let same : c.loop-later.later ≡ later d k c.args.input.now = c.loop-later.invariant.same in
-    let ahead : c.loop-later.later.start ≤ c.loop-later.later.end = grind (arith, common_steps, c.loop-later-test.ensures.done) in
-    let within : c.args.input.now.start + k ≤ c.args.input.now.end = skipped_within c.args.input.now c.loop-later.later c.loop-later.invariant.few ahead in
-    finds_none d c.args.self.now c.args.input.now c.loop-later.later k same c.loop-later.invariant.tries within (sym c.in_default.is ∙ c.in-Ok.ensures.answer.found) c.in-Ok.ensures.answer.clean
-
-pub returns-then-not-skips_at-clause-found : goal.returns-then-not-skips_at-clause-found
-returns-then-not-skips_at-clause-found c =
-    let d : Direction = c.args.way in
-    let k : ℕ = skipped c.args.input.now c.loop-later.later in
-    let same : c.loop-later.later ≡ later d k c.args.input.now = c.loop-later.invariant.same in
-    let ahead : c.loop-later.later.start ≤ c.loop-later.later.end = grind (arith, common_steps, c.loop-later-test.ensures.done) in
-    let within : c.args.input.now.start + k ≤ c.args.input.now.end = skipped_within c.args.input.now c.loop-later.later c.loop-later.invariant.few ahead in
-    let found : IsFound d c.args.self.now c.args.input.now (Some (with_base c.in-Some.half c.loop-later.later.start)) = finds_some d c.args.self.now c.args.input.now c.loop-later.later k same c.loop-later.invariant.tries within c.in-Some.half (sym c.in-Some.is ∙ c.in-Ok.ensures.answer.found) c.in-Ok.ensures.answer.clean (λ skips. subst (λ n. is_split c.loop-later.later.haystack n ≡ false) c.offset.ensures (c.if-not-skips_at.ensures.no refl skips)) in
-    subst (λ n. IsFound d c.args.self.now c.args.input.now (Some (with_base c.in-Some.half n))) (sym c.start.ensures.start) found
-
-pub returns-then-is_anchored-clause-found : goal.returns-then-is_anchored-clause-found
-returns-then-is_anchored-clause-found c =
-    let d : Direction = c.args.way in
-    let k : ℕ = skipped c.args.input.now c.loop-later.later in
-    let same : c.loop-later.later ≡ later d k c.args.input.now = c.loop-later.invariant.same in
-    let ahead : c.loop-later.later.start ≤ c.loop-later.later.end = grind (arith, common_steps, c.loop-later-test.ensures.done) in
-    let within : c.args.input.now.start + k ≤ c.args.input.now.end = skipped_within c.args.input.now c.loop-later.later c.loop-later.invariant.few ahead in
-    finds_split d c.args.self.now c.args.input.now c.loop-later.later k same c.loop-later.invariant.tries within c.in-Some.half (sym c.in-Some.is ∙ c.in-Ok.ensures.answer.found) c.in-Ok.ensures.answer.clean (c.if-not-skips_at.ensures.yes refl).0 (subst (λ n. is_split c.loop-later.later.haystack n ≡ true) c.offset.ensures (c.if-not-skips_at.ensures.yes refl).1) (λ e. c.if-is_anchored.ensures.yes refl (c.get_anchored.ensures ∙ (ap (λ (i : Input). i.anchored) same ∙ (later_anchored d k c.args.input.now ∙ e))))
-
 pub loop-later-init : goal.loop-later-init
 loop-later-init c =
     let d : Direction = c.args.way in
@@ -59,9 +31,9 @@ loop-later-init c =
       few = subst (λ (i : Input). i.end + 1 - i.start ≤ c.args.input.now.end + 1 - c.args.input.now.start) (sym whole) (omega arith);
       same = subst (λ n. c.copied-later.result ≡ later d n c.args.input.now) none (whole ∙ later_none d c.args.input.now);
       first = λ u. sym none;
-      progress = subst (λ n. PassesEnd d c.args.self.now c.args.input.now n c.args.cache.now c.args.cache.now) none
+      progress = subst (λ n. PassesEndInStore d c.args.self.now c.args.input.now n c.args.cache.now c.args.cache.now) none
           ((is_store c.args.cache.now.store c.args.self.now c.requires c.see_bounds.ensures.bounds), refl);
-      tries = subst (λ n. Tries (Finds d c.args.self.now) (Skips c.args.self.now) d c.args.input.now n) none (inl refl, λ j less. absurd (omega (arith, less)));
+      tries = subst (λ n. Tries (Finds d c.args.self.now) (Skips c.args.self.now) d c.args.input.now n) none (record { comes = inl refl; before = λ j less. absurd (omega (arith, less)) });
     }
 
 pub loop-later-preserved : goal.loop-later-preserved
@@ -77,103 +49,111 @@ loop-later-preserved c =
       of = c.in-Ok.ensures.of;
       few = omega (arith, c.if-not-begin_later.ensures.shorter refl, c.loop-later.invariant.few);
       same = subst (λ n. c.begin_later.new.input ≡ later d n c.args.input.now) next (c.if-not-begin_later.ensures.later refl ∙ (ap (later d 1) same ∙ later_on d k c.args.input.now));
-      first = λ u. absurd (false_true (sym u ∙ (ap (supports c.args.self.now) (sym (ap (λ (i : Input). i.anchored) same ∙ later_anchored d k c.args.input.now)) ∙ c.in-Ok.ensures.answer.supported)));
-      progress = subst (λ n. PassesEnd d c.args.self.now c.args.input.now n c.args.cache.now c.pass.new.cache) next
-          (spans_ended d c.args.self.now c.args.input.now k c.loop-later.invariant.tries c.args.cache.now c.loop-later.cache c.loop-later.invariant.progress c.loop-later.later same within c.pass.new.cache c.in-Ok.ensures.effect);
+      first = λ u. absurd (false_true (sym u ∙ (ap (supports c.args.self.now) (sym (ap (λ (i : Input). i.anchored) same ∙ later_anchored d k c.args.input.now)) ∙ c.in-Ok.ensures.passed.answer.supported)));
+      progress = subst (λ n. PassesEndInStore d c.args.self.now c.args.input.now n c.args.cache.now c.pass.new.cache) next
+          (spans_ended d c.args.self.now c.args.input.now k c.loop-later.invariant.tries c.args.cache.now c.loop-later.cache c.loop-later.invariant.progress c.loop-later.later same within c.pass.new.cache c.in-Ok.ensures.passed.ends);
       tries = subst (λ n. Tries (Finds d c.args.self.now) (Skips c.args.self.now) d c.args.input.now n) next
-          (tries_on d c.args.self.now c.args.input.now c.loop-later.later k same c.loop-later.invariant.tries within c.in-Some.half (sym c.in-Some.is ∙ c.in-Ok.ensures.answer.found) c.in-Ok.ensures.answer.clean (c.if-not-skips_at.ensures.yes refl).0 (subst (λ n. is_split c.loop-later.later.haystack n ≡ true) c.offset.ensures (c.if-not-skips_at.ensures.yes refl).1) mode);
+          (tries_on d c.args.self.now c.args.input.now c.loop-later.later k same c.loop-later.invariant.tries within c.in-Some.half (sym c.in-Some.is ∙ c.in-Ok.ensures.passed.answer.found) c.in-Ok.ensures.passed.answer.clean (c.if-not-skips_at.ensures.yes refl).0 (subst (λ n. is_split c.loop-later.later.haystack n ≡ true) c.offset.ensures (c.if-not-skips_at.ensures.yes refl).1) mode);
     }
 
-pub returns-then-not-begin_later-clause-found : goal.returns-then-not-begin_later-clause-found
-returns-then-not-begin_later-clause-found c =
-    let d : Direction = c.args.way in
-    let k : ℕ = skipped c.args.input.now c.loop-later.later in
-    let same : c.loop-later.later ≡ later d k c.args.input.now = c.loop-later.invariant.same in
-    let ahead : c.loop-later.later.start ≤ c.loop-later.later.end = grind (arith, common_steps, c.loop-later-test.ensures.done) in
-    let within : c.args.input.now.start + k ≤ c.args.input.now.end = skipped_within c.args.input.now c.loop-later.later c.loop-later.invariant.few ahead in
-    let mode : c.args.input.now.anchored ≡ No = sym (c.get_anchored.ensures ∙ (ap (λ (i : Input). i.anchored) same ∙ later_anchored d k c.args.input.now)) ∙ c.if-is_anchored.ensures.no refl in
-    finds_no_more d c.args.self.now c.args.input.now (suc k)
-    (tries_on d c.args.self.now c.args.input.now c.loop-later.later k same c.loop-later.invariant.tries within c.in-Some.half (sym c.in-Some.is ∙ c.in-Ok.ensures.answer.found) c.in-Ok.ensures.answer.clean (c.if-not-skips_at.ensures.yes refl).0 (subst (λ n. is_split c.loop-later.later.haystack n ≡ true) c.offset.ensures (c.if-not-skips_at.ensures.yes refl).1) mode)
-    (skipped_last c.args.input.now c.loop-later.later c.loop-later.invariant.few ahead (c.if-not-begin_later.ensures.over refl))
-
-pub returns-clause-found : goal.returns-clause-found
-returns-clause-found c =
-    let done : c.loop-later.later.end < c.loop-later.later.start = grind (arith, common_steps, c.loop-later-test.ensures.done) in
-    finds_no_more c.args.way c.args.self.now c.args.input.now (skipped c.args.input.now c.loop-later.later) c.loop-later.invariant.tries (omega (arith, done))
-
-pub returns-then-not-skips_at-clause-upto : goal.returns-then-not-skips_at-clause-upto
-returns-then-not-skips_at-clause-upto c = λ forward.
-    let d : Direction = c.args.way in
-    let k : ℕ = skipped c.args.input.now c.loop-later.later in
-    let same : c.loop-later.later ≡ later d k c.args.input.now = c.loop-later.invariant.same in
-    let ahead : c.loop-later.later.start ≤ c.loop-later.later.end = grind (arith, common_steps, c.loop-later-test.ensures.done) in
-    let within : c.args.input.now.start + k ≤ c.args.input.now.end = skipped_within c.args.input.now c.loop-later.later c.loop-later.invariant.few ahead in
-    let base : suc k ≡ c.start.result - c.args.input.now.start + 1 = omega (arith, c.start.ensures.start, later_start d k c.args.input.now c.loop-later.later same forward) in
-    subst (λ n. HaveTried Forward c.args.self.now c.args.input.now n c.args.cache.now c.pass.new.cache) base
-    (subst (λ (e : Direction). HaveTried e c.args.self.now c.args.input.now (suc k) c.args.cache.now c.pass.new.cache) forward
-    (spans_run d c.args.self.now c.args.input.now k c.loop-later.invariant.tries c.args.cache.now c.loop-later.cache c.loop-later.invariant.progress c.loop-later.later same within c.pass.new.cache c.in-Ok.ensures.effect))
-
-pub returns-in-Err-clause-effect : goal.returns-in-Err-clause-effect
-returns-in-Err-clause-effect c =
+pub returns-in-Err-clause-searched : goal.returns-in-Err-clause-searched
+returns-in-Err-clause-searched c =
     let d : Direction = c.args.way in
     let k : ℕ = skipped c.args.input.now c.loop-later.later in
     let same : c.loop-later.later ≡ later d k c.args.input.now = c.loop-later.invariant.same in
     let ahead : c.loop-later.later.start ≤ c.loop-later.later.end = grind (arith, common_steps, c.loop-later-test.ensures.done) in
     let within : c.args.input.now.start + k ≤ c.args.input.now.end = skipped_within c.args.input.now c.loop-later.later c.loop-later.invariant.few ahead in
     (run_refused d c.args.self.now c.args.input.now k c.loop-later.invariant.tries c.args.cache.now c.loop-later.cache c.loop-later.invariant.progress
-    c.loop-later.later same within c.pass.new.cache c.in-Err.error c.in-Err.ensures.effect)
+    c.loop-later.later same within c.pass.new.cache c.in-Err.error c.in-Err.ensures.passed)
 
-pub returns-in_default-clause-effect : goal.returns-in_default-clause-effect
-returns-in_default-clause-effect c =
+pub returns-in_default-clause-searched : goal.returns-in_default-clause-searched
+returns-in_default-clause-searched c =
     let d : Direction = c.args.way in
     let k : ℕ = skipped c.args.input.now c.loop-later.later in
     let same : c.loop-later.later ≡ later d k c.args.input.now = c.loop-later.invariant.same in
     let ahead : c.loop-later.later.start ≤ c.loop-later.later.end = grind (arith, common_steps, c.loop-later-test.ensures.done) in
     let within : c.args.input.now.start + k ≤ c.args.input.now.end = skipped_within c.args.input.now c.loop-later.later c.loop-later.invariant.few ahead in
-    run_after d c.args.self.now c.args.input.now k c.loop-later.invariant.tries c.args.cache.now c.loop-later.cache c.loop-later.invariant.progress
-    c.loop-later.later same within c.pass.new.cache c.in-Ok.ensures.effect
-    (λ j less tried past. none_stops d c.args.self.now c.args.input.now c.loop-later.later k same c.loop-later.invariant.tries within (sym c.in_default.is ∙ c.in-Ok.ensures.answer.found) j less tried)
+    record {
+      found =
+          finds_none d c.args.self.now c.args.input.now c.loop-later.later k same c.loop-later.invariant.tries within (sym c.in_default.is ∙ c.in-Ok.ensures.passed.answer.found) c.in-Ok.ensures.passed.answer.clean;
+      effect =
+          run_after d c.args.self.now c.args.input.now k c.loop-later.invariant.tries c.args.cache.now c.loop-later.cache c.loop-later.invariant.progress
+          c.loop-later.later same within c.pass.new.cache c.in-Ok.ensures.passed.ends
+          (λ j less tried past. none_stops d c.args.self.now c.args.input.now c.loop-later.later k same c.loop-later.invariant.tries within (sym c.in_default.is ∙ c.in-Ok.ensures.passed.answer.found) j less tried);
+      upto = λ forward. tt;
+    }
 
-pub returns-then-not-skips_at-clause-effect : goal.returns-then-not-skips_at-clause-effect
-returns-then-not-skips_at-clause-effect c =
+pub returns-then-not-skips_at-clause-searched : goal.returns-then-not-skips_at-clause-searched
+returns-then-not-skips_at-clause-searched c =
     let d : Direction = c.args.way in
     let k : ℕ = skipped c.args.input.now c.loop-later.later in
     let same : c.loop-later.later ≡ later d k c.args.input.now = c.loop-later.invariant.same in
     let ahead : c.loop-later.later.start ≤ c.loop-later.later.end = grind (arith, common_steps, c.loop-later-test.ensures.done) in
     let within : c.args.input.now.start + k ≤ c.args.input.now.end = skipped_within c.args.input.now c.loop-later.later c.loop-later.invariant.few ahead in
-    run_after d c.args.self.now c.args.input.now k c.loop-later.invariant.tries c.args.cache.now c.loop-later.cache c.loop-later.invariant.progress
-    c.loop-later.later same within c.pass.new.cache c.in-Ok.ensures.effect
-    (λ j less tried past. some_stops d c.args.self.now c.args.input.now c.loop-later.later k same c.loop-later.invariant.tries within c.in-Some.half (sym c.in-Some.is ∙ c.in-Ok.ensures.answer.found) (λ skips. subst (λ n. is_split c.loop-later.later.haystack n ≡ false) c.offset.ensures (c.if-not-skips_at.ensures.no refl skips)) j less tried)
+    let found : IsFound d c.args.self.now c.args.input.now (Some (with_base c.in-Some.half c.loop-later.later.start)) = finds_some d c.args.self.now c.args.input.now c.loop-later.later k same c.loop-later.invariant.tries within c.in-Some.half (sym c.in-Some.is ∙ c.in-Ok.ensures.passed.answer.found) c.in-Ok.ensures.passed.answer.clean (λ skips. subst (λ n. is_split c.loop-later.later.haystack n ≡ false) c.offset.ensures (c.if-not-skips_at.ensures.no refl skips)) in
+    record {
+      found =
+          subst (λ n. IsFound d c.args.self.now c.args.input.now (Some (with_base c.in-Some.half n))) (sym c.start.ensures.start) found;
+      effect =
+          run_after d c.args.self.now c.args.input.now k c.loop-later.invariant.tries c.args.cache.now c.loop-later.cache c.loop-later.invariant.progress
+          c.loop-later.later same within c.pass.new.cache c.in-Ok.ensures.passed.ends
+          (λ j less tried past. some_stops d c.args.self.now c.args.input.now c.loop-later.later k same c.loop-later.invariant.tries within c.in-Some.half (sym c.in-Some.is ∙ c.in-Ok.ensures.passed.answer.found) (λ skips. subst (λ n. is_split c.loop-later.later.haystack n ≡ false) c.offset.ensures (c.if-not-skips_at.ensures.no refl skips)) j less tried);
+      upto = λ forward. (
+          let base : suc k ≡ c.start.result - c.args.input.now.start + 1 = omega (arith, c.start.ensures.start, later_start d k c.args.input.now c.loop-later.later same forward) in
+          subst (λ n. HaveTriedInStore Forward c.args.self.now c.args.input.now n c.args.cache.now c.pass.new.cache) base
+          (subst (λ (e : Direction). HaveTriedInStore e c.args.self.now c.args.input.now (suc k) c.args.cache.now c.pass.new.cache) forward
+          (spans_run d c.args.self.now c.args.input.now k c.loop-later.invariant.tries c.args.cache.now c.loop-later.cache c.loop-later.invariant.progress c.loop-later.later same within c.pass.new.cache c.in-Ok.ensures.passed.ends)));
+    }
 
-pub returns-then-is_anchored-clause-effect : goal.returns-then-is_anchored-clause-effect
-returns-then-is_anchored-clause-effect c =
+pub returns-then-is_anchored-clause-searched : goal.returns-then-is_anchored-clause-searched
+returns-then-is_anchored-clause-searched c =
     let d : Direction = c.args.way in
     let k : ℕ = skipped c.args.input.now c.loop-later.later in
     let same : c.loop-later.later ≡ later d k c.args.input.now = c.loop-later.invariant.same in
     let ahead : c.loop-later.later.start ≤ c.loop-later.later.end = grind (arith, common_steps, c.loop-later-test.ensures.done) in
     let within : c.args.input.now.start + k ≤ c.args.input.now.end = skipped_within c.args.input.now c.loop-later.later c.loop-later.invariant.few ahead in
-    run_after d c.args.self.now c.args.input.now k c.loop-later.invariant.tries c.args.cache.now c.loop-later.cache c.loop-later.invariant.progress
-    c.loop-later.later same within c.pass.new.cache c.in-Ok.ensures.effect
-    (λ j less tried past. anchored_stops d c.args.self.now c.args.input.now c.loop-later.later k same c.loop-later.invariant.tries within (λ e. c.if-is_anchored.ensures.yes refl (c.get_anchored.ensures ∙ (ap (λ (i : Input). i.anchored) same ∙ (later_anchored d k c.args.input.now ∙ e)))) j less tried)
+    record {
+      found =
+          finds_split d c.args.self.now c.args.input.now c.loop-later.later k same c.loop-later.invariant.tries within c.in-Some.half (sym c.in-Some.is ∙ c.in-Ok.ensures.passed.answer.found) c.in-Ok.ensures.passed.answer.clean (c.if-not-skips_at.ensures.yes refl).0 (subst (λ n. is_split c.loop-later.later.haystack n ≡ true) c.offset.ensures (c.if-not-skips_at.ensures.yes refl).1) (λ e. c.if-is_anchored.ensures.yes refl (c.get_anchored.ensures ∙ (ap (λ (i : Input). i.anchored) same ∙ (later_anchored d k c.args.input.now ∙ e))));
+      effect =
+          run_after d c.args.self.now c.args.input.now k c.loop-later.invariant.tries c.args.cache.now c.loop-later.cache c.loop-later.invariant.progress
+          c.loop-later.later same within c.pass.new.cache c.in-Ok.ensures.passed.ends
+          (λ j less tried past. anchored_stops d c.args.self.now c.args.input.now c.loop-later.later k same c.loop-later.invariant.tries within (λ e. c.if-is_anchored.ensures.yes refl (c.get_anchored.ensures ∙ (ap (λ (i : Input). i.anchored) same ∙ (later_anchored d k c.args.input.now ∙ e)))) j less tried);
+      upto = λ forward. tt;
+    }
 
-pub returns-then-not-begin_later-clause-effect : goal.returns-then-not-begin_later-clause-effect
-returns-then-not-begin_later-clause-effect c =
+pub returns-then-not-begin_later-clause-searched : goal.returns-then-not-begin_later-clause-searched
+returns-then-not-begin_later-clause-searched c =
     let d : Direction = c.args.way in
     let k : ℕ = skipped c.args.input.now c.loop-later.later in
     let same : c.loop-later.later ≡ later d k c.args.input.now = c.loop-later.invariant.same in
     let ahead : c.loop-later.later.start ≤ c.loop-later.later.end = grind (arith, common_steps, c.loop-later-test.ensures.done) in
     let within : c.args.input.now.start + k ≤ c.args.input.now.end = skipped_within c.args.input.now c.loop-later.later c.loop-later.invariant.few ahead in
     let over : c.args.input.now.end < c.args.input.now.start + suc k = skipped_last c.args.input.now c.loop-later.later c.loop-later.invariant.few ahead (c.if-not-begin_later.ensures.over refl) in
-    run_after d c.args.self.now c.args.input.now k c.loop-later.invariant.tries c.args.cache.now c.loop-later.cache c.loop-later.invariant.progress
-    c.loop-later.later same within c.pass.new.cache c.in-Ok.ensures.effect
-    (λ j less tried past. omega (arith, less, past, over))
+    let mode : c.args.input.now.anchored ≡ No = sym (c.get_anchored.ensures ∙ (ap (λ (i : Input). i.anchored) same ∙ later_anchored d k c.args.input.now)) ∙ c.if-is_anchored.ensures.no refl in
+    record {
+      found =
+          finds_no_more d c.args.self.now c.args.input.now (suc k)
+          (tries_on d c.args.self.now c.args.input.now c.loop-later.later k same c.loop-later.invariant.tries within c.in-Some.half (sym c.in-Some.is ∙ c.in-Ok.ensures.passed.answer.found) c.in-Ok.ensures.passed.answer.clean (c.if-not-skips_at.ensures.yes refl).0 (subst (λ n. is_split c.loop-later.later.haystack n ≡ true) c.offset.ensures (c.if-not-skips_at.ensures.yes refl).1) mode) over;
+      effect =
+          run_after d c.args.self.now c.args.input.now k c.loop-later.invariant.tries c.args.cache.now c.loop-later.cache c.loop-later.invariant.progress
+          c.loop-later.later same within c.pass.new.cache c.in-Ok.ensures.passed.ends
+          (λ j less tried past. omega (arith, less, past, over));
+      upto = λ forward. tt;
+    }
 
-pub returns-clause-effect : goal.returns-clause-effect
-returns-clause-effect c =
+pub returns-clause-searched : goal.returns-clause-searched
+returns-clause-searched c =
     let d : Direction = c.args.way in
     let k : ℕ = skipped c.args.input.now c.loop-later.later in
     let done : c.loop-later.later.end < c.loop-later.later.start = grind (arith, common_steps, c.loop-later-test.ensures.done) in
-    run_before d c.args.self.now c.args.input.now k c.loop-later.invariant.tries c.args.cache.now c.loop-later.cache c.loop-later.invariant.progress (omega (arith, done))
+    record {
+      found =
+          finds_no_more d c.args.self.now c.args.input.now k c.loop-later.invariant.tries (omega (arith, done));
+      effect =
+          run_before d c.args.self.now c.args.input.now k c.loop-later.invariant.tries c.args.cache.now c.loop-later.cache c.loop-later.invariant.progress (omega (arith, done));
+      upto = λ forward. tt;
+    }
 
 pub returns-in-Err-clause-unsupported : goal.returns-in-Err-clause-unsupported
 returns-in-Err-clause-unsupported c = λ u.

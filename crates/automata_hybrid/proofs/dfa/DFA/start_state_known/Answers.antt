@@ -6,7 +6,8 @@ use Rattle.automata_config.specs.declared.error.StartError.{StartError}
 use Rattle.automata_config.specs.declared.error.StartError.TheVariants.{UnsupportedAnchored}
 use Rattle.automata_hybrid.specs.Machines.Machine.{Machine}
 use Rattle.automata_hybrid.specs.Machines.StartSlots.{slot_behind, supports}
-use Rattle.automata_hybrid.specs.Steps.Starts.{KnowsStart, quit_behind}
+use Rattle.automata_hybrid.specs.Steps.Starts.{quit_behind}
+use Rattle.automata_hybrid.specs.Private.Steps.Starts.{KnowsStart}
 use Rattle.automata_hybrid.specs.Private.Steps.Starts.{IsStartSlot}
 use Rattle.automata_hybrid.proofs.Steps.Starts.{knows_slot, known_answer, known_run}
 use Rattle.automata_hybrid.proofs.Searches.Contracts.{is_store}

@@ -3,11 +3,12 @@ use Rattle.std.proofs.lemmas.Bool.{cases_lt}
 use Rattle.automata_hybrid.specs.Cache.Caches.{CacheView}
 use Rattle.automata_hybrid.specs.Machines.Machine.{Machine}
 use Rattle.std.proofs.lemmas.Grind.{common_steps}
-use Rattle.automata_hybrid.specs.Steps.Steps.{IsStepAnswer, KnowsStep, known_step}
+use Rattle.automata_hybrid.specs.Steps.Steps.{IsStepAnswer, known_step}
+use Rattle.automata_hybrid.specs.Private.Steps.Steps.{KnowsStep}
 use Rattle.automata_hybrid.specs.Cache.Stores.{cell_of}
 use Rattle.automata_hybrid.specs.Cache.Table.{IsRowId, Rows}
-use Rattle.automata_hybrid.specs.Calls.Events.{FindsCached}
-use Rattle.automata_hybrid.specs.Calls.Steps.{IsStepRun, StepFails}
+use Rattle.automata_hybrid.specs.Private.Calls.Events.{FindsCached}
+use Rattle.automata_hybrid.specs.Private.Calls.Steps.{IsStepRunInStore, StepFailsInStore}
 use Rattle.automata_hybrid.proofs.Steps.Steps.{known_answer, moved_answer, moved_run, unknown_clean}
 use Rattle.automata_hybrid.proofs.Searches.Contracts.{is_store}
 use Rattle.automata_hybrid.proofs.dfa.DFA.step.Goals as goal
@@ -21,26 +22,26 @@ unread m id unit c cell same unknown = go (cases_lt cell (2 ^ 31)) where
   go (inl low) = absurd (unknown (subst (λ n. n < 2 ^ 31) same low))
   go (inr free) = free
 
-pub returns-then-not-is_unknown-clause-answer : goal.returns-then-not-is_unknown-clause-answer
-returns-then-not-is_unknown-clause-answer c =
+pub returns-then-not-is_unknown-clause-step : goal.returns-then-not-is_unknown-clause-step
+returns-then-not-is_unknown-clause-step c =
     let known : c.args.cell < 2 ^ 31 = grind (arith, common_steps, c.if-not-is_unknown.ensures.size) in
     let same : c.cell-cell.result ≡ c.args.cell =
     c.cell-cell.ensures.value ∙ (ap (cell_of c.args.cache.now.store c.args.id) c.unit_class.ensures.value ∙ sym (c.requires.cell.0 known)) in
-    subst (IsStepAnswer c.args.self.now c.args.id c.args.unit c.args.cache.now c.args.cache.now) same
-    (known_answer c.args.self.now c.args.id c.args.unit c.args.cache.now c.unit_class.result c.cell-cell.result c.requires.of c.requires.valid
-    c.unit_class.ensures.value c.unit_class.ensures.small c.unit_class.ensures.quit c.unit_class.ensures.free
-    c.cell-cell.ensures.value c.cell-cell.ensures.named (c.see_bounds.ensures.sound.low c.args.id c.requires.valid.0 c.requires.valid.1) (omega (arith, known, same)) c.cell-cell.ensures.tag
-    c.unit_class.ensures.unit)
-
-pub returns-then-not-is_unknown-clause-run : goal.returns-then-not-is_unknown-clause-run
-returns-then-not-is_unknown-clause-run c =
-    let known : c.args.cell < 2 ^ 31 = grind (arith, common_steps, c.if-not-is_unknown.ensures.size) in
     record {
-      quit = λ on. refl;
-      taken = λ clean q n.
-          FindsCached (clean, subst (λ k. k < c.args.self.now.stride) c.unit_class.ensures.value c.unit_class.ensures.below)
-          (is_store c.args.cache.now.store c.args.self.now c.requires.of c.see_bounds.ensures.bounds)
-          (c.args.id, n, subst (λ n. n < 2 ^ 31) (c.requires.cell.0 known) known) refl;
+      answer =
+          subst (IsStepAnswer c.args.self.now c.args.id c.args.unit c.args.cache.now c.args.cache.now) same
+          (known_answer c.args.self.now c.args.id c.args.unit c.args.cache.now c.unit_class.result c.cell-cell.result c.requires.of c.requires.valid
+          c.unit_class.ensures.value c.unit_class.ensures.small c.unit_class.ensures.quit c.unit_class.ensures.free
+          c.cell-cell.ensures.value c.cell-cell.ensures.named (c.see_bounds.ensures.sound.low c.args.id c.requires.valid.0 c.requires.valid.1) (omega (arith, known, same)) c.cell-cell.ensures.tag
+          c.unit_class.ensures.unit);
+      taken =
+          record {
+            quit = λ on. refl;
+            taken = λ clean q n.
+                FindsCached (clean, subst (λ k. k < c.args.self.now.stride) c.unit_class.ensures.value c.unit_class.ensures.below)
+                (is_store c.args.cache.now.store c.args.self.now c.requires.of c.see_bounds.ensures.bounds)
+                (c.args.id, n, subst (λ n. n < 2 ^ 31) (c.requires.cell.0 known) known) refl;
+          };
     }
 
 pub compute_next-requires-clause-unknown : goal.compute_next-requires-clause-unknown
@@ -61,27 +62,28 @@ pub compute_next-requires-clause-valid : goal.compute_next-requires-clause-valid
 compute_next-requires-clause-valid c =
     subst (λ (t : Rows). IsRowId t c.args.id) (sym c.move_search.ensures.table) c.requires.valid
 
-pub returns-in-Ok-clause-answer : goal.returns-in-Ok-clause-answer
-returns-in-Ok-clause-answer c =
-    moved_answer c.args.self.now c.args.id c.args.unit c.args.at c.args.cache.now c.compute_next.new.self c.in-Ok.next
-    (subst (λ (v : CacheView). IsStepAnswer c.args.self.now c.args.id c.args.unit v c.compute_next.new.self c.in-Ok.next) c.move_search.ensures.value c.in-Ok.ensures.answer)
-
-pub returns-in-Ok-clause-run : goal.returns-in-Ok-clause-run
-returns-in-Ok-clause-run c =
+pub returns-in-Ok-clause-step : goal.returns-in-Ok-clause-step
+returns-in-Ok-clause-step c =
     let free : 2 ^ 31 ≤ c.args.cell = grind (arith, common_steps, c.if-not-is_unknown.ensures.size) in
-    moved_run c.args.self.now c.args.id c.args.unit c.args.at c.args.cache.now c.compute_next.new.self (c.requires.cell.1 free)
-    (unknown_clean c.args.self.now c.args.id c.args.unit c.args.cache.now c.unit_class.result c.cell-cell.result c.requires.of c.requires.valid
-    c.unit_class.ensures.value c.unit_class.ensures.small c.unit_class.ensures.quit c.unit_class.ensures.free
-    c.cell-cell.ensures.value c.cell-cell.ensures.named
-    (unread c.args.self.now c.args.id c.args.unit c.args.cache.now c.cell-cell.result
-    (c.cell-cell.ensures.value ∙ ap (cell_of c.args.cache.now.store c.args.id) c.unit_class.ensures.value) (c.requires.cell.1 free)))
-    (subst (λ (v : CacheView). IsStepRun c.args.self.now c.args.id c.args.unit v c.compute_next.new.self) c.move_search.ensures.value c.in-Ok.ensures.run)
+    record {
+      answer =
+          moved_answer c.args.self.now c.args.id c.args.unit c.args.at c.args.cache.now c.compute_next.new.self c.in-Ok.next
+          (subst (λ (v : CacheView). IsStepAnswer c.args.self.now c.args.id c.args.unit v c.compute_next.new.self c.in-Ok.next) c.move_search.ensures.value c.in-Ok.ensures.answer);
+      taken =
+          moved_run c.args.self.now c.args.id c.args.unit c.args.at c.args.cache.now c.compute_next.new.self (c.requires.cell.1 free)
+          (unknown_clean c.args.self.now c.args.id c.args.unit c.args.cache.now c.unit_class.result c.cell-cell.result c.requires.of c.requires.valid
+          c.unit_class.ensures.value c.unit_class.ensures.small c.unit_class.ensures.quit c.unit_class.ensures.free
+          c.cell-cell.ensures.value c.cell-cell.ensures.named
+          (unread c.args.self.now c.args.id c.args.unit c.args.cache.now c.cell-cell.result
+          (c.cell-cell.ensures.value ∙ ap (cell_of c.args.cache.now.store c.args.id) c.unit_class.ensures.value) (c.requires.cell.1 free)))
+          (subst (λ (v : CacheView). IsStepRunInStore c.args.self.now c.args.id c.args.unit v c.compute_next.new.self) c.move_search.ensures.value c.in-Ok.ensures.run);
+    }
 
-pub returns-in-Err-clause-refusal : goal.returns-in-Err-clause-refusal
-returns-in-Err-clause-refusal c = record {
+pub returns-in-Err-clause-step : goal.returns-in-Err-clause-step
+returns-in-Err-clause-step c = record {
   error = c.in-Err.error;
   refused =
-      subst (λ (v : CacheView). StepFails c.args.self.now c.args.id c.args.unit v c.compute_next.new.self c.in-Err.error)
+      subst (λ (v : CacheView). StepFailsInStore c.args.self.now c.args.id c.args.unit v c.compute_next.new.self c.in-Err.error)
       c.move_search.ensures.value c.in-Err.ensures.refusal;
   reported = c.step_error.ensures;
 }

@@ -1,9 +1,11 @@
-use Rattle.std.proofs.Common.{refl, subst}
+use Rattle.std.proofs.Common.{◌+◌, ◌-◌, refl, subst}
+use Rattle.std.proofs.lemmas.Option.{IfSome_then}
 use Rattle.std.proofs.lemmas.Result.{IfErr-weaker, IfOk-weaker}
 use Rattle.automata_base.specs.Nfas.Nodes.{Automaton}
 use Rattle.automata_base.specs.declared.util.search.Direction.TheVariants.{Forward}
 use Rattle.automata_base.specs.Answers.OfPasses.{ReportedEndsAreRight, ReportedIsRight}
 use Rattle.automata_base.specs.Answers.Within.{ReportedLiesWithin}
+use Rattle.automata_hybrid.proofs.Known.Passes.{searches_by_known, tried_known}
 use Rattle.automata_hybrid.proofs.Searches.Follows.{call_refused}
 use Rattle.automata_hybrid.proofs.Searches.Reach.{refused_memory}
 use Rattle.automata_hybrid.proofs.Searches.Skips.{found_reported}
@@ -43,5 +45,17 @@ returns-clause-based c =
       done = s.done;
     }
 
+pub returns-clause-effect : goal.returns-clause-effect
+returns-clause-effect c =
+    searches_by_known c.args.self.now c.see_machine.ensures.machine c.see_machine.ensures.bytes Forward c.args.input.now
+    c.args.cache.now c.search.new.cache _ (c.haystack-haystack.ensures.bytes, c.haystack-haystack.ensures.within.1)
+    c.search.ensures.effect
+
 pub returns-clause-upto : goal.returns-clause-upto
-returns-clause-upto c = c.search.ensures.upto refl
+returns-clause-upto c =
+    IfOk-weaker c.search.result _ _
+    (λ o tried. IfSome_then o tried
+    (λ p. tried_known c.args.self.now c.see_machine.ensures.machine c.see_machine.ensures.bytes Forward c.args.input.now
+    (c.haystack-haystack.ensures.bytes, c.haystack-haystack.ensures.within.1) (p.1 - c.args.input.now.start + 1)
+    c.args.cache.now c.search.new.cache))
+    (c.search.ensures.upto refl)

@@ -9,7 +9,8 @@ use Rattle.automata_config.specs.Options.{match_kind_of}
 use Rattle.automata_hybrid.specs.Searches.Contracts.{IsHalf}
 use Rattle.automata_hybrid.specs.Private.Searches.Contracts.{halves}
 use Rattle.automata_hybrid.specs.Searches.Passes.{IsFound}
-use Rattle.automata_hybrid.specs.Searches.Progress.{IsSearchRun}
+use Rattle.automata_hybrid.specs.Private.Searches.Progress.{IsSearchRunInStore}
+use Rattle.automata_hybrid.proofs.Known.Passes.{searches_by_known}
 use Rattle.automata_hybrid.proofs.Searches.Follows.{call_refused}
 use Rattle.automata_hybrid.proofs.Searches.Reach.{refused_memory}
 use Rattle.automata_hybrid.proofs.Searches.Contracts.{halves_err, halves_error, halves_ok}
@@ -54,5 +55,7 @@ returns-clause-half c =
 
 pub returns-clause-effect : goal.returns-clause-effect
 returns-clause-effect c =
-    subst (IsSearchRun Backward c.args.self.now c.args.input.now c.args.cache.now c.search-found.new.cache)
-    (sym (ap result_err c.without_base.ensures ∙ halves_error c.search-found.result)) c.search-found.ensures.effect
+    searches_by_known c.args.self.now c.see_machine.ensures.machine c.see_machine.ensures.bytes Backward c.args.input.now
+    c.args.cache.now c.search-found.new.cache _ (c.haystack-haystack.ensures.bytes, c.haystack-haystack.ensures.within.1)
+    (subst (IsSearchRunInStore Backward c.args.self.now c.args.input.now c.args.cache.now c.search-found.new.cache)
+    (sym (ap result_err c.without_base.ensures ∙ halves_error c.search-found.result)) c.search-found.ensures.effect)

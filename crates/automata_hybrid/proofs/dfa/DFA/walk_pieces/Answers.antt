@@ -4,9 +4,11 @@ use Rattle.std.specs.Result.{result_err}
 use Rattle.automata_base.specs.declared.util.search.MatchErrorKind.TheVariants.{GaveUp}
 use Rattle.automata_config.specs.declared.error.SearchError.TheVariants as search
 use Rattle.automata_hybrid.specs.Cache.Table.{Leads}
-use Rattle.automata_hybrid.specs.Pieces.Progress.{NotHeld, NotPutBack, ReadsThrough, ReadsPieceUpto, TooLong}
-use Rattle.automata_hybrid.specs.Pieces.State.{IsPiecesOf, PiecesView, found_in}
-use Rattle.automata_hybrid.specs.Pieces.Walks.{AsSearch, IsWalkCallRun, IsWalked, NotHeldAt, WalksThrough, WalksUpto}
+use Rattle.automata_hybrid.specs.Private.Pieces.Progress.{NotHeldInStore, NotPutBackInStore, ReadsThroughInStore, ReadsPieceUptoInStore, TooLongInStore}
+use Rattle.automata_hybrid.specs.Pieces.State.{IsPiecesOf, PiecesView}
+use Rattle.automata_hybrid.specs.Private.Pieces.State.{found_in}
+use Rattle.automata_hybrid.specs.Pieces.Walks.{IsWalked}
+use Rattle.automata_hybrid.specs.Private.Pieces.Walks.{AsSearchInStore, IsWalkCallRunInStore, NotHeldAtInStore, WalksThroughInStore, WalksUptoInStore}
 use Rattle.automata_hybrid.specs.Private.Pieces.Walks.{IsPiecesWalk}
 use Rattle.automata_hybrid.specs.Searches.PieceRuns.{piece_state}
 use Rattle.automata_hybrid.proofs.Pieces.Progress.{run_leads, run_left, run_through, run_upto}
@@ -19,8 +21,8 @@ pub returns-in_err-from-clause-effect : goal.returns-in_err-from-clause-effect
 returns-in_err-from-clause-effect c =
     let left = c.in_err-from.ensures.left in
     at_err c.from_residual.result _
-    (λ r. IsWalkCallRun c.args.self.now c.args.piece.now c.args.pieces.now c.args.pieces.now c.args.cache.now c.resume_pieces.new.cache (result_err r))
-    c.from_residual.ensures.1 (AsSearch (NotPutBack left.0 left.1))
+    (λ r. IsWalkCallRunInStore c.args.self.now c.args.piece.now c.args.pieces.now c.args.pieces.now c.args.cache.now c.resume_pieces.new.cache (result_err r))
+    c.from_residual.ensures.1 (AsSearchInStore (NotPutBackInStore left.0 left.1))
 
 pub returns-in_default-clause-walked : goal.returns-in_default-clause-walked
 returns-in_default-clause-walked c =
@@ -30,7 +32,7 @@ returns-in_default-clause-walked c =
 pub returns-in_default-checked_add-clause-effect : goal.returns-in_default-checked_add-clause-effect
 returns-in_default-checked_add-clause-effect c =
     let on = rw c.in-Some.is at c.in_ok-from.ensures.some in
-    AsSearch (TooLong on.0 on.1
+    AsSearchInStore (TooLongInStore on.0 on.1
     (let e = c.bytes_read-base.ensures in let over = c.in_default-checked_add.ensures in omega (arith, e, over))
     (ap (λ e. search.Match e) (c.gave_up.ensures ∙ ap (λ at. GaveUp at) c.bytes_read-base.ensures)))
 
@@ -38,16 +40,16 @@ pub returns-in_err-at-clause-effect : goal.returns-in_err-at-clause-effect
 returns-in_err-at-clause-effect c =
     let on = rw c.in-Some.is at c.in_ok-from.ensures.some in
     at_err c.from_residual-in_err-at.result _
-    (λ r. IsWalkCallRun c.args.self.now c.args.piece.now c.args.pieces.now c.args.pieces.now c.args.cache.now c.run_piece.new.cache (result_err r))
+    (λ r. IsWalkCallRunInStore c.args.self.now c.args.piece.now c.args.pieces.now c.args.pieces.now c.args.cache.now c.run_piece.new.cache (result_err r))
     c.from_residual-in_err-at.ensures.1
-    (AsSearch (run_left c.args.self.now c.args.piece.now c.args.pieces.now on.0 c.args.cache.now c.resume_pieces.new.cache c.run_piece.new.cache
+    (AsSearchInStore (run_left c.args.self.now c.args.piece.now c.args.pieces.now on.0 c.args.cache.now c.resume_pieces.new.cache c.run_piece.new.cache
     c.in-Some.from c.bytes_read-base.result true on.1 on.2 (sym c.requires.walk.early) c.bytes_read-base.ensures
     c.in_err-at.field-0.0 c.in_err-at.ensures.left))
 
 pub returns-then-is_none-clause-walked : goal.returns-then-is_none-clause-walked
 returns-then-is_none-clause-walked c =
     let on = rw c.in-Some.is at c.in_ok-from.ensures.some in
-    let upto : ReadsPieceUpto c.args.self.now c.args.piece.now c.args.pieces.now on.0 c.in-Over.at c.in-Over.found c.resume_pieces.new.cache c.run_piece.new.cache =
+    let upto : ReadsPieceUptoInStore c.args.self.now c.args.piece.now c.args.pieces.now on.0 c.in-Over.at c.in-Over.found c.resume_pieces.new.cache c.run_piece.new.cache =
     run_upto c.args.self.now c.args.piece.now c.args.pieces.now on.0 c.args.cache.now c.resume_pieces.new.cache c.run_piece.new.cache
     c.in-Some.from c.bytes_read-base.result true on.1 on.2 (sym c.requires.walk.early) c.bytes_read-base.ensures
     c.in_ok-at.field-0 c.in-Over.at c.in-Over.found c.in_ok-at.ensures.end c.in-Over.is in
@@ -58,11 +60,11 @@ returns-then-is_none-clause-walked c =
 pub returns-then-is_none-clause-effect : goal.returns-then-is_none-clause-effect
 returns-then-is_none-clause-effect c =
     let on = rw c.in-Some.is at c.in_ok-from.ensures.some in
-    let upto : ReadsPieceUpto c.args.self.now c.args.piece.now c.args.pieces.now on.0 c.in-Over.at c.in-Over.found c.resume_pieces.new.cache c.run_piece.new.cache =
+    let upto : ReadsPieceUptoInStore c.args.self.now c.args.piece.now c.args.pieces.now on.0 c.in-Over.at c.in-Over.found c.resume_pieces.new.cache c.run_piece.new.cache =
     run_upto c.args.self.now c.args.piece.now c.args.pieces.now on.0 c.args.cache.now c.resume_pieces.new.cache c.run_piece.new.cache
     c.in-Some.from c.bytes_read-base.result true on.1 on.2 (sym c.requires.walk.early) c.bytes_read-base.ensures
     c.in_ok-at.field-0 c.in-Over.at c.in-Over.found c.in_ok-at.ensures.end c.in-Over.is in
-    WalksUpto on.0 c.resume_pieces.new.cache c.in-Over.at c.in-Over.found on.1 upto
+    WalksUptoInStore on.0 c.resume_pieces.new.cache c.in-Over.at c.in-Over.found on.1 upto
     (let e = c.bytes_read-base.ensures in let r = c.end.ensures.read in omega (arith, e, r))
 
 pub returns-in_err-stand_in_row-in-Over-clause-walk : goal.returns-in_err-stand_in_row-in-Over-clause-walk
@@ -75,14 +77,14 @@ returns-in_err-stand_in_row-in-Over-clause-walk c =
 pub returns-in_err-stand_in_row-in-Over-clause-effect : goal.returns-in_err-stand_in_row-in-Over-clause-effect
 returns-in_err-stand_in_row-in-Over-clause-effect c =
     let on = rw c.in-Some.is at c.in_ok-from.ensures.some in
-    let upto : ReadsPieceUpto c.args.self.now c.args.piece.now c.args.pieces.now on.0 c.in-Over.at c.in-Over.found c.resume_pieces.new.cache c.run_piece.new.cache =
+    let upto : ReadsPieceUptoInStore c.args.self.now c.args.piece.now c.args.pieces.now on.0 c.in-Over.at c.in-Over.found c.resume_pieces.new.cache c.run_piece.new.cache =
     run_upto c.args.self.now c.args.piece.now c.args.pieces.now on.0 c.args.cache.now c.resume_pieces.new.cache c.run_piece.new.cache
     c.in-Some.from c.bytes_read-base.result true on.1 on.2 (sym c.requires.walk.early) c.bytes_read-base.ensures
     c.in_ok-at.field-0 c.in-Over.at c.in-Over.found c.in_ok-at.ensures.end c.in-Over.is in
     at_err c.from_residual-in_err-stand_in_row-in-Over.result _
-    (λ r. IsWalkCallRun c.args.self.now c.args.piece.now c.args.pieces.now c.stand_in_row.new.pieces c.args.cache.now c.run_piece.new.cache (result_err r))
+    (λ r. IsWalkCallRunInStore c.args.self.now c.args.piece.now c.args.pieces.now c.stand_in_row.new.pieces c.args.cache.now c.run_piece.new.cache (result_err r))
     c.from_residual-in_err-stand_in_row-in-Over.ensures.1
-    (NotHeldAt on.0 c.resume_pieces.new.cache c.in-Over.at c.in-Over.found on.1 upto c.in_err-stand_in_row-in-Over.ensures.error)
+    (NotHeldAtInStore on.0 c.resume_pieces.new.cache c.in-Over.at c.in-Over.found on.1 upto c.in_err-stand_in_row-in-Over.ensures.error)
 
 pub returns-in_err-stand_in_row-in-At-clause-walk : goal.returns-in_err-stand_in_row-in-At-clause-walk
 returns-in_err-stand_in_row-in-At-clause-walk c =
@@ -94,19 +96,19 @@ returns-in_err-stand_in_row-in-At-clause-walk c =
 pub returns-in_err-stand_in_row-in-At-clause-effect : goal.returns-in_err-stand_in_row-in-At-clause-effect
 returns-in_err-stand_in_row-in-At-clause-effect c =
     let on = rw c.in-Some.is at c.in_ok-from.ensures.some in
-    let through : ReadsThrough c.args.self.now c.args.piece.now c.args.pieces.now on.0 c.in-At.id c.in-At.field-1 c.resume_pieces.new.cache c.run_piece.new.cache =
+    let through : ReadsThroughInStore c.args.self.now c.args.piece.now c.args.pieces.now on.0 c.in-At.id c.in-At.field-1 c.resume_pieces.new.cache c.run_piece.new.cache =
     run_through c.args.self.now c.args.piece.now c.args.pieces.now on.0 c.args.cache.now c.resume_pieces.new.cache c.run_piece.new.cache
     c.in-Some.from c.bytes_read-base.result true on.1 on.2 (sym c.requires.walk.early) c.bytes_read-base.ensures
     c.in_ok-at.field-0 c.in-At.id c.in-At.field-1 c.in_ok-at.ensures.end c.in-At.is in
     at_err c.from_residual-in_err-stand_in_row-in-At.result _
-    (λ r. IsWalkCallRun c.args.self.now c.args.piece.now c.args.pieces.now c.stand_in_row-in-At.new.pieces c.args.cache.now c.run_piece.new.cache (result_err r))
+    (λ r. IsWalkCallRunInStore c.args.self.now c.args.piece.now c.args.pieces.now c.stand_in_row-in-At.new.pieces c.args.cache.now c.run_piece.new.cache (result_err r))
     c.from_residual-in_err-stand_in_row-in-At.ensures.1
-    (AsSearch (NotHeld on.0 c.resume_pieces.new.cache c.in-At.id c.in-At.field-1 on.1 through c.in_err-stand_in_row-in-At.ensures.error))
+    (AsSearchInStore (NotHeldInStore on.0 c.resume_pieces.new.cache c.in-At.id c.in-At.field-1 on.1 through c.in_err-stand_in_row-in-At.ensures.error))
 
 pub returns-in_ok-stand_in_row-in-Over-clause-walked : goal.returns-in_ok-stand_in_row-in-Over-clause-walked
 returns-in_ok-stand_in_row-in-Over-clause-walked c =
     let on = rw c.in-Some.is at c.in_ok-from.ensures.some in
-    let upto : ReadsPieceUpto c.args.self.now c.args.piece.now c.args.pieces.now on.0 c.in-Over.at c.in-Over.found c.resume_pieces.new.cache c.run_piece.new.cache =
+    let upto : ReadsPieceUptoInStore c.args.self.now c.args.piece.now c.args.pieces.now on.0 c.in-Over.at c.in-Over.found c.resume_pieces.new.cache c.run_piece.new.cache =
     run_upto c.args.self.now c.args.piece.now c.args.pieces.now on.0 c.args.cache.now c.resume_pieces.new.cache c.run_piece.new.cache
     c.in-Some.from c.bytes_read-base.result true on.1 on.2 (sym c.requires.walk.early) c.bytes_read-base.ensures
     c.in_ok-at.field-0 c.in-Over.at c.in-Over.found c.in_ok-at.ensures.end c.in-Over.is in
@@ -128,17 +130,17 @@ returns-in_ok-stand_in_row-in-Over-clause-walked c =
 pub returns-in_ok-stand_in_row-in-Over-clause-effect : goal.returns-in_ok-stand_in_row-in-Over-clause-effect
 returns-in_ok-stand_in_row-in-Over-clause-effect c =
     let on = rw c.in-Some.is at c.in_ok-from.ensures.some in
-    let upto : ReadsPieceUpto c.args.self.now c.args.piece.now c.args.pieces.now on.0 c.in-Over.at c.in-Over.found c.resume_pieces.new.cache c.run_piece.new.cache =
+    let upto : ReadsPieceUptoInStore c.args.self.now c.args.piece.now c.args.pieces.now on.0 c.in-Over.at c.in-Over.found c.resume_pieces.new.cache c.run_piece.new.cache =
     run_upto c.args.self.now c.args.piece.now c.args.pieces.now on.0 c.args.cache.now c.resume_pieces.new.cache c.run_piece.new.cache
     c.in-Some.from c.bytes_read-base.result true on.1 on.2 (sym c.requires.walk.early) c.bytes_read-base.ensures
     c.in_ok-at.field-0 c.in-Over.at c.in-Over.found c.in_ok-at.ensures.end c.in-Over.is in
-    WalksUpto on.0 c.resume_pieces.new.cache c.in-Over.at c.in-Over.found on.1 upto
+    WalksUptoInStore on.0 c.resume_pieces.new.cache c.in-Over.at c.in-Over.found on.1 upto
     (let e = c.bytes_read-base.ensures in let r = c.in_ok-stand_in_row-in-Over.ensures.stands.read in omega (arith, e, r))
 
 pub returns-in_ok-stand_in_row-in-At-clause-walked : goal.returns-in_ok-stand_in_row-in-At-clause-walked
 returns-in_ok-stand_in_row-in-At-clause-walked c =
     let on = rw c.in-Some.is at c.in_ok-from.ensures.some in
-    let through : ReadsThrough c.args.self.now c.args.piece.now c.args.pieces.now on.0 c.in-At.id c.in-At.field-1 c.resume_pieces.new.cache c.run_piece.new.cache =
+    let through : ReadsThroughInStore c.args.self.now c.args.piece.now c.args.pieces.now on.0 c.in-At.id c.in-At.field-1 c.resume_pieces.new.cache c.run_piece.new.cache =
     run_through c.args.self.now c.args.piece.now c.args.pieces.now on.0 c.args.cache.now c.resume_pieces.new.cache c.run_piece.new.cache
     c.in-Some.from c.bytes_read-base.result true on.1 on.2 (sym c.requires.walk.early) c.bytes_read-base.ensures
     c.in_ok-at.field-0 c.in-At.id c.in-At.field-1 c.in_ok-at.ensures.end c.in-At.is in
@@ -150,9 +152,9 @@ returns-in_ok-stand_in_row-in-At-clause-walked c =
 pub returns-in_ok-stand_in_row-in-At-clause-effect : goal.returns-in_ok-stand_in_row-in-At-clause-effect
 returns-in_ok-stand_in_row-in-At-clause-effect c =
     let on = rw c.in-Some.is at c.in_ok-from.ensures.some in
-    let through : ReadsThrough c.args.self.now c.args.piece.now c.args.pieces.now on.0 c.in-At.id c.in-At.field-1 c.resume_pieces.new.cache c.run_piece.new.cache =
+    let through : ReadsThroughInStore c.args.self.now c.args.piece.now c.args.pieces.now on.0 c.in-At.id c.in-At.field-1 c.resume_pieces.new.cache c.run_piece.new.cache =
     run_through c.args.self.now c.args.piece.now c.args.pieces.now on.0 c.args.cache.now c.resume_pieces.new.cache c.run_piece.new.cache
     c.in-Some.from c.bytes_read-base.result true on.1 on.2 (sym c.requires.walk.early) c.bytes_read-base.ensures
     c.in_ok-at.field-0 c.in-At.id c.in-At.field-1 c.in_ok-at.ensures.end c.in-At.is in
-    WalksThrough on.0 c.resume_pieces.new.cache c.in-At.id c.in-At.field-1 on.1 through
+    WalksThroughInStore on.0 c.resume_pieces.new.cache c.in-At.id c.in-At.field-1 on.1 through
     (let e = c.bytes_read-base.ensures in let r = c.in_ok-stand_in_row-in-At.ensures.stands.read in let a = c.in-Some-checked_add.ensures in omega (arith, e, r, a))

@@ -4,7 +4,7 @@ use Rattle.automata_hybrid.specs.declared.cache.row.Row.{Row}
 use Rattle.automata_hybrid.specs.Cache.Clears.{AllStarts}
 use Rattle.automata_hybrid.specs.Cache.Stores.{Stored}
 use Rattle.automata_hybrid.specs.Cache.Table.{Rows}
-use Rattle.automata_hybrid.specs.Cache.Usage.{Fits}
+use Rattle.automata_hybrid.specs.Private.Cache.Usage.{Fits}
 use Rattle.automata_hybrid.proofs.Caches.Clears.{AllStarts-more}
 use Rattle.automata_hybrid.proofs.Caches.Usage.{IsCache-grown}
 use Rattle.automata_hybrid.proofs.cache.store.Store.add_row.Goals as goal

@@ -1,0 +1,627 @@
+-- What follows of a call of a walk, by what a cache knows.
+use Rattle.std.proofs.Common.{ℕ, zero, suc, ◌≡◌, ◌∙◌, ◌+◌, ◌-◌, ◌<◌, ◌≤◌, ◌⊎◌, inl, inr, List, [], ◌∷◌, ◌++◌, length}
+use Rattle.std.proofs.Common.{Bool, true, false, cond, Option, None, Some, refl, sym, ap, subst, arith}
+use Rattle.std.specs.Prelude.{is_some, option_and_then, option_map}
+use Rattle.std.proofs.lemmas.Bool.{cases_lt}
+use Rattle.automata_base.proofs.Paths.Orders.{none_some, some_none}
+use Rattle.automata_base.specs.Answers.Answers.{offset_in}
+use Rattle.automata_base.specs.ByteClasses.Classes.{is_quit}
+use Rattle.automata_base.specs.Haystacks.Input.{Input}
+use Rattle.automata_base.specs.Paths.Paths.{next as unit_at}
+use Rattle.automata_base.specs.Powersets.Equal.{powerset_eq}
+use Rattle.automata_base.specs.Powersets.Powerset.{Powerset}
+use Rattle.automata_base.specs.declared.util.search.Direction.{Direction}
+use Rattle.automata_config.specs.declared.error.SearchError.{SearchError}
+use Rattle.automata_config.specs.declared.error.StartError.{StartError}
+use Rattle.automata_hybrid.specs.Known.Bounds.{IsKnown}
+use Rattle.automata_hybrid.specs.Known.Cached.{KnowsUnit}
+use Rattle.automata_hybrid.specs.Known.Effects.{EventFollows}
+use Rattle.automata_hybrid.specs.Known.Events.{is_cached}
+use Rattle.automata_hybrid.specs.Known.Growth.{ClearedNothing, HasRoom, IsGrown, IsStill}
+use Rattle.automata_hybrid.specs.Known.Known.{Known, begun, counted, ended, row_in}
+use Rattle.automata_hybrid.specs.Known.Passes.{UnitFails, after_unit, after_many}
+use Rattle.automata_hybrid.specs.Known.Steps.{GivesUpOnStart, IsNotSupported, IsQuitBehind, RunsOutOnStart}
+use Rattle.automata_hybrid.specs.Known.Steps.{StartFails}
+use Rattle.automata_hybrid.specs.Known.Walks.{EndsCall, FailsAfterIt, FailsAtIt, FailsOnItsWay, FailsToGoOn}
+use Rattle.automata_hybrid.specs.Known.Walks.{GivesUpOnIt}
+use Rattle.automata_hybrid.specs.Known.Walks.{IsCallLeftAt, IsNotBack, IsNotResumed, LeavesCall, MayGoOn, ReadsNone}
+use Rattle.automata_hybrid.specs.Known.Walks.{ReadsNoQuit}
+use Rattle.automata_hybrid.specs.Known.Walks.{ReadsSome, RunsOutOnIt, after_resume, after_walked, has_its_row}
+use Rattle.automata_hybrid.specs.Known.Walks.{with_row_back}
+use Rattle.automata_hybrid.specs.Known.WalksFollow.{CallFollows, CallsFollow, KnowsItsState, KnowsUnits, KnowsWalk}
+use Rattle.automata_hybrid.specs.Machines.Machine.{Machine, quits_on}
+use Rattle.automata_hybrid.specs.Searches.Cached.{IsOfInput}
+use Rattle.automata_hybrid.specs.Searches.Passes.{HasReadNoQuit, Skips, behind_offset, given_up_offset, tape_in}
+use Rattle.automata_hybrid.specs.Searches.Progress.{start_event, unit_event}
+use Rattle.automata_hybrid.specs.Searches.Traces.{pass_trace}
+use Rattle.automata_hybrid.specs.Steps.Starts.{MayStart, start_search_error}
+use Rattle.automata_hybrid.specs.Walks.Answers.{HasReported, HasReportedAt, HasReportedBy, IsSilent, IsUnheld}
+use Rattle.automata_hybrid.specs.Walks.Answers.{ReportsNext, WalkReads, start_count}
+use Rattle.automata_hybrid.specs.Walks.Cached.{IsToRead}
+use Rattle.automata_hybrid.specs.Walks.Follows.{IsHoldError, IsInputError, IsKnownError}
+use Rattle.automata_hybrid.specs.Walks.Progress.{ReadsItsUnits}
+use Rattle.automata_hybrid.specs.Walks.State.{At, Ended, Fresh, Ids, Keeping, Stage, States, Walk}
+use Rattle.automata_hybrid.specs.declared.cache.row.Row.{Row}
+use Rattle.automata_hybrid.proofs.Known.Bounds.{HasBounds, known_counted, known_moved}
+use Rattle.automata_hybrid.proofs.Known.Growth.{clears_none, grown_after, grown_counted, grown_less, grown_same}
+use Rattle.automata_hybrid.proofs.Known.Growth.{grown_still, grown_trans}
+use Rattle.automata_hybrid.proofs.Known.Growth.{nothing_after, nothing_first, nothing_second}
+use Rattle.automata_hybrid.proofs.Known.Makes.{back_follows, back_there, event_once, events_follow, mapped}
+use Rattle.automata_hybrid.proofs.Known.PassesFollow.{Leaves, UnitsFollow, event_idle, event_still, then_some}
+use Rattle.automata_hybrid.proofs.Known.PassesFollow.{unit_leaves, units_follow}
+use Rattle.automata_hybrid.proofs.Searches.Follows.{tape_few}
+use Rattle.automata_hybrid.proofs.Searches.PassState.{false_true}
+use Rattle.automata_hybrid.proofs.Steps.Steps.{no_quit_unit}
+use Rattle.automata_hybrid.proofs.Walks.Calls.{clean_here, fresh_at, reported_here}
+use Rattle.automata_hybrid.proofs.Walks.Follows.{at_state, next_stops, to_read}
+use Rattle.automata_hybrid.proofs.Walks.Progress.{reads_some, silent_before, walk_reads_before}
+
+-- a walk that knows its state has its row
+has_row :
+    (way : Direction) (m : Machine) (c : Known) (input : Input) (s : Stage) → KnowsItsState way m c input s
+    → has_its_row c s ≡ true
+has_row way m c input Fresh knows = refl
+has_row way m c input (At q) knows = knows
+has_row way m c input Ended knows = refl
+
+-- a row stays among more rows
+row_in_more :
+    (rows more : List Row) (q : Powerset) → is_some (row_in rows q) ≡ true → is_some (row_in (rows ++ more) q) ≡ true
+row_in_more [] more q has = absurd (false_true has)
+row_in_more (x ∷ rows) more q has = go (powerset_eq q x.state) has (row_in_more rows more q) where
+  go :
+      (b : Bool) → is_some (cond b (Some x) (row_in rows q)) ≡ true
+      → (is_some (row_in rows q) ≡ true → is_some (row_in (rows ++ more) q) ≡ true)
+      → is_some (cond b (Some x) (row_in (rows ++ more) q)) ≡ true
+  go true has rest = refl
+  go false has rest = rest has
+
+-- what a walk goes on from stays where nothing is cleared
+state_still :
+    (way : Direction) (m : Machine) (input : Input) (s : Stage) (old new : Known) → IsGrown m old new
+    → ClearedNothing old new
+    → KnowsItsState way m old input s → KnowsItsState way m new input s
+state_still way m input Fresh old new grown nothing knows =
+    event_still m (start_event way input) old new grown nothing knows
+state_still way m input (At q) old new grown nothing knows =
+    let kept = grown.kept nothing in
+    subst (λ (rows : List Row). is_some (row_in rows q) ≡ true) (sym kept.rows)
+    (row_in_more old.rows kept.added q knows)
+state_still way m input Ended old new grown nothing knows = tt
+
+-- nothing is cleared where there is room, also for the state where a walk stands
+call_clears_none :
+    (m : Machine) (old new : Known) (s : Stage) (n : ℕ) → IsGrown m old (counted new)
+    → (has_its_row old s ≡ true → IsGrown m old new) → new.count ≤ old.count + n + start_count s → HasRoom m old (n + 1)
+    → new.clears ≡ old.clears
+call_clears_none m old new Fresh n whole there few room =
+    clears_none m old new (n + 1) (there refl) (omega (arith, few)) room
+call_clears_none m old new (At q) n whole there few room =
+    clears_none m old (counted new) (n + 1) whole (omega (arith, few)) room
+call_clears_none m old new Ended n whole there few room =
+    clears_none m old new (n + 1) (there refl) (omega (arith, few)) room
+
+-- the cache with the state that a walk goes on from, and then units that are read
+record Went (way : Direction) (m : Machine) (input : Input) (s : Stage) (from units : ℕ)
+    (old new : Known) : Type 0 where
+  pub base : Known
+  pub resumed : after_resume way m input s old ≡ Some base
+  pub run :
+      after_many (pass_trace way m input) way m input from units (begun (given_up_offset way input from) base)
+      ≡ Some new
+
+went :
+    (way : Direction) (m : Machine) (input : Input) (s : Stage) (from units : ℕ) (old new : Known)
+    → after_walked way m input s from units old ≡ Some new → Went way m input s from units old new
+went way m input s from units old new is =
+    let parts =
+    then_some (after_many (pass_trace way m input) way m input from units)
+    (option_map (begun (given_up_offset way input from)) (after_resume way m input s old)) new is in
+    let first = mapped (begun (given_up_offset way input from)) (after_resume way m input s old) parts.0 parts.1 in
+    record {
+      base = first.0;
+      resumed = first.1;
+      run =
+          subst (λ (c : Known). after_many (pass_trace way m input) way m input from units c
+          ≡ Some new) first.2 parts.2;
+    }
+
+-- one unit more
+units_more :
+    (way : Direction) (m : Machine) (input : Input) (from n : ℕ) (c mid new : Known)
+    → after_many (pass_trace way m input) way m input from n c ≡ Some mid
+    → after_unit (pass_trace way m input) way m input (from + n) mid ≡ Some new
+    → after_many (pass_trace way m input) way m input from (suc n) c ≡ Some new
+unfolding after_many
+units_more way m input from n c mid new run here =
+    ap (option_and_then (after_unit (pass_trace way m input) way m input (from + n))) run ∙ here
+
+-- a walk has what it goes on from
+record Resumed (way : Direction) (m : Machine) (input : Input) (s : Stage) (old base : Known) : Type 0 where
+  pub may : MayStart m input.anchored (tape_in way input).before
+  pub sound : IsKnown m base
+  pub cost : base.count ≤ old.count + start_count s
+  pub grown : IsGrown m old (counted base)
+  pub there : has_its_row old s ≡ true → IsGrown m old base
+  pub same : KnowsItsState way m old input s → base ≡ old
+  pub back : (q : Powerset) → s ≡ At q → with_row_back m q old ≡ Some base
+  pub learned : KnowsItsState way m base input s
+
+-- it has it not
+record Unresumed (way : Direction) (m : Machine) (input : Input) (s : Stage) (old new : Known)
+    (e : SearchError) : Type 0 where
+  pub cost : new.count ≤ old.count + start_count s
+  pub grown : IsGrown m old new
+  pub sound : IsKnown m new
+  pub same : KnowsItsState way m old input s → new.count ≡ old.count
+  pub back : (q : Powerset) → s ≡ At q → new ≡ old
+  pub known :
+      (MayStart m input.anchored (tape_in way input).before → KnowsItsState way m old input s)
+      → (new.count ≡ old.count) × IsOfInput e
+
+module _ (way : Direction) (m : Machine) (input : Input) (bounds : HasBounds m) (skips : Skips m ⊎ (Skips m → ⊥))
+    (w : Walk) (k : ℕ)
+    (reported : HasReported way m input w k) where
+  has_resumed :
+      (old base : Known) → IsKnown m old → (s : Stage) → HasReportedAt way m input s w.units w.reported k
+      → MayGoOn way m input s → after_resume way m input s old ≡ Some base → Resumed way m input s old base
+  has_resumed old base sound Fresh at may is = record {
+    may = may refl;
+    sound = f.sound;
+    cost = event_once m (start_event way input) old base f;
+    grown = grown_less m old base f.grown;
+    there = λ has. f.grown;
+    same = λ knows. f.known knows;
+    back = λ q is. absurd (fresh_at q is);
+    learned = f.learned;
+  } where
+    f : EventFollows m (start_event way input) old base
+    f = events_follow m bounds (start_event way input) old base sound is
+  has_resumed old base sound (At q) at may is =
+      let b = back_follows m q old base sound bounds at.row.cheap is in
+      record {
+        may = at.may;
+        sound = b.sound;
+        cost = omega (arith, b.counted_same);
+        grown = b.grown;
+        there = λ has. grown_same m old base (b.there has);
+        same = λ has. b.there has;
+        back = λ p at_p. subst (λ (x : Powerset). with_row_back m x old ≡ Some base) (ap (at_state q) at_p) is;
+        learned = b.has at.row.alive;
+      }
+  has_resumed old base sound Ended at may is = absurd (none_some is)
+
+  not_resumed :
+      (old new : Known) (e : SearchError) → IsKnown m old → (s : Stage)
+      → HasReportedAt way m input s w.units w.reported k
+      → IsNotResumed way m input s w.units old new e → Unresumed way m input s old new e
+  not_resumed old new e sound Fresh at fails = go fails.error fails.fails fails.reported where
+    barred : new ≡ old → IsOfInput e → Unresumed way m input Fresh old new e
+    barred same of =
+        let count : new.count ≡ old.count = ap (λ (c : Known). c.count) same in
+        record {
+          cost = omega (arith, count);
+          grown = grown_same m old new same;
+          sound = subst (IsKnown m) (sym same) sound;
+          same = λ knows. count;
+          back = λ q is. absurd (fresh_at q is);
+          known = λ knows. (count, of);
+        }
+
+    failed :
+        MayStart m input.anchored (tape_in way input).before → is_cached m (start_event way input) old ≡ false
+        → new ≡ counted old → Unresumed way m input Fresh old new e
+    failed may free same = record {
+      cost = omega (arith, ap (λ (c : Known). c.count) same);
+      grown = grown_counted m old new same;
+      sound = subst (IsKnown m) (sym same) (known_counted m old sound);
+      same = λ knows. absurd (false_true (sym free ∙ knows));
+      back = λ q is. absurd (fresh_at q is);
+      known = λ knows. absurd (false_true (sym free ∙ knows may));
+    }
+
+    go :
+        (error : StartError) → StartFails m input.anchored (tape_in way input).before old new error
+        → e ≡ start_search_error error (behind_offset way input) (offset_in way input 0)
+        → Unresumed way m input Fresh old new e
+    go error (IsQuitBehind byte quits is same) reported =
+        barred same
+        (subst IsOfInput (sym
+        (reported ∙ ap (λ x. start_search_error x (behind_offset way input) (offset_in way input 0)) is)) tt)
+    go error (IsNotSupported clear lacks is same) reported =
+        barred same
+        (subst IsOfInput (sym
+        (reported ∙ ap (λ x. start_search_error x (behind_offset way input) (offset_in way input 0)) is)) tt)
+    go error (GivesUpOnStart may free none err is same) reported = failed may free same
+    go error (RunsOutOnStart may free is same) reported = failed may free same
+  not_resumed old new e sound (At q) at fails = go fails where
+    still : new ≡ old → (has_its_row old (At q) ≡ true → ⊥) → Unresumed way m input (At q) old new e
+    still same lacks =
+        let count : new.count ≡ old.count = ap (λ (c : Known). c.count) same in
+        record {
+          cost = omega (arith, count);
+          grown = grown_same m old new same;
+          sound = subst (IsKnown m) (sym same) sound;
+          same = λ knows. count;
+          back = λ p is. same;
+          known = λ knows. absurd (lacks (knows at.may));
+        }
+
+    go : IsNotBack m q (given_up_offset way input w.units) old new e → Unresumed way m input (At q) old new e
+    go (GivesUpOnIt none is same) = still same (λ has. some_none (sym (back_there m q old has) ∙ none))
+    go (RunsOutOnIt lacks room is same) =
+        still same (λ has. false_true (ap (λ (o : Option Row). is_some o) (sym lacks) ∙ has))
+  not_resumed old new e sound Ended at fails = absurd fails
+
+  -- a call that went on from there, and stepped over so many units at most
+  module _ (old base new : Known) (r : Resumed way m input w.stage old base)
+      (reads : IsToRead input w.stage w.units w.reported)
+      (grown : IsGrown m base new) (sound : IsKnown m new) (n : ℕ) (few : new.count ≤ base.count + n)
+      (within : w.units + n ≤ input.end - input.start + 1) where
+    whole : IsGrown m old (counted new)
+    whole = grown_after m old base new r.grown grown
+
+    there : has_its_row old w.stage ≡ true → IsGrown m old new
+    there has = grown_trans m old base new (r.there has) grown
+
+    most : new.count ≤ old.count + (input.end - input.start + 1 - w.units) + start_count w.stage
+    most = omega (arith, few, within, r.cost)
+
+    base_count : KnowsItsState way m old input w.stage → base.count ≡ old.count
+    base_count knows = ap (λ (c : Known). c.count) (r.same knows)
+
+    known_then :
+        {A : Type 0} → (KnowsUnits way m base input w.units k → (new.count ≡ base.count) × A)
+        → KnowsWalk way m old input w
+        → ((new.count ≡ old.count) × (has_its_row old w.stage ≡ true)) × A
+    known_then known knows =
+        let all = knows k reported reads r.may in
+        let same : base ≡ old = r.same all.0 in
+        let idle = known (subst (λ (c : Known). KnowsUnits way m c input w.units k) (sym same) all.1) in
+        ((idle.0 ∙ ap (λ (c : Known). c.count) same, has_row way m old input w.stage all.0), idle.1)
+
+    follows_ok :
+        (keeping : Keeping) (next : Walk) → next.units ≡ w.units + n
+        → (ClearedNothing base new → (j : ℕ) → HasReported way m input w j → KnowsUnits way m new input w.units j)
+        → (KnowsUnits way m base input w.units k → new.count ≡ base.count)
+        → CallFollows keeping way m input w next old new None
+    follows_ok keeping next units learned known = record {
+      rises = omega (arith, units);
+      cost = omega (arith, units, few, r.cost);
+      most = most;
+      started = λ knows. (let c = base_count knows in (omega (arith, c, few, within), omega (arith, c, few, units)));
+      roomy = λ room. call_clears_none m old new w.stage (input.end - input.start + 1 - w.units) whole there most room;
+      grown = whole;
+      there = there;
+      put_back = λ q at lacks. inr (base, r.back q at, grown);
+      sound = sound;
+      learned = λ nothing j t again may. (
+          let after = nothing_after m old base new r.grown grown nothing in
+          (state_still way m input w.stage base new grown after r.learned, learned after j t));
+      known =
+          λ knows. (let all = known_then {A = Unit {0}} (λ units. (known units, tt)) knows in
+          ((there all.0.1).idle all.0.0, tt));
+      ready = λ none. absurd (reads_some input w reads none);
+    }
+
+    follows_err :
+        (keeping : Keeping) (next : Walk) (e : SearchError)
+        → (KnowsUnits way m base input w.units k → (new.count ≡ base.count) × IsKnownError keeping way m input w e)
+        → CallFollows keeping way m input w next old new (Some e)
+    follows_err keeping next e known = record {
+      rises = tt;
+      cost = tt;
+      most = most;
+      started = λ knows. (let c = base_count knows in (omega (arith, c, few, within), tt));
+      roomy = λ room. call_clears_none m old new w.stage (input.end - input.start + 1 - w.units) whole there most room;
+      grown = whole;
+      there = there;
+      put_back = λ q at lacks. inr (base, r.back q at, grown);
+      sound = sound;
+      learned = λ nothing. tt;
+      known = λ knows. (let all = known_then known knows in ((there all.0.1).idle all.0.0, all.1));
+      ready = λ none. absurd (reads_some input w reads none);
+    }
+
+  module _ (old base : Known) (r : Resumed way m input w.stage old base)
+      (reads : IsToRead input w.stage w.units w.reported) where
+    here : HasReportedBy way m input w.units k
+    here = reported_here way m input w k skips reported reads.on reads.all_reported
+
+    goes :
+        (n : ℕ) (mid : Known)
+        → after_many (pass_trace way m input) way m input w.units n (begun (given_up_offset way input w.units) base)
+        ≡ Some mid
+        → UnitsFollow (pass_trace way m input) way m input w.units n
+        (begun (given_up_offset way input w.units) base) mid
+    goes n mid run =
+        units_follow (pass_trace way m input) way m input w.units bounds n
+        (begun (given_up_offset way input w.units) base) mid
+        (known_moved m base (begun (given_up_offset way input w.units) base).searched r.sound) run
+
+    grows : (mid : Known) → IsGrown m (begun (given_up_offset way input w.units) base) mid → IsGrown m base mid
+    grows mid grown =
+        grown_trans m base (begun (given_up_offset way input w.units) base) mid
+        (grown_still m base (begun (given_up_offset way input w.units) base) refl) grown
+
+    -- each unit that is read is cached
+    uses :
+        (n : ℕ) → ((j : ℕ) → w.units ≤ j → j < w.units + n → WalkReads way m input j × IsSilent way m input w.units j)
+        → ((j : ℕ) → j < w.units + n → HasReadNoQuit way m input (suc j)) → KnowsUnits way m base input w.units k
+        → (j : ℕ) → w.units ≤ j → j < w.units + n → KnowsUnit way m base input j
+    uses n each clean knows j more less = knows j more (each j more less).0 (clean j less) ((each j more less).1 k here)
+
+    -- the units were read, and then no more were
+    call_reads :
+        (keeping : Keeping) (next : Walk) (new mid : Known) (n : ℕ) → ReportsNext way m input w next
+        → next.units ≡ w.units + n → ReadsItsUnits way m input w next → ReadsNoQuit way m input w.units n
+        → after_many (pass_trace way m input) way m input w.units n (begun (given_up_offset way input w.units) base)
+        ≡ Some mid
+        → new ≡ ended (given_up_offset way input (w.units + (n - 1))) mid
+        → CallFollows keeping way m input w next old new None
+    call_reads keeping next new mid n reports count its clean run ends =
+        follows_ok old base new r reads (grows new rest)
+        (subst (IsKnown m) (sym ends)
+        (known_moved m mid (ended (given_up_offset way input (w.units + (n - 1))) mid).searched g.sound))
+        n (omega (arith, g.counted, same)) (within n refl) keeping next count
+        (λ nothing j t i more walks quits by. known j t i more walks by
+        (nothing_first m (begun (given_up_offset way input w.units) base) mid new g.grown last nothing)
+        (cases_lt i next.units))
+        (λ knows. same ∙ g.known
+        (uses n (λ j more less. its.0 j more (omega (arith, less, count)))
+        (λ j less i byte before unit. clean_to i byte (omega (arith, before, less)) unit) knows))
+      where
+        g :
+            UnitsFollow (pass_trace way m input) way m input w.units n
+            (begun (given_up_offset way input w.units) base) mid
+        g = goes n mid run
+
+        last : IsGrown m mid new
+        last = grown_still m mid new (subst (λ (c : Known). IsStill mid c) (sym ends) refl)
+
+        rest : IsGrown m (begun (given_up_offset way input w.units) base) new
+        rest = grown_trans m (begun (given_up_offset way input w.units) base) mid new g.grown last
+
+        same : new.count ≡ mid.count
+        same = ap (λ (c : Known). c.count) ends
+
+        clean_to : HasReadNoQuit way m input (w.units + n)
+        clean_to j byte less unit = go (cases_lt j w.units) where
+          go : (j < w.units) ⊎ (w.units ≤ j) → is_quit m.quits byte ≡ false
+          go (inl before) = clean_here way m input w k reported reads.on j byte before unit
+          go (inr behind) =
+              let place : w.units + (j - w.units) ≡ j = omega (arith, behind) in
+              no_quit_unit m (unit_at (tape_in way input) j)
+              (subst (λ i. quits_on m (unit_at (tape_in way input) i) ≡ false) place
+              (clean (j - w.units) (omega (arith, behind, less))))
+              byte unit
+
+        within : (i : ℕ) → i ≡ n → w.units + n ≤ input.end - input.start + 1
+        within zero is = omega (arith, is, reads.left)
+        within (suc i) is =
+            let one : w.units + i ≤ length (tape_in way input).bytes =
+            (its.0 (w.units + i) (omega arith) (omega (arith, is, count))).0.0 in
+            omega (arith, is, one, tape_few way input)
+
+        known :
+            (j : ℕ) → HasReported way m input w j → (i : ℕ) → w.units ≤ i → WalkReads way m input i
+            → HasReportedBy way m input i j
+            → ClearedNothing (begun (given_up_offset way input w.units) base) mid → (i < next.units) ⊎ (next.units ≤ i)
+            → KnowsUnit way m new input i
+        known j t i more walks by nothing (inl less) =
+            subst (λ (c : Known). KnowsUnit way m c input i) (sym ends)
+            (g.learned nothing i more (omega (arith, less, count)))
+        known j t i more walks by nothing (inr past) =
+            absurd (next_stops way m input skips w k reported next j (reports j t).0 its.1 i past walks by)
+
+    -- it failed after so many units
+    module _ (keeping : Keeping) (next : Walk) (new mid : Known) (e : SearchError) (n : ℕ)
+        (walks : WalkReads way m input (w.units + n)) (clean : HasReadNoQuit way m input (w.units + n))
+        (silent : IsSilent way m input w.units (w.units + n))
+        (run : after_many (pass_trace way m input) way m input w.units n
+        (begun (given_up_offset way input w.units) base) ≡ Some mid) where
+      within_left : w.units + suc n ≤ input.end - input.start + 1
+      within_left =
+          let one : w.units + n ≤ length (tape_in way input).bytes = walks.0 in omega (arith, one, tape_few way input)
+
+      each : (j : ℕ) → w.units ≤ j → j < w.units + suc n → WalkReads way m input j × IsSilent way m input w.units j
+      each j more less = (
+        walk_reads_before way m input j (w.units + n) (omega (arith, less)) walks,
+        silent_before way m input w.units j (w.units + n) more (omega (arith, less)) silent,
+      )
+
+      clean_before : (j : ℕ) → j < w.units + n → HasReadNoQuit way m input (suc j)
+      clean_before j less i byte before unit = clean i byte (omega (arith, before, less)) unit
+
+      -- at the next one
+      call_stops :
+          UnitFails way m input (w.units + n) mid new e → CallFollows keeping way m input w next old new (Some e)
+      call_stops fails =
+          follows_err old base new r reads
+          (grows new (grown_trans m (begun (given_up_offset way input w.units) base) mid new g.grown l.grown)) l.sound
+          (suc n)
+          (omega (arith, g.counted, l.counted)) within_left keeping next e
+          (λ knows. (
+          let idle : mid.count ≡ base.count =
+          g.known (λ j more less. uses n (λ i a b. each i a (omega (arith, b))) clean_before knows j more less) in
+          let quit =
+          l.known (λ quits. event_idle m (unit_event (pass_trace way m input) way input (w.units + n)) base mid
+          (grows mid g.grown) idle
+          (knows (w.units + n) (omega arith) walks quits (silent k here))) in
+          (quit.0 ∙ idle, IsInputError quit.1)))
+        where
+          g :
+              UnitsFollow (pass_trace way m input) way m input w.units n
+              (begun (given_up_offset way input w.units) base) mid
+          g = goes n mid run
+
+          l : Leaves way m input (w.units + n) mid new e
+          l = unit_leaves way m input (w.units + n) mid new e clean g.sound fails
+
+      -- or after it, since the state cannot be held
+      call_unheld :
+          IsUnheld way m input (w.units + n) e
+          → after_unit (pass_trace way m input) way m input (w.units + n) mid ≡ Some new
+          → IsKnownError keeping way m input w e → CallFollows keeping way m input w next old new (Some e)
+      call_unheld unheld read why =
+          follows_err old base new r reads (grows new g.grown) g.sound (suc n) g.counted within_left keeping next e
+          (λ knows. (
+            g.known (uses (suc n) each
+                (λ j less i byte before unit. upto i byte (omega (arith, before, less)) unit) knows),
+            why,
+          ))
+        where
+          g :
+              UnitsFollow (pass_trace way m input) way m input w.units (suc n)
+              (begun (given_up_offset way input w.units) base) new
+          g =
+              goes (suc n) new (units_more way m input w.units n
+              (begun (given_up_offset way input w.units) base) mid new run read)
+
+          upto : HasReadNoQuit way m input (w.units + suc n)
+          upto j byte less unit = go (cases_lt j (w.units + n)) where
+            go : (j < w.units + n) ⊎ (w.units + n ≤ j) → is_quit m.quits byte ≡ false
+            go (inl before) = clean j byte before unit
+            go (inr more) =
+                let place : w.units + n ≡ j = omega (arith, less, more) in
+                no_quit_unit m (unit_at (tape_in way input) (w.units + n)) unheld.clean byte
+                (ap (unit_at (tape_in way input)) place ∙ unit)
+
+  -- what a call that answered leaves: the units read lie in the span, and their transitions are cached
+  pub record Reads (next : Walk) (old new : Known) : Type 0 where
+    pub few : w.units ≤ input.end - input.start + 1 → next.units ≤ input.end - input.start + 1
+    pub learned :
+        has_its_row old w.stage ≡ true → ClearedNothing old new → (j : ℕ) → w.units ≤ j → j < next.units
+        → KnowsUnit way m new input j
+
+  pub call_read :
+      (next : Walk) (old new : Known) → IsKnown m old → EndsCall way m input w next old new → Reads next old new
+  call_read next old new sound (ReadsNone over none same still) = record {
+    few = λ l. omega (arith, l, same);
+    learned = λ there nothing j more less. absurd (omega (arith, more, less, same));
+  }
+  call_read next old new sound (ReadsSome over c) = record {
+    few = within c.units refl;
+    learned = λ there nothing j more less. (
+        let first = nothing_second m old way_there.base new (r.there there) rest nothing in
+        subst (λ (v : Known). KnowsUnit way m v input j) (sym parts.2)
+        (g.learned (nothing_first m
+        (begun (given_up_offset way input w.units) way_there.base) parts.0 new g.grown last first) j more
+        (omega (arith, less, c.counted))));
+  } where
+    parts :
+        (mid : Known) × (after_walked way m input w.stage w.units c.units old ≡ Some mid)
+        × (new ≡ ended (given_up_offset way input (w.units + (c.units - 1))) mid)
+    parts =
+        mapped (ended (given_up_offset way input (w.units + (c.units - 1))))
+        (after_walked way m input w.stage w.units c.units old) new c.run
+
+    way_there : Went way m input w.stage w.units c.units old parts.0
+    way_there = went way m input w.stage w.units c.units old parts.0 parts.1
+
+    r : Resumed way m input w.stage old way_there.base
+    r = has_resumed old way_there.base sound w.stage reported c.may way_there.resumed
+
+    g :
+        UnitsFollow (pass_trace way m input) way m input w.units c.units
+        (begun (given_up_offset way input w.units) way_there.base) parts.0
+    g = goes old way_there.base r (to_read way m input skips w k reported c.some) c.units parts.0 way_there.run
+
+    last : IsGrown m parts.0 new
+    last = grown_still m parts.0 new (subst (λ (v : Known). IsStill parts.0 v) (sym parts.2) refl)
+
+    rest : IsGrown m way_there.base new
+    rest =
+        grown_trans m way_there.base parts.0 new
+        (grows old way_there.base r (to_read way m input skips w k reported c.some) parts.0 g.grown) last
+
+    within : (i : ℕ) → i ≡ c.units → w.units ≤ input.end - input.start + 1 → next.units ≤ input.end - input.start + 1
+    within zero is l = omega (arith, is, c.counted, l)
+    within (suc i) is l =
+        let one : w.units + i ≤ length (tape_in way input).bytes =
+        (c.its.0 (w.units + i) (omega arith) (omega (arith, is, c.counted))).0.0 in
+        omega (arith, is, c.counted, one, tape_few way input)
+
+  -- a call that answered
+  pub call_ended :
+      (keeping : Keeping) (next : Walk) (old new : Known) → IsKnown m old → ReportsNext way m input w next
+      → EndsCall way m input w next old new → CallFollows keeping way m input w next old new None
+  call_ended keeping next old new sound reports (ReadsNone over none same still) =
+      let count : new.count ≡ old.count = ap (λ (c : Known). c.count) still in
+      record {
+        rises = omega (arith, same);
+        cost = omega (arith, same, count);
+        most = omega (arith, count);
+        started = λ _. (omega (arith, count), omega (arith, same, count));
+        roomy = λ _. ap (λ (c : Known). c.clears) still;
+        grown = grown_less m old new (grown_same m old new still);
+        there = λ _. grown_same m old new still;
+        put_back = λ q at lacks. inl still;
+        sound = subst (IsKnown m) (sym still) sound;
+        learned = λ nothing j t ready may. absurd (reads_some input w ready none);
+        known = λ _. ((grown_same m old new still).idle count, tt);
+        ready = λ _. still;
+      }
+  call_ended keeping next old new sound reports (ReadsSome over c) =
+      let parts =
+      mapped (ended (given_up_offset way input (w.units + (c.units - 1))))
+      (after_walked way m input w.stage w.units c.units old) new c.run in
+      let way_there = went way m input w.stage w.units c.units old parts.0 parts.1 in
+      call_reads old way_there.base (has_resumed old way_there.base sound w.stage reported c.may way_there.resumed)
+      (to_read way m input skips w k reported c.some) keeping next new parts.0 c.units reports c.counted c.its c.clean
+      way_there.run parts.2
+
+  -- a call that failed
+  pub call_left :
+      (keeping : Keeping) (next : Walk) (old new : Known) (e : SearchError) → IsKnown m old
+      → LeavesCall keeping way m input w old new e → CallFollows keeping way m input w next old new (Some e)
+  call_left keeping next old new e sound (FailsToGoOn reads fails) =
+      let r = to_read way m input skips w k reported reads in
+      let u = not_resumed old new e sound w.stage reported fails in
+      record {
+        rises = tt;
+        cost = tt;
+        most = omega (arith, u.cost, r.left);
+        started = λ knows. (let c = u.same knows in (omega (arith, c), tt));
+        roomy = λ room.
+            call_clears_none m old new w.stage (input.end - input.start + 1 - w.units) (grown_less m old new u.grown)
+            (λ _. u.grown)
+            (omega (arith, u.cost, r.left)) room;
+        grown = grown_less m old new u.grown;
+        there = λ _. u.grown;
+        put_back = λ q at lacks. inl (u.back q at);
+        sound = u.sound;
+        learned = λ nothing. tt;
+        known =
+            λ knows. (let x = u.known (λ may. (knows k reported r may).0) in
+            (u.grown.idle x.0, IsInputError x.1));
+        ready = λ none. absurd (reads none);
+      }
+  call_left keeping next old new e sound (FailsOnItsWay reads s) = go keeping s.left where
+    r : IsToRead input w.stage w.units w.reported
+    r = to_read way m input skips w k reported reads
+
+    way_there : Went way m input w.stage w.units s.units old s.mid
+    way_there = went way m input w.stage w.units s.units old s.mid s.run
+
+    has : Resumed way m input w.stage old way_there.base
+    has = has_resumed old way_there.base sound w.stage reported s.may way_there.resumed
+
+    go :
+        (keeping : Keeping) → IsCallLeftAt keeping way m input (w.units + s.units) s.mid new e
+        → CallFollows keeping way m input w next old new (Some e)
+    go keeping (FailsAtIt fails) =
+        call_stops old way_there.base has r keeping next new s.mid e s.units s.reads s.clean s.silent way_there.run
+        fails
+    go Ids (FailsAfterIt kept unheld read) = absurd (let is : Ids ≡ States = kept in cc)
+    go States (FailsAfterIt kept unheld read) =
+        call_unheld old way_there.base has r States next new s.mid e s.units s.reads s.clean s.silent way_there.run
+        unheld read
+        (IsHoldError refl (w.units + s.units) (omega arith) unheld)
+
+-- each call
+pub calls_follow : (m : Machine) → HasBounds m → Skips m ⊎ (Skips m → ⊥) → CallsFollow m
+calls_follow m bounds skips keeping way input walk next old new None sound (k, reported) reports run =
+    call_ended way m input bounds skips walk k reported keeping next old new sound reports run
+calls_follow m bounds skips keeping way input walk next old new (Some e) sound (k, reported) reports run =
+    call_left way m input bounds skips walk k reported keeping next old new e sound run

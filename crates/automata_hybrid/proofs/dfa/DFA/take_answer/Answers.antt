@@ -1,0 +1,64 @@
+use Rattle.std.proofs.Common.{◌∙◌, ap₂, subst, sym}
+use Rattle.std.specs.Result.{result_err}
+use Rattle.automata_base.specs.Answers.OfPasses.{ReportedEndsAreRight, ReportedIsRight}
+use Rattle.automata_base.specs.Answers.Within.{ReportedLiesWithin}
+use Rattle.automata_base.specs.Nfas.Nodes.{Automaton}
+use Rattle.automata_hybrid.specs.Cache.Table.{Leads, Names, Rows}
+use Rattle.automata_hybrid.specs.Pieces.Answers.{EndsHere}
+use Rattle.automata_hybrid.specs.Private.Pieces.Progress.{IsAnswerRunInStore, NotBackInStore}
+use Rattle.automata_hybrid.specs.Searches.PassState.{half_at}
+use Rattle.automata_hybrid.proofs.Pieces.Answers.{ends_none, ends_some}
+use Rattle.automata_hybrid.proofs.Pieces.Progress.{answer_ends, answer_left}
+use Rattle.automata_hybrid.proofs.Searches.Reads.{at_err}
+use Rattle.automata_hybrid.proofs.dfa.DFA.take_answer.Goals as goal
+
+pub returns-in_err-from-clause-effect : goal.returns-in_err-from-clause-effect
+returns-in_err-from-clause-effect c =
+    let left = c.in_err-from.ensures.left in
+    at_err c.from_residual.result _
+    (λ r. IsAnswerRunInStore c.args.self.now c.args.look_ahead c.args.pieces.now c.args.cache.now c.resume_pieces.new.cache (result_err r))
+    c.from_residual.ensures.1 (NotBackInStore left.0 left.1)
+
+pub returns-in_default-clause-answer : goal.returns-in_default-clause-answer
+returns-in_default-clause-answer c =
+    let law = subst (λ (a : Automaton). ReportedIsRight a) c.get_nfa.ensures c.reported_is_right.ensures.answer in
+    let ends = subst (λ (a : Automaton). ReportedEndsAreRight a) c.get_nfa.ensures c.reported_is_right.ensures.ends in
+    let lies = subst ReportedLiesWithin c.get_nfa.ensures c.reported_is_right.ensures.within in
+    subst (EndsHere c.args.self.now c.args.pieces.now c.args.look_ahead) (sym c.get_match.ensures)
+    (ends_none c.args.self.now law ends lies c.args.look_ahead c.args.pieces.now (rw c.in_default.is at c.in_ok-from.ensures.none).0)
+
+pub returns-in_err-next-clause-effect : goal.returns-in_err-next-clause-effect
+returns-in_err-next-clause-effect c =
+    let on = rw c.in-Some.is at c.in_ok-from.ensures.some in
+    let named : Names c.search_start.new.self.store.table c.in-Some.from on.0 =
+    subst (λ (t : Rows). Names t c.in-Some.from on.0) (sym c.search_start.ensures.table) on.2 in
+    at_err c.from_residual-in_err-next.result _
+    (λ r. IsAnswerRunInStore c.args.self.now c.args.look_ahead c.args.pieces.now c.args.cache.now c.read.new.cache (result_err r))
+    c.from_residual-in_err-next.ensures.1
+    (answer_left c.args.self.now c.args.look_ahead c.args.pieces.now on.0 c.args.cache.now c.resume_pieces.new.cache c.search_start.new.self
+    c.in-Some.from c.bytes_read-at.result on.1 c.bytes_read-at.ensures c.search_start.ensures.value named c.in_err-next.field-0.0 c.read.new.cache
+    c.in_err-next.ensures.read)
+
+pub returns-clause-answer : goal.returns-clause-answer
+returns-clause-answer c =
+    let law = subst (λ (a : Automaton). ReportedIsRight a) c.get_nfa.ensures c.reported_is_right.ensures.answer in
+    let ends = subst (λ (a : Automaton). ReportedEndsAreRight a) c.get_nfa.ensures c.reported_is_right.ensures.ends in
+    let lies = subst ReportedLiesWithin c.get_nfa.ensures c.reported_is_right.ensures.within in
+    let on = rw c.in-Some.is at c.in_ok-from.ensures.some in
+    let named : Names c.search_start.new.self.store.table c.in-Some.from on.0 =
+    subst (λ (t : Rows). Names t c.in-Some.from on.0) (sym c.search_start.ensures.table) on.2 in
+    ends_some c.args.self.now c.args.look_ahead c.args.pieces.now on.0 c.search_start.new.self c.read.new.cache
+    c.in-Some.from c.in_ok-next.next c.found_at.result on.1.0 named c.in_ok-next.ensures.read.answer
+    (λ s l.
+    c.found_at.ensures s (subst (λ (t : Rows). Leads t c.in_ok-next.next s) (sym c.end_search.ensures.table) l)
+    ∙ ap₂ (λ at found. half_at s.patterns at found) c.bytes_read-at.ensures c.get_match-2.ensures)
+    law ends lies
+
+pub returns-clause-effect : goal.returns-clause-effect
+returns-clause-effect c =
+    let on = rw c.in-Some.is at c.in_ok-from.ensures.some in
+    let named : Names c.search_start.new.self.store.table c.in-Some.from on.0 =
+    subst (λ (t : Rows). Names t c.in-Some.from on.0) (sym c.search_start.ensures.table) on.2 in
+    answer_ends c.args.self.now c.args.look_ahead c.args.pieces.now on.0 c.args.cache.now c.resume_pieces.new.cache c.search_start.new.self
+    c.in-Some.from c.bytes_read-at.result on.1 c.bytes_read-at.ensures c.search_start.ensures.value named c.in_ok-next.next c.read.new.cache
+    c.end_search.new.self c.in_ok-next.ensures.read c.end_search.ensures.value

@@ -1,0 +1,14 @@
+pub mod Known
+pub mod Events
+pub mod Stores
+pub mod Steps
+pub mod Passes
+pub mod Walks
+pub mod Pieces
+pub mod Growth
+pub mod Bounds
+pub mod Cached
+pub mod Follows
+pub mod Effects
+pub mod WalksFollow
+pub mod PiecesFollow

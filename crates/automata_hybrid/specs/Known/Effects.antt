@@ -1,0 +1,109 @@
+-- What follows of an event over what a cache knows, and so of a step and of a call for a start state.
+use Rattle.std.specs.Prelude.{ℕ, ◌≡◌, ◌+◌, ◌≤◌, ◌⊎◌, true, false, Option, Some}
+use Rattle.automata_base.specs.Powersets.Powerset.{Powerset}
+use Rattle.automata_base.specs.Retraced.Steps.{successor}
+use Rattle.automata_base.specs.declared.util.search.Anchored.{Anchored}
+use Rattle.automata_config.specs.Options.{match_kind_of}
+use Rattle.automata_config.specs.declared.error.StartError.{StartError}
+use Rattle.automata_config.specs.declared.error.StepError.{StepError}
+use Rattle.automata_hybrid.specs.Cache.Caches.{CacheView, HoldsRow, IsCacheOf}
+use Rattle.automata_hybrid.specs.Cache.Ids.{fixed_from}
+use Rattle.automata_hybrid.specs.Cache.Progress.{progress_cleared, saturated}
+use Rattle.automata_hybrid.specs.Calls.Events.{Event, Start, Step}
+use Rattle.automata_hybrid.specs.Known.Bounds.{IsKnown}
+use Rattle.automata_hybrid.specs.Known.Events.{after_event, fits, is_cached, refuses_to_clear}
+use Rattle.automata_hybrid.specs.Known.Growth.{HasRow, IsGrown}
+use Rattle.automata_hybrid.specs.Known.Known.{Known, counted, has_state}
+use Rattle.automata_hybrid.specs.Known.Steps.{IsStartRun, IsStepRun, StartFails, StepFails, id_in}
+use Rattle.automata_hybrid.specs.Known.Stores.{known_of}
+use Rattle.automata_hybrid.specs.Machines.Machine.{Machine, quits_on}
+use Rattle.automata_hybrid.specs.Steps.Starts.{start_row}
+use Rattle.automata_hybrid.specs.declared.cache.row.Row.{Row}
+
+-- the row of the state that an event asks for: that of a successor has no start tag
+abbrev pub asked_row : Machine → Event → Row
+asked_row m (Start mode behind) = start_row m mode behind
+asked_row m (Step q unit) = record { state = successor m.nfa (match_kind_of m.config) q unit; started = false }
+
+-- whether a row that is added makes room for itself
+pub data ClearsFor (m : Machine) (r : Row) (old new : Known) : Type 0 where
+  -- nothing is cleared, and the progress of searches is as it was
+  ClearsNothing : new.clears ≡ old.clears → new.searched ≡ old.searched → ClearsFor m r old new
+  -- its state was not there, did not fit, and the clear rule allowed a clear
+  ClearsAll :
+      has_state old r.state ≡ false → fits m old r.state ≡ false → refuses_to_clear m old ≡ false
+      → new.clears ≡ saturated (old.clears + 1) → new.searched ≡ progress_cleared old.searched
+      → ClearsFor m r old new
+
+-- what follows of an event
+pub record EventFollows (m : Machine) (e : Event) (old new : Known) : Type 0 where
+  -- until a clear nothing is lost
+  pub grown : IsGrown m old new
+  -- what the cache knows then is still what one of the DFA knows
+  pub sound : IsKnown m new
+  -- if what it asks for is cached, it changes nothing
+  pub known : is_cached m e old ≡ true → new ≡ old
+  -- if it is not, it is determinized, once
+  pub computed : is_cached m e old ≡ false → new.count ≡ old.count + 1
+  -- it is cached from then on, also if the cache was cleared
+  pub learned : is_cached m e new ≡ true
+  -- no row is added but that of the state that it asks for, if that had none
+  pub rows : (r : Row) → HasRow new r → HasRow old r ⊎ ((r ≡ asked_row m e) × (has_state old r.state ≡ false))
+  -- the cache is cleared only for that row, if it does not fit, and else no progress moves
+  pub clears : ClearsFor m (asked_row m e) old new
+
+-- All this follows of each event over a cache of the DFA.
+abbrev pub EventsFollow : Machine → Type 0
+EventsFollow m =
+    (e : Event) (old new : Known) → IsKnown m old → after_event m e old old ≡ Some new → EventFollows m e old new
+
+-- an ID is known: it is a fixed one, or that of a row
+abbrev pub KnowsId : Machine → Known → (id : ℕ) → Type 0
+KnowsId m c id = (fixed_from ≤ id) ⊎ ((q : Powerset) × (id_in m c q ≡ Some id))
+
+-- An ID from which a step may be taken over a cache of the DFA is known to it.
+abbrev pub IdsAreKnown : Machine → Type 0
+IdsAreKnown m = (c : CacheView) (id : ℕ) → IsCacheOf c m → HoldsRow c id → KnowsId m (known_of c) id
+
+-- what follows of a step that returns Ok
+pub record StepFollows (m : Machine) (id : ℕ) (unit : Option ℕ) (old new : Known) : Type 0 where
+  -- until a clear nothing is lost
+  pub grown : IsGrown m old new
+  -- what the cache knows then is still what one of the DFA knows
+  pub sound : IsKnown m new
+  -- it determinizes at most once
+  pub counted : new.count ≤ old.count + 1
+  -- over a unit that is no quit byte it is the event of the state that the ID names
+  pub event :
+      quits_on m unit ≡ false → (q : Powerset) → id_in m old q ≡ Some id → EventFollows m (Step q unit) old new
+
+-- what follows of a call that fails
+pub record FailureFollows (m : Machine) (old new : Known) : Type 0 where
+  -- nothing is lost
+  pub grown : IsGrown m old new
+  -- what the cache knows then is still what one of the DFA knows
+  pub sound : IsKnown m new
+  -- nothing changes but the count of determinizations
+  pub unchanged : (new ≡ old) ⊎ (new ≡ counted old)
+
+-- All this follows of each step over a cache of the DFA, from an ID that is known.
+pub record StepsFollow (m : Machine) : Type 0 where
+  -- if it returns Ok
+  pub answered :
+      (id : ℕ) (unit : Option ℕ) (old new : Known) → IsKnown m old → KnowsId m old id
+      → IsStepRun m id unit old new → StepFollows m id unit old new
+  -- if it fails
+  pub failed :
+      (id : ℕ) (unit : Option ℕ) (old new : Known) (e : StepError) → IsKnown m old → KnowsId m old id
+      → StepFails m id unit old new e → FailureFollows m old new
+
+-- And of each call for a start state.
+pub record StartsFollow (m : Machine) : Type 0 where
+  -- if it returns Ok
+  pub answered :
+      (mode : Anchored) (behind : Option ℕ) (old new : Known) → IsKnown m old → IsStartRun m mode behind old new
+      → EventFollows m (Start mode behind) old new
+  -- if it fails
+  pub failed :
+      (mode : Anchored) (behind : Option ℕ) (old new : Known) (e : StartError) → IsKnown m old
+      → StartFails m mode behind old new e → FailureFollows m old new

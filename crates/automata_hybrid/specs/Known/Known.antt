@@ -1,0 +1,80 @@
+-- What a cache knows: the states that have rows, and which transitions and start states are cached, without the IDs and
+-- cells in which it stands.
+use Rattle.std.specs.Prelude.{ℕ, ◌+◌, List, [], ◌∷◌, ◌++◌, Bool, false, cond, ◌||◌, fold, find}
+use Rattle.std.specs.Prelude.{Option, None, Some, is_some, option_and_then}
+use Rattle.automata_base.specs.Powersets.Equal.{powerset_eq}
+use Rattle.automata_base.specs.Powersets.Powerset.{Powerset, dead}
+use Rattle.automata_hybrid.specs.Cache.Progress.{progress_cleared, progress_finished, progress_started}
+use Rattle.automata_hybrid.specs.Cache.Progress.{progress_updated}
+use Rattle.automata_hybrid.specs.Cache.Progress.{saturated}
+use Rattle.automata_hybrid.specs.declared.cache.progress.Searched.{Searched}
+use Rattle.automata_hybrid.specs.declared.cache.row.Row.{Row}
+
+-- what a cache knows
+pub record Known : Type 0 where
+  -- the rows of its states, oldest first, each with its start tag
+  pub rows : List Row
+  -- from a state at a class: the transition is cached; where it leads, the automaton says
+  pub steps : Powerset → (class : ℕ) → Bool
+  -- of each start slot its start state, if that is cached
+  pub starts : List (Option Powerset)
+  -- how often it was cleared, up to the greatest number of 64 bits
+  pub clears : ℕ
+  -- the progress of searches
+  pub searched : Searched
+  -- the count of determinizations
+  pub count : ℕ
+
+-- the row of a state, if it has one
+abbrev pub row_in : List Row → Powerset → Option Row
+row_in rows q = find (λ (r : Row). powerset_eq q r.state) rows
+
+-- a state is there: dead, which needs no row, or one that has a row
+abbrev pub has_state : Known → Powerset → Bool
+has_state c q = powerset_eq q dead || is_some (row_in c.rows q)
+
+-- with one more row
+abbrev pub with_row : Row → Known → Known
+with_row r c = record c { rows = c.rows ++ r ∷ [] }
+
+-- with the row that was found, if one was and its state has none yet
+abbrev pub keep_row : List Row → Option Row → List Row
+keep_row rows None = rows
+keep_row rows (Some r) = cond (is_some (row_in rows r.state)) rows (rows ++ r ∷ [])
+
+-- with the row of the start state of a slot, if it is cached
+abbrev pub keep_start : (old kept : List Row) → (start : Option Powerset) → List Row
+keep_start old kept start = keep_row kept (option_and_then (row_in old) start)
+
+-- the rows of the start states that are cached, in the order of their slots, each once
+abbrev pub rows_of_starts : (old : List Row) → (starts : List (Option Powerset)) → List Row
+rows_of_starts old starts = fold (keep_start old) [] starts
+
+-- cleared: the start states are kept
+abbrev pub cleared : Known → Known
+cleared c = record c {
+  rows = rows_of_starts c.rows c.starts;
+  steps = λ q class. false;
+  clears = saturated (c.clears + 1);
+  searched = progress_cleared c.searched;
+}
+
+-- cleared, with the row of one more state
+abbrev pub cleared_saving : Powerset → Known → Known
+cleared_saving q c = record (cleared c) { rows = keep_row (rows_of_starts c.rows c.starts) (row_in c.rows q) }
+
+-- a search begins at an offset
+abbrev pub begun : (at : ℕ) → Known → Known
+begun at c = record c { searched = progress_started c.searched at }
+
+-- the search moves to an offset
+abbrev pub moved : (at : ℕ) → Known → Known
+moved at c = record c { searched = progress_updated c.searched at }
+
+-- the search ends at an offset
+abbrev pub ended : (at : ℕ) → Known → Known
+ended at c = record c { searched = progress_finished c.searched at }
+
+-- one more determinization
+abbrev pub counted : Known → Known
+counted c = record c { count = c.count + 1 }

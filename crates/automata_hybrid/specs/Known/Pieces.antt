@@ -1,0 +1,249 @@
+-- What the calls of a search in pieces, and of a walk over pieces, make of what their cache knows.
+use Rattle.std.specs.Prelude.{ℕ, suc, ◌≡◌, ◌^◌, ◌≤◌, ◌+◌, true, false, List, length}
+use Rattle.std.specs.Prelude.{Option, None, Some, MatchOption, option_and_then, option_map}
+use Rattle.automata_base.specs.Paths.Paths.{next as unit_at}
+use Rattle.automata_base.specs.Powersets.Powerset.{Powerset, dead}
+use Rattle.automata_base.specs.declared.util.search.Anchored.{Anchored}
+use Rattle.automata_base.specs.declared.util.search.Direction.TheVariants.{Forward}
+use Rattle.automata_base.specs.declared.util.search.MatchErrorKind.TheVariants.{Quit as QuitAt, GaveUp}
+use Rattle.automata_config.specs.declared.error.SearchError.{SearchError}
+use Rattle.automata_config.specs.declared.error.SearchError.TheVariants as search
+use Rattle.automata_config.specs.declared.error.StartError.{StartError}
+use Rattle.automata_config.specs.declared.error.StartError.TheVariants as start
+use Rattle.automata_hybrid.specs.Calls.Events.{Step}
+use Rattle.automata_hybrid.specs.Known.Events.{after_event}
+use Rattle.automata_hybrid.specs.Known.Known.{Known, begun, ended, moved}
+use Rattle.automata_hybrid.specs.Known.Passes.{EventFails, after_many}
+use Rattle.automata_hybrid.specs.Known.Steps.{IsStartRun, StartFails}
+use Rattle.automata_hybrid.specs.Known.Walks.{IsNotBack, with_row_back}
+use Rattle.automata_hybrid.specs.Machines.Machine.{Machine, quits_on}
+use Rattle.automata_hybrid.specs.Pieces.State.{PiecesView}
+use Rattle.automata_hybrid.specs.Searches.Passes.{HasReadNoQuit, Skips, given_up_offset, tape_in}
+use Rattle.automata_hybrid.specs.Searches.PieceRuns.{ReadsAlong, piece_input, piece_trace}
+use Rattle.automata_hybrid.specs.Searches.Progress.{unit_event}
+use Rattle.automata_hybrid.specs.declared.search.pieces.BeginError.{BeginError}
+use Rattle.automata_hybrid.specs.declared.search.pieces.BeginError.TheVariants as begin
+
+-- why a search in pieces that may begin does not
+pub data FailsToBegin (m : Machine) (mode : Anchored) (behind : Option ℕ) (old new : Known) (e : StartError) :
+    Type 0 where
+  -- the start state fails
+  LacksStart : StartFails m mode behind old new e → FailsToBegin m mode behind old new e
+  -- it is there, and cannot be held: the count of those who share it cannot rise
+  CannotHoldStart : IsStartRun m mode behind old new → e ≡ start.OutOfMemory → FailsToBegin m mode behind old new e
+
+-- what beginning a search in pieces makes of the cache, by the error that it returns, if it fails
+abbrev pub IsBeginRun : Machine → Anchored → (behind : Option ℕ) → (old new : Known) → Option BeginError → Type 0
+-- its start state is asked for
+IsBeginRun m mode behind old new None = IsStartRun m mode behind old new
+-- offsets are skipped, and nothing was asked for
+IsBeginRun m mode behind old new (Some begin.Skips) = Skips m × (new ≡ old)
+-- they are not, and it fails to begin
+IsBeginRun m mode behind old new (Some (begin.Start e)) = (Skips m → ⊥) × FailsToBegin m mode behind old new e
+
+-- what a search that stands at a state makes of the cache by the first so many bytes of a piece: the state is there or
+-- is put back, and the search begins
+abbrev pub after_bytes :
+    Machine → (piece : List ℕ) → PiecesView → Powerset → (bytes : ℕ) → Known → Option Known
+after_bytes m piece p q bytes c =
+    option_and_then
+    (after_many (piece_trace m piece p.earliest q) Forward m (piece_input piece p.earliest) 0 bytes)
+    (option_map (begun (given_up_offset Forward (piece_input piece p.earliest) 0)) (with_row_back m q c))
+
+-- and where it ends at the byte at place `k`
+abbrev pub after_piece :
+    Machine → (piece : List ℕ) → PiecesView → Powerset → (bytes k : ℕ) → Known → Option Known
+after_piece m piece p q bytes k c =
+    option_map (ended (given_up_offset Forward (piece_input piece p.earliest) k)) (after_bytes m piece p q bytes c)
+
+-- all bytes of a piece are read from a state on
+pub record ReadsThrough (m : Machine) (piece : List ℕ) (p : PiecesView) (q : Powerset) (old new : Known) :
+    Type 0 where
+  -- it stood at this state
+  pub from : p.state ≡ Some q
+  -- none of them is a quit byte
+  pub clean : HasReadNoQuit Forward m (piece_input piece p.earliest) (length piece)
+  -- if the search ends at its first match, they report none
+  pub nothing : p.earliest ≡ true → (piece_trace m piece p.earliest q).reported (length piece) ≡ None
+  -- what they make of the cache
+  pub run : after_piece m piece p q (length piece) (length piece) old ≡ Some new
+
+-- why nothing that follows the byte at place `k` of a piece can change the answer
+pub data AnswerStands (m : Machine) (piece : List ℕ) (p : PiecesView) (q : Powerset) (k : ℕ) : Type 0 where
+  -- the state after it is dead
+  DiesThere : (piece_trace m piece p.earliest q).state (suc k) ≡ dead → AnswerStands m piece p q k
+  -- the search ends at its first match, and has found one
+  FindsThere :
+      p.earliest ≡ true → ((piece_trace m piece p.earliest q).reported (suc k) ≡ None → ⊥) → AnswerStands m piece p q k
+
+-- the bytes of a piece are read up to the one at place `k`, after which the answer stands
+pub record ReadsPieceUpto (m : Machine) (piece : List ℕ) (p : PiecesView) (q : Powerset) (k : ℕ)
+    (old new : Known) : Type 0 where
+  -- it stood at this state
+  pub from : p.state ≡ Some q
+  -- it reads that byte
+  pub reads : ReadsAlong (piece_trace m piece p.earliest q) (piece_input piece p.earliest) k
+  -- none of the bytes up to it is a quit byte
+  pub clean : HasReadNoQuit Forward m (piece_input piece p.earliest) (suc k)
+  -- the answer stands
+  pub over : AnswerStands m piece p q k
+  -- what they make of the cache
+  pub run : after_piece m piece p q (suc k) k old ≡ Some new
+
+-- what reading a piece makes of the search and of the cache, if it returns Ok
+pub data EndsPiece (m : Machine) (piece : List ℕ) (p next : PiecesView) (old new : Known) : Type 0 where
+  -- the answer of the search stood before, and nothing has changed
+  AlreadyOver : p.state ≡ None → next ≡ p → new ≡ old → EndsPiece m piece p next old new
+  -- all bytes of the piece are read
+  Through :
+      (q : Powerset) → ReadsThrough m piece p q old new → next.read ≡ p.read + length piece
+      → EndsPiece m piece p next old new
+  -- the answer stands after one of its bytes, up to which they are read
+  Upto :
+      (q : Powerset) (k : ℕ) → ReadsPieceUpto m piece p q k old new → next.state ≡ None
+      → next.read ≡ p.read + suc k → EndsPiece m piece p next old new
+
+-- how a search fails at the byte at place `k` of a piece, to which it has come
+pub data ByteFails (m : Machine) (piece : List ℕ) (p : PiecesView) (q : Powerset) (k : ℕ) (old new : Known)
+    (e : SearchError) : Type 0 where
+  -- it is a quit byte, and the search has ended there
+  AtQuitByte :
+      (byte : ℕ) → unit_at (tape_in Forward (piece_input piece p.earliest)) k ≡ Some byte
+      → quits_on m (Some byte) ≡ true → e ≡ search.Match (QuitAt byte (p.read + k))
+      → new ≡ ended (given_up_offset Forward (piece_input piece p.earliest) k) old
+      → ByteFails m piece p q k old new e
+  -- the step over it fails
+  AtStep :
+      quits_on m (unit_at (tape_in Forward (piece_input piece p.earliest)) k) ≡ false
+      → EventFails m (unit_event (piece_trace m piece p.earliest q) Forward (piece_input piece p.earliest) k)
+      (p.read + k) (moved (given_up_offset Forward (piece_input piece p.earliest) k) old) new e
+      → ByteFails m piece p q k old new e
+
+-- a search has failed at a byte of a piece
+pub record FailsAtByte (m : Machine) (piece : List ℕ) (p : PiecesView) (q : Powerset) (old new : Known)
+    (e : SearchError) : Type 0 where
+  -- it stood at this state
+  pub from : p.state ≡ Some q
+  -- the place of the byte
+  pub place : ℕ
+  -- it reads the byte
+  pub reads : ReadsAlong (piece_trace m piece p.earliest q) (piece_input piece p.earliest) place
+  -- none before it is a quit byte
+  pub clean : HasReadNoQuit Forward m (piece_input piece p.earliest) place
+  -- what the cache knows once it has come to it
+  pub mid : Known
+  -- the bytes before it made this of it
+  pub run : after_bytes m piece p q place old ≡ Some mid
+  -- it fails there
+  pub fails : ByteFails m piece p q place mid new e
+
+-- why a piece is not read, and what that makes of the cache
+pub data LeavesPiece (m : Machine) (piece : List ℕ) (p : PiecesView) (old new : Known) (e : SearchError) :
+    Type 0 where
+  -- the bytes are more than a number of 64 bits counts
+  TooLong :
+      (q : Powerset) → p.state ≡ Some q → with_row_back m q old ≡ Some new → 2 ^ 64 ≤ p.read + length piece
+      → e ≡ search.Match (GaveUp p.read) → LeavesPiece m piece p old new e
+  -- the state where the search stands is not put back
+  NotPutBack : (q : Powerset) → p.state ≡ Some q → IsNotBack m q p.read old new e → LeavesPiece m piece p old new e
+  -- the step on a byte of the piece fails
+  AtByte : (q : Powerset) → FailsAtByte m piece p q old new e → LeavesPiece m piece p old new e
+  -- the state after the piece cannot be held: the count of those who share it cannot rise
+  NotHeld :
+      (q : Powerset) → ReadsThrough m piece p q old new → e ≡ search.OutOfMemory → LeavesPiece m piece p old new e
+
+-- what reading a piece makes of the search and of what the cache knows, by the error that it returns, if it fails
+abbrev pub IsPieceRun :
+    Machine → (piece : List ℕ) → (p next : PiecesView) → (old new : Known) → Option SearchError → Type 0
+IsPieceRun m piece p next old new error =
+    MatchOption error (EndsPiece m piece p next old new) (LeavesPiece m piece p old new)
+
+-- the cache before the unit that follows the pieces: the state is there or is put back, and the search begins
+abbrev pub before_end : Machine → PiecesView → Powerset → Known → Option Known
+before_end m p q c = option_map (begun p.read) (with_row_back m q c)
+
+-- what that unit makes of it, where the search ends
+abbrev pub after_end : Machine → (ahead : Option ℕ) → PiecesView → Powerset → Known → Option Known
+after_end m ahead p q c =
+    option_map (ended p.read)
+    (option_and_then (λ mid. after_event m (Step q ahead) (moved p.read mid) mid) (before_end m p q c))
+
+-- what asking for the answer makes of the cache, if that returns Ok
+pub data EndsAnswer (m : Machine) (ahead : Option ℕ) (p : PiecesView) (old new : Known) : Type 0 where
+  -- the answer stood before, and nothing has changed
+  Answered : p.state ≡ None → new ≡ old → EndsAnswer m ahead p old new
+  -- the unit that follows is read, which is no quit byte
+  AtEnd :
+      (q : Powerset) → p.state ≡ Some q → quits_on m ahead ≡ false → after_end m ahead p q old ≡ Some new
+      → EndsAnswer m ahead p old new
+
+-- how the step on the unit that follows fails
+pub data EndFails (m : Machine) (ahead : Option ℕ) (p : PiecesView) (q : Powerset) (old new : Known)
+    (e : SearchError) : Type 0 where
+  -- it is a quit byte, and the search has ended there
+  EndIsQuit :
+      (byte : ℕ) → ahead ≡ Some byte → quits_on m (Some byte) ≡ true → e ≡ search.Match (QuitAt byte p.read)
+      → new ≡ ended p.read old → EndFails m ahead p q old new e
+  -- the step over it fails
+  EndStepFails :
+      quits_on m ahead ≡ false → EventFails m (Step q ahead) p.read (moved p.read old) new e
+      → EndFails m ahead p q old new e
+
+-- why there is no answer, and what that makes of the cache
+pub data LeavesAnswer (m : Machine) (ahead : Option ℕ) (p : PiecesView) (old new : Known) (e : SearchError) :
+    Type 0 where
+  -- the state where the search stands is not put back
+  NotBack : (q : Powerset) → p.state ≡ Some q → IsNotBack m q p.read old new e → LeavesAnswer m ahead p old new e
+  -- the step on the unit that follows fails
+  FailsAtEnd :
+      (q : Powerset) → p.state ≡ Some q → (mid : Known) → before_end m p q old ≡ Some mid
+      → EndFails m ahead p q mid new e → LeavesAnswer m ahead p old new e
+
+-- what asking for the answer makes of what the cache knows, by the error that it returns, if it fails
+abbrev pub IsAnswerRun : Machine → (ahead : Option ℕ) → PiecesView → (old new : Known) → Option SearchError → Type 0
+IsAnswerRun m ahead p old new error =
+    MatchOption error (EndsAnswer m ahead p old new) (LeavesAnswer m ahead p old new)
+
+-- what a call of a walk over a piece makes of the walk and of the cache, if it returns Ok
+pub data EndsWalkCall (m : Machine) (piece : List ℕ) (w next : PiecesView) (old new : Known) : Type 0 where
+  -- nothing could match any more, and nothing has changed
+  AlreadyDone : w.state ≡ None → next ≡ w → new ≡ old → EndsWalkCall m piece w next old new
+  -- all bytes of the piece are read
+  WalksThrough :
+      (q : Powerset) → ReadsThrough m piece w q old new → next.read ≡ w.read + length piece
+      → EndsWalkCall m piece w next old new
+  -- they are read up to one at which patterns match, or after which nothing can
+  WalksUpto :
+      (q : Powerset) (i : ℕ) → ReadsPieceUpto m piece w q i old new → next.read ≡ w.read + suc i
+      → EndsWalkCall m piece w next old new
+
+-- why a call of a walk fails, and what that makes of the cache
+pub data LeavesWalkCall (m : Machine) (piece : List ℕ) (w : PiecesView) (old new : Known) (e : SearchError) :
+    Type 0 where
+  -- as a search in pieces that ends at its first match
+  AsSearch : LeavesPiece m piece w old new e → LeavesWalkCall m piece w old new e
+  -- the state at the match cannot be held: the count of those who share it cannot rise
+  NotHeldAt :
+      (q : Powerset) (i : ℕ) → ReadsPieceUpto m piece w q i old new → e ≡ search.OutOfMemory
+      → LeavesWalkCall m piece w old new e
+
+-- what a call of a walk over a piece makes of the walk and of what the cache knows, by the error that it returns, if it
+-- fails
+abbrev pub IsWalkCallRun :
+    Machine → (piece : List ℕ) → (w next : PiecesView) → (old new : Known) → Option SearchError → Type 0
+IsWalkCallRun m piece w next old new error =
+    MatchOption error (EndsWalkCall m piece w next old new) (LeavesWalkCall m piece w old new)
+
+-- why asking for the end of a walk fails, and what that makes of the cache
+pub data LeavesEnd (m : Machine) (ahead : Option ℕ) (w : PiecesView) (old new : Known) (e : SearchError) :
+    Type 0 where
+  -- as a search in pieces that is asked for its answer
+  AsForAnswer : LeavesAnswer m ahead w old new e → LeavesEnd m ahead w old new e
+  -- the state at the end cannot be held: the count of those who share it cannot rise
+  CannotHoldEnd : EndsAnswer m ahead w old new → e ≡ search.OutOfMemory → LeavesEnd m ahead w old new e
+
+-- what asking for the end of a walk makes of what the cache knows, by the error that it returns, if it fails
+abbrev pub IsWalkEndRun :
+    Machine → (ahead : Option ℕ) → PiecesView → (old new : Known) → Option SearchError → Type 0
+IsWalkEndRun m ahead w old new error =
+    MatchOption error (EndsAnswer m ahead w old new) (LeavesEnd m ahead w old new)

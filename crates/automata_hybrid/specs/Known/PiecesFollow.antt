@@ -1,0 +1,45 @@
+-- What follows of what the calls of a search in pieces make of what their cache knows.
+use Rattle.std.specs.Prelude.{ℕ, ◌≡◌, ◌+◌, ◌≤◌, true, false, List, length, Option, None, Some, IfSome}
+use Rattle.automata_base.specs.Powersets.Powerset.{Powerset}
+use Rattle.automata_config.specs.Options.{minimum_cache_clear_count_of}
+use Rattle.automata_config.specs.declared.error.SearchError.{SearchError}
+use Rattle.automata_hybrid.specs.Known.Bounds.{IsKnown}
+use Rattle.automata_hybrid.specs.Known.Growth.{HasRoom, IsGrown}
+use Rattle.automata_hybrid.specs.Known.Known.{Known, counted}
+use Rattle.automata_hybrid.specs.Known.Pieces.{IsAnswerRun, IsPieceRun}
+use Rattle.automata_hybrid.specs.Known.Walks.{has_its_row}
+use Rattle.automata_hybrid.specs.Machines.Machine.{Machine, quits_on}
+use Rattle.automata_hybrid.specs.Pieces.Follows.{IsFreePiece}
+use Rattle.automata_hybrid.specs.Pieces.State.{IsPiecesOf, PiecesView}
+use Rattle.automata_hybrid.specs.Searches.Contracts.{IsMemory}
+use Rattle.automata_hybrid.specs.Walks.State.{At}
+
+-- what a call that reads at most so many units costs
+pub record IsCostOfUnits (m : Machine) (units : ℕ) (p : PiecesView) (old new : Known) : Type 0 where
+  -- it determinizes at most once for each unit
+  pub cost : new.count ≤ old.count + units
+  -- the cache has grown as by one determinization more than were made
+  pub grown : IsGrown m old (counted new)
+  -- if it had the state where the search stands, it has grown as by those that were made
+  pub there :
+      ((q : Powerset) → p.state ≡ Some q → has_its_row old (At q) ≡ true) → IsGrown m old new
+  -- nothing is cleared if there is room for as many states, and for the search's own
+  pub roomy : HasRoom m old (units + 1) → new.clears ≡ old.clears
+  -- what the cache knows then is still what one of the DFA knows
+  pub sound : IsKnown m new
+
+-- What follows of reading a piece: what it costs, and that it fails with out of memory alone if nothing else can
+-- prevent that it is read.
+abbrev pub PiecesFollow : Machine → Type 0
+PiecesFollow m =
+    (piece : List ℕ) (p next : PiecesView) (old new : Known) (error : Option SearchError)
+    → IsKnown m old → IsPiecesOf p m → IsPieceRun m piece p next old new error
+    → IsCostOfUnits m (length piece) p old new × (IsFreePiece m piece p → IfSome error IsMemory)
+
+-- What follows of asking a search in pieces for its answer, which reads one unit at most.
+abbrev pub PieceAnswersFollow : Machine → Type 0
+PieceAnswersFollow m =
+    (ahead : Option ℕ) (p : PiecesView) (old new : Known) (error : Option SearchError)
+    → IsKnown m old → IsPiecesOf p m → IsAnswerRun m ahead p old new error
+    → IsCostOfUnits m 1 p old new
+    × (quits_on m ahead ≡ false → minimum_cache_clear_count_of m.config ≡ None → IfSome error IsMemory)

@@ -1,0 +1,204 @@
+-- What the calls of a walk, and the search for a set of patterns, make of what their cache knows.
+use Rattle.std.specs.Prelude.{ℕ, zero, suc, ◌≡◌, ◌<◌, ◌+◌, ◌-◌, ◌⊎◌, Bool, true, false, List}
+use Rattle.std.specs.Prelude.{Option, None, Some, MatchOption, is_some, option_and_then, option_map}
+use Rattle.automata_base.specs.Answers.Answers.{offset_in}
+use Rattle.automata_base.specs.Haystacks.Input.{Input}
+use Rattle.automata_base.specs.Paths.Paths.{next as unit_at}
+use Rattle.automata_base.specs.Powersets.Powerset.{Powerset}
+use Rattle.automata_base.specs.declared.util.search.Direction.{Direction}
+use Rattle.automata_base.specs.declared.util.search.Direction.TheVariants.{Forward}
+use Rattle.automata_base.specs.declared.util.search.MatchErrorKind.TheVariants.{GaveUp}
+use Rattle.automata_config.specs.declared.error.SearchError.{SearchError}
+use Rattle.automata_config.specs.declared.error.SearchError.TheVariants as search
+use Rattle.automata_hybrid.specs.Known.Events.{after_event, with_state}
+use Rattle.automata_hybrid.specs.Known.Known.{Known, begun, cleared, ended, row_in}
+use Rattle.automata_hybrid.specs.Known.Passes.{UnitFails, after_unit, after_many}
+use Rattle.automata_hybrid.specs.Known.Steps.{StartFailsAt}
+use Rattle.automata_hybrid.specs.Machines.Machine.{Machine, quits_on}
+use Rattle.automata_hybrid.specs.Searches.Passes.{HasReadNoQuit, behind_offset, given_up_offset, tape_in}
+use Rattle.automata_hybrid.specs.Searches.Progress.{start_event}
+use Rattle.automata_hybrid.specs.Searches.Traces.{pass_trace}
+use Rattle.automata_hybrid.specs.Steps.Starts.{MayStart}
+use Rattle.automata_hybrid.specs.Walks.Answers.{IsSilent, IsUnheld, ReportsNext, WalkReads}
+use Rattle.automata_hybrid.specs.Walks.Progress.{IsClosedAfter, IsJoinedAfter, IsOpenAfter, ReadsItsUnits, ReadsNoUnit}
+use Rattle.automata_hybrid.specs.Walks.State.{At, Ended, Fresh, Ids, Keeping, Stage, States, Walk, fresh_walk}
+
+-- with a row for a state where a walk stands: it is there, or is put back, without the start tag; none, if the call
+-- gives up
+abbrev pub with_row_back : Machine → Powerset → Known → Option Known
+with_row_back m q c = with_state m (cleared c) (record { state = q; started = false }) c
+
+-- what the state that a walk goes on from makes of the cache: its start, or the state where it stands; none, if the
+-- call gives up, and if the walk has ended
+abbrev pub after_resume : Direction → Machine → Input → Stage → Known → Option Known
+after_resume way m input Fresh c = after_event m (start_event way input) c c
+after_resume way m input (At q) c = with_row_back m q c
+after_resume way m input Ended c = None
+
+-- what a walk that goes on from a place makes of it by so many units
+abbrev pub after_walked : Direction → Machine → Input → Stage → (from units : ℕ) → Known → Option Known
+after_walked way m input stage from units c =
+    option_and_then (after_many (pass_trace way m input) way m input from units)
+    (option_map (begun (given_up_offset way input from)) (after_resume way m input stage c))
+
+-- none of so many units from a place on is a quit byte
+abbrev pub ReadsNoQuit : Direction → Machine → Input → (from units : ℕ) → Type 0
+ReadsNoQuit way m input from units =
+    (k : ℕ) → k < units → quits_on m (unit_at (tape_in way input) (from + k)) ≡ false
+
+-- a walk may go on: a search may start, if it has not begun
+abbrev pub MayGoOn : Direction → Machine → Input → Stage → Type 0
+MayGoOn way m input stage = stage ≡ Fresh → MayStart m input.anchored (tape_in way input).before
+
+-- a call goes on from where its walk is, and reads its units
+pub record CallReads (way : Direction) (m : Machine) (input : Input) (walk next : Walk) (old new : Known) :
+    Type 0 where
+  -- units are to be read
+  pub some : ReadsNoUnit input walk → ⊥
+  -- it may go on
+  pub may : MayGoOn way m input walk.stage
+  -- how many units are read
+  pub units : ℕ
+  -- they are counted
+  pub counted : next.units ≡ walk.units + units
+  -- they go up to the next match, or up to the last that can be read
+  pub its : ReadsItsUnits way m input walk next
+  -- none of them is a quit byte
+  pub clean : ReadsNoQuit way m input walk.units units
+  -- what they make of the cache; the search ends at the last of them
+  pub run :
+      option_map (ended (given_up_offset way input (walk.units + (units - 1))))
+      (after_walked way m input walk.stage walk.units units old)
+      ≡ Some new
+
+-- what a call that answers makes of its walk and its cache; a walk that has ended has no match
+pub data EndsCall (way : Direction) (m : Machine) (input : Input) (walk next : Walk) (old new : Known) : Type 0 where
+  -- it reads no unit, and changes nothing
+  ReadsNone :
+      (next.stage ≡ Ended → next.found ≡ None) → ReadsNoUnit input walk → next.units ≡ walk.units → new ≡ old
+      → EndsCall way m input walk next old new
+  -- it reads its units
+  ReadsSome :
+      (next.stage ≡ Ended → next.found ≡ None) → CallReads way m input walk next old new
+      → EndsCall way m input walk next old new
+
+-- why the state where a walk stands is not put back, and nothing changes
+pub data IsNotBack (m : Machine) (q : Powerset) (at : ℕ) (old new : Known) (e : SearchError) : Type 0 where
+  -- the call gives up
+  GivesUpOnIt :
+      with_row_back m q old ≡ None → e ≡ search.Match (GaveUp at) → new ≡ old → IsNotBack m q at old new e
+  -- it has no row, there is room for it, and memory runs out
+  RunsOutOnIt :
+      row_in old.rows q ≡ None → (with_row_back m q old ≡ None → ⊥) → e ≡ search.OutOfMemory → new ≡ old
+      → IsNotBack m q at old new e
+
+-- a walk lacks the state that it goes on from: its start fails, or the state where it stands is not put back
+abbrev pub IsNotResumed : Direction → Machine → Input → Stage → (units : ℕ) → (old new : Known) → SearchError → Type 0
+IsNotResumed way m input Fresh units old new e =
+    StartFailsAt m input.anchored (tape_in way input).before (behind_offset way input) (offset_in way input 0)
+    old new e
+IsNotResumed way m input (At q) units old new e = IsNotBack m q (given_up_offset way input units) old new e
+IsNotResumed way m input Ended units old new e = ⊥
+
+-- how a call fails at the unit at place `k`
+pub data IsCallLeftAt (keeping : Keeping) (way : Direction) (m : Machine) (input : Input) (k : ℕ) (old new : Known)
+    (e : SearchError) : Type 0 where
+  -- the step on it fails
+  FailsAtIt : UnitFails way m input k old new e → IsCallLeftAt keeping way m input k old new e
+  -- states are kept: the unit is read, and the state after it cannot be held
+  FailsAfterIt :
+      keeping ≡ States → IsUnheld way m input k e → after_unit (pass_trace way m input) way m input k old ≡ Some new
+      → IsCallLeftAt keeping way m input k old new e
+
+-- a call reads some units, which report nothing, and fails at the next one
+pub record IsCallStopped (keeping : Keeping) (way : Direction) (m : Machine) (input : Input) (walk : Walk)
+    (old new : Known) (e : SearchError) : Type 0 where
+  -- it may go on
+  pub may : MayGoOn way m input walk.stage
+  -- how many units are read
+  pub units : ℕ
+  -- the walk reads the next one too
+  pub reads : WalkReads way m input (walk.units + units)
+  -- none before it is a quit byte
+  pub clean : HasReadNoQuit way m input (walk.units + units)
+  -- the units report nothing
+  pub silent : IsSilent way m input walk.units (walk.units + units)
+  -- what the cache knows after them
+  pub mid : Known
+  -- they made this of it
+  pub run : after_walked way m input walk.stage walk.units units old ≡ Some mid
+  -- it fails at the next one
+  pub left : IsCallLeftAt keeping way m input (walk.units + units) mid new e
+
+-- what a call that is to read units makes of its cache, if it fails
+pub data LeavesCall (keeping : Keeping) (way : Direction) (m : Machine) (input : Input) (walk : Walk)
+    (old new : Known) (e : SearchError) : Type 0 where
+  -- the walk cannot go on from where it is
+  FailsToGoOn :
+      (ReadsNoUnit input walk → ⊥) → IsNotResumed way m input walk.stage walk.units old new e
+      → LeavesCall keeping way m input walk old new e
+  -- it goes on, and fails at a unit
+  FailsOnItsWay :
+      (ReadsNoUnit input walk → ⊥) → IsCallStopped keeping way m input walk old new e
+      → LeavesCall keeping way m input walk old new e
+
+-- what a call of a walk makes of what its cache knows, by the error that it returns, if it fails
+abbrev pub IsWalkRun :
+    Keeping → Direction → Machine → Input → (walk next : Walk) → (old new : Known) → Option SearchError → Type 0
+IsWalkRun keeping way m input walk next old new error =
+    MatchOption error (EndsCall way m input walk next old new) (LeavesCall keeping way m input walk old new)
+
+-- the cache has the row of the state that a walk goes on from
+abbrev pub has_its_row : Known → Stage → Bool
+has_its_row c Fresh = true
+has_its_row c (At q) = is_some (row_in c.rows q)
+has_its_row c Ended = true
+
+-- so many calls of the walk of a set have ended, one after another
+pub data HaveCalled (m : Machine) (input : Input) (set : List Bool) (old : Known) :
+    (calls : ℕ) → Walk → Known → Type 0 where
+  -- none: the walk has not begun, and nothing has changed
+  NoCall : (walk : Walk) (new : Known) → walk ≡ fresh_walk → new ≡ old → HaveCalled m input set old zero walk new
+  -- one more, while the set is open and the cache has the state where the walk stands
+  OneMore :
+      (calls : ℕ) (before walk : Walk) (mid new : Known) → HaveCalled m input set old calls before mid
+      → IsOpenAfter m input set calls → has_its_row mid before.stage ≡ true → ReportsNext Forward m input before walk
+      → EndsCall Forward m input before walk mid new → HaveCalled m input set old (suc calls) walk new
+
+-- a search for a set that returns Ok makes calls of its walk, up to one that finds no match or leaves the set closed
+pub record EndsSet (m : Machine) (input : Input) (set : List Bool) (old new : Known) : Type 0 where
+  -- how many calls it makes
+  pub calls : ℕ
+  -- the walk after them
+  pub walk : Walk
+  -- they end
+  pub called : HaveCalled m input set old calls walk new
+  -- the last finds no match, or leaves the set closed
+  pub last : (walk.stage ≡ Ended) ⊎ IsClosedAfter m input set calls
+
+-- a search for a set that fails makes calls of its walk, and the next one fails
+pub record LeavesSet (m : Machine) (input : Input) (set joined : List Bool) (old new : Known) (e : SearchError) :
+    Type 0 where
+  -- how many calls it makes before
+  pub calls : ℕ
+  -- the walk after them
+  pub walk : Walk
+  -- what the cache knows after them
+  pub mid : Known
+  -- they end
+  pub called : HaveCalled m input set old calls walk mid
+  -- the set is still open
+  pub still_open : IsOpenAfter m input set calls
+  -- it has what these calls reported
+  pub joins : IsJoinedAfter m input set joined calls
+  -- the cache has the state where the walk stands
+  pub there : has_its_row mid walk.stage ≡ true
+  -- the next call fails
+  pub left : LeavesCall Ids Forward m input walk mid new e
+
+-- what the search for a set makes of what its cache knows, and of the set if it fails, by the error that it returns
+-- then
+abbrev pub IsSetRun :
+    Machine → Input → (set joined : List Bool) → (old new : Known) → Option SearchError → Type 0
+IsSetRun m input set joined old new error =
+    MatchOption error (EndsSet m input set old new) (LeavesSet m input set joined old new)

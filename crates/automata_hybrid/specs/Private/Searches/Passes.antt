@@ -1,0 +1,64 @@
+-- A pass of a search over the span of an input, unit by unit, and what a search answers.
+use Rattle.std.specs.Prelude.{ℕ, ◌≡◌, ◌≤◌, ◌+◌, true, false, Option, Some, None}
+use Rattle.automata_base.specs.Answers.Answers.{Tries, later, offset_in}
+use Rattle.automata_base.specs.ByteClasses.Classes.{is_quit}
+use Rattle.automata_base.specs.Haystacks.Input.{Input}
+use Rattle.automata_base.specs.Paths.Paths.{next}
+use Rattle.automata_base.specs.Powersets.Powerset.{Powerset}
+use Rattle.automata_base.specs.declared.util.search.Direction.{Direction}
+use Rattle.automata_base.specs.Retraced.Steps.{successor}
+use Rattle.automata_base.specs.declared.util.search.MatchErrorKind.TheVariants.{Quit as QuitAt, GaveUp}
+use Rattle.automata_config.specs.declared.error.SearchError.{SearchError}
+use Rattle.automata_config.specs.Options.{match_kind_of}
+use Rattle.automata_config.specs.declared.error.SearchError.TheVariants as search
+use Rattle.automata_hybrid.specs.Cache.Stores.{Stored}
+use Rattle.automata_hybrid.specs.Private.Cache.Usage.{GivesUpInStore}
+use Rattle.automata_hybrid.specs.Machines.Machine.{Machine, quits_on}
+use Rattle.automata_hybrid.specs.Steps.Starts.{quit_behind}
+use Rattle.automata_hybrid.specs.Private.Steps.Starts.{IsStartErrorAt}
+use Rattle.automata_hybrid.specs.Private.Steps.Steps.{KnowsStep}
+use Rattle.automata_hybrid.specs.Cache.Table.{Names}
+use Rattle.automata_hybrid.specs.Searches.Passes.{tape_in, state_in, Reads, HasReadNoQuit}
+use Rattle.automata_hybrid.specs.Searches.Passes.{unit_offset, given_up_offset, behind_offset, Finds, Skips}
+
+-- the transition from a state on a unit is not cached
+abbrev pub LacksStep : Machine → Stored → Powerset → (unit : Option ℕ) → Type 0
+LacksStep m c q unit = (id : ℕ) → Names c.table id q → KnowsStep m c id unit → ⊥
+
+-- why a step from a state on a unit fails
+pub data IsStepError (m : Machine) (c : Stored) (q : Powerset) (unit : Option ℕ) (quit_at given_up_at : ℕ) :
+    SearchError → Type 0 where
+  -- the unit is a quit byte: the error has the byte, and an offset of its own
+  MeetsQuitByte :
+      (byte offset : ℕ) → unit ≡ Some byte → is_quit m.quits byte ≡ true → offset ≡ quit_at
+      → IsStepError m c q unit quit_at given_up_at (search.Match (QuitAt byte offset))
+  -- it is none, and the next state is not in the cache, does not fit, and the clear rule does not allow a clear
+  FindsNoRoom :
+      (offset : ℕ) → quits_on m unit ≡ false → GivesUpInStore c (successor m.nfa (match_kind_of m.config) q unit)
+      → offset ≡ given_up_at → IsStepError m c q unit quit_at given_up_at (search.Match (GaveUp offset))
+  -- it is none, and the transition is not cached, and memory runs out
+  LacksMemoryInStore :
+      quits_on m unit ≡ false → LacksStep m c q unit → IsStepError m c q unit quit_at given_up_at search.OutOfMemory
+
+-- why the step on the unit at place `k` of a pass fails
+abbrev pub IsUnitError : Direction → Machine → Stored → Input → ℕ → SearchError → Type 0
+IsUnitError way m c input k e =
+    IsStepError m c (state_in way m input k) (next (tape_in way input) k) (unit_offset way input k)
+    (given_up_offset way input k) e
+
+-- why a pass fails
+pub data IsPassError (way : Direction) (m : Machine) (c : Stored) (input : Input) (e : SearchError) : Type 0 where
+  -- its start state does
+  AtItsStart :
+      IsStartErrorAt m c input.anchored (tape_in way input).before (behind_offset way input) (offset_in way input 0) e
+      → IsPassError way m c input e
+  -- the step on a unit that it reads does, and no quit byte was met before
+  AtUnit :
+      (k : ℕ) → quit_behind m (tape_in way input).before ≡ None → Reads way m input k → HasReadNoQuit way m input k
+      → IsUnitError way m c input k e → IsPassError way m c input e
+
+-- why a search fails: a pass over one of the spans that it tries does
+abbrev pub IsSearchError : Direction → Machine → Stored → Input → SearchError → Type 0
+IsSearchError way m c input e =
+    (k : ℕ) × Tries (Finds way m) (Skips m) way input k × (input.start + k ≤ input.end)
+    × IsPassError way m c (later way k input) e
