@@ -1,5 +1,5 @@
 -- The next match of an iteration is the one that the kit's iterator yields, and a match is found exactly if there is one.
-use Rattle.std.proofs.Common.{ℕ, zero, suc, ◌≡◌, ◌+◌, ◌<◌, ◌≤◌, ◌==◌, List, [], ◌∷◌, Option, Some, None, Bool, is_some, length, map, option_map, refl, sym, ap, ap₂, ◌∙◌, subst, ⊎_elim, inl, inr, arith, add-one}
+use Rattle.std.proofs.Common.{ℕ, zero, suc, ◌≡◌, ◌+◌, ◌<◌, ◌≤◌, ◌==◌, List, [], ◌∷◌, Option, Some, None, Bool, is_some, length, map, option_map, refl, sym, ap, ap₂, ◌∙◌, subst, ⊎_elim, inl, arith, add-one}
 use Rattle.std.specs.Prelude.{if◌then◌else◌}
 use Rattle.std.specs.Option.{unwrap_or}
 use Rattle.std.proofs.lemmas.Bool.{cases_lt, cond-true, cond-false, eq-eqb, ne_eqb}
@@ -9,7 +9,7 @@ use Rattle.regex_hir.specs.Find.{find_after, matches_from}
 use Rattle.regex_hir.specs.Text.{is_some_and}
 use Rattle.regex_hir.proofs.OptionLemmas.{option_cases}
 use Rattle.automata_base.specs.Answers.Answers.{Half, IsAnswer}
-use Rattle.automata_base.specs.Answers.Spans.{IsEmptyAt, IsMatch, IsNextItem, IsSpan}
+use Rattle.automata_base.specs.Answers.Spans.{FindsHere, FindsLater, IsEmptyAt, IsMatch, IsNextItem, IsSpan}
 use Rattle.automata_base.specs.Haystacks.Matches.{HalfMatch, Match}
 use Rattle.automata_base.specs.Nfas.Engines.{Engine}
 use Rattle.automata_base.specs.declared.util.search.Direction.TheVariants.{Forward}
@@ -43,8 +43,8 @@ module _ (d : Engine) (res : List Re) (hay : List ℕ) (search : ℕ → Option 
       option_map half_of answer ≡ option_map (end_of res hay) m
   ends_with s answer a None h = ap (option_map half_of) (answer_once Forward d (span_input hay s (length hay)) answer None a h)
   ends_with s answer a (Some m) h =
-      ap (option_map half_of) (answer_once Forward d (span_input hay s (length hay)) answer (Some h.0) a h.5)
-      ∙ ap₂ (λ number end. Some (record { pattern = number; offset = end })) (sym h.10) (sym h.12)
+      ap (option_map half_of) (answer_once Forward d (span_input hay s (length hay)) answer (Some h.half) a h.answer)
+      ∙ ap₂ (λ number end. Some (record { pattern = number; offset = end })) (sym h.pattern) (sym h.end)
 
   pub end_is : (s : ℕ) (answer : Option Half) → IsAnswer Forward d (span_input hay s (length hay)) answer →
       option_map half_of answer ≡ option_map (end_of res hay) (search s)
@@ -87,20 +87,18 @@ module _ (d : Engine) (res : List Re) (hay : List ℕ) (search : ℕ → Option 
     -- the item after a match that ended here
     next_is : (begin : ℕ) (o : Option Match) → IsNextItem (IsSpan d) (span_input hay begin (length hay)) start (Some start) o →
         o ≡ option_map (numbered_match res hay) (find_after search start)
-    next_is begin None (inl h) =
+    next_is begin None (FindsHere h apart) =
         let e = span_is start None h in
         e ∙ ap (option_map (numbered_match res hay)) (sym (stops (none_of (search start) e)))
-    next_is begin None (inr h) =
-        span_is (suc start) None h.3 ∙ ap (option_map (numbered_match res hay)) (sym (passed h.0 h.1 h.2))
-    next_is begin (Some m) (inl h) =
-        let e = span_is start (Some m) h.0 in
+    next_is begin o (FindsLater m h empty later) =
+        span_is (suc start) o later ∙ ap (option_map (numbered_match res hay)) (sym (passed m h empty))
+    next_is begin (Some m) (FindsHere h apart) =
+        let e = span_is start (Some m) h in
         let w = some_of (search start) m e in
-        let inside = spans_inside d (span_input hay start (length hay)) m (omega arith) h.0 in
+        let inside = spans_inside d (span_input hay start (length hay)) m (omega arith) h in
         e ∙ ap (option_map (numbered_match res hay)) (sym (goes_on w.0 w.1 (λ same.
         let ends : m.end ≡ start = ap (λ (v : Match). v.end) w.2 ∙ same in
-        h.1 (omega (arith, ends, inside.0, inside.1), ap (λ v. Some v) (sym ends)))))
-    next_is begin (Some m) (inr h) =
-        span_is (suc start) (Some m) h.3 ∙ ap (option_map (numbered_match res hay)) (sym (passed h.0 h.1 h.2))
+        apart (omega (arith, ends, inside.0, inside.1), ap (λ v. Some v) (sym ends)))))
 
   yields_none : (fuel : ℕ) → matches_from search fuel None ≡ []
   unfolding matches_from
@@ -110,10 +108,8 @@ module _ (d : Engine) (res : List Re) (hay : List ℕ) (search : ℕ → Option 
   -- the first item, and each one
   first_is : (begin : ℕ) (o : Option Match) → IsNextItem (IsSpan d) (span_input hay begin (length hay)) 0 None o →
       o ≡ option_map (numbered_match res hay) (search 0)
-  first_is begin None (inl h) = span_is 0 None h
-  first_is begin None (inr h) = absurd (none_some h.2.1)
-  first_is begin (Some m) (inl h) = span_is 0 (Some m) h.0
-  first_is begin (Some m) (inr h) = absurd (none_some h.2.1)
+  first_is begin o (FindsHere h apart) = span_is 0 o h
+  first_is begin o (FindsLater m h empty later) = absurd (none_some empty.1)
 
   item_is : (begin : ℕ) (last : Option ℕ) (o : Option Match) →
       IsNextItem (IsSpan d) (span_input hay begin (length hay)) (unwrap_or last 0) last o →

@@ -1,5 +1,5 @@
 -- The loop before the union of the joined NFA is a lazy one.
-use Rattle.std.proofs.Common.{ℕ, zero, suc, ◌≡◌, ◌+◌, ◌-◌, ◌<◌, ◌≤◌, List, [], ◌∷◌, Option, Some, None, length, option_map, refl, sym, ap, ◌∙◌, subst, ⊎_elim, inl, inr, arith}
+use Rattle.std.proofs.Common.{ℕ, zero, suc, ◌≡◌, ◌+◌, ◌-◌, ◌<◌, ◌≤◌, List, [], ◌∷◌, Option, Some, None, length, option_map, refl, sym, ap, ◌∙◌, subst, ⊎_elim, arith}
 use Rattle.std.specs.Prelude.{slice_get}
 use Rattle.std.proofs.lemmas.Bool.{cases_lt}
 use Rattle.regex_nfa.specs.States.{IsBelow, next_on}
@@ -8,7 +8,7 @@ use Rattle.regex_nfa.specs.declared.state.State as kit_state
 use Rattle.regex_nfa.specs.declared.state.State.TheVariants as kit
 use Rattle.regex_nfa.specs.declared.nfa.Nfa as kit_nfa
 use Rattle.regex_nfa.proofs.RunLemmas.{sound_of, next_on_within}
-use Rattle.automata_base.specs.Nfas.Engines.{HasEdge, Reaches, Road, LoopsLazily}
+use Rattle.automata_base.specs.Nfas.Engines.{ByteEdge, FreeEdge, HasEdge, Reaches, Road, LoopsLazily}
 use Rattle.automata_base.specs.Nfas.Nfa.{Nfa, hop_at, takes_at}
 use Rattle.automata_base.specs.Paths.Paths.{all_true}
 use Rattle.automata_base.proofs.Paths.Orders.{some_inj, none_some}
@@ -47,12 +47,12 @@ module _ (k : kit_nfa.Nfa) (b p : ℕ) where
   -- no edge leaves the pattern's states
   edge_stays : (n : Nfa) → HasStatesOf n b p k → (q r : ℕ) → q < length k.states.items → HasEdge n (b + q) r →
       r < b + length k.states.items
-  edge_stays n holds q r l (inl h) =
-      hop_stays q _ refl h.0 r (sym (ap (λ v. hop_at v all_true h.0) (node_known n b p k holds q l _ refl)) ∙ h.1)
-  edge_stays n holds q r l (inr h) =
-      raised b (length k.states.items) r (next_on k.transitions.items (state_of k q) h.0)
-      (λ x e. let w = next_on_within k q h.0 x e in omega (arith, w))
-      (sym (takes_known n b p k holds q l _ refl h.0) ∙ h.1)
+  edge_stays n holds q r l (FreeEdge e h) =
+      hop_stays q _ refl e r (sym (ap (λ v. hop_at v all_true e) (node_known n b p k holds q l _ refl)) ∙ h)
+  edge_stays n holds q r l (ByteEdge u h) =
+      raised b (length k.states.items) r (next_on k.transitions.items (state_of k q) u)
+      (λ x e. let w = next_on_within k q u x e in omega (arith, w))
+      (sym (takes_known n b p k holds q l _ refl u) ∙ h)
 
 edges_stay : (n : Nfa) (b p : ℕ) (ks : List kit_nfa.Nfa) → HoldsAll n b p ks → (q r : ℕ) → b ≤ q → q < b + size_of ks →
     HasEdge n q r → r < b + size_of ks
@@ -81,9 +81,9 @@ module _ (ks : List kit_nfa.Nfa) where
       road_stays r rs z (omega (arith, w)) h.1
 
   first_stays : (r : ℕ) → HasEdge (joined_nfa ks) (size_of ks) r → r < size_of ks
-  first_stays r (inl h) =
-      let w = starts_below 0 ks h.0 r (sym (ap (λ v. hop_at v all_true h.0) (union_is ks)) ∙ h.1) in omega (arith, w)
-  first_stays r (inr h) = absurd (none_some (sym (ap (λ v. takes_at v h.0) (union_is ks)) ∙ h.1))
+  first_stays r (FreeEdge e h) =
+      let w = starts_below 0 ks e r (sym (ap (λ v. hop_at v all_true e) (union_is ks)) ∙ h) in omega (arith, w)
+  first_stays r (ByteEdge u h) = absurd (none_some (sym (ap (λ v. takes_at v u) (union_is ks)) ∙ h))
 
   returns_not : Reaches (joined_nfa ks) (size_of ks) (size_of ks + 1) → ⊥
   returns_not ([], e) = omega (arith, e)

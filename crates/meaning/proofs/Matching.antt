@@ -7,7 +7,7 @@ use Rattle.regex_hir.specs.Find.{find}
 use Rattle.regex_hir.proofs.FindLemmas.{IsFirst-of_first_between, find_complete, find_sound}
 use Rattle.regex_hir.proofs.OptionLemmas.{option_cases}
 use Rattle.regex_nfa.specs.declared.nfa.Nfa as kit_nfa
-use Rattle.automata_base.specs.Answers.Answers.{Half, IsAnswer}
+use Rattle.automata_base.specs.Answers.Answers.{Half, IsAnswer, SpanIsDone, SpanReportsNone, StopsAtSplit}
 use Rattle.automata_base.specs.Answers.Spans.{IsSpan}
 use Rattle.automata_base.specs.Haystacks.Input.{Input}
 use Rattle.automata_base.specs.Haystacks.Matches.{Match}
@@ -28,22 +28,22 @@ module _ (d : Engine) (all : IsSkipping d → ⊥) (hay : List ℕ) (s stop : �
   over e = record (span_input hay s stop) { earliest = e }
 
   once : (e : Bool) (k : ℕ) → ComesTo Forward d (over e) k → s + k ≡ s
-  once e k tries = ⊎_elim (λ (z : k ≡ 0). omega (arith, z)) (λ w. absurd (all w.0)) tries.0
+  once e k tries = ⊎_elim (λ (z : k ≡ 0). omega (arith, z)) (λ w. absurd (all w.0)) tries.comes
 
   accepts_none : (e : Bool) → IsAnswer Forward d (over e) None → (i pattern : ℕ) (path : List ℕ) →
       Accepts d.nfa (forward_tape hay s stop) d.unanchored i pattern path → ⊥
-  accepts_none e (k, tries, inl l) i pattern path h = let z = once e k tries in omega (arith, l, z, inside)
-  accepts_none e (k, tries, inr (inl w)) i pattern path h =
+  accepts_none e (k, tries, SpanIsDone l) i pattern path h = let z = once e k tries in omega (arith, l, z, inside)
+  accepts_none e (k, tries, SpanReportsNone w) i pattern path h =
       w i pattern path (subst (λ v. Accepts d.nfa (forward_tape hay v stop) d.unanchored i pattern path) (sym (once e k tries)) h)
-  accepts_none e (k, tries, inr (inr w)) i pattern path h = all w.0
+  accepts_none e (k, tries, StopsAtSplit skips anchored w) i pattern path h = all skips
 
   accepts_some : (e : Bool) (half : Half) → IsAnswer Forward d (over e) (Some half) →
       (i pattern : ℕ) × (path : List ℕ) × Accepts d.nfa (forward_tape hay s stop) d.unanchored i pattern path
   accepts_some e half a = (
-    a.1.place,
-    a.1.pattern,
-    a.4.0,
-    subst (λ v. Accepts d.nfa (forward_tape hay v stop) d.unanchored a.1.place a.1.pattern a.4.0) (once e a.0 a.2) a.4.1,
+    a.2.pair.place,
+    a.2.pair.pattern,
+    a.2.reported.0,
+    subst (λ v. Accepts d.nfa (forward_tape hay v stop) d.unanchored a.2.pair.place a.2.pair.pattern a.2.reported.0) (once e a.0 a.1) a.2.reported.1,
   )
 
   -- earliest or not, all searches agree whether there is a match
@@ -57,7 +57,7 @@ module _ (d : Engine) (all : IsSkipping d → ⊥) (hay : List ℕ) (s stop : �
   pub answer_tells : (e : Bool) (o : Option Half) → IsAnswer Forward d (over e) o → (m : Option Match) →
       IsSpan d (span_input hay s stop) m → is_some o ≡ is_some m
   answer_tells e o a None h = same_truth e false o None a h
-  answer_tells e o a (Some m) h = same_truth e false o (Some h.0) a h.5
+  answer_tells e o a (Some m) h = same_truth e false o (Some h.half) a h.answer
 
 begins : (re : Re) (hay : List ℕ) (start : ℕ) (m : kit_find.Match) → find re hay start ≡ Some m → m.start ≤ length hay
 unfolding find

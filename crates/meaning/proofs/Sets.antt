@@ -262,6 +262,22 @@ module _ (ks : List kit_nfa.Nfa) (res : List Re) (is : ImplementAll ks res) (utf
     alike : engine_of a KindAll ≡ all
     alike = ap (λ (d : Engine). record d { kind = KindAll }) engines
 
+    -- That is an end of the patterns joined.
+    is_end : (pattern end : ℕ) → EndsAt all hay pattern end → IsEnd pattern end
+    is_end pattern end h =
+        let w = subst (λ d. EndsAt d hay pattern end) (sym alike) h in record {
+          place = w.0;
+          path = w.1;
+          inside = w.2;
+          accepted = w.3;
+          offset = w.4;
+          whole = w.5;
+        }
+
+    of_end : (pattern end : ℕ) → IsEnd pattern end → EndsAt all hay pattern end
+    of_end pattern end h =
+        subst (λ d. EndsAt d hay pattern end) alike (h.place, h.path, h.inside, h.accepted, h.offset, h.whole)
+
     kept : KeepsUtf8 Forward all
     kept = subst (λ d. KeepsUtf8 Forward d) alike keeps
 
@@ -269,21 +285,21 @@ module _ (ks : List kit_nfa.Nfa) (res : List Re) (is : ImplementAll ks res) (utf
     pub accepted_is_found : (pattern : ℕ) →
         ((end : ℕ) × IsEnd pattern end) ↔ ((re : Re) × (slice_get res pattern ≡ Some re) × (is_found utf8 hay re ≡ true))
     accepted_is_found pattern = (
-      λ w. ends_found kept pattern w.0 (subst (λ d. EndsAt d hay pattern w.0) alike w.1),
-      λ w. let own = found_ends kept pattern w.0 w.1 w.2 in (own.0, subst (λ d. EndsAt d hay pattern own.0) (sym alike) own.1),
+      λ w. ends_found kept pattern w.0 (of_end pattern w.0 w.1),
+      λ w. let own = found_ends kept pattern w.0 w.1 w.2 in (own.0, is_end pattern own.0 own.1),
     )
 
     -- In whatever way it matches, it has one to the end of the match.
     pub way_is_accepted : (pattern : ℕ) (re : Re) (i end : ℕ) → slice_get res pattern ≡ Some re → i ≤ length hay →
         (utf8 ≡ true → is_split hay i ≡ false) → Matches hay re i end → IsEnd pattern end
     way_is_accepted pattern re i end at l begin way =
-        subst (λ d. EndsAt d hay pattern end) (sym alike) (way_ends kept pattern re i end at l way begin)
+        is_end pattern end (way_ends kept pattern re i end at l way begin)
 
     -- And where it has one, it matches in some way, from an offset on that is not after the path's end.
     pub accepted_matches : (pattern end : ℕ) → IsEnd pattern end →
         (re : Re) × (i j : ℕ) × (slice_get res pattern ≡ Some re) × (i ≤ end) × (utf8 ≡ true → is_split hay i ≡ false)
         × Matches hay re i j
     accepted_matches pattern end h =
-        let w = ends_begin kept pattern end (subst (λ d. EndsAt d hay pattern end) alike h) in
+        let w = ends_begin kept pattern end (of_end pattern end h) in
         let way = attempt_sound hay w.0 accept w.1 w.2 w.5.1 in
         (w.0, w.1, way.at, w.3, w.4, w.5.2, way.leads)

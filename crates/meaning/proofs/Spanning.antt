@@ -8,7 +8,7 @@ use Rattle.regex_hir.specs.Find.{first_between}
 use Rattle.regex_hir.specs.Text.{is_boundary}
 use Rattle.regex_hir.proofs.FindLemmas.{IsFirst, IsFirst-of_first_between, first_between_next, first_between_none, first_between_of_IsFirst, first_between_past, none_of_first_between}
 use Rattle.regex_hir.proofs.OptionLemmas.{option_cases}
-use Rattle.automata_base.specs.Answers.Answers.{later}
+use Rattle.automata_base.specs.Answers.Answers.{SpanIsDone, SpanReportsNone, later}
 use Rattle.automata_base.specs.Answers.Spans.{IsSpan, IsPathStart, Chooses}
 use Rattle.automata_base.specs.Haystacks.Input.{Input}
 use Rattle.automata_base.specs.Haystacks.Matches.{Match}
@@ -151,43 +151,45 @@ module _ (n : Nfa) (a u x : ℕ) (starts : List ℕ) (utf8 : Bool) (loop : Loops
         IsSpan searched input None
     no_span k tries e =
         ⊎_elim
-        (λ (l : stop < s + k). (k, tries, inl l))
-        (λ (l : s + k ≤ stop). (k, tries, inr (inl (selects_none (s + k) l (none_of_first_between at (s + k) stop e)))))
+        (λ (l : stop < s + k). (k, tries, SpanIsDone l))
+        (λ (l : s + k ≤ stop). (k, tries, SpanReportsNone (selects_none (s + k) l (none_of_first_between at (s + k) stop e))))
         (cases_lt stop (s + k))
 
     pub a_span : (k : ℕ) → ComesTo Forward searched input k → (m : kit_find.Match) → IsFirst at (s + k) stop m →
         (IsSkipping searched → is_split hay m.trace.end ≡ false) → IsSpan searched input (Some (numbered number m))
-    a_span k tries m first whole = (
-      record { pattern = number m.start; offset = m.trace.end; base = s + k },
-      u,
-      (own (s + k) inside m first).1,
-      place (s + k) inside m first,
-      path (s + k) inside m first,
-      (
+    a_span k tries m first whole = record {
+      half = record { pattern = number m.start; offset = m.trace.end; base = s + k };
+      answer = (
         k,
-        pair (s + k) inside m first,
         tries,
-        inside,
-        selects_some (s + k) inside m first,
-        λ skip. subst (λ v. is_split hay v ≡ false) (sym (ends_there (s + k) inside m first)) (whole skip),
-        refl,
-        sym (ends_there (s + k) inside m first),
-        refl,
-      ),
-      refl,
-      sym (ends_there (s + k) inside m first),
-      chooses (s + k) inside m first,
-      begins (s + k) inside m first,
-      refl,
-      there (s + k) inside m first,
-      refl,
-    )
+        record {
+          pair = pair (s + k) inside m first;
+          within = inside;
+          reported = selects_some (s + k) inside m first;
+          whole = λ skip. subst (λ v. is_split hay v ≡ false) (sym (ends_there (s + k) inside m first)) (whole skip);
+          pattern = refl;
+          offset = sym (ends_there (s + k) inside m first);
+          base = refl;
+        },
+      );
+      first = u;
+      is_first = refl;
+      length = (own (s + k) inside m first).1;
+      ends = sym (ends_there (s + k) inside m first);
+      path = path (s + k) inside m first;
+      chosen = chooses (s + k) inside m first;
+      before = place (s + k) inside m first;
+      begins = begins (s + k) inside m first;
+      pattern = refl;
+      start = there (s + k) inside m first;
+      end = refl;
+    }
       where
         inside : s + k ≤ stop
         inside = omega (arith, first.from, first.to)
 
     at_once : ComesTo Forward searched input 0
-    at_once = (inl refl, λ j l. absurd (omega (arith, l)))
+    at_once = record { comes = inl refl; before = λ j l. absurd (omega (arith, l)) }
 
     from_here : first_between at (s + 0) stop ≡ first_between at s stop
     from_here = ap (λ v. first_between at v stop) (omega arith)
@@ -258,7 +260,7 @@ module _ (n : Nfa) (a u x : ℕ) (starts : List ℕ) (utf8 : Bool) (loop : Loops
       split_here k m first c more tries =
           subst (λ o. IsSpan searched (span_input hay s stop) (option_map (numbered number) o))
           (sym (first_between_next at_starts (s + k) stop none_here ∙ ap (λ v. first_between at_starts v stop) one_more))
-          (more (inr (skips_there m.start m.trace first.to first.here empty, refl), tried))
+          (more (record { comes = inr (skips_there m.start m.trace first.to first.here empty, refl); before = tried }))
         where
           one_more : s + k + 1 ≡ s + suc k
           one_more = omega arith
@@ -284,7 +286,7 @@ module _ (n : Nfa) (a u x : ℕ) (starts : List ℕ) (utf8 : Bool) (loop : Loops
           tried : (j : ℕ) → j < suc k →
               (s + j ≤ stop) × IsSplitAnswer Forward searched (later Forward j (span_input hay s stop))
           tried j l =
-              ⊎_elim (λ (b : j < k). tries.1 j b)
+              ⊎_elim (λ (b : j < k). tries.before j b)
               (λ (b : k ≤ j).
               let same : k ≡ j = omega (arith, b, l) in
               subst (λ v. (s + v ≤ stop) × IsSplitAnswer Forward searched (later Forward v (span_input hay s stop))) same (

@@ -28,21 +28,21 @@ refused (Err e) P h = h
 open_is : {P : Type 0} → true ≡ false → P
 open_is e = absurd (cc)
 
-module _ (p : Regex) (c : Cache) (hay : List ℕ) (last : Option ℕ) where
+module _ (p : Regex) (old new : Cache) (hay : List ℕ) (last : Option ℕ) where
   pub gives_match : (ended : Bool) (m : Match) (end : ℕ) → ended ≡ false → {o : Option Match} → o ≡ Some m →
       IsNextMeant p hay last o → MatchLiesIn p (rest_of hay last) m → end ≡ m.end →
-      GivesMatch p c hay (Some (Ok m)) last (Some end) ended ended
+      GivesMatch p old new hay (Some (Ok m)) last (Some end) ended ended
   gives_match true m end on is next lies ends = open_is on
   gives_match false m end on is next lies ends =
       record { next = subst (λ v. IsNextMeant p hay last v) is next; within = lies; place = ap (λ (n : ℕ). Some n) ends; going = refl }
 
   pub gives_none : (ended : Bool) → ended ≡ false → {o : Option Match} → o ≡ None → IsNextMeant p hay last o →
-      GivesMatch p c hay None last last ended true
+      GivesMatch p old new hay None last last ended true
   gives_none true on is next = open_is on
   gives_none false on is next = (subst (λ v. IsNextMeant p hay last v) is next, record { place = refl; over = refl })
 
-  pub gives_error : (ended : Bool) (e : SearchError) → ended ≡ false → IsNextError p c (rest_of hay last) last e →
-      GivesMatch p c hay (Some (Err e)) last last ended true
+  pub gives_error : (ended : Bool) (e : SearchError) → ended ≡ false → IsNextError p old new (rest_of hay last) last e →
+      GivesMatch p old new hay (Some (Err e)) last last ended true
   gives_error true e on refused = open_is on
   gives_error false e on refused = (refused, record { place = refl; over = refl })
 
@@ -66,12 +66,12 @@ some_left hay None false on within = omega arith
 some_left hay (Some at) false on within = omega (arith, within)
 
 -- what an item says
-pub item_match : (p : Regex) (c : Cache) (hay : List ℕ) (m : Match) (last last' : Option ℕ) (ended ended' : Bool) →
-    GivesMatch p c hay (Some (Ok m)) last last' ended ended' → IsNextMeant p hay last (Some m) × (last' ≡ Some m.end) × (ended' ≡ false)
-item_match p c hay m last last' true ended' h = let e = h.0 in absurd (cc)
-item_match p c hay m last last' false ended' h = (h.next, h.place, h.going)
+pub item_match : (p : Regex) (old new : Cache) (hay : List ℕ) (m : Match) (last last' : Option ℕ) (ended ended' : Bool) →
+    GivesMatch p old new hay (Some (Ok m)) last last' ended ended' → IsNextMeant p hay last (Some m) × (last' ≡ Some m.end) × (ended' ≡ false)
+item_match p old new hay m last last' true ended' h = let e = h.0 in absurd (cc)
+item_match p old new hay m last last' false ended' h = (h.next, h.place, h.going)
 
-pub item_none : (p : Regex) (c : Cache) (hay : List ℕ) (last last' : Option ℕ) (ended ended' : Bool) →
-    GivesMatch p c hay None last last' ended ended' → ended ≡ false → IsNextMeant p hay last None
-item_none p c hay last last' true ended' h on = open_is on
-item_none p c hay last last' false ended' h on = h.0
+pub item_none : (p : Regex) (old new : Cache) (hay : List ℕ) (last last' : Option ℕ) (ended ended' : Bool) →
+    GivesMatch p old new hay None last last' ended ended' → ended ≡ false → IsNextMeant p hay last None
+item_none p old new hay last last' true ended' h on = open_is on
+item_none p old new hay last last' false ended' h on = h.0

@@ -14,10 +14,10 @@ use Rattle.automata_config.specs.Settling.{settling_error}
 use Rattle.automata_config.specs.declared.error.SearchError.{SearchError}
 use Rattle.automata_config.specs.declared.error.SearchError.TheVariants as search
 use Rattle.automata_hybrid.specs.Machines.Builds.{Builds}
-use Rattle.automata_hybrid.specs.Walks.Progress.{IsSetRun, IsWalkRun}
+use Rattle.automata_hybrid.specs.Known.Walks.{IsSetRun, IsWalkRun}
 use Rattle.automata_hybrid.specs.Walks.State.{States, fresh_walk}
 use Rattle.regex_automata.specs.Promises.{AreWalked, CacheView, Forward, IsMemory, IsUnhindered, JoinsReported, KindAll}
-use Rattle.regex_automata.specs.Promises.{Machine, Walk, engine_of, half_nth, match_kind_of}
+use Rattle.regex_automata.specs.Promises.{Machine, Walk, engine_of, half_nth, known_of, match_kind_of}
 use Rattle.regex_automata.specs.Regexes.Builds.{IsUtf8}
 use Rattle.regex_automata.specs.Spans.Contracts.{empty_set}
 use Rattle.regex_automata.specs.declared.hybrid.regex.build.RegexBuildError.{RegexBuildError}
@@ -82,7 +82,7 @@ abbrev pub IsSetSearched : Machine → Input → (old new : CacheView) → Resul
 IsSetSearched m input old new result =
     ((new ≡ old) × (result ≡ Err search.OutOfMemory))
     ⊎ ((joined : List Bool)
-    × IsSetRun m input (empty_set (length m.nfa.start_pattern)) joined old new (result_err result))
+    × IsSetRun m input (empty_set (length m.nfa.start_pattern)) joined (known_of old) (known_of new) (result_err result))
 
 -- what a search for whether some pattern matches returns, by its DFA and its input alone
 pub record IsAnyAnswer (m : Machine) (input : Input) (result : Result Bool SearchError) : Type 0 where
@@ -95,7 +95,7 @@ pub record IsAnyAnswer (m : Machine) (input : Input) (result : Result Bool Searc
 -- what it makes of its cache: what the first call of an overlapping search does, which returns the same error, if any
 abbrev pub IsAnySearched : Machine → Input → (old new : CacheView) → Result Bool SearchError → Type 0
 IsAnySearched m input old new result =
-    (walk : Walk) × IsWalkRun States Forward m input fresh_walk walk old new (result_err result)
+    (walk : Walk) × IsWalkRun States Forward m input fresh_walk walk (known_of old) (known_of new) (result_err result)
 
 -- among these pairs of a pattern and an offset are all ends of matches in a haystack, and no pattern that has no match
 pub record AreEnds (options : Options) (res : List Re) (hay : List ℕ) (pairs : List Pair) : Type 0 where

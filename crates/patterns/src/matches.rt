@@ -53,7 +53,7 @@ impl<'p, 'c, 'h> Iterator for Matches<'p, 'c, 'h> {
     type Item = Result<Match, SearchError>;
 
     ghost next_gives = { λ s r t.
-        GivesMatch s.pattern.now.regex t.cache.now s.haystack.now r s.last t.last s.ended t.ended
+        GivesMatch s.pattern.now.regex s.cache.now t.cache.now s.haystack.now r s.last t.last s.ended t.ended
         × (t.pattern.now ≡ s.pattern.now) × (t.haystack.now ≡ s.haystack.now)
         × (t.cache.ghost_name ≡ s.cache.ghost_name) × LiesInHaystack s.haystack.now r
         × IsItemRun s.pattern.now.regex (rest_of s.haystack.now s.last) s.last s.ended s.cache.now t.cache.now r };

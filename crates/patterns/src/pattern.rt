@@ -8,7 +8,7 @@ ghost use Rattle.regex_automata.specs.Spans.Errors.{IsNextError};
 ghost use Rattle.regex_automata.specs.Spans.Iteration.{GoesPast};
 ghost use Rattle.automata_config.specs.Options.{overwritten, unset};
 ghost use Rattle.regex_automata.specs.Promises.{AreCachesOf, Forward, IsHalf, IsSoundPair, IsSpanOf, IsTruthOf};
-ghost use Rattle.regex_automata.specs.Promises.{IsSearchRun, IsSpanRun, IsTruthRun};
+ghost use Rattle.regex_automata.specs.Promises.{IsSearchRun, IsSpanRun, IsTruthRun, known_of};
 ghost use Rattle.regex_automata.specs.Spans.Runs.{IsNextRun};
 ghost use Rattle.regex_automata.specs.Regexes.Builds.{BuildsOne, IsBuildError};
 ghost use Rattle.regex_automata.specs.Regexes.Caches.{AreFresh};
@@ -183,7 +183,7 @@ impl Pattern {
             → IsRegexOf o res self.now.regex → IsFor o hay.now
             → found ≡ option_map (end_of res hay.now) (find_any o.utf8 res hay.now start)) }
         ensures effect { IsSearchRun Forward self.now.regex.forward (span_input hay.now start (length hay.now))
-            cache.old.forward cache.new.forward (result_err result) }
+            (known_of cache.old.forward) (known_of cache.new.forward) (result_err result) }
         ensures reverse { cache.new.reverse ≡ cache.old.reverse }
     {
         let left = rest(hay, start);
@@ -205,7 +205,7 @@ impl Pattern {
         ensures of { AreCachesOf cache.new self.now.regex }
         ensures found { IfOk result (IsNextMeant self.now.regex hay.now last) }
         ensures past { IfOk result (λ o. IfSome o (GoesPast self.now.regex (rest_of hay.now last) last)) }
-        ensures refusal { IfErr result (IsNextError self.now.regex cache.new (rest_of hay.now last) last) }
+        ensures refusal { IfErr result (IsNextError self.now.regex cache.old cache.new (rest_of hay.now last) last) }
         ensures effect { IsNextRun self.now.regex (rest_of hay.now last) last cache.old cache.new (result_err result) }
     {
         matches_are_spans(&self.regex);

@@ -4,6 +4,12 @@
 -- The cache belongs to the DFA; the caches belong to the two DFAs of the regex. Each call needs it and gives it back.
 pub use Rattle.automata_hybrid.specs.Cache.Caches.{CacheView, IsCacheOf}
 pub use Rattle.regex_automata.specs.Regexes.Caches.{AreCachesOf}
+-- What a cache knows: the states that have rows, and which transitions and start states are cached, without the IDs and
+-- cells in which it stands; and what a cache of a DFA may know, by `laws::caches_are_known`.
+pub use Rattle.automata_hybrid.specs.Known.Known.{Known}
+pub use Rattle.automata_hybrid.specs.Known.Stores.{known_of}
+pub use Rattle.automata_hybrid.specs.Known.Bounds.{CachesAreKnown, IsKnown}
+pub use Rattle.regex_automata.specs.Regexes.Caches.{AreKnown}
 -- What contracts see of a DFA; its NFA, as paths need it; its match kind.
 pub use Rattle.automata_hybrid.specs.Machines.Machine.{Machine, engine}
 pub use Rattle.automata_base.specs.Nfas.Nodes.{nfa_of}
@@ -41,7 +47,8 @@ pub use Rattle.automata_hybrid.specs.Pieces.State.{IsPiecesOf, PiecesView}
 pub use Rattle.automata_hybrid.specs.Pieces.Answers.{BeginsAfter, EndsHere, HasBegun, IsPieceAt, IsWhole, ReadsOn}
 pub use Rattle.automata_hybrid.specs.Pieces.Answers.{WasGiven, WasGivenAll, from_first}
 pub use Rattle.automata_hybrid.specs.Pieces.Whole.{HasReadAll, PiecesAreWhole, bytes_of_pieces, whole_input}
-pub use Rattle.automata_hybrid.specs.Pieces.Follows.{IsCostOfUnits, IsFreePiece, PieceAnswersFollow, PiecesFollow}
+pub use Rattle.automata_hybrid.specs.Pieces.Follows.{IsFreePiece}
+pub use Rattle.automata_hybrid.specs.Known.PiecesFollow.{IsCostOfUnits, PieceAnswersFollow, PiecesFollow}
 -- A walk over a haystack in pieces: where it stands after so many bytes of the span of an input, or all; the patterns
 -- at which it stands; what a call returns, where it stops, and what its end means; and that the states of a pass report
 -- just the patterns that match at each offset, by `laws::states_have_matching`.
@@ -84,20 +91,20 @@ pub use Rattle.automata_hybrid.specs.Cache.Caches.{HoldsRow}
 -- unit at an offset; what a step over it means; the first pattern of a match state; the first match, or none.
 pub use Rattle.automata_hybrid.specs.Steps.BySteps.{StandsAt, IsUnitAt, IsStepAt, IsFirstPattern, HasPatterns}
 pub use Rattle.automata_hybrid.specs.Steps.BySteps.{IsFirstMatch, FirstMatchIsFound}
--- The ID that a step and a call for a start state return; what they make of the cache, one event each; when they fail;
--- and what follows, by `laws::steps_follow`.
+-- The ID that a step and a call for a start state return; what they make of what the cache knows, one event each; when
+-- they fail; and what follows, by `laws::steps_follow`.
 pub use Rattle.automata_hybrid.specs.Steps.Steps.{IsStepAnswer}
 pub use Rattle.automata_hybrid.specs.Steps.Starts.{IsStartAnswer}
-pub use Rattle.automata_hybrid.specs.Calls.Steps.{IsStepRun, StepFails, IsStartRun, StartFails}
-pub use Rattle.automata_hybrid.specs.Calls.Steps.{StepFollows, FailedStepFollows, StepsFollow}
-pub use Rattle.automata_hybrid.specs.Calls.Steps.{StartFollows, FailedStartFollows, StartsFollow}
--- Nothing but a lack of memory prevents an answer. What a search makes of its cache, event by event; and what follows
--- of it, by `laws::searches_follow` and `laws::spans_follow`: among others, until the next clear nothing is lost, and
--- if all that a search uses is cached, nothing changes but the progress.
+pub use Rattle.automata_hybrid.specs.Known.Steps.{IsStepRun, StepFails, IsStartRun, StartFails}
+pub use Rattle.automata_hybrid.specs.Known.Effects.{EventFollows, EventsFollow, FailureFollows, StepFollows}
+pub use Rattle.automata_hybrid.specs.Known.Effects.{StartsFollow, StepsFollow}
+-- Nothing but a lack of memory prevents an answer. What a search makes of what its cache knows, event by event; and what
+-- follows of it, by `laws::searches_follow` and `laws::spans_follow`: among others, until the next clear nothing is
+-- lost, and if all that a search uses is cached, nothing changes but the progress.
 pub use Rattle.automata_hybrid.specs.Searches.Contracts.{IsMemory, IsUnhindered}
-pub use Rattle.automata_hybrid.specs.Searches.Progress.{IsSearchRun}
-pub use Rattle.automata_hybrid.specs.Searches.Follows.{SearchFollows, SearchesFollow}
-pub use Rattle.automata_hybrid.specs.Searches.Cached.{Knows}
-pub use Rattle.automata_hybrid.specs.Cache.Growth.{ClearedNothing, IsGrown, IsStill}
+pub use Rattle.automata_hybrid.specs.Known.Passes.{IsSearchRun}
+pub use Rattle.automata_hybrid.specs.Known.Follows.{SearchFollows, SearchesFollow}
+pub use Rattle.automata_hybrid.specs.Known.Cached.{Knows}
+pub use Rattle.automata_hybrid.specs.Known.Growth.{ClearedNothing, IsGrown, IsStill}
 pub use Rattle.regex_automata.specs.Spans.Runs.{IsSpanRun, IsTruthRun}
 pub use Rattle.regex_automata.specs.Spans.Follows.{SpanFollows, SpansFollow}

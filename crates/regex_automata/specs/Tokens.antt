@@ -15,7 +15,8 @@ use Rattle.automata_config.specs.declared.error.SearchError.TheVariants as searc
 use Rattle.automata_hybrid.specs.Cache.Caches.{CacheView}
 use Rattle.automata_hybrid.specs.Machines.Machine.{Machine, engine}
 use Rattle.automata_hybrid.specs.Searches.Contracts.{IsHalf, IsMemory, IsUnhindered}
-use Rattle.automata_hybrid.specs.Searches.Progress.{IsSearchRun}
+use Rattle.automata_hybrid.specs.Known.Passes.{IsSearchRun}
+use Rattle.automata_hybrid.specs.Known.Stores.{known_of}
 use Rattle.automata_hybrid.specs.Searches.Passes.{IsFound, WithoutBase}
 use Rattle.regex_automata.specs.declared.tokens.error.TokenError.{TokenError}
 use Rattle.regex_automata.specs.declared.tokens.error.TokenError.TheVariants.{NoToken, Search}
@@ -149,7 +150,7 @@ abbrev pub IsTokenRun :
     Machine → List ℕ → (end offset : ℕ) → (old new : CacheView) → Option (Result Token TokenError) → Type 0
 IsTokenRun m h end offset old new None = new ≡ old
 IsTokenRun m h end offset old new (Some r) =
-    IsSearchRun Forward m (asked h end offset) old new (search_error r)
+    IsSearchRun Forward m (asked h end offset) (known_of old) (known_of new) (search_error r)
 
 -- how many items may come
 abbrev pub most_tokens : (failed : Bool) → (end offset : ℕ) → ℕ

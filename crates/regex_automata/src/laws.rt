@@ -1,17 +1,18 @@
 //! Laws about searches over two lazy DFAs. The contract of each function is the law; its body only cites other laws.
+ghost use Rattle.regex_automata.specs.Regexes.Caches.{AreCachesOf, AreKnown};
 ghost use Rattle.regex_automata.specs.Spans.Agreement.{MatchesAgree, TruthIffFound, TruthsAgree};
 ghost use Rattle.regex_automata.specs.Spans.Follows.{NextsFollow, ErrorsFollow, SpansFollow};
 ghost use Rattle.regex_automata.specs.Spans.OfPaths.{LoopsCollect, MatchesAreSpans};
 ghost use Rattle.regex_automata.specs.Tokens.{TokensAreSpans};
 
-use crate::hybrid::regex::Regex;
+use crate::hybrid::regex::{Cache, Regex};
 pub use automata_base::laws::{
     cycles_are_kept, passes_report_paths, reported_is_right, start_is_right, steps_are_right,
     walk_is_right,
 };
 pub use automata_hybrid::laws::{
-    answers_agree, cache_is_within, calls_follow, first_match_is_found, known_stays,
-    pieces_are_whole, pieces_follow, searches_follow, sets_follow, sets_have_matching,
+    answers_agree, cache_is_within, caches_are_known, calls_follow, first_match_is_found,
+    known_stays, pieces_are_whole, pieces_follow, searches_follow, sets_follow, sets_have_matching,
     sizes_are_of_nfa, states_have_matching, steps_follow, walks_agree,
 };
 
@@ -57,16 +58,30 @@ pub fn tokens_are_spans()
     ensures { TokensAreSpans }
 {}
 
+/// The caches of a regex know what such caches may know, as `spans_follow` asks of them.
+pub fn regex_caches_are_known(regex: &Regex, cache: &Cache)
+    requires { AreCachesOf cache.now regex.now }
+    ensures { AreKnown regex.now cache.now }
+{
+    let (forward, reverse) = cache.as_parts();
+    cache_is_within(regex.forward(), forward);
+    cache_is_within(regex.reverse(), reverse);
+    caches_are_known(regex.forward());
+    caches_are_known(regex.reverse());
+}
+
 /// What follows of what a search for a span makes of the two caches, and one for the next match: how often it
 /// determinizes, and when it clears nothing; that until the next clear nothing is lost; that all that it used is cached
 /// after an answer; that with all that cached nothing changes but the progress; and why it fails. For a search of one
 /// DFA, as `is_match` and the tokens make it, this is `searches_follow`.
 pub fn spans_follow(regex: &Regex)
-    ensures spans { SpansFollow }
+    ensures spans { SpansFollow regex.now }
     ensures refusals { ErrorsFollow regex.now }
     ensures nexts { NextsFollow regex.now }
 {
     answers_agree();
+    searches_follow(regex.forward());
+    searches_follow(regex.reverse());
     known_stays(regex.forward());
     known_stays(regex.reverse());
     reported_is_right(regex.forward().get_nfa());

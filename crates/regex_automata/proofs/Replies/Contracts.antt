@@ -14,10 +14,11 @@ use Rattle.automata_hybrid.specs.Searches.Contracts.{IsMemory, unsupported_error
 use Rattle.automata_hybrid.specs.Searches.Passes.{NoQuitInReach, Skips, tape_in}
 use Rattle.automata_hybrid.specs.Machines.StartSlots.{supports}
 use Rattle.automata_hybrid.specs.Steps.Starts.{quit_behind}
+use Rattle.automata_hybrid.proofs.Known.Bounds.{caches_are_known}
 use Rattle.automata_hybrid.proofs.Searches.Contracts.{is_store}
 use Rattle.regex_automata.specs.Spans.IsMatch.{IsNearestThere}
 use Rattle.regex_automata.specs.Spans.Contracts.{IsSpanOf, IsSpanReported, IsTruthOf}
-use Rattle.regex_automata.specs.Regexes.Caches.{AreCachesOf, AreFresh, AreStoresOf}
+use Rattle.regex_automata.specs.Regexes.Caches.{AreCachesOf, AreFresh, AreKnown}
 use Rattle.regex_automata.specs.Replay.Caches.{AreOfCurrent}
 use Rattle.regex_automata.specs.Replay.Histories.{History}
 use Rattle.automata_base.proofs.Paths.Orders.{some_inj}
@@ -27,55 +28,57 @@ use Rattle.regex_automata.specs.declared.hybrid.regex.Regex.{Regex}
 use Rattle.regex_automata.specs.declared.hybrid.regex.caches.Cache.{Cache}
 use Rattle.automata_config.specs.Options.{minimum_cache_clear_count_of}
 
-pub are_stores :
+pub are_known :
     (c : Cache) (p : Regex) → AreCachesOf c p → IsStoreOf c.forward.store c.forward.store.table.of
-    → IsStoreOf c.reverse.store c.reverse.store.table.of → AreStoresOf c p
-are_stores c p of forward reverse =
-    (is_store c.forward.store p.forward of.0 forward, is_store c.reverse.store p.reverse of.1 reverse)
+    → IsStoreOf c.reverse.store c.reverse.store.table.of → AreKnown p c
+are_known c p of forward reverse = (
+  caches_are_known p.forward c.forward (is_store c.forward.store p.forward of.0 forward),
+  caches_are_known p.reverse c.reverse (is_store c.reverse.store p.reverse of.1 reverse),
+)
 
--- caches of the current regex, within the settings of its DFAs
+-- caches of the current regex, and what they know
 pub of_current :
     (regexes : List Regex) (h : History) (c : Cache) (p : Regex)
     → slice_get regexes h.current ≡ Some p → AreCachesOf c p → IsStoreOf c.forward.store c.forward.store.table.of
     → IsStoreOf c.reverse.store c.reverse.store.table.of → AreOfCurrent regexes h c
 of_current regexes h c p at of forward reverse = λ r is.
-    subst (λ (q : Regex). AreStoresOf c q) (some_inj (sym at ∙ is)) (are_stores c p of forward reverse)
+    subst (λ (q : Regex). AreCachesOf c q × AreKnown q c) (some_inj (sym at ∙ is)) (of, are_known c p of forward reverse)
 
 pub memory_of_sound :
-    (p : Regex) (c : Cache) (input : Input) (e : SearchError)
-    → IsSoundPair p → IsFree p input → IsRegexError p c input e → IsMemory e
-memory_of_sound p c input e sound free h = go (h.free free) where
+    (p : Regex) (old new : Cache) (input : Input) (e : SearchError)
+    → IsSoundPair p → IsFree p input → IsRegexError p old new input e → IsMemory e
+memory_of_sound p old new input e sound free h = go (h.free free) where
   go : IsOfMemory e → IsMemory e
   go (inl memory) = memory
   go (inr apart) = absurd (h.sound sound apart)
 
 refused_free :
-    {T : Type 0} (r : Result T SearchError) (p : Regex) (c : Cache) (input : Input)
-    → IfSome (result_err r) (IsRegexError p c input) → IsFree p input → IfErr r IsOfMemory
-refused_free (Ok x) p c input h free = tt
-refused_free (Err e) p c input h free = h.free free
+    {T : Type 0} (r : Result T SearchError) (p : Regex) (old new : Cache) (input : Input)
+    → IfSome (result_err r) (IsRegexError p old new input) → IsFree p input → IfErr r IsOfMemory
+refused_free (Ok x) p old new input h free = tt
+refused_free (Err e) p old new input h free = h.free free
 
 refused_sound :
-    {T : Type 0} (r : Result T SearchError) (p : Regex) (c : Cache) (input : Input)
-    → IfSome (result_err r) (IsRegexError p c input) → IsSoundPair p → IsFree p input → IfErr r IsMemory
-refused_sound (Ok x) p c input h sound free = tt
-refused_sound (Err e) p c input h sound free = memory_of_sound p c input e sound free h
+    {T : Type 0} (r : Result T SearchError) (p : Regex) (old new : Cache) (input : Input)
+    → IfSome (result_err r) (IsRegexError p old new input) → IsSoundPair p → IsFree p input → IfErr r IsMemory
+refused_sound (Ok x) p old new input h sound free = tt
+refused_sound (Err e) p old new input h sound free = memory_of_sound p old new input e sound free h
 
 -- a search for a span
 pub span_returned :
-    (p : Regex) (input : Input) (r : Result (Option Match) SearchError) (c : Cache)
+    (p : Regex) (input : Input) (r : Result (Option Match) SearchError) (old new : Cache)
     → IsSpanReported p input r
     → (BothKeepCycles p → IfOk r (TryFinds (forward_engine p) (reverse_engine p) input))
     → (IsSoundPair p → IfOk r (IsSpan (forward_engine p) input))
-    → IfSome (result_err r) (IsRegexError p c input)
+    → IfSome (result_err r) (IsRegexError p old new input)
     → IsSpanOf p input r
-span_returned p input r c reported answer span errors = record {
+span_returned p input r old new reported answer span errors = record {
   answer = answer;
   span = span;
   within = reported.within;
   unsupported = reported.unsupported;
-  free = refused_free r p c input errors;
-  paired = refused_sound r p c input errors;
+  free = refused_free r p old new input errors;
+  paired = refused_sound r p old new input errors;
   done = reported.done;
 }
 

@@ -51,13 +51,13 @@ free_from p input start le free = record {
 
 -- so over a sound pair the error of the search for the next match is out of memory
 pub memory_next :
-    (p : Regex) (c : Cache) (input now : Input) (last : Option ℕ) (e : SearchError) → now ≡ from now.start input
-    → input.start ≤ now.start → IsNextError p c now last e → IsSoundPair p → IsFree p input → IsMemory e
-memory_next p c input now last e is le refused sound free = next refused where
+    (p : Regex) (old new : Cache) (input now : Input) (last : Option ℕ) (e : SearchError) → now ≡ from now.start input
+    → input.start ≤ now.start → IsNextError p old new now last e → IsSoundPair p → IsFree p input → IsMemory e
+memory_next p old new input now last e is le refused sound free = next refused where
   here : IsFree p now
   here = subst (IsFree p) (sym is) (free_from p input now.start le free)
 
-  next : IsNextError p c now last e → IsMemory e
-  next (FailsHere first) = memory_of_sound p c now e sound here first
-  next (FailsLater m found empty later) =
-      memory_of_sound p c (from (suc now.start) now) e sound (free_from p now (suc now.start) (omega arith) here) later
+  next : IsNextError p old new now last e → IsMemory e
+  next (FailsHere first) = memory_of_sound p old new now e sound here first
+  next (FailsLater m found empty between later) =
+      memory_of_sound p between new (from (suc now.start) now) e sound (free_from p now (suc now.start) (omega arith) here) later

@@ -13,8 +13,9 @@ use Rattle.automata_config.specs.declared.error.SearchError.{SearchError}
 use Rattle.automata_config.specs.declared.error.SearchError.TheVariants as search
 use Rattle.automata_hybrid.specs.Machines.Machine.{Machine}
 use Rattle.automata_hybrid.specs.Searches.Contracts.{IsMemory}
-use Rattle.automata_hybrid.specs.Walks.Progress.{EndsSet, HaveCalled, IsOpenAfter, IsSetRun, NoCall, OneMore}
-use Rattle.automata_hybrid.specs.Cache.Caches.{CacheView}
+use Rattle.automata_hybrid.specs.Known.Known.{Known}
+use Rattle.automata_hybrid.specs.Known.Walks.{EndsSet, HaveCalled, IsSetRun, NoCall, OneMore}
+use Rattle.automata_hybrid.specs.Walks.Progress.{IsOpenAfter}
 use Rattle.automata_hybrid.specs.Walks.Answers.{HasReported}
 use Rattle.automata_hybrid.specs.Walks.State.{Walk}
 use Rattle.automata_hybrid.proofs.Searches.PassState.{false_true}
@@ -64,7 +65,7 @@ up_to P n below here k l = go (cases_lt k n) where
 
 -- the calls that the walk of a set has made, one after another, have reported as many pairs, each if the set went on
 called_reported :
-    (m : Machine) (input : Input) (set : List Bool) (calls : ℕ) (old : CacheView) (walk : Walk) (new : CacheView)
+    (m : Machine) (input : Input) (set : List Bool) (calls : ℕ) (old : Known) (walk : Walk) (new : Known)
     → HaveCalled m input set old calls walk new
     → HasReported Forward m input walk calls × ((k : ℕ) → k < calls → IsOpenAfter m input set k)
 called_reported m input set zero old walk new (NoCall walk1 new1 fresh same) =
@@ -74,16 +75,16 @@ called_reported m input set (suc calls) old walk new (OneMore calls1 before walk
     ((reports calls reported.0).0, up_to (IsOpenAfter m input set) calls reported.1 is_open)
 
 pub reported_set :
-    (m : Machine) (input : Input) (set : List Bool) (old new : CacheView) → EndsSet m input set old new → HasReportedSet m input set
+    (m : Machine) (input : Input) (set : List Bool) (old new : Known) → EndsSet m input set old new → HasReportedSet m input set
 reported_set m input set old new s =
     let reported = called_reported m input set s.calls old s.walk new s.called in
     record { calls = s.calls; walk = s.walk; reported = reported.0; on = reported.1; last = s.last }
 
 -- the run of one that returned no error
 pub run_ended :
-    (m : Machine) (input : Input) (set joined : List Bool) (old new : CacheView) (error : Option SearchError) → error ≡ None
+    (m : Machine) (input : Input) (set joined : List Bool) (old new : Known) (error : Option SearchError) → error ≡ None
     → IsSetRun m input set joined old new error → EndsSet m input set old new
-run_ended m input set joined old new None none run = run.run
+run_ended m input set joined old new None none run = run
 run_ended m input set joined old new (Some e) none run = absurd (some_none none)
 
 -- a call that returned Ok has no error

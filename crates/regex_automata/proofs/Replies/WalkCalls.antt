@@ -1,5 +1,5 @@
 -- Calls of a walk, by how many have answered before.
-use Rattle.std.proofs.Common.{◌≡◌, ◌∙◌, ◌+◌, ◌<◌, ◌≤◌, ℕ, suc, false, List, length, Option, None, Ok, Err, IfSome, add-one, ap, arith, inl, inr}
+use Rattle.std.proofs.Common.{◌≡◌, ◌∙◌, ◌+◌, ◌<◌, ◌≤◌, ℕ, suc, false, List, length, Option, None, Ok, Err, IfSome, add-one, ap, arith}
 use Rattle.std.proofs.Common.{refl, subst, sym}
 use Rattle.automata_base.specs.Answers.Answers.{IsOverlapping}
 use Rattle.automata_base.specs.Haystacks.Input.{Input}
@@ -17,6 +17,7 @@ use Rattle.automata_hybrid.specs.Steps.Starts.{MayStart}
 use Rattle.automata_hybrid.specs.Walks.Answers.{AreWalked, HasReported, HasReportedAt, ReportsNext, half_nth}
 use Rattle.automata_hybrid.specs.Walks.State.{At, Ended, Fresh, Stage, Walk, fresh_walk, without_match}
 use Rattle.automata_hybrid.specs.Searches.Bounds.{LiesIn}
+use Rattle.automata_hybrid.specs.Walks.Answers.{MetNoQuit, WasDone}
 use Rattle.automata_hybrid.proofs.Walks.CachedSets.{half_none}
 use Rattle.regex_automata.specs.Spans.Contracts.{IsStep}
 use Rattle.regex_automata.specs.Replay.Caches.{HasAnswered}
@@ -31,7 +32,10 @@ still_fresh :
 still_fresh way m input Fresh units reported k h u = refl
 still_fresh way m input (At q) units reported k h u = absurd (not_supported m input.anchored _ h.may u.mode)
 still_fresh way m input Ended units reported k h u =
-    elim h.clean [ inl done ↦ (let le = u.undone in absurd (omega arith)) | inr clean ↦ absurd (not_supported m input.anchored _ clean.0 u.mode) ]
+    elim h.clean [
+      | WasDone done ↦ (let le = u.undone in absurd (omega arith))
+      | MetNoQuit may clean ↦ absurd (not_supported m input.anchored _ may u.mode)
+    ]
 
 module _ (way : Direction) (m : Machine) (input : Input) (old : Walk) (k : ℕ) (h : HasAnswered way m input old k) where
   -- one that answers

@@ -7,7 +7,7 @@ use Rattle.automata_base.specs.Nfas.Engines.{Engine, engine_of}
 use Rattle.automata_base.specs.Haystacks.Input.{Input}
 use Rattle.automata_base.specs.Haystacks.Matches.{Match}
 use Rattle.automata_base.specs.Nfas.Nodes.{Automaton}
-use Rattle.automata_base.specs.Answers.Spans.{FindsStartBy, back, in_full}
+use Rattle.automata_base.specs.Answers.Spans.{FindsStartBy, back, in_full, StartIsBase, StartIsFound}
 use Rattle.automata_base.specs.declared.util.search.Direction.TheVariants.{Backward, Forward}
 use Rattle.automata_base.specs.Answers.OfPasses.{IsReported, ReportedIsOne}
 use Rattle.automata_base.specs.declared.util.search.MatchKind.{MatchKind}
@@ -39,24 +39,26 @@ module _ (agree : AnswersAgree) (p other : Regex) (alike : AreAlike p other) (in
       go :
           IsStartFound p input half (Some a) → FindsStartBy (IsFound Backward other.reverse) (forward_engine p) input half (Some b)
           → a ≡ b
-      go (inl s) (inl t) = s.1 ∙ sym t.1
-      go (inl s) (inr t) = absurd (t.0 s.0)
-      go (inr s) (inl t) = absurd (s.0 t.0)
-      go (inr s) (inr t) =
-          let found : ◌≡◌ {A = Option Half} (Some s.1.0) (Some t.1.0) =
-          agree Backward p.reverse other.reverse (back input half) (Some s.1.0) (Some t.1.0) alike.reverse alike.reverse_kind s.1.1 t.1.1 in
-          s.1.2 ∙ ap (λ (h : Half). h.offset) (some_inj found) ∙ sym t.1.2
+      go (StartIsBase short s) (StartIsBase short' t) = s ∙ sym t
+      go (StartIsBase short s) (StartIsFound long h found t) = absurd (long short)
+      go (StartIsFound long h found s) (StartIsBase short t) = absurd (long short)
+      go (StartIsFound long g found s) (StartIsFound long' h found' t) =
+          let same : ◌≡◌ {A = Option Half} (Some g) (Some h) =
+          agree Backward p.reverse other.reverse (back input half) (Some g) (Some h) alike.reverse alike.reverse_kind found found' in
+          s ∙ ap (λ (h : Half). h.offset) (some_inj same) ∙ sym t
 
   same_match : (a b : Option Match) → FindsMatch p input a → FindsMatch other input b → a ≡ b
   same_match None None f g = refl
-  same_match None (Some n) f g = absurd (none_some (same_front None (Some g.0) f g.1))
-  same_match (Some m) None f g = absurd (some_none (same_front (Some f.0) None f.1 g))
+  same_match None (Some n) f g = absurd (none_some (same_front None (Some g.half) f g.front))
+  same_match (Some m) None f g = absurd (some_none (same_front (Some f.half) None f.front g))
   same_match (Some m) (Some n) f g =
-      let half : f.0 ≡ g.0 = some_inj (same_front (Some f.0) (Some g.0) f.1 g.1) in
+      let half : f.half ≡ g.half = some_inj (same_front (Some f.half) (Some g.half) f.front g.front) in
       let start : m.start ≡ n.start =
-      same_start f.0 m.start n.start f.2 (subst (λ (h : Half). IsStartFound other input h (Some n.start)) (sym half) g.2) in
+      same_start f.half m.start n.start f.start
+      (subst (λ (h : Half). IsStartFound other input h (Some n.start)) (sym half) g.start) in
       ap (λ (v : Match). Some v)
-      (match_is m n (f.3 ∙ ap (λ (h : Half). h.pattern) half ∙ sym g.3) start (f.4 ∙ ap (λ (h : Half). h.offset) half ∙ sym g.4))
+      (match_is m n (f.pattern ∙ ap (λ (h : Half). h.pattern) half ∙ sym g.pattern) start
+      (f.end ∙ ap (λ (h : Half). h.offset) half ∙ sym g.end))
 
 pub matches_agree : AnswersAgree → MatchesAgree
 matches_agree agree p other input a b alike f g = same_match agree p other alike input a b f g
@@ -97,4 +99,4 @@ module _ (one : ReportedIsOne) where
 
   pub truth_is_found : TruthIffFound
   truth_is_found p input truth None may reported f = front_truth p.forward input truth None may reported f
-  truth_is_found p input truth (Some m) may reported f = front_truth p.forward input truth (Some f.0) may reported f.1
+  truth_is_found p input truth (Some m) may reported f = front_truth p.forward input truth (Some f.half) may reported f.front

@@ -15,17 +15,18 @@ use Rattle.automata_base.proofs.Answers.Turning.{turn_outcome}
 use Rattle.automata_base.specs.declared.util.search.MatchErrorKind.TheVariants.{Quit as QuitAt}
 use Rattle.automata_config.specs.declared.error.SearchError.{SearchError}
 use Rattle.automata_config.specs.declared.error.SearchError.TheVariants as search
-use Rattle.automata_hybrid.specs.Searches.Passes.{IsFound, IsSearchError}
+use Rattle.automata_hybrid.specs.Known.Passes.{SearchFails}
+use Rattle.automata_hybrid.specs.Known.Stores.{known_of}
+use Rattle.automata_hybrid.specs.Searches.Passes.{IsFound}
 use Rattle.automata_hybrid.proofs.Searches.Skips.{found_reported}
 use Rattle.automata_hybrid.proofs.Searches.Bounds.{found_within}
-use Rattle.automata_hybrid.proofs.Searches.Reach.{refused_memory}
-use Rattle.regex_automata.specs.Regexes.Caches.{AreCachesOf}
 use Rattle.regex_automata.specs.Spans.Outcomes.{FindsMatch, IsOutcome}
 use Rattle.regex_automata.specs.Spans.Errors.{BackFails, FrontFails, HasReason, IsFree, IsOfMemory, IsRegexError, NoStart}
 use Rattle.regex_automata.specs.Regexes.SoundPairs.{BothKeepCycles, IsSoundPair, forward_engine, reverse_engine}
 use Rattle.regex_automata.specs.declared.hybrid.regex.Regex.{Regex}
 use Rattle.regex_automata.specs.declared.hybrid.regex.caches.Cache.{Cache}
 use Rattle.regex_automata.proofs.Spans.Costs.{back_reach}
+use Rattle.automata_hybrid.proofs.Known.Memory.{search_memory}
 use Rattle.regex_automata.proofs.Spans.Quits.{back_free, never_pair}
 use Rattle.automata_config.specs.Options.{match_kind_of}
 
@@ -64,7 +65,7 @@ module _ (p : Regex) (front : ReportedIsRight p.forward.nfa) where
         (λ o a. front_right input o sound.cycles given a)
         (λ half o a b.
         (ends Backward (match_kind_of p.reverse.config) (back input half) o (back_given input half given a)
-        (found_reported Backward p.reverse (back input half) o b)).1 refl sound.pair.0)
+        (found_reported Backward p.reverse (back input half) o b)).1 refl sound.pair.all)
         outcome f
 
     finds_span : (outcome : Outcome) → IsOutcome p input outcome → FindsSpan (forward_engine p) input outcome
@@ -85,15 +86,15 @@ module _ (p : Regex) (front : ReportedIsRight p.forward.nfa) where
 
   -- what a reason excludes
   module _ (rear : ReportedIsRight p.reverse.nfa) (ends : ReportedEndsAreRight p.reverse.nfa) (starts : StartsAreRight) (law : BackMeetsNone)
-      (c : Cache) (input : Input) (given : IsInput input) (e : SearchError) (reason : HasReason p c input e) where
+      (old new : Cache) (input : Input) (given : IsInput input) (e : SearchError) (reason : HasReason p old new input e) where
     no_pair : e ≡ search.NotAPair → IsOutcome p input NotAPair
-    no_pair is = go (subst (HasReason p c input) is reason) where
-      go : HasReason p c input search.NotAPair → IsOutcome p input NotAPair
-      go (FrontFails r) = absurd (never_pair Forward p.forward c.forward.store input r)
-      go (BackFails half found r) = absurd (never_pair Backward p.reverse c.reverse.store (back input half) r.1)
+    no_pair is = go (subst (HasReason p old new input) is reason) where
+      go : HasReason p old new input search.NotAPair → IsOutcome p input NotAPair
+      go (FrontFails r) = absurd (never_pair Forward p.forward input (known_of old.forward) (known_of new.forward) r)
+      go (BackFails half found r) = absurd (never_pair Backward p.reverse (back input half) (known_of old.reverse) (known_of new.reverse) r.1)
       go (NoStart apart none) = none
 
-    pub shapes_error : (IsFree p input → IsOfMemory e) → IsRegexError p c input e
+    pub shapes_error : (IsFree p input → IsOfMemory e) → IsRegexError p old new input e
     shapes_error free =
         record {
           reason = reason;
@@ -102,36 +103,37 @@ module _ (p : Regex) (front : ReportedIsRight p.forward.nfa) where
           sound = λ sound is. no_pair_wrong ends starts sound input given (no_pair is);
           quits = λ same byte at is. quits same byte at is reason;
         } where
-          quits : p.forward.quits ≡ p.reverse.quits → (byte at : ℕ) → e ≡ search.Match (QuitAt byte at) → HasReason p c input e
-              → IsSearchError Forward p.forward c.forward.store input e
+          quits : p.forward.quits ≡ p.reverse.quits → (byte at : ℕ) → e ≡ search.Match (QuitAt byte at) → HasReason p old new input e
+              → SearchFails Forward p.forward input (known_of old.forward) (known_of new.forward) e
           quits same byte at is (FrontFails r) = r
           quits same byte at is (BackFails half found r) =
               absurd
-              (back_free law p.forward p.reverse c.reverse.store input half byte at same given.1 (found_within Forward p.forward input half given.1 found).2
+              (back_free law p.forward p.reverse (known_of old.reverse) (known_of new.reverse) input half byte at same given.1 (found_within Forward p.forward input half given.1 found).2
               (found_within Forward p.forward input half given.1 found).0.1 found
-              (subst (λ (v : SearchError). IsSearchError Backward p.reverse c.reverse.store (back input half) v) is r.1))
+              (subst (SearchFails Backward p.reverse (back input half) (known_of old.reverse) (known_of new.reverse)) is r.1))
           quits same byte at is (NoStart apart none) = absurd (not_quit (sym is ∙ apart)) where
             not_quit : ◌≡◌ {A = SearchError} (search.Match (QuitAt byte at)) search.NotAPair → ⊥
             not_quit h = cc
 
 -- if nothing prevents an answer, the error is out of memory, or that the two are no pair
 pub free_of :
-    (p : Regex) (c : Cache) (input : Input) (e : SearchError)
-    → input.end ≤ length input.haystack → AreCachesOf c p → HasReason p c input e → IsFree p input → IsOfMemory e
-free_of p c input e few of (FrontFails r) free =
-    inl (refused_memory Forward p.forward c.forward.store input e few of.0 free.forward free.supported free.forward_clears r)
-free_of p c input e few of (BackFails half found (long, r)) free =
+    (p : Regex) (old new : Cache) (input : Input) (e : SearchError)
+    → input.end ≤ length input.haystack → HasReason p old new input e → IsFree p input → IsOfMemory e
+free_of p old new input e few (FrontFails r) free =
+    inl (search_memory Forward p.forward input (known_of old.forward) (known_of new.forward) e few
+    (record { reach = free.forward; supported = free.supported; clears = free.forward_clears }) r)
+free_of p old new input e few (BackFails half found (long, r)) free =
     let l = found_within Forward p.forward input half few found in
     let within = l.0.1 in
-    inl (refused_memory Backward p.reverse c.reverse.store (back input half) e (omega (arith, within, few)) of.1
-    (back_reach p.reverse input half l.1 within free.reverse) refl free.reverse_clears r)
-free_of p c input e few of (NoStart apart none) free = inr apart
+    inl (search_memory Backward p.reverse (back input half) (known_of old.reverse) (known_of new.reverse) e (omega (arith, within, few))
+    (record { reach = back_reach p.reverse input half l.1 within free.reverse; supported = refl; clears = free.reverse_clears }) r)
+free_of p old new input e few (NoStart apart none) free = inr apart
 
 -- each error of a search
 pub refusals :
     (p : Regex) (front : ReportedIsRight p.forward.nfa) (rear : ReportedIsRight p.reverse.nfa) (ends : ReportedEndsAreRight p.reverse.nfa)
-    (starts : StartsAreRight) (law : BackMeetsNone) (c : Cache) (input : Input) (given : IsInput input) (error : Option SearchError)
-    → AreCachesOf c p → IfSome error (HasReason p c input) → IfSome error (IsRegexError p c input)
-refusals p front rear ends starts law c input given None of reason = tt
-refusals p front rear ends starts law c input given (Some e) of reason =
-    shapes_error p front rear ends starts law c input given e reason (free_of p c input e given.1 of reason)
+    (starts : StartsAreRight) (law : BackMeetsNone) (old new : Cache) (input : Input) (given : IsInput input) (error : Option SearchError)
+    → IfSome error (HasReason p old new input) → IfSome error (IsRegexError p old new input)
+refusals p front rear ends starts law old new input given None reason = tt
+refusals p front rear ends starts law old new input given (Some e) reason =
+    shapes_error p front rear ends starts law old new input given e reason (free_of p old new input e given.1 reason)

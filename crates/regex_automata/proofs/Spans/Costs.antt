@@ -8,8 +8,8 @@ use Rattle.automata_base.specs.Haystacks.Matches.{HalfMatch, Match}
 use Rattle.automata_base.specs.Answers.Spans.{back}
 use Rattle.automata_base.specs.declared.util.search.Direction.TheVariants.{Backward, Forward}
 use Rattle.automata_hybrid.specs.Searches.Agreement.{AnswersAgree}
-use Rattle.automata_hybrid.specs.Cache.Caches.{CacheView}
-use Rattle.automata_hybrid.specs.Searches.Cached.{Knows}
+use Rattle.automata_hybrid.specs.Known.Cached.{Knows}
+use Rattle.automata_hybrid.specs.Known.Stores.{known_of}
 use Rattle.automata_hybrid.specs.Machines.Machine.{Machine}
 use Rattle.automata_hybrid.specs.Searches.Passes.{IsFound, NoQuitInReach, WithoutBase, with_base}
 use Rattle.automata_hybrid.specs.Searches.Bounds.{LiesPast}
@@ -52,13 +52,13 @@ module _ (agree : AnswersAgree) (p : Regex) (input : Input) where
 
   -- all that both searches use is cached
   pub knows_both :
-      (c : Cache) (half : Half) → Knows Forward p.forward c.forward.store input → IsFound Forward p.forward input (Some half)
-      → KnowsBack p c.reverse.store input half → KnowsBoth p c input
+      (c : Cache) (half : Half) → Knows Forward p.forward (known_of c.forward) input → IsFound Forward p.forward input (Some half)
+      → KnowsBack p (known_of c.reverse) input half → KnowsBoth p c input
   knows_both c half knows found rest =
-      (knows, λ other f. subst (λ (h : Half). KnowsBack p c.reverse.store input h) (same_half half other found f) rest)
+      (knows, λ other f. subst (λ (h : Half). KnowsBack p (known_of c.reverse) input h) (same_half half other found f) rest)
 
   pub knows_front :
-      (c : Cache) → Knows Forward p.forward c.forward.store input → IsFound Forward p.forward input None → KnowsBoth p c input
+      (c : Cache) → Knows Forward p.forward (known_of c.forward) input → IsFound Forward p.forward input None → KnowsBoth p c input
   knows_front c knows found =
       (knows, λ other f. absurd (none_some (agree Forward p.forward p.forward input None (Some other) refl refl found f)))
 
@@ -76,9 +76,6 @@ pub front_none :
 front_none m input o f is =
     subst (λ (v : Option (HalfMatch × ℕ)). IsFound Forward m input (option_map (λ (p : HalfMatch × ℕ). with_base p.0 p.1) v)) is f
 
-abbrev pub cache_of : CacheView → CacheView → Cache
-cache_of forward reverse = record { forward = forward; reverse = reverse }
-
 -- a start that was found lies between the two
 pub start_within :
     (base end : ℕ) (o : Option ℕ) (start : ℕ) → IfSome o (λ s. (base ≤ s) × (s ≤ end)) → o ≡ Some start → (base ≤ start) × (start ≤ end)
@@ -94,7 +91,13 @@ pub match_of :
     → IsFound Forward p.forward input (Some half) → IsStartFound p input half (Some start)
     → pattern ≡ half.pattern → end ≡ half.offset → m ≡ match_at pattern start end → FindsMatch p input (Some m)
 match_of p input half start end pattern m found begun same_pattern same_end is =
-    subst (λ (v : Match). FindsMatch p input (Some v)) (sym is) (half, found, begun, same_pattern, same_end)
+    subst (λ (v : Match). FindsMatch p input (Some v)) (sym is) (record {
+      half = half;
+      front = found;
+      start = begun;
+      pattern = same_pattern;
+      end = same_end;
+    })
 
 pub match_within :
     (p : Regex) (input : Input) (half : HalfMatch) (base start end pattern : ℕ) (m : Match)

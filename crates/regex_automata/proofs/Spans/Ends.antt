@@ -3,7 +3,7 @@ use Rattle.std.proofs.Common.{ℕ, ◌≤◌, inl, inr, length, List, [], ◌∷
 use Rattle.std.proofs.Common.{arith}
 use Rattle.automata_base.specs.Haystacks.Input.{Input}
 use Rattle.automata_base.specs.Haystacks.Matches.{Match}
-use Rattle.automata_base.specs.Answers.Spans.{AreFirst}
+use Rattle.automata_base.specs.Answers.Spans.{AreFirst, StartIsBase, StartIsFound}
 use Rattle.automata_base.specs.declared.util.search.Direction.TheVariants.{Forward}
 use Rattle.automata_config.specs.declared.error.SearchError.{SearchError}
 use Rattle.automata_base.proofs.Answers.Rising.{all_first, next_inside}
@@ -20,18 +20,18 @@ module _ (p : Regex) where
   Lies input m = (input.start ≤ m.start) × (m.start ≤ m.end) × (m.end ≤ input.end)
 
   pub find_lies : (input : Input) (m : Match) → input.end ≤ length input.haystack → FindsMatch p input (Some m) → Lies input m
-  find_lies input m few f = go f.2 where
-    low : (input.start ≤ f.0.base) × (f.0.base ≤ f.0.offset)
-    low = let w = found_within Forward p.forward input f.0 few f.1 in (w.1, w.2)
+  find_lies input m few f = go f.start where
+    low : (input.start ≤ f.half.base) × (f.half.base ≤ f.half.offset)
+    low = let w = found_within Forward p.forward input f.half few f.front in (w.1, w.2)
 
-    high : f.0.offset ≤ input.end
-    high = (found_within Forward p.forward input f.0 few f.1).0.1
+    high : f.half.offset ≤ input.end
+    high = (found_within Forward p.forward input f.half few f.front).0.1
 
-    go : IsStartFound p input f.0 (Some m.start) → Lies input m
-    go (inl s) = (omega (arith, low.0, s.1), omega (arith, low.1, s.1, f.4), omega (arith, high, f.4))
-    go (inr s) =
-        let w = back_within p.reverse input f.0 s.1.0 high few s.1.1 in
-        (omega (arith, low.0, w.0, s.1.2), omega (arith, w.1, s.1.2, f.4), omega (arith, high, f.4))
+    go : IsStartFound p input f.half (Some m.start) → Lies input m
+    go (StartIsBase short s) = (omega (arith, low.0, s), omega (arith, low.1, s, f.end), omega (arith, high, f.end))
+    go (StartIsFound long found backs s) =
+        let w = back_within p.reverse input f.half found high few backs in
+        (omega (arith, low.0, w.0, s), omega (arith, w.1, s, f.end), omega (arith, high, f.end))
 
   module _ (input : Input) (few : input.end ≤ length input.haystack) where
     -- the search after the first ones begins no earlier

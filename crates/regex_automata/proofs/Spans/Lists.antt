@@ -4,7 +4,7 @@ use Rattle.std.proofs.Common.{refl, sym, ap, subst}
 use Rattle.std.specs.Prelude.{Ok}
 use Rattle.automata_base.specs.Haystacks.Input.{Input}
 use Rattle.automata_base.specs.Haystacks.Matches.{Match}
-use Rattle.automata_base.specs.Answers.Spans.{AreFirst, AreMatches, IsNextItem, from}
+use Rattle.automata_base.specs.Answers.Spans.{AreFirst, AreMatches, FindsHere, FindsLater, IsNextItem, from}
 use Rattle.automata_config.specs.declared.error.SearchError.{SearchError}
 use Rattle.regex_automata.specs.Spans.Iteration.{AreCollected, ComesTo, GivesItem, IsBeginning, IsNextMatch}
 use Rattle.regex_automata.specs.Spans.Outcomes.{FindsMatch}
@@ -50,6 +50,13 @@ pub collected_right :
 collected_right F G input right ms None f = matches_right F G input right input.start None ms f
 collected_right F G input right ms (Some e) f = first_right F G input right input.start None ms f
 
+-- an item of what is left is one of the input
+pub item_of_rest :
+    (F : Input → Option Match → Type 0) (input : Input) (at start : ℕ) (last : Option ℕ) (o : Option Match)
+    → IsNextItem F (from at input) start last o → IsNextItem F input start last o
+item_of_rest F input at start last o (FindsHere h apart) = FindsHere h apart
+item_of_rest F input at start last o (FindsLater m h empty later) = FindsLater m h empty later
+
 -- what an item says
 pub item_match :
     (p : Regex) (input input' : Input) (last last' : Option ℕ) (ended ended' : Bool) (m : Match)
@@ -68,10 +75,10 @@ item_none p input input' last last' false ended' g still = g.0
 pub turn :
     (p q : Regex) (input now : Input) (last : Option ℕ) (o : Option Match) → p ≡ q → now ≡ from now.start input
     → IsNextMatch p now last o → IsNextItem (FindsMatch q) input now.start last o
-turn p q input now last None e same f =
-    subst (λ (i : Input). IsNextItem (FindsMatch q) i now.start last None) same (subst (λ (r : Regex). IsNextItem (FindsMatch r) now now.start last None) e f)
-turn p q input now last (Some m) e same f =
-    subst (λ (i : Input). IsNextItem (FindsMatch q) i now.start last (Some m)) same (subst (λ (r : Regex). IsNextItem (FindsMatch r) now now.start last (Some m)) e f)
+turn p q input now last o e same f =
+    item_of_rest (FindsMatch q) input now.start now.start last o
+    (subst (λ (i : Input). IsNextItem (FindsMatch q) i now.start last o) same
+    (subst (λ (r : Regex). IsNextItem (FindsMatch r) now now.start last o) e f))
 
 pub comes_turn :
     (F : Input → Option Match → Type 0) (input : Input) (start : ℕ) (last : Option ℕ) (ms more : List Match) (at at' : ℕ) (before before' : Option ℕ) (m : Match)

@@ -3,9 +3,10 @@ use Rattle.std.proofs.Common.{ℕ, suc, ◌≡◌, ◌∙◌, ◌<◌, ◌≤◌
 use Rattle.std.specs.Prelude.{Result, Ok, Err, IfOk, IfSome, OnErr}
 use Rattle.automata_base.specs.Haystacks.Input.{Input}
 use Rattle.automata_base.specs.Haystacks.Matches.{Match}
-use Rattle.automata_base.specs.Answers.Spans.{IsEmptyAt, from}
+use Rattle.automata_base.specs.Answers.Spans.{FindsLater, IsEmptyAt, from}
 use Rattle.automata_config.specs.declared.error.SearchError.{SearchError}
-use Rattle.automata_hybrid.proofs.Caches.Growth.{grown_trans}
+use Rattle.automata_hybrid.specs.Known.Stores.{known_of}
+use Rattle.automata_hybrid.proofs.Known.Growth.{grown_trans}
 use Rattle.regex_automata.specs.Spans.Iteration.{GoesPast, IsNextMatch}
 use Rattle.regex_automata.specs.Spans.Outcomes.{FindsMatch, MatchLiesIn}
 use Rattle.regex_automata.specs.Regexes.Caches.{AreGrown}
@@ -51,8 +52,7 @@ goes_first p input last m lies full = (lies, past_last input last m lies.0 lies.
 -- an empty match at the last end is replaced by what is found from one place later
 module _ (p : Regex) (input : Input) (last : Option ℕ) (m : Match) (found : FindsMatch p input (Some m)) (empty : IsEmptyAt last m) where
   pub next_later : (r : Result (Option Match) SearchError) → IfOk r (FindsMatch p (from (suc input.start) input)) → IfOk r (IsNextMatch p input last)
-  next_later (Ok None) h = inr (m, found, empty, h)
-  next_later (Ok (Some n)) h = inr (m, found, empty, h)
+  next_later (Ok o) h = FindsLater m found empty h
   next_later (Err e) h = tt
 
 pub goes_later :
@@ -66,5 +66,8 @@ goes_later p input last (Ok (Some n)) h =
 goes_later p input last (Err e) h = tt
 
 -- two searches grow the caches as one does
-pub grown_twice : (a b c : Cache) → AreGrown a b → AreGrown b c → AreGrown a c
-grown_twice a b c f g = (grown_trans a.forward b.forward c.forward f.0 g.0, grown_trans a.reverse b.reverse c.reverse f.1 g.1)
+pub grown_twice : (p : Regex) (a b c : Cache) → AreGrown p a b → AreGrown p b c → AreGrown p a c
+grown_twice p a b c f g = (
+  grown_trans p.forward (known_of a.forward) (known_of b.forward) (known_of c.forward) f.0 g.0,
+  grown_trans p.reverse (known_of a.reverse) (known_of b.reverse) (known_of c.reverse) f.1 g.1,
+)

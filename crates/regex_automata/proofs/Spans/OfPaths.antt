@@ -14,7 +14,7 @@ use Rattle.regex_automata.specs.Spans.OfPaths.{IsItemOfPaths, LoopsCollect, Matc
 use Rattle.regex_automata.specs.Spans.Outcomes.{FindsMatch}
 use Rattle.regex_automata.specs.declared.hybrid.regex.Regex.{Regex}
 use Rattle.regex_automata.proofs.Spans.ByPaths.{match_right}
-use Rattle.regex_automata.proofs.Spans.Lists.{collected_right, comes_all, comes_first, comes_on, item_match, item_none}
+use Rattle.regex_automata.proofs.Spans.Lists.{collected_right, comes_all, comes_first, comes_on, item_match, item_none, item_of_rest}
 
 -- if what searches find is right, the next match is right
 next_right :
@@ -54,8 +54,10 @@ loops_collect p input =
     record {
       begin = (refl, refl);
       turn = λ ms at last m input' last' ended ended' come g.
-          comes_on (FindsMatch p) input input.start None ms at last m come (item_match p (from at input) input' last last' ended ended' m g).0;
+          comes_on (FindsMatch p) input input.start None ms at last m come
+          (item_of_rest (FindsMatch p) input at at last (Some m) (item_match p (from at input) input' last last' ended ended' m g).0);
       all = λ ms at last input' last' ended' come g.
-          comes_all (FindsMatch p) input input.start None ms at last come (item_none p (from at input) input' last last' false ended' g refl);
+          comes_all (FindsMatch p) input input.start None ms at last come
+          (item_of_rest (FindsMatch p) input at at last None (item_none p (from at input) input' last last' false ended' g refl));
       first = λ ms at last e come. comes_first (FindsMatch p) input input.start None ms at last come;
     }

@@ -3,7 +3,7 @@ use Rattle.std.proofs.Common.{ℕ, zero, suc, ◌≡◌, ◌∙◌, ◌<◌, ◌
 use Rattle.std.proofs.Common.{Option, Some, None, refl, sym, ap, subst, arith}
 use Rattle.std.specs.Prelude.{is_some}
 use Rattle.std.specs.Option.{option_map}
-use Rattle.automata_base.specs.Answers.Answers.{Half, IsInput, IsSplit, Tries, later, offset_in}
+use Rattle.automata_base.specs.Answers.Answers.{Half, HasNoAnswerAt, IsInput, SpanIsDone, SpanReportsNone, StopsAtSplit, Tries, later, offset_in}
 use Rattle.automata_base.specs.Haystacks.Input.{Input}
 use Rattle.automata_base.specs.Haystacks.Matches.{HalfMatch}
 use Rattle.automata_base.specs.Nfas.Nodes.{Automaton, nfa_of}
@@ -46,21 +46,33 @@ module _ (m : Machine) (input : Input) (whole : Skips m → ⊥) where
       (suc (length (forward_tape input.haystack (input.start + k) input.end).bytes))
 
   first_try : (k : ℕ) → Tries (ReportsOver Forward m.nfa (match_kind_of m.config)) (Skips m) Forward (in_part input) k → k ≡ 0
-  first_try k tries = go tries.0 where
+  first_try k tries = go tries.comes where
     go : (k ≡ 0) ⊎ (Skips m × (input.anchored ≡ No)) → k ≡ 0
     go (inl z) = z
     go (inr s) = absurd (whole s.0)
 
   only_try : (k : ℕ) → k ≡ 0 → Tries (ReportsOver Forward m.nfa (match_kind_of m.config)) (Skips m) Forward (in_full input) k
-  only_try k z = (inl z, λ j l. absurd (omega (arith, l, z)))
+  only_try k z = record { comes = inl z; before = λ j l. absurd (omega (arith, l, z)) }
 
   whole_reported :
       (k : ℕ) (o : Option Pair) → k ≡ 0 → input.start + k ≤ input.end → reported_over Forward m.nfa (match_kind_of m.config) (later Forward k (in_full input)) ≡ o
       → (answer : Option Half) × IsReported Forward m.nfa (match_kind_of m.config) (in_full input) answer × (is_some o ≡ is_some answer)
-  whole_reported k None z l e = (None, (k, only_try k z, inr (inl (sym e))), refl)
+  whole_reported k None z l e = (None, (k, only_try k z, SpanReportsNone (sym e)), refl)
   whole_reported k (Some pair) z l e = (
     Some (record { pattern = pair.pattern; offset = offset_in Forward (later Forward k (in_full input)) pair.place; base = input.start + k }),
-    (k, pair, only_try k z, l, sym e, (λ s. absurd (whole s)), refl, refl, refl),
+    (
+      k,
+      only_try k z,
+      record {
+        pair = pair;
+        within = l;
+        reported = sym e;
+        whole = λ s. absurd (whole s);
+        pattern = refl;
+        offset = refl;
+        base = refl;
+      },
+    ),
     refl,
   )
 
@@ -72,23 +84,21 @@ module _ (m : Machine) (input : Input) (whole : Skips m → ⊥) where
     z = first_try f.0 f.1
 
     go :
-        (input.end < input.start + f.0)
-        ⊎ ((◌≡◌ {A = Option Pair} None (reported_over Forward m.nfa (match_kind_of m.config) (later Forward f.0 (in_part input))))
-        ⊎ (Skips m × (input.anchored ≡ No → ⊥) × IsSplit (ReportsOver Forward m.nfa (match_kind_of m.config)) Forward (later Forward f.0 (in_part input))))
+        HasNoAnswerAt (ReportsOver Forward m.nfa (match_kind_of m.config)) (Skips m) Forward (in_part input) f.0
         → (answer : Option Half) × IsReported Forward m.nfa (match_kind_of m.config) (in_full input) answer × (is_some {T = Half} None ≡ is_some answer)
-    go (inl past) = (None, (f.0, only_try f.0 z, inl past), refl)
-    go (inr (inl none)) = ahead (cases_lt input.end (input.start + f.0)) where
+    go (SpanIsDone past) = (None, (f.0, only_try f.0 z, SpanIsDone past), refl)
+    go (SpanReportsNone none) = ahead (cases_lt input.end (input.start + f.0)) where
       ahead :
           (input.end < input.start + f.0) ⊎ (input.start + f.0 ≤ input.end)
           → (answer : Option Half) × IsReported Forward m.nfa (match_kind_of m.config) (in_full input) answer × (is_some {T = Half} None ≡ is_some answer)
-      ahead (inl past) = (None, (f.0, only_try f.0 z, inl past), refl)
+      ahead (inl past) = (None, (f.0, only_try f.0 z, SpanIsDone past), refl)
       ahead (inr l) =
           let w = whole_reported f.0 (reported_over Forward m.nfa (match_kind_of m.config) (later Forward f.0 (in_full input))) z l refl in
           (w.0, w.1, ap (λ (v : Option Pair). is_some v) none ∙ same_reported f.0 ∙ w.2)
-    go (inr (inr s)) = absurd (whole s.0)
+    go (StopsAtSplit skips anchored s) = absurd (whole skips)
   match_reported (Some half) f =
-      let w = whole_reported f.0 (reported_over Forward m.nfa (match_kind_of m.config) (later Forward f.0 (in_full input))) (first_try f.0 f.2) f.3 refl in
-      (w.0, w.1, ap (λ (v : Option Pair). is_some v) f.4 ∙ same_reported f.0 ∙ w.2)
+      let w = whole_reported f.0 (reported_over Forward m.nfa (match_kind_of m.config) (later Forward f.0 (in_full input))) (first_try f.0 f.1) f.2.within refl in
+      (w.0, w.1, ap (λ (v : Option Pair). is_some v) f.2.reported ∙ same_reported f.0 ∙ w.2)
 
 -- what is searched differs from the input in one part
 pub asked_to :

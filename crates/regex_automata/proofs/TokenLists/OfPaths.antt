@@ -23,9 +23,23 @@ span_at :
     → m.pattern ≡ half.pattern → m.start ≡ offset → m.end ≡ half.offset → IsSpan d (asked h end offset) (Some m)
 span_at d h end offset half m a same begins ends =
     let n = answered d (asked h end offset) half a in
-    let first : a.0 ≡ 0 = ⊎_elim (λ (z : a.0 ≡ 0). z) (λ (z : IsSkipping d × (Yes ≡ No)). absurd (yes_no z.1)) a.2.0 in
-    let base : half.base ≡ offset + a.0 = a.8 in
-    (half, n.0, n.1, 0, n.2, a, n.3.0, n.3.1, n.3.2, refl, same, omega (arith, first, base, begins), ends)
+    let first : a.0 ≡ 0 = ⊎_elim (λ (z : a.0 ≡ 0). z) (λ (z : IsSkipping d × (Yes ≡ No)). absurd (yes_no z.1)) a.1.comes in
+    let base : half.base ≡ offset + a.0 = a.2.base in
+    record {
+      half = half;
+      answer = a;
+      first = n.0;
+      is_first = n.3.0;
+      length = n.1;
+      ends = n.3.1;
+      path = n.2;
+      chosen = n.3.2;
+      before = 0;
+      begins = refl;
+      pattern = same;
+      start = omega (arith, first, base, begins);
+      end = ends;
+    }
 
 -- or there is none
 answer_span :

@@ -1,7 +1,7 @@
 -- What a regex's builder makes of two NFAs, or why it fails.
 use Rattle.std.specs.Prelude.{ℕ, ◌≡◌, ◌==◌, false, true, if◌then◌else◌, length, max, Option, None, Some}
 use Rattle.automata_base.specs.Nfas.Getters.{SkipsLazily}
-use Rattle.automata_base.specs.Nfas.Mirrors.{BeginsAlike, IsReversed}
+use Rattle.automata_base.specs.Nfas.Mirrors.{BeginsAlike, IsReversalOf}
 use Rattle.automata_base.specs.Nfas.Nodes.{Automaton}
 use Rattle.automata_base.specs.Nfas.ReversedSizes.{MayBeTooLarge}
 use Rattle.automata_base.specs.declared.util.search.Direction.TheVariants.{Forward}
@@ -89,7 +89,7 @@ PassesAll forward = PassesTwo forward × BeginsAlike forward
 -- the regex is made of the NFA, which then keeps unions if it has a look cycle, and of the reversed one
 abbrev pub BuildsOne : Options → Automaton → Regex → Type 0
 BuildsOne o forward p =
-    (kept reverse : Automaton) × IsKeepingUnions forward kept × IsReversed forward reverse × BuildsPair o kept reverse p
+    (kept reverse : Automaton) × IsKeepingUnions forward kept × IsReversalOf forward reverse × BuildsPair o kept reverse p
 
 -- why no pair of DFAs can be built of an NFA and of its reverse
 pub record IsUnpaired (o : Options) (forward : Automaton) (error : BuildError) : Type 0 where
@@ -98,7 +98,7 @@ pub record IsUnpaired (o : Options) (forward : Automaton) (error : BuildError) :
   -- the reversed NFA
   pub reverse : Automaton
   -- it is the NFA reversed
-  pub reversed : IsReversed forward reverse
+  pub reversed : IsReversalOf forward reverse
   -- the two cannot be built
   pub fails : pair_error o forward reverse ≡ Some error
   -- if the capacity is too small, the error names one that is enough

@@ -1,13 +1,15 @@
--- The two caches of a regex.
+-- The two caches of a regex, and what they know.
 use Rattle.std.specs.Prelude.{◌≡◌, Some}
 use Rattle.automata_base.specs.Answers.Answers.{Half}
 use Rattle.automata_base.specs.Haystacks.Input.{Input}
 use Rattle.automata_base.specs.Answers.Spans.{IsShort, back}
 use Rattle.automata_base.specs.declared.util.search.Direction.TheVariants.{Forward, Backward}
-use Rattle.automata_hybrid.specs.Cache.Stores.{Stored}
-use Rattle.automata_hybrid.specs.Cache.Caches.{IsCacheOf, IsStoreOf, fresh_cache}
-use Rattle.automata_hybrid.specs.Cache.Growth.{ClearedNothing, IsGrown, IsStill}
-use Rattle.automata_hybrid.specs.Searches.Cached.{Knows}
+use Rattle.automata_hybrid.specs.Cache.Caches.{IsCacheOf, fresh_cache}
+use Rattle.automata_hybrid.specs.Known.Bounds.{IsKnown}
+use Rattle.automata_hybrid.specs.Known.Cached.{Knows}
+use Rattle.automata_hybrid.specs.Known.Growth.{ClearedNothing, IsGrown, IsStill}
+use Rattle.automata_hybrid.specs.Known.Known.{Known}
+use Rattle.automata_hybrid.specs.Known.Stores.{known_of}
 use Rattle.automata_hybrid.specs.Searches.Passes.{IsFound}
 use Rattle.regex_automata.specs.declared.hybrid.regex.caches.Cache.{Cache}
 use Rattle.regex_automata.specs.declared.hybrid.regex.Regex.{Regex}
@@ -21,29 +23,33 @@ AreCachesOf c p = IsCacheOf c.forward p.forward × IsCacheOf c.reverse p.reverse
 abbrev pub AreFresh : Regex → Cache → Type 0
 AreFresh p c = (c.forward ≡ fresh_cache p.forward) × (c.reverse ≡ fresh_cache p.reverse)
 
+-- each of the two knows what a cache of its DFA may know
+abbrev pub AreKnown : Regex → Cache → Type 0
+AreKnown p c = IsKnown p.forward (known_of c.forward) × IsKnown p.reverse (known_of c.reverse)
+
 -- what searches do to them
-abbrev pub AreGrown : Cache → Cache → Type 0
-AreGrown old new = IsGrown old.forward new.forward × IsGrown old.reverse new.reverse
+abbrev pub AreGrown : Regex → (old new : Cache) → Type 0
+AreGrown p old new =
+    IsGrown p.forward (known_of old.forward) (known_of new.forward)
+    × IsGrown p.reverse (known_of old.reverse) (known_of new.reverse)
 
 -- nothing was cleared in either
-abbrev pub NothingCleared : Cache → Cache → Type 0
+abbrev pub NothingCleared : (old new : Cache) → Type 0
 NothingCleared old new =
-    ClearedNothing old.forward.store new.forward.store × ClearedNothing old.reverse.store new.reverse.store
+    ClearedNothing (known_of old.forward) (known_of new.forward)
+    × ClearedNothing (known_of old.reverse) (known_of new.reverse)
 
 -- nothing has changed but the progress of searches
-abbrev pub AreStill : Cache → Cache → Type 0
-AreStill old new = IsStill old.forward new.forward × IsStill old.reverse new.reverse
+abbrev pub AreStill : (old new : Cache) → Type 0
+AreStill old new =
+    IsStill (known_of old.forward) (known_of new.forward) × IsStill (known_of old.reverse) (known_of new.reverse)
 
 -- all that the search back from a forward answer uses is cached, if it is made
-abbrev pub KnowsBack : Regex → Stored → Input → Half → Type 0
+abbrev pub KnowsBack : Regex → Known → Input → Half → Type 0
 KnowsBack p c input half = (IsShort (forward_engine p) input half → ⊥) → Knows Backward p.reverse c (back input half)
 
 -- all that both searches for a match use is cached
 abbrev pub KnowsBoth : Regex → Cache → Input → Type 0
 KnowsBoth p c input =
-    Knows Forward p.forward c.forward.store input
-    × ((half : Half) → IsFound Forward p.forward input (Some half) → KnowsBack p c.reverse.store input half)
-
--- each of the two is a cache of its DFA, within its settings
-abbrev pub AreStoresOf : Cache → Regex → Type 0
-AreStoresOf c p = IsStoreOf c.forward.store p.forward × IsStoreOf c.reverse.store p.reverse
+    Knows Forward p.forward (known_of c.forward) input
+    × ((half : Half) → IsFound Forward p.forward input (Some half) → KnowsBack p (known_of c.reverse) input half)

@@ -13,17 +13,17 @@ use Rattle.automata_config.specs.declared.error.SearchError.{SearchError}
 use Rattle.automata_config.specs.declared.error.SearchError.TheVariants as search
 use Rattle.automata_hybrid.specs.Cache.Caches.{CacheView}
 use Rattle.automata_hybrid.specs.Machines.Machine.{Machine}
-use Rattle.automata_hybrid.specs.Searches.Progress.{IsSearchRun}
-use Rattle.automata_hybrid.specs.Walks.Progress.{IsSetRun, IsWalkRun}
+use Rattle.automata_hybrid.specs.Known.Passes.{IsSearchRun}
+use Rattle.automata_hybrid.specs.Known.Stores.{known_of}
+use Rattle.automata_hybrid.specs.Known.Walks.{IsSetRun, IsWalkRun}
 use Rattle.automata_hybrid.specs.Searches.Passes.{IsFound, WithoutBase}
 use Rattle.automata_hybrid.specs.Walks.Answers.{AreWalked, HasReported, ReportsNext}
 use Rattle.automata_hybrid.specs.Walks.State.{Ended, States, Walk}
 use Rattle.regex_automata.specs.Replay.Histories.{Begun, History, after, start}
 use Rattle.regex_automata.specs.Spans.Iteration.{AreCollected, IsNextMatch}
 use Rattle.regex_automata.specs.Spans.Outcomes.{FindsMatch}
-use Rattle.regex_automata.specs.Regexes.Caches.{AreStoresOf}
 use Rattle.regex_automata.specs.Spans.Contracts.{ArePatternsReported, IsTruthReported, empty_set}
-use Rattle.regex_automata.specs.Regexes.Caches.{AreFresh}
+use Rattle.regex_automata.specs.Regexes.Caches.{AreCachesOf, AreFresh, AreKnown}
 use Rattle.regex_automata.specs.Spans.Runs.{IsNextRun, IsSpanRun, IsTruthRun}
 use Rattle.regex_automata.specs.Replay.Replies.{OnHalf, OnPatterns, OnSpan, OnSpans, OnTokens, OnTruth, dfa_of}
 use Rattle.regex_automata.specs.Tokens.{AreTokensReported, IsTokenRun, match_of}
@@ -41,7 +41,8 @@ use Rattle.regex_automata.specs.declared.tokens.token.Token.{Token}
 abbrev pub IsSearched :
     Direction → Machine → Input → (old new : CacheView) → Result (Option HalfMatch) SearchError → Type 0
 IsSearched way m input old new result =
-    IfOk result (WithoutBase (IsFound way m input)) × IsSearchRun way m input old new (result_err result)
+    IfOk result (WithoutBase (IsFound way m input))
+    × IsSearchRun way m input (known_of old) (known_of new) (result_err result)
 
 -- a search for a span: what its passes report, and what it makes of the caches
 abbrev pub IsSpanSearched : Regex → Input → (old new : Cache) → Result (Option Match) SearchError → Type 0
@@ -119,7 +120,7 @@ pub record IsCalled (way : Direction) (m : Machine) (input : Input) (answered : 
   -- if the call returns Ok, the walk goes on to the next pair
   pub reports : OnOk result (ReportsNext way m input walk next)
   -- what the call makes of the cache, also if it fails
-  pub run : IsWalkRun States way m input walk next old new (result_err result)
+  pub run : IsWalkRun States way m input walk next (known_of old) (known_of new) (result_err result)
 
 -- the cache of the DFA of a direction
 abbrev pub own_of : Direction → Cache → CacheView
@@ -149,11 +150,13 @@ pub data ArePatternsSearched (m : Machine) (input : Input) (capacity : ℕ) (old
       → ArePatternsSearched m input capacity old new found error
   -- the walk of a fresh set ends, or fails with this error, and the patterns of the set are listed
   Listed :
-      (set : List Bool) → IsSetRun m input (empty_set capacity) set old new error → found ≡ members set
+      (set : List Bool) → IsSetRun m input (empty_set capacity) set (known_of old) (known_of new) error
+      → found ≡ members set
       → ArePatternsSearched m input capacity old new found error
   -- it ends or fails, and there is no memory for the list
   NoList :
-      (set : List Bool) (failed : Option SearchError) → IsSetRun m input (empty_set capacity) set old new failed
+      (set : List Bool) (failed : Option SearchError)
+      → IsSetRun m input (empty_set capacity) set (known_of old) (known_of new) failed
       → found ≡ [] → error ≡ Some search.OutOfMemory → ArePatternsSearched m input capacity old new found error
 
 -- a list of matches: those that an iteration gives, and what its searches make of the caches
@@ -208,9 +211,9 @@ IsRequestEffect regexes h q (reply.Bad why) old new = new ≡ old
 IsRequestEffect regexes h (request.Reset k) (reply.Done (Ok done)) old new = AreFreshOf (slice_get regexes k) new
 IsRequestEffect regexes h q answer old new = IsMadeByOf (slice_get regexes h.current) h.walks q old new answer
 
--- these are caches of the current regex, within the settings of its DFAs
+-- these are caches of the current regex, and know what such caches may know
 abbrev pub AreOfCurrent : List Regex → History → Cache → Type 0
-AreOfCurrent regexes h c = (r : Regex) → slice_get regexes h.current ≡ Some r → AreStoresOf c r
+AreOfCurrent regexes h c = (r : Regex) → slice_get regexes h.current ≡ Some r → AreCachesOf c r × AreKnown r c
 
 -- the requests are answered over such caches, one after another; so the error of a reply is one that these caches give
 abbrev pub AreAnsweredAfter : List Regex → History → Cache → List Request → List Reply → Type 0

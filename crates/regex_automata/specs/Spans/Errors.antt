@@ -8,9 +8,11 @@ use Rattle.automata_base.specs.declared.util.search.Direction.TheVariants.{Forwa
 use Rattle.automata_base.specs.declared.util.search.MatchErrorKind.TheVariants.{Quit as QuitAt}
 use Rattle.automata_config.specs.declared.error.SearchError.{SearchError}
 use Rattle.automata_config.specs.declared.error.SearchError.TheVariants as search
-use Rattle.automata_hybrid.specs.Cache.Stores.{Stored}
+use Rattle.automata_hybrid.specs.Known.Known.{Known}
+use Rattle.automata_hybrid.specs.Known.Passes.{SearchFails}
+use Rattle.automata_hybrid.specs.Known.Stores.{known_of}
 use Rattle.automata_hybrid.specs.Searches.Cached.{IsOfInput}
-use Rattle.automata_hybrid.specs.Searches.Passes.{IsFound, IsSearchError, NoQuitInReach}
+use Rattle.automata_hybrid.specs.Searches.Passes.{IsFound, NoQuitInReach}
 use Rattle.automata_hybrid.specs.Machines.StartSlots.{supports}
 use Rattle.regex_automata.specs.declared.hybrid.regex.Regex.{Regex}
 use Rattle.regex_automata.specs.Regexes.SoundPairs.{BothKeepCycles, IsSoundPair, forward_engine, reverse_engine}
@@ -19,20 +21,22 @@ use Rattle.regex_automata.specs.declared.hybrid.regex.caches.Cache.{Cache}
 use Rattle.automata_config.specs.Options.{minimum_cache_clear_count_of}
 
 -- the search back from a forward answer is made, and fails
-abbrev pub IsBackError : Regex → Stored → Input → Half → SearchError → Type 0
-IsBackError p c input half e =
-    (IsShort (forward_engine p) input half → ⊥) × IsSearchError Backward p.reverse c (back input half) e
+abbrev pub IsBackError : Regex → (old new : Known) → Input → Half → SearchError → Type 0
+IsBackError p old new input half e =
+    (IsShort (forward_engine p) input half → ⊥) × SearchFails Backward p.reverse (back input half) old new e
 
--- why a search for a span fails
-pub data HasReason (p : Regex) (c : Cache) (input : Input) (e : SearchError) : Type 0 where
+-- why a search for a span fails: by what the cache of a search knew before and knows after it, that one of its passes
+-- does, at its start or at a unit
+pub data HasReason (p : Regex) (old new : Cache) (input : Input) (e : SearchError) : Type 0 where
   -- the forward search fails
-  FrontFails : IsSearchError Forward p.forward c.forward.store input e → HasReason p c input e
+  FrontFails :
+      SearchFails Forward p.forward input (known_of old.forward) (known_of new.forward) e → HasReason p old new input e
   -- the forward search finds this, and the search back from there fails
   BackFails :
-      (half : Half) → IsFound Forward p.forward input (Some half) → IsBackError p c.reverse.store input half e
-      → HasReason p c input e
+      (half : Half) → IsFound Forward p.forward input (Some half)
+      → IsBackError p (known_of old.reverse) (known_of new.reverse) input half e → HasReason p old new input e
   -- the search back finds no start
-  NoStart : e ≡ search.NotAPair → IsOutcome p input NotAPair → HasReason p c input e
+  NoStart : e ≡ search.NotAPair → IsOutcome p input NotAPair → HasReason p old new input e
 
 -- nothing prevents an answer: no quit byte is in reach, the anchored mode is supported, no clear limit is set
 pub record IsFree (p : Regex) (input : Input) : Type 0 where
@@ -52,9 +56,9 @@ abbrev pub IsOfMemory : SearchError → Type 0
 IsOfMemory e = (e ≡ search.OutOfMemory) ⊎ (e ≡ search.NotAPair)
 
 -- why a search fails, and what that excludes
-pub record IsRegexError (p : Regex) (c : Cache) (input : Input) (e : SearchError) : Type 0 where
+pub record IsRegexError (p : Regex) (old new : Cache) (input : Input) (e : SearchError) : Type 0 where
   -- the forward search fails, or the one back does, or that one finds no start
-  pub reason : HasReason p c input e
+  pub reason : HasReason p old new input e
   -- if nothing prevents an answer, the error is out of memory, or that the two are no pair
   pub free : IsFree p input → IsOfMemory e
   -- if both NFAs keep their cycles, they are no pair by the paths too
@@ -63,16 +67,17 @@ pub record IsRegexError (p : Regex) (c : Cache) (input : Input) (e : SearchError
   pub sound : IsSoundPair p → e ≡ search.NotAPair → ⊥
   -- with one quit set the search back meets no quit byte
   pub quits : p.forward.quits ≡ p.reverse.quits → (byte at : ℕ) → e ≡ search.Match (QuitAt byte at)
-      → IsSearchError Forward p.forward c.forward.store input e
+      → SearchFails Forward p.forward input (known_of old.forward) (known_of new.forward) e
 
 -- why the search for the next match fails
-pub data IsNextError (p : Regex) (c : Cache) (input : Input) (last : Option ℕ) (e : SearchError) : Type 0 where
+pub data IsNextError (p : Regex) (old new : Cache) (input : Input) (last : Option ℕ) (e : SearchError) : Type 0 where
   -- the search of what is left fails
-  FailsHere : IsRegexError p c input e → IsNextError p c input last e
-  -- it finds an empty match at the last end, and the search from one offset later fails
+  FailsHere : IsRegexError p old new input e → IsNextError p old new input last e
+  -- it finds an empty match at the last end, and the search from one offset later fails, over the caches that it leaves
   FailsLater :
       (m : Match) → FindsMatch p input (Some m) → IsEmptyAt last m
-      → IsRegexError p c (from (suc input.start) input) e → IsNextError p c input last e
+      → (between : Cache) → IsRegexError p between new (from (suc input.start) input) e
+      → IsNextError p old new input last e
 
 -- a search fails by what it was given, and not for lack of room
 abbrev pub IsOfGiven : SearchError → Type 0

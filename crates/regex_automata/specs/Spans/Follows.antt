@@ -7,7 +7,8 @@ use Rattle.automata_base.specs.Haystacks.Matches.{Match}
 use Rattle.automata_base.specs.Answers.Spans.{IsEmptyAt, IsShort, back, from}
 use Rattle.automata_base.specs.declared.util.search.Direction.TheVariants.{Backward, Forward}
 use Rattle.automata_hybrid.specs.Cache.Caches.{CacheView}
-use Rattle.automata_hybrid.specs.Searches.Follows.{IsCostOfPass, IsCostOfSearch}
+use Rattle.automata_hybrid.specs.Known.Follows.{IsCostOfPass, IsCostOfPasses}
+use Rattle.automata_hybrid.specs.Known.Stores.{known_of}
 use Rattle.automata_hybrid.specs.Searches.Passes.{IsFound}
 use Rattle.regex_automata.specs.Regexes.SoundPairs.{forward_engine}
 use Rattle.regex_automata.specs.Spans.Iteration.{FindsEmptyAt}
@@ -15,8 +16,8 @@ use Rattle.regex_automata.specs.Spans.Outcomes.{FindsMatch}
 use Rattle.regex_automata.specs.declared.hybrid.regex.Regex.{Regex}
 use Rattle.regex_automata.specs.declared.hybrid.regex.caches.Cache.{Cache}
 use Rattle.automata_config.specs.declared.error.SearchError.{SearchError}
-use Rattle.regex_automata.specs.Regexes.Caches.{AreCachesOf, AreGrown, AreStill, KnowsBoth, NothingCleared}
-use Rattle.regex_automata.specs.Spans.Errors.{HasReason, IsNextError, IsOfGiven, IsRegexError}
+use Rattle.regex_automata.specs.Regexes.Caches.{AreGrown, AreKnown, AreStill, KnowsBoth, NothingCleared}
+use Rattle.regex_automata.specs.Spans.Errors.{IsNextError, IsOfGiven, IsRegexError}
 use Rattle.regex_automata.specs.Spans.Runs.{IsNextRun, IsSpanRun}
 
 -- what a search for a span costs the reverse cache
@@ -26,12 +27,14 @@ pub data IsCostBack (p : Regex) (input : Input) (old new : CacheView) : Type 0 w
   -- a search back is made from a forward answer: one pass from the answer's end to its base
   OnePass :
       (half : Half) → IsFound Forward p.forward input (Some half) → (IsShort (forward_engine p) input half → ⊥)
-      → IsCostOfPass Backward p.reverse (back input half) old new → IsCostBack p input old new
+      → IsCostOfPass Backward p.reverse (back input half) (known_of old) (known_of new) → IsCostBack p input old new
 
 -- what a search for a span costs the two caches of a regex
 pub record AreCostsOf (p : Regex) (input : Input) (old new : Cache) : Type 0 where
-  -- the forward cache its passes
-  pub front : IsCostOfSearch Forward p.forward input old.forward new.forward
+  -- how many passes the forward search makes
+  pub passes : ℕ
+  -- the forward cache these
+  pub front : IsCostOfPasses Forward p.forward input passes (known_of old.forward) (known_of new.forward)
   -- the reverse cache at most one pass
   pub back : IsCostBack p input old.reverse new.reverse
 
@@ -56,15 +59,15 @@ pub record SpanFollows (p : Regex) (input : Input) (old new : Cache) (error : Op
   -- how often it determinizes; and if there is room for as many states, nothing is cleared
   pub cost : AreCostsOf p input old new
   -- until the next clear nothing is lost
-  pub grown : AreGrown old new
-  -- and if it answers, what it used is cached
+  pub grown : AreGrown p old new
+  -- what the caches know then is still what such caches may know
+  pub sound : AreKnown p new
+  -- if it answers, and nothing was cleared, what it used is cached
   pub learned : NothingCleared old new → error ≡ None → KnowsBoth p new input
   -- with all that cached it does not run out of memory, and changes nothing but the progress
   pub known : KnowsBoth p old input → AreStill old new × IfSome error IsOfGiven
-  -- why it fails
-  pub refused : IfSome error (HasReason p new input)
-  -- with a span that is done, it changes nothing at all
-  pub done : input.end < input.start → new ≡ old
+  -- with a span that is done, it changes nothing at all that they know
+  pub done : input.end < input.start → (known_of new.forward ≡ known_of old.forward) × (new.reverse ≡ old.reverse)
 
 -- what follows of a search for the match after another
 pub record NextFollows (p : Regex) (input : Input) (last : Option ℕ) (old new : Cache) (error : Option SearchError) :
@@ -72,28 +75,33 @@ pub record NextFollows (p : Regex) (input : Input) (last : Option ℕ) (old new 
   -- it costs what one search does, or what two do if the first finds an empty match at the last end
   pub cost : AreCostsTwice p input last old new
   -- until the next clear nothing is lost
-  pub grown : AreGrown old new
+  pub grown : AreGrown p old new
+  -- what the caches know then is still what such caches may know
+  pub sound : AreKnown p new
   -- if it answers, and nothing was cleared, what it used is cached
   pub learned : NothingCleared old new → error ≡ None → KnowsNext p new input last
   -- with all that cached it does not run out of memory, and changes nothing but the progress
   pub known : KnowsNext p old input last → AreStill old new × IfSome error IsOfGiven
-  -- why it fails
-  pub refused : IfSome error (IsNextError p new input last)
 
--- All this follows of each search for a span.
-abbrev pub SpansFollow : Type 0
-SpansFollow =
-    (p : Regex) (input : Input) (old new : Cache) (error : Option SearchError)
+-- All this follows of each search for a span over caches of the regex.
+abbrev pub SpansFollow : Regex → Type 0
+SpansFollow p =
+    (input : Input) (old new : Cache) (error : Option SearchError) → AreKnown p old
     → IsSpanRun p input old new error → SpanFollows p input old new error
 
--- Why each search for a span fails, and what that excludes.
-abbrev pub ErrorsFollow : Regex → Type 0
-ErrorsFollow p =
-    (input : Input) (old new : Cache) (error : Option SearchError) → IsInput input → AreCachesOf old p
-    → IsSpanRun p input old new error → IfSome error (IsRegexError p new input)
-
--- Why each search for the next match of an iteration fails, and what that excludes.
+-- And of each search for the next match of an iteration.
 abbrev pub NextsFollow : Regex → Type 0
 NextsFollow p =
-    (input : Input) (last : Option ℕ) (old new : Cache) (error : Option SearchError) → IsInput input → AreCachesOf old p
+    (input : Input) (last : Option ℕ) (old new : Cache) (error : Option SearchError) → AreKnown p old
     → IsNextRun p input last old new error → NextFollows p input last old new error
+
+-- Why searches fail, and what that excludes.
+pub record ErrorsFollow (p : Regex) : Type 0 where
+  -- each search for a span
+  pub spans :
+      (input : Input) (old new : Cache) (error : Option SearchError) → IsInput input
+      → IsSpanRun p input old new error → IfSome error (IsRegexError p old new input)
+  -- each search for the next match of an iteration
+  pub nexts :
+      (input : Input) (last : Option ℕ) (old new : Cache) (error : Option SearchError) → IsInput input
+      → IsNextRun p input last old new error → IfSome error (IsNextError p old new input last)

@@ -1,4 +1,5 @@
--- What searches over two lazy DFAs make of their caches: runs of the forward DFA, and of the reverse one.
+-- What searches over two lazy DFAs make of their caches: runs of the forward DFA, and of the reverse one, each over
+-- what its cache knows.
 use Rattle.std.specs.Prelude.{ℕ, suc, ◌≡◌, ◌⊎◌, Option, Some, None, Result, Bool, true, false}
 use Rattle.std.specs.Result.{result_err}
 use Rattle.automata_base.specs.Answers.Answers.{Half}
@@ -9,7 +10,8 @@ use Rattle.automata_base.specs.declared.util.search.Direction.TheVariants.{Backw
 use Rattle.automata_config.specs.declared.error.SearchError.{SearchError}
 use Rattle.automata_config.specs.declared.error.SearchError.TheVariants as search
 use Rattle.automata_hybrid.specs.Cache.Caches.{CacheView}
-use Rattle.automata_hybrid.specs.Searches.Progress.{IsSearchRun}
+use Rattle.automata_hybrid.specs.Known.Passes.{IsSearchRun}
+use Rattle.automata_hybrid.specs.Known.Stores.{known_of}
 use Rattle.automata_hybrid.specs.Searches.Passes.{IsFound}
 use Rattle.regex_automata.specs.Spans.IsMatch.{IsAsked}
 use Rattle.regex_automata.specs.Spans.Iteration.{FindsEmptyAt}
@@ -25,14 +27,15 @@ pub data IsBackRun (p : Regex) (input : Input) (half : Half) (old new : CacheVie
   NotMade : IsShort (forward_engine p) input half → new ≡ old → error ≡ None → IsBackRun p input half old new error
   -- the reverse DFA searches from the answer's end to its base
   Made :
-      (IsShort (forward_engine p) input half → ⊥) → IsSearchRun Backward p.reverse (back input half) old new error
+      (IsShort (forward_engine p) input half → ⊥)
+      → IsSearchRun Backward p.reverse (back input half) (known_of old) (known_of new) error
       → IsBackRun p input half old new error
 
 -- the forward search alone: it fails, or it finds no match
 abbrev pub IsFrontRun : Regex → Input → (old new : Cache) → Option SearchError → Type 0
 IsFrontRun p input old new error =
-    IsSearchRun Forward p.forward input old.forward new.forward error × (new.reverse ≡ old.reverse)
-    × (error ≡ None → IsFound Forward p.forward input None)
+    IsSearchRun Forward p.forward input (known_of old.forward) (known_of new.forward) error
+    × (new.reverse ≡ old.reverse) × (error ≡ None → IsFound Forward p.forward input None)
 
 -- the error after a search back: its own, if it has one; or, if it finds no start, that the two are no pair
 abbrev pub IsErrorOfBoth : Regex → Input → Half → (failed error : Option SearchError) → Type 0
@@ -42,7 +45,7 @@ IsErrorOfBoth p input half failed error =
 -- the forward search has an answer, and the search back fails or ends
 pub record IsBothRun (p : Regex) (input : Input) (old new : Cache) (error : Option SearchError) : Type 0 where
   -- the forward search does not fail
-  pub front : IsSearchRun Forward p.forward input old.forward new.forward None
+  pub front : IsSearchRun Forward p.forward input (known_of old.forward) (known_of new.forward) None
   -- its answer
   pub half : Half
   -- its passes report it
@@ -88,6 +91,6 @@ pub record IsTruthRun (p : Regex) (input : Input) (old new : Cache) (error : Opt
   -- it is not earliest if split places are skipped, and else earliest
   pub is : IsAsked p.forward input asked
   -- the forward DFA searches it
-  pub run : IsSearchRun Forward p.forward asked old.forward new.forward error
+  pub run : IsSearchRun Forward p.forward asked (known_of old.forward) (known_of new.forward) error
   -- the cache of the reverse DFA is unchanged
   pub reverse : new.reverse ≡ old.reverse

@@ -1,7 +1,7 @@
 ghost use Rattle.std.specs.Prelude.{◌≡◌, ◌↔◌, IfOk, IfErr, IsTrue, length, Err, Some, false};
 ghost use Rattle.automata_base.specs.Nfas.Engines.{engine_of};
 ghost use Rattle.automata_base.specs.Nfas.Getters.{SkipsLazily};
-ghost use Rattle.automata_base.specs.Nfas.Mirrors.{IsReversed};
+ghost use Rattle.automata_base.specs.Nfas.Mirrors.{IsReversalOf};
 ghost use Rattle.automata_base.specs.declared.util.search.Direction.TheVariants.{Forward};
 ghost use Rattle.automata_base.specs.Answers.TruePairs.{IsTruePair, KeepsUtf8};
 ghost use Rattle.automata_config.specs.Options.{Options, unset, overwritten};
@@ -83,7 +83,7 @@ impl<T: Drop> From<AllocFailed<T>> for RegexBuildError {
 /// Reverses an NFA, if it passes the tests that a sound pair needs.
 fn tested_reverse(forward: &NFA) -> Result<NFA, RegexBuildError>
     ensures passes { IfOk result (λ reverse. PassesAll forward.now) }
-    ensures reversed { IfOk result (λ reverse. IsReversed forward.now reverse) }
+    ensures reversed { IfOk result (λ reverse. IsReversalOf forward.now reverse) }
     ensures pair { IfOk result (λ reverse. (kind : MatchKind)
         → IsTruePair (engine_of forward.now kind) (engine_of reverse MatchKind.All)) }
     ensures utf8 { IfOk result (λ reverse. (kind : MatchKind) → KeepsUtf8 Forward (engine_of forward.now kind)) }
@@ -103,7 +103,7 @@ fn reverse_if(forward: &NFA, keeps: bool) -> Result<NFA, RegexBuildError>
     requires lazy { SkipsLazily forward.now }
     requires keeps { IsTrue keeps ↔ IsUtf8 forward.now }
     ensures passes { IfOk result (λ reverse. PassesAll forward.now) }
-    ensures reversed { IfOk result (λ reverse. IsReversed forward.now reverse) }
+    ensures reversed { IfOk result (λ reverse. IsReversalOf forward.now reverse) }
     ensures pair { IfOk result (λ reverse. (kind : MatchKind)
         → IsTruePair (engine_of forward.now kind) (engine_of reverse MatchKind.All)) }
     ensures kept { IfOk result (λ reverse. IsTrue keeps) }

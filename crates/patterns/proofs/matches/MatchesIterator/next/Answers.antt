@@ -9,7 +9,7 @@ pub returns-in-Ok-Some-clause-steps : goal.returns-in-Ok-Some-clause-steps
 returns-in-Ok-Some-clause-steps c =
     let s = c.args.self.now in
     let goes = given (GoesPast s.pattern.now.regex (rest_of s.haystack.now s.last) s.last) c.in-Ok-Some.field-0-is c.in-Ok-Some.ensures.past in (
-      gives_match s.pattern.now.regex c.next_match.new.cache s.haystack.now s.last s.ended c.in-Ok-Some.found c.end.result c.if-self.false
+      gives_match s.pattern.now.regex s.cache.now c.next_match.new.cache s.haystack.now s.last s.ended c.in-Ok-Some.found c.end.result c.if-self.false
           c.in-Ok-Some.field-0-is c.in-Ok-Some.ensures.found goes.0 c.end.ensures.end,
       refl,
       refl,
@@ -32,7 +32,7 @@ returns-in-Ok-Some-clause-goes c =
 pub returns-in-Err-clause-steps : goal.returns-in-Err-clause-steps
 returns-in-Err-clause-steps c =
     let s = c.args.self.now in (
-      gives_error s.pattern.now.regex c.next_match.new.cache s.haystack.now s.last s.ended c.in-Err.error c.if-self.false c.in-Err.ensures.refusal,
+      gives_error s.pattern.now.regex s.cache.now c.next_match.new.cache s.haystack.now s.last s.ended c.in-Err.error c.if-self.false c.in-Err.ensures.refusal,
       refl,
       refl,
       refl,
@@ -49,7 +49,7 @@ returns-in-Err-clause-goes c =
 pub returns-in-Ok-None-clause-steps : goal.returns-in-Ok-None-clause-steps
 returns-in-Ok-None-clause-steps c =
     let s = c.args.self.now in (
-      gives_none s.pattern.now.regex c.next_match.new.cache s.haystack.now s.last s.ended c.if-self.false
+      gives_none s.pattern.now.regex s.cache.now c.next_match.new.cache s.haystack.now s.last s.ended c.if-self.false
           c.in-Ok-None.field-0-is c.in-Ok-None.ensures.found,
       refl,
       refl,

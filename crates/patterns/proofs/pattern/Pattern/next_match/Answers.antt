@@ -24,11 +24,11 @@ returns-clause-past c =
 
 pub returns-clause-refusal : goal.returns-clause-refusal
 returns-clause-refusal c =
-    subst (λ (v : Input). IfErr c.next_match.result (IsNextError c.args.self.now.regex c.next_match.new.cache v c.args.last))
+    subst (λ (v : Input). IfErr c.next_match.result (IsNextError c.args.self.now.regex c.args.cache.now c.next_match.new.cache v c.args.last))
     (c.rest-input.ensures ∙ ap (λ n. span_input c.args.hay.now n (length c.args.hay.now)) c.unwrap_or.ensures)
-    (refused c.next_match.result (IsNextError c.args.self.now.regex c.next_match.new.cache c.rest-input.result c.args.last)
-    (c.spans_follow.ensures.nexts c.rest-input.result c.args.last c.args.cache.now c.next_match.new.cache (result_err c.next_match.result)
-    (c.haystack-haystack.ensures.bytes, c.haystack-haystack.ensures.within.1) c.requires.of c.next_match.ensures.effect).refused)
+    (refused c.next_match.result (IsNextError c.args.self.now.regex c.args.cache.now c.next_match.new.cache c.rest-input.result c.args.last)
+    (c.spans_follow.ensures.refusals.nexts c.rest-input.result c.args.last c.args.cache.now c.next_match.new.cache (result_err c.next_match.result)
+    (c.haystack-haystack.ensures.bytes, c.haystack-haystack.ensures.within.1) c.next_match.ensures.effect))
 
 pub returns-clause-effect : goal.returns-clause-effect
 returns-clause-effect c =

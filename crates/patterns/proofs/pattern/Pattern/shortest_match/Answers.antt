@@ -1,7 +1,7 @@
 use Rattle.std.proofs.Common.{length, subst}
 use Rattle.std.specs.Result.{result_err}
 use Rattle.automata_base.specs.Haystacks.Input.{Input}
-use Rattle.regex_automata.specs.Promises.{CacheView, Forward, IsHalf, IsSearchRun, Machine}
+use Rattle.regex_automata.specs.Promises.{CacheView, Forward, IsHalf, IsSearchRun, Machine, known_of}
 use Rattle.meaning.specs.Patterns.{span_input}
 use Rattle.patterns.proofs.Searching.{end_found}
 use Rattle.patterns.proofs.pattern.Pattern.shortest_match.Goals as goal
@@ -19,8 +19,8 @@ returns-clause-returned c =
 
 pub returns-clause-effect : goal.returns-clause-effect
 returns-clause-effect c =
-    let new = c.try_search_fwd.new.cache in
+    let new = known_of c.try_search_fwd.new.cache in
     let error = result_err c.try_search_fwd.result in
-    subst (λ (m : Machine). IsSearchRun Forward m (span_input c.args.hay.now c.args.start (length c.args.hay.now)) c.args.cache.now.forward new error) c.forward.ensures
-    (subst (λ (i : Input). IsSearchRun Forward c.forward.result.now i c.args.cache.now.forward new error) c.rest-left.ensures
-    (subst (λ (old : CacheView). IsSearchRun Forward c.forward.result.now c.rest-left.result old new error) c.forward_mut.ensures.value c.try_search_fwd.ensures.effect))
+    subst (λ (m : Machine). IsSearchRun Forward m (span_input c.args.hay.now c.args.start (length c.args.hay.now)) (known_of c.args.cache.now.forward) new error) c.forward.ensures
+    (subst (λ (i : Input). IsSearchRun Forward c.forward.result.now i (known_of c.args.cache.now.forward) new error) c.rest-left.ensures
+    (subst (λ (old : CacheView). IsSearchRun Forward c.forward.result.now c.rest-left.result (known_of old) new error) c.forward_mut.ensures.value c.try_search_fwd.ensures.effect))

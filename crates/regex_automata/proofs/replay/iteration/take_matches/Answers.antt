@@ -14,7 +14,6 @@ use Rattle.regex_automata.proofs.Replies.MatchLists.{unreported_turn}
 use Rattle.regex_automata.specs.declared.hybrid.regex.Regex.{Regex}
 use Rattle.regex_automata.proofs.Spans.Effects.{run_turn, searches_end, searches_turn}
 use Rattle.regex_automata.proofs.Spans.Ends.{comes_on}
-use Rattle.regex_automata.specs.Regexes.Caches.{AreCachesOf}
 use Rattle.regex_automata.proofs.replay.iteration.take_matches.Goals as goal
 
 pub loop-item-preserved : goal.loop-item-preserved
@@ -66,11 +65,11 @@ returns-in-Err-clause-free c =
     let steps = rw c.in-Err.is at c.in-Some.ensures.steps in
     let e = c.in-Err.error in
     let within = c.haystack-haystack.ensures.within.1 in
-    memory_next q t.cache.now c.args.input now s.last e i.input
+    memory_next q s.cache.now t.cache.now c.args.input now s.last e i.input
     (comes_on q c.args.input within c.args.input.start None c.loop-item.found.items s.start s.last i.comes)
-    (c.spans_follow.ensures.nexts now s.last s.cache.now t.cache.now (Some e)
-    (subst IsInput (sym i.input) (c.haystack-haystack.ensures.bytes, within)) (subst (λ (r : Regex). AreCachesOf s.cache.now r) i.regex s.of)
-    (run_turn s.regex.now q now s.last s.ended s.cache.now t.cache.now (Some (Err e)) i.regex i.going steps.3)).refused
+    (c.spans_follow.ensures.refusals.nexts now s.last s.cache.now t.cache.now (Some e)
+    (subst IsInput (sym i.input) (c.haystack-haystack.ensures.bytes, within))
+    (run_turn s.regex.now q now s.last s.ended s.cache.now t.cache.now (Some (Err e)) i.regex i.going steps.3))
 
 pub returns-clause-found : goal.returns-clause-found
 returns-clause-found c =

@@ -6,7 +6,8 @@ use Rattle.automata_base.specs.Haystacks.PatternSet.{members}
 use Rattle.automata_base.specs.declared.util.search.Direction.TheVariants.{Forward}
 use Rattle.automata_config.specs.declared.error.SearchError.{SearchError}
 use Rattle.automata_hybrid.specs.Searches.Contracts.{IsMemory}
-use Rattle.automata_hybrid.specs.Walks.Progress.{IsSetRun}
+use Rattle.automata_hybrid.specs.Known.Stores.{known_of}
+use Rattle.automata_hybrid.specs.Known.Walks.{IsSetRun}
 use Rattle.automata_hybrid.specs.Walks.Answers.{AreWalked}
 use Rattle.regex_automata.specs.Replay.Caches.{Listed, NoList, NoSet}
 use Rattle.regex_automata.specs.Spans.Contracts.{HasReportedSet, empty_set}
@@ -51,15 +52,15 @@ pub returns-in-Ok-list_members-clause-made : goal.returns-in-Ok-list_members-cla
 returns-in-Ok-list_members-clause-made c =
     let reported = c.try_which_overlapping_matches-reported in
     Listed reported.new.patset
-    (subst (λ (error : Option SearchError). IsSetRun c.args.dfa.now c.args.input.now (empty_set c.args.capacity) reported.new.patset c.args.cache.now reported.new.cache error) (sym c.err.ensures.value)
-    (subst (λ (set : List Bool). IsSetRun c.args.dfa.now c.args.input.now set reported.new.patset c.args.cache.now reported.new.cache (result_err reported.result)) c.in-Ok.ensures.capacity reported.ensures.effect))
+    (subst (λ (error : Option SearchError). IsSetRun c.args.dfa.now c.args.input.now (empty_set c.args.capacity) reported.new.patset (known_of c.args.cache.now) (known_of reported.new.cache) error) (sym c.err.ensures.value)
+    (subst (λ (set : List Bool). IsSetRun c.args.dfa.now c.args.input.now set reported.new.patset (known_of c.args.cache.now) (known_of reported.new.cache) (result_err reported.result)) c.in-Ok.ensures.capacity reported.ensures.effect))
     c.in-Ok-list_members.ensures
 
 pub returns-clause-made : goal.returns-clause-made
 returns-clause-made c =
     let reported = c.try_which_overlapping_matches-reported in
     NoList reported.new.patset (result_err reported.result)
-    (subst (λ (set : List Bool). IsSetRun c.args.dfa.now c.args.input.now set reported.new.patset c.args.cache.now reported.new.cache (result_err reported.result)) c.in-Ok.ensures.capacity reported.ensures.effect)
+    (subst (λ (set : List Bool). IsSetRun c.args.dfa.now c.args.input.now set reported.new.patset (known_of c.args.cache.now) (known_of reported.new.cache) (result_err reported.result)) c.in-Ok.ensures.capacity reported.ensures.effect)
     c.new-in-Err.ensures.items refl
 
 pub returns-in_default-clause-found : goal.returns-in_default-clause-found
@@ -81,7 +82,7 @@ returns-in-Ok-list_members-clause-found c = λ none.
       reported = patterns_reported (AreWalked Forward m input) input c.args.capacity old new found c.in-Ok.ensures.capacity c.in-Ok.ensures.empty c.in-Ok-list_members.ensures
           (reported_where reported (ArePatterns (AreWalked Forward m input) input _ _ _) c.try_which_overlapping_matches-reported.ensures.found (sym error ∙ none));
       clean = subst (λ (set : List Bool). HasReportedSet m input set) c.in-Ok.ensures.capacity
-          (reported_set m input old c.args.cache.now c.try_which_overlapping_matches-reported.new.cache
-          (run_ended m input old new c.args.cache.now c.try_which_overlapping_matches-reported.new.cache (result_err reported) (sym error ∙ none)
+          (reported_set m input old (known_of c.args.cache.now) (known_of c.try_which_overlapping_matches-reported.new.cache)
+          (run_ended m input old new (known_of c.args.cache.now) (known_of c.try_which_overlapping_matches-reported.new.cache) (result_err reported) (sym error ∙ none)
           c.try_which_overlapping_matches-reported.ensures.effect));
     }

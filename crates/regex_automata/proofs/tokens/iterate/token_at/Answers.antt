@@ -8,7 +8,8 @@ use Rattle.automata_hybrid.specs.Cache.Caches.{CacheView}
 use Rattle.automata_hybrid.specs.Machines.Machine.{Machine}
 use Rattle.automata_hybrid.specs.Searches.Contracts.{IsHalf}
 use Rattle.automata_hybrid.specs.Searches.Passes.{IsFound, WithoutBase}
-use Rattle.automata_hybrid.specs.Searches.Progress.{IsSearchRun}
+use Rattle.automata_hybrid.specs.Known.Passes.{IsSearchRun}
+use Rattle.automata_hybrid.specs.Known.Stores.{known_of}
 use Rattle.regex_automata.specs.Tokens.{IsGivenAt, asked, match_of, search_error}
 use Rattle.regex_automata.proofs.Results.{is_err}
 use Rattle.regex_automata.proofs.TokenLists.Tiling.{error_is_given, token_is_given}
@@ -50,22 +51,22 @@ pub returns-in_err-token-clause-effect : goal.returns-in_err-token-clause-effect
 returns-in_err-token-clause-effect c =
     let new = c.try_search_fwd-found.new.cache in
     let found = c.try_search_fwd-found.result in
-    let run : IsSearchRun Forward c.args.regex.now.forward (asked c.args.haystack.now c.args.end c.args.offset) c.args.cache.now.forward new (result_err found) =
-    subst (λ (m : Machine). IsSearchRun Forward m (asked c.args.haystack.now c.args.end c.args.offset) c.args.cache.now.forward new (result_err found)) c.forward-dfa.ensures
-    (subst (λ (i : Input). IsSearchRun Forward c.forward-dfa.result.now i c.args.cache.now.forward new (result_err found)) c.asked-input.ensures
-    (subst (λ (old : CacheView). IsSearchRun Forward c.forward-dfa.result.now c.asked-input.result old new (result_err found)) c.forward_mut.ensures.value c.try_search_fwd-found.ensures.effect)) in
-    subst (λ r. IsSearchRun Forward c.args.regex.now.forward (asked c.args.haystack.now c.args.end c.args.offset) c.args.cache.now.forward new (search_error r))
+    let run : IsSearchRun Forward c.args.regex.now.forward (asked c.args.haystack.now c.args.end c.args.offset) (known_of c.args.cache.now.forward) (known_of new) (result_err found) =
+    subst (λ (m : Machine). IsSearchRun Forward m (asked c.args.haystack.now c.args.end c.args.offset) (known_of c.args.cache.now.forward) (known_of new) (result_err found)) c.forward-dfa.ensures
+    (subst (λ (i : Input). IsSearchRun Forward c.forward-dfa.result.now i (known_of c.args.cache.now.forward) (known_of new) (result_err found)) c.asked-input.ensures
+    (subst (λ (old : CacheView). IsSearchRun Forward c.forward-dfa.result.now c.asked-input.result (known_of old) (known_of new) (result_err found)) c.forward_mut.ensures.value c.try_search_fwd-found.ensures.effect)) in
+    subst (λ r. IsSearchRun Forward c.args.regex.now.forward (asked c.args.haystack.now c.args.end c.args.offset) (known_of c.args.cache.now.forward) (known_of new) (search_error r))
     (sym (is_err c.from_residual.result _ c.from_residual.ensures.1))
-    (subst (IsSearchRun Forward c.args.regex.now.forward (asked c.args.haystack.now c.args.end c.args.offset) c.args.cache.now.forward new)
+    (subst (IsSearchRun Forward c.args.regex.now.forward (asked c.args.haystack.now c.args.end c.args.offset) (known_of c.args.cache.now.forward) (known_of new))
     (error_is c.args.offset found c.in_err-token.field-0.0 (sym c.in_err-token.was ∙ c.item.ensures)) run)
 
 pub returns-clause-effect : goal.returns-clause-effect
 returns-clause-effect c =
     let new = c.try_search_fwd-found.new.cache in
     let found = c.try_search_fwd-found.result in
-    let run : IsSearchRun Forward c.args.regex.now.forward (asked c.args.haystack.now c.args.end c.args.offset) c.args.cache.now.forward new (result_err found) =
-    subst (λ (m : Machine). IsSearchRun Forward m (asked c.args.haystack.now c.args.end c.args.offset) c.args.cache.now.forward new (result_err found)) c.forward-dfa.ensures
-    (subst (λ (i : Input). IsSearchRun Forward c.forward-dfa.result.now i c.args.cache.now.forward new (result_err found)) c.asked-input.ensures
-    (subst (λ (old : CacheView). IsSearchRun Forward c.forward-dfa.result.now c.asked-input.result old new (result_err found)) c.forward_mut.ensures.value c.try_search_fwd-found.ensures.effect)) in
-    subst (IsSearchRun Forward c.args.regex.now.forward (asked c.args.haystack.now c.args.end c.args.offset) c.args.cache.now.forward new)
+    let run : IsSearchRun Forward c.args.regex.now.forward (asked c.args.haystack.now c.args.end c.args.offset) (known_of c.args.cache.now.forward) (known_of new) (result_err found) =
+    subst (λ (m : Machine). IsSearchRun Forward m (asked c.args.haystack.now c.args.end c.args.offset) (known_of c.args.cache.now.forward) (known_of new) (result_err found)) c.forward-dfa.ensures
+    (subst (λ (i : Input). IsSearchRun Forward c.forward-dfa.result.now i (known_of c.args.cache.now.forward) (known_of new) (result_err found)) c.asked-input.ensures
+    (subst (λ (old : CacheView). IsSearchRun Forward c.forward-dfa.result.now c.asked-input.result (known_of old) (known_of new) (result_err found)) c.forward_mut.ensures.value c.try_search_fwd-found.ensures.effect)) in
+    subst (IsSearchRun Forward c.args.regex.now.forward (asked c.args.haystack.now c.args.end c.args.offset) (known_of c.args.cache.now.forward) (known_of new))
     (no_error_is c.args.offset found c.in_ok-token.token (sym c.in_ok-token.was ∙ c.item.ensures)) run

@@ -1,9 +1,10 @@
 use Rattle.std.specs.Result.{result_err}
 use Rattle.std.proofs.Common.{◌≡◌, ◌∙◌, Some, None, inl, inr, refl, sym, ap, subst, arith}
-use Rattle.automata_base.specs.Answers.Spans.{back}
+use Rattle.automata_base.specs.Answers.Spans.{StartIsBase, StartIsFound, back}
 use Rattle.automata_base.specs.Haystacks.Input.{Input}
 use Rattle.automata_base.specs.declared.util.search.Direction.TheVariants.{Backward}
-use Rattle.automata_hybrid.specs.Searches.Progress.{IsSearchRun}
+use Rattle.automata_hybrid.specs.Known.Passes.{IsSearchRun}
+use Rattle.automata_hybrid.specs.Known.Stores.{known_of}
 use Rattle.automata_hybrid.specs.Searches.Passes.{IsFound, with_base}
 use Rattle.automata_hybrid.specs.Searches.Bounds.{LiesIn}
 use Rattle.regex_automata.specs.Spans.Runs.{Made, NotMade}
@@ -16,7 +17,7 @@ pub returns-then-short-clause-of : goal.returns-then-short-clause-of
 returns-then-short-clause-of c = c.requires.of
 
 pub returns-then-short-clause-found : goal.returns-then-short-clause-found
-returns-then-short-clause-found c = inl (c.is_short-short.ensures.yes c.if-short.true, refl)
+returns-then-short-clause-found c = StartIsBase (c.is_short-short.ensures.yes c.if-short.true) refl
 
 pub returns-then-short-clause-within : goal.returns-then-short-clause-within
 returns-then-short-clause-within c = (omega arith, c.requires.past.past)
@@ -40,8 +41,8 @@ pub returns-in_err-found-clause-effect : goal.returns-in_err-found-clause-effect
 returns-in_err-found-clause-effect c =
     let error = is_err c.from_residual.result _ c.from_residual.ensures.1 in
     Made (c.is_short-short.ensures.no c.if-short.false)
-    (subst (IsSearchRun Backward c.args.self.now.reverse (back c.args.input.now (with_base c.args.half c.args.base)) c.args.cache.now c.try_search_rev.new.cache) (sym (ap result_err error))
-    (subst (λ (i : Input). IsSearchRun Backward c.args.self.now.reverse i c.args.cache.now c.try_search_rev.new.cache (Some c.in_err-found.field-0.0)) c.backward-rest.ensures c.in_err-found.ensures.effect))
+    (subst (IsSearchRun Backward c.args.self.now.reverse (back c.args.input.now (with_base c.args.half c.args.base)) (known_of c.args.cache.now) (known_of c.try_search_rev.new.cache)) (sym (ap result_err error))
+    (subst (λ (i : Input). IsSearchRun Backward c.args.self.now.reverse i (known_of c.args.cache.now) (known_of c.try_search_rev.new.cache) (Some c.in_err-found.field-0.0)) c.backward-rest.ensures c.in_err-found.ensures.effect))
 
 pub returns-in-Some-clause-of : goal.returns-in-Some-clause-of
 returns-in-Some-clause-of c = c.try_search_rev.ensures.of
@@ -49,10 +50,9 @@ returns-in-Some-clause-of c = c.try_search_rev.ensures.of
 pub returns-in-Some-clause-found : goal.returns-in-Some-clause-found
 returns-in-Some-clause-found c =
     let s = back_some c.args.self.now.reverse c.backward-rest.result c.in_ok-found.field-0 c.in-Some.found c.in_ok-found.ensures.found c.in-Some.is in
-    inr (
-      c.is_short-short.ensures.no c.if-short.false,
-      (s.0, subst (λ (i : Input). IsFound Backward c.args.self.now.reverse i (Some s.0)) c.backward-rest.ensures s.1, c.offset.ensures ∙ s.2),
-    )
+    StartIsFound (c.is_short-short.ensures.no c.if-short.false) s.0
+    (subst (λ (i : Input). IsFound Backward c.args.self.now.reverse i (Some s.0)) c.backward-rest.ensures s.1)
+    (c.offset.ensures ∙ s.2)
 
 pub returns-in-Some-clause-within : goal.returns-in-Some-clause-within
 returns-in-Some-clause-within c =
@@ -64,7 +64,7 @@ returns-in-Some-clause-within c =
 pub returns-in-Some-clause-effect : goal.returns-in-Some-clause-effect
 returns-in-Some-clause-effect c =
     Made (c.is_short-short.ensures.no c.if-short.false)
-    (subst (λ (i : Input). IsSearchRun Backward c.args.self.now.reverse i c.args.cache.now c.try_search_rev.new.cache None) c.backward-rest.ensures c.in_ok-found.ensures.effect)
+    (subst (λ (i : Input). IsSearchRun Backward c.args.self.now.reverse i (known_of c.args.cache.now) (known_of c.try_search_rev.new.cache) None) c.backward-rest.ensures c.in_ok-found.ensures.effect)
 
 pub returns-in-None-clause-of : goal.returns-in-None-clause-of
 returns-in-None-clause-of c = c.try_search_rev.ensures.of
@@ -79,4 +79,4 @@ returns-in-None-clause-found c = (
 pub returns-in-None-clause-effect : goal.returns-in-None-clause-effect
 returns-in-None-clause-effect c =
     Made (c.is_short-short.ensures.no c.if-short.false)
-    (subst (λ (i : Input). IsSearchRun Backward c.args.self.now.reverse i c.args.cache.now c.try_search_rev.new.cache None) c.backward-rest.ensures c.in_ok-found.ensures.effect)
+    (subst (λ (i : Input). IsSearchRun Backward c.args.self.now.reverse i (known_of c.args.cache.now) (known_of c.try_search_rev.new.cache) None) c.backward-rest.ensures c.in_ok-found.ensures.effect)

@@ -10,7 +10,8 @@ use Rattle.automata_base.specs.declared.util.search.MatchErrorKind.TheVariants.{
 use Rattle.automata_base.specs.Answers.OfPasses.{ReportedIsRight}
 use Rattle.automata_config.specs.declared.error.SearchError.{SearchError}
 use Rattle.automata_config.specs.declared.error.SearchError.TheVariants as search
-use Rattle.automata_hybrid.specs.Searches.Progress.{IsSearchRun}
+use Rattle.automata_hybrid.specs.Known.Passes.{IsSearchRun}
+use Rattle.automata_hybrid.specs.Known.Stores.{known_of}
 use Rattle.automata_hybrid.specs.Searches.Passes.{NoQuitInReach}
 use Rattle.automata_hybrid.specs.Machines.StartSlots.{supports}
 use Rattle.automata_hybrid.specs.Steps.Starts.{quit_behind}
@@ -45,7 +46,7 @@ pub returns-in_err-found-clause-effect : goal.returns-in_err-found-clause-effect
 returns-in_err-found-clause-effect c = record {
   asked = c.asked-asked.result;
   is = c.asked-asked.ensures;
-  run = subst (IsSearchRun Forward c.args.self.now.forward c.asked-asked.result c.args.cache.now.forward c.try_search_fwd.new.cache)
+  run = subst (IsSearchRun Forward c.args.self.now.forward c.asked-asked.result (known_of c.args.cache.now.forward) (known_of c.try_search_fwd.new.cache))
       (sym (ap result_err (is_err c.from_residual.result _ c.from_residual.ensures.1))) c.in_err-found.ensures.effect;
   reverse = refl;
 }

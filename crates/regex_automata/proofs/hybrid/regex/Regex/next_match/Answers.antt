@@ -3,7 +3,7 @@ use Rattle.automata_base.proofs.Paths.Orders.{some_none}
 use Rattle.std.proofs.Common.{suc, ◌≡◌, ◌∙◌, ◌+◌, None, inl, inr, refl, sym, ap, subst, arith}
 use Rattle.std.specs.Prelude.{Err, IfOk, IfSome}
 use Rattle.automata_base.specs.Haystacks.Input.{Input}
-use Rattle.automata_base.specs.Answers.Spans.{from}
+use Rattle.automata_base.specs.Answers.Spans.{FindsHere, from}
 use Rattle.automata_config.specs.declared.error.SearchError.{SearchError}
 use Rattle.regex_automata.specs.Spans.Outcomes.{FindsMatch, MatchLiesIn}
 use Rattle.regex_automata.specs.Spans.Runs.{IsSpanRun}
@@ -37,7 +37,7 @@ returns-in_err-found-clause-effect c =
 
 pub returns-in_default-clause-next : goal.returns-in_default-clause-next
 returns-in_default-clause-next c =
-    inl (subst (FindsMatch c.args.self.now c.args.input.now) c.in_default.is c.in_ok-found.ensures.found)
+    FindsHere (subst (FindsMatch c.args.self.now c.args.input.now) c.in_default.is c.in_ok-found.ensures.found) tt
 
 pub returns-in_default-clause-effect : goal.returns-in_default-clause-effect
 returns-in_default-clause-effect c =
@@ -51,7 +51,8 @@ returns-in_default-clause-effect c =
 
 pub returns-then-not-is_empty_at-clause-next : goal.returns-then-not-is_empty_at-clause-next
 returns-then-not-is_empty_at-clause-next c =
-    inl (subst (FindsMatch c.args.self.now c.args.input.now) c.in-Some.is c.in_ok-found.ensures.found, c.if-not-is_empty_at.ensures.no refl)
+    FindsHere (subst (FindsMatch c.args.self.now c.args.input.now) c.in-Some.is c.in_ok-found.ensures.found)
+    (c.if-not-is_empty_at.ensures.no refl)
 
 pub returns-then-not-is_empty_at-clause-goes_on : goal.returns-then-not-is_empty_at-clause-goes_on
 returns-then-not-is_empty_at-clause-goes_on c =

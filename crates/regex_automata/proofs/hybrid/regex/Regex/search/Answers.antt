@@ -3,7 +3,8 @@ use Rattle.std.proofs.Common.{rules, ◌∙◌, ◌≤◌, Some, None, inl, inr,
 use Rattle.std.specs.Prelude.{Err}
 use Rattle.automata_config.specs.declared.error.SearchError.{SearchError}
 use Rattle.automata_hybrid.specs.Searches.Passes.{with_base}
-use Rattle.automata_hybrid.specs.Searches.Progress.{IsSearchRun}
+use Rattle.automata_hybrid.specs.Known.Passes.{IsSearchRun}
+use Rattle.automata_hybrid.specs.Known.Stores.{known_of}
 use Rattle.automata_base.specs.declared.util.search.Direction.TheVariants.{Forward}
 use Rattle.automata_hybrid.specs.Searches.Bounds.{LiesPast}
 use Rattle.regex_automata.specs.Spans.Outcomes.{IsStartFound}
@@ -35,7 +36,7 @@ returns-in_err-front-clause-effect c =
     let error = ap result_err (is_err c.from_residual.result _ c.from_residual.ensures.1) in
     record {
       run = inl (
-        subst (IsSearchRun Forward c.args.self.now.forward c.args.input.now c.args.cache.now.forward c.try_search_fwd_base.new.cache) (sym error) c.in_err-front.ensures.effect,
+        subst (IsSearchRun Forward c.args.self.now.forward c.args.input.now (known_of c.args.cache.now.forward) (known_of c.try_search_fwd_base.new.cache)) (sym error) c.in_err-front.ensures.effect,
         refl,
         λ ok. absurd (some_none (sym error ∙ ok)),
       );

@@ -1,5 +1,6 @@
-use Rattle.std.proofs.Common.{◌≡◌, refl, sym, ap, subst}
+use Rattle.std.proofs.Common.{◌≡◌, ◌∙◌, refl, sym, ap, subst}
 use Rattle.std.specs.Prelude.{Err}
+use Rattle.std.proofs.lemmas.Bool.{false≢true}
 use Rattle.automata_base.specs.Nfas.Mirrors.{BeginsAlike}
 use Rattle.automata_base.specs.Nfas.Nodes.{Automaton}
 use Rattle.automata_base.specs.Nfas.ReversedSizes.{MayBeTooLarge}
@@ -16,6 +17,18 @@ unreversed :
 unreversed o a Starts passes starts alike large = (passes, starts refl)
 unreversed o a TooLarge passes starts alike large = ((passes, alike refl), large refl)
 unreversed o a OutOfMemory passes starts alike large = passes.0
+
+pub returns-then-not-keeps-clause-refused : goal.returns-then-not-keeps-clause-refused
+returns-then-not-keeps-clause-refused c = λ o. (
+  c.requires.lazy,
+  λ u. false≢true (sym c.if-not-keeps.true ∙ c.requires.keeps.1 u),
+)
+
+pub returns-in-Ok-clause-passes : goal.returns-in-Ok-clause-passes
+returns-in-Ok-clause-passes c = (
+  (c.requires.lazy, c.requires.keeps.0 c.if-not-keeps.false),
+  c.in-Ok.ensures.alike,
+)
 
 pub returns-in-Err-clause-refused : goal.returns-in-Err-clause-refused
 returns-in-Err-clause-refused c = λ o.

@@ -9,3 +9,9 @@ of_each (Err e) f h = h
 
 pub returns-in-Ok-clause-utf8 : goal.returns-in-Ok-clause-utf8
 returns-in-Ok-clause-utf8 c = of_each c.reverse_if.result c.in-Ok.ensures.keeps c.reverse_if.ensures.kept
+
+pub reverse_if-requires-clause-lazy : goal.reverse_if-requires-clause-lazy
+reverse_if-requires-clause-lazy c = c.skips_lazily.ensures.0 c.if-not-skips_lazily.false
+
+pub returns-in-Err-clause-refused : goal.returns-in-Err-clause-refused
+returns-in-Err-clause-refused c = λ o. c.skips_lazily.ensures.0 c.if-not-skips_lazily.false
