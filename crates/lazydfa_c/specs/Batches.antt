@@ -6,9 +6,9 @@ use Rattle.automata_base.specs.declared.util.search.Direction.{Direction}
 use Rattle.automata_base.specs.declared.util.search.Direction.TheVariants.{Backward, Forward}
 use Rattle.automata_config.specs.declared.error.SearchError.{SearchError}
 use Rattle.automata_hybrid.specs.Walks.Contracts.{IsWalkCall}
-use Rattle.automata_hybrid.specs.Walks.Progress.{IsWalkRun}
+use Rattle.automata_hybrid.specs.Known.Walks.{IsWalkRun}
 use Rattle.automata_hybrid.specs.Walks.State.{States, Walk, fresh_walk}
-use Rattle.regex_automata.specs.Promises.{CacheView, HalfMatch, Input, Machine}
+use Rattle.regex_automata.specs.Promises.{CacheView, HalfMatch, Input, Machine, known_of}
 use Rattle.lazydfa_c.specs.Caches.{written_over}
 use Rattle.lazydfa_c.specs.Calls.{OfInput, TakesToken, regex_of}
 use Rattle.lazydfa_c.specs.Codes.{number_of}
@@ -75,7 +75,7 @@ pub record IsWalkStep (way : Direction) (m : Machine) (input : Input) (walk next
   -- what a call of a walk promises of its result, and of the walk after it
   pub call : IsWalkCall way m input walk next (done_of result)
   -- what the call made of the cache, also if it failed
-  pub effect : IsWalkRun States way m input walk next old new (result_err result)
+  pub effect : IsWalkRun States way m input walk next (known_of old) (known_of new) (result_err result)
 
 -- steps one after another, each of which found one of these matches
 abbrev pub AreWalkSteps : Direction → Machine → Input → List HalfMatch → (walk next : Walk) → (old new : CacheView) → Type 0

@@ -3,9 +3,9 @@ use Rattle.std.specs.Prelude.{ℕ, ◌≡◌, ◌==◌, Bool, true, false, List}
 use Rattle.std.specs.Prelude.{Option, Some, None, Result, Ok, Err, IfOk, IsSomeAnd, if◌then◌else◌}
 use Rattle.std.specs.Result.{result_err}
 use Rattle.automata_config.specs.declared.error.SearchError.{SearchError}
-use Rattle.automata_hybrid.specs.Walks.Progress.{IsSetRun}
+use Rattle.automata_hybrid.specs.Known.Walks.{IsSetRun}
 use Rattle.regex_automata.specs.Promises.{Backward, Forward, HalfMatch, Input, IsHalf, IsSearchRun}
-use Rattle.regex_automata.specs.Promises.{IsSpanOf, IsSpanRun, IsTruthOf, IsTruthRun, IsWhich, Match}
+use Rattle.regex_automata.specs.Promises.{IsSpanOf, IsSpanRun, IsTruthOf, IsTruthRun, IsWhich, Match, known_of}
 use Rattle.regex_automata.specs.Spans.Iteration.{IsNextMatch}
 use Rattle.regex_automata.specs.Spans.Runs.{IsNextRun}
 use Rattle.regex_automata.specs.Tokens.{GivesToken, IsTokenRun}
@@ -140,7 +140,9 @@ pub record FindsEnd (found : FoundHalf) (input : Input) (s t : Searcher) (status
   -- what the search promises of its result, whatever the cache
   pub returned : IsHalf Forward (regex_of s).forward input result
   -- what the search made of the forward cache, also if it failed
-  pub effect : IsSearchRun Forward (regex_of s).forward input s.cache.forward t.cache.forward (result_err result)
+  pub effect :
+      IsSearchRun Forward (regex_of s).forward input (known_of s.cache.forward) (known_of t.cache.forward)
+      (result_err result)
   -- the reverse cache is unchanged
   pub reverse : t.cache.reverse ≡ s.cache.reverse
   -- the cache keeps its regex
@@ -157,7 +159,9 @@ pub record FindsStartBack (found : FoundHalf) (input : Input) (s t : Searcher) (
   -- what the search promises of its result, whatever the cache
   pub returned : IsHalf Backward (regex_of s).reverse input result
   -- what the search made of the reverse cache, also if it failed
-  pub effect : IsSearchRun Backward (regex_of s).reverse input s.cache.reverse t.cache.reverse (result_err result)
+  pub effect :
+      IsSearchRun Backward (regex_of s).reverse input (known_of s.cache.reverse) (known_of t.cache.reverse)
+      (result_err result)
   -- the forward cache is unchanged
   pub forward : t.cache.forward ≡ s.cache.forward
   -- the cache keeps its regex
@@ -254,7 +258,9 @@ pub record JoinsPatterns (set : List Bool) (input : Input) (s t : Searcher) (sta
   -- what the call promises of its result and of the set
   pub returned : IsWhich (regex_of s).forward input set t.patterns result
   -- what it made of the forward cache, and of the set if it failed
-  pub effect : IsSetRun (regex_of s).forward input set t.patterns s.cache.forward t.cache.forward (result_err result)
+  pub effect :
+      IsSetRun (regex_of s).forward input set t.patterns (known_of s.cache.forward) (known_of t.cache.forward)
+      (result_err result)
   -- the reverse cache is unchanged
   pub reverse : t.cache.reverse ≡ s.cache.reverse
   -- the cache keeps its regex

@@ -5,10 +5,10 @@ use Rattle.std.specs.Result.{result_err}
 use Rattle.automata_base.specs.Haystacks.StartConfig.{StartConfig}
 use Rattle.automata_config.specs.declared.error.SearchError.{SearchError}
 use Rattle.automata_hybrid.specs.Pieces.Answers.{EndsHere, HasBegun, ReadsOn}
-use Rattle.automata_hybrid.specs.Pieces.Progress.{IsAnswerRun, IsBeginRun, IsPieceRun}
+use Rattle.automata_hybrid.specs.Known.Pieces.{IsAnswerRun, IsBeginRun, IsPieceRun}
 use Rattle.automata_hybrid.specs.Pieces.State.{PiecesView}
 use Rattle.automata_hybrid.specs.declared.search.pieces.BeginError.{BeginError}
-use Rattle.regex_automata.specs.Promises.{HalfMatch, Machine}
+use Rattle.regex_automata.specs.Promises.{HalfMatch, Machine, known_of}
 use Rattle.lazydfa_c.specs.Calls.{IsDoneTold, IsTold, regex_of}
 use Rattle.lazydfa_c.specs.Requests.{found_half}
 use Rattle.lazydfa_c.specs.Statuses.{begin_status, plain}
@@ -50,7 +50,8 @@ pub record BeginsPieces (earliest : Bool) (start : StartConfig) (s t : Searcher)
   pub begun : IfOk result (HasBegun (regex_of s).forward start.anchored start.look_behind earliest)
   -- what it made of the forward cache, also if it failed
   pub effect :
-      IsBeginRun (regex_of s).forward start.anchored start.look_behind s.cache.forward t.cache.forward (result_err result)
+      IsBeginRun (regex_of s).forward start.anchored start.look_behind (known_of s.cache.forward)
+      (known_of t.cache.forward) (result_err result)
   -- the reverse cache is unchanged
   pub reverse : t.cache.reverse ≡ s.cache.reverse
   -- the cache keeps its regex
@@ -72,7 +73,8 @@ pub record ReadsPiece (piece : List ℕ) (stream : StreamView) (s t : Searcher) 
   pub unchanged : OnErr result (next.pieces ≡ stream.pieces)
   -- what the call made of the search and of the forward cache, also if it failed
   pub effect :
-      IsPieceRun (regex_of s).forward piece stream.pieces next.pieces s.cache.forward t.cache.forward (result_err result)
+      IsPieceRun (regex_of s).forward piece stream.pieces next.pieces (known_of s.cache.forward)
+      (known_of t.cache.forward) (result_err result)
   -- the reverse cache is unchanged, and the cache keeps its regex
   pub rest : (t.cache.reverse ≡ s.cache.reverse) × (t.shared ≡ s.shared)
 
@@ -87,7 +89,8 @@ pub record EndsPieces (found : FoundHalf) (ahead : Option ℕ) (stream : StreamV
   pub answer : IfOk result (EndsHere (regex_of s).forward stream.pieces ahead)
   -- what the call made of the forward cache, also if it failed
   pub effect :
-      IsAnswerRun (regex_of s).forward ahead stream.pieces s.cache.forward t.cache.forward (result_err result)
+      IsAnswerRun (regex_of s).forward ahead stream.pieces (known_of s.cache.forward) (known_of t.cache.forward)
+      (result_err result)
   -- the reverse cache is unchanged
   pub reverse : t.cache.reverse ≡ s.cache.reverse
   -- the cache keeps its regex

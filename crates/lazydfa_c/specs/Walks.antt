@@ -4,11 +4,11 @@ use Rattle.std.specs.Prelude.{Result, Ok, Err, IfOk, IsSomeAnd, OnErr}
 use Rattle.std.specs.Result.{result_err}
 use Rattle.automata_base.specs.Haystacks.StartConfig.{StartConfig}
 use Rattle.automata_config.specs.declared.error.SearchError.{SearchError}
-use Rattle.automata_hybrid.specs.Pieces.Progress.{IsBeginRun}
+use Rattle.automata_hybrid.specs.Known.Pieces.{IsBeginRun, IsWalkCallRun, IsWalkEndRun}
 use Rattle.automata_hybrid.specs.Pieces.State.{PiecesView}
-use Rattle.automata_hybrid.specs.Pieces.Walks.{EndsWith, HasBegunWalk, IsWalkCallRun, IsWalkEndRun, IsWalked}
+use Rattle.automata_hybrid.specs.Pieces.Walks.{EndsWith, HasBegunWalk, IsWalked}
 use Rattle.automata_hybrid.specs.declared.search.pieces.BeginError.{BeginError}
-use Rattle.regex_automata.specs.Promises.{Machine}
+use Rattle.regex_automata.specs.Promises.{Machine, known_of}
 use Rattle.lazydfa_c.specs.Calls.{regex_of}
 use Rattle.lazydfa_c.specs.Pieces.{OfNumbers, OfPieces}
 use Rattle.lazydfa_c.specs.Statuses.{begin_status, plain, search_status}
@@ -42,7 +42,8 @@ pub record BeginsWalk (start : StartConfig) (s t : Searcher) (status : Status) :
   pub begun : IfOk result (HasBegunWalk (regex_of s).forward start.anchored start.look_behind)
   -- what it made of the forward cache, also if it failed
   pub effect :
-      IsBeginRun (regex_of s).forward start.anchored start.look_behind s.cache.forward t.cache.forward (result_err result)
+      IsBeginRun (regex_of s).forward start.anchored start.look_behind (known_of s.cache.forward)
+      (known_of t.cache.forward) (result_err result)
   -- the reverse cache is unchanged
   pub reverse : t.cache.reverse ≡ s.cache.reverse
   -- the cache keeps its regex
@@ -64,7 +65,8 @@ pub record WalksPiece (piece : List ℕ) (stop : Stop) (walk : WalkView) (s t : 
   pub unchanged : OnErr result (next ≡ walk)
   -- what the call made of the walk and of the forward cache, also if it failed
   pub effect :
-      IsWalkCallRun (regex_of s).forward piece walk.walk next.walk s.cache.forward t.cache.forward (result_err result)
+      IsWalkCallRun (regex_of s).forward piece walk.walk next.walk (known_of s.cache.forward)
+      (known_of t.cache.forward) (result_err result)
   -- the reverse cache is unchanged, and the cache keeps its regex
   pub rest : (t.cache.reverse ≡ s.cache.reverse) × (t.shared ≡ s.shared)
 
@@ -84,7 +86,9 @@ pub record EndsWalk (ahead : Option ℕ) (stop : Stop) (walk : WalkView) (s t : 
   -- if it failed, the walk lists what it listed
   pub unchanged : OnErr result (end ≡ walk.end)
   -- what the call made of the forward cache, also if it failed
-  pub effect : IsWalkEndRun (regex_of s).forward ahead walk.walk s.cache.forward t.cache.forward (result_err result)
+  pub effect :
+      IsWalkEndRun (regex_of s).forward ahead walk.walk (known_of s.cache.forward) (known_of t.cache.forward)
+      (result_err result)
   -- the reverse cache is unchanged, and the cache keeps its regex
   pub rest : (t.cache.reverse ≡ s.cache.reverse) × (t.shared ≡ s.shared)
 

@@ -2,7 +2,8 @@
 ghost use Rattle.std.specs.Prelude.{◌≡◌, IfOk, None, OnErr, OnOk, false, true};
 ghost use Rattle.std.specs.Result.{result_err};
 ghost use Rattle.automata_hybrid.specs.Pieces.Answers.{EndsHere, ReadsOn};
-ghost use Rattle.automata_hybrid.specs.Pieces.Progress.{IsAnswerRun, IsPieceRun};
+ghost use Rattle.automata_hybrid.specs.Known.Pieces.{IsAnswerRun, IsPieceRun};
+ghost use Rattle.automata_hybrid.specs.Known.Stores.{known_of};
 ghost use Rattle.automata_hybrid.specs.Pieces.State.{IsPiecesOf};
 ghost use Rattle.regex_automata.specs.Promises.{IsCacheOf};
 
@@ -57,7 +58,7 @@ impl Stream {
         ensures reads { OnOk result (ReadsOn self.old.machine piece.now self.old.pieces self.new.pieces) }
         ensures unchanged { OnErr result (self.new.pieces ≡ self.old.pieces) }
         ensures effect { IsPieceRun self.old.machine piece.now self.old.pieces self.new.pieces
-            cache.old cache.new (result_err result) }
+            (known_of cache.old) (known_of cache.new) (result_err result) }
     {
         let regex = &self.regex;
         regex.forward().read_piece(cache, &mut self.pieces, piece)
@@ -73,7 +74,7 @@ impl Stream {
         ensures of { IsCacheOf cache.new self.now.machine }
         ensures answer { IfOk result (EndsHere self.now.machine self.now.pieces ahead) }
         ensures effect { IsAnswerRun self.now.machine ahead self.now.pieces
-            cache.old cache.new (result_err result) }
+            (known_of cache.old) (known_of cache.new) (result_err result) }
     {
         self.regex.forward().end_pieces(cache, &self.pieces, ahead)
     }

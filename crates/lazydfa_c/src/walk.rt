@@ -2,7 +2,9 @@
 ghost use Rattle.std.specs.Prelude.{◌≡◌, ◌<◌, IfOk, IsSomeAnd, None, OnErr, OnOk, length, slice_get, slice_index};
 ghost use Rattle.std.specs.Result.{result_err};
 ghost use Rattle.automata_hybrid.specs.Pieces.State.{IsPiecesOf};
-ghost use Rattle.automata_hybrid.specs.Pieces.Walks.{EndsWith, IsWalkCallRun, IsWalkEndRun, IsWalked};
+ghost use Rattle.automata_hybrid.specs.Known.Pieces.{IsWalkCallRun, IsWalkEndRun};
+ghost use Rattle.automata_hybrid.specs.Known.Stores.{known_of};
+ghost use Rattle.automata_hybrid.specs.Pieces.Walks.{EndsWith, IsWalked};
 ghost use Rattle.lazydfa_c.specs.Stops.{nowhere, stop_of, stop_status};
 ghost use Rattle.lazydfa_c.specs.Streams.{listed, offset_of};
 ghost use Rattle.regex_automata.specs.Promises.{IsCacheOf};
@@ -94,7 +96,7 @@ impl Walk {
         ensures listed { OnOk result (self.new.end ≡ None) }
         ensures unchanged { OnErr result ((self.new.walk ≡ self.old.walk) × (self.new.end ≡ self.old.end)) }
         ensures effect { IsWalkCallRun self.old.machine piece.now self.old.walk self.new.walk
-            cache.old cache.new (result_err result) }
+            (known_of cache.old) (known_of cache.new) (result_err result) }
     {
         let regex = &self.regex;
         match regex.forward().walk_piece(cache, &mut self.walk, piece) {
@@ -115,7 +117,8 @@ impl Walk {
         ensures walk { self.new.walk ≡ self.old.walk }
         ensures ends { OnOk result (IsSomeAnd self.new.end (EndsWith self.old.machine self.old.walk ahead)) }
         ensures unchanged { OnErr result (self.new.end ≡ self.old.end) }
-        ensures effect { IsWalkEndRun self.old.machine ahead self.old.walk cache.old cache.new (result_err result) }
+        ensures effect { IsWalkEndRun self.old.machine ahead self.old.walk (known_of cache.old) (known_of cache.new)
+            (result_err result) }
     {
         let regex = &self.regex;
         match regex.forward().end_walk(cache, &self.walk, ahead) {

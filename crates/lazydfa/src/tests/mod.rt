@@ -13,6 +13,7 @@ mod growths;
 mod leaps;
 mod made;
 mod memory;
+mod merges;
 mod plans;
 mod regex;
 mod regex_bench;

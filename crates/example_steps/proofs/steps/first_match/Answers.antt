@@ -1,4 +1,5 @@
-use Rattle.std.proofs.Common.{◌≡◌, true, false, refl, arith}
+use Rattle.std.proofs.Common.{◌≡◌, true, false, Some, refl, sym, subst, arith}
+use Rattle.regex_automata.specs.Promises.{IsFirstMatch}
 use Rattle.example_steps.proofs.steps.first_match.Goals as goal
 
 false_true : false ≡ true → ⊥
@@ -14,3 +15,9 @@ units-preserved c = record {
       c.in-Ok-step.ensures.steps.on (λ b. false_true (c.if-is_match.ensures.1 b)) (λ b. false_true (c.if-is_quit.ensures.1 b))
       (omega (arith, c.if-at-end.false, c.end.ensures.end, c.units.invariant.stands.upto));
 }
+
+pub returns-then-is_match-clause-found : goal.returns-then-is_match-clause-found
+returns-then-is_match-clause-found c =
+    subst (λ h. IsFirstMatch c.args.dfa.now c.args.input.now (Some h)) (sym c.new.ensures)
+    (c.in-Ok-step.ensures.steps.found (c.if-is_match.ensures.0 refl) c.match_pattern-pattern.result
+    c.match_pattern-pattern.ensures)

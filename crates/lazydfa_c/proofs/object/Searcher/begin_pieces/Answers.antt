@@ -3,7 +3,8 @@ use Rattle.std.specs.Prelude.{Ok}
 use Rattle.automata_hybrid.specs.Cache.Caches.{CacheView}
 use Rattle.automata_hybrid.specs.Machines.Machine.{Machine}
 use Rattle.automata_hybrid.specs.Pieces.Answers.{HasBegun}
-use Rattle.automata_hybrid.specs.Pieces.Progress.{IsBeginRun}
+use Rattle.automata_hybrid.specs.Known.Pieces.{IsBeginRun}
+use Rattle.automata_hybrid.specs.Known.Stores.{known_of}
 use Rattle.automata_hybrid.specs.Pieces.State.{IsPiecesOf}
 use Rattle.regex_automata.specs.declared.hybrid.regex.Regex.{Regex}
 use Rattle.lazydfa_c.proofs.Streams.{stream_is}
@@ -32,9 +33,9 @@ returns-in-Ok-clone c =
           subst (λ (r : Regex). HasBegun r.forward mode behind early p) c.deref.ensures
           (subst (λ (m : Machine). HasBegun m mode behind early p) c.forward-dfa.ensures c.in-Ok.ensures.begun);
       effect =
-          subst (λ (r : Regex). IsBeginRun r.forward mode behind old new None) c.deref.ensures
-          (subst (λ (m : Machine). IsBeginRun m mode behind old new None) c.forward-dfa.ensures
-          (subst (λ (v : CacheView). IsBeginRun c.forward-dfa.result.now mode behind v new None)
+          subst (λ (r : Regex). IsBeginRun r.forward mode behind (known_of old) (known_of new) None) c.deref.ensures
+          (subst (λ (m : Machine). IsBeginRun m mode behind (known_of old) (known_of new) None) c.forward-dfa.ensures
+          (subst (λ (v : CacheView). IsBeginRun c.forward-dfa.result.now mode behind (known_of v) (known_of new) None)
           c.forward_mut.ensures.value c.in-Ok.ensures.effect));
       reverse = search rules;
       same = search rules;

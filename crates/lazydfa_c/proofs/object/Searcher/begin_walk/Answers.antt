@@ -2,7 +2,8 @@ use Rattle.std.proofs.Common.{rules, inl, ap, subst, sym, None, ◌∙◌}
 use Rattle.std.specs.Prelude.{Ok}
 use Rattle.automata_hybrid.specs.Cache.Caches.{CacheView}
 use Rattle.automata_hybrid.specs.Machines.Machine.{Machine}
-use Rattle.automata_hybrid.specs.Pieces.Progress.{IsBeginRun}
+use Rattle.automata_hybrid.specs.Known.Pieces.{IsBeginRun}
+use Rattle.automata_hybrid.specs.Known.Stores.{known_of}
 use Rattle.automata_hybrid.specs.Pieces.State.{IsPiecesOf}
 use Rattle.automata_hybrid.specs.Pieces.Walks.{HasBegunWalk}
 use Rattle.regex_automata.specs.declared.hybrid.regex.Regex.{Regex}
@@ -34,9 +35,9 @@ returns-in-Ok-clone c =
           subst (λ (r : Regex). HasBegunWalk r.forward mode behind p) c.deref.ensures
           (subst (λ (m : Machine). HasBegunWalk m mode behind p) c.forward-dfa.ensures c.in-Ok.ensures.begun);
       effect =
-          subst (λ (r : Regex). IsBeginRun r.forward mode behind old new None) c.deref.ensures
-          (subst (λ (m : Machine). IsBeginRun m mode behind old new None) c.forward-dfa.ensures
-          (subst (λ (v : CacheView). IsBeginRun c.forward-dfa.result.now mode behind v new None)
+          subst (λ (r : Regex). IsBeginRun r.forward mode behind (known_of old) (known_of new) None) c.deref.ensures
+          (subst (λ (m : Machine). IsBeginRun m mode behind (known_of old) (known_of new) None) c.forward-dfa.ensures
+          (subst (λ (v : CacheView). IsBeginRun c.forward-dfa.result.now mode behind (known_of v) (known_of new) None)
           c.forward_mut.ensures.value c.in-Ok.ensures.effect));
       reverse = search rules;
       same = search rules;

@@ -3,7 +3,8 @@ use Rattle.std.specs.Prelude.{Ok}
 use Rattle.automata_hybrid.specs.Cache.Caches.{CacheView}
 use Rattle.automata_hybrid.specs.Machines.Machine.{Machine}
 use Rattle.automata_hybrid.specs.Pieces.Answers.{EndsHere}
-use Rattle.automata_hybrid.specs.Pieces.Progress.{IsAnswerRun}
+use Rattle.automata_hybrid.specs.Known.Pieces.{IsAnswerRun}
+use Rattle.automata_hybrid.specs.Known.Stores.{known_of}
 use Rattle.lazydfa_c.proofs.Streams.{of_search}
 use Rattle.lazydfa_c.proofs.object.Searcher.end_pieces.Goals as goal
 
@@ -20,8 +21,8 @@ returns-in-Ok-Some-clause-found c =
           subst (λ (m : Machine). EndsHere m p ahead (Some c.in-Ok-Some.half)) same
           (subst (EndsHere stream.machine p ahead) c.in-Ok-Some.field-0-is c.in-Ok-Some.ensures.answer);
       effect =
-          subst (λ (m : Machine). IsAnswerRun m ahead p old new None) same
-          (subst (λ (v : CacheView). IsAnswerRun stream.machine ahead p v new None) c.forward_mut.ensures.value
+          subst (λ (m : Machine). IsAnswerRun m ahead p (known_of old) (known_of new) None) same
+          (subst (λ (v : CacheView). IsAnswerRun stream.machine ahead p (known_of v) (known_of new) None) c.forward_mut.ensures.value
           c.in-Ok-Some.ensures.effect);
       reverse = search rules;
       same = search rules;
@@ -41,8 +42,8 @@ returns-in-Ok-None-clause-found c =
           subst (λ (m : Machine). EndsHere m p ahead None) same
           (subst (EndsHere stream.machine p ahead) c.in-Ok-None.field-0-is c.in-Ok-None.ensures.answer);
       effect =
-          subst (λ (m : Machine). IsAnswerRun m ahead p old new None) same
-          (subst (λ (v : CacheView). IsAnswerRun stream.machine ahead p v new None) c.forward_mut.ensures.value
+          subst (λ (m : Machine). IsAnswerRun m ahead p (known_of old) (known_of new) None) same
+          (subst (λ (v : CacheView). IsAnswerRun stream.machine ahead p (known_of v) (known_of new) None) c.forward_mut.ensures.value
           c.in-Ok-None.ensures.effect);
       reverse = search rules;
       same = search rules;

@@ -2,7 +2,9 @@ use Rattle.std.proofs.Common.{rules, Some, None, ap, refl, subst, ◌∙◌}
 use Rattle.std.specs.Prelude.{Ok, Err, IsSomeAnd}
 use Rattle.automata_hybrid.specs.Cache.Caches.{CacheView}
 use Rattle.automata_hybrid.specs.Machines.Machine.{Machine}
-use Rattle.automata_hybrid.specs.Pieces.Walks.{EndsWith, IsWalkEndRun}
+use Rattle.automata_hybrid.specs.Pieces.Walks.{EndsWith}
+use Rattle.automata_hybrid.specs.Known.Pieces.{IsWalkEndRun}
+use Rattle.automata_hybrid.specs.Known.Stores.{known_of}
 use Rattle.lazydfa_c.proofs.Streams.{has_walk, of_search, walk_is}
 use Rattle.lazydfa_c.specs.Stops.{stop_status}
 use Rattle.lazydfa_c.specs.Streams.{WalkView}
@@ -27,8 +29,8 @@ returns-in-Ok c =
             ends = (refl, subst (λ (m : Machine). IsSomeAnd end (EndsWith m w ahead)) same c.in-Ok.ensures.ends);
             unchanged = tt;
             effect =
-                subst (λ (m : Machine). IsWalkEndRun m ahead w old new None) same
-                (subst (λ (v : CacheView). IsWalkEndRun walk.machine ahead w v new None) c.forward_mut.ensures.value
+                subst (λ (m : Machine). IsWalkEndRun m ahead w (known_of old) (known_of new) None) same
+                (subst (λ (v : CacheView). IsWalkEndRun walk.machine ahead w (known_of v) (known_of new) None) c.forward_mut.ensures.value
                 c.in-Ok.ensures.effect);
             rest = search rules;
           }),
@@ -50,8 +52,8 @@ returns-in-Err c =
             ends = tt;
             unchanged = c.in-Err.ensures.unchanged;
             effect =
-                subst (λ (m : Machine). IsWalkEndRun m ahead w old new (Some e)) same
-                (subst (λ (v : CacheView). IsWalkEndRun walk.machine ahead w v new (Some e)) c.forward_mut.ensures.value
+                subst (λ (m : Machine). IsWalkEndRun m ahead w (known_of old) (known_of new) (Some e)) same
+                (subst (λ (v : CacheView). IsWalkEndRun walk.machine ahead w (known_of v) (known_of new) (Some e)) c.forward_mut.ensures.value
                 c.in-Err.ensures.effect);
             rest = search rules;
           }),

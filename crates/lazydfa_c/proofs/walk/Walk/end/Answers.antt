@@ -1,7 +1,8 @@
 use Rattle.std.proofs.Common.{subst, sym, Some, None}
 use Rattle.automata_hybrid.specs.Machines.Machine.{Machine}
 use Rattle.automata_hybrid.specs.Pieces.State.{IsPiecesOf}
-use Rattle.automata_hybrid.specs.Pieces.Walks.{IsWalkEndRun}
+use Rattle.automata_hybrid.specs.Known.Pieces.{IsWalkEndRun}
+use Rattle.automata_hybrid.specs.Known.Stores.{known_of}
 use Rattle.regex_automata.specs.declared.hybrid.regex.Regex.{Regex}
 use Rattle.lazydfa_c.specs.Streams.{WalkView}
 use Rattle.lazydfa_c.proofs.walk.Walk.end.Goals as goal
@@ -16,14 +17,14 @@ pub returns-in-Ok-clause-effect : goal.returns-in-Ok-clause-effect
 returns-in-Ok-clause-effect c =
     let w = c.self.inside.walk in let ahead = c.args.ahead in
     let old = c.args.cache.now in let new = c.end_walk.new.cache in
-    subst (λ (v : WalkView). IsWalkEndRun v.machine ahead v.walk old new None) c.self.view_is
-    (subst (λ (r : Regex). IsWalkEndRun r.forward ahead w old new None) c.deref.ensures
-    (subst (λ (m : Machine). IsWalkEndRun m ahead w old new None) c.forward.ensures c.in-Ok.ensures.effect))
+    subst (λ (v : WalkView). IsWalkEndRun v.machine ahead v.walk (known_of old) (known_of new) None) c.self.view_is
+    (subst (λ (r : Regex). IsWalkEndRun r.forward ahead w (known_of old) (known_of new) None) c.deref.ensures
+    (subst (λ (m : Machine). IsWalkEndRun m ahead w (known_of old) (known_of new) None) c.forward.ensures c.in-Ok.ensures.effect))
 
 pub returns-in-Err-clause-effect : goal.returns-in-Err-clause-effect
 returns-in-Err-clause-effect c =
     let w = c.self.inside.walk in let ahead = c.args.ahead in let e = c.in-Err.error in
     let old = c.args.cache.now in let new = c.end_walk.new.cache in
-    subst (λ (v : WalkView). IsWalkEndRun v.machine ahead v.walk old new (Some e)) c.self.view_is
-    (subst (λ (r : Regex). IsWalkEndRun r.forward ahead w old new (Some e)) c.deref.ensures
-    (subst (λ (m : Machine). IsWalkEndRun m ahead w old new (Some e)) c.forward.ensures c.in-Err.ensures.effect))
+    subst (λ (v : WalkView). IsWalkEndRun v.machine ahead v.walk (known_of old) (known_of new) (Some e)) c.self.view_is
+    (subst (λ (r : Regex). IsWalkEndRun r.forward ahead w (known_of old) (known_of new) (Some e)) c.deref.ensures
+    (subst (λ (m : Machine). IsWalkEndRun m ahead w (known_of old) (known_of new) (Some e)) c.forward.ensures c.in-Err.ensures.effect))

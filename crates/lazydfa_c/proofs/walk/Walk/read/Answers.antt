@@ -1,7 +1,8 @@
 use Rattle.std.proofs.Common.{subst, sym, Some, None}
 use Rattle.automata_hybrid.specs.Machines.Machine.{Machine}
 use Rattle.automata_hybrid.specs.Pieces.State.{IsPiecesOf}
-use Rattle.automata_hybrid.specs.Pieces.Walks.{IsWalkCallRun}
+use Rattle.automata_hybrid.specs.Known.Pieces.{IsWalkCallRun}
+use Rattle.automata_hybrid.specs.Known.Stores.{known_of}
 use Rattle.regex_automata.specs.declared.hybrid.regex.Regex.{Regex}
 use Rattle.lazydfa_c.specs.Streams.{WalkView}
 use Rattle.lazydfa_c.proofs.walk.Walk.read.Goals as goal
@@ -28,14 +29,14 @@ pub returns-in-Ok-clause-effect : goal.returns-in-Ok-clause-effect
 returns-in-Ok-clause-effect c =
     let w = c.self.inside.walk in let next = c.walk_piece.new.walk in let piece = c.args.piece.now in
     let old = c.args.cache.now in let new = c.walk_piece.new.cache in
-    subst (λ (v : WalkView). IsWalkCallRun v.machine piece v.walk next old new None) c.self.view_is
-    (subst (λ (r : Regex). IsWalkCallRun r.forward piece w next old new None) c.deref.ensures
-    (subst (λ (m : Machine). IsWalkCallRun m piece w next old new None) c.forward.ensures c.in-Ok.ensures.effect))
+    subst (λ (v : WalkView). IsWalkCallRun v.machine piece v.walk next (known_of old) (known_of new) None) c.self.view_is
+    (subst (λ (r : Regex). IsWalkCallRun r.forward piece w next (known_of old) (known_of new) None) c.deref.ensures
+    (subst (λ (m : Machine). IsWalkCallRun m piece w next (known_of old) (known_of new) None) c.forward.ensures c.in-Ok.ensures.effect))
 
 pub returns-in-Err-clause-effect : goal.returns-in-Err-clause-effect
 returns-in-Err-clause-effect c =
     let w = c.self.inside.walk in let next = c.walk_piece.new.walk in let piece = c.args.piece.now in
     let old = c.args.cache.now in let new = c.walk_piece.new.cache in let e = c.in-Err.error in
-    subst (λ (v : WalkView). IsWalkCallRun v.machine piece v.walk next old new (Some e)) c.self.view_is
-    (subst (λ (r : Regex). IsWalkCallRun r.forward piece w next old new (Some e)) c.deref.ensures
-    (subst (λ (m : Machine). IsWalkCallRun m piece w next old new (Some e)) c.forward.ensures c.in-Err.ensures.effect))
+    subst (λ (v : WalkView). IsWalkCallRun v.machine piece v.walk next (known_of old) (known_of new) (Some e)) c.self.view_is
+    (subst (λ (r : Regex). IsWalkCallRun r.forward piece w next (known_of old) (known_of new) (Some e)) c.deref.ensures
+    (subst (λ (m : Machine). IsWalkCallRun m piece w next (known_of old) (known_of new) (Some e)) c.forward.ensures c.in-Err.ensures.effect))
