@@ -163,7 +163,7 @@ def contract(lines):
     inside = False
     for number, line in enumerate(lines):
         bare = line.split("//")[0].rstrip()
-        if re.match(r"\s*\{$", bare) or bare.endswith(("{}", "{ }")) or number and re.match(r"\s*(?:pub )?fn ", bare):
+        if re.match(r"\s*\{$", bare) or bare.endswith(("{}", "{ }")) or number and re.match(r"\s*(?:pub(?:\(\w+\))? )?fn ", bare):
             return
         inside = inside or bool(re.match(r"\s*(?:ensures|requires)\b", bare))
         if inside:
