@@ -1,117 +1,172 @@
--- What a step, or a call for a start state, makes of a cache is what it makes of what the cache knows.
-use Rattle.std.proofs.Common.{◌≡◌, ◌∙◌, ℕ, ◌<◌, ◌*◌, true, false, Option, None, Some, sym, ap, refl}
-use Rattle.automata_base.specs.ByteClasses.Classes.{class_in}
+-- What steps and calls for a start state make of what a cache knows.
+use Rattle.std.proofs.Common.{ℕ, ◌≡◌, ◌∙◌, ◌<◌, ◌≤◌, length, Option, None, Some, true, false, cond, refl, sym, ap, arith}
+use Rattle.std.specs.Prelude.{Err}
 use Rattle.automata_base.specs.Powersets.Passes.{IsUnit}
 use Rattle.automata_base.specs.Powersets.Powerset.{Powerset}
+use Rattle.automata_base.specs.Retraced.Steps.{start_state_of, successor}
 use Rattle.automata_base.specs.declared.util.search.Anchored.{Anchored}
-use Rattle.automata_base.proofs.Paths.Orders.{none_some}
+use Rattle.automata_config.specs.Options.{match_kind_of}
 use Rattle.automata_config.specs.declared.error.SearchError.{SearchError}
-use Rattle.automata_config.specs.declared.error.StartError.{StartError}
-use Rattle.automata_config.specs.declared.error.StartError.TheVariants as start
 use Rattle.automata_config.specs.declared.error.StepError.{StepError}
+use Rattle.automata_config.specs.declared.error.StepError.TheVariants as step
 use Rattle.automata_hybrid.specs.Cache.Caches.{CacheView, IsStoreOf}
+use Rattle.automata_hybrid.specs.Cache.Caches as caches
+use Rattle.automata_hybrid.specs.Cache.Ids.{fixed_from}
+use Rattle.automata_hybrid.specs.Cache.Stores.{IsCacheError}
 use Rattle.automata_hybrid.specs.Cache.Table.{Names, find_id}
-use Rattle.automata_hybrid.specs.Calls.Events.{Start, Step}
-use Rattle.automata_hybrid.specs.Private.Calls.Events.{Fails}
-use Rattle.automata_hybrid.specs.Private.Calls.Steps as calls
-use Rattle.automata_hybrid.specs.Known.Events.{is_cached}
-use Rattle.automata_hybrid.specs.Private.Known.Laws.{StepsByKnown}
-use Rattle.automata_hybrid.specs.Known.Steps.{FailsFrom, GivesUpOnStart, IsQuitBehind, IsStartRun, IsStepRun}
-use Rattle.automata_hybrid.specs.Known.Steps.{IsNotSupported, RunsOutOnStart, StartFails, StartFailsAt}
-use Rattle.automata_hybrid.specs.Known.Steps.{StepFails, id_in}
+use Rattle.automata_hybrid.specs.Calls.Events.{Event, Start, Step}
+use Rattle.automata_hybrid.specs.Known.Events.{after_event, is_cached, made}
+use Rattle.automata_hybrid.specs.Known.Known.{Known, counted, moved}
+use Rattle.automata_hybrid.specs.Known.Passes.{EventFails, FailsFor, GivesUp, LacksMemory}
+use Rattle.automata_hybrid.specs.Known.Steps.{FailsFrom, GivesUpOnStart, IsStartRun, IsStepRun, RunsOutOnStart}
+use Rattle.automata_hybrid.specs.Known.Steps.{StartFails, StepFails, id_in}
 use Rattle.automata_hybrid.specs.Known.Stores.{known_of}
-use Rattle.automata_hybrid.specs.Machines.Machine.{Machine, unit_class}
+use Rattle.automata_hybrid.specs.Machines.Machine.{Machine, quits_on, unit_class}
+use Rattle.automata_hybrid.specs.Private.Cache.Usage.{GivesUpInStore}
 use Rattle.automata_hybrid.specs.Private.Machines.Machine.{IsMachine}
+use Rattle.automata_hybrid.specs.Private.Searches.PassState.{step_error}
+use Rattle.automata_hybrid.specs.Private.Searches.Units.{IsStepped}
+use Rattle.automata_hybrid.specs.Private.Steps.Starts.{KnowsStart, start_error}
+use Rattle.automata_hybrid.specs.Private.Steps.Steps.{KnowsStep}
 use Rattle.automata_hybrid.specs.Steps.Starts.{MayStart}
-use Rattle.automata_hybrid.specs.Private.Steps.Starts.{IsStartError}
-use Rattle.automata_hybrid.proofs.Known.Events.{does_known, gives_up_known, uncached_known}
-use Rattle.automata_hybrid.proofs.Known.Passes.{does_may}
+use Rattle.automata_hybrid.proofs.Calls.Events.{AsksForUnit, IsCached, Makes, MakesStep, MayAsk}
+use Rattle.automata_hybrid.proofs.Known.Events.{cached_known, gives_up_known, made_known, uncached_known}
+use Rattle.automata_hybrid.proofs.Searches.PassState.{false_true}
+use Rattle.automata_hybrid.proofs.Steps.Steps.{step_unknown}
 
-module _ (m : Machine) (machine : IsMachine m) where
-  -- an ID names a state in what a cache knows
-  named_in :
-      (c : CacheView) (q : Powerset) (id : ℕ) → IsStoreOf c.store m → id_in m (known_of c) q ≡ Some id
-      → Names c.store.table id q
-  named_in c q id sound named =
-      ap (λ (d : Machine). find_id d.stride (3 * d.stride) q c.store.table.rows) sound.of ∙ named
+-- an event over what is cached changes nothing
+pub after_cached :
+    (m : Machine) (e : Event) (come c : Known) → is_cached m e c ≡ true → after_event m e come c ≡ Some c
+after_cached m e come c known = ap (λ b. cond b (Some c) (made m e come)) known
 
-  pub step_known :
-      (id : ℕ) (unit : Option ℕ) (old new : CacheView) → IsUnit unit → IsStoreOf old.store m
-      → calls.IsStepRunInStore m id unit old new
+-- and else makes what it asks for
+pub after_made :
+    (m : Machine) (e : Event) (come c new : Known) → is_cached m e c ≡ false → made m e come ≡ Some new
+    → after_event m e come c ≡ Some new
+after_made m e come c new unknown makes = ap (λ b. cond b (Some c) (made m e come)) unknown ∙ makes
+
+-- the IDs of what a cache knows are those of its rows
+pub named_in :
+    (m : Machine) (c : CacheView) (q : Powerset) (id : ℕ) → IsStoreOf c.store m → id_in m (known_of c) q ≡ Some id
+    → Names c.store.table id q
+named_in m c q id sound named =
+    ap (λ (d : Machine). find_id d.stride (3 * d.stride) q c.store.table.rows) sound.of ∙ named
+
+pub names_in :
+    (m : Machine) (c : CacheView) (q : Powerset) (id : ℕ) → IsStoreOf c.store m → Names c.store.table id q
+    → id_in m (known_of c) q ≡ Some id
+names_in m c q id sound named =
+    ap (λ (d : Machine). find_id d.stride (3 * d.stride) q c.store.table.rows) (sym sound.of) ∙ named
+
+-- a step from dead or quit
+pub fixed_run :
+    (m : Machine) (id : ℕ) (unit : Option ℕ) (c : CacheView) → IsStoreOf c.store m → fixed_from ≤ id
+    → ((q : Powerset) → Names c.store.table id q → id < fixed_from) → IsStepRun m id unit (known_of c) (known_of c)
+fixed_run m id unit c sound high low = record {
+  fixed = λ _. refl;
+  quit = λ _. refl;
+  does = λ clean q named. (
+      let below : id < fixed_from = low q (named_in m c q id sound named) in absurd (omega (arith, below, high)));
+}
+
+-- a transition in a cell is cached
+pub cached_step :
+    (m : Machine) (id : ℕ) (unit : Option ℕ) (c : CacheView) → IsMachine m → IsUnit unit → IsStoreOf c.store m
+    → unit_class m unit < m.stride → KnowsStep m c.store id unit → quits_on m unit ≡ false → (q : Powerset)
+    → Names c.store.table id q → is_cached m (Step q unit) (known_of c) ≡ true
+cached_step m id unit c machine is sound below knows clean q named =
+    (cached_known m (Step q unit) c machine (clean, below) is sound).0 (id, named, knows)
+
+-- a step by a transition that is cached
+pub cached_run :
+    (m : Machine) (id : ℕ) (unit : Option ℕ) (c : CacheView) → IsMachine m → IsUnit unit → IsStoreOf c.store m
+    → unit_class m unit < m.stride → KnowsStep m c.store id unit → IsStepRun m id unit (known_of c) (known_of c)
+cached_run m id unit c machine is sound below knows = record {
+  fixed = λ _. refl;
+  quit = λ _. refl;
+  does = λ clean q named. after_cached m (Step q unit) (known_of c) (known_of c)
+      (cached_step m id unit c machine is sound below knows clean q (named_in m c q id sound named));
+}
+
+-- a step by one that is not
+module _ (m : Machine) (id : ℕ) (unit : Option ℕ) (old new : CacheView) (machine : IsMachine m) (is : IsUnit unit)
+    (sound : IsStoreOf old.store m) (low : id < fixed_from) (clean : quits_on m unit ≡ false)
+    (below : unit_class m unit < m.stride) (unknown : KnowsStep m old.store id unit → ⊥) where
+  uncached : (q : Powerset) → id_in m (known_of old) q ≡ Some id → is_cached m (Step q unit) (known_of old) ≡ false
+  uncached q named =
+      uncached_known m (Step q unit) old machine (clean, below) is sound
+      (step_unknown m id unit old unknown q (named_in m old q id sound named))
+
+  pub made_run :
+      IsStoreOf new.store m → ((q : Powerset) → Names old.store.table id q → MakesStep m q unit old new)
       → IsStepRun m id unit (known_of old) (known_of new)
-  step_known id unit old new is sound run = record {
-    fixed = λ high. ap known_of (run.fixed high);
-    quit = λ quits. ap known_of (run.quit quits);
-    does = λ clean q named.
-        does_known m (Step q unit) old old new machine is sound sound
-        (run.does clean q (named_in old q id sound named));
+  made_run after makes = record {
+    fixed = λ high. absurd (omega (arith, low, high));
+    quit = λ quits. absurd (false_true (sym clean ∙ quits));
+    does = λ _ q named. after_made m (Step q unit) (known_of old) (known_of old) (known_of new) (uncached q named)
+        (made_known m (Step q unit) old new machine sound after (clean, below) is
+        (makes q (named_in m old q id sound named)));
   }
 
-  step_fails :
-      (id : ℕ) (unit : Option ℕ) (old new : CacheView) (e : StepError) → IsUnit unit → unit_class m unit < m.stride
-      → IsStoreOf old.store m → calls.StepFailsInStore m id unit old new e
+  pub failed_run :
+      (e : StepError) → new ≡ caches.counted old
+      → (IsCacheError e → (q : Powerset) → Names old.store.table id q
+      → GivesUpInStore old.store (successor m.nfa (match_kind_of m.config) q unit))
       → StepFails m id unit (known_of old) (known_of new) e
-  step_fails id unit old new e is below sound f = record { low = f.low; clean = f.clean; fails = fails } where
-    fails : (q : Powerset) → id_in m (known_of old) q ≡ Some id → FailsFrom m q unit (known_of old) (known_of new) e
-    fails q named =
-        let here : Names old.store.table id q = named_in old q id sound named in
-        record {
-          unknown = uncached_known m (Step q unit) old machine (f.clean, below) is sound (f.fails q here).unknown;
-          unchanged = ap known_of (f.fails q here).unchanged;
-          gives_up = λ room. (gives_up_known m (Step q unit) old sound).0 (f.gives_up room q here);
-        }
+  failed_run e unchanged gives_up = record {
+    low = low;
+    clean = clean;
+    fails = λ q named. (record {
+        unknown = uncached q named;
+        unchanged = ap known_of unchanged;
+        gives_up = λ room. (gives_up_known m (Step q unit) old sound).0
+            (gives_up room q (named_in m old q id sound named));
+      });
+  }
 
-  pub start_known :
-      (mode : Anchored) (behind : Option ℕ) (old new : CacheView) → IsStoreOf old.store m
-      → calls.IsStartRunInStore m mode behind old new
+-- a step that fails, as a search reports it
+pub reported_failure :
+    (m : Machine) (q : Powerset) (unit : Option ℕ) (at : ℕ) (come new : Known) (e : StepError)
+    → FailsFrom m q unit come new e → EventFails m (Step q unit) at come new (step_error e at)
+reported_failure m q unit at come new (step.Cache err) f =
+    record { unknown = f.unknown; unchanged = f.unchanged; why = GivesUp (f.gives_up tt) refl }
+reported_failure m q unit at come new step.OutOfMemory f =
+    record { unknown = f.unknown; unchanged = f.unchanged; why = LacksMemory refl }
+
+-- a start state that is cached: that of a pattern past the last is asked for nowhere
+pub cached_start_run :
+    (m : Machine) (mode : Anchored) (behind : Option ℕ) (c : CacheView) → IsMachine m → IsStoreOf c.store m
+    → MayStart m mode behind → IsCached m c.store (Start mode behind)
+    → IsStartRun m mode behind (known_of c) (known_of c)
+cached_start_run m mode behind c machine sound may cached = record {
+  may = may;
+  does = after_cached m (Start mode behind) (known_of c) (known_of c)
+      ((cached_known m (Start mode behind) c machine may tt sound).0 cached);
+}
+
+-- one that is not
+module _ (m : Machine) (mode : Anchored) (behind : Option ℕ) (old new : CacheView) (machine : IsMachine m)
+    (sound : IsStoreOf old.store m) (may : MayStart m mode behind)
+    (unknown : IsCached m old.store (Start mode behind) → ⊥) where
+  uncached_start : is_cached m (Start mode behind) (known_of old) ≡ false
+  uncached_start = uncached_known m (Start mode behind) old machine may tt sound unknown
+
+  pub made_start_run :
+      IsStoreOf new.store m → Makes m (Start mode behind) old new
       → IsStartRun m mode behind (known_of old) (known_of new)
-  start_known mode behind old new sound run = record {
-    may = does_may m (Start mode behind) old old new run;
-    does = does_known m (Start mode behind) old old new machine tt sound sound run;
+  made_start_run after makes = record {
+    may = may;
+    does =
+        after_made m (Start mode behind) (known_of old) (known_of old) (known_of new) uncached_start
+        (made_known m (Start mode behind) old new machine sound after may tt makes);
   }
 
-  start_uncached :
-      (mode : Anchored) (behind : Option ℕ) (old new : CacheView) → IsStoreOf old.store m → MayStart m mode behind
-      → Fails m (Start mode behind) old new → is_cached m (Start mode behind) (known_of old) ≡ false
-  start_uncached mode behind old new sound may fails =
-      uncached_known m (Start mode behind) old machine may tt sound fails.unknown
-
-  pub start_fails_for :
-      (mode : Anchored) (behind : Option ℕ) (old new : CacheView) (e : StartError) → IsStoreOf old.store m
-      → IsStartError m old.store mode behind e → (MayStart m mode behind → Fails m (Start mode behind) old new)
-      → ((MayStart m mode behind → ⊥) → new ≡ old) → StartFails m mode behind (known_of old) (known_of new) e
-  start_fails_for mode behind old new (start.Quit byte) sound why fails barred =
-      IsQuitBehind byte why refl (ap known_of (barred (λ may. none_some (sym may.0 ∙ why))))
-  start_fails_for mode behind old new (start.UnsupportedAnchored reported) sound why fails barred =
-      IsNotSupported why.0 why.1 (ap start.UnsupportedAnchored why.2)
-      (ap known_of (barred (λ may. (let x : true ≡ false = sym may.1 ∙ why.1 in absurd (cc)))))
-  start_fails_for mode behind old new (start.Cache err) sound why fails barred =
-      GivesUpOnStart why.0 (start_uncached mode behind old new sound why.0 (fails why.0))
-      ((gives_up_known m (Start mode behind) old sound).0 why.1) err refl (ap known_of (fails why.0).unchanged)
-  start_fails_for mode behind old new start.OutOfMemory sound why fails barred =
-      RunsOutOnStart why (start_uncached mode behind old new sound why (fails why)) refl
-      (ap known_of (fails why).unchanged)
-
-  pub start_fails_known :
-      (mode : Anchored) (behind : Option ℕ) (old new : CacheView) (e : StartError) → IsStoreOf old.store m
-      → calls.StartFailsInStore m mode behind old new e → StartFails m mode behind (known_of old) (known_of new) e
-  start_fails_known mode behind old new e sound f = start_fails_for mode behind old new e sound f.why f.fails f.barred
-
-  pub start_fails_at :
-      (mode : Anchored) (behind : Option ℕ) (behind_at start_at : ℕ) (old new : CacheView) (e : SearchError)
-      → IsStoreOf old.store m → calls.StartFailsAtInStore m mode behind behind_at start_at old new e
-      → StartFailsAt m mode behind behind_at start_at (known_of old) (known_of new) e
-  start_fails_at mode behind behind_at start_at old new e sound f = record {
-    error = f.error;
-    fails = start_fails_known mode behind old new f.error sound f.refused;
-    reported = f.reported;
-  }
-
-  pub steps_by_known : ((byte : ℕ) → byte < 256 → class_in m.classes byte < m.stride) → StepsByKnown m
-  steps_by_known bytes = record {
-    answered = λ id unit old new is sound run. step_known id unit old new is sound run;
-    failed = λ id unit old new e is sound fails. step_fails id unit old new e is (below unit is) sound fails;
-  } where
-    below : (unit : Option ℕ) → IsUnit unit → unit_class m unit < m.stride
-    below None is = machine.below
-    below (Some byte) is = bytes byte is
+  pub failed_start_run :
+      (e : StepError) → new ≡ caches.counted old
+      → (IsCacheError e → GivesUpInStore old.store (start_state_of m.nfa mode behind))
+      → StartFails m mode behind (known_of old) (known_of new) (start_error e)
+  failed_start_run (step.Cache err) unchanged gives_up =
+      GivesUpOnStart may uncached_start ((gives_up_known m (Start mode behind) old sound).0 (gives_up tt)) err refl
+      (ap known_of unchanged)
+  failed_start_run step.OutOfMemory unchanged gives_up =
+      RunsOutOnStart may uncached_start refl (ap known_of unchanged)

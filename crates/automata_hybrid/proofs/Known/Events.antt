@@ -18,12 +18,11 @@ use Rattle.automata_hybrid.specs.Cache.Stores.{Stored}
 use Rattle.automata_hybrid.specs.Cache.Table.{Rows, cell_at, id_of}
 use Rattle.automata_hybrid.specs.Private.Cache.Usage.{GivesUpInStore}
 use Rattle.automata_hybrid.specs.Calls.Events.{Event, Start}
-use Rattle.automata_hybrid.specs.Private.Calls.Events.{Does, FindsCached, IsCached, Makes, MakesAnew, MayAsk}
+use Rattle.automata_hybrid.proofs.Calls.Events.{AsksForUnit, IsCached, Makes, MayAsk, asked_state}
 use Rattle.automata_hybrid.specs.Calls.Events.{Step}
 use Rattle.automata_hybrid.specs.Known.Events as events
 use Rattle.automata_hybrid.specs.Known.Known.{Known, has_state}
 use Rattle.automata_hybrid.specs.Known.Known as known
-use Rattle.automata_hybrid.specs.Private.Known.Laws.{AsksForUnit, asked_state}
 use Rattle.automata_hybrid.specs.Known.Stores.{has_steps_at, known_of, start_named}
 use Rattle.automata_hybrid.specs.Machines.Machine.{Machine, quits_on, unit_class}
 use Rattle.automata_hybrid.specs.Machines.StartSlots.{slot_behind}
@@ -189,20 +188,6 @@ made_known m e come new machine s =
     → Makes d e come new
     → events.made d e (known_of come) ≡ Some (known_of new))
     s.of (made_here e come new) machine s
-
--- what an event does
-pub does_known :
-    (m : Machine) (e : Event) (old come new : CacheView) → IsMachine m → AsksForUnit e → IsStoreOf old.store m
-    → IsStoreOf come.store m → Does m e old come new
-    → events.after_event m e (known_of come) (known_of old) ≡ Some (known_of new)
-does_known m e old come new machine is s there (FindsCached may after cached same) =
-    ap (λ b. cond b (Some (known_of old)) (events.made m e (known_of come)))
-    ((cached_known m e old machine may is s).0 cached)
-    ∙ ap (λ (c : CacheView). Some (known_of c)) (sym same)
-does_known m e old come new machine is s there (MakesAnew may after not made) =
-    ap (λ b. cond b (Some (known_of old)) (events.made m e (known_of come)))
-    (uncached_known m e old machine may is s not)
-    ∙ made_known m e come new machine there after may is made
 
 -- a call gives up exactly if no row can be added
 pub gives_up_if :

@@ -107,7 +107,7 @@ module _ (way : Direction) (m : Machine) (input : Input) (undone : input.start â
   pass_memory old new error (LacksMode clear lacks is same) = absurd (false_true (sym lacks âˆ™ mode))
   pass_memory old new error (CannotStart may fails) =
       event_memory m (start_event way input) (offset_in way input 0) old new error free fails
-  pass_memory old new error (FailsLater may f) = unit_memory f.place f.mid new error f.reads f.fails
+  pass_memory old new error (FailsLater may first starts f) = unit_memory f.place f.mid new error f.reads f.fails
 
 -- a search that nothing else can prevent
 pub search_memory :

@@ -14,10 +14,9 @@ use Rattle.automata_hybrid.specs.Known.Cached.{KnowsItsStart, KnowsPass, KnowsUn
 use Rattle.automata_hybrid.specs.Known.Events.{after_event, is_cached}
 use Rattle.automata_hybrid.specs.Known.Growth.{ClearedNothing, IsGrown, IsStill}
 use Rattle.automata_hybrid.specs.Known.Known.{Known, begun, ended, moved}
-use Rattle.automata_hybrid.specs.Known.Passes.{FailsAtUnit, FailsLater, LacksMode, MeetsQuit, PassEnds, PassFails}
-use Rattle.automata_hybrid.specs.Known.Passes.{QuitsBehind}
-use Rattle.automata_hybrid.specs.Known.Passes.{CannotStart, CannotStep, UnitFails, after_first, after_start, after_unit}
-use Rattle.automata_hybrid.specs.Known.Passes.{after_many}
+use Rattle.automata_hybrid.specs.Known.Passes.{CannotStart, CannotStep, FailsAtUnit, FailsLater, LacksMode, MeetsQuit}
+use Rattle.automata_hybrid.specs.Known.Passes.{PassEnds, PassFails, QuitsBehind, UnitFails, UnitsEnd, after_many}
+use Rattle.automata_hybrid.specs.Known.Passes.{after_start, after_unit}
 use Rattle.automata_base.specs.ByteClasses.Classes.{is_quit}
 use Rattle.automata_hybrid.specs.Machines.Machine.{Machine, quits_on}
 use Rattle.automata_hybrid.specs.Steps.Starts.{MayStart}
@@ -135,9 +134,10 @@ record BeginFollows (way : Direction) (m : Machine) (input : Input) (units : ℕ
 module _ (way : Direction) (m : Machine) (input : Input) (bounds : HasBounds m) (old : Known) (sound : IsKnown m old)
   where
     begin_follows :
-        (units : ℕ) (new : Known) → after_first way m input units old ≡ Some new
+        (units : ℕ) (first new : Known) → after_start way m input old ≡ Some first
+        → after_many (pass_trace way m input) way m input 0 units first ≡ Some new
         → BeginFollows way m input units old new
-    begin_follows units new run = record {
+    begin_follows units first new starts run = record {
       grown = grown_trans m old mid new s.grown rest;
       counted = omega (arith, s.counted, g.counted);
       started = λ begins. (let idle = s.known begins in omega (arith, idle, g.counted));
@@ -151,16 +151,10 @@ module _ (way : Direction) (m : Machine) (input : Input) (bounds : HasBounds m) 
           (omega (arith, less));
       sound = g.sound;
     } where
-      parts :
-          (first : Known) × (after_start way m input old ≡ Some first)
-          × (after_many (pass_trace way m input) way m input 0 units first ≡ Some new)
-      parts = then_some (after_many (pass_trace way m input) way m input 0 units) (after_start way m input old) new run
-
       begin :
           (mid : Known) × (after_event m (start_event way input) old old ≡ Some mid)
-          × (parts.0 ≡ begun (given_up_offset way input 0) mid)
-      begin =
-          mapped (begun (given_up_offset way input 0)) (after_event m (start_event way input) old old) parts.0 parts.1
+          × (first ≡ begun (given_up_offset way input 0) mid)
+      begin = mapped (begun (given_up_offset way input 0)) (after_event m (start_event way input) old old) first starts
 
       mid : Known
       mid = begin.0
@@ -172,7 +166,7 @@ module _ (way : Direction) (m : Machine) (input : Input) (bounds : HasBounds m) 
       g =
           units_follow (pass_trace way m input) way m input 0 bounds units (begun (given_up_offset way input 0) mid) new
           (known_moved m mid (begun (given_up_offset way input 0) mid).searched s.sound)
-          (subst (λ (c : Known). after_many (pass_trace way m input) way m input 0 units c ≡ Some new) begin.2 parts.2)
+          (subst (λ (c : Known). after_many (pass_trace way m input) way m input 0 units c ≡ Some new) begin.2 run)
 
       rest : IsGrown m mid new
       rest =
@@ -252,25 +246,30 @@ module _ (way : Direction) (m : Machine) (input : Input) (bounds : HasBounds m) 
     known = λ knows. (
         let all = knows e.may in
         let idle = f.known all.0
-        (λ j less. all.1 j (e.reads.0 j less) (clean_before way m input e.units j less e.clean)) in
+        (λ j less. all.1 j (u.reads.0 j less) (clean_before way m input u.units j less u.clean)) in
         (grown.idle (same ∙ idle), tt));
     learned = λ nothing none may. (
       rest.starts input.anchored (tape_in way input).before f.start,
       λ k reads clean. event_still m (unit_event (pass_trace way m input) way input k) parts.0 new rest
           (nothing_second m old parts.0 new f.grown rest nothing)
-          (f.learned (nothing_first m old parts.0 new f.grown rest nothing) k (before k reads (cases_lt k e.units))),
+          (f.learned (nothing_first m old parts.0 new f.grown rest nothing) k (before k reads (cases_lt k u.units))),
     );
     sound =
         subst (IsKnown m) (sym parts.2)
-        (known_moved m parts.0 (ended (given_up_offset way input (e.units - 1)) parts.0).searched f.sound);
+        (known_moved m parts.0 (ended (given_up_offset way input (u.units - 1)) parts.0).searched f.sound);
   } where
-    parts :
-        (mid : Known) × (after_first way m input e.units old ≡ Some mid)
-        × (new ≡ ended (given_up_offset way input (e.units - 1)) mid)
-    parts = mapped (ended (given_up_offset way input (e.units - 1))) (after_first way m input e.units old) new e.run
+    u : UnitsEnd way m input e.begun new
+    u = e.ends
 
-    f : BeginFollows way m input e.units old parts.0
-    f = begin_follows way m input bounds old sound e.units parts.0 parts.1
+    parts :
+        (mid : Known) × (after_many (pass_trace way m input) way m input 0 u.units e.begun ≡ Some mid)
+        × (new ≡ ended (given_up_offset way input (u.units - 1)) mid)
+    parts =
+        mapped (ended (given_up_offset way input (u.units - 1)))
+        (after_many (pass_trace way m input) way m input 0 u.units e.begun) new u.run
+
+    f : BeginFollows way m input u.units old parts.0
+    f = begin_follows way m input bounds old sound u.units e.begun parts.0 e.starts parts.1
 
     same : new.count ≡ parts.0.count
     same = ap (λ (c : Known). c.count) parts.2
@@ -281,17 +280,17 @@ module _ (way : Direction) (m : Machine) (input : Input) (bounds : HasBounds m) 
     grown : IsGrown m old new
     grown = grown_trans m old parts.0 new f.grown rest
 
-    few : e.units ≤ input.end - input.start + 1
-    few = count e.units refl where
-      count : (n : ℕ) → n ≡ e.units → e.units ≤ input.end - input.start + 1
+    few : u.units ≤ input.end - input.start + 1
+    few = count u.units refl where
+      count : (n : ℕ) → n ≡ u.units → u.units ≤ input.end - input.start + 1
       count zero is = omega (arith, is)
       count (suc n) is =
-          let within : n ≤ length (tape_in way input).bytes = (e.reads.0 n (omega (arith, is))).0 in
+          let within : n ≤ length (tape_in way input).bytes = (u.reads.0 n (omega (arith, is))).0 in
           omega (arith, is, within, tape_few way input)
 
-    before : (k : ℕ) → Reads way m input k → (k < e.units) ⊎ (e.units ≤ k) → k < e.units
+    before : (k : ℕ) → Reads way m input k → (k < u.units) ⊎ (u.units ≤ k) → k < u.units
     before k reads (inl less) = less
-    before k reads (inr more) = absurd (e.reads.1 (reads_before way m input e.units k more reads))
+    before k reads (inr more) = absurd (u.reads.1 (reads_before way m input u.units k more reads))
 
   -- nothing has changed
   barred : (error : SearchError) → IsOfInput error → new ≡ old → PassFollows way m input old new (Some error)
@@ -307,9 +306,10 @@ module _ (way : Direction) (m : Machine) (input : Input) (bounds : HasBounds m) 
     count = ap (λ (c : Known). c.count) same
 
   -- it failed at a unit
-  module _ (error : SearchError) (f : FailsAtUnit way m input old new error) where
+  module _ (error : SearchError) (first : Known) (starts : after_start way m input old ≡ Some first)
+      (f : FailsAtUnit way m input first new error) where
     b : BeginFollows way m input f.place old f.mid
-    b = begin_follows way m input bounds old sound f.place f.mid f.run
+    b = begin_follows way m input bounds old sound f.place first f.mid starts f.run
 
     stopped : MayStart m input.anchored (tape_in way input).before → PassFollows way m input old new (Some error)
     stopped may = record {
@@ -350,4 +350,4 @@ module _ (way : Direction) (m : Machine) (input : Input) (bounds : HasBounds m) 
     learned = λ nothing none. absurd (some_none none);
     sound = subst (IsKnown m) (sym fails.unchanged) (known_counted m old sound);
   }
-  pass_failed error (FailsLater may f) = stopped error f may
+  pass_failed error (FailsLater may first starts f) = stopped error first starts f may

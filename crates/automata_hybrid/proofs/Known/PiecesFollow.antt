@@ -11,10 +11,10 @@ use Rattle.automata_hybrid.specs.Known.Bounds.{IsKnown}
 use Rattle.automata_hybrid.specs.Known.Events.{after_event}
 use Rattle.automata_hybrid.specs.Known.Growth.{IsGrown, IsStill}
 use Rattle.automata_hybrid.specs.Known.Known.{Known, begun, cleared, counted, ended, moved}
-use Rattle.automata_hybrid.specs.Known.Passes.{EventFails, after_many}
-use Rattle.automata_hybrid.specs.Known.Pieces.{AlreadyOver, Answered, AtByte, AtEnd, AtQuitByte, AtStep, ByteFails}
-use Rattle.automata_hybrid.specs.Known.Pieces.{EndFails, EndIsQuit}
-use Rattle.automata_hybrid.specs.Known.Pieces.{EndStepFails, EndsAnswer, EndsPiece, FailsAtByte, FailsAtEnd}
+use Rattle.automata_hybrid.specs.Known.Passes.{CannotStep, EventFails, MeetsQuit, after_many}
+use Rattle.automata_hybrid.specs.Known.Pieces.{AlreadyOver, Answered, AtByte, AtEnd, ByteFails}
+use Rattle.automata_hybrid.specs.Known.Pieces.{EndFails}
+use Rattle.automata_hybrid.specs.Known.Pieces.{EndsAnswer, EndsPiece, FailsAtByte, FailsAtEnd}
 use Rattle.automata_hybrid.specs.Known.Pieces.{LeavesAnswer, LeavesPiece}
 use Rattle.automata_hybrid.specs.Known.Pieces.{NotBack, NotHeld, NotPutBack, Through, TooLong, Upto}
 use Rattle.automata_hybrid.specs.Known.Pieces.{after_bytes, after_piece}
@@ -200,9 +200,9 @@ module _ (m : Machine) (bounds : HasBounds m) (piece : List ℕ) (p : PiecesView
   byte_fails :
       (q : Powerset) (k : ℕ) (mid new : Known) (e : SearchError) → IsKnown m mid → ByteFails m piece p q k mid new e
       → RowFollows m 1 mid new
-  byte_fails q k mid new e there (AtQuitByte byte unit quits is same) =
+  byte_fails q k mid new e there (MeetsQuit byte unit quits is same) =
       ended_row m 1 (given_up_offset Forward (piece_input piece p.earliest) k) mid new there same
-  byte_fails q k mid new e there (AtStep clean fails) =
+  byte_fails q k mid new e there (CannotStep clean fails) =
       failed_row m (unit_event (piece_trace m piece p.earliest q) Forward (piece_input piece p.earliest) k) (p.read + k)
       (given_up_offset Forward (piece_input piece p.earliest) k) mid new e there fails
 
@@ -230,9 +230,9 @@ module _ (m : Machine) (bounds : HasBounds m) (piece : List ℕ) (p : PiecesView
   byte_memory :
       (q : Powerset) (k : ℕ) (mid new : Known) (e : SearchError) → k < length piece → IsFreePiece m piece p
       → ByteFails m piece p q k mid new e → IsMemory e
-  byte_memory q k mid new e low free (AtQuitByte byte unit quits is same) =
+  byte_memory q k mid new e low free (MeetsQuit byte unit quits is same) =
       absurd (false_true (sym (piece_unit m piece p.earliest k low free.clean) ∙ (ap (quits_on m) unit ∙ quits)))
-  byte_memory q k mid new e low free (AtStep clean fails) =
+  byte_memory q k mid new e low free (CannotStep clean fails) =
       event_memory m (unit_event (piece_trace m piece p.earliest q) Forward (piece_input piece p.earliest) k)
       (p.read + k)
       (moved (given_up_offset Forward (piece_input piece p.earliest) k) mid) new e free.clears fails
@@ -291,8 +291,8 @@ module _ (m : Machine) (bounds : HasBounds m) (ahead : Option ℕ) (p : PiecesVi
   end_fails :
       (q : Powerset) (mid new : Known) (e : SearchError) → IsKnown m mid → EndFails m ahead p q mid new e
       → RowFollows m 1 mid new
-  end_fails q mid new e there (EndIsQuit byte is quits reported same) = ended_row m 1 p.read mid new there same
-  end_fails q mid new e there (EndStepFails clean fails) =
+  end_fails q mid new e there (MeetsQuit byte is quits reported same) = ended_row m 1 p.read mid new there same
+  end_fails q mid new e there (CannotStep clean fails) =
       failed_row m (Step q ahead) p.read p.read mid new e there fails
 
   answer_left : (new : Known) (e : SearchError) → LeavesAnswer m ahead p old new e → IsCostOfUnits m 1 p old new
@@ -306,9 +306,9 @@ module _ (m : Machine) (bounds : HasBounds m) (ahead : Option ℕ) (p : PiecesVi
       (new : Known) (e : SearchError) → LeavesAnswer m ahead p old new e → quits_on m ahead ≡ false
       → minimum_cache_clear_count_of m.config ≡ None → IsMemory e
   answer_memory new e (NotBack q stood not) clean free = back_memory m q p.read old new e free not
-  answer_memory new e (FailsAtEnd q stood mid run (EndIsQuit byte is quits reported same)) clean free =
+  answer_memory new e (FailsAtEnd q stood mid run (MeetsQuit byte is quits reported same)) clean free =
       absurd (false_true (sym clean ∙ (ap (quits_on m) is ∙ quits)))
-  answer_memory new e (FailsAtEnd q stood mid run (EndStepFails free_unit fails)) clean free =
+  answer_memory new e (FailsAtEnd q stood mid run (CannotStep free_unit fails)) clean free =
       event_memory m (Step q ahead) p.read (moved p.read mid) new e free fails
 
 pub piece_answers_follow : (m : Machine) → HasBounds m → PieceAnswersFollow m

@@ -1,177 +1,249 @@
--- Units that are read one after another, and the end of a pass after them.
-use Rattle.std.proofs.Common.{ℕ, zero, suc, ◌≡◌, ◌∙◌, ◌+◌, ◌-◌, ◌<◌, ◌≤◌, ◌⊎◌, Option, length, inl, inr, refl, sym, ap, subst, arith}
-use Rattle.std.proofs.Common.{eq-or-lt_of_le}
-use Rattle.std.specs.Prelude.{Result, Ok, Err}
+-- Units that are read one after another, and the end of a pass after them, by what the cache knows.
+use Rattle.std.proofs.Common.{ℕ, zero, suc, ◌≡◌, ◌∙◌, ◌+◌, ◌-◌, ◌<◌, ◌≤◌, ◌⊎◌, inl, inr, length, Option, Some, false}
+use Rattle.std.proofs.Common.{refl, sym, ap, subst, arith, eq-or-lt_of_le}
+use Rattle.std.specs.Prelude.{Result, Ok, Err, option_and_then, option_map}
+use Rattle.automata_base.specs.Answers.Answers.{offset_in}
 use Rattle.automata_base.specs.Haystacks.Input.{Input}
 use Rattle.automata_base.specs.Haystacks.Matches.{HalfMatch}
 use Rattle.automata_base.specs.Paths.Paths.{next}
+use Rattle.automata_base.specs.Powersets.Passes.{IsUnit}
 use Rattle.automata_base.specs.Powersets.Powerset.{Powerset}
 use Rattle.automata_base.specs.declared.util.search.Direction.{Direction}
 use Rattle.automata_config.specs.declared.error.SearchError.{SearchError}
+use Rattle.automata_config.specs.declared.error.SearchError.TheVariants as search
+use Rattle.automata_config.specs.declared.error.StartError.{StartError}
 use Rattle.automata_hybrid.specs.Cache.Caches.{CacheView, IsStoreOf, with_store}
 use Rattle.automata_hybrid.specs.Cache.Progress.{progress_finished}
 use Rattle.automata_hybrid.specs.Cache.Stores.{with_searched}
 use Rattle.automata_hybrid.specs.Cache.Table.{Names}
 use Rattle.automata_hybrid.specs.Calls.Events.{Step}
-use Rattle.automata_hybrid.specs.Private.Calls.Events.{Does, FindsCached, IsStepLeft, ended_in_store, moved_in_store}
-use Rattle.automata_hybrid.specs.Private.Calls.Steps.{StartFailsAtInStore}
-use Rattle.automata_hybrid.specs.Machines.Machine.{Machine, unit_class}
+use Rattle.automata_hybrid.specs.Known.Events.{after_event, is_cached}
+use Rattle.automata_hybrid.specs.Known.Known.{Known, ended, moved}
+use Rattle.automata_hybrid.specs.Known.Known as known
+use Rattle.automata_hybrid.specs.Known.Passes.{CannotStart, FailsAtUnit, FailsLater, GivesUp, LacksMemory, LacksMode}
+use Rattle.automata_hybrid.specs.Known.Passes.{PassFails, QuitsBehind, ReadFails, UnitFails, UnitsEnd, after_many}
+use Rattle.automata_hybrid.specs.Known.Passes.{after_start, after_unit}
+use Rattle.automata_hybrid.specs.Known.Steps.{GivesUpOnStart, IsNotSupported, IsQuitBehind, IsStartRun, RunsOutOnStart}
+use Rattle.automata_hybrid.specs.Known.Steps.{StartFails, StartFailsAt}
+use Rattle.automata_hybrid.specs.Known.Stores.{known_of}
+use Rattle.automata_hybrid.specs.Machines.Machine.{Machine, quits_on, unit_class}
+use Rattle.automata_hybrid.specs.Private.Machines.Machine.{IsMachine}
 use Rattle.automata_hybrid.specs.Private.Searches.PassContracts.{IsLastRead, IsPassResult, IsRest}
 use Rattle.automata_hybrid.specs.Private.Searches.PassState.{HasLearnedAlong}
-use Rattle.automata_hybrid.specs.Private.Searches.Progress.{EndsAtLast, Goes, GoesAlong, HasItsStart, HasNoStart, IsLeftAlong, IsLeftAt}
-use Rattle.automata_hybrid.specs.Searches.Progress.{unit_event}
-use Rattle.automata_hybrid.specs.Private.Searches.Progress.{IsReadAlong, IsStoppedAt, IsUnitRead, with_search_ended}
-use Rattle.automata_hybrid.specs.Private.Searches.Progress.{StopsAtUnit, with_search_begun, with_search_moved}
+use Rattle.automata_hybrid.specs.Private.Searches.Units.{IsStepped}
+use Rattle.automata_hybrid.specs.Searches.Passes.{HasReadNoQuit, Reads, behind_offset, given_up_offset, state_in, tape_in}
+use Rattle.automata_hybrid.specs.Searches.Passes.{unit_offset}
+use Rattle.automata_hybrid.specs.Searches.Progress.{start_event, unit_event}
 use Rattle.automata_hybrid.specs.Searches.Traces.{Trace, pass_trace}
-use Rattle.automata_hybrid.specs.Searches.Passes.{HasReadNoQuit, Reads, given_up_offset, state_in, tape_in}
-use Rattle.automata_hybrid.specs.Private.Searches.Passes.{IsUnitError}
+use Rattle.automata_hybrid.specs.Steps.Starts.{start_search_error}
+use Rattle.automata_hybrid.proofs.Known.Calls.{after_cached}
+use Rattle.automata_hybrid.proofs.Known.Events.{cached_known}
 use Rattle.automata_hybrid.proofs.Searches.PassState.{reads_before, stops_last}
-use Rattle.automata_hybrid.proofs.Steps.Starts.{does_keep}
 use Rattle.automata_hybrid.proofs.Steps.Steps.{unit_no_quit}
 
--- the units from one place to another were read
-pub record GoesToAlong (s : Trace) (way : Direction) (m : Machine) (input : Input) (from to : ℕ)
-    (old new : CacheView) : Type 0 where
+-- what the units from one place to another make of what a cache knows
+pub record GoesToAlong (s : Trace) (way : Direction) (m : Machine) (input : Input) (from to : ℕ) (old new : Known) :
+    Type 0 where
   pub units : ℕ
   pub upto : from + units ≡ to
-  pub goes : GoesAlong s way m input from units old new
+  pub run : after_many s way m input from units old ≡ Some new
 
-abbrev pub GoesTo : Direction → Machine → Input → (from to : ℕ) → (old new : CacheView) → Type 0
+abbrev pub GoesTo : Direction → Machine → Input → (from to : ℕ) → (old new : Known) → Type 0
 GoesTo way m input from to old new = GoesToAlong (pass_trace way m input) way m input from to old new
 
--- the cache after some units is one of the DFA
-pub goes_sound :
-    (s : Trace) (way : Direction) (m : Machine) (input : Input) (from : ℕ) (old : CacheView) (n : ℕ) (new : CacheView)
-    → IsStoreOf old.store m → GoesAlong s way m input from n old new → IsStoreOf new.store m
-goes_sound s way m input from old zero new sound same = subst (λ (v : CacheView). IsStoreOf v.store m) (sym same) sound
-goes_sound s way m input from old (suc n) new sound (mid, before, here) =
-    does_keep m (unit_event s way input (from + n)) mid (with_search_moved way input (from + n) mid) new here
+-- a transition that was learned is cached
+pub learned_cached :
+    (s : Trace) (way : Direction) (m : Machine) (input : Input) (k : ℕ) (c : CacheView) → IsMachine m
+    → IsUnit (next (tape_in way input) k) → IsStoreOf c.store m → quits_on m (next (tape_in way input) k) ≡ false
+    → HasLearnedAlong s way m c.store input k → is_cached m (unit_event s way input k) (known_of c) ≡ true
+learned_cached s way m input k c machine is sound clean learned =
+    (cached_known m (unit_event s way input k) c machine
+    (clean, subst (λ (d : Machine). unit_class m (next (tape_in way input) k) < d.stride) sound.of learned.1) is
+    sound).0
+    learned.0
 
-module _ {s : Trace} (way : Direction) (m : Machine) (input : Input) (from : ℕ) (old : CacheView) where
+module _ {s : Trace} (way : Direction) (m : Machine) (input : Input) (from : ℕ) (old : Known) where
   pub goes_none : GoesToAlong s way m input from from old old
-  goes_none = record { units = 0; upto = omega arith; goes = refl }
+  unfolding after_many
+  goes_none = record { units = 0; upto = omega arith; run = refl }
 
   -- one more
   pub goes_more :
-      (k : ℕ) (mid new : CacheView) → GoesToAlong s way m input from k old mid → IsReadAlong s way m input k mid new
+      (k : ℕ) (mid new : Known) → GoesToAlong s way m input from k old mid → after_unit s way m input k mid ≡ Some new
       → GoesToAlong s way m input from (suc k) old new
+  unfolding after_many
   goes_more k mid new before here =
       let last : from + before.units ≡ k = before.upto in
       record {
         units = suc before.units;
         upto = omega (arith, last);
-        goes = (mid, before.goes, subst (λ j. IsReadAlong s way m input j mid new) (sym last) here);
+        run =
+            ap (option_and_then (after_unit s way m input (from + before.units))) before.run
+            ∙ ap (λ j. after_unit s way m input j mid) last
+            ∙ here;
       }
 
   -- units whose transitions are cached change nothing
-  pub goes_known :
-      (k to : ℕ) (c : CacheView) → IsStoreOf c.store m → GoesToAlong s way m input from k old c → k ≤ to
-      → HasReadNoQuit way m input to → ((j : ℕ) → k ≤ j → j < to → HasLearnedAlong s way m c.store input j)
-      → GoesToAlong s way m input from to old c
-  goes_known k zero c sound before more clean known =
-      let none : k ≡ 0 = omega (arith, more) in
-      subst (λ n. GoesToAlong s way m input from n old c) none before
-  goes_known k (suc to) c sound before more clean known =
-      go (eq-or-lt_of_le more) (λ less. goes_known k to c sound before less
-      (λ j byte below unit. clean j byte (omega (arith, below)) unit) (λ j from below. known j from (omega (arith, below))))
-    where
-      here : HasLearnedAlong s way m c.store input to → IsReadAlong s way m input to c c
-      here learned =
-          FindsCached (
-            unit_no_quit m (next (tape_in way input) to) (λ byte unit. clean to byte (omega arith) unit),
-            subst (λ (d : Machine). unit_class m (next (tape_in way input) to) < d.stride) sound.of learned.1,
-          )
-          sound learned.0 refl
+  module _ (machine : IsMachine m) (units_are : (j : ℕ) → IsUnit (next (tape_in way input) j)) where
+    pub goes_known :
+        (k to : ℕ) (c : CacheView) → IsStoreOf c.store m → GoesToAlong s way m input from k old (known_of c) → k ≤ to
+        → HasReadNoQuit way m input to → ((j : ℕ) → k ≤ j → j < to → HasLearnedAlong s way m c.store input j)
+        → GoesToAlong s way m input from to old (known_of c)
+    goes_known k zero c sound before more clean learned =
+        let none : k ≡ 0 = omega (arith, more) in
+        subst (λ n. GoesToAlong s way m input from n old (known_of c)) none before
+    goes_known k (suc to) c sound before more clean learned =
+        go (eq-or-lt_of_le more) (λ less. goes_known k to c sound before less
+        (λ j byte below unit. clean j byte (omega (arith, below)) unit)
+        (λ j from below. learned j from (omega (arith, below))))
+      where
+        here :
+            HasLearnedAlong s way m c.store input to
+            → after_unit s way m input to (known_of c) ≡ Some (known_of c)
+        here has =
+            after_cached m (unit_event s way input to) (moved (given_up_offset way input to) (known_of c)) (known_of c)
+            (learned_cached s way m input to c machine (units_are to) sound
+            (unit_no_quit m (next (tape_in way input) to) (λ byte unit. clean to byte (omega arith) unit)) has)
 
-      go : (k ≡ suc to) ⊎ (k < suc to) → (k ≤ to → GoesToAlong s way m input from to old c) → GoesToAlong s way m input from (suc to) old c
-      go (inl same) upto = subst (λ n. GoesToAlong s way m input from n old c) same before
-      go (inr less) upto = goes_more to c c (upto (omega (arith, less))) (here (known to (omega (arith, less)) (omega arith)))
-
--- and then cached ones were followed
-pub goes_on :
-    {s : Trace} (way : Direction) (m : Machine) (input : Input) (from : ℕ) (old : CacheView) → IsStoreOf old.store m
-    → (k to : ℕ) (c : CacheView) → GoesToAlong s way m input from k old c → k ≤ to → HasReadNoQuit way m input to
-    → ((j : ℕ) → k ≤ j → j < to → HasLearnedAlong s way m c.store input j) → GoesToAlong s way m input from to old c
-goes_on {s} way m input from old sound k to c before more clean known =
-    goes_known way m input from old k to c (goes_sound s way m input from old before.units c sound before.goes) before more clean known
+        go :
+            (k ≡ suc to) ⊎ (k < suc to) → (k ≤ to → GoesToAlong s way m input from to old (known_of c))
+            → GoesToAlong s way m input from (suc to) old (known_of c)
+        go (inl same) upto = subst (λ n. GoesToAlong s way m input from n old (known_of c)) same before
+        go (inr less) upto =
+            goes_more to (known_of c) (known_of c) (upto (omega (arith, less)))
+            (here (learned to (omega (arith, less)) (omega arith)))
 
 -- at least one was read
 pub goes_some :
-    (way : Direction) (m : Machine) (input : Input) (from k : ℕ) (old new : CacheView) → from ≤ k → GoesTo way m input from (suc k) old new
-    → (n : ℕ) × (from + n ≡ k) × Goes way m input from (suc n) old new
+    (way : Direction) (m : Machine) (input : Input) (from k : ℕ) (old new : Known) → from ≤ k
+    → GoesTo way m input from (suc k) old new
+    → (n : ℕ) × (from + n ≡ k) × (after_many (pass_trace way m input) way m input from (suc n) old ≡ Some new)
 goes_some way m input from k old new more all =
     let upto : from + all.units ≡ suc k = all.upto in
-    let one : all.units ≡ suc (all.units - 1) = omega (arith, upto, more) in
-    (all.units - 1, omega (arith, upto, more), subst (λ n. Goes way m input from n old new) one all.goes)
+    let one : all.units ≡ suc (all.units - 1) = omega (arith, upto, more) in (
+      all.units - 1,
+      omega (arith, upto, more),
+      subst (λ n. after_many (pass_trace way m input) way m input from n old ≡ Some new) one all.run,
+    )
+
+-- all units from the first one on, before a place
+pub goes_all :
+    {s : Trace} {way : Direction} {m : Machine} {input : Input} {k : ℕ} {old new : Known}
+    → GoesToAlong s way m input 0 k old new → after_many s way m input 0 k old ≡ Some new
+goes_all {s} {way} {m} {input} {k} {old} {new} all =
+    let upto : 0 + all.units ≡ k = all.upto in
+    let same : all.units ≡ k = omega (arith, upto) in
+    subst (λ n. after_many s way m input 0 n old ≡ Some new) same all.run
 
 -- a pass has ended where the unit that it read was its last one
 pub pass_last :
-    (way : Direction) (m : Machine) (input : Input) (k : ℕ) (old mid new : CacheView) → Reads way m input k
-    → (Reads way m input (suc k) → ⊥) → GoesTo way m input 0 (suc k) old mid
-    → new ≡ with_search_ended way input k mid → EndsAtLast way m input old new
-pass_last way m input k old mid new reads stops all last =
+    (way : Direction) (m : Machine) (input : Input) (k : ℕ) (begun mid new : Known) → Reads way m input k
+    → (Reads way m input (suc k) → ⊥) → HasReadNoQuit way m input (suc k) → GoesTo way m input 0 (suc k) begun mid
+    → new ≡ ended (given_up_offset way input k) mid → UnitsEnd way m input begun new
+pass_last way m input k begun mid new reads stops clean all last =
     let upto : 0 + all.units ≡ suc k = all.upto in
     let same : all.units ≡ suc k = omega (arith, upto) in
-    let at : 0 + (all.units - 1) ≡ k = omega (arith, upto) in (
-      all.units,
-      (
+    let at : all.units - 1 ≡ k = omega (arith, upto) in
+    record {
+      units = all.units;
+      reads = (
         λ j less. reads_before way m input j k (omega (arith, less, same)) reads,
         subst (λ n. Reads way m input n → ⊥) (sym same) stops,
-      ),
-      (mid, all.goes, last ∙ ap (λ j. with_search_ended way input j mid) (sym at)),
-    )
+      );
+      clean = λ j byte less unit. clean j byte (omega (arith, less, same)) unit;
+      run =
+          ap (option_map (ended (given_up_offset way input (all.units - 1)))) all.run
+          ∙ ap (λ j. Some (ended (given_up_offset way input j) mid)) at
+          ∙ ap Some (sym last);
+    }
 
 -- or it failed at the next one
 pub pass_stopped :
-    (way : Direction) (m : Machine) (input : Input) (k : ℕ) (old mid new : CacheView) (e : SearchError) → Reads way m input k
-    → HasReadNoQuit way m input k → IsUnitError way m new.store input k e
-    → GoesTo way m input 0 k old mid → IsLeftAt way m input k mid new → IsStoppedAt way m input old new e
-pass_stopped way m input k old mid new e reads clean refused all left =
-    let upto : 0 + all.units ≡ k = all.upto in
-    let same : all.units ≡ k = omega (arith, upto) in
-    record {
-      units = k;
-      clean = clean;
-      mid = mid;
-      goes = subst (λ n. Goes way m input 0 n old mid) same all.goes;
-      reads = reads;
-      error = refused;
-      left = left;
-    }
+    (way : Direction) (m : Machine) (input : Input) (k : ℕ) (begun mid new : Known) (e : SearchError)
+    → Reads way m input k → HasReadNoQuit way m input k → GoesTo way m input 0 k begun mid
+    → UnitFails way m input k mid new e → FailsAtUnit way m input begun new e
+pass_stopped way m input k begun mid new e reads clean all fails =
+    record { place = k; reads = reads; clean = clean; mid = mid; run = goes_all all; fails = fails }
 
 -- where the units before are read, reading the last one is the rest of a pass
 pub last_rest :
-    (way : Direction) (m : Machine) (input : Input) (old mid new : CacheView) (r : Result (Option HalfMatch) SearchError)
-    → input.end - input.start ≡ length (tape_in way input).bytes → Reads way m input (input.end - input.start)
-    → HasReadNoQuit way m input (input.end - input.start) → GoesTo way m input 0 (input.end - input.start) old mid
-    → IsLastRead way m input mid new r → IsRest way m input old new r
-last_rest way m input old mid new (Ok half) units reads clean before last = record {
+    (way : Direction) (m : Machine) (input : Input) (begun mid new : Known)
+    (r : Result (Option HalfMatch) SearchError) → input.end - input.start ≡ length (tape_in way input).bytes
+    → Reads way m input (input.end - input.start) → HasReadNoQuit way m input (input.end - input.start)
+    → GoesTo way m input 0 (input.end - input.start) begun mid → IsLastRead way m input mid new r
+    → IsRest way m input begun new r
+last_rest way m input begun mid new (Ok half) units reads clean before last = record {
   answer = last.answer;
   ended =
-      pass_last way m input (input.end - input.start) old last.mid new reads
+      pass_last way m input (input.end - input.start) begun last.mid new reads
       (stops_last way m input (input.end - input.start) units (suc (input.end - input.start)) (omega arith))
-      (goes_more way m input 0 old (input.end - input.start) mid last.mid before last.read) last.ended;
+      (λ j byte less unit. last.answer.clean.1 j byte
+      (reads_before way m input j (input.end - input.start) (omega (arith, less)) reads) unit)
+      (goes_more way m input 0 begun (input.end - input.start) mid last.mid before last.read) last.ended;
 }
-last_rest way m input old mid new (Err e) units reads clean before last =
-    pass_stopped way m input (input.end - input.start) old mid new e reads clean last.error before last.left
+last_rest way m input begun mid new (Err e) units reads clean before last =
+    pass_stopped way m input (input.end - input.start) begun mid new e reads clean before last
 
 -- where a pass has its start state, and its search begins, what its rest returns is what it returns
 pub rest_passes :
-    (way : Direction) (m : Machine) (input : Input) (old mid begun new : CacheView)
-    (r : Result (Option HalfMatch) SearchError) → HasItsStart way m input old mid
-    → begun ≡ with_search_begun way input 0 mid → IsRest way m input begun new r → IsPassResult way m input old new r
+    (way : Direction) (m : Machine) (input : Input) (old mid begun new : Known)
+    (r : Result (Option HalfMatch) SearchError) → IsStartRun m input.anchored (tape_in way input).before old mid
+    → begun ≡ known.begun (given_up_offset way input 0) mid → IsRest way m input begun new r
+    → IsPassResult way m input old new r
 rest_passes way m input old mid begun new (Ok half) starts begins rest = record {
   answer = rest.answer;
-  ends = (mid, starts, subst (λ (v : CacheView). EndsAtLast way m input v new) begins rest.ended);
+  ends = record {
+    may = starts.may;
+    begun = begun;
+    starts = ap (option_map (known.begun (given_up_offset way input 0))) starts.does ∙ ap Some (sym begins);
+    ends = rest.ended;
+  };
 }
 rest_passes way m input old mid begun new (Err e) starts begins rest =
-    StopsAtUnit mid starts (subst (λ (v : CacheView). IsStoppedAt way m input v new e) begins rest)
+    FailsLater starts.may begun
+    (ap (option_map (known.begun (given_up_offset way input 0))) starts.does ∙ ap Some (sym begins)) rest
 
 -- a pass whose start is dead reads nothing
 pub pass_dies :
-    (way : Direction) (m : Machine) (input : Input) (begun new : CacheView) → (Reads way m input 0 → ⊥)
-    → new ≡ with_search_ended way input 0 begun → EndsAtLast way m input begun new
-pass_dies way m input begun new none last = (0, (λ j less. absurd (omega (arith, less)), none), (begun, refl, last))
+    (way : Direction) (m : Machine) (input : Input) (begun new : Known) → (Reads way m input 0 → ⊥)
+    → new ≡ ended (given_up_offset way input 0) begun → UnitsEnd way m input begun new
+unfolding after_many
+pass_dies way m input begun new none last = record {
+  units = 0;
+  reads = (λ j less. absurd (omega (arith, less)), none);
+  clean = λ j byte less unit. absurd (omega (arith, less));
+  run = ap Some (sym last);
+}
+
+-- a pass without a start state fails
+pub start_fails_pass :
+    (way : Direction) (m : Machine) (input : Input) (old new : Known) (e : SearchError)
+    → StartFailsAt m input.anchored (tape_in way input).before (behind_offset way input) (offset_in way input 0) old new e
+    → PassFails way m input old new e
+start_fails_pass way m input old new e f = go f.error f.fails f.reported where
+  go :
+      (error : StartError) → StartFails m input.anchored (tape_in way input).before old new error
+      → e ≡ start_search_error error (behind_offset way input) (offset_in way input 0) → PassFails way m input old new e
+  go error (IsQuitBehind byte quits is same) reported =
+      QuitsBehind byte quits
+      (reported ∙ ap (λ x. start_search_error x (behind_offset way input) (offset_in way input 0)) is) same
+  go error (IsNotSupported clear lacks is same) reported =
+      LacksMode clear lacks
+      (reported ∙ ap (λ x. start_search_error x (behind_offset way input) (offset_in way input 0)) is) same
+  go error (GivesUpOnStart may unknown none err is same) reported =
+      CannotStart may (record {
+        unknown = unknown;
+        unchanged = same;
+        why = GivesUp none
+            (reported ∙ ap (λ x. start_search_error x (behind_offset way input) (offset_in way input 0)) is);
+      })
+  go error (RunsOutOnStart may unknown is same) reported =
+      CannotStart may (record {
+        unknown = unknown;
+        unchanged = same;
+        why = LacksMemory
+            (reported ∙ ap (λ x. start_search_error x (behind_offset way input) (offset_in way input 0)) is);
+      })
 
 -- the unit at a place was come to at its offset, from an ID that names the state there
 module _ (s : Trace) (way : Direction) (m : Machine) (input : Input) (k id at : ℕ) (unit : Option ℕ) (c new : CacheView)
@@ -179,48 +251,47 @@ module _ (s : Trace) (way : Direction) (m : Machine) (input : Input) (k id at : 
     (named : Names c.store.table id (s.state k)) where
   -- and read
   pub taken_along :
-      ((q : Powerset) → Names c.store.table id q → Does m (Step q unit) c (moved_in_store at c) new) → IsReadAlong s way m input k c new
+      ((q : Powerset) → Names c.store.table id q → IsStepped m q unit at c new)
+      → after_unit s way m input k (known_of c) ≡ Some (known_of new)
   taken_along taken =
-      subst (λ a. Does m (Step (s.state k) (next (tape_in way input) k)) c (moved_in_store a c) new) (sym place)
-      (subst (λ u. Does m (Step (s.state k) u) c (moved_in_store at c) new) (sym is) (taken (s.state k) named))
+      ap (λ a. after_event m (unit_event s way input k) (moved a (known_of c)) (known_of c)) place
+      ∙ ap (λ u. after_event m (Step (s.state k) u) (moved at (known_of c)) (known_of c)) is
+      ∙ taken (s.state k) named
 
   -- or not
   pub left_along :
-      ((q : Powerset) → Names c.store.table id q → IsStepLeft m q unit (moved_in_store at c) (ended_in_store at c) new) → IsLeftAlong s way m input k c new
-  left_along left =
-      subst (λ a. IsStepLeft m (s.state k) (next (tape_in way input) k) (moved_in_store a c) (ended_in_store a c) new) (sym place)
-      (subst (λ u. IsStepLeft m (s.state k) u (moved_in_store at c) (ended_in_store at c) new) (sym is) (left (s.state k) named))
+      (quit_at : ℕ) (e : SearchError)
+      → ((q : Powerset) → Names c.store.table id q → ReadFails m q unit quit_at at at (known_of c) (known_of new) e)
+      → ReadFails m (s.state k) (next (tape_in way input) k) quit_at (given_up_offset way input k)
+      (given_up_offset way input k) (known_of c) (known_of new) e
+  left_along quit_at e fails =
+      subst (λ a. ReadFails m (s.state k) (next (tape_in way input) k) quit_at a a (known_of c) (known_of new) e)
+      (sym place)
+      (subst (λ u. ReadFails m (s.state k) u quit_at at at (known_of c) (known_of new) e) (sym is)
+      (fails (s.state k) named))
 
 -- the same in a pass
 module _ (way : Direction) (m : Machine) (input : Input) (k id at : ℕ) (unit : Option ℕ) (c new : CacheView)
     (is : next (tape_in way input) k ≡ unit) (place : given_up_offset way input k ≡ at)
     (named : Names c.store.table id (state_in way m input k)) where
   pub taken_here :
-      ((q : Powerset) → Names c.store.table id q → Does m (Step q unit) c (moved_in_store at c) new) → IsUnitRead way m input k c new
+      ((q : Powerset) → Names c.store.table id q → IsStepped m q unit at c new)
+      → after_unit (pass_trace way m input) way m input k (known_of c) ≡ Some (known_of new)
   taken_here = taken_along (pass_trace way m input) way m input k id at unit c new is place named
 
   pub left_here :
-      ((q : Powerset) → Names c.store.table id q → IsStepLeft m q unit (moved_in_store at c) (ended_in_store at c) new) → IsLeftAt way m input k c new
-  left_here = left_along (pass_trace way m input) way m input k id at unit c new is place named
+      (quit_at : ℕ) (e : SearchError) → unit_offset way input k ≡ quit_at
+      → ((q : Powerset) → Names c.store.table id q → ReadFails m q unit quit_at at at (known_of c) (known_of new) e)
+      → UnitFails way m input k (known_of c) (known_of new) e
+  left_here quit_at e quits fails =
+      subst (λ a. ReadFails m (state_in way m input k) (next (tape_in way input) k) a (given_up_offset way input k)
+      (given_up_offset way input k) (known_of c) (known_of new) e)
+      (sym quits)
+      (left_along (pass_trace way m input) way m input k id at unit c new is place named quit_at e fails)
 
 -- a search was ended at the offset of a unit
 pub ended_here :
     (way : Direction) (input : Input) (k at : ℕ) (mid new : CacheView) → given_up_offset way input k ≡ at
     → new ≡ with_store mid (with_searched mid.store (progress_finished mid.store.searched at))
-    → new ≡ with_search_ended way input k mid
-ended_here way input k at mid new place last = last ∙ ap (λ a. ended_in_store a mid) (sym place)
-
--- a start that failed
-pub unstarted :
-    (way : Direction) (m : Machine) (input : Input) (behind_at start_at : ℕ) (old new : CacheView) (e : SearchError)
-    → StartFailsAtInStore m input.anchored (tape_in way input).before behind_at start_at old new e → HasNoStart way m input old new
-unstarted way m input behind_at start_at old new e h = (h.refused.fails, h.refused.barred)
-
--- all units from the first one on, before a place
-pub goes_all :
-    {s : Trace} {way : Direction} {m : Machine} {input : Input} {k : ℕ} {old new : CacheView} → GoesToAlong s way m input 0 k old new
-    → GoesAlong s way m input 0 k old new
-goes_all {s} {way} {m} {input} {k} {old} {new} all =
-    let upto : 0 + all.units ≡ k = all.upto in
-    let same : all.units ≡ k = omega (arith, upto) in
-    subst (λ n. GoesAlong s way m input 0 n old new) same all.goes
+    → known_of new ≡ ended (given_up_offset way input k) (known_of mid)
+ended_here way input k at mid new place last = ap known_of last ∙ ap (λ a. ended a (known_of mid)) (sym place)

@@ -9,7 +9,6 @@ use Rattle.automata_base.specs.Powersets.Powerset.{Powerset}
 use Rattle.automata_base.specs.Retraced.Steps.{start_state_of}
 use Rattle.automata_base.specs.declared.util.search.Anchored.{Anchored}
 use Rattle.automata_base.proofs.Paths.Orders.{none_some}
-use Rattle.automata_config.specs.declared.error.SearchError.{SearchError}
 use Rattle.automata_hybrid.specs.declared.cache.row.Row.{Row}
 use Rattle.automata_hybrid.specs.Cache.Ids.{unknown_id}
 use Rattle.automata_hybrid.specs.Machines.Machine.{Machine}
@@ -22,12 +21,9 @@ use Rattle.automata_hybrid.specs.Private.Cache.Stores.{IsKnownStart, with_start_
 use Rattle.automata_hybrid.specs.Private.Cache.Usage.{cleared}
 use Rattle.automata_hybrid.specs.Private.Cache.Changes.{IsStarted, StartsAdded, StartsKnown}
 use Rattle.automata_hybrid.specs.Private.Cache.Changes.{AddsRow}
-use Rattle.automata_hybrid.specs.Cache.Caches.{CacheView, HoldsRow, IsCacheOf, IsStoreOf, counted, with_store}
-use Rattle.automata_hybrid.specs.Calls.Events.{Event, Start}
-use Rattle.automata_hybrid.specs.Private.Calls.Events.{Does, FindsCached, MakesAnew, MayAsk}
-use Rattle.automata_hybrid.specs.Private.Calls.Steps.{StartFailsAtInStore}
+use Rattle.automata_hybrid.specs.Cache.Caches.{CacheView, HoldsRow, IsCacheOf, counted, with_store}
+use Rattle.automata_hybrid.proofs.Calls.Events.{MakesStart}
 use Rattle.automata_hybrid.specs.Steps.Starts.{IsStartAnswer, MayStart, quit_behind}
-use Rattle.automata_hybrid.specs.Private.Steps.Starts.{IsStartError, IsStartErrorAt}
 use Rattle.automata_hybrid.specs.Steps.Starts.{known_start, start_row}
 use Rattle.automata_hybrid.specs.Private.Steps.Starts.{KnowsStart}
 use Rattle.automata_hybrid.specs.Private.Steps.Starts.{IsStartSlot}
@@ -61,23 +57,7 @@ pub leads_row : (c : CacheView) (id : ℕ) (q : Powerset) → Leads c.store.tabl
 leads_row c id q (inl dies) = inl dies.0
 leads_row c id q (inr names) = inr (inr (q, names))
 
--- what is done may be asked for
-pub does_ask : (m : Machine) (e : Event) (old come new : CacheView) → Does m e old come new → MayAsk m e
-does_ask m e old come new (FindsCached asked after cached still) = asked
-does_ask m e old come new (MakesAnew asked after not made) = asked
-
--- and leaves a cache of the DFA
-pub does_keep : (m : Machine) (e : Event) (old come new : CacheView) → Does m e old come new → IsStoreOf new.store m
-does_keep m e old come new (FindsCached asked after cached still) = after
-does_keep m e old come new (MakesAnew asked after not made) = after
-
--- a start state that is cached changes nothing
-pub known_run :
-    (m : Machine) (mode : Anchored) (behind : Option ℕ) (c : CacheView)
-    → IsStoreOf c.store m → KnowsStart m c.store mode behind → Does m (Start mode behind) c c c
-known_run m mode behind c sound knows = FindsCached knows.0 sound (λ _. knows.1.1) refl
-
--- and is answered as it stands
+-- a start state that is cached is answered as it stands
 pub known_answer :
     (m : Machine) (mode : Anchored) (behind : Option ℕ) (c : CacheView) (slot id : ℕ)
     → IsCacheOf c m → IsStartSlot m mode behind slot → KnowsStart m c.store mode behind
@@ -200,22 +180,14 @@ module _ (m : Machine) (mode : Anchored) (behind : Option ℕ) (old new : CacheV
     cached = λ _. subst (λ s. slice_index new.store.starts s ≡ id) at.at made.written;
   }
 
-  pub computed_run :
-      IsStoreOf new.store m → (KnowsStart m old.store mode behind → ⊥) → length old.store.starts ≡ m.slots
-      → Does m (Start mode behind) old old new
-  computed_run sound unknown slots =
-      MakesAnew at.may sound
-      (λ cached. unknown (at.may, (omega (arith, at.at, at.within, slots), cached within)))
-      (record {
-        id = id;
-        started = subst (λ s. IsStarted old.store s (start_row m mode behind) new.store id) at.at made.done;
-        cached = subst (IsKnownStart new.store) at.at made.found;
-        starts = made.starts;
-        counted = made.counted;
-      })
-    where
-      within : slot_behind m mode behind < m.slots
-      within = omega (arith, at.at, at.within)
+  pub computed_makes : MakesStart m mode behind old new
+  computed_makes = record {
+    id = id;
+    started = subst (λ s. IsStarted old.store s (start_row m mode behind) new.store id) at.at made.done;
+    cached = subst (IsKnownStart new.store) at.at made.found;
+    starts = made.starts;
+    counted = made.counted;
+  }
 
 -- a search may start, or it may not
 pub may_or_not : (m : Machine) (mode : Anchored) (behind : Option ℕ) → MayStart m mode behind ⊎ (MayStart m mode behind → ⊥)
@@ -226,21 +198,3 @@ may_or_not m mode behind = go (quit_behind m behind) refl (supports m mode) refl
   go None e true f = inl (e, f)
   go None e false f = inr (λ may. false_true (sym f ∙ may.1))
   go (Some byte) e b f = inr (λ may. none_some (sym may.0 ∙ e))
-
--- why a search has no start state, of the states as they are after the refusal
-pub refusal_at :
-    (m : Machine) (mode : Anchored) (behind : Option ℕ) (behind_at start_at : ℕ) (old new : CacheView) (e : SearchError)
-    → StartFailsAtInStore m mode behind behind_at start_at old new e
-    → IsStartErrorAt m new.store mode behind behind_at start_at e
-refusal_at m mode behind behind_at start_at old new e h = (
-  h.error,
-  subst (λ (c : Stored). IsStartError m c mode behind h.error) (sym same) h.refused.why,
-  h.reported,
-  λ knows. (h.refused.fails knows.0).unknown (λ _. (subst (λ (c : Stored). KnowsStart m c mode behind) same knows).1.1),
-) where
-  go : MayStart m mode behind ⊎ (MayStart m mode behind → ⊥) → new.store ≡ old.store
-  go (inl may) = ap (λ (v : CacheView). v.store) (h.refused.fails may).unchanged
-  go (inr barred) = ap (λ (v : CacheView). v.store) (h.refused.barred barred)
-
-  same : new.store ≡ old.store
-  same = go (may_or_not m mode behind)

@@ -7,18 +7,17 @@ use Rattle.automata_base.specs.Powersets.Powerset.{Powerset}
 use Rattle.automata_base.specs.Retraced.Steps.{successor}
 use Rattle.automata_base.proofs.Paths.Orders.{none_some, some_inj}
 use Rattle.automata_base.specs.Powersets.Passes.{IsUnit}
-use Rattle.automata_hybrid.specs.Cache.Stores.{Stored, cell_of}
+use Rattle.automata_hybrid.specs.Cache.Stores.{Stored, cell_of, with_searched}
+use Rattle.automata_hybrid.specs.declared.cache.progress.Searched.{Searched}
 use Rattle.automata_hybrid.specs.Private.Cache.Stores.{KeepsStarts}
 use Rattle.automata_hybrid.specs.Private.Cache.Stores.{IsKnownTransition, with_next}
 use Rattle.automata_hybrid.specs.Private.Cache.Changes.{IsComputed, IsStateAdded, WritesAdded, WritesKnown, cleared_saving_in_store}
 use Rattle.automata_hybrid.specs.Private.Cache.Changes.{AddsNext}
-use Rattle.automata_hybrid.specs.Cache.Caches.{CacheView, HoldsRow, IsCacheOf, IsStoreOf, counted, with_store}
+use Rattle.automata_hybrid.specs.Cache.Caches.{CacheView, HoldsRow, IsCacheOf, counted, with_store}
 use Rattle.automata_hybrid.specs.Cache.Ids.{fixed_from, quit_id, unknown_id}
 use Rattle.automata_hybrid.specs.Machines.Machine.{Machine}
 use Rattle.automata_hybrid.specs.Calls.Events.{Step}
-use Rattle.automata_hybrid.specs.Private.Calls.Events.{Does, FindsCached, IsCached, MakesAnew, moved_in_store}
-use Rattle.automata_hybrid.specs.Private.Calls.Steps.{IsStepRunInStore}
-use Rattle.automata_hybrid.specs.Private.Searches.Units.{IsStepTaken}
+use Rattle.automata_hybrid.proofs.Calls.Events.{IsCached, MakesStep}
 use Rattle.automata_hybrid.specs.Steps.Steps.{IsStepAnswer, known_step}
 use Rattle.automata_hybrid.specs.Private.Steps.Steps.{KnowsStep}
 use Rattle.automata_hybrid.specs.Private.Steps.Steps.{IsCellRead}
@@ -32,17 +31,6 @@ use Rattle.automata_hybrid.proofs.Searches.PassState.{false_true}
 use Rattle.automata_hybrid.proofs.Steps.Starts.{leads_row}
 use Rattle.automata_config.specs.Options.{match_kind_of}
 
--- a step that takes no memory changes nothing: from a state, its transition is cached
-pub same_run :
-    (m : Machine) (id : ℕ) (unit : Option ℕ) (c : CacheView)
-    → ((q : Powerset) → Names c.store.table id q → (unit_class m unit < m.stride) × IsStoreOf c.store m × KnowsStep m c.store id unit)
-    → IsStepRunInStore m id unit c c
-same_run m id unit c known = record {
-  fixed = λ h. refl;
-  quit = λ h. refl;
-  does = λ clean q n. (let k = known q n in FindsCached (clean, k.0) k.1 (id, n, k.2) refl);
-}
-
 -- a step that is not cached from an ID is not cached from its state
 pub step_unknown :
     (m : Machine) (id : ℕ) (unit : Option ℕ) (c : CacheView) → (KnowsStep m c.store id unit → ⊥)
@@ -51,8 +39,8 @@ step_unknown m id unit c unknown q named (other, names, known) =
     let one : other ≡ id = one_id c.store.table other id q names named in unknown (subst (λ k. KnowsStep m c.store k unit) one known)
 
 -- of a search that moved before it made a step
-module _ (m : Machine) (id : ℕ) (unit : Option ℕ) (at : ℕ) (old new : CacheView) where
-  pub moved_answer : (next : ℕ) → IsStepAnswer m id unit (moved_in_store at old) new next → IsStepAnswer m id unit old new next
+module _ (m : Machine) (id : ℕ) (unit : Option ℕ) (s : Searched) (old new : CacheView) where
+  pub moved_answer : (next : ℕ) → IsStepAnswer m id unit (with_store old (with_searched old.store s)) new next → IsStepAnswer m id unit old new next
   moved_answer next a = record {
     row = a.row;
     tag = a.tag;
@@ -61,19 +49,6 @@ module _ (m : Machine) (id : ℕ) (unit : Option ℕ) (at : ℕ) (old new : Cach
     named = a.named;
     cached = a.cached;
   }
-
-  pub moved_run :
-      (KnowsStep m old.store id unit → ⊥) → quits_on m unit ≡ false → IsStepRunInStore m id unit (moved_in_store at old) new
-      → IsStepTaken m id unit at old new
-  moved_run unknown clean run = record {
-    quit = λ on. absurd (false_true (sym clean ∙ on));
-    taken = λ free q named. go q named (run.does free q named);
-  } where
-    go :
-        (q : Powerset) → Names old.store.table id q → Does m (Step q unit) (moved_in_store at old) (moved_in_store at old) new
-        → Does m (Step q unit) old (moved_in_store at old) new
-    go q named (FindsCached asked after cached same) = absurd (step_unknown m id unit old unknown q named cached)
-    go q named (MakesAnew asked after not made) = MakesAnew asked after not made
 
 -- what stands in a cell was read there
 pub cell_read :
@@ -267,21 +242,17 @@ module _ (m : Machine) (id : ℕ) (unit : Option ℕ) (old new : CacheView) (cla
         (cached-computed old.store new.store id class next q _ n (step.done q n) cells (subst (λ (d : Machine). class < d.stride) (sym of) below));
   }
 
-  pub computed_run : IsStoreOf new.store m → IsStepRunInStore m id unit old new
-  computed_run sound = record {
-    fixed = λ high. absurd (omega (arith, low, high));
-    quit = λ q. absurd (false_true (sym clean ∙ q));
-    does = λ _ q n.
-        MakesAnew (clean, subst (λ k. k < m.stride) at below) sound (step_unknown m id unit old unknown q n)
-        (record {
-          id = id;
-          named = n;
-          next = next;
-          computed = subst (λ k. IsComputed old.store id k q (successor m.nfa (match_kind_of m.config) q unit) new.store next) at (step.done q n);
-          leads = step.leads q n;
-          starts = step.starts;
-          counted = step.counted;
-        });
+  pub computed_makes : (q : Powerset) → Names old.store.table id q → MakesStep m q unit old new
+  computed_makes q n = record {
+    id = id;
+    named = n;
+    next = next;
+    computed =
+        subst (λ k. IsComputed old.store id k q (successor m.nfa (match_kind_of m.config) q unit) new.store next) at
+        (step.done q n);
+    leads = step.leads q n;
+    starts = step.starts;
+    counted = step.counted;
   }
 
 -- a unit that is not a quit byte, either way it is said

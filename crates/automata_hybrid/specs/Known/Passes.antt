@@ -4,18 +4,19 @@ use Rattle.std.specs.Prelude.{Option, None, Some, MatchOption, option_map, optio
 use Rattle.automata_base.specs.Answers.Answers.{later, offset_in}
 use Rattle.automata_base.specs.Haystacks.Input.{Input}
 use Rattle.automata_base.specs.Paths.Paths.{next}
+use Rattle.automata_base.specs.Powersets.Powerset.{Powerset}
 use Rattle.automata_base.specs.declared.util.search.Direction.{Direction}
 use Rattle.automata_base.specs.declared.util.search.MatchErrorKind.TheVariants.{Quit as QuitAt, GaveUp}
 use Rattle.automata_base.specs.declared.util.search.MatchErrorKind.TheVariants.{UnsupportedAnchored as UnsupportedMode}
 use Rattle.automata_config.specs.declared.error.SearchError.{SearchError}
 use Rattle.automata_config.specs.declared.error.SearchError.TheVariants as search
-use Rattle.automata_hybrid.specs.Calls.Events.{Event}
+use Rattle.automata_hybrid.specs.Calls.Events.{Event, Step}
 use Rattle.automata_hybrid.specs.Known.Events.{after_event, is_cached, made}
 use Rattle.automata_hybrid.specs.Known.Known.{Known, begun, counted, ended, moved}
 use Rattle.automata_hybrid.specs.Machines.Machine.{Machine, quits_on}
 use Rattle.automata_hybrid.specs.Machines.StartSlots.{supports}
 use Rattle.automata_hybrid.specs.Searches.Passes.{HasReadNoQuit, Reads, behind_offset, given_up_offset, tape_in}
-use Rattle.automata_hybrid.specs.Searches.Passes.{unit_offset}
+use Rattle.automata_hybrid.specs.Searches.Passes.{state_in, unit_offset}
 use Rattle.automata_hybrid.specs.Searches.Progress.{ReadsUnits, TriesSpan, TriesSpans, start_event, unit_event}
 use Rattle.automata_hybrid.specs.Searches.Traces.{Trace, pass_trace}
 use Rattle.automata_hybrid.specs.Steps.Starts.{MayStart, quit_behind}
@@ -36,15 +37,8 @@ abbrev pub after_start : Direction → Machine → Input → Known → Option Kn
 after_start way m input c =
     option_map (begun (given_up_offset way input 0)) (after_event m (start_event way input) c c)
 
--- and by its first so many units
-abbrev pub after_first : Direction → Machine → Input → (units : ℕ) → Known → Option Known
-after_first way m input units c =
-    option_and_then (after_many (pass_trace way m input) way m input 0 units) (after_start way m input c)
-
--- a pass has ended, at the last of the units that it reads
-pub record PassEnds (way : Direction) (m : Machine) (input : Input) (old new : Known) : Type 0 where
-  -- it may start
-  pub may : MayStart m input.anchored (tape_in way input).before
+-- a pass that has begun ends, at the last of the units that it reads
+pub record UnitsEnd (way : Direction) (m : Machine) (input : Input) (begun new : Known) : Type 0 where
   -- how many units it reads
   pub units : ℕ
   -- it reads these, and no more
@@ -52,7 +46,21 @@ pub record PassEnds (way : Direction) (m : Machine) (input : Input) (old new : K
   -- none of them is a quit byte
   pub clean : HasReadNoQuit way m input units
   -- what they make of the cache
-  pub run : option_map (ended (given_up_offset way input (units - 1))) (after_first way m input units old) ≡ Some new
+  pub run :
+      option_map (ended (given_up_offset way input (units - 1)))
+      (after_many (pass_trace way m input) way m input 0 units begun)
+      ≡ Some new
+
+-- a pass has ended
+pub record PassEnds (way : Direction) (m : Machine) (input : Input) (old new : Known) : Type 0 where
+  -- it may start
+  pub may : MayStart m input.anchored (tape_in way input).before
+  -- what the cache knows once it has begun
+  pub begun : Known
+  -- its start state made this of it
+  pub starts : after_start way m input old ≡ Some begun
+  -- it has ended
+  pub ends : UnitsEnd way m input begun new
 
 -- why an event fails at an offset
 pub data FailsFor (m : Machine) (e : Event) (at : ℕ) (c : Known) (error : SearchError) : Type 0 where
@@ -70,23 +78,27 @@ pub record EventFails (m : Machine) (e : Event) (at : ℕ) (old new : Known) (er
   -- it gives up, or memory runs out
   pub why : FailsFor m e at old error
 
--- how a pass fails at the unit at place `k`, to which it has come
-pub data UnitFails (way : Direction) (m : Machine) (input : Input) (k : ℕ) (old new : Known) (error : SearchError) :
-    Type 0 where
+-- how reading a unit from a state fails, where the search has come to an offset: a quit byte is reported at an offset,
+-- and the "gave up" error at another
+pub data ReadFails (m : Machine) (q : Powerset) (unit : Option ℕ) (quit_at given_up_at come : ℕ) (old new : Known)
+    (error : SearchError) : Type 0 where
   -- it is a quit byte, and the search has ended there
   MeetsQuit :
-      (byte : ℕ) → next (tape_in way input) k ≡ Some byte → quits_on m (Some byte) ≡ true
-      → error ≡ search.Match (QuitAt byte (unit_offset way input k)) → new ≡ ended (given_up_offset way input k) old
-      → UnitFails way m input k old new error
+      (byte : ℕ) → unit ≡ Some byte → quits_on m (Some byte) ≡ true → error ≡ search.Match (QuitAt byte quit_at)
+      → new ≡ ended come old → ReadFails m q unit quit_at given_up_at come old new error
   -- the step over it fails
   CannotStep :
-      quits_on m (next (tape_in way input) k) ≡ false
-      → EventFails m (unit_event (pass_trace way m input) way input k) (given_up_offset way input k)
-      (moved (given_up_offset way input k) old) new error
-      → UnitFails way m input k old new error
+      quits_on m unit ≡ false → EventFails m (Step q unit) given_up_at (moved come old) new error
+      → ReadFails m q unit quit_at given_up_at come old new error
 
--- a pass has failed at a unit
-pub record FailsAtUnit (way : Direction) (m : Machine) (input : Input) (old new : Known) (error : SearchError) :
+-- how a pass fails at the unit at place `k`, to which it has come
+abbrev pub UnitFails : Direction → Machine → Input → (k : ℕ) → (old new : Known) → SearchError → Type 0
+UnitFails way m input k old new error =
+    ReadFails m (state_in way m input k) (next (tape_in way input) k) (unit_offset way input k)
+    (given_up_offset way input k) (given_up_offset way input k) old new error
+
+-- a pass that has begun fails at a unit
+pub record FailsAtUnit (way : Direction) (m : Machine) (input : Input) (begun new : Known) (error : SearchError) :
     Type 0 where
   -- the place of the unit
   pub place : ℕ
@@ -97,7 +109,7 @@ pub record FailsAtUnit (way : Direction) (m : Machine) (input : Input) (old new 
   -- what the cache knows once it has come to it
   pub mid : Known
   -- the units before it made this of it
-  pub run : after_first way m input place old ≡ Some mid
+  pub run : after_many (pass_trace way m input) way m input 0 place begun ≡ Some mid
   -- it fails there
   pub fails : UnitFails way m input place mid new error
 
@@ -118,7 +130,8 @@ pub data PassFails (way : Direction) (m : Machine) (input : Input) (old new : Kn
       → EventFails m (start_event way input) (offset_in way input 0) old new error → PassFails way m input old new error
   -- it has its start state, and fails at a unit
   FailsLater :
-      MayStart m input.anchored (tape_in way input).before → FailsAtUnit way m input old new error
+      MayStart m input.anchored (tape_in way input).before → (begun : Known)
+      → after_start way m input old ≡ Some begun → FailsAtUnit way m input begun new error
       → PassFails way m input old new error
 
 -- so many passes have ended, one after another, each over the next span

@@ -5,7 +5,7 @@ use Rattle.automata_base.specs.Paths.Paths.{next as unit_at}
 use Rattle.automata_base.specs.Powersets.Powerset.{Powerset, dead}
 use Rattle.automata_base.specs.declared.util.search.Anchored.{Anchored}
 use Rattle.automata_base.specs.declared.util.search.Direction.TheVariants.{Forward}
-use Rattle.automata_base.specs.declared.util.search.MatchErrorKind.TheVariants.{Quit as QuitAt, GaveUp}
+use Rattle.automata_base.specs.declared.util.search.MatchErrorKind.TheVariants.{GaveUp}
 use Rattle.automata_config.specs.declared.error.SearchError.{SearchError}
 use Rattle.automata_config.specs.declared.error.SearchError.TheVariants as search
 use Rattle.automata_config.specs.declared.error.StartError.{StartError}
@@ -13,14 +13,13 @@ use Rattle.automata_config.specs.declared.error.StartError.TheVariants as start
 use Rattle.automata_hybrid.specs.Calls.Events.{Step}
 use Rattle.automata_hybrid.specs.Known.Events.{after_event}
 use Rattle.automata_hybrid.specs.Known.Known.{Known, begun, ended, moved}
-use Rattle.automata_hybrid.specs.Known.Passes.{EventFails, after_many}
+use Rattle.automata_hybrid.specs.Known.Passes.{ReadFails, after_many}
 use Rattle.automata_hybrid.specs.Known.Steps.{IsStartRun, StartFails}
 use Rattle.automata_hybrid.specs.Known.Walks.{IsNotBack, with_row_back}
 use Rattle.automata_hybrid.specs.Machines.Machine.{Machine, quits_on}
 use Rattle.automata_hybrid.specs.Pieces.State.{PiecesView}
 use Rattle.automata_hybrid.specs.Searches.Passes.{HasReadNoQuit, Skips, given_up_offset, tape_in}
 use Rattle.automata_hybrid.specs.Searches.PieceRuns.{ReadsAlong, piece_input, piece_trace}
-use Rattle.automata_hybrid.specs.Searches.Progress.{unit_event}
 use Rattle.automata_hybrid.specs.declared.search.pieces.BeginError.{BeginError}
 use Rattle.automata_hybrid.specs.declared.search.pieces.BeginError.TheVariants as begin
 
@@ -104,20 +103,11 @@ pub data EndsPiece (m : Machine) (piece : List ℕ) (p next : PiecesView) (old n
       → next.read ≡ p.read + suc k → EndsPiece m piece p next old new
 
 -- how a search fails at the byte at place `k` of a piece, to which it has come
-pub data ByteFails (m : Machine) (piece : List ℕ) (p : PiecesView) (q : Powerset) (k : ℕ) (old new : Known)
-    (e : SearchError) : Type 0 where
-  -- it is a quit byte, and the search has ended there
-  AtQuitByte :
-      (byte : ℕ) → unit_at (tape_in Forward (piece_input piece p.earliest)) k ≡ Some byte
-      → quits_on m (Some byte) ≡ true → e ≡ search.Match (QuitAt byte (p.read + k))
-      → new ≡ ended (given_up_offset Forward (piece_input piece p.earliest) k) old
-      → ByteFails m piece p q k old new e
-  -- the step over it fails
-  AtStep :
-      quits_on m (unit_at (tape_in Forward (piece_input piece p.earliest)) k) ≡ false
-      → EventFails m (unit_event (piece_trace m piece p.earliest q) Forward (piece_input piece p.earliest) k)
-      (p.read + k) (moved (given_up_offset Forward (piece_input piece p.earliest) k) old) new e
-      → ByteFails m piece p q k old new e
+abbrev pub ByteFails :
+    Machine → (piece : List ℕ) → PiecesView → Powerset → (k : ℕ) → (old new : Known) → SearchError → Type 0
+ByteFails m piece p q k old new e =
+    ReadFails m ((piece_trace m piece p.earliest q).state k) (unit_at (tape_in Forward (piece_input piece p.earliest)) k)
+    (p.read + k) (p.read + k) (given_up_offset Forward (piece_input piece p.earliest) k) old new e
 
 -- a search has failed at a byte of a piece
 pub record FailsAtByte (m : Machine) (piece : List ℕ) (p : PiecesView) (q : Powerset) (old new : Known)
@@ -177,17 +167,10 @@ pub data EndsAnswer (m : Machine) (ahead : Option ℕ) (p : PiecesView) (old new
       (q : Powerset) → p.state ≡ Some q → quits_on m ahead ≡ false → after_end m ahead p q old ≡ Some new
       → EndsAnswer m ahead p old new
 
--- how the step on the unit that follows fails
-pub data EndFails (m : Machine) (ahead : Option ℕ) (p : PiecesView) (q : Powerset) (old new : Known)
-    (e : SearchError) : Type 0 where
-  -- it is a quit byte, and the search has ended there
-  EndIsQuit :
-      (byte : ℕ) → ahead ≡ Some byte → quits_on m (Some byte) ≡ true → e ≡ search.Match (QuitAt byte p.read)
-      → new ≡ ended p.read old → EndFails m ahead p q old new e
-  -- the step over it fails
-  EndStepFails :
-      quits_on m ahead ≡ false → EventFails m (Step q ahead) p.read (moved p.read old) new e
-      → EndFails m ahead p q old new e
+-- how reading the unit that follows fails
+abbrev pub EndFails :
+    Machine → (ahead : Option ℕ) → PiecesView → Powerset → (old new : Known) → SearchError → Type 0
+EndFails m ahead p q old new e = ReadFails m q ahead p.read p.read p.read old new e
 
 -- why there is no answer, and what that makes of the cache
 pub data LeavesAnswer (m : Machine) (ahead : Option ℕ) (p : PiecesView) (old new : Known) (e : SearchError) :

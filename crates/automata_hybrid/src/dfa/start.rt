@@ -13,9 +13,6 @@ ghost use Rattle.automata_hybrid.specs.Private.Steps.Starts.{KnowsStart};
 ghost use Rattle.automata_hybrid.specs.Private.Steps.Starts.{start_error};
 ghost use Rattle.automata_hybrid.specs.Private.Steps.Starts.{IsStartSlot};
 ghost use Rattle.automata_hybrid.specs.Steps.Starts.{IsStartAnswer};
-ghost use Rattle.automata_hybrid.specs.Private.Calls.Steps.{IsStartRunInStore};
-ghost use Rattle.automata_hybrid.specs.Private.Calls.Steps.{StartFailsInStore};
-ghost use Rattle.automata_hybrid.specs.Private.Calls.Steps.{StartFailsAtInStore};
 ghost use Rattle.automata_hybrid.specs.Known.Steps.{IsStartRun, StartFails};
 ghost use Rattle.automata_hybrid.specs.Known.Steps.{StartFailsAt};
 ghost use Rattle.automata_hybrid.specs.Known.Stores.{known_of};
@@ -45,9 +42,10 @@ impl Cache {
         requires slot { IsStartSlot dfa.now mode prev slot }
         ensures of { IsCacheOf self.new dfa.now }
         ensures answer { IfOk result (IsStartAnswer dfa.now mode prev self.old self.new) }
-        ensures refusal { IfErr result (StartFailsInStore dfa.now mode prev self.old self.new) }
-        ensures run { OnOk result (IsStartRunInStore dfa.now mode prev self.old self.new) }
+        ensures refusal { IfErr result (StartFails dfa.now mode prev (known_of self.old) (known_of self.new)) }
+        ensures run { OnOk result (IsStartRun dfa.now mode prev (known_of self.old) (known_of self.new)) }
     {
+        dfa.see_machine();
         self.see_bounds();
         let found = self.start_slot(slot);
         if !found.is_unknown() {
@@ -73,9 +71,11 @@ impl Cache {
         requires unknown { KnowsStart dfa.now self.old.store mode prev → ⊥ }
         ensures of { IsCacheOf self.new dfa.now }
         ensures answer { IfOk result (IsStartAnswer dfa.now mode prev self.old self.new) }
-        ensures refusal { IfErr result (λ e. StartFailsInStore dfa.now mode prev self.old self.new (start_error e)) }
-        ensures run { OnOk result (IsStartRunInStore dfa.now mode prev self.old self.new) }
+        ensures refusal { IfErr result
+            (λ e. StartFails dfa.now mode prev (known_of self.old) (known_of self.new) (start_error e)) }
+        ensures run { OnOk result (IsStartRun dfa.now mode prev (known_of self.old) (known_of self.new)) }
     {
+        dfa.see_machine();
         self.see_bounds();
         let key = self.determinize_start(dfa, mode, prev)?;
         match self.resolve(dfa, key)? {
@@ -257,26 +257,6 @@ impl DFA {
             (IsStartRun self.now config.now.anchored config.now.look_behind (known_of cache.old) (known_of cache.new)) }
     {
         self.see_machine();
-        cache.see_bounds();
-        self.find_start(cache, config)
-    }
-
-    /// The start state of an anchored mode after a look-behind byte, as `start_state` returns it.
-    #[inline(always)]
-    pub(crate) fn find_start(
-        &self,
-        cache: &mut Cache,
-        config: &start::Config,
-    ) -> Result<LazyStateID, StartError>
-        requires { IsCacheOf cache.old self.now }
-        ensures of { IsCacheOf cache.new self.now }
-        ensures answer { IfOk result
-            (IsStartAnswer self.now config.now.anchored config.now.look_behind cache.old cache.new) }
-        ensures refusal { IfErr result
-            (StartFailsInStore self.now config.now.anchored config.now.look_behind cache.old cache.new) }
-        ensures run { OnOk result
-            (IsStartRunInStore self.now config.now.anchored config.now.look_behind cache.old cache.new) }
-    {
         if let Some(byte) = self.quits_behind(config.get_look_behind()) {
             return Err(StartError::Quit { byte });
         }
@@ -298,8 +278,10 @@ impl DFA {
     ) -> LazyStateID
         requires { IsCacheOf cache.now self.now }
         ensures answer { result < unknown_id → IsStartAnswer self.now mode prev cache.now cache.now result }
-        ensures run { result < unknown_id → IsStartRunInStore self.now mode prev cache.now cache.now }
+        ensures run { result < unknown_id
+            → IsStartRun self.now mode prev (known_of cache.now) (known_of cache.now) }
     {
+        self.see_machine();
         cache.see_bounds();
         if self.quits_behind(prev).is_some() {
             return LazyStateID::UNKNOWN;
@@ -339,33 +321,9 @@ impl DFA {
             (byte_before input.now.haystack input.now.start) (known_of cache.old) (known_of cache.new)) }
         ensures stands { IfOk result (StartsAt self.now cache.new input.now) }
     {
-        self.see_machine();
-        cache.see_bounds();
-        self.find_start_forward(cache, input)
-    }
-
-    /// The start state of a forward search, as `start_state_forward` returns it.
-    #[inline(always)]
-    pub(crate) fn find_start_forward(
-        &self,
-        cache: &mut Cache,
-        input: &Input<'_>,
-    ) -> Result<LazyStateID, SearchError>
-        requires { IsCacheOf cache.old self.now }
-        ensures of { IsCacheOf cache.new self.now }
-        ensures answer { IfOk result
-            (IsStartAnswer self.now input.now.anchored (byte_before input.now.haystack input.now.start)
-            cache.old cache.new) }
-        ensures refusal { IfErr result
-            (StartFailsAtInStore self.now input.now.anchored (byte_before input.now.haystack input.now.start)
-            (input.now.start - 1) input.now.start cache.old cache.new) }
-        ensures run { OnOk result (IsStartRunInStore self.now input.now.anchored
-            (byte_before input.now.haystack input.now.start) cache.old cache.new) }
-        ensures stands { IfOk result (StartsAt self.now cache.new input.now) }
-    {
         let _haystack = input.haystack();
         let config = start::Config::from_input_forward(input);
-        match self.find_start(cache, &config) {
+        match self.start_state(cache, &config) {
             Ok(id) => {
                 cache.see_bounds();
                 Ok(id)
@@ -400,31 +358,8 @@ impl DFA {
         ensures run { OnOk result (IsStartRun self.now input.now.anchored
             (slice_get input.now.haystack input.now.end) (known_of cache.old) (known_of cache.new)) }
     {
-        self.see_machine();
-        cache.see_bounds();
-        self.find_start_reverse(cache, input)
-    }
-
-    /// The start state of a reverse search, as `start_state_reverse` returns it.
-    #[inline(always)]
-    pub(crate) fn find_start_reverse(
-        &self,
-        cache: &mut Cache,
-        input: &Input<'_>,
-    ) -> Result<LazyStateID, SearchError>
-        requires { IsCacheOf cache.old self.now }
-        ensures of { IsCacheOf cache.new self.now }
-        ensures answer { IfOk result
-            (IsStartAnswer self.now input.now.anchored (slice_get input.now.haystack input.now.end)
-            cache.old cache.new) }
-        ensures refusal { IfErr result
-            (StartFailsAtInStore self.now input.now.anchored (slice_get input.now.haystack input.now.end)
-            input.now.end input.now.end cache.old cache.new) }
-        ensures run { OnOk result (IsStartRunInStore self.now input.now.anchored
-            (slice_get input.now.haystack input.now.end) cache.old cache.new) }
-    {
         let config = start::Config::from_input_reverse(input);
-        match self.find_start(cache, &config) {
+        match self.start_state(cache, &config) {
             Ok(id) => Ok(id),
             Err(error) => Err(start_search_error(error, input.end(), input.end())),
         }

@@ -10,7 +10,6 @@ ghost use Rattle.automata_hybrid.specs.Cache.Caches.{HoldsRow, IsCacheOf};
 ghost use Rattle.automata_hybrid.specs.Cache.Ids.{quit_id, unknown_id, offset_limit, HasMatchTag};
 ghost use Rattle.automata_base.specs.ByteClasses.Classes.{class_in, is_quit};
 ghost use Rattle.automata_hybrid.specs.Steps.BySteps.{StepsOn};
-ghost use Rattle.automata_hybrid.specs.Private.Calls.Steps.{IsStepRunInStore, StepFailsInStore};
 ghost use Rattle.automata_hybrid.specs.Known.Steps.{IsStepRun, StepFails};
 ghost use Rattle.automata_hybrid.specs.Known.Stores.{known_of};
 ghost use Rattle.automata_hybrid.specs.Steps.Steps.{IsStepAnswer};
@@ -38,10 +37,11 @@ impl Cache {
         requires row { HoldsRow self.old id }
         ensures of { IsCacheOf self.new dfa.now }
         ensures answer { IfOk result (IsStepAnswer dfa.now id unit self.old self.new) }
-        ensures refusal { IfErr result (StepFailsInStore dfa.now id unit self.old self.new) }
-        ensures run { OnOk result (IsStepRunInStore dfa.now id unit self.old self.new) }
+        ensures refusal { IfErr result (StepFails dfa.now id unit (known_of self.old) (known_of self.new)) }
+        ensures run { OnOk result (IsStepRun dfa.now id unit (known_of self.old) (known_of self.new)) }
         ensures stands { IfOk result (StepsOn dfa.now self.old self.new id unit) }
     {
+        dfa.see_machine();
         self.see_bounds();
         if id.is_fixed() {
             return Ok(id);
@@ -70,9 +70,10 @@ impl Cache {
         requires unknown { KnowsStep dfa.now self.old.store id unit → ⊥ }
         ensures of { IsCacheOf self.new dfa.now }
         ensures answer { IfOk result (IsStepAnswer dfa.now id unit self.old self.new) }
-        ensures refusal { IfErr result (StepFailsInStore dfa.now id unit self.old self.new) }
-        ensures run { OnOk result (IsStepRunInStore dfa.now id unit self.old self.new) }
+        ensures refusal { IfErr result (StepFails dfa.now id unit (known_of self.old) (known_of self.new)) }
+        ensures run { OnOk result (IsStepRun dfa.now id unit (known_of self.old) (known_of self.new)) }
     {
+        dfa.see_machine();
         self.see_bounds();
         let class = dfa.unit_class(unit);
         let key = self.determinize(dfa, id, unit)?;
@@ -118,8 +119,6 @@ impl DFA {
         ensures run { OnOk result (IsStepRun self.now id (Some byte) (known_of cache.old) (known_of cache.new)) }
         ensures stands { IfOk result (StepsOn self.now cache.old cache.new id (Some byte)) }
     {
-        self.see_machine();
-        cache.see_bounds();
         cache.next(self, id, Some(byte))
     }
 
@@ -140,8 +139,6 @@ impl DFA {
         ensures run { OnOk result (IsStepRun self.now id None (known_of cache.old) (known_of cache.new)) }
         ensures stands { IfOk result (StepsOn self.now cache.old cache.new id None) }
     {
-        self.see_machine();
-        cache.see_bounds();
         cache.next(self, id, None)
     }
 

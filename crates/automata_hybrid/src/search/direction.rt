@@ -3,11 +3,12 @@
 ghost use Rattle.std.specs.Prelude.{ℕ, ◌≡◌, ◌+◌, ◌-◌, ◌^◌, ◌<◌, ◌≤◌, IfErr, IfOk, OnOk, Some, true, false, length};
 ghost use Rattle.automata_base.specs.Answers.Answers.{later, offset_in};
 ghost use Rattle.automata_base.specs.Paths.Paths.{next};
+ghost use Rattle.automata_hybrid.specs.Known.Stores.{known_of};
+ghost use Rattle.automata_hybrid.specs.Known.Steps.{IsStartRun};
+ghost use Rattle.automata_hybrid.specs.Known.Steps.{StartFailsAt};
 ghost use Rattle.automata_hybrid.specs.Cache.Caches.{IsCacheOf};
 ghost use Rattle.automata_hybrid.specs.Cache.Progress.{distance};
-ghost use Rattle.automata_hybrid.specs.Private.Searches.Progress.{HasItsStart};
 ghost use Rattle.automata_hybrid.specs.Searches.Passes.{behind_offset, given_up_offset, tape_in, unit_offset};
-ghost use Rattle.automata_hybrid.specs.Private.Calls.Steps.{StartFailsAtInStore};
 ghost use Rattle.automata_hybrid.specs.Steps.Starts.{IsStartAnswer};
 ghost use Rattle.automata_hybrid.specs.Private.Searches.SelfLoops.{byte_in};
 
@@ -199,13 +200,14 @@ impl DFA {
         ensures answer { IfOk result (IsStartAnswer self.now input.now.anchored (tape_in way input.now).before
             cache.old cache.new) }
         ensures refusal { IfErr result
-            (StartFailsAtInStore self.now input.now.anchored (tape_in way input.now).before
-            (behind_offset way input.now) (offset_in way input.now 0) cache.old cache.new) }
-        ensures run { OnOk result (HasItsStart way self.now input.now cache.old cache.new) }
+            (StartFailsAt self.now input.now.anchored (tape_in way input.now).before (behind_offset way input.now)
+            (offset_in way input.now 0) (known_of cache.old) (known_of cache.new)) }
+        ensures run { OnOk result (IsStartRun self.now input.now.anchored (tape_in way input.now).before
+            (known_of cache.old) (known_of cache.new)) }
     {
         match way {
-            Direction::Forward => self.find_start_forward(cache, input),
-            Direction::Backward => self.find_start_reverse(cache, input),
+            Direction::Forward => self.start_state_forward(cache, input),
+            Direction::Backward => self.start_state_reverse(cache, input),
         }
     }
 }

@@ -78,7 +78,7 @@ pass_free m input old new byte at ahead few clean (known.QuitsBehind b quits is 
     false_true (sym (clean b (ReadsByteBefore (sym q.0))) ∙ q.1)
 pass_free m input old new byte at ahead few clean (known.LacksMode behind lacks is same) = absurd (cc)
 pass_free m input old new byte at ahead few clean (known.CannotStart may f) = event_clean m _ _ old new byte at f
-pass_free m input old new byte at ahead few clean (known.FailsLater may f) = unit f.fails where
+pass_free m input old new byte at ahead few clean (known.FailsLater may begun starts f) = unit f.fails where
   unit : known.UnitFails Backward m input f.place f.mid new (search.Match (QuitAt byte at)) → ⊥
   unit (known.MeetsQuit b read quits is same) =
       let n = units_in Backward input ahead few in
@@ -117,7 +117,7 @@ never_pair way m input old new f = pass f.fails where
   pass (known.QuitsBehind byte quits is same) = absurd (cc)
   pass (known.LacksMode behind lacks is same) = absurd (cc)
   pass (known.CannotStart may e) = event_pair m _ _ _ new e
-  pass (known.FailsLater may u) = unit u.fails where
+  pass (known.FailsLater may begun starts u) = unit u.fails where
     unit : known.UnitFails way m (later way f.passes input) u.place u.mid new search.NotAPair → ⊥
     unit (known.MeetsQuit byte read quits is same) = absurd (cc)
     unit (known.CannotStep other step) = event_pair m _ _ _ new step

@@ -5,30 +5,29 @@ use Rattle.automata_base.specs.Haystacks.Matches.{HalfMatch}
 use Rattle.automata_base.specs.declared.util.search.Direction.{Direction}
 use Rattle.automata_base.specs.declared.util.search.Direction.TheVariants.{Forward}
 use Rattle.automata_config.specs.declared.error.SearchError.{SearchError}
-use Rattle.automata_hybrid.specs.Cache.Caches.{CacheView}
 use Rattle.automata_hybrid.specs.Machines.Machine.{Machine}
 use Rattle.automata_hybrid.specs.Searches.Contracts.{based_half}
 use Rattle.automata_hybrid.specs.Searches.Passes.{IsFound}
-use Rattle.automata_hybrid.specs.Private.Searches.Progress.{HaveTriedInStore, IsSearchRunInStore}
+use Rattle.automata_hybrid.specs.Known.Known.{Known}
+use Rattle.automata_hybrid.specs.Known.Passes.{HaveTried, IsSearchRun}
 
 -- answers without it
 abbrev pub halves : Result (Option (HalfMatch × ℕ)) SearchError → Result (Option HalfMatch) SearchError
 halves (Ok found) = Ok (option_map (λ p. p.0) found)
 halves (Err e) = Err e
 
--- what a search that answers has found, and what it has made of its cache
-pub record HasSearched (way : Direction) (m : Machine) (input : Input) (old new : CacheView)
+-- what a search that answers has found, and what it has made of what its cache knows
+pub record HasSearched (way : Direction) (m : Machine) (input : Input) (old new : Known)
     (half : Option (HalfMatch × ℕ)) : Type 0 where
   -- It is what the search finds.
   pub found : IsFound way m input (based_half half)
   -- The passes over the spans that it tries have ended.
-  pub effect : IsSearchRunInStore way m input old new None
+  pub effect : IsSearchRun way m input old new None
   -- Forward, it makes no pass after the one over the span that gave its answer.
-  pub upto :
-      way ≡ Forward → IfSome half (λ p. HaveTriedInStore Forward m input (p.1 - input.start + 1) old new)
+  pub upto : way ≡ Forward → IfSome half (λ p. HaveTried Forward m input (p.1 - input.start + 1) old new)
 
 -- what a search returns: what it finds, or why it fails
 abbrev pub IsSearchResult :
-    Direction → Machine → Input → (old new : CacheView) → Result (Option (HalfMatch × ℕ)) SearchError → Type 0
+    Direction → Machine → Input → (old new : Known) → Result (Option (HalfMatch × ℕ)) SearchError → Type 0
 IsSearchResult way m input old new (Ok half) = HasSearched way m input old new half
-IsSearchResult way m input old new (Err e) = IsSearchRunInStore way m input old new (Some e)
+IsSearchResult way m input old new (Err e) = IsSearchRun way m input old new (Some e)

@@ -16,11 +16,9 @@ use Rattle.automata_hybrid.specs.Searches.Traces.{Trace, pass_trace}
 use Rattle.automata_hybrid.specs.declared.search.fast.follow.Stop.{Stop}
 use Rattle.automata_hybrid.specs.declared.search.plain.pass.Place.{Place}
 use Rattle.automata_hybrid.specs.Cache.Stores.{Stored}
-use Rattle.automata_hybrid.specs.Searches.Passes.{Reads}
-use Rattle.automata_hybrid.specs.Private.Searches.Passes.{IsUnitError}
-use Rattle.automata_hybrid.specs.Private.Searches.Progress.{EndsAtLast, IsLeftAt, IsStoppedAt, IsUnitRead}
-use Rattle.automata_hybrid.specs.Private.Searches.Progress.{PassEndsInStore, PassFailsInStore}
-use Rattle.automata_hybrid.specs.Private.Searches.Progress.{with_search_ended}
+use Rattle.automata_hybrid.specs.Known.Known.{Known, ended}
+use Rattle.automata_hybrid.specs.Known.Passes.{FailsAtUnit, PassEnds, PassFails, UnitFails, UnitsEnd, after_unit}
+use Rattle.automata_hybrid.specs.Searches.Passes.{Reads, given_up_offset}
 use Rattle.automata_hybrid.specs.Searches.PassContracts.{IsPassAnswer, IsUnderway}
 
 -- the input of these parts
@@ -101,55 +99,47 @@ pub record IsKnownEnd (way : Direction) (m : Machine) (c : CacheView) (input : I
   pub known : HasLearnedUnit way m c.store input k
 
 -- a pass that has begun returns a half match
-pub record HasReturned (way : Direction) (m : Machine) (input : Input) (begun new : CacheView)
-    (half : Option HalfMatch) : Type 0 where
+pub record HasReturned (way : Direction) (m : Machine) (input : Input) (begun new : Known) (half : Option HalfMatch) :
+    Type 0 where
   -- It is what the pass answers.
   pub answer : IsPassAnswer way m input half
   -- The pass has read its units, and has ended at the last of them.
-  pub ended : EndsAtLast way m input begun new
+  pub ended : UnitsEnd way m input begun new
 
 -- what the rest of a pass that has begun returns: what it answers, or why it fails at a unit
 abbrev pub IsRest :
-    Direction → Machine → Input → (begun new : CacheView) → Result (Option HalfMatch) SearchError → Type 0
+    Direction → Machine → Input → (begun new : Known) → Result (Option HalfMatch) SearchError → Type 0
 IsRest way m input begun new (Ok half) = HasReturned way m input begun new half
-IsRest way m input begun new (Err e) = IsStoppedAt way m input begun new e
+IsRest way m input begun new (Err e) = FailsAtUnit way m input begun new e
 
 -- the unit after the span's bytes is read, the last one of a pass, which returns a half match
-pub record HasReadLast (way : Direction) (m : Machine) (input : Input) (old new : CacheView)
-    (half : Option HalfMatch) : Type 0 where
+pub record HasReadLast (way : Direction) (m : Machine) (input : Input) (old new : Known) (half : Option HalfMatch) :
+    Type 0 where
   -- It is what the pass answers.
   pub answer : IsPassAnswer way m input half
-  -- The cache once the unit is read.
-  pub mid : CacheView
-  -- The search steps over it.
-  pub read : IsUnitRead way m input (input.end - input.start) old mid
-  -- Then it ends.
-  pub ended : new ≡ with_search_ended way input (input.end - input.start) mid
-
--- the step on that unit fails
-pub record FailsAtLast (way : Direction) (m : Machine) (input : Input) (old new : CacheView) (e : SearchError) :
-    Type 0 where
-  -- It fails for this.
-  pub error : IsUnitError way m new.store input (input.end - input.start) e
-  -- The search has ended there at a quit byte, or else is left there.
-  pub left : IsLeftAt way m input (input.end - input.start) old new
+  -- What the cache knows once the unit is read.
+  pub mid : Known
+  -- Reading it made this.
+  pub read : after_unit (pass_trace way m input) way m input (input.end - input.start) old ≡ Some mid
+  -- Then the search ends.
+  pub ended : new ≡ ended (given_up_offset way input (input.end - input.start)) mid
 
 -- what reading that unit returns: what the pass answers, or why the step on it fails
 abbrev pub IsLastRead :
-    Direction → Machine → Input → (old new : CacheView) → Result (Option HalfMatch) SearchError → Type 0
+    Direction → Machine → Input → (old new : Known) → Result (Option HalfMatch) SearchError → Type 0
 IsLastRead way m input old new (Ok half) = HasReadLast way m input old new half
-IsLastRead way m input old new (Err e) = FailsAtLast way m input old new e
+IsLastRead way m input old new (Err e) = UnitFails way m input (input.end - input.start) old new e
 
 -- a pass has returned a half match
-pub record HasPassed (way : Direction) (m : Machine) (input : Input) (old new : CacheView) (half : Option HalfMatch) :
+pub record HasPassed (way : Direction) (m : Machine) (input : Input) (old new : Known) (half : Option HalfMatch) :
     Type 0 where
   -- It is what the pass answers.
   pub answer : IsPassAnswer way m input half
   -- The pass has ended.
-  pub ends : PassEndsInStore way m input old new
+  pub ends : PassEnds way m input old new
 
 -- what a pass returns: what it answers, or why it failed
 abbrev pub IsPassResult :
-    Direction → Machine → Input → (old new : CacheView) → Result (Option HalfMatch) SearchError → Type 0
+    Direction → Machine → Input → (old new : Known) → Result (Option HalfMatch) SearchError → Type 0
 IsPassResult way m input old new (Ok half) = HasPassed way m input old new half
-IsPassResult way m input old new (Err e) = PassFailsInStore way m input old new e
+IsPassResult way m input old new (Err e) = PassFails way m input old new e

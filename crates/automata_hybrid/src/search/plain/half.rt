@@ -10,8 +10,6 @@ ghost use Rattle.automata_hybrid.specs.Searches.Contracts.{unsupported_error};
 ghost use Rattle.automata_hybrid.specs.Private.Searches.PassContracts.{MayBegin, input_at};
 ghost use Rattle.automata_hybrid.specs.Private.Searches.Contracts.{IsSearchResult};
 ghost use Rattle.automata_hybrid.specs.Searches.Passes.{IsFound, WithoutBase};
-ghost use Rattle.automata_hybrid.specs.Private.Searches.Progress.{HaveTriedInStore};
-ghost use Rattle.automata_hybrid.specs.Private.Searches.Progress.{IsSearchRunInStore};
 ghost use Rattle.automata_hybrid.specs.Known.Passes.{HaveTried, IsSearchRun};
 ghost use Rattle.automata_hybrid.specs.Known.Stores.{known_of};
 
@@ -148,10 +146,11 @@ impl DFA {
         requires { IsCacheOf cache.old self.now }
         ensures of { IsCacheOf cache.new self.now }
         ensures found { IfOk result (λ o. IsFound way self.now input.now (based_half o)) }
-        ensures effect { IsSearchRunInStore way self.now input.now cache.old cache.new (result_err result) }
+        ensures effect { IsSearchRun way self.now input.now (known_of cache.old) (known_of cache.new)
+            (result_err result) }
         ensures upto { way ≡ Forward
-            → IfOk result (λ o. IfSome o (λ p. HaveTriedInStore Forward self.now input.now (p.1 - input.now.start + 1)
-            cache.old cache.new)) }
+            → IfOk result (λ o. IfSome o (λ p. HaveTried Forward self.now input.now (p.1 - input.now.start + 1)
+            (known_of cache.old) (known_of cache.new))) }
         ensures unsupported { IsUnsupported way self.now input.now
             → result ≡ Err (unsupported_error input.now) }
         ensures done { input.now.end < input.now.start → result ≡ Ok None }
@@ -195,7 +194,7 @@ impl DFA {
         requires { MayBegin self.now cache.old (input_at haystack.now span anchored earliest) }
         ensures of { IsCacheOf cache.new self.now }
         ensures searched { IsSearchResult way self.now
-            (input_at haystack.now span anchored earliest) cache.old cache.new result }
+            (input_at haystack.now span anchored earliest) (known_of cache.old) (known_of cache.new) result }
         ensures unsupported { let input = input_at haystack.now span anchored earliest in
             IsUnsupported way self.now input → result ≡ Err (unsupported_error input) }
         ensures done { span.end < span.start → result ≡ Ok None }
@@ -217,7 +216,7 @@ impl DFA {
     ) -> Result<Option<(HalfMatch, usize)>, SearchError>
         requires { IsCacheOf cache.old self.now }
         ensures of { IsCacheOf cache.new self.now }
-        ensures searched { IsSearchResult way self.now input.now cache.old cache.new result }
+        ensures searched { IsSearchResult way self.now input.now (known_of cache.old) (known_of cache.new) result }
         ensures unsupported { IsUnsupported way self.now input.now
             → result ≡ Err (unsupported_error input.now) }
         ensures done { input.now.end < input.now.start → result ≡ Ok None }

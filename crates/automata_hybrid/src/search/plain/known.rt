@@ -1,6 +1,8 @@
 //! A run over cached transitions alone: it only reads the cache.
 ghost use Rattle.std.specs.Prelude.{◌≡◌, ◌-◌, ◌<◌, ◌≤◌, None, true, false};
 ghost use Rattle.automata_base.specs.Paths.Paths.{next};
+ghost use Rattle.automata_hybrid.specs.Known.Stores.{known_of};
+ghost use Rattle.automata_hybrid.specs.Known.Steps.{IsStartRun};
 ghost use Rattle.automata_hybrid.specs.Cache.Caches.{IsCacheOf};
 ghost use Rattle.automata_hybrid.specs.Cache.Ids.{unknown_id};
 ghost use Rattle.automata_hybrid.specs.Cache.Table.{IsRowId, Names};
@@ -8,7 +10,6 @@ ghost use Rattle.automata_hybrid.specs.Searches.PassContracts.{IsUnderway};
 ghost use Rattle.automata_hybrid.specs.Private.Searches.PassContracts.{IsKnownEnd, IsKnownUpto};
 ghost use Rattle.automata_hybrid.specs.Private.Searches.PassState.{IsMet, IsNextCell};
 ghost use Rattle.automata_hybrid.specs.Searches.Passes.{state_in, tape_in};
-ghost use Rattle.automata_hybrid.specs.Private.Searches.Progress.{HasItsStart};
 ghost use Rattle.automata_hybrid.specs.Steps.Starts.{IsStartAnswer};
 ghost use Rattle.automata_hybrid.specs.Steps.Steps.{IsStepAnswer, known_step};
 ghost use Rattle.automata_hybrid.specs.Machines.Machine.{unit_class};
@@ -92,7 +93,8 @@ impl DFA {
         requires { IsCacheOf cache.now self.now }
         ensures answer { result < unknown_id → IsStartAnswer self.now input.now.anchored
             (tape_in way input.now).before cache.now cache.now result }
-        ensures run { result < unknown_id → HasItsStart way self.now input.now cache.now cache.now }
+        ensures run { result < unknown_id → IsStartRun self.now input.now.anchored
+            (tape_in way input.now).before (known_of cache.now) (known_of cache.now) }
     {
         self.start_state_known(cache, input.get_anchored(), byte_behind(input, way))
     }

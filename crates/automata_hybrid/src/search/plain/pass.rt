@@ -6,6 +6,7 @@ ghost use Rattle.automata_base.specs.Haystacks.Input.{Allows};
 ghost use Rattle.automata_base.specs.Haystacks.Matches.{HalfMatch};
 ghost use Rattle.automata_base.specs.Paths.Paths.{next};
 ghost use Rattle.automata_base.specs.Powersets.Powerset.{Powerset, dead};
+ghost use Rattle.automata_hybrid.specs.Known.Stores.{known_of};
 ghost use Rattle.automata_hybrid.specs.Cache.Ids.{HasMatchTag, unknown_id};
 ghost use Rattle.automata_hybrid.specs.Cache.Caches.{IsCacheOf};
 ghost use Rattle.automata_hybrid.specs.Searches.Contracts.{IsUnsupported, unsupported_error};
@@ -111,7 +112,7 @@ impl DFA {
         requires of { IsCacheOf cache.old self.now }
         requires open { input.now.start ≤ input.now.end }
         ensures of { IsCacheOf cache.new self.now }
-        ensures passed { IsPassResult way self.now input.now cache.old cache.new result }
+        ensures passed { IsPassResult way self.now input.now (known_of cache.old) (known_of cache.new) result }
         ensures unsupported { IsUnsupported way self.now input.now
             → result ≡ Err (unsupported_error input.now) }
     {
@@ -172,7 +173,7 @@ impl DFA {
         requires open { span.start ≤ span.end }
         ensures of { IsCacheOf cache.new self.now }
         ensures passed { IsPassResult way self.now
-            (input_at haystack.now span anchored earliest) cache.old cache.new result }
+            (input_at haystack.now span anchored earliest) (known_of cache.old) (known_of cache.new) result }
         ensures unsupported { let input = input_at haystack.now span anchored earliest in
             IsUnsupported way self.now input → result ≡ Err (unsupported_error input) }
     {
@@ -191,7 +192,7 @@ impl DFA {
         requires of { IsCacheOf cache.old self.now }
         requires open { input.now.start ≤ input.now.end }
         ensures of { IsCacheOf cache.new self.now }
-        ensures passed { IsPassResult way self.now input.now cache.old cache.new result }
+        ensures passed { IsPassResult way self.now input.now (known_of cache.old) (known_of cache.new) result }
         ensures unsupported { IsUnsupported way self.now input.now
             → result ≡ Err (unsupported_error input.now) }
     {
@@ -299,7 +300,7 @@ impl DFA {
             (input_at haystack.now span anchored earliest) from start unknown_id }
         ensures of { IsCacheOf cache.new self.now }
         ensures rest { IsRest way self.now
-            (input_at haystack.now span anchored earliest) cache.old cache.new result }
+            (input_at haystack.now span anchored earliest) (known_of cache.old) (known_of cache.new) result }
     {
         let own = input_of(haystack, span, anchored, earliest);
         let next = if missing {
@@ -334,7 +335,7 @@ impl DFA {
         requires next { from.at < input.now.end - input.now.start
             → IsNextCell way self.now cache.old.store input.now from.at from.id from.next }
         ensures of { IsCacheOf cache.new self.now }
-        ensures rest { IsRest way self.now input.now cache.old cache.new result }
+        ensures rest { IsRest way self.now input.now (known_of cache.old) (known_of cache.new) result }
     {
         cache.see_bounds();
         let last = last_place(input);
@@ -498,7 +499,7 @@ impl DFA {
             id found }
         ensures of { IsCacheOf cache.new self.now }
         ensures alive { (q : Powerset) → Names cache.old.store.table id q → q ≡ dead → ⊥ }
-        ensures last { IsLastRead way self.now input.now cache.old cache.new result }
+        ensures last { IsLastRead way self.now input.now (known_of cache.old) (known_of cache.new) result }
     {
         cache.see_bounds();
         let last = last_place(input);

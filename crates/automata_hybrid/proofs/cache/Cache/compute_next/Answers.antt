@@ -65,20 +65,14 @@ add_next-requires-clause-new c =
     let key : IsNewState c.resolve.new.self.store.table c.in_ok-key.key = new_state c.args.dfa.now c.resolve.new.self.store.table c.in_ok-key.key of found.1 c.in_ok-key.ensures.cost c.in_ok-key.ensures.is_of in
     subst (λ (q : Powerset). IsNewState c.resolve.new.self.store.table q) (sym found.0) key
 
-pub returns-in_err-from-in-New-clause-refusal : goal.returns-in_err-from-in-New-clause-refusal
-returns-in_err-from-in-New-clause-refusal c =
-    let same : c.resolve.new.self ≡ counted c.args.self.now = c.resolve.ensures.same ∙ c.determinize.ensures.counted in
-    let found : IsLookedUp c.resolve.new.self.store.table c.in_ok-key.key (New c.in-New.state) = looked_up c.determinize.new.self c.resolve.new.self c.in_ok-key.key _ (New c.in-New.state) c.resolve.ensures.same c.in-New.is c.in_ok-to.ensures.found in
-    if_err c.from_residual-in_err-from-in-New.result _ _ c.from_residual-in_err-from-in-New.ensures.1 (record {
-      gives_up = λ cache q named. subst (GivesUpInStore c.args.self.now.store) (found.0 ∙ c.in_ok-key.ensures.value q named)
-          (subst (λ (v : CacheView). GivesUpInStore v.store c.in-New.state) same (c.in_err-from-in-New.ensures.refused.gives_up.0 cache));
-      low = c.see_bounds.ensures.sound.low c.args.id c.requires.valid.0 c.requires.valid.1;
-      clean = c.requires.clean;
-      fails = λ q n. record {
-        unknown = step_unknown c.args.dfa.now c.args.id c.args.unit c.args.self.now c.requires.unknown q n;
-        unchanged = c.in_err-from-in-New.ensures.refused.kept ∙ same;
-      };
-    })
+-- the call fails
+failed :
+    (c : After-see_bounds) (new : CacheView) (e : StepError) → new ≡ counted c.args.self.now
+    → (IsCacheError e → (q : Powerset) → Names c.args.self.now.store.table c.args.id q
+    → GivesUpInStore c.args.self.now.store
+    (successor c.args.dfa.now.nfa (match_kind_of c.args.dfa.now.config) q c.args.unit))
+    → StepFails c.args.dfa.now c.args.id c.args.unit (known_of c.args.self.now) (known_of new) e
+failed c new e = failed_run c.args.dfa.now c.args.id c.args.unit c.args.self.now new c.see_machine.ensures.machine
 
 pub returns-in-Known-clause-answer : goal.returns-in-Known-clause-answer
 returns-in-Known-clause-answer c =

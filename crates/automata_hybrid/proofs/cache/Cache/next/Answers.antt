@@ -2,7 +2,8 @@ use Rattle.std.proofs.Common.{◌^◌, ◌<◌, ◌≤◌, arith, subst}
 use Rattle.std.proofs.lemmas.Grind.{common_steps}
 use Rattle.automata_hybrid.specs.Cache.Table.{IsRowId}
 use Rattle.automata_hybrid.proofs.Steps.BySteps.{stands_step}
-use Rattle.automata_hybrid.proofs.Steps.Steps.{cell_known, fixed_answer, known_answer, same_run, unknown_clean}
+use Rattle.automata_hybrid.proofs.Known.Calls.{cached_run, fixed_run}
+use Rattle.automata_hybrid.proofs.Steps.Steps.{cell_known, fixed_answer, known_answer, unknown_clean}
 use Rattle.automata_hybrid.proofs.Searches.Contracts.{is_store}
 use Rattle.automata_hybrid.proofs.Steps.Steps.{unknown_free}
 use Rattle.automata_hybrid.proofs.Steps.Ids.{HoldsRow-valid}
@@ -16,8 +17,9 @@ returns-then-is_fixed-clause-answer c =
 pub returns-then-is_fixed-clause-run : goal.returns-then-is_fixed-clause-run
 returns-then-is_fixed-clause-run c =
     let high : 2 ^ 29 ≤ c.args.id = grind (arith, common_steps, c.if-is_fixed.ensures) in
-    same_run c.args.dfa.now c.args.id c.args.unit c.args.self.now
-    (λ q n. absurd (let low : c.args.id < 2 ^ 29 = c.see_bounds.ensures.sound.low c.args.id q n in omega (arith, low, high)))
+    fixed_run c.args.dfa.now c.args.id c.args.unit c.args.self.now
+    (is_store c.args.self.now.store c.args.dfa.now c.requires.of c.see_bounds.ensures.bounds) high
+    (λ q n. c.see_bounds.ensures.sound.low c.args.id q n)
 
 pub returns-then-not-is_unknown-clause-answer : goal.returns-then-not-is_unknown-clause-answer
 returns-then-not-is_unknown-clause-answer c =
@@ -34,14 +36,14 @@ returns-then-not-is_unknown-clause-run c =
     let low : c.args.id < 2 ^ 29 = grind (arith, common_steps, c.if-is_fixed.ensures) in
     let valid : IsRowId c.args.self.now.store.table c.args.id = HoldsRow-valid c.args.self.now c.args.id c.requires.row low in
     let known : c.cell-cell.result < 2 ^ 31 = grind (arith, common_steps, c.if-not-is_unknown.ensures.size) in
-    same_run c.args.dfa.now c.args.id c.args.unit c.args.self.now
-    (λ q n. (
-      subst (λ k. k < c.args.dfa.now.stride) c.unit_class-class.ensures.value c.unit_class-class.ensures.below,
-      is_store c.args.self.now.store c.args.dfa.now c.requires.of c.see_bounds.ensures.bounds,
-      cell_known c.args.dfa.now c.args.id c.args.unit c.args.self.now c.unit_class-class.result c.cell-cell.result c.requires.of valid
-          c.unit_class-class.ensures.value c.unit_class-class.ensures.small c.unit_class-class.ensures.quit c.unit_class-class.ensures.free
-          c.cell-cell.ensures.value c.cell-cell.ensures.named known,
-    ))
+    cached_run c.args.dfa.now c.args.id c.args.unit c.args.self.now c.see_machine.ensures.machine
+    c.unit_class-class.ensures.unit
+    (is_store c.args.self.now.store c.args.dfa.now c.requires.of c.see_bounds.ensures.bounds)
+    (subst (λ k. k < c.args.dfa.now.stride) c.unit_class-class.ensures.value c.unit_class-class.ensures.below)
+    (cell_known c.args.dfa.now c.args.id c.args.unit c.args.self.now c.unit_class-class.result c.cell-cell.result
+    c.requires.of valid c.unit_class-class.ensures.value c.unit_class-class.ensures.small
+    c.unit_class-class.ensures.quit c.unit_class-class.ensures.free c.cell-cell.ensures.value
+    c.cell-cell.ensures.named known)
 
 pub compute_next-requires-clause-clean : goal.compute_next-requires-clause-clean
 compute_next-requires-clause-clean c =
