@@ -4,7 +4,6 @@ pub mod Steps
 pub mod Rooms
 pub mod Made
 pub mod Events
-pub mod Passes
 pub mod Calls
 pub mod Walks
 pub mod Pieces

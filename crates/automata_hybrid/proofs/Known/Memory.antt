@@ -2,7 +2,8 @@
 use Rattle.std.proofs.Common.{ℕ, ◌≡◌, ◌∙◌, ◌+◌, ◌≤◌, Bool, true, false, cond, length, Option, None, Some, refl}
 use Rattle.std.proofs.Common.{sym}
 use Rattle.std.proofs.Common.{ap, arith}
-use Rattle.std.specs.Prelude.{option_map}
+use Rattle.std.specs.Prelude.{option_map, IfErr, Result, Ok, Err}
+use Rattle.std.specs.Result.{result_err}
 use Rattle.automata_base.proofs.Paths.Orders.{some_none}
 use Rattle.automata_base.specs.Answers.Answers.{later}
 use Rattle.automata_base.specs.ByteClasses.Classes.{is_quit}
@@ -17,7 +18,7 @@ use Rattle.automata_hybrid.specs.Known.Events.{fits, made, refuses_past, refuses
 use Rattle.automata_hybrid.specs.Known.Events.{with_step}
 use Rattle.automata_hybrid.specs.Known.Known.{Known, cleared, cleared_saving, has_state, moved, with_row}
 use Rattle.automata_hybrid.specs.Known.Passes.{EventFails, FailsFor, FailsLater, GivesUp, LacksMemory, LacksMode}
-use Rattle.automata_hybrid.specs.Known.Passes.{MeetsQuit, PassFails}
+use Rattle.automata_hybrid.specs.Known.Passes.{IsSearchRun, MeetsQuit, PassFails}
 use Rattle.automata_hybrid.specs.Known.Passes.{QuitsBehind, SearchFails, CannotStart, CannotStep, UnitFails}
 use Rattle.automata_hybrid.specs.Machines.Machine.{Machine, unit_class}
 use Rattle.automata_hybrid.specs.Machines.StartSlots.{slot_behind, supports}
@@ -131,3 +132,11 @@ search_memory way m input old new error few free e =
     clean : (byte : ℕ) → InReach (later way e.passes input) byte → is_quit m.quits byte ≡ false
     clean byte r =
         let o : InReach input byte = later_reach way e.passes input byte within r in free.reach o.0 byte o.1 o.2 o.3
+
+-- a call of one
+pub call_memory :
+    {A : Type 0} (way : Direction) (m : Machine) (input : Input) (old new : Known) (r : Result A SearchError)
+    → input.end ≤ length input.haystack → IsUnhindered m input → IsSearchRun way m input old new (result_err r)
+    → IfErr r IsMemory
+call_memory way m input old new (Ok found) few free run = tt
+call_memory way m input old new (Err e) few free run = search_memory way m input old new e few free run

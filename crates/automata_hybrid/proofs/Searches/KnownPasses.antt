@@ -1,25 +1,29 @@
--- Passes over cached transitions alone: how they end, and what they make of the cache and of the progress.
+-- Passes over cached transitions alone: how they end, and what they make of what the cache knows.
 use Rattle.std.proofs.Common.{ℕ, suc, ◌≡◌, ◌+◌, ◌-◌, ◌<◌, ◌≤◌, ◌⊎◌, inl, inr, length, Option, None, Some, true, false}
-use Rattle.std.proofs.Common.{refl, sym, subst, arith}
+use Rattle.std.proofs.Common.{refl, sym, ap, subst, arith}
 use Rattle.std.proofs.lemmas.Bool.{cases_lt}
 use Rattle.automata_base.specs.Haystacks.Input.{Input}
 use Rattle.automata_base.specs.Haystacks.Matches.{HalfMatch}
 use Rattle.automata_base.specs.declared.util.search.Direction.{Direction}
 use Rattle.automata_base.specs.Answers.Answers.{offset_in}
 use Rattle.automata_base.specs.Paths.Paths.{next}
+use Rattle.automata_base.specs.Powersets.Passes.{IsUnit}
 use Rattle.automata_base.specs.Powersets.Powerset.{Powerset, dead}
 use Rattle.automata_hybrid.specs.Cache.Caches.{CacheView, IsCacheOf, IsStoreOf, with_store}
-use Rattle.automata_hybrid.specs.Cache.Progress.{distance, saturated, total_len}
+use Rattle.automata_hybrid.specs.Cache.Progress.{distance, progress_started, saturated, total_len}
 use Rattle.automata_hybrid.specs.Cache.Stores.{IsSoundStore, with_searched}
 use Rattle.automata_hybrid.specs.Cache.Ids.{HasDeadTag, HasQuitTag, quit_id}
 use Rattle.automata_hybrid.specs.Cache.Table.{Leads, Rows}
+use Rattle.automata_hybrid.specs.Known.Known as known
+use Rattle.automata_hybrid.specs.Known.Passes.{UnitsEnd}
+use Rattle.automata_hybrid.specs.Known.Stores.{known_of}
 use Rattle.automata_hybrid.specs.Machines.Machine.{Machine}
+use Rattle.automata_hybrid.specs.Private.Machines.Machine.{IsMachine}
 use Rattle.automata_hybrid.specs.Searches.PassContracts.{IsPassAnswer}
 use Rattle.automata_hybrid.specs.Private.Searches.PassContracts.{IsKnownEnd, IsKnownUpto}
 use Rattle.automata_hybrid.specs.Searches.PassState.{half_at}
 use Rattle.automata_hybrid.specs.Private.Searches.PassState.{HasLearnedUnit}
-use Rattle.automata_hybrid.specs.Searches.Passes.{Reads, given_up_offset, state_in, tape_in}
-use Rattle.automata_hybrid.specs.Private.Searches.Progress.{EndsAtLast, with_search_begun}
+use Rattle.automata_hybrid.specs.Searches.Passes.{HasReadNoQuit, Reads, given_up_offset, state_in, tape_in}
 use Rattle.automata_hybrid.specs.Private.Searches.Units.{IsReadAnswer}
 use Rattle.automata_hybrid.specs.Steps.Steps.{IsStepAnswer}
 use Rattle.automata_hybrid.specs.Private.Steps.Steps.{KnowsStep}
@@ -40,7 +44,8 @@ clean_unit m t to (Some byte) of small clear quit = unquit m t to byte of small 
 
 module _ (way : Direction) (m : Machine) (input : Input) (k id : ℕ) (c : CacheView) where
   -- what such a pass makes of its cache, once its bytes are counted
-  module _ (half : Option HalfMatch) (new : CacheView) (end : IsKnownEnd way m c input k id half)
+  module _ (half : Option HalfMatch) (new : CacheView) (machine : IsMachine m)
+      (units_are : (j : ℕ) → IsUnit (next (tape_in way input) j)) (end : IsKnownEnd way m c input k id half)
       (sound : IsStoreOf c.store m)
       (counted : new ≡ with_store c (with_searched c.store (record {
         bytes =
@@ -48,19 +53,24 @@ module _ (way : Direction) (m : Machine) (input : Input) (k id : ℕ) (c : Cache
             + distance (record { start = given_up_offset way input 0; place = given_up_offset way input k }));
         running = None;
       }))) where
-    pub known_ended : EndsAtLast way m input (with_search_begun way input 0 c) new
+    pub known_ended : UnitsEnd way m input (known.begun (given_up_offset way input 0) (known_of c)) (known_of new)
     known_ended =
-        pass_last way m input k begun begun new end.reads (end.stops (suc k) (omega arith))
-        (goes_known way m input 0 begun 0 (suc k) begun there (goes_none way m input 0 begun) (omega arith)
-        (λ j byte less unit. end.answer.clean.1 j byte (reads_before way m input j k (omega (arith, less)) end.reads) unit)
+        pass_last way m input k (known_of begun) (known_of begun) (known_of new) end.reads
+        (end.stops (suc k) (omega arith)) clean
+        (goes_known way m input 0 (known_of begun) machine units_are 0 (suc k) begun there
+        (goes_none way m input 0 (known_of begun)) (omega arith) clean
         (λ j from less. upto j (omega (arith, less)) (cases_lt j k)))
-        counted
+        (ap known_of counted)
       where
         begun : CacheView
-        begun = with_search_begun way input 0 c
+        begun = with_store c (with_searched c.store (progress_started c.store.searched (given_up_offset way input 0)))
 
         there : IsStoreOf begun.store m
         there = searched_sound m c.store _ sound
+
+        clean : HasReadNoQuit way m input (suc k)
+        clean j byte less unit =
+            end.answer.clean.1 j byte (reads_before way m input j k (omega (arith, less)) end.reads) unit
 
         upto : (j : ℕ) → j ≤ k → (j < k) ⊎ (k ≤ j) → HasLearnedUnit way m c.store input j
         upto j less (inl before) = end.upto.known j before

@@ -17,13 +17,10 @@ use Rattle.automata_base.specs.Retraced.Passes.{state_after, reported_at, first_
 use Rattle.automata_base.proofs.Powersets.Alike.{dead_stays}
 use Rattle.std.specs.Prelude.{Result, Ok, Err, IfErr, is_some}
 use Rattle.std.specs.Result.{IsErrAnd}
-use Rattle.automata_config.specs.declared.error.SearchError.{SearchError}
-use Rattle.automata_hybrid.specs.Cache.Stores.{Stored}
 use Rattle.automata_hybrid.specs.Machines.Machine.{Machine}
 use Rattle.automata_hybrid.specs.Searches.PassState.{half_of, half_at, found_over, IsAt}
 use Rattle.automata_hybrid.specs.Searches.Passes.{MeetsNoQuit, Reads}
-use Rattle.automata_hybrid.specs.Private.Searches.Passes.{IsStepError, IsUnitError}
-use Rattle.automata_hybrid.specs.Searches.Passes.{given_up_offset, state_in, tape_in, reported_in, unit_offset}
+use Rattle.automata_hybrid.specs.Searches.Passes.{state_in, tape_in, reported_in}
 use Rattle.automata_hybrid.specs.Steps.Starts.{quit_behind}
 use Rattle.automata_hybrid.specs.Cache.Table.{Rows, Leads, Names}
 use Rattle.automata_base.specs.ByteClasses.Classes.{is_quit}
@@ -267,18 +264,6 @@ pub clean_start :
     → state_in way m input 0 ≡ dead → quit_behind m (tape_in way input).before ≡ None → MeetsNoQuit way m input
 clean_start way m input d behind =
     clean_all way m input 0 behind (λ j byte l e. absurd (omega (arith, l))) (stops_start way m input d)
-
--- a failed step from an ID refuses the unit of its place
-pub unit_refuses :
-    (way : Direction) (m : Machine) (t : Rows) (c : Stored) (input : Input) (k id quit_at given_up_at : ℕ) (u : Option ℕ)
-    (found : Option HalfMatch) (e : SearchError)
-    → IsAt way m t input k id found
-    → next (tape_in way input) k ≡ u → unit_offset way input k ≡ quit_at → given_up_offset way input k ≡ given_up_at
-    → ((q : Powerset) → Names t id q → IsStepError m c q u quit_at given_up_at e) → IsUnitError way m c input k e
-unit_refuses way m t c input k id quit_at given_up_at u found e at unit first second refused =
-    subst (λ a. IsStepError m c (state_in way m input k) (next (tape_in way input) k) a (given_up_offset way input k) e) (sym first)
-    (subst (λ b. IsStepError m c (state_in way m input k) (next (tape_in way input) k) quit_at b e) (sym second)
-    (subst (λ v. IsStepError m c (state_in way m input k) v quit_at given_up_at e) (sym unit) (refused (state_in way m input k) at.named)))
 
 pub if_err :
     {A E : Type 0} (r : Result A E) (e : E) (P : E → Type 0) → IsErrAnd r (λ x. x ≡ e) → P e → IfErr r P

@@ -18,16 +18,15 @@ use Rattle.automata_hybrid.specs.Cache.Stores.{Stored}
 use Rattle.automata_hybrid.specs.Private.Cache.Usage.{refuses_at}
 use Rattle.automata_hybrid.specs.Private.Cache.Usage.{GivesUpInStore}
 use Rattle.automata_hybrid.specs.Machines.Machine.{Machine}
-use Rattle.automata_hybrid.specs.Searches.Passes.{tape_in, NoQuitInReach}
-use Rattle.automata_hybrid.specs.Private.Searches.Passes.{IsSearchError, IsPassError, IsStepError}
+use Rattle.automata_hybrid.specs.Searches.Passes.{tape_in}
+use Rattle.automata_hybrid.specs.Private.Searches.Passes.{IsStepError}
 use Rattle.automata_hybrid.specs.Machines.StartSlots.{supports}
 use Rattle.automata_hybrid.specs.Steps.Starts.{quit_behind}
 use Rattle.automata_hybrid.specs.Private.Steps.Starts.{IsStartErrorAt}
-use Rattle.automata_hybrid.specs.Private.Searches.Passes.{AtItsStart, AtUnit, FindsNoRoom, LacksMemoryInStore, MeetsQuitByte}
+use Rattle.automata_hybrid.specs.Private.Searches.Passes.{FindsNoRoom, LacksMemoryInStore, MeetsQuitByte}
 use Rattle.automata_hybrid.proofs.Searches.PassState.{false_true}
 use Rattle.automata_hybrid.proofs.Searches.Units.{forward_unit, forward_units, backward_unit, backward_units}
 use Rattle.automata_config.specs.Options.{minimum_cache_clear_count_of}
-use Rattle.automata_hybrid.proofs.Searches.Directions.{later_anchored}
 
 -- a byte of the haystack in reach of a span
 abbrev pub InReach : Input → ℕ → Type 0
@@ -107,23 +106,3 @@ module _ (way : Direction) (m : Machine) (c : Stored) (input : Input) (undone : 
       absurd (unquit byte (unit_reach way input j byte undone few l read) quits)
   step_memory j quit_at given_up_at q e l (FindsNoRoom offset other gives_up here) = absurd (no_limit m c _ same free gives_up)
   step_memory j quit_at given_up_at q e l (LacksMemoryInStore other lacks) = refl
-
-  pass_memory : (e : SearchError) → IsPassError way m c input e → e ≡ search.OutOfMemory
-  pass_memory e (AtItsStart why) = start_memory _ _ e why
-  pass_memory e (AtUnit k behind reads before why) = step_memory k _ _ _ e reads.0 why
-
--- a search that no named cause forbids fails by out of memory alone
-pub refused_memory :
-    (way : Direction) (m : Machine) (c : Stored) (input : Input) (e : SearchError)
-    → input.end ≤ length input.haystack → c.table.of ≡ m → NoQuitInReach m input → supports m input.anchored ≡ true
-    → minimum_cache_clear_count_of m.config ≡ None → IsSearchError way m c input e → e ≡ search.OutOfMemory
-refused_memory way m c input e few same reach mode free (k, tries, within, refusal) =
-    let ahead = later_inside way in
-    pass_memory way m c (later way k input) ahead.0 ahead.1 same clean (ap (supports m) (later_anchored way k input) ∙ mode) free e refusal
-  where
-    later_inside : (w : Direction) → ((later w k input).start ≤ (later w k input).end) × ((later w k input).end ≤ length (later w k input).haystack)
-    later_inside Forward = (within, few)
-    later_inside Backward = (omega (arith, within), omega (arith, few))
-
-    clean : (byte : ℕ) → InReach (later way k input) byte → is_quit m.quits byte ≡ false
-    clean byte r = let o : InReach input byte = later_reach way k input byte within r in reach o.0 byte o.1 o.2 o.3

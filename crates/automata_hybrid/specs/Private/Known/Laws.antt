@@ -13,7 +13,6 @@ use Rattle.automata_config.specs.declared.error.SearchError.{SearchError}
 use Rattle.automata_config.specs.declared.error.StepError.{StepError}
 use Rattle.automata_hybrid.specs.Cache.Caches.{CacheView, IsStoreOf}
 use Rattle.automata_hybrid.specs.Calls.Events.{Event, Start, Step}
-use Rattle.automata_hybrid.specs.Known.Passes.{IsSearchRun}
 use Rattle.automata_hybrid.specs.Known.Pieces.{IsAnswerRun, IsBeginRun, IsPieceRun, IsWalkCallRun, IsWalkEndRun}
 use Rattle.automata_hybrid.specs.Known.Steps.{IsStepRun, StepFails}
 use Rattle.automata_hybrid.specs.Known.Stores.{known_of}
@@ -25,7 +24,6 @@ use Rattle.automata_hybrid.specs.declared.search.pieces.BeginError.{BeginError}
 use Rattle.automata_hybrid.specs.Private.Calls.Steps as calls
 use Rattle.automata_hybrid.specs.Private.Pieces.Progress as pieces
 use Rattle.automata_hybrid.specs.Private.Pieces.Walks as over_pieces
-use Rattle.automata_hybrid.specs.Private.Searches.Progress as searches
 use Rattle.automata_hybrid.specs.Private.Walks.Progress as walks
 
 -- an event's unit is a byte or the end
@@ -48,13 +46,6 @@ pub record StepsByKnown (m : Machine) : Type 0 where
   pub failed :
       (id : ℕ) (unit : Option ℕ) (old new : CacheView) (e : StepError) → IsUnit unit → IsStoreOf old.store m
       → calls.StepFailsInStore m id unit old new e → StepFails m id unit (known_of old) (known_of new) e
-
--- What a search makes of a cache of the DFA is what it makes of what the cache knows.
-abbrev pub SearchesByKnown : Machine → Type 0
-SearchesByKnown m =
-    (way : Direction) (input : Input) (old new : CacheView) (error : Option SearchError) → IsInput input
-    → searches.IsSearchRunInStore way m input old new error
-    → IsSearchRun way m input (known_of old) (known_of new) error
 
 -- What a call of a walk makes of a cache of the DFA is what it makes of what the cache knows, and so is what the search
 -- for a set of patterns makes of it.

@@ -1,6 +1,5 @@
--- A pass of a search over the span of an input, unit by unit, and what a search answers.
-use Rattle.std.specs.Prelude.{ℕ, ◌≡◌, ◌≤◌, ◌+◌, true, false, Option, Some, None}
-use Rattle.automata_base.specs.Answers.Answers.{Tries, later, offset_in}
+-- Why a step of a search from a state on a unit fails.
+use Rattle.std.specs.Prelude.{ℕ, ◌≡◌, true, false, Option, Some}
 use Rattle.automata_base.specs.ByteClasses.Classes.{is_quit}
 use Rattle.automata_base.specs.Haystacks.Input.{Input}
 use Rattle.automata_base.specs.Paths.Paths.{next}
@@ -14,12 +13,9 @@ use Rattle.automata_config.specs.declared.error.SearchError.TheVariants as searc
 use Rattle.automata_hybrid.specs.Cache.Stores.{Stored}
 use Rattle.automata_hybrid.specs.Private.Cache.Usage.{GivesUpInStore}
 use Rattle.automata_hybrid.specs.Machines.Machine.{Machine, quits_on}
-use Rattle.automata_hybrid.specs.Steps.Starts.{quit_behind}
-use Rattle.automata_hybrid.specs.Private.Steps.Starts.{IsStartErrorAt}
 use Rattle.automata_hybrid.specs.Private.Steps.Steps.{KnowsStep}
 use Rattle.automata_hybrid.specs.Cache.Table.{Names}
-use Rattle.automata_hybrid.specs.Searches.Passes.{tape_in, state_in, Reads, HasReadNoQuit}
-use Rattle.automata_hybrid.specs.Searches.Passes.{unit_offset, given_up_offset, behind_offset, Finds, Skips}
+use Rattle.automata_hybrid.specs.Searches.Passes.{given_up_offset, state_in, tape_in, unit_offset}
 
 -- the transition from a state on a unit is not cached
 abbrev pub LacksStep : Machine → Stored → Powerset → (unit : Option ℕ) → Type 0
@@ -45,20 +41,3 @@ abbrev pub IsUnitError : Direction → Machine → Stored → Input → ℕ → 
 IsUnitError way m c input k e =
     IsStepError m c (state_in way m input k) (next (tape_in way input) k) (unit_offset way input k)
     (given_up_offset way input k) e
-
--- why a pass fails
-pub data IsPassError (way : Direction) (m : Machine) (c : Stored) (input : Input) (e : SearchError) : Type 0 where
-  -- its start state does
-  AtItsStart :
-      IsStartErrorAt m c input.anchored (tape_in way input).before (behind_offset way input) (offset_in way input 0) e
-      → IsPassError way m c input e
-  -- the step on a unit that it reads does, and no quit byte was met before
-  AtUnit :
-      (k : ℕ) → quit_behind m (tape_in way input).before ≡ None → Reads way m input k → HasReadNoQuit way m input k
-      → IsUnitError way m c input k e → IsPassError way m c input e
-
--- why a search fails: a pass over one of the spans that it tries does
-abbrev pub IsSearchError : Direction → Machine → Stored → Input → SearchError → Type 0
-IsSearchError way m c input e =
-    (k : ℕ) × Tries (Finds way m) (Skips m) way input k × (input.start + k ≤ input.end)
-    × IsPassError way m c (later way k input) e

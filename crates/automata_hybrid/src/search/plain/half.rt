@@ -65,7 +65,6 @@ impl DFA {
         ensures effect { IsSearchRun Forward self.now input.now (known_of cache.old) (known_of cache.new)
             (result_err result) }
     {
-        self.see_machine();
         reported_is_right(self.get_nfa());
         let _haystack = input.haystack();
         let found = self.search(cache, input, Direction::Forward);
@@ -94,7 +93,6 @@ impl DFA {
         ensures upto { IfOk result (λ o. IfSome o (λ p. HaveTried Forward self.now input.now
             (p.1 - input.now.start + 1) (known_of cache.old) (known_of cache.new))) }
     {
-        self.see_machine();
         reported_is_right(self.get_nfa());
         let _haystack = input.haystack();
         self.search(cache, input, Direction::Forward)
@@ -128,7 +126,6 @@ impl DFA {
         ensures effect { IsSearchRun Backward self.now input.now (known_of cache.old) (known_of cache.new)
             (result_err result) }
     {
-        self.see_machine();
         reported_is_right(self.get_nfa());
         let _haystack = input.haystack();
         let found = self.search(cache, input, Direction::Backward);
@@ -155,7 +152,6 @@ impl DFA {
             → result ≡ Err (unsupported_error input.now) }
         ensures done { input.now.end < input.now.start → result ≡ Ok None }
     {
-        cache.see_bounds();
         if self.skips() {
             return match self.search_skipping(
                 cache,
@@ -221,7 +217,6 @@ impl DFA {
             → result ≡ Err (unsupported_error input.now) }
         ensures done { input.now.end < input.now.start → result ≡ Ok None }
     {
-        cache.see_bounds();
         let mut later = input.copied();
         while !later.is_done() {
             // No `?`: it sends each value through memory, also where there is no error.

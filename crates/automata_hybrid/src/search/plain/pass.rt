@@ -116,7 +116,9 @@ impl DFA {
         ensures unsupported { IsUnsupported way self.now input.now
             → result ≡ Err (unsupported_error input.now) }
     {
+        self.see_machine();
         cache.see_bounds();
+        let _haystack = input.haystack();
         let start = self.known_start(cache, input, way);
         if start.is_fixed() {
             return match self.begin_of(
@@ -337,7 +339,9 @@ impl DFA {
         ensures of { IsCacheOf cache.new self.now }
         ensures rest { IsRest way self.now input.now (known_of cache.old) (known_of cache.new) result }
     {
+        self.see_machine();
         cache.see_bounds();
+        let _haystack = input.haystack();
         let last = last_place(input);
         let mut run = from;
         let mut end = near_end(cache, input, way, run.at);

@@ -1,21 +1,17 @@
-use Rattle.std.proofs.Common.{◌≡◌, ◌∙◌, ap, None, refl, sym, subst, arith}
-use Rattle.std.specs.Prelude.{Ok, Err}
+use Rattle.std.proofs.Common.{ℕ, ◌≡◌, ◌∙◌, ap, None, refl, sym, subst, arith}
+use Rattle.std.specs.Prelude.{Ok, Err, option_map}
 use Rattle.automata_base.specs.Haystacks.Input.{Allows, Input}
 use Rattle.automata_base.specs.Powersets.Powerset.{dead}
 use Rattle.automata_base.specs.declared.util.search.Direction.{Direction}
-use Rattle.automata_hybrid.specs.Cache.Caches.{CacheView}
+use Rattle.automata_hybrid.specs.Known.Known.{begun, ended}
+use Rattle.automata_hybrid.specs.Known.Stores.{known_of}
 use Rattle.automata_hybrid.specs.Private.Searches.PassContracts.{IsKnownUpto, IsPassResult, IsRest}
-use Rattle.automata_hybrid.specs.Private.Calls.Events.{begun_in_store}
-use Rattle.automata_hybrid.specs.Private.Searches.Progress.{with_search_begun, with_search_ended}
-use Rattle.automata_hybrid.specs.Searches.Passes.{behind_offset, state_in, tape_in}
+use Rattle.automata_hybrid.specs.Searches.Passes.{given_up_offset, state_in}
 use Rattle.automata_hybrid.specs.Cache.Table.{Rows, Names}
-use Rattle.automata_hybrid.specs.Private.Searches.Progress.{FailsAtStart}
 use Rattle.automata_hybrid.proofs.Searches.Directions.{begins_alive, begins_dead}
 use Rattle.automata_hybrid.proofs.Searches.PassContracts.{same_input}
-use Rattle.automata_hybrid.proofs.Steps.Starts.{refusal_at}
-use Rattle.automata_base.specs.Answers.Answers.{offset_in}
 use Rattle.automata_hybrid.proofs.Searches.Reads.{at_err}
-use Rattle.automata_hybrid.proofs.Searches.Goes.{ended_here, pass_dies, rest_passes, unstarted}
+use Rattle.automata_hybrid.proofs.Searches.Goes.{begun_here, ended_here, pass_dies, rest_passes, start_fails_pass}
 use Rattle.automata_hybrid.proofs.Searches.PassState.{clean_start, false_true, starts_at}
 use Rattle.automata_hybrid.proofs.Searches.PassState.{starts_dead, stops_start}
 use Rattle.automata_hybrid.proofs.dfa.DFA.begin.Goals as goal
@@ -42,44 +38,41 @@ rest-requires-clause-at c =
 
 pub returns-in-Err-clause-passed : goal.returns-in-Err-clause-passed
 returns-in-Err-clause-passed c =
-    let d : Direction = c.args.way in
-    FailsAtStart
-    (refusal_at c.args.self.now c.args.input.now.anchored (tape_in d c.args.input.now).before (behind_offset d c.args.input.now) (offset_in d c.args.input.now 0) c.args.cache.now c.walk_start.new.cache c.in-Err.error c.in-Err.ensures.refusal)
-    (unstarted d c.args.self.now c.args.input.now (behind_offset d c.args.input.now) (offset_in d c.args.input.now 0) c.args.cache.now c.walk_start.new.cache c.in-Err.error c.in-Err.ensures.refusal)
+    start_fails_pass c.args.way c.args.self.now c.args.input.now (known_of c.args.cache.now) (known_of c.walk_start.new.cache) c.in-Err.error c.in-Err.ensures.refusal
 
 pub returns-then-is_dead-clause-passed : goal.returns-then-is_dead-clause-passed
 returns-then-is_dead-clause-passed c =
     let d : Direction = c.args.way in
-    let begins : c.search_start.new.self ≡ with_search_begun d c.args.input.now 0 c.walk_start.new.cache =
-    subst (λ at. c.search_start.new.self ≡ begun_in_store at c.walk_start.new.cache) c.span_offset-first.ensures.value c.search_start.ensures.value in
+    let first : ℕ = given_up_offset d c.args.input.now 0 in
     let dies : state_in d c.args.self.now c.args.input.now 0 ≡ dead = begins_dead d c.args.self.now c.walk_start.new.cache.store.table c.args.input.now c.in-Ok.start c.in-Ok.ensures.answer.named (c.see_bounds-2.ensures.sound.low c.in-Ok.start) c.see_bounds-2.ensures.sound.small (c.if-is_dead.ensures.0 refl) in
     record {
       answer = record { found = starts_dead d c.args.self.now c.args.input.now dies; clean = clean_start d c.args.self.now c.args.input.now dies c.in-Ok.ensures.answer.may.0; supported = c.in-Ok.ensures.answer.may.1 };
-      ends = (
-        c.walk_start.new.cache,
-        c.in-Ok.ensures.run,
-        pass_dies d c.args.self.now c.args.input.now (with_search_begun d c.args.input.now 0 c.walk_start.new.cache) c.end_search.new.self
+      ends = record {
+        may = c.in-Ok.ensures.run.may;
+        begun = begun first (known_of c.walk_start.new.cache);
+        starts = ap (option_map (begun first)) c.in-Ok.ensures.run.does;
+        ends =
+            pass_dies d c.args.self.now c.args.input.now (begun first (known_of c.walk_start.new.cache)) (known_of c.end_search.new.self)
             (stops_start d c.args.self.now c.args.input.now dies 0 (omega arith))
             (ended_here d c.args.input.now 0 c.span_offset-first.result c.search_start.new.self c.end_search.new.self (sym c.span_offset-first.ensures.value) c.end_search.ensures.value
-            ∙ ap (λ (v : CacheView). with_search_ended d c.args.input.now 0 v) begins),
-      );
+            ∙ ap (ended first)
+            (begun_here d c.args.input.now c.span_offset-first.result c.walk_start.new.cache c.search_start.new.self (sym c.span_offset-first.ensures.value) c.search_start.ensures.value));
+      };
     }
 
 pub returns-clause-passed : goal.returns-clause-passed
 returns-clause-passed c =
     let d : Direction = c.args.way in
     let same = same_input c.args.input.now c.haystack.result.now c.get_span.result c.get_anchored.result c.get_earliest.result c.haystack.ensures.same c.get_span.ensures.start c.get_span.ensures.end c.get_anchored.ensures c.get_earliest.ensures in
-    let begins : c.search_start.new.self ≡ with_search_begun d c.args.input.now 0 c.walk_start.new.cache =
-    subst (λ at. c.search_start.new.self ≡ begun_in_store at c.walk_start.new.cache) c.span_offset-first.ensures.value c.search_start.ensures.value in
-    rest_passes d c.args.self.now c.args.input.now c.args.cache.now c.walk_start.new.cache c.search_start.new.self c.rest.new.cache (Ok c.in_ok-found.found) c.in-Ok.ensures.run begins
-    (subst (λ (i : Input). IsRest d c.args.self.now i c.search_start.new.self c.rest.new.cache (Ok c.in_ok-found.found)) same c.in_ok-found.ensures.rest)
+    rest_passes d c.args.self.now c.args.input.now (known_of c.args.cache.now) (known_of c.walk_start.new.cache) (known_of c.search_start.new.self) (known_of c.rest.new.cache) (Ok c.in_ok-found.found) c.in-Ok.ensures.run
+    (begun_here d c.args.input.now c.span_offset-first.result c.walk_start.new.cache c.search_start.new.self (sym c.span_offset-first.ensures.value) c.search_start.ensures.value)
+    (subst (λ (i : Input). IsRest d c.args.self.now i (known_of c.search_start.new.self) (known_of c.rest.new.cache) (Ok c.in_ok-found.found)) same c.in_ok-found.ensures.rest)
 
 pub returns-in_err-found-clause-passed : goal.returns-in_err-found-clause-passed
 returns-in_err-found-clause-passed c =
     let d : Direction = c.args.way in
     let same = same_input c.args.input.now c.haystack.result.now c.get_span.result c.get_anchored.result c.get_earliest.result c.haystack.ensures.same c.get_span.ensures.start c.get_span.ensures.end c.get_anchored.ensures c.get_earliest.ensures in
-    let begins : c.search_start.new.self ≡ with_search_begun d c.args.input.now 0 c.walk_start.new.cache =
-    subst (λ at. c.search_start.new.self ≡ begun_in_store at c.walk_start.new.cache) c.span_offset-first.ensures.value c.search_start.ensures.value in
-    at_err c.from_residual.result _ (IsPassResult d c.args.self.now c.args.input.now c.args.cache.now c.rest.new.cache) c.from_residual.ensures.1
-    (rest_passes d c.args.self.now c.args.input.now c.args.cache.now c.walk_start.new.cache c.search_start.new.self c.rest.new.cache (Err c.in_err-found.field-0.0) c.in-Ok.ensures.run begins
-    (subst (λ (i : Input). IsRest d c.args.self.now i c.search_start.new.self c.rest.new.cache (Err c.in_err-found.field-0.0)) same c.in_err-found.ensures.rest))
+    at_err c.from_residual.result _ (IsPassResult d c.args.self.now c.args.input.now (known_of c.args.cache.now) (known_of c.rest.new.cache)) c.from_residual.ensures.1
+    (rest_passes d c.args.self.now c.args.input.now (known_of c.args.cache.now) (known_of c.walk_start.new.cache) (known_of c.search_start.new.self) (known_of c.rest.new.cache) (Err c.in_err-found.field-0.0) c.in-Ok.ensures.run
+    (begun_here d c.args.input.now c.span_offset-first.result c.walk_start.new.cache c.search_start.new.self (sym c.span_offset-first.ensures.value) c.search_start.ensures.value)
+    (subst (λ (i : Input). IsRest d c.args.self.now i (known_of c.search_start.new.self) (known_of c.rest.new.cache) (Err c.in_err-found.field-0.0)) same c.in_err-found.ensures.rest))

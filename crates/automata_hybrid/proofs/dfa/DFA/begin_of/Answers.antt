@@ -1,8 +1,9 @@
 use Rattle.std.proofs.Common.{subst}
 use Rattle.automata_base.specs.Haystacks.Input.{Input}
+use Rattle.automata_hybrid.specs.Known.Stores.{known_of}
 use Rattle.automata_hybrid.specs.Private.Searches.PassContracts.{IsPassResult}
 use Rattle.automata_hybrid.proofs.dfa.DFA.begin_of.Goals as goal
 
 pub returns-clause-passed : goal.returns-clause-passed
 returns-clause-passed c =
-    subst (λ (i : Input). IsPassResult c.args.way c.args.self.now i c.args.cache.now c.begin.new.cache c.begin.result) c.input_of-own.ensures c.begin.ensures.passed
+    subst (λ (i : Input). IsPassResult c.args.way c.args.self.now i (known_of c.args.cache.now) (known_of c.begin.new.cache) c.begin.result) c.input_of-own.ensures c.begin.ensures.passed

@@ -6,16 +6,18 @@ use Rattle.automata_base.specs.declared.util.search.Direction.{Direction}
 use Rattle.automata_hybrid.specs.Searches.PassState.{IsAt}
 use Rattle.automata_hybrid.specs.Cache.Caches.{CacheView, IsCacheOf, IsStoreOf}
 use Rattle.automata_hybrid.specs.Private.Steps.Steps.{IsCellRead}
-use Rattle.automata_hybrid.specs.Searches.Passes.{Reads, given_up_offset, tape_in}
+use Rattle.automata_hybrid.specs.Searches.Passes.{HasReadNoQuit, Reads, given_up_offset, tape_in}
 use Rattle.automata_hybrid.proofs.Searches.PassContracts.{dead_answer, first_answer}
-use Rattle.automata_hybrid.proofs.Searches.Goes.{GoesTo, ended_here, goes_known, goes_more, goes_none, goes_on, last_rest, left_here, pass_last}
+use Rattle.automata_hybrid.proofs.Searches.Goes.{GoesTo, ended_here, goes_known, goes_more, goes_none, last_rest, left_here, pass_last}
 use Rattle.automata_hybrid.proofs.Searches.Goes.{pass_stopped, taken_here}
-use Rattle.automata_hybrid.proofs.Searches.PassState.{at_reads, stops_dead, stops_ends, more_leads, more_at}
-use Rattle.automata_hybrid.proofs.Searches.PassState.{unit_refuses, false_true}
+use Rattle.automata_hybrid.proofs.Searches.PassState.{at_reads, stops_dead, stops_ends, more_leads, more_at, more_clean}
+use Rattle.automata_hybrid.proofs.Searches.PassState.{false_true}
 use Rattle.automata_hybrid.proofs.Searches.PassState.{none_is, some_is}
 use Rattle.automata_hybrid.proofs.Searches.Traces.{pass_is_trace}
 use Rattle.automata_hybrid.proofs.Searches.Directions.{quit_free, span_unit, units_in}
+use Rattle.automata_hybrid.proofs.Searches.Units as units
 use Rattle.automata_hybrid.proofs.Steps.Ids.{dead_tagged}
+use Rattle.automata_hybrid.specs.Known.Stores.{known_of}
 use Rattle.automata_hybrid.proofs.dfa.DFA.find.Goals as goal
 use Rattle.automata_hybrid.proofs.dfa.DFA.find.Goals.{else-get_earliest-via-then-get_earliest+else-is_some}
 use Rattle.automata_hybrid.proofs.dfa.DFA.find.Goals.{else-get_earliest-via-else-get_earliest}
@@ -29,10 +31,13 @@ loop-run-init c =
       upto = omega (arith, c.near_end-end.ensures, c.last_place-last.ensures.place);
       at = c.requires.at.at.at;
       read = c.requires.next;
+      sound = is_store c.args.cache.now.store c.args.self.now c.requires.of c.see_bounds.ensures.bounds;
       progress =
-          goes_known d c.args.self.now c.args.input.now 0 c.args.cache.now 0 c.args.from.at c.args.cache.now
+          goes_known d c.args.self.now c.args.input.now 0 (known_of c.args.cache.now) c.see_machine.ensures.machine
+          (units.units_in d c.args.input.now (c.haystack-haystack.ensures.bytes, c.haystack-haystack.ensures.within.1) c.requires.at.at.undone)
+          0 c.args.from.at c.args.cache.now
           (is_store c.args.cache.now.store c.args.self.now c.requires.of c.see_bounds.ensures.bounds)
-          (goes_none d c.args.self.now c.args.input.now 0 c.args.cache.now)
+          (goes_none d c.args.self.now c.args.input.now 0 (known_of c.args.cache.now))
           (omega arith) c.requires.at.at.at.clean (λ j from below. c.requires.at.known j below);
     }
 
@@ -113,27 +118,31 @@ loop-run-preserved c =
     let inside : k < c.args.input.now.end - c.args.input.now.start = omega (arith, c.run_on-met.ensures.within) in
     let at : IsAt d c.args.self.now c.loop-run.cache.store.table c.args.input.now k c.run_on-met.result.id c.run_on-met.result.found = c.run_on-met.ensures.at in
     let given : given_up_offset d c.args.input.now k ≡ c.byte_offset-offset.result = span_unit d c.args.input.now k inside ∙ sym c.byte_offset-offset.ensures.unit in
-    let before : GoesTo d c.args.self.now c.args.input.now 0 k c.args.cache.now c.loop-run.cache =
-    goes_on d c.args.self.now c.args.input.now 0 c.args.cache.now (is_store c.args.cache.now.store c.args.self.now c.requires.of c.see_bounds.ensures.bounds)
-    c.loop-run.run.at k c.loop-run.cache c.loop-run.invariant.progress c.run_on-met.ensures.run.more at.clean c.run_on-met.ensures.run.known in
+    let before : GoesTo d c.args.self.now c.args.input.now 0 k (known_of c.args.cache.now) (known_of c.loop-run.cache) =
+    goes_known d c.args.self.now c.args.input.now 0 (known_of c.args.cache.now) c.see_machine.ensures.machine
+    (units.units_in d c.args.input.now (c.haystack-haystack.ensures.bytes, c.haystack-haystack.ensures.within.1) c.requires.at.at.undone)
+    c.loop-run.run.at k c.loop-run.cache c.loop-run.invariant.sound c.loop-run.invariant.progress c.run_on-met.ensures.run.more at.clean c.run_on-met.ensures.run.known in
     let read : next (tape_in d c.args.input.now) k ≡ Some c.byte_at-byte.result = c.byte_at-byte.ensures in
     let more : suc k ≡ c.run_on-met.result.at + 1 = omega arith in
     let sound = is_store c.read_met.new.cache.store c.args.self.now c.in-Ok.ensures.of c.see_bounds-in-loop-run.ensures.bounds in
-    let behind : GoesTo d c.args.self.now c.args.input.now 0 (c.run_on-met.result.at + 1) c.args.cache.now c.read_met.new.cache =
-    subst (λ n. GoesTo d c.args.self.now c.args.input.now 0 n c.args.cache.now c.read_met.new.cache) more (goes_more d c.args.self.now c.args.input.now 0 c.args.cache.now k c.loop-run.cache c.read_met.new.cache before
+    let behind : GoesTo d c.args.self.now c.args.input.now 0 (c.run_on-met.result.at + 1) (known_of c.args.cache.now) (known_of c.read_met.new.cache) =
+    subst (λ n. GoesTo d c.args.self.now c.args.input.now 0 n (known_of c.args.cache.now) (known_of c.read_met.new.cache)) more (goes_more d c.args.self.now c.args.input.now 0 (known_of c.args.cache.now) k (known_of c.loop-run.cache) (known_of c.read_met.new.cache) before
     (taken_here d c.args.self.now c.args.input.now k c.run_on-met.result.id c.byte_offset-offset.result (Some _) c.loop-run.cache c.read_met.new.cache read given at.named c.in-Ok.ensures.read.taken)) in
     let far = c.go_far-far.ensures.runs (c.run_on-met.result.at + 1) c.run-near.ensures.runs in
     let of : IsCacheOf c.go_far-far.new.cache c.args.self.now = subst (λ (v : CacheView). IsCacheOf v c.args.self.now) (sym c.go_far-far.ensures.same) c.in-Ok.ensures.of in
+    let there : IsStoreOf c.go_far-far.new.cache.store c.args.self.now = subst (λ (v : CacheView). IsStoreOf v.store c.args.self.now) (sym c.go_far-far.ensures.same) sound in
     record {
       of = of;
+      sound = there;
       within = omega (arith, far.run.within, c.last_place-last.ensures.place);
       upto = c.go_far-far.ensures.upto;
       at = far.at;
       read = c.go_far-far.ensures.read;
       progress =
-          goes_known d c.args.self.now c.args.input.now 0 c.args.cache.now (c.run_on-met.result.at + 1) c.go_far-far.result.0.at c.go_far-far.new.cache
-          (subst (λ (v : CacheView). IsStoreOf v.store c.args.self.now) (sym c.go_far-far.ensures.same) sound)
-          (subst (λ (v : CacheView). GoesTo d c.args.self.now c.args.input.now 0 (c.run_on-met.result.at + 1) c.args.cache.now v) (sym c.go_far-far.ensures.same) behind)
+          goes_known d c.args.self.now c.args.input.now 0 (known_of c.args.cache.now) c.see_machine.ensures.machine
+          (units.units_in d c.args.input.now (c.haystack-haystack.ensures.bytes, c.haystack-haystack.ensures.within.1) c.requires.at.at.undone)
+          (c.run_on-met.result.at + 1) c.go_far-far.result.0.at c.go_far-far.new.cache there
+          (subst (λ (v : CacheView). GoesTo d c.args.self.now c.args.input.now 0 (c.run_on-met.result.at + 1) (known_of c.args.cache.now) (known_of v)) (sym c.go_far-far.ensures.same) behind)
           far.run.more far.at.clean far.run.known;
     }
 
@@ -150,17 +159,17 @@ returns-in-Err-clause-rest c =
     let inside : k < c.args.input.now.end - c.args.input.now.start = omega (arith, c.run_on-met.ensures.within) in
     let at : IsAt d c.args.self.now c.loop-run.cache.store.table c.args.input.now k c.run_on-met.result.id c.run_on-met.result.found = c.run_on-met.ensures.at in
     let given : given_up_offset d c.args.input.now k ≡ c.byte_offset-offset.result = span_unit d c.args.input.now k inside ∙ sym c.byte_offset-offset.ensures.unit in
-    let before : GoesTo d c.args.self.now c.args.input.now 0 k c.args.cache.now c.loop-run.cache =
-    goes_on d c.args.self.now c.args.input.now 0 c.args.cache.now (is_store c.args.cache.now.store c.args.self.now c.requires.of c.see_bounds.ensures.bounds)
-    c.loop-run.run.at k c.loop-run.cache c.loop-run.invariant.progress c.run_on-met.ensures.run.more at.clean c.run_on-met.ensures.run.known in
+    let before : GoesTo d c.args.self.now c.args.input.now 0 k (known_of c.args.cache.now) (known_of c.loop-run.cache) =
+    goes_known d c.args.self.now c.args.input.now 0 (known_of c.args.cache.now) c.see_machine.ensures.machine
+    (units.units_in d c.args.input.now (c.haystack-haystack.ensures.bytes, c.haystack-haystack.ensures.within.1) c.requires.at.at.undone)
+    c.loop-run.run.at k c.loop-run.cache c.loop-run.invariant.sound c.loop-run.invariant.progress c.run_on-met.ensures.run.more at.clean c.run_on-met.ensures.run.known in
     let read : next (tape_in d c.args.input.now) k ≡ Some c.byte_at-byte.result = c.byte_at-byte.ensures in
     let few : k ≤ length (tape_in d c.args.input.now).bytes = (let u = units_in d c.args.input.now c.requires.at.at.undone c.last_place-last.ensures.inside in omega (arith, u, inside)) in
-    pass_stopped d c.args.self.now c.args.input.now k c.args.cache.now c.loop-run.cache c.read_met.new.cache c.in-Err.error
+    pass_stopped d c.args.self.now c.args.input.now k (known_of c.args.cache.now) (known_of c.loop-run.cache) (known_of c.read_met.new.cache) c.in-Err.error
     (at_reads d c.args.self.now c.loop-run.cache.store.table c.args.input.now k c.run_on-met.result.id c.run_on-met.result.found at few c.in-Err.ensures.read.alive) at.clean
-    (unit_refuses d c.args.self.now c.loop-run.cache.store.table c.read_met.new.cache.store c.args.input.now k c.run_on-met.result.id c.byte_offset-offset.result c.byte_offset-offset.result _ c.run_on-met.result.found c.in-Err.error
-    at read (sym c.byte_offset-offset.ensures.unit) given c.in-Err.ensures.read.refused)
     before
-    (left_here d c.args.self.now c.args.input.now k c.run_on-met.result.id c.byte_offset-offset.result (Some _) c.loop-run.cache c.read_met.new.cache read given at.named c.in-Err.ensures.read.left)
+    (left_here d c.args.self.now c.args.input.now k c.run_on-met.result.id c.byte_offset-offset.result (Some _) c.loop-run.cache c.read_met.new.cache read given at.named c.byte_offset-offset.result c.in-Err.error (sym c.byte_offset-offset.ensures.unit)
+    c.in-Err.ensures.read.fails)
 
 pub returns-then-is_dead-clause-rest : goal.returns-then-is_dead-clause-rest
 returns-then-is_dead-clause-rest c =
@@ -169,19 +178,22 @@ returns-then-is_dead-clause-rest c =
     let inside : k < c.args.input.now.end - c.args.input.now.start = omega (arith, c.run_on-met.ensures.within) in
     let at : IsAt d c.args.self.now c.loop-run.cache.store.table c.args.input.now k c.run_on-met.result.id c.run_on-met.result.found = c.run_on-met.ensures.at in
     let given : given_up_offset d c.args.input.now k ≡ c.byte_offset-offset.result = span_unit d c.args.input.now k inside ∙ sym c.byte_offset-offset.ensures.unit in
-    let before : GoesTo d c.args.self.now c.args.input.now 0 k c.args.cache.now c.loop-run.cache =
-    goes_on d c.args.self.now c.args.input.now 0 c.args.cache.now (is_store c.args.cache.now.store c.args.self.now c.requires.of c.see_bounds.ensures.bounds)
-    c.loop-run.run.at k c.loop-run.cache c.loop-run.invariant.progress c.run_on-met.ensures.run.more at.clean c.run_on-met.ensures.run.known in
+    let before : GoesTo d c.args.self.now c.args.input.now 0 k (known_of c.args.cache.now) (known_of c.loop-run.cache) =
+    goes_known d c.args.self.now c.args.input.now 0 (known_of c.args.cache.now) c.see_machine.ensures.machine
+    (units.units_in d c.args.input.now (c.haystack-haystack.ensures.bytes, c.haystack-haystack.ensures.within.1) c.requires.at.at.undone)
+    c.loop-run.run.at k c.loop-run.cache c.loop-run.invariant.sound c.loop-run.invariant.progress c.run_on-met.ensures.run.more at.clean c.run_on-met.ensures.run.known in
     let read : next (tape_in d c.args.input.now) k ≡ Some c.byte_at-byte.result = c.byte_at-byte.ensures in
     let few : k ≤ length (tape_in d c.args.input.now).bytes = (let u = units_in d c.args.input.now c.requires.at.at.undone c.last_place-last.ensures.inside in omega (arith, u, inside)) in
     let stops : Reads d c.args.self.now c.args.input.now (suc k) → ⊥ = stops_dead d c.args.self.now c.loop-run.cache.store.table c.read_met.new.cache.store.table c.args.input.now k c.run_on-met.result.id c.in-Ok.next _ c.run_on-met.result.found None at read c.in-Ok.ensures.read.answer.named (quit_free c.args.self.now _ c.in-Ok.ensures.read.answer.clean) (λ l. (dead_tagged c.read_met.new.cache.store.table c.in-Ok.next (c.see_bounds-in-loop-run.ensures.sound.low c.in-Ok.next) c.see_bounds-in-loop-run.ensures.sound.small _ l).0 (c.if-is_dead.ensures.0 refl)) (suc k) (omega arith) in
+    let clean : HasReadNoQuit d c.args.self.now c.args.input.now (suc k) =
+    more_clean d c.args.self.now c.loop-run.cache.store.table c.read_met.new.cache.store.table c.args.input.now k c.run_on-met.result.id c.in-Ok.next _ c.run_on-met.result.found None at read c.in-Ok.ensures.read.answer.named (quit_free c.args.self.now _ c.in-Ok.ensures.read.answer.clean) in
     record {
       answer =
           dead_answer d c.args.self.now c.args.input.now k c.run_on-met.result.id _ c.run_on-met.result.found c.loop-run.cache c.read_met.new.cache (record { undone = c.requires.at.at.undone; may = c.requires.at.at.may; at = at }) read c.in-Ok.next None c.in-Ok.ensures.read.answer (λ l. (dead_tagged c.read_met.new.cache.store.table c.in-Ok.next (c.see_bounds-in-loop-run.ensures.sound.low c.in-Ok.next) c.see_bounds-in-loop-run.ensures.sound.small _ l).0 (c.if-is_dead.ensures.0 refl)) few;
       ended =
-          pass_last d c.args.self.now c.args.input.now k c.args.cache.now c.read_met.new.cache c.end_search.new.self
-          (at_reads d c.args.self.now c.loop-run.cache.store.table c.args.input.now k c.run_on-met.result.id c.run_on-met.result.found at few c.in-Ok.ensures.read.alive) stops
-          (goes_more d c.args.self.now c.args.input.now 0 c.args.cache.now k c.loop-run.cache c.read_met.new.cache before
+          pass_last d c.args.self.now c.args.input.now k (known_of c.args.cache.now) (known_of c.read_met.new.cache) (known_of c.end_search.new.self)
+          (at_reads d c.args.self.now c.loop-run.cache.store.table c.args.input.now k c.run_on-met.result.id c.run_on-met.result.found at few c.in-Ok.ensures.read.alive) stops clean
+          (goes_more d c.args.self.now c.args.input.now 0 (known_of c.args.cache.now) k (known_of c.loop-run.cache) (known_of c.read_met.new.cache) before
           (taken_here d c.args.self.now c.args.input.now k c.run_on-met.result.id c.byte_offset-offset.result (Some _) c.loop-run.cache c.read_met.new.cache read given at.named c.in-Ok.ensures.read.taken))
           (ended_here d c.args.input.now k c.byte_offset-offset.result c.read_met.new.cache c.end_search.new.self given c.end_search.ensures.value);
     }
@@ -193,19 +205,22 @@ returns-then-is_some-clause-rest c =
     let inside : k < c.args.input.now.end - c.args.input.now.start = omega (arith, c.run_on-met.ensures.within) in
     let at : IsAt d c.args.self.now c.loop-run.cache.store.table c.args.input.now k c.run_on-met.result.id c.run_on-met.result.found = c.run_on-met.ensures.at in
     let given : given_up_offset d c.args.input.now k ≡ c.byte_offset-offset.result = span_unit d c.args.input.now k inside ∙ sym c.byte_offset-offset.ensures.unit in
-    let before : GoesTo d c.args.self.now c.args.input.now 0 k c.args.cache.now c.loop-run.cache =
-    goes_on d c.args.self.now c.args.input.now 0 c.args.cache.now (is_store c.args.cache.now.store c.args.self.now c.requires.of c.see_bounds.ensures.bounds)
-    c.loop-run.run.at k c.loop-run.cache c.loop-run.invariant.progress c.run_on-met.ensures.run.more at.clean c.run_on-met.ensures.run.known in
+    let before : GoesTo d c.args.self.now c.args.input.now 0 k (known_of c.args.cache.now) (known_of c.loop-run.cache) =
+    goes_known d c.args.self.now c.args.input.now 0 (known_of c.args.cache.now) c.see_machine.ensures.machine
+    (units.units_in d c.args.input.now (c.haystack-haystack.ensures.bytes, c.haystack-haystack.ensures.within.1) c.requires.at.at.undone)
+    c.loop-run.run.at k c.loop-run.cache c.loop-run.invariant.sound c.loop-run.invariant.progress c.run_on-met.ensures.run.more at.clean c.run_on-met.ensures.run.known in
     let read : next (tape_in d c.args.input.now) k ≡ Some c.byte_at-byte.result = c.byte_at-byte.ensures in
     let few : k ≤ length (tape_in d c.args.input.now).bytes = (let u = units_in d c.args.input.now c.requires.at.at.undone c.last_place-last.ensures.inside in omega (arith, u, inside)) in
     let stops : Reads d c.args.self.now c.args.input.now (suc k) → ⊥ = stops_ends d c.args.self.now c.loop-run.cache.store.table c.read_met.new.cache.store.table c.args.input.now k c.run_on-met.result.id c.in-Ok.next _ c.run_on-met.result.found c.found_at-found.result at read c.in-Ok.ensures.read.answer.named (quit_free c.args.self.now _ c.in-Ok.ensures.read.answer.clean) (c.place_offset.result, c.place_offset.ensures.value, c.found_at-found.ensures) (sym c.get_earliest.ensures ∙ c.if-get_earliest.true) (some_is c.found_at-found.result c.if-is_some.ensures) (suc k) (omega arith) in
+    let clean : HasReadNoQuit d c.args.self.now c.args.input.now (suc k) =
+    more_clean d c.args.self.now c.loop-run.cache.store.table c.read_met.new.cache.store.table c.args.input.now k c.run_on-met.result.id c.in-Ok.next _ c.run_on-met.result.found None at read c.in-Ok.ensures.read.answer.named (quit_free c.args.self.now _ c.in-Ok.ensures.read.answer.clean) in
     record {
       answer =
           first_answer d c.args.self.now c.args.input.now k c.run_on-met.result.id _ c.run_on-met.result.found c.loop-run.cache c.read_met.new.cache (record { undone = c.requires.at.at.undone; may = c.requires.at.at.may; at = at }) read c.in-Ok.next c.found_at-found.result c.in-Ok.ensures.read.answer c.place_offset.result c.place_offset.ensures.value c.found_at-found.ensures (sym c.get_earliest.ensures ∙ c.if-get_earliest.true) (some_is c.found_at-found.result c.if-is_some.ensures) few;
       ended =
-          pass_last d c.args.self.now c.args.input.now k c.args.cache.now c.read_met.new.cache c.end_search-then-is_some.new.self
-          (at_reads d c.args.self.now c.loop-run.cache.store.table c.args.input.now k c.run_on-met.result.id c.run_on-met.result.found at few c.in-Ok.ensures.read.alive) stops
-          (goes_more d c.args.self.now c.args.input.now 0 c.args.cache.now k c.loop-run.cache c.read_met.new.cache before
+          pass_last d c.args.self.now c.args.input.now k (known_of c.args.cache.now) (known_of c.read_met.new.cache) (known_of c.end_search-then-is_some.new.self)
+          (at_reads d c.args.self.now c.loop-run.cache.store.table c.args.input.now k c.run_on-met.result.id c.run_on-met.result.found at few c.in-Ok.ensures.read.alive) stops clean
+          (goes_more d c.args.self.now c.args.input.now 0 (known_of c.args.cache.now) k (known_of c.loop-run.cache) (known_of c.read_met.new.cache) before
           (taken_here d c.args.self.now c.args.input.now k c.run_on-met.result.id c.byte_offset-offset.result (Some _) c.loop-run.cache c.read_met.new.cache read given at.named c.in-Ok.ensures.read.taken))
           (ended_here d c.args.input.now k c.byte_offset-offset.result c.read_met.new.cache c.end_search-then-is_some.new.self given c.end_search-then-is_some.ensures.value);
     }
@@ -217,9 +232,9 @@ returns-clause-rest c =
     let k : ℕ = c.args.input.now.end - c.args.input.now.start in
     let at : IsAt d c.args.self.now c.loop-run.cache.store.table c.args.input.now k c.loop-run.run.id c.loop-run.run.found = subst (λ k. IsAt d c.args.self.now c.loop-run.cache.store.table c.args.input.now k c.loop-run.run.id c.loop-run.run.found) same c.loop-run.invariant.at in
     let units : k ≡ length (tape_in d c.args.input.now).bytes = units_in d c.args.input.now c.requires.at.at.undone c.last_place-last.ensures.inside in
-    let before : GoesTo d c.args.self.now c.args.input.now 0 k c.args.cache.now c.loop-run.cache = subst (λ k. GoesTo d c.args.self.now c.args.input.now 0 k c.args.cache.now c.loop-run.cache) same c.loop-run.invariant.progress in
+    let before : GoesTo d c.args.self.now c.args.input.now 0 k (known_of c.args.cache.now) (known_of c.loop-run.cache) = subst (λ k. GoesTo d c.args.self.now c.args.input.now 0 k (known_of c.args.cache.now) (known_of c.loop-run.cache)) same c.loop-run.invariant.progress in
     let reads : Reads d c.args.self.now c.args.input.now k = at_reads d c.args.self.now c.loop-run.cache.store.table c.args.input.now k c.loop-run.run.id c.loop-run.run.found at (omega (arith, units)) c.find_end.ensures.alive in
-    last_rest d c.args.self.now c.args.input.now c.args.cache.now c.loop-run.cache c.find_end.new.cache c.find_end.result units reads at.clean before c.find_end.ensures.last
+    last_rest d c.args.self.now c.args.input.now (known_of c.args.cache.now) (known_of c.loop-run.cache) (known_of c.find_end.new.cache) c.find_end.result units reads at.clean before c.find_end.ensures.last
 
 pub loop-run-smaller : goal.loop-run-smaller
 loop-run-smaller c =

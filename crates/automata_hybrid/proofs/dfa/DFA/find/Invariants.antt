@@ -1,7 +1,8 @@
 use Rattle.std.proofs.Common.{◌<◌, ◌≤◌, ◌-◌}
-use Rattle.automata_hybrid.specs.Cache.Caches.{IsCacheOf}
+use Rattle.automata_hybrid.specs.Cache.Caches.{IsCacheOf, IsStoreOf}
 use Rattle.automata_hybrid.specs.Searches.PassState.{IsAt}
 use Rattle.automata_hybrid.specs.Private.Searches.PassState.{IsNextCell}
+use Rattle.automata_hybrid.specs.Known.Stores.{known_of}
 use Rattle.automata_hybrid.proofs.Searches.Goes.{GoesTo}
 use Rattle.automata_hybrid.specs.Searches.Traces.{pass_trace}
 use Rattle.automata_hybrid.proofs.dfa.DFA.find.Given as goal
@@ -15,7 +16,8 @@ invariant-loop-run l = record {
   read :
       l.run.at < l.input.end - l.input.start
       → IsNextCell l.way l.self l.cache.store l.input l.run.at l.run.id l.run.next;
-  progress : GoesTo l.way l.self l.input 0 l.run.at l.fn.cache l.cache;
+  sound : IsStoreOf l.cache.store l.self;
+  progress : GoesTo l.way l.self l.input 0 l.run.at (known_of l.fn.cache) (known_of l.cache);
 }
 
 abbrev pub decreases-loop-run : goal.decreases-loop-run

@@ -7,10 +7,10 @@ use Rattle.automata_base.specs.declared.util.search.Direction.{Direction}
 use Rattle.automata_hybrid.specs.Searches.Passes.{given_up_offset, state_in, tape_in, unit_offset}
 use Rattle.automata_config.specs.Options.{match_kind_of}
 use Rattle.automata_hybrid.specs.Cache.Table.{Leads, Rows}
+use Rattle.automata_hybrid.specs.Known.Stores.{known_of}
 use Rattle.automata_hybrid.proofs.Searches.Directions.{units_in}
 use Rattle.automata_hybrid.proofs.Searches.PassContracts.{last_answer}
 use Rattle.automata_hybrid.proofs.Searches.Goes.{ended_here, left_here, taken_here}
-use Rattle.automata_hybrid.proofs.Searches.PassState.{unit_refuses}
 use Rattle.automata_hybrid.proofs.dfa.DFA.find_end.Goals as goal
 
 pub read-requires-clause-valid : goal.read-requires-clause-valid
@@ -34,7 +34,7 @@ returns-clause-last c =
       answer =
           last_answer d c.args.self.now c.args.input.now k c.args.id c.unit_at-unit.result c.args.found c.args.cache.now c.read.new.cache c.requires.at unit c.in-Ok.next c.found_at.result c.in-Ok.ensures.read.answer c.place_offset.result place
           (λ q l. c.found_at.ensures q (subst (λ (t : Rows). Leads t c.in-Ok.next q) (sym c.end_search.ensures.table) l)) units;
-      mid = c.read.new.cache;
+      mid = known_of c.read.new.cache;
       read = taken_here d c.args.self.now c.args.input.now k c.args.id c.span_offset-at.result c.unit_at-unit.result c.args.cache.now c.read.new.cache unit given c.requires.at.at.named c.in-Ok.ensures.read.taken;
       ended = ended_here d c.args.input.now k c.span_offset-at.result c.read.new.cache c.end_search.new.self given c.end_search.ensures.value;
     }
@@ -52,9 +52,4 @@ returns-in-Err-clause-last c =
     let unit : next (tape_in d c.args.input.now) k ≡ c.unit_at-unit.result = sym (c.unit_at-unit.ensures ∙ ap (next (tape_in d c.args.input.now)) c.last_place-last.ensures.place) in
     let given : given_up_offset d c.args.input.now k ≡ c.span_offset-at.result = sym (c.span_offset-at.ensures.value ∙ ap (given_up_offset d c.args.input.now) c.last_place-last.ensures.place) in
     let quits : c.unit_offset.result ≡ unit_offset d c.args.input.now k = c.unit_offset.ensures ∙ ap (unit_offset d c.args.input.now) c.last_place-last.ensures.place in
-    record {
-      error =
-          unit_refuses d c.args.self.now c.args.cache.now.store.table c.read.new.cache.store c.args.input.now k c.args.id c.unit_offset.result c.span_offset-at.result c.unit_at-unit.result c.args.found c.in-Err.error
-          c.requires.at.at unit (sym quits) given c.in-Err.ensures.read.refused;
-      left = left_here d c.args.self.now c.args.input.now k c.args.id c.span_offset-at.result c.unit_at-unit.result c.args.cache.now c.read.new.cache unit given c.requires.at.at.named c.in-Err.ensures.read.left;
-    }
+    left_here d c.args.self.now c.args.input.now k c.args.id c.span_offset-at.result c.unit_at-unit.result c.args.cache.now c.read.new.cache unit given c.requires.at.at.named c.unit_offset.result c.in-Err.error (sym quits) c.in-Err.ensures.read.fails

@@ -1,5 +1,5 @@
-use Rattle.std.specs.Prelude.{Ok, Err}
-use Rattle.std.proofs.Common.{Option, ◌≡◌, ◌+◌, ◌<◌, ◌^◌, None, subst, sym, arith}
+use Rattle.std.specs.Prelude.{Ok, Err, option_map}
+use Rattle.std.proofs.Common.{Option, ◌≡◌, ◌+◌, ◌<◌, ◌^◌, None, ap, subst, sym, arith}
 use Rattle.std.proofs.lemmas.Grind.{common_steps}
 use Rattle.automata_base.specs.Haystacks.Input.{Allows, Input}
 use Rattle.automata_base.specs.Haystacks.Matches.{HalfMatch}
@@ -8,14 +8,16 @@ use Rattle.automata_hybrid.specs.Cache.Caches.{CacheView, with_store, IsStoreOf}
 use Rattle.automata_hybrid.specs.Cache.Progress.{saturated, total_len}
 use Rattle.automata_hybrid.specs.Cache.Stores.{with_searched}
 use Rattle.automata_hybrid.specs.Private.Searches.PassContracts.{IsKnownUpto, IsPassResult, IsRest, half_if}
-use Rattle.automata_hybrid.specs.Private.Searches.Progress.{with_search_begun}
-use Rattle.automata_hybrid.specs.Private.Calls.Events.{begun_in_store}
+use Rattle.automata_hybrid.specs.Known.Known.{begun}
+use Rattle.automata_hybrid.specs.Known.Stores.{known_of}
+use Rattle.automata_hybrid.specs.Searches.Passes.{given_up_offset}
 use Rattle.automata_hybrid.proofs.Searches.Directions.{begins_alive}
 use Rattle.automata_hybrid.proofs.Searches.KnownPasses.{known_ended}
 use Rattle.automata_hybrid.proofs.Searches.PassContracts.{same_input}
 use Rattle.automata_hybrid.proofs.Searches.Contracts.{is_store}
-use Rattle.automata_hybrid.proofs.Searches.Goes.{rest_passes}
+use Rattle.automata_hybrid.proofs.Searches.Goes.{begun_here, rest_passes}
 use Rattle.automata_hybrid.proofs.Searches.PassState.{starts_at}
+use Rattle.automata_hybrid.proofs.Searches.Units.{units_in}
 use Rattle.automata_hybrid.proofs.Steps.Ids.{low_bit}
 use Rattle.automata_hybrid.specs.Cache.Ids.{unknown_id}
 use Rattle.automata_hybrid.specs.Private.Searches.PassState.{IsNextCell}
@@ -39,16 +41,19 @@ returns-then-has_ended-clause-passed c =
     let d : Direction = c.args.way in
     let low : c.known_start-start.result < 2 ^ 31 = grind (arith, common_steps, c.if-is_fixed.ensures) in
     let sound : IsStoreOf c.args.cache.now.store c.args.self.now = (is_store c.args.cache.now.store c.args.self.now c.requires.of c.see_bounds.ensures.bounds) in
+    let run = c.known_start-start.ensures.run low in
     let end = c.known_pass-known.ensures.ended (c.has_ended.ensures.yes c.if-has_ended.true) in
     let counted = subst (λ n. c.count_search.new.self ≡ with_store c.args.cache.now (with_searched c.args.cache.now.store (record { bytes = saturated (total_len c.args.cache.now.store.searched + n); running = None })))
     c.bytes_read.ensures c.count_search.ensures.value in
     record {
       answer = end.answer;
-      ends = (
-        c.args.cache.now,
-        c.known_start-start.ensures.run low,
-        known_ended d c.args.self.now c.args.input.now c.known_pass-known.result.at c.known_pass-known.result.id c.args.cache.now c.known_pass-known.result.found c.count_search.new.self end sound counted,
-      );
+      ends = record {
+        may = run.may;
+        begun = begun (given_up_offset d c.args.input.now 0) (known_of c.args.cache.now);
+        starts = ap (option_map (begun (given_up_offset d c.args.input.now 0))) run.does;
+        ends = known_ended d c.args.self.now c.args.input.now c.known_pass-known.result.at c.known_pass-known.result.id c.args.cache.now c.known_pass-known.result.found c.count_search.new.self c.see_machine.ensures.machine
+            (units_in d c.args.input.now (c.haystack-haystack.ensures.bytes, c.haystack-haystack.ensures.within.1) c.requires.«open») end sound counted;
+      };
     }
 
 pub rest-requires-clause-at : goal.rest-requires-clause-at
@@ -78,27 +83,25 @@ returns-in-Ok-rest-clause-passed c =
     let d : Direction = c.args.way in
     let low : c.known_start-start.result < 2 ^ 31 = grind (arith, common_steps, c.if-is_fixed.ensures) in
     let same = same_input c.args.input.now c.haystack-2.result.now c.get_span-2.result c.get_anchored-2.result c.get_earliest-2.result c.haystack-2.ensures.same c.get_span-2.ensures.start c.get_span-2.ensures.end c.get_anchored-2.ensures c.get_earliest-2.ensures in
-    let begins : c.search_start.new.self ≡ with_search_begun d c.args.input.now 0 c.args.cache.now =
-    subst (λ at. c.search_start.new.self ≡ begun_in_store at c.args.cache.now) c.span_offset.ensures.value c.search_start.ensures.value in
-    rest_passes d c.args.self.now c.args.input.now c.args.cache.now c.args.cache.now c.search_start.new.self c.rest.new.cache (Ok c.in-Ok-rest.found) (c.known_start-start.ensures.run low) begins
-    (subst (λ (i : Input). IsRest d c.args.self.now i c.search_start.new.self c.rest.new.cache (Ok c.in-Ok-rest.found)) same c.in-Ok-rest.ensures.rest)
+    rest_passes d c.args.self.now c.args.input.now (known_of c.args.cache.now) (known_of c.args.cache.now) (known_of c.search_start.new.self) (known_of c.rest.new.cache) (Ok c.in-Ok-rest.found) (c.known_start-start.ensures.run low)
+    (begun_here d c.args.input.now c.span_offset.result c.args.cache.now c.search_start.new.self (sym c.span_offset.ensures.value) c.search_start.ensures.value)
+    (subst (λ (i : Input). IsRest d c.args.self.now i (known_of c.search_start.new.self) (known_of c.rest.new.cache) (Ok c.in-Ok-rest.found)) same c.in-Ok-rest.ensures.rest)
 
 pub returns-in-Err-rest-clause-passed : goal.returns-in-Err-rest-clause-passed
 returns-in-Err-rest-clause-passed c =
     let d : Direction = c.args.way in
     let low : c.known_start-start.result < 2 ^ 31 = grind (arith, common_steps, c.if-is_fixed.ensures) in
     let same = same_input c.args.input.now c.haystack-2.result.now c.get_span-2.result c.get_anchored-2.result c.get_earliest-2.result c.haystack-2.ensures.same c.get_span-2.ensures.start c.get_span-2.ensures.end c.get_anchored-2.ensures c.get_earliest-2.ensures in
-    let begins : c.search_start.new.self ≡ with_search_begun d c.args.input.now 0 c.args.cache.now =
-    subst (λ at. c.search_start.new.self ≡ begun_in_store at c.args.cache.now) c.span_offset.ensures.value c.search_start.ensures.value in
-    rest_passes d c.args.self.now c.args.input.now c.args.cache.now c.args.cache.now c.search_start.new.self c.rest.new.cache (Err c.in-Err-rest.error) (c.known_start-start.ensures.run low) begins
-    (subst (λ (i : Input). IsRest d c.args.self.now i c.search_start.new.self c.rest.new.cache (Err c.in-Err-rest.error)) same c.in-Err-rest.ensures.rest)
+    rest_passes d c.args.self.now c.args.input.now (known_of c.args.cache.now) (known_of c.args.cache.now) (known_of c.search_start.new.self) (known_of c.rest.new.cache) (Err c.in-Err-rest.error) (c.known_start-start.ensures.run low)
+    (begun_here d c.args.input.now c.span_offset.result c.args.cache.now c.search_start.new.self (sym c.span_offset.ensures.value) c.search_start.ensures.value)
+    (subst (λ (i : Input). IsRest d c.args.self.now i (known_of c.search_start.new.self) (known_of c.rest.new.cache) (Err c.in-Err-rest.error)) same c.in-Err-rest.ensures.rest)
 
 pub returns-in-Ok-clause-passed : goal.returns-in-Ok-clause-passed
 returns-in-Ok-clause-passed c =
     let same = same_input c.args.input.now c.haystack.result.now c.get_span.result c.get_anchored.result c.get_earliest.result c.haystack.ensures.same c.get_span.ensures.start c.get_span.ensures.end c.get_anchored.ensures c.get_earliest.ensures in
-    subst (λ (i : Input). IsPassResult c.args.way c.args.self.now i c.args.cache.now c.begin_of.new.cache (Ok c.in-Ok.found)) same c.in-Ok.ensures.passed
+    subst (λ (i : Input). IsPassResult c.args.way c.args.self.now i (known_of c.args.cache.now) (known_of c.begin_of.new.cache) (Ok c.in-Ok.found)) same c.in-Ok.ensures.passed
 
 pub returns-in-Err-clause-passed : goal.returns-in-Err-clause-passed
 returns-in-Err-clause-passed c =
     let same = same_input c.args.input.now c.haystack.result.now c.get_span.result c.get_anchored.result c.get_earliest.result c.haystack.ensures.same c.get_span.ensures.start c.get_span.ensures.end c.get_anchored.ensures c.get_earliest.ensures in
-    subst (λ (i : Input). IsPassResult c.args.way c.args.self.now i c.args.cache.now c.begin_of.new.cache (Err c.in-Err.error)) same c.in-Err.ensures.passed
+    subst (λ (i : Input). IsPassResult c.args.way c.args.self.now i (known_of c.args.cache.now) (known_of c.begin_of.new.cache) (Err c.in-Err.error)) same c.in-Err.ensures.passed

@@ -2,6 +2,7 @@ use Rattle.std.proofs.Common.{◌-◌, ◌≤◌, arith, subst, sym}
 use Rattle.automata_base.specs.declared.util.search.Direction.{Direction}
 use Rattle.automata_base.specs.declared.util.search.Direction.TheVariants.{Forward, Backward}
 use Rattle.automata_base.specs.Haystacks.Input.{Input}
+use Rattle.automata_hybrid.specs.Known.Stores.{known_of}
 use Rattle.automata_hybrid.specs.Private.Searches.PassContracts.{IsRest, input_at}
 use Rattle.automata_hybrid.specs.Searches.Passes.{state_in}
 use Rattle.automata_hybrid.specs.Cache.Table.{Names}
@@ -11,15 +12,15 @@ use Rattle.automata_hybrid.proofs.dfa.DFA.rest.Goals as goal
 pub returns-in-Forward-clause-rest : goal.returns-in-Forward-clause-rest
 returns-in-Forward-clause-rest c =
     let own : Input = input_at c.args.haystack.now c.args.span c.args.anchored c.args.earliest in
-    subst (λ (w : Direction). IsRest w c.args.self.now own c.args.cache.now c.find.new.cache c.find.result) (sym c.in-Forward.is)
-    (subst (λ (i : Input). IsRest Forward c.args.self.now i c.args.cache.now c.find.new.cache c.find.result) c.input_of-own.ensures c.find.ensures.rest)
+    subst (λ (w : Direction). IsRest w c.args.self.now own (known_of c.args.cache.now) (known_of c.find.new.cache) c.find.result) (sym c.in-Forward.is)
+    (subst (λ (i : Input). IsRest Forward c.args.self.now i (known_of c.args.cache.now) (known_of c.find.new.cache) c.find.result) c.input_of-own.ensures c.find.ensures.rest)
 
 pub returns-in-Backward-clause-rest : goal.returns-in-Backward-clause-rest
 returns-in-Backward-clause-rest c =
     let own : Input = input_at c.args.haystack.now c.args.span c.args.anchored c.args.earliest in
     let found = c.find-in-Backward in
-    subst (λ (w : Direction). IsRest w c.args.self.now own c.args.cache.now found.new.cache found.result) (sym c.in-Backward.is)
-    (subst (λ (i : Input). IsRest Backward c.args.self.now i c.args.cache.now found.new.cache found.result) c.input_of-own.ensures found.ensures.rest)
+    subst (λ (w : Direction). IsRest w c.args.self.now own (known_of c.args.cache.now) (known_of found.new.cache) found.result) (sym c.in-Backward.is)
+    (subst (λ (i : Input). IsRest Backward c.args.self.now i (known_of c.args.cache.now) (known_of found.new.cache) found.result) c.input_of-own.ensures found.ensures.rest)
 
 pub next_known-next-requires : goal.next_known-next-requires
 next_known-next-requires c =

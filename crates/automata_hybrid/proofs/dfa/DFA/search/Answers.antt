@@ -9,8 +9,8 @@ use Rattle.automata_base.specs.declared.util.search.Direction.TheVariants.{Forwa
 use Rattle.automata_hybrid.specs.Searches.Contracts.{based_half}
 use Rattle.automata_hybrid.specs.Searches.Passes.{Finds, IsFound, Skips, with_base}
 use Rattle.automata_hybrid.specs.Private.Searches.PassContracts.{input_at}
-use Rattle.automata_hybrid.specs.Private.Searches.Progress.{HaveTriedInStore, IsSearchRunInStore}
-use Rattle.automata_hybrid.proofs.Searches.Contracts.{is_store}
+use Rattle.automata_hybrid.specs.Known.Passes.{HaveTried, IsSearchRun}
+use Rattle.automata_hybrid.specs.Known.Stores.{known_of}
 use Rattle.automata_hybrid.proofs.Searches.Directions.{later_none}
 use Rattle.automata_hybrid.proofs.Searches.PassContracts.{same_input}
 use Rattle.automata_hybrid.proofs.Searches.Skips.{finds_none, finds_some, none_stops, some_stops}
@@ -25,20 +25,20 @@ returns-in-Ok-clause-found c =
 pub returns-in-Ok-clause-effect : goal.returns-in-Ok-clause-effect
 returns-in-Ok-clause-effect c =
     let same = same_input c.args.input.now c.haystack.result.now c.get_span.result c.get_anchored.result c.get_earliest.result c.haystack.ensures.same c.get_span.ensures.start c.get_span.ensures.end c.get_anchored.ensures c.get_earliest.ensures in
-    subst (λ (i : Input). IsSearchRunInStore c.args.way c.args.self.now i c.args.cache.now c.search_skipping.new.cache None) same c.in-Ok.ensures.searched.effect
+    subst (λ (i : Input). IsSearchRun c.args.way c.args.self.now i (known_of c.args.cache.now) (known_of c.search_skipping.new.cache) None) same c.in-Ok.ensures.searched.effect
 
 pub returns-in-Ok-clause-upto : goal.returns-in-Ok-clause-upto
 returns-in-Ok-clause-upto c = λ forward.
     let same = same_input c.args.input.now c.haystack.result.now c.get_span.result c.get_anchored.result c.get_earliest.result c.haystack.ensures.same c.get_span.ensures.start c.get_span.ensures.end c.get_anchored.ensures c.get_earliest.ensures in
     let base : c.get_span.result.start ≡ c.args.input.now.start = c.get_span.ensures.start in
-    subst (λ (i : Input). IfSome c.in-Ok.found (λ p. HaveTriedInStore Forward c.args.self.now i (p.1 - c.args.input.now.start + 1) c.args.cache.now c.search_skipping.new.cache)) same
-    (subst (λ n. IfSome c.in-Ok.found (λ p. HaveTriedInStore Forward c.args.self.now (input_at c.haystack.result.now c.get_span.result c.get_anchored.result c.get_earliest.result) (p.1 - n + 1) c.args.cache.now c.search_skipping.new.cache)) base
+    subst (λ (i : Input). IfSome c.in-Ok.found (λ p. HaveTried Forward c.args.self.now i (p.1 - c.args.input.now.start + 1) (known_of c.args.cache.now) (known_of c.search_skipping.new.cache))) same
+    (subst (λ n. IfSome c.in-Ok.found (λ p. HaveTried Forward c.args.self.now (input_at c.haystack.result.now c.get_span.result c.get_anchored.result c.get_earliest.result) (p.1 - n + 1) (known_of c.args.cache.now) (known_of c.search_skipping.new.cache))) base
     (c.in-Ok.ensures.searched.upto forward))
 
 pub returns-in-Err-clause-effect : goal.returns-in-Err-clause-effect
 returns-in-Err-clause-effect c =
     let same = same_input c.args.input.now c.haystack.result.now c.get_span.result c.get_anchored.result c.get_earliest.result c.haystack.ensures.same c.get_span.ensures.start c.get_span.ensures.end c.get_anchored.ensures c.get_earliest.ensures in
-    subst (λ (i : Input). IsSearchRunInStore c.args.way c.args.self.now i c.args.cache.now c.search_skipping.new.cache (Some c.in-Err.error)) same c.in-Err.ensures.searched
+    subst (λ (i : Input). IsSearchRun c.args.way c.args.self.now i (known_of c.args.cache.now) (known_of c.search_skipping.new.cache) (Some c.in-Err.error)) same c.in-Err.ensures.searched
 
 pub returns-in-Ok-Some-clause-found : goal.returns-in-Ok-Some-clause-found
 returns-in-Ok-Some-clause-found c =
@@ -58,8 +58,8 @@ returns-in-Ok-Some-clause-effect c =
     let ahead : c.args.input.now.start ≤ c.args.input.now.end = grind (arith, common_steps, c.if-is_done.ensures) in
     let within : c.args.input.now.start + 0 ≤ c.args.input.now.end = omega (arith, ahead) in
     let tries : Tries (Finds d c.args.self.now) (Skips c.args.self.now) d c.args.input.now 0 = record { comes = inl refl; before = λ j less. absurd (omega (arith, less)) } in
-    run_after d c.args.self.now c.args.input.now 0 tries c.args.cache.now c.args.cache.now ((is_store c.args.cache.now.store c.args.self.now c.requires c.see_bounds.ensures.bounds), refl)
-    c.args.input.now same within c.pass.new.cache c.in-Ok-Some.ensures.passed.ends
+    run_after d c.args.self.now c.args.input.now 0 tries (known_of c.args.cache.now) (known_of c.args.cache.now) refl
+    c.args.input.now same within (known_of c.pass.new.cache) c.in-Ok-Some.ensures.passed.ends
     (λ j less tried past. some_stops d c.args.self.now c.args.input.now c.args.input.now 0 same tries within c.in-Ok-Some.half (sym c.in-Ok-Some.field-0-is ∙ c.in-Ok-Some.ensures.passed.answer.found) (λ skips. absurd (c.if-skips.ensures.no refl skips)) j less tried)
 
 pub returns-in-Ok-Some-clause-upto : goal.returns-in-Ok-Some-clause-upto
@@ -70,10 +70,10 @@ returns-in-Ok-Some-clause-upto c = λ forward.
     let within : c.args.input.now.start + 0 ≤ c.args.input.now.end = omega (arith, ahead) in
     let tries : Tries (Finds d c.args.self.now) (Skips c.args.self.now) d c.args.input.now 0 = record { comes = inl refl; before = λ j less. absurd (omega (arith, less)) } in
     let base : 1 ≡ c.start.result - c.args.input.now.start + 1 = omega (arith, c.start.ensures.start) in
-    subst (λ n. HaveTriedInStore Forward c.args.self.now c.args.input.now n c.args.cache.now c.pass.new.cache) base
-    (subst (λ (e : Direction). HaveTriedInStore e c.args.self.now c.args.input.now 1 c.args.cache.now c.pass.new.cache) forward
-    (spans_run d c.args.self.now c.args.input.now 0 tries c.args.cache.now c.args.cache.now ((is_store c.args.cache.now.store c.args.self.now c.requires c.see_bounds.ensures.bounds), refl)
-    c.args.input.now same within c.pass.new.cache c.in-Ok-Some.ensures.passed.ends))
+    subst (λ n. HaveTried Forward c.args.self.now c.args.input.now n (known_of c.args.cache.now) (known_of c.pass.new.cache)) base
+    (subst (λ (e : Direction). HaveTried e c.args.self.now c.args.input.now 1 (known_of c.args.cache.now) (known_of c.pass.new.cache)) forward
+    (spans_run d c.args.self.now c.args.input.now 0 tries (known_of c.args.cache.now) (known_of c.args.cache.now) refl
+    c.args.input.now same within (known_of c.pass.new.cache) c.in-Ok-Some.ensures.passed.ends))
 
 pub returns-in-Ok-None-clause-found : goal.returns-in-Ok-None-clause-found
 returns-in-Ok-None-clause-found c =
@@ -91,8 +91,8 @@ returns-in-Ok-None-clause-effect c =
     let ahead : c.args.input.now.start ≤ c.args.input.now.end = grind (arith, common_steps, c.if-is_done.ensures) in
     let within : c.args.input.now.start + 0 ≤ c.args.input.now.end = omega (arith, ahead) in
     let tries : Tries (Finds d c.args.self.now) (Skips c.args.self.now) d c.args.input.now 0 = record { comes = inl refl; before = λ j less. absurd (omega (arith, less)) } in
-    run_after d c.args.self.now c.args.input.now 0 tries c.args.cache.now c.args.cache.now ((is_store c.args.cache.now.store c.args.self.now c.requires c.see_bounds.ensures.bounds), refl)
-    c.args.input.now same within c.pass.new.cache c.in-Ok-None.ensures.passed.ends
+    run_after d c.args.self.now c.args.input.now 0 tries (known_of c.args.cache.now) (known_of c.args.cache.now) refl
+    c.args.input.now same within (known_of c.pass.new.cache) c.in-Ok-None.ensures.passed.ends
     (λ j less tried past. none_stops d c.args.self.now c.args.input.now c.args.input.now 0 same tries within (sym c.in-Ok-None.field-0-is ∙ c.in-Ok-None.ensures.passed.answer.found) j less tried)
 
 pub returns-in-Err-pass-clause-effect : goal.returns-in-Err-pass-clause-effect
@@ -102,5 +102,5 @@ returns-in-Err-pass-clause-effect c =
     let ahead : c.args.input.now.start ≤ c.args.input.now.end = grind (arith, common_steps, c.if-is_done.ensures) in
     let within : c.args.input.now.start + 0 ≤ c.args.input.now.end = omega (arith, ahead) in
     let tries : Tries (Finds d c.args.self.now) (Skips c.args.self.now) d c.args.input.now 0 = record { comes = inl refl; before = λ j less. absurd (omega (arith, less)) } in
-    run_refused d c.args.self.now c.args.input.now 0 tries c.args.cache.now c.args.cache.now ((is_store c.args.cache.now.store c.args.self.now c.requires c.see_bounds.ensures.bounds), refl)
-    c.args.input.now same within c.pass.new.cache c.in-Err-pass.error c.in-Err-pass.ensures.passed
+    run_refused d c.args.self.now c.args.input.now 0 tries (known_of c.args.cache.now) (known_of c.args.cache.now) refl
+    c.args.input.now same within (known_of c.pass.new.cache) c.in-Err-pass.error c.in-Err-pass.ensures.passed

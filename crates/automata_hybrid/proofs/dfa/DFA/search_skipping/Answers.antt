@@ -2,6 +2,7 @@ use Rattle.std.proofs.Common.{subst, sym}
 use Rattle.automata_base.specs.declared.util.search.Direction.{Direction}
 use Rattle.automata_base.specs.declared.util.search.Direction.TheVariants.{Forward, Backward}
 use Rattle.automata_base.specs.Haystacks.Input.{Input}
+use Rattle.automata_hybrid.specs.Known.Stores.{known_of}
 use Rattle.automata_hybrid.specs.Private.Searches.Contracts.{IsSearchResult}
 use Rattle.automata_hybrid.specs.Private.Searches.PassContracts.{input_at}
 use Rattle.automata_hybrid.proofs.dfa.DFA.search_skipping.Goals as goal
@@ -10,12 +11,12 @@ pub returns-in-Forward-clause-searched : goal.returns-in-Forward-clause-searched
 returns-in-Forward-clause-searched c =
     let own : Input = input_at c.args.haystack.now c.args.span c.args.anchored c.args.earliest in
     let spans = c.search_spans in
-    subst (λ (w : Direction). IsSearchResult w c.args.self.now own c.args.cache.now spans.new.cache spans.result) (sym c.in-Forward.is)
-    (subst (λ (i : Input). IsSearchResult Forward c.args.self.now i c.args.cache.now spans.new.cache spans.result) c.input_of-own.ensures spans.ensures.searched)
+    subst (λ (w : Direction). IsSearchResult w c.args.self.now own (known_of c.args.cache.now) (known_of spans.new.cache) spans.result) (sym c.in-Forward.is)
+    (subst (λ (i : Input). IsSearchResult Forward c.args.self.now i (known_of c.args.cache.now) (known_of spans.new.cache) spans.result) c.input_of-own.ensures spans.ensures.searched)
 
 pub returns-in-Backward-clause-searched : goal.returns-in-Backward-clause-searched
 returns-in-Backward-clause-searched c =
     let own : Input = input_at c.args.haystack.now c.args.span c.args.anchored c.args.earliest in
     let spans = c.search_spans-in-Backward in
-    subst (λ (w : Direction). IsSearchResult w c.args.self.now own c.args.cache.now spans.new.cache spans.result) (sym c.in-Backward.is)
-    (subst (λ (i : Input). IsSearchResult Backward c.args.self.now i c.args.cache.now spans.new.cache spans.result) c.input_of-own.ensures spans.ensures.searched)
+    subst (λ (w : Direction). IsSearchResult w c.args.self.now own (known_of c.args.cache.now) (known_of spans.new.cache) spans.result) (sym c.in-Backward.is)
+    (subst (λ (i : Input). IsSearchResult Backward c.args.self.now i (known_of c.args.cache.now) (known_of spans.new.cache) spans.result) c.input_of-own.ensures spans.ensures.searched)

@@ -9,12 +9,13 @@ use Rattle.automata_base.specs.declared.util.search.Direction.{Direction}
 use Rattle.automata_base.specs.declared.util.search.Direction.TheVariants.{Forward}
 use Rattle.automata_hybrid.specs.Searches.Passes.{Finds, IsFound, Skips, with_base}
 use Rattle.automata_hybrid.specs.Machines.StartSlots.{supports}
-use Rattle.automata_hybrid.specs.Private.Searches.Progress.{PassesEndInStore, HaveTriedInStore}
+use Rattle.automata_hybrid.specs.Known.Passes.{PassesEnd, HaveTried}
+use Rattle.automata_hybrid.specs.Known.Stores.{known_of}
 use Rattle.automata_hybrid.proofs.Searches.Directions.{later_anchored, later_none, later_on, later_start, skipped, skipped_last}
 use Rattle.automata_hybrid.proofs.Searches.Directions.{skipped_more, skipped_within}
 use Rattle.automata_hybrid.specs.Searches.Contracts.{IsUnsupported, unsupported_error}
 use Rattle.std.specs.Prelude.{Err}
-use Rattle.automata_hybrid.proofs.Searches.Contracts.{err_to, is_store}
+use Rattle.automata_hybrid.proofs.Searches.Contracts.{err_to}
 use Rattle.automata_hybrid.proofs.Searches.PassState.{false_true}
 use Rattle.automata_hybrid.proofs.Searches.Skips.{anchored_stops, none_stops, some_stops, finds_none, finds_no_more}
 use Rattle.automata_hybrid.proofs.Searches.Skips.{finds_some, finds_split, tries_on}
@@ -31,8 +32,7 @@ loop-later-init c =
       few = subst (λ (i : Input). i.end + 1 - i.start ≤ c.args.input.now.end + 1 - c.args.input.now.start) (sym whole) (omega arith);
       same = subst (λ n. c.copied-later.result ≡ later d n c.args.input.now) none (whole ∙ later_none d c.args.input.now);
       first = λ u. sym none;
-      progress = subst (λ n. PassesEndInStore d c.args.self.now c.args.input.now n c.args.cache.now c.args.cache.now) none
-          ((is_store c.args.cache.now.store c.args.self.now c.requires c.see_bounds.ensures.bounds), refl);
+      progress = subst (λ n. PassesEnd d c.args.self.now c.args.input.now n (known_of c.args.cache.now) (known_of c.args.cache.now)) none refl;
       tries = subst (λ n. Tries (Finds d c.args.self.now) (Skips c.args.self.now) d c.args.input.now n) none (record { comes = inl refl; before = λ j less. absurd (omega (arith, less)) });
     }
 
@@ -50,8 +50,8 @@ loop-later-preserved c =
       few = omega (arith, c.if-not-begin_later.ensures.shorter refl, c.loop-later.invariant.few);
       same = subst (λ n. c.begin_later.new.input ≡ later d n c.args.input.now) next (c.if-not-begin_later.ensures.later refl ∙ (ap (later d 1) same ∙ later_on d k c.args.input.now));
       first = λ u. absurd (false_true (sym u ∙ (ap (supports c.args.self.now) (sym (ap (λ (i : Input). i.anchored) same ∙ later_anchored d k c.args.input.now)) ∙ c.in-Ok.ensures.passed.answer.supported)));
-      progress = subst (λ n. PassesEndInStore d c.args.self.now c.args.input.now n c.args.cache.now c.pass.new.cache) next
-          (spans_ended d c.args.self.now c.args.input.now k c.loop-later.invariant.tries c.args.cache.now c.loop-later.cache c.loop-later.invariant.progress c.loop-later.later same within c.pass.new.cache c.in-Ok.ensures.passed.ends);
+      progress = subst (λ n. PassesEnd d c.args.self.now c.args.input.now n (known_of c.args.cache.now) (known_of c.pass.new.cache)) next
+          (spans_ended d c.args.self.now c.args.input.now k c.loop-later.invariant.tries (known_of c.args.cache.now) (known_of c.loop-later.cache) c.loop-later.invariant.progress c.loop-later.later same within (known_of c.pass.new.cache) c.in-Ok.ensures.passed.ends);
       tries = subst (λ n. Tries (Finds d c.args.self.now) (Skips c.args.self.now) d c.args.input.now n) next
           (tries_on d c.args.self.now c.args.input.now c.loop-later.later k same c.loop-later.invariant.tries within c.in-Some.half (sym c.in-Some.is ∙ c.in-Ok.ensures.passed.answer.found) c.in-Ok.ensures.passed.answer.clean (c.if-not-skips_at.ensures.yes refl).0 (subst (λ n. is_split c.loop-later.later.haystack n ≡ true) c.offset.ensures (c.if-not-skips_at.ensures.yes refl).1) mode);
     }
@@ -63,8 +63,8 @@ returns-in-Err-clause-searched c =
     let same : c.loop-later.later ≡ later d k c.args.input.now = c.loop-later.invariant.same in
     let ahead : c.loop-later.later.start ≤ c.loop-later.later.end = grind (arith, common_steps, c.loop-later-test.ensures.done) in
     let within : c.args.input.now.start + k ≤ c.args.input.now.end = skipped_within c.args.input.now c.loop-later.later c.loop-later.invariant.few ahead in
-    (run_refused d c.args.self.now c.args.input.now k c.loop-later.invariant.tries c.args.cache.now c.loop-later.cache c.loop-later.invariant.progress
-    c.loop-later.later same within c.pass.new.cache c.in-Err.error c.in-Err.ensures.passed)
+    (run_refused d c.args.self.now c.args.input.now k c.loop-later.invariant.tries (known_of c.args.cache.now) (known_of c.loop-later.cache) c.loop-later.invariant.progress
+    c.loop-later.later same within (known_of c.pass.new.cache) c.in-Err.error c.in-Err.ensures.passed)
 
 pub returns-in_default-clause-searched : goal.returns-in_default-clause-searched
 returns-in_default-clause-searched c =
@@ -77,8 +77,8 @@ returns-in_default-clause-searched c =
       found =
           finds_none d c.args.self.now c.args.input.now c.loop-later.later k same c.loop-later.invariant.tries within (sym c.in_default.is ∙ c.in-Ok.ensures.passed.answer.found) c.in-Ok.ensures.passed.answer.clean;
       effect =
-          run_after d c.args.self.now c.args.input.now k c.loop-later.invariant.tries c.args.cache.now c.loop-later.cache c.loop-later.invariant.progress
-          c.loop-later.later same within c.pass.new.cache c.in-Ok.ensures.passed.ends
+          run_after d c.args.self.now c.args.input.now k c.loop-later.invariant.tries (known_of c.args.cache.now) (known_of c.loop-later.cache) c.loop-later.invariant.progress
+          c.loop-later.later same within (known_of c.pass.new.cache) c.in-Ok.ensures.passed.ends
           (λ j less tried past. none_stops d c.args.self.now c.args.input.now c.loop-later.later k same c.loop-later.invariant.tries within (sym c.in_default.is ∙ c.in-Ok.ensures.passed.answer.found) j less tried);
       upto = λ forward. tt;
     }
@@ -95,14 +95,14 @@ returns-then-not-skips_at-clause-searched c =
       found =
           subst (λ n. IsFound d c.args.self.now c.args.input.now (Some (with_base c.in-Some.half n))) (sym c.start.ensures.start) found;
       effect =
-          run_after d c.args.self.now c.args.input.now k c.loop-later.invariant.tries c.args.cache.now c.loop-later.cache c.loop-later.invariant.progress
-          c.loop-later.later same within c.pass.new.cache c.in-Ok.ensures.passed.ends
+          run_after d c.args.self.now c.args.input.now k c.loop-later.invariant.tries (known_of c.args.cache.now) (known_of c.loop-later.cache) c.loop-later.invariant.progress
+          c.loop-later.later same within (known_of c.pass.new.cache) c.in-Ok.ensures.passed.ends
           (λ j less tried past. some_stops d c.args.self.now c.args.input.now c.loop-later.later k same c.loop-later.invariant.tries within c.in-Some.half (sym c.in-Some.is ∙ c.in-Ok.ensures.passed.answer.found) (λ skips. subst (λ n. is_split c.loop-later.later.haystack n ≡ false) c.offset.ensures (c.if-not-skips_at.ensures.no refl skips)) j less tried);
       upto = λ forward. (
           let base : suc k ≡ c.start.result - c.args.input.now.start + 1 = omega (arith, c.start.ensures.start, later_start d k c.args.input.now c.loop-later.later same forward) in
-          subst (λ n. HaveTriedInStore Forward c.args.self.now c.args.input.now n c.args.cache.now c.pass.new.cache) base
-          (subst (λ (e : Direction). HaveTriedInStore e c.args.self.now c.args.input.now (suc k) c.args.cache.now c.pass.new.cache) forward
-          (spans_run d c.args.self.now c.args.input.now k c.loop-later.invariant.tries c.args.cache.now c.loop-later.cache c.loop-later.invariant.progress c.loop-later.later same within c.pass.new.cache c.in-Ok.ensures.passed.ends)));
+          subst (λ n. HaveTried Forward c.args.self.now c.args.input.now n (known_of c.args.cache.now) (known_of c.pass.new.cache)) base
+          (subst (λ (e : Direction). HaveTried e c.args.self.now c.args.input.now (suc k) (known_of c.args.cache.now) (known_of c.pass.new.cache)) forward
+          (spans_run d c.args.self.now c.args.input.now k c.loop-later.invariant.tries (known_of c.args.cache.now) (known_of c.loop-later.cache) c.loop-later.invariant.progress c.loop-later.later same within (known_of c.pass.new.cache) c.in-Ok.ensures.passed.ends)));
     }
 
 pub returns-then-is_anchored-clause-searched : goal.returns-then-is_anchored-clause-searched
@@ -116,8 +116,8 @@ returns-then-is_anchored-clause-searched c =
       found =
           finds_split d c.args.self.now c.args.input.now c.loop-later.later k same c.loop-later.invariant.tries within c.in-Some.half (sym c.in-Some.is ∙ c.in-Ok.ensures.passed.answer.found) c.in-Ok.ensures.passed.answer.clean (c.if-not-skips_at.ensures.yes refl).0 (subst (λ n. is_split c.loop-later.later.haystack n ≡ true) c.offset.ensures (c.if-not-skips_at.ensures.yes refl).1) (λ e. c.if-is_anchored.ensures.yes refl (c.get_anchored.ensures ∙ (ap (λ (i : Input). i.anchored) same ∙ (later_anchored d k c.args.input.now ∙ e))));
       effect =
-          run_after d c.args.self.now c.args.input.now k c.loop-later.invariant.tries c.args.cache.now c.loop-later.cache c.loop-later.invariant.progress
-          c.loop-later.later same within c.pass.new.cache c.in-Ok.ensures.passed.ends
+          run_after d c.args.self.now c.args.input.now k c.loop-later.invariant.tries (known_of c.args.cache.now) (known_of c.loop-later.cache) c.loop-later.invariant.progress
+          c.loop-later.later same within (known_of c.pass.new.cache) c.in-Ok.ensures.passed.ends
           (λ j less tried past. anchored_stops d c.args.self.now c.args.input.now c.loop-later.later k same c.loop-later.invariant.tries within (λ e. c.if-is_anchored.ensures.yes refl (c.get_anchored.ensures ∙ (ap (λ (i : Input). i.anchored) same ∙ (later_anchored d k c.args.input.now ∙ e)))) j less tried);
       upto = λ forward. tt;
     }
@@ -136,8 +136,8 @@ returns-then-not-begin_later-clause-searched c =
           finds_no_more d c.args.self.now c.args.input.now (suc k)
           (tries_on d c.args.self.now c.args.input.now c.loop-later.later k same c.loop-later.invariant.tries within c.in-Some.half (sym c.in-Some.is ∙ c.in-Ok.ensures.passed.answer.found) c.in-Ok.ensures.passed.answer.clean (c.if-not-skips_at.ensures.yes refl).0 (subst (λ n. is_split c.loop-later.later.haystack n ≡ true) c.offset.ensures (c.if-not-skips_at.ensures.yes refl).1) mode) over;
       effect =
-          run_after d c.args.self.now c.args.input.now k c.loop-later.invariant.tries c.args.cache.now c.loop-later.cache c.loop-later.invariant.progress
-          c.loop-later.later same within c.pass.new.cache c.in-Ok.ensures.passed.ends
+          run_after d c.args.self.now c.args.input.now k c.loop-later.invariant.tries (known_of c.args.cache.now) (known_of c.loop-later.cache) c.loop-later.invariant.progress
+          c.loop-later.later same within (known_of c.pass.new.cache) c.in-Ok.ensures.passed.ends
           (λ j less tried past. omega (arith, less, past, over));
       upto = λ forward. tt;
     }
@@ -151,7 +151,7 @@ returns-clause-searched c =
       found =
           finds_no_more d c.args.self.now c.args.input.now k c.loop-later.invariant.tries (omega (arith, done));
       effect =
-          run_before d c.args.self.now c.args.input.now k c.loop-later.invariant.tries c.args.cache.now c.loop-later.cache c.loop-later.invariant.progress (omega (arith, done));
+          run_before d c.args.self.now c.args.input.now k c.loop-later.invariant.tries (known_of c.args.cache.now) (known_of c.loop-later.cache) c.loop-later.invariant.progress (omega (arith, done));
       upto = λ forward. tt;
     }
 

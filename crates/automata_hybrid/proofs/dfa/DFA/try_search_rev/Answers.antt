@@ -1,6 +1,6 @@
 use Rattle.std.proofs.Common.{◌∙◌, sym, ap, subst}
 use Rattle.std.specs.Result.{result_err}
-use Rattle.std.proofs.lemmas.Result.{IfErr-weaker, IfOk-weaker}
+use Rattle.std.proofs.lemmas.Result.{IfOk-weaker}
 use Rattle.automata_base.specs.Nfas.Nodes.{Automaton}
 use Rattle.automata_base.specs.declared.util.search.Direction.TheVariants.{Backward}
 use Rattle.automata_base.specs.Answers.OfPasses.{ReportedEndsAreRight, ReportedIsRight}
@@ -9,10 +9,9 @@ use Rattle.automata_config.specs.Options.{match_kind_of}
 use Rattle.automata_hybrid.specs.Searches.Contracts.{IsHalf}
 use Rattle.automata_hybrid.specs.Private.Searches.Contracts.{halves}
 use Rattle.automata_hybrid.specs.Searches.Passes.{IsFound}
-use Rattle.automata_hybrid.specs.Private.Searches.Progress.{IsSearchRunInStore}
-use Rattle.automata_hybrid.proofs.Known.Passes.{searches_by_known}
-use Rattle.automata_hybrid.proofs.Searches.Follows.{call_refused}
-use Rattle.automata_hybrid.proofs.Searches.Reach.{refused_memory}
+use Rattle.automata_hybrid.specs.Known.Passes.{IsSearchRun}
+use Rattle.automata_hybrid.specs.Known.Stores.{known_of}
+use Rattle.automata_hybrid.proofs.Known.Memory.{call_memory}
 use Rattle.automata_hybrid.proofs.Searches.Contracts.{halves_err, halves_error, halves_ok}
 use Rattle.automata_hybrid.proofs.Searches.Skips.{found_reported}
 use Rattle.automata_hybrid.proofs.Searches.Bounds.{lies_in}
@@ -24,7 +23,6 @@ returns-clause-half c =
     let input = c.args.input.now in
     let s = c.search-found.ensures in
     let r = c.search-found.result in
-    let cache = c.search-found.new.cache.store in
     let haystack = c.haystack-haystack.ensures in
     let reported = subst (λ (a : Automaton). ReportedIsRight a) c.get_nfa.ensures c.reported_is_right.ensures.answer in
     let ends = subst (λ (a : Automaton). ReportedEndsAreRight a) c.get_nfa.ensures c.reported_is_right.ensures.ends in
@@ -48,14 +46,11 @@ returns-clause-half c =
       unsupported = λ u. ap halves (s.unsupported u);
       free = λ f.
           halves_err _ r
-          (IfErr-weaker r _ _ (λ e x. refused_memory Backward m cache input e haystack.within.1 s.of f.reach f.supported f.clears x)
-          (call_refused Backward m input c.args.cache.now c.search-found.new.cache r s.effect));
+          (call_memory Backward m input (known_of c.args.cache.now) (known_of c.search-found.new.cache) r haystack.within.1 f s.effect);
       done = λ past. ap halves (s.done past);
     })
 
 pub returns-clause-effect : goal.returns-clause-effect
 returns-clause-effect c =
-    searches_by_known c.args.self.now c.see_machine.ensures.machine c.see_machine.ensures.bytes Backward c.args.input.now
-    c.args.cache.now c.search-found.new.cache _ (c.haystack-haystack.ensures.bytes, c.haystack-haystack.ensures.within.1)
-    (subst (IsSearchRunInStore Backward c.args.self.now c.args.input.now c.args.cache.now c.search-found.new.cache)
-    (sym (ap result_err c.without_base.ensures ∙ halves_error c.search-found.result)) c.search-found.ensures.effect)
+    subst (IsSearchRun Backward c.args.self.now c.args.input.now (known_of c.args.cache.now) (known_of c.search-found.new.cache))
+    (sym (ap result_err c.without_base.ensures ∙ halves_error c.search-found.result)) c.search-found.ensures.effect
