@@ -282,7 +282,7 @@ impl DFA {
         if self.skips() {
             return Err(BeginError::Skips);
         }
-        let id = match self.find_start(cache, config) {
+        let id = match self.start_state(cache, config) {
             Ok(id) => id,
             Err(error) => return Err(BeginError::Start(error)),
         };
