@@ -1,6 +1,6 @@
 -- Units that are read one after another, and the end of a pass after them, by what the cache knows.
-use Rattle.std.proofs.Common.{ℕ, zero, suc, ◌≡◌, ◌∙◌, ◌+◌, ◌-◌, ◌<◌, ◌≤◌, ◌⊎◌, inl, inr, length, Option, Some, true, false}
-use Rattle.std.proofs.Common.{refl, sym, ap, subst, arith, eq-or-lt_of_le}
+use Rattle.std.proofs.Common.{ℕ, zero, suc, ◌≡◌, ◌∙◌, ◌+◌, ◌-◌, ◌<◌, ◌≤◌, ◌⊎◌, inl, inr, length, Option, Some, true}
+use Rattle.std.proofs.Common.{false, refl, sym, ap, subst, arith, eq-or-lt_of_le}
 use Rattle.std.specs.Prelude.{Result, Ok, Err, option_and_then, option_map}
 use Rattle.automata_base.specs.Answers.Answers.{offset_in}
 use Rattle.automata_base.specs.Haystacks.Input.{Input}
@@ -31,8 +31,8 @@ use Rattle.automata_hybrid.specs.Private.Machines.Machine.{IsMachine}
 use Rattle.automata_hybrid.specs.Private.Searches.PassContracts.{IsLastRead, IsPassResult, IsRest}
 use Rattle.automata_hybrid.specs.Private.Searches.PassState.{HasLearnedAlong}
 use Rattle.automata_hybrid.specs.Private.Searches.Units.{IsStepped}
-use Rattle.automata_hybrid.specs.Searches.Passes.{HasReadNoQuit, Reads, behind_offset, given_up_offset, state_in, tape_in}
-use Rattle.automata_hybrid.specs.Searches.Passes.{unit_offset}
+use Rattle.automata_hybrid.specs.Searches.Passes.{HasReadNoQuit, Reads, behind_offset, given_up_offset, state_in}
+use Rattle.automata_hybrid.specs.Searches.Passes.{tape_in, unit_offset}
 use Rattle.automata_hybrid.specs.Searches.Progress.{start_event, unit_event}
 use Rattle.automata_hybrid.specs.Searches.Traces.{Trace, pass_trace}
 use Rattle.automata_hybrid.specs.Steps.Starts.{start_search_error}
@@ -218,7 +218,8 @@ pass_dies way m input begun new none last = record {
 -- a pass without a start state fails
 pub start_fails_pass :
     (way : Direction) (m : Machine) (input : Input) (old new : Known) (e : SearchError)
-    → StartFailsAt m input.anchored (tape_in way input).before (behind_offset way input) (offset_in way input 0) old new e
+    → StartFailsAt m input.anchored (tape_in way input).before (behind_offset way input) (offset_in way input 0)
+    old new e
     → PassFails way m input old new e
 start_fails_pass way m input old new e f = go f.error f.fails f.reported where
   go :

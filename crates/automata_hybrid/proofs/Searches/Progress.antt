@@ -1,5 +1,5 @@
--- What steps and starts make of the progress, and the spans that a search tries.
-use Rattle.std.proofs.Common.{ℕ, suc, ◌+◌, ◌≤◌, arith}
+-- The spans that a search tries.
+use Rattle.std.proofs.Common.{ℕ, suc, ◌+◌, ◌≤◌, inl, refl, arith}
 use Rattle.automata_base.specs.Answers.Answers.{Tries}
 use Rattle.automata_base.specs.Haystacks.Input.{Input}
 use Rattle.automata_base.specs.declared.util.search.Direction.{Direction}
@@ -7,6 +7,10 @@ use Rattle.automata_hybrid.specs.Machines.Machine.{Machine}
 use Rattle.automata_hybrid.specs.Searches.Progress.{TriesSpans}
 use Rattle.automata_hybrid.specs.Searches.Passes.{Finds, Skips}
 use Rattle.automata_hybrid.proofs.Searches.Costs.{tries_before}
+
+-- it tries the first one
+pub tries_first : (way : Direction) (m : Machine) (input : Input) → Tries (Finds way m) (Skips m) way input 0
+tries_first way m input = record { comes = inl refl; before = λ j less. absurd (omega (arith, less)) }
 
 -- the spans before one that a search tries
 pub spans_before :

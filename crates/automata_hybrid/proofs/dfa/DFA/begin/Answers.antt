@@ -1,11 +1,13 @@
 use Rattle.std.proofs.Common.{ℕ, ◌≡◌, ◌∙◌, ap, None, refl, sym, subst, arith}
-use Rattle.std.specs.Prelude.{Ok, Err, option_map}
+use Rattle.std.specs.Prelude.{Option, Result, Ok, Err, option_map}
 use Rattle.automata_base.specs.Haystacks.Input.{Allows, Input}
+use Rattle.automata_base.specs.Haystacks.Matches.{HalfMatch}
 use Rattle.automata_base.specs.Powersets.Powerset.{dead}
 use Rattle.automata_base.specs.declared.util.search.Direction.{Direction}
+use Rattle.automata_config.specs.declared.error.SearchError.{SearchError}
 use Rattle.automata_hybrid.specs.Known.Known.{begun, ended}
 use Rattle.automata_hybrid.specs.Known.Stores.{known_of}
-use Rattle.automata_hybrid.specs.Private.Searches.PassContracts.{IsKnownUpto, IsPassResult, IsRest}
+use Rattle.automata_hybrid.specs.Private.Searches.PassContracts.{IsKnownUpto, IsPassResult, IsRest, input_at}
 use Rattle.automata_hybrid.specs.Searches.Passes.{given_up_offset, state_in}
 use Rattle.automata_hybrid.specs.Cache.Table.{Rows, Names}
 use Rattle.automata_hybrid.proofs.Searches.Directions.{begins_alive, begins_dead}
@@ -15,64 +17,114 @@ use Rattle.automata_hybrid.proofs.Searches.Goes.{begun_here, ended_here, pass_di
 use Rattle.automata_hybrid.proofs.Searches.PassState.{clean_start, false_true, starts_at}
 use Rattle.automata_hybrid.proofs.Searches.PassState.{starts_dead, stops_start}
 use Rattle.automata_hybrid.proofs.dfa.DFA.begin.Goals as goal
+use Rattle.automata_hybrid.proofs.dfa.DFA.begin.Goals.{After-get_earliest, After-rest, After-search_start}
+
+-- the parts of the input make it again
+same :
+    (c : After-get_earliest)
+    → input_at c.haystack.result.now c.get_span.result c.get_anchored.result c.get_earliest.result ≡ c.args.input.now
+same c =
+    same_input c.args.input.now c.haystack.result.now c.get_span.result c.get_anchored.result c.get_earliest.result
+    c.haystack.ensures.same c.get_span.ensures.start c.get_span.ensures.end c.get_anchored.ensures
+    c.get_earliest.ensures
+
+-- the search has begun
+begins :
+    (c : After-search_start)
+    → known_of c.search_start.new.self
+    ≡ begun (given_up_offset c.args.way c.args.input.now 0) (known_of c.walk_start.new.cache)
+begins c =
+    begun_here c.args.way c.args.input.now c.span_offset-first.result c.walk_start.new.cache c.search_start.new.self
+    (sym c.span_offset-first.ensures.value) c.search_start.ensures.value
+
+-- what its rest returns is what the pass returns
+rest_passed :
+    (c : After-rest) (r : Result (Option HalfMatch) SearchError)
+    → input_at c.haystack.result.now c.get_span.result c.get_anchored.result c.get_earliest.result ≡ c.args.input.now
+    → known_of c.search_start.new.self
+    ≡ begun (given_up_offset c.args.way c.args.input.now 0) (known_of c.walk_start.new.cache)
+    → IsRest c.args.way c.args.self.now
+    (input_at c.haystack.result.now c.get_span.result c.get_anchored.result c.get_earliest.result)
+    (known_of c.search_start.new.self) (known_of c.rest.new.cache) r
+    → IsPassResult c.args.way c.args.self.now c.args.input.now (known_of c.args.cache.now) (known_of c.rest.new.cache) r
+rest_passed c r same begins rest =
+    rest_passes c.args.way c.args.self.now c.args.input.now (known_of c.args.cache.now)
+    (known_of c.walk_start.new.cache) (known_of c.search_start.new.self) (known_of c.rest.new.cache) r
+    c.in-Ok.ensures.run begins
+    (subst
+    (λ (i : Input). IsRest c.args.way c.args.self.now i (known_of c.search_start.new.self)
+    (known_of c.rest.new.cache) r)
+    same rest)
 
 pub rest-requires-clause-at : goal.rest-requires-clause-at
 rest-requires-clause-at c =
     let d : Direction = c.args.way in
-    let same = same_input c.args.input.now c.haystack.result.now c.get_span.result c.get_anchored.result c.get_earliest.result c.haystack.ensures.same c.get_span.ensures.start c.get_span.ensures.end c.get_anchored.ensures c.get_earliest.ensures in
-    let at : IsKnownUpto d c.args.self.now c.search_start.new.self.store c.args.input.now 0 c.in-Ok.start None = record {
+    let m = c.args.self.now in
+    let same = same (goal.at.rest-requires-clause-at c).After-get_earliest in
+    let at : IsKnownUpto d m c.search_start.new.self.store c.args.input.now 0 c.in-Ok.start None = record {
       within = omega arith;
       known = λ j below. absurd (omega (arith, below));
       at = record {
         undone = c.requires.«open»;
         may = c.in-Ok.ensures.answer.may;
-        at = starts_at d c.args.self.now c.search_start.new.self.store.table c.args.input.now c.in-Ok.start
-            (subst (λ (t : Rows). Names t c.in-Ok.start (state_in d c.args.self.now c.args.input.now 0)) (sym c.search_start.ensures.table)
-            (begins_alive d c.args.self.now c.walk_start.new.cache.store.table c.args.input.now c.in-Ok.start c.in-Ok.ensures.answer.named (c.see_bounds-2.ensures.sound.low c.in-Ok.start) c.see_bounds-2.ensures.sound.small (λ b. false_true (c.if-is_dead.ensures.1 b))));
+        at =
+            starts_at d m c.search_start.new.self.store.table c.args.input.now c.in-Ok.start
+            (subst (λ (t : Rows). Names t c.in-Ok.start (state_in d m c.args.input.now 0))
+            (sym c.search_start.ensures.table)
+            (begins_alive d m c.walk_start.new.cache.store.table c.args.input.now c.in-Ok.start
+            c.in-Ok.ensures.answer.named (c.see_bounds-2.ensures.sound.low c.in-Ok.start)
+            c.see_bounds-2.ensures.sound.small (λ b. false_true (c.if-is_dead.ensures.1 b))));
       };
     } in record {
       allowed = subst (λ (i : Input). Allows i.haystack i.start i.end) (sym same) c.get_span.ensures.within;
-      upto = subst (λ (i : Input). IsKnownUpto d c.args.self.now c.search_start.new.self.store i 0 c.in-Ok.start None)
-          (sym same) at;
+      upto =
+          subst (λ (i : Input). IsKnownUpto d m c.search_start.new.self.store i 0 c.in-Ok.start None) (sym same) at;
     }
 
 pub returns-in-Err-clause-passed : goal.returns-in-Err-clause-passed
 returns-in-Err-clause-passed c =
-    start_fails_pass c.args.way c.args.self.now c.args.input.now (known_of c.args.cache.now) (known_of c.walk_start.new.cache) c.in-Err.error c.in-Err.ensures.refusal
+    start_fails_pass c.args.way c.args.self.now c.args.input.now (known_of c.args.cache.now)
+    (known_of c.walk_start.new.cache) c.in-Err.error c.in-Err.ensures.refusal
 
 pub returns-then-is_dead-clause-passed : goal.returns-then-is_dead-clause-passed
 returns-then-is_dead-clause-passed c =
     let d : Direction = c.args.way in
+    let m = c.args.self.now in
     let first : ℕ = given_up_offset d c.args.input.now 0 in
-    let dies : state_in d c.args.self.now c.args.input.now 0 ≡ dead = begins_dead d c.args.self.now c.walk_start.new.cache.store.table c.args.input.now c.in-Ok.start c.in-Ok.ensures.answer.named (c.see_bounds-2.ensures.sound.low c.in-Ok.start) c.see_bounds-2.ensures.sound.small (c.if-is_dead.ensures.0 refl) in
+    let dies : state_in d m c.args.input.now 0 ≡ dead =
+    begins_dead d m c.walk_start.new.cache.store.table c.args.input.now c.in-Ok.start c.in-Ok.ensures.answer.named
+    (c.see_bounds-2.ensures.sound.low c.in-Ok.start) c.see_bounds-2.ensures.sound.small
+    (c.if-is_dead.ensures.0 refl) in
     record {
-      answer = record { found = starts_dead d c.args.self.now c.args.input.now dies; clean = clean_start d c.args.self.now c.args.input.now dies c.in-Ok.ensures.answer.may.0; supported = c.in-Ok.ensures.answer.may.1 };
+      answer = record {
+        found = starts_dead d m c.args.input.now dies;
+        clean = clean_start d m c.args.input.now dies c.in-Ok.ensures.answer.may.0;
+        supported = c.in-Ok.ensures.answer.may.1;
+      };
       ends = record {
         may = c.in-Ok.ensures.run.may;
         begun = begun first (known_of c.walk_start.new.cache);
         starts = ap (option_map (begun first)) c.in-Ok.ensures.run.does;
         ends =
-            pass_dies d c.args.self.now c.args.input.now (begun first (known_of c.walk_start.new.cache)) (known_of c.end_search.new.self)
-            (stops_start d c.args.self.now c.args.input.now dies 0 (omega arith))
-            (ended_here d c.args.input.now 0 c.span_offset-first.result c.search_start.new.self c.end_search.new.self (sym c.span_offset-first.ensures.value) c.end_search.ensures.value
-            ∙ ap (ended first)
-            (begun_here d c.args.input.now c.span_offset-first.result c.walk_start.new.cache c.search_start.new.self (sym c.span_offset-first.ensures.value) c.search_start.ensures.value));
+            pass_dies d m c.args.input.now (begun first (known_of c.walk_start.new.cache))
+            (known_of c.end_search.new.self) (stops_start d m c.args.input.now dies 0 (omega arith))
+            (ended_here d c.args.input.now 0 c.span_offset-first.result c.search_start.new.self c.end_search.new.self
+            (sym c.span_offset-first.ensures.value) c.end_search.ensures.value
+            ∙ ap (ended first) (begins (goal.at.returns-then-is_dead-clause-passed c).After-search_start));
       };
     }
 
 pub returns-clause-passed : goal.returns-clause-passed
 returns-clause-passed c =
-    let d : Direction = c.args.way in
-    let same = same_input c.args.input.now c.haystack.result.now c.get_span.result c.get_anchored.result c.get_earliest.result c.haystack.ensures.same c.get_span.ensures.start c.get_span.ensures.end c.get_anchored.ensures c.get_earliest.ensures in
-    rest_passes d c.args.self.now c.args.input.now (known_of c.args.cache.now) (known_of c.walk_start.new.cache) (known_of c.search_start.new.self) (known_of c.rest.new.cache) (Ok c.in_ok-found.found) c.in-Ok.ensures.run
-    (begun_here d c.args.input.now c.span_offset-first.result c.walk_start.new.cache c.search_start.new.self (sym c.span_offset-first.ensures.value) c.search_start.ensures.value)
-    (subst (λ (i : Input). IsRest d c.args.self.now i (known_of c.search_start.new.self) (known_of c.rest.new.cache) (Ok c.in_ok-found.found)) same c.in_ok-found.ensures.rest)
+    let past = goal.at.returns-clause-passed c in
+    rest_passed past.After-rest (Ok c.in_ok-found.found) (same past.After-get_earliest)
+    (begins past.After-search_start) c.in_ok-found.ensures.rest
 
 pub returns-in_err-found-clause-passed : goal.returns-in_err-found-clause-passed
 returns-in_err-found-clause-passed c =
-    let d : Direction = c.args.way in
-    let same = same_input c.args.input.now c.haystack.result.now c.get_span.result c.get_anchored.result c.get_earliest.result c.haystack.ensures.same c.get_span.ensures.start c.get_span.ensures.end c.get_anchored.ensures c.get_earliest.ensures in
-    at_err c.from_residual.result _ (IsPassResult d c.args.self.now c.args.input.now (known_of c.args.cache.now) (known_of c.rest.new.cache)) c.from_residual.ensures.1
-    (rest_passes d c.args.self.now c.args.input.now (known_of c.args.cache.now) (known_of c.walk_start.new.cache) (known_of c.search_start.new.self) (known_of c.rest.new.cache) (Err c.in_err-found.field-0.0) c.in-Ok.ensures.run
-    (begun_here d c.args.input.now c.span_offset-first.result c.walk_start.new.cache c.search_start.new.self (sym c.span_offset-first.ensures.value) c.search_start.ensures.value)
-    (subst (λ (i : Input). IsRest d c.args.self.now i (known_of c.search_start.new.self) (known_of c.rest.new.cache) (Err c.in_err-found.field-0.0)) same c.in_err-found.ensures.rest))
+    let past = goal.at.returns-in_err-found-clause-passed c in
+    at_err c.from_residual.result _
+    (IsPassResult c.args.way c.args.self.now c.args.input.now (known_of c.args.cache.now) (known_of c.rest.new.cache))
+    c.from_residual.ensures.1
+    (rest_passed past.After-rest (Err c.in_err-found.field-0.0) (same past.After-get_earliest)
+    (begins past.After-search_start) c.in_err-found.ensures.rest)

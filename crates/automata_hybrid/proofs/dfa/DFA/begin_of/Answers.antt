@@ -6,4 +6,7 @@ use Rattle.automata_hybrid.proofs.dfa.DFA.begin_of.Goals as goal
 
 pub returns-clause-passed : goal.returns-clause-passed
 returns-clause-passed c =
-    subst (λ (i : Input). IsPassResult c.args.way c.args.self.now i (known_of c.args.cache.now) (known_of c.begin.new.cache) c.begin.result) c.input_of-own.ensures c.begin.ensures.passed
+    subst
+    (λ (i : Input). IsPassResult c.args.way c.args.self.now i (known_of c.args.cache.now) (known_of c.begin.new.cache)
+    c.begin.result)
+    c.input_of-own.ensures c.begin.ensures.passed

@@ -250,9 +250,10 @@ returns-then-is_dead-clause-rest c =
     let k : ℕ = c.run_on-met.result.at in
     let past = goal.at.returns-then-is_dead-clause-rest c in
     let at = past.After-byte_at-byte in
-    let dies = λ (l : Leads c.read_met.new.cache.store.table c.in-Ok.next (state_in c.args.way m c.args.input.now (suc k))).
-    (dead_tagged c.read_met.new.cache.store.table c.in-Ok.next
-    (c.see_bounds-in-loop-run.ensures.sound.low c.in-Ok.next) c.see_bounds-in-loop-run.ensures.sound.small _ l).0
+    let after = state_in c.args.way m c.args.input.now (suc k) in
+    let dies = λ (l : Leads c.read_met.new.cache.store.table c.in-Ok.next after).
+    (dead_tagged c.read_met.new.cache.store.table c.in-Ok.next (c.see_bounds-in-loop-run.ensures.sound.low c.in-Ok.next)
+    c.see_bounds-in-loop-run.ensures.sound.small after l).0
     (c.if-is_dead.ensures.0 refl) in
     record {
       answer =
@@ -281,9 +282,9 @@ returns-then-is_some-clause-rest c =
     record {
       answer =
           first_answer c.args.way m c.args.input.now k c.run_on-met.result.id _ c.run_on-met.result.found
-          c.loop-run.cache c.read_met.new.cache (underway at) c.byte_at-byte.ensures c.in-Ok.next c.found_at-found.result
-          c.in-Ok.ensures.read.answer c.place_offset.result c.place_offset.ensures.value c.found_at-found.ensures early
-          some (few at);
+          c.loop-run.cache c.read_met.new.cache (underway at) c.byte_at-byte.ensures c.in-Ok.next
+          c.found_at-found.result c.in-Ok.ensures.read.answer c.place_offset.result c.place_offset.ensures.value
+          c.found_at-found.ensures early some (few at);
       ended =
           pass_last c.args.way m c.args.input.now k (known_of c.args.cache.now) (known_of c.read_met.new.cache)
           (known_of c.end_search-then-is_some.new.self) (reads past.In-Ok (few at))

@@ -1,13 +1,15 @@
-use Rattle.std.specs.Prelude.{Ok, Err, option_map}
-use Rattle.std.proofs.Common.{Option, ◌≡◌, ◌+◌, ◌<◌, ◌^◌, None, ap, subst, sym, arith}
+use Rattle.std.specs.Prelude.{Result, Ok, Err, option_map}
+use Rattle.std.proofs.Common.{ℕ, Option, ◌≡◌, ◌+◌, ◌<◌, ◌^◌, None, ap, subst, sym, arith}
 use Rattle.std.proofs.lemmas.Grind.{common_steps}
 use Rattle.automata_base.specs.Haystacks.Input.{Allows, Input}
 use Rattle.automata_base.specs.Haystacks.Matches.{HalfMatch}
 use Rattle.automata_base.specs.declared.util.search.Direction.{Direction}
-use Rattle.automata_hybrid.specs.Cache.Caches.{CacheView, with_store, IsStoreOf}
+use Rattle.automata_config.specs.declared.error.SearchError.{SearchError}
+use Rattle.automata_hybrid.specs.Cache.Caches.{CacheView, with_store}
 use Rattle.automata_hybrid.specs.Cache.Progress.{saturated, total_len}
 use Rattle.automata_hybrid.specs.Cache.Stores.{with_searched}
 use Rattle.automata_hybrid.specs.Private.Searches.PassContracts.{IsKnownUpto, IsPassResult, IsRest, half_if}
+use Rattle.automata_hybrid.specs.Private.Searches.PassContracts.{input_at}
 use Rattle.automata_hybrid.specs.Known.Known.{begun}
 use Rattle.automata_hybrid.specs.Known.Stores.{known_of}
 use Rattle.automata_hybrid.specs.Searches.Passes.{given_up_offset}
@@ -22,86 +24,146 @@ use Rattle.automata_hybrid.proofs.Steps.Ids.{low_bit}
 use Rattle.automata_hybrid.specs.Cache.Ids.{unknown_id}
 use Rattle.automata_hybrid.specs.Private.Searches.PassState.{IsNextCell}
 use Rattle.automata_hybrid.proofs.dfa.DFA.pass.Goals as goal
+use Rattle.automata_hybrid.proofs.dfa.DFA.pass.Goals.{After-begin_of, After-get_earliest-2, After-rest}
+
+-- the parts of the input make it again
+same :
+    (c : After-get_earliest-2)
+    → input_at c.haystack-2.result.now c.get_span-2.result c.get_anchored-2.result c.get_earliest-2.result
+    ≡ c.args.input.now
+same c =
+    same_input c.args.input.now c.haystack-2.result.now c.get_span-2.result c.get_anchored-2.result
+    c.get_earliest-2.result c.haystack-2.ensures.same c.get_span-2.ensures.start c.get_span-2.ensures.end
+    c.get_anchored-2.ensures c.get_earliest-2.ensures
+
+-- and where the start state is computed
+same_first :
+    (c : After-begin_of)
+    → input_at c.haystack.result.now c.get_span.result c.get_anchored.result c.get_earliest.result ≡ c.args.input.now
+same_first c =
+    same_input c.args.input.now c.haystack.result.now c.get_span.result c.get_anchored.result c.get_earliest.result
+    c.haystack.ensures.same c.get_span.ensures.start c.get_span.ensures.end c.get_anchored.ensures
+    c.get_earliest.ensures
+
+-- what its rest returns is what the pass returns
+rest_passed :
+    (c : After-rest) (r : Result (Option HalfMatch) SearchError)
+    → input_at c.haystack-2.result.now c.get_span-2.result c.get_anchored-2.result c.get_earliest-2.result
+    ≡ c.args.input.now
+    → IsRest c.args.way c.args.self.now
+    (input_at c.haystack-2.result.now c.get_span-2.result c.get_anchored-2.result c.get_earliest-2.result)
+    (known_of c.search_start.new.self) (known_of c.rest.new.cache) r
+    → IsPassResult c.args.way c.args.self.now c.args.input.now (known_of c.args.cache.now) (known_of c.rest.new.cache) r
+rest_passed c r same rest =
+    let low : c.known_start-start.result < 2 ^ 31 = grind (arith, common_steps, c.if-is_fixed.ensures) in
+    rest_passes c.args.way c.args.self.now c.args.input.now (known_of c.args.cache.now) (known_of c.args.cache.now)
+    (known_of c.search_start.new.self) (known_of c.rest.new.cache) r (c.known_start-start.ensures.run low)
+    (begun_here c.args.way c.args.input.now c.span_offset.result c.args.cache.now c.search_start.new.self
+    (sym c.span_offset.ensures.value) c.search_start.ensures.value)
+    (subst
+    (λ (i : Input). IsRest c.args.way c.args.self.now i (known_of c.search_start.new.self)
+    (known_of c.rest.new.cache) r)
+    same rest)
 
 pub known_pass-known-requires-clause-at : goal.known_pass-known-requires-clause-at
 known_pass-known-requires-clause-at c =
-    let d : Direction = c.args.way in
-    let low : c.known_start-start.result < 2 ^ 31 = grind (arith, common_steps, c.if-is_fixed.ensures) in
+    let start : ℕ = c.known_start-start.result in
+    let low : start < 2 ^ 31 = grind (arith, common_steps, c.if-is_fixed.ensures) in
     let a = c.known_start-start.ensures.answer low in
     record {
       undone = c.requires.«open»;
       may = a.may;
-      at = starts_at d c.args.self.now c.args.cache.now.store.table c.args.input.now c.known_start-start.result
-          (begins_alive d c.args.self.now c.args.cache.now.store.table c.args.input.now c.known_start-start.result a.named (c.see_bounds.ensures.sound.low c.known_start-start.result) c.see_bounds.ensures.sound.small
-          (λ b. (let l : c.known_start-start.result < 2 ^ 29 = grind (arith, common_steps, c.if-is_fixed.ensures) in low_bit 30 c.known_start-start.result (omega (arith, l)) b)));
+      at =
+          starts_at c.args.way c.args.self.now c.args.cache.now.store.table c.args.input.now start
+          (begins_alive c.args.way c.args.self.now c.args.cache.now.store.table c.args.input.now start a.named
+          (c.see_bounds.ensures.sound.low start) c.see_bounds.ensures.sound.small
+          (λ b. (
+          let l : start < 2 ^ 29 = grind (arith, common_steps, c.if-is_fixed.ensures) in
+          low_bit 30 start (omega (arith, l)) b)));
     }
 
 pub returns-then-has_ended-clause-passed : goal.returns-then-has_ended-clause-passed
 returns-then-has_ended-clause-passed c =
     let d : Direction = c.args.way in
+    let old = c.args.cache.now in
     let low : c.known_start-start.result < 2 ^ 31 = grind (arith, common_steps, c.if-is_fixed.ensures) in
-    let sound : IsStoreOf c.args.cache.now.store c.args.self.now = (is_store c.args.cache.now.store c.args.self.now c.requires.of c.see_bounds.ensures.bounds) in
     let run = c.known_start-start.ensures.run low in
     let end = c.known_pass-known.ensures.ended (c.has_ended.ensures.yes c.if-has_ended.true) in
-    let counted = subst (λ n. c.count_search.new.self ≡ with_store c.args.cache.now (with_searched c.args.cache.now.store (record { bytes = saturated (total_len c.args.cache.now.store.searched + n); running = None })))
+    let counted =
+    subst
+    (λ n. c.count_search.new.self ≡ with_store old
+    (with_searched old.store (record { bytes = saturated (total_len old.store.searched + n); running = None })))
     c.bytes_read.ensures c.count_search.ensures.value in
     record {
       answer = end.answer;
       ends = record {
         may = run.may;
-        begun = begun (given_up_offset d c.args.input.now 0) (known_of c.args.cache.now);
+        begun = begun (given_up_offset d c.args.input.now 0) (known_of old);
         starts = ap (option_map (begun (given_up_offset d c.args.input.now 0))) run.does;
-        ends = known_ended d c.args.self.now c.args.input.now c.known_pass-known.result.at c.known_pass-known.result.id c.args.cache.now c.known_pass-known.result.found c.count_search.new.self c.see_machine.ensures.machine
-            (units_in d c.args.input.now (c.haystack-haystack.ensures.bytes, c.haystack-haystack.ensures.within.1) c.requires.«open») end sound counted;
+        ends =
+            known_ended d c.args.self.now c.args.input.now c.known_pass-known.result.at c.known_pass-known.result.id
+            old c.known_pass-known.result.found c.count_search.new.self c.see_machine.ensures.machine
+            (units_in d c.args.input.now
+            (c.haystack-haystack.ensures.bytes, c.haystack-haystack.ensures.within.1) c.requires.«open»)
+            end (is_store old.store c.args.self.now c.requires.of c.see_bounds.ensures.bounds) counted;
       };
     }
 
 pub rest-requires-clause-at : goal.rest-requires-clause-at
 rest-requires-clause-at c =
     let d : Direction = c.args.way in
-    let k : IsKnownUpto d c.args.self.now c.args.cache.now.store c.args.input.now c.known_pass-known.result.at c.known_pass-known.result.id c.known_pass-known.result.found = c.known_pass-known.ensures.left (c.has_ended.ensures.no c.if-has_ended.false) in
-    let same = same_input c.args.input.now c.haystack-2.result.now c.get_span-2.result c.get_anchored-2.result c.get_earliest-2.result c.haystack-2.ensures.same c.get_span-2.ensures.start c.get_span-2.ensures.end c.get_anchored-2.ensures c.get_earliest-2.ensures in
+    let m = c.args.self.now in
+    let known = c.known_pass-known.result in
+    let k : IsKnownUpto d m c.args.cache.now.store c.args.input.now known.at known.id known.found =
+    c.known_pass-known.ensures.left (c.has_ended.ensures.no c.if-has_ended.false) in
+    let same = same (goal.at.rest-requires-clause-at c).After-get_earliest-2 in
     let upto =
-    subst (λ (o : Option HalfMatch). IsKnownUpto d c.args.self.now c.search_start.new.self.store c.args.input.now c.known_pass-known.result.at c.known_pass-known.result.id o) (sym c.parts_of-before.ensures)
-    (subst (λ (v : CacheView). IsKnownUpto d c.args.self.now v.store c.args.input.now c.known_pass-known.result.at c.known_pass-known.result.id c.known_pass-known.result.found) (sym c.search_start.ensures.value)
-    (record { within = k.within; at = k.at; known = k.known })) in record {
+    subst
+    (λ (o : Option HalfMatch). IsKnownUpto d m c.search_start.new.self.store c.args.input.now known.at known.id o)
+    (sym c.parts_of-before.ensures)
+    (subst
+    (λ (v : CacheView). IsKnownUpto d m v.store c.args.input.now known.at known.id known.found)
+    (sym c.search_start.ensures.value) (record { within = k.within; at = k.at; known = k.known })) in
+    record {
       allowed = subst (λ (i : Input). Allows i.haystack i.start i.end) (sym same) c.get_span-2.ensures.within;
-      upto = subst (λ (i : Input). IsKnownUpto d c.args.self.now c.search_start.new.self.store i c.known_pass-known.result.at c.known_pass-known.result.id (half_if c.parts_of-before.result.0 c.parts_of-before.result.1 c.parts_of-before.result.2)) (sym same) upto;
+      upto =
+          subst
+          (λ (i : Input). IsKnownUpto d m c.search_start.new.self.store i known.at known.id
+          (half_if c.parts_of-before.result.0 c.parts_of-before.result.1 c.parts_of-before.result.2))
+          (sym same) upto;
     }
 
 pub rest-requires-clause-missing : goal.rest-requires-clause-missing
 rest-requires-clause-missing c = λ missing.
     let d : Direction = c.args.way in
-    let same = same_input c.args.input.now c.haystack-2.result.now c.get_span-2.result c.get_anchored-2.result c.get_earliest-2.result c.haystack-2.ensures.same c.get_span-2.ensures.start c.get_span-2.ensures.end c.get_anchored-2.ensures c.get_earliest-2.ensures in
+    let m = c.args.self.now in
+    let known = c.known_pass-known.result in
+    let same = same (goal.at.rest-requires-clause-missing c).After-get_earliest-2 in
     let cell = c.known_pass-known.ensures.missing (c.is_missing.ensures missing) in
-    subst (λ (i : Input). IsNextCell d c.args.self.now c.search_start.new.self.store i c.known_pass-known.result.at c.known_pass-known.result.id unknown_id) (sym same)
-    (subst (λ (v : CacheView). IsNextCell d c.args.self.now v.store c.args.input.now c.known_pass-known.result.at c.known_pass-known.result.id unknown_id) (sym c.search_start.ensures.value)
-    (cell.0, cell.1))
+    subst (λ (i : Input). IsNextCell d m c.search_start.new.self.store i known.at known.id unknown_id) (sym same)
+    (subst (λ (v : CacheView). IsNextCell d m v.store c.args.input.now known.at known.id unknown_id)
+    (sym c.search_start.ensures.value) (cell.0, cell.1))
 
 pub returns-in-Ok-rest-clause-passed : goal.returns-in-Ok-rest-clause-passed
 returns-in-Ok-rest-clause-passed c =
-    let d : Direction = c.args.way in
-    let low : c.known_start-start.result < 2 ^ 31 = grind (arith, common_steps, c.if-is_fixed.ensures) in
-    let same = same_input c.args.input.now c.haystack-2.result.now c.get_span-2.result c.get_anchored-2.result c.get_earliest-2.result c.haystack-2.ensures.same c.get_span-2.ensures.start c.get_span-2.ensures.end c.get_anchored-2.ensures c.get_earliest-2.ensures in
-    rest_passes d c.args.self.now c.args.input.now (known_of c.args.cache.now) (known_of c.args.cache.now) (known_of c.search_start.new.self) (known_of c.rest.new.cache) (Ok c.in-Ok-rest.found) (c.known_start-start.ensures.run low)
-    (begun_here d c.args.input.now c.span_offset.result c.args.cache.now c.search_start.new.self (sym c.span_offset.ensures.value) c.search_start.ensures.value)
-    (subst (λ (i : Input). IsRest d c.args.self.now i (known_of c.search_start.new.self) (known_of c.rest.new.cache) (Ok c.in-Ok-rest.found)) same c.in-Ok-rest.ensures.rest)
+    let past = goal.at.returns-in-Ok-rest-clause-passed c in
+    rest_passed past.After-rest (Ok c.in-Ok-rest.found) (same past.After-get_earliest-2) c.in-Ok-rest.ensures.rest
 
 pub returns-in-Err-rest-clause-passed : goal.returns-in-Err-rest-clause-passed
 returns-in-Err-rest-clause-passed c =
-    let d : Direction = c.args.way in
-    let low : c.known_start-start.result < 2 ^ 31 = grind (arith, common_steps, c.if-is_fixed.ensures) in
-    let same = same_input c.args.input.now c.haystack-2.result.now c.get_span-2.result c.get_anchored-2.result c.get_earliest-2.result c.haystack-2.ensures.same c.get_span-2.ensures.start c.get_span-2.ensures.end c.get_anchored-2.ensures c.get_earliest-2.ensures in
-    rest_passes d c.args.self.now c.args.input.now (known_of c.args.cache.now) (known_of c.args.cache.now) (known_of c.search_start.new.self) (known_of c.rest.new.cache) (Err c.in-Err-rest.error) (c.known_start-start.ensures.run low)
-    (begun_here d c.args.input.now c.span_offset.result c.args.cache.now c.search_start.new.self (sym c.span_offset.ensures.value) c.search_start.ensures.value)
-    (subst (λ (i : Input). IsRest d c.args.self.now i (known_of c.search_start.new.self) (known_of c.rest.new.cache) (Err c.in-Err-rest.error)) same c.in-Err-rest.ensures.rest)
+    let past = goal.at.returns-in-Err-rest-clause-passed c in
+    rest_passed past.After-rest (Err c.in-Err-rest.error) (same past.After-get_earliest-2) c.in-Err-rest.ensures.rest
 
 pub returns-in-Ok-clause-passed : goal.returns-in-Ok-clause-passed
 returns-in-Ok-clause-passed c =
-    let same = same_input c.args.input.now c.haystack.result.now c.get_span.result c.get_anchored.result c.get_earliest.result c.haystack.ensures.same c.get_span.ensures.start c.get_span.ensures.end c.get_anchored.ensures c.get_earliest.ensures in
-    subst (λ (i : Input). IsPassResult c.args.way c.args.self.now i (known_of c.args.cache.now) (known_of c.begin_of.new.cache) (Ok c.in-Ok.found)) same c.in-Ok.ensures.passed
+    subst
+    (λ (i : Input). IsPassResult c.args.way c.args.self.now i (known_of c.args.cache.now)
+    (known_of c.begin_of.new.cache) (Ok c.in-Ok.found))
+    (same_first (goal.at.returns-in-Ok-clause-passed c).After-begin_of) c.in-Ok.ensures.passed
 
 pub returns-in-Err-clause-passed : goal.returns-in-Err-clause-passed
 returns-in-Err-clause-passed c =
-    let same = same_input c.args.input.now c.haystack.result.now c.get_span.result c.get_anchored.result c.get_earliest.result c.haystack.ensures.same c.get_span.ensures.start c.get_span.ensures.end c.get_anchored.ensures c.get_earliest.ensures in
-    subst (λ (i : Input). IsPassResult c.args.way c.args.self.now i (known_of c.args.cache.now) (known_of c.begin_of.new.cache) (Err c.in-Err.error)) same c.in-Err.ensures.passed
+    subst
+    (λ (i : Input). IsPassResult c.args.way c.args.self.now i (known_of c.args.cache.now)
+    (known_of c.begin_of.new.cache) (Err c.in-Err.error))
+    (same_first (goal.at.returns-in-Err-clause-passed c).After-begin_of) c.in-Err.ensures.passed

@@ -12,19 +12,33 @@ use Rattle.automata_hybrid.proofs.dfa.DFA.rest.Goals as goal
 pub returns-in-Forward-clause-rest : goal.returns-in-Forward-clause-rest
 returns-in-Forward-clause-rest c =
     let own : Input = input_at c.args.haystack.now c.args.span c.args.anchored c.args.earliest in
-    subst (λ (w : Direction). IsRest w c.args.self.now own (known_of c.args.cache.now) (known_of c.find.new.cache) c.find.result) (sym c.in-Forward.is)
-    (subst (λ (i : Input). IsRest Forward c.args.self.now i (known_of c.args.cache.now) (known_of c.find.new.cache) c.find.result) c.input_of-own.ensures c.find.ensures.rest)
+    let m = c.args.self.now in
+    let found = c.find in
+    subst
+    (λ (w : Direction). IsRest w m own (known_of c.args.cache.now) (known_of found.new.cache) found.result)
+    (sym c.in-Forward.is)
+    (subst
+    (λ (i : Input). IsRest Forward m i (known_of c.args.cache.now) (known_of found.new.cache) found.result)
+    c.input_of-own.ensures found.ensures.rest)
 
 pub returns-in-Backward-clause-rest : goal.returns-in-Backward-clause-rest
 returns-in-Backward-clause-rest c =
     let own : Input = input_at c.args.haystack.now c.args.span c.args.anchored c.args.earliest in
+    let m = c.args.self.now in
     let found = c.find-in-Backward in
-    subst (λ (w : Direction). IsRest w c.args.self.now own (known_of c.args.cache.now) (known_of found.new.cache) found.result) (sym c.in-Backward.is)
-    (subst (λ (i : Input). IsRest Backward c.args.self.now i (known_of c.args.cache.now) (known_of found.new.cache) found.result) c.input_of-own.ensures found.ensures.rest)
+    subst
+    (λ (w : Direction). IsRest w m own (known_of c.args.cache.now) (known_of found.new.cache) found.result)
+    (sym c.in-Backward.is)
+    (subst
+    (λ (i : Input). IsRest Backward m i (known_of c.args.cache.now) (known_of found.new.cache) found.result)
+    c.input_of-own.ensures found.ensures.rest)
 
 pub next_known-next-requires : goal.next_known-next-requires
 next_known-next-requires c =
-    let named = subst (λ (i : Input). Names c.args.cache.now.store.table c.args.start (state_in c.args.way c.args.self.now i c.args.from))
+    let named =
+    subst
+    (λ (i : Input). Names c.args.cache.now.store.table c.args.start
+    (state_in c.args.way c.args.self.now i c.args.from))
     (sym c.input_of-own.ensures) c.requires.at.upto.at.at.named in (
       c.requires.of,
       record {

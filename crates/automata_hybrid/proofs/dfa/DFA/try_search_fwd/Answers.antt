@@ -32,25 +32,31 @@ returns-clause-half c =
     (record {
       answer = λ cycles.
           halves_ok _ r (IfOk-weaker r _ _
-          (λ o found. reported Forward (match_kind_of m.config) input _ cycles (haystack.bytes, haystack.within.1) (found_reported Forward m input _ found))
+          (λ o found. reported Forward (match_kind_of m.config) input _ cycles (haystack.bytes, haystack.within.1)
+          (found_reported Forward m input _ found))
           s.found);
       nearest = λ early.
           halves_ok _ r (IfOk-weaker r _ _
-          (λ o found. (ends Forward (match_kind_of m.config) input _ (haystack.bytes, haystack.within.1) (found_reported Forward m input _ found)).0 early)
+          (λ o found. (ends Forward (match_kind_of m.config) input _ (haystack.bytes, haystack.within.1)
+          (found_reported Forward m input _ found)).0 early)
           s.found);
       farthest = λ late all.
           halves_ok _ r (IfOk-weaker r _ _
-          (λ o found. (ends Forward (match_kind_of m.config) input _ (haystack.bytes, haystack.within.1) (found_reported Forward m input _ found)).1 late all)
+          (λ o found. (ends Forward (match_kind_of m.config) input _ (haystack.bytes, haystack.within.1)
+          (found_reported Forward m input _ found)).1 late all)
           s.found);
       within = lies_in m input lies haystack.within.1 Forward (halves r) found;
       unsupported = λ u. ap halves (s.unsupported u);
       free = λ f.
           halves_err _ r
-          (call_memory Forward m input (known_of c.args.cache.now) (known_of c.search-found.new.cache) r haystack.within.1 f s.effect);
+          (call_memory Forward m input (known_of c.args.cache.now) (known_of c.search-found.new.cache) r
+          haystack.within.1 f s.effect);
       done = λ past. ap halves (s.done past);
     })
 
 pub returns-clause-effect : goal.returns-clause-effect
 returns-clause-effect c =
-    subst (IsSearchRun Forward c.args.self.now c.args.input.now (known_of c.args.cache.now) (known_of c.search-found.new.cache))
+    subst
+    (IsSearchRun Forward c.args.self.now c.args.input.now (known_of c.args.cache.now)
+    (known_of c.search-found.new.cache))
     (sym (ap result_err c.without_base.ensures ∙ halves_error c.search-found.result)) c.search-found.ensures.effect

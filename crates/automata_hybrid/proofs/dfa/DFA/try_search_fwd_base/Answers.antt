@@ -24,19 +24,24 @@ returns-clause-based c =
     record {
       answer = λ cycles.
           IfOk-weaker r _ _
-          (λ o found. reported Forward (match_kind_of m.config) input _ cycles (haystack.bytes, haystack.within.1) (found_reported Forward m input _ found))
+          (λ o found. reported Forward (match_kind_of m.config) input _ cycles (haystack.bytes, haystack.within.1)
+          (found_reported Forward m input _ found))
           s.found;
       nearest = λ early.
           IfOk-weaker r _ _
-          (λ o found. (ends Forward (match_kind_of m.config) input _ (haystack.bytes, haystack.within.1) (found_reported Forward m input _ found)).0 early)
+          (λ o found. (ends Forward (match_kind_of m.config) input _ (haystack.bytes, haystack.within.1)
+          (found_reported Forward m input _ found)).0 early)
           s.found;
       farthest = λ late all.
           IfOk-weaker r _ _
-          (λ o found. (ends Forward (match_kind_of m.config) input _ (haystack.bytes, haystack.within.1) (found_reported Forward m input _ found)).1 late all)
+          (λ o found. (ends Forward (match_kind_of m.config) input _ (haystack.bytes, haystack.within.1)
+          (found_reported Forward m input _ found)).1 late all)
           s.found;
       within = lies_past m input lies haystack.within.1 r s.found;
       unsupported = s.unsupported;
-      free = λ f. call_memory Forward m input (known_of c.args.cache.now) (known_of c.search.new.cache) r haystack.within.1 f s.effect;
+      free = λ f.
+          call_memory Forward m input (known_of c.args.cache.now) (known_of c.search.new.cache) r haystack.within.1 f
+          s.effect;
       done = s.done;
     }
 
