@@ -10,7 +10,6 @@ use Rattle.automata_base.specs.Powersets.Passes.{IsUnit}
 use Rattle.automata_base.specs.Powersets.Powerset.{Powerset}
 use Rattle.automata_base.specs.declared.util.search.Direction.{Direction}
 use Rattle.automata_config.specs.declared.error.SearchError.{SearchError}
-use Rattle.automata_config.specs.declared.error.SearchError.TheVariants as search
 use Rattle.automata_config.specs.declared.error.StartError.{StartError}
 use Rattle.automata_hybrid.specs.Cache.Caches.{CacheView, IsStoreOf, with_store}
 use Rattle.automata_hybrid.specs.Cache.Progress.{progress_finished, progress_started}
@@ -22,7 +21,7 @@ use Rattle.automata_hybrid.specs.Known.Known.{Known, ended, moved}
 use Rattle.automata_hybrid.specs.Known.Known as known
 use Rattle.automata_hybrid.specs.Known.Passes.{CannotStart, FailsAtUnit, FailsLater, GivesUp, LacksMemory, LacksMode}
 use Rattle.automata_hybrid.specs.Known.Passes.{PassFails, QuitsBehind, ReadFails, UnitFails, UnitsEnd, after_many}
-use Rattle.automata_hybrid.specs.Known.Passes.{after_start, after_unit}
+use Rattle.automata_hybrid.specs.Known.Passes.{after_unit}
 use Rattle.automata_hybrid.specs.Known.Steps.{GivesUpOnStart, IsNotSupported, IsQuitBehind, IsStartRun, RunsOutOnStart}
 use Rattle.automata_hybrid.specs.Known.Steps.{StartFails, StartFailsAt}
 use Rattle.automata_hybrid.specs.Known.Stores.{known_of}
@@ -33,7 +32,7 @@ use Rattle.automata_hybrid.specs.Private.Searches.PassState.{HasLearnedAlong}
 use Rattle.automata_hybrid.specs.Private.Searches.Units.{IsStepped}
 use Rattle.automata_hybrid.specs.Searches.Passes.{HasReadNoQuit, Reads, behind_offset, given_up_offset, state_in}
 use Rattle.automata_hybrid.specs.Searches.Passes.{tape_in, unit_offset}
-use Rattle.automata_hybrid.specs.Searches.Progress.{start_event, unit_event}
+use Rattle.automata_hybrid.specs.Searches.Progress.{unit_event}
 use Rattle.automata_hybrid.specs.Searches.Traces.{Trace, pass_trace}
 use Rattle.automata_hybrid.specs.Steps.Starts.{start_search_error}
 use Rattle.automata_hybrid.proofs.Known.Calls.{after_cached}

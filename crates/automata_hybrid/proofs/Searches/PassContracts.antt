@@ -1,4 +1,4 @@
--- What a pass answers and makes of its cache, from what its parts do.
+-- What a pass answers, from what its parts answer.
 use Rattle.std.proofs.Common.{ℕ, suc, ◌≡◌, ◌≤◌, length, Option, Some, None, true, false}
 use Rattle.std.proofs.Common.{List, Bool}
 use Rattle.automata_base.specs.Answers.Answers.{offset_in}

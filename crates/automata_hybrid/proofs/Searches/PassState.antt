@@ -26,7 +26,7 @@ use Rattle.automata_hybrid.specs.Cache.Table.{Rows, Leads, Names}
 use Rattle.automata_base.specs.ByteClasses.Classes.{is_quit}
 use Rattle.automata_config.specs.Options.{match_kind_of}
 use Rattle.std.proofs.lemmas.Bool.{cases_lt}
-use Rattle.automata_hybrid.proofs.Searches.Traces.{at_along, begins_along, clean_along, found_along, half_none}
+use Rattle.automata_hybrid.proofs.Searches.Traces.{at_along, begins_along, clean_along, half_none}
 use Rattle.automata_hybrid.proofs.Searches.Traces.{leads_along, more_along, none_along, pass_is_trace, quiet_along}
 use Rattle.automata_base.proofs.Paths.Orders.{some_none}
 
@@ -38,14 +38,6 @@ state_more way m input k = (pass_is_trace way m input).steps k
 
 pub false_true : false ≡ true → ⊥
 false_true e = cc
-
--- after one unit more a pass has found what the state there reports, or what it had
-pub found_more :
-    (way : Direction) (m : Machine) (input : Input) (k : ℕ)
-    → (input.earliest ≡ true → half_of way input (reported_in way m input k) ≡ None)
-    → half_of way input (reported_in way m input (suc k))
-    ≡ half_at (state_in way m input (suc k)).patterns (offset_in way input k) (half_of way input (reported_in way m input k))
-found_more way m input k first = found_along (pass_is_trace way m input) k first
 
 -- the dead state stays, and reports nothing
 pub dead_more :
