@@ -13,5 +13,6 @@ counted s at cells (r ∷ rows) = ap suc (counted s (at + s) (drop s cells) rows
 pub states_few : (c : Stored) → length (held_states c.table) ≤ usage c
 states_few c =
     let s = c.table.of.stride in
-    let rows : length (held_states c.table) ≡ length c.table.rows = counted s (3 * s) (drop (3 * s) c.table.cells) c.table.rows in
+    let rows : length (held_states c.table) ≡ length c.table.rows =
+    counted s (3 * s) (drop (3 * s) c.table.cells) c.table.rows in
     omega (arith, rows)

@@ -42,7 +42,8 @@ pub of_current :
     → slice_get regexes h.current ≡ Some p → AreCachesOf c p → IsStoreOf c.forward.store c.forward.store.table.of
     → IsStoreOf c.reverse.store c.reverse.store.table.of → AreOfCurrent regexes h c
 of_current regexes h c p at of forward reverse = λ r is.
-    subst (λ (q : Regex). AreCachesOf c q × AreKnown q c) (some_inj (sym at ∙ is)) (of, are_known c p of forward reverse)
+    subst (λ (q : Regex). AreCachesOf c q × AreKnown q c) (some_inj (sym at ∙ is))
+    (of, are_known c p of forward reverse)
 
 pub memory_of_sound :
     (p : Regex) (old new : Cache) (input : Input) (e : SearchError)
@@ -89,7 +90,8 @@ pub truth_returned :
     → ((Skips p.forward → ⊥) → IfOk r (IsNearestThere p.forward input))
     → (input.start ≤ input.end → quit_behind p.forward (tape_in Forward input).before ≡ None
     → supports p.forward input.anchored ≡ false → r ≡ Err (unsupported_error input))
-    → (NoQuitInReach p.forward input → supports p.forward input.anchored ≡ true → minimum_cache_clear_count_of p.forward.config ≡ None
+    → (NoQuitInReach p.forward input → supports p.forward input.anchored ≡ true
+    → minimum_cache_clear_count_of p.forward.config ≡ None
     → IfErr r IsMemory)
     → (input.end < input.start → r ≡ Ok false)
     → IsTruthOf p input r

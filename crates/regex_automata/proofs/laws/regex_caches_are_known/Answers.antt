@@ -18,8 +18,10 @@ pub returns : goal.returns
 returns c = (
   subst CachesAreKnown c.forward-2.ensures c.caches_are_known.ensures.known c.args.cache.now.forward
       (subst (λ (m : Machine). IsStoreOf c.args.cache.now.forward.store m) c.forward.ensures
-      (subst (λ (v : CacheView). IsStoreOf v.store c.forward.result.now) c.as_parts.ensures.forward c.cache_is_within.ensures)),
+      (subst (λ (v : CacheView). IsStoreOf v.store c.forward.result.now) c.as_parts.ensures.forward
+      c.cache_is_within.ensures)),
   subst CachesAreKnown c.reverse-2.ensures c.caches_are_known-2.ensures.known c.args.cache.now.reverse
       (subst (λ (m : Machine). IsStoreOf c.args.cache.now.reverse.store m) c.reverse.ensures
-      (subst (λ (v : CacheView). IsStoreOf v.store c.reverse.result.now) c.as_parts.ensures.reverse c.cache_is_within-2.ensures)),
+      (subst (λ (v : CacheView). IsStoreOf v.store c.reverse.result.now) c.as_parts.ensures.reverse
+      c.cache_is_within-2.ensures)),
 )
