@@ -5,10 +5,10 @@
 pub use Rattle.automata_hybrid.specs.Cache.Caches.{CacheView, IsCacheOf}
 pub use Rattle.regex_automata.specs.Regexes.Caches.{AreCachesOf}
 -- What a cache knows: the states that have rows, and which transitions and start states are cached, without the IDs and
--- cells in which it stands; and what a cache of a DFA may know, by `laws::caches_are_known`.
+-- cells in which it stands; and what a cache of a DFA may know, by `laws::cache_is_known`.
 pub use Rattle.automata_hybrid.specs.Known.Known.{Known}
 pub use Rattle.automata_hybrid.specs.Known.Stores.{known_of}
-pub use Rattle.automata_hybrid.specs.Known.Bounds.{CachesAreKnown, IsKnown}
+pub use Rattle.automata_hybrid.specs.Known.Bounds.{IsKnown}
 pub use Rattle.regex_automata.specs.Regexes.Caches.{AreKnown}
 -- What contracts see of a DFA; its NFA, as paths need it; its match kind.
 pub use Rattle.automata_hybrid.specs.Machines.Machine.{Machine, engine}

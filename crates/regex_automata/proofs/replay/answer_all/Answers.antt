@@ -1,6 +1,5 @@
 use Rattle.std.proofs.Common.{◌≡◌, List, Some, subst, ◌∙◌}
 use Rattle.std.specs.Prelude.{slice_get}
-use Rattle.automata_hybrid.specs.Cache.Caches.{CacheView, IsStoreOf}
 use Rattle.regex_automata.specs.declared.hybrid.regex.Regex.{Regex}
 use Rattle.regex_automata.specs.Replay.Histories.{after}
 use Rattle.regex_automata.specs.Replay.Caches.{IsRequestEffect}
@@ -8,6 +7,10 @@ use Rattle.regex_automata.specs.Replay.Replies.{IsReply}
 use Rattle.regex_automata.proofs.Replies.Contracts.{of_current}
 use Rattle.regex_automata.proofs.Replies.Lists.{completes_turn, completes_end, continues_turn, continues_end}
 use Rattle.regex_automata.proofs.replay.answer_all.Goals as goal
+
+pub regex_caches_are_known-requires : goal.regex_caches_are_known-requires
+regex_caches_are_known-requires c =
+    let (h, a, all, made) = c.loop-request.invariant.so_far in (c.answer-reply.ensures.at h a).of
 
 pub loop-request-preserved : goal.loop-request-preserved
 loop-request-preserved c =
@@ -35,11 +38,7 @@ loop-request-preserved c =
             c.loop-request-test.true c.request-item.is made
             (of_current regexes (after h q r) next after_it.regex.now
             (subst (λ (rs : List Regex). slice_get rs (after h q r).current ≡ Some after_it.regex.now) same
-            played.regex) played.of
-            (subst (λ (v : CacheView). IsStoreOf v.store v.store.table.of) c.as_parts.ensures.forward
-            c.see_bounds.ensures.bounds)
-            (subst (λ (v : CacheView). IsStoreOf v.store v.store.table.of) c.as_parts.ensures.reverse
-            c.see_bounds-in-loop-request.ensures.bounds))
+            played.regex) played.of c.regex_caches_are_known.ensures)
             (subst (λ (rs : List Regex). IsRequestEffect rs h q r c.loop-request.player.cache
             c.answer-reply.new.self.cache) inv.regexes (c.answer-reply.ensures.made h a)) c.in_ok-push.ensures.items,
       );
