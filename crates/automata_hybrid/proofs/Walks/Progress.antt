@@ -1,17 +1,20 @@
 -- What the calls of a walk make of what its cache knows, unit by unit.
 use Rattle.std.proofs.Common.{ℕ, suc, ◌≡◌, ◌+◌, ◌≤◌, length, inl, inr, refl, sym, subst, arith}
-use Rattle.automata_base.specs.Answers.Answers.{AreUnsplit, KeepsSplit, SkipsSplit, with_offsets, without_split}
+use Rattle.automata_base.specs.Answers.Answers.{AreUnsplit, IsInput, KeepsSplit, SkipsSplit, with_offsets}
+use Rattle.automata_base.specs.Answers.Answers.{without_split}
 use Rattle.automata_base.specs.Haystacks.Input.{Input}
 use Rattle.automata_base.specs.declared.util.search.Direction.{Direction}
 use Rattle.automata_config.specs.declared.error.SearchError.{SearchError}
 use Rattle.automata_hybrid.specs.declared.search.walk.advance.Arrival.{Arrival}
-use Rattle.automata_hybrid.specs.Cache.Caches.{CacheView}
+use Rattle.automata_hybrid.specs.Cache.Caches.{CacheView, IsStoreOf}
 use Rattle.automata_hybrid.specs.Known.Known.{Known}
 use Rattle.automata_hybrid.specs.Known.Passes.{UnitFails}
 use Rattle.automata_hybrid.specs.Known.Stores.{known_of}
 use Rattle.automata_hybrid.specs.Known.Walks.{FailsAfterIt, FailsAtIt, FailsOnItsWay, FailsToGoOn, IsCallLeftAt}
 use Rattle.automata_hybrid.specs.Known.Walks.{IsCallStopped, LeavesCall}
 use Rattle.automata_hybrid.specs.Machines.Machine.{Machine}
+use Rattle.automata_hybrid.specs.Private.Machines.Machine.{IsMachine}
+use Rattle.automata_hybrid.specs.Private.Searches.PassState.{IsFollowed}
 use Rattle.automata_hybrid.specs.Private.Walks.Answers.{IsArrival}
 use Rattle.automata_hybrid.specs.Private.Walks.Parts.{HasAdvanced}
 use Rattle.automata_hybrid.specs.Searches.Cached.{IsOfInput}
@@ -22,7 +25,9 @@ use Rattle.automata_hybrid.specs.Walks.Follows.{IsHoldError, IsInputError, IsKno
 use Rattle.automata_hybrid.specs.Walks.Progress.{HasEnded, HasMore, HasNoneLeft, ReadsNoUnit}
 use Rattle.automata_hybrid.specs.Walks.State.{Ids, Keeping, States, Walk}
 use Rattle.automata_hybrid.proofs.Searches.PassState.{dead_more}
-use Rattle.automata_hybrid.proofs.Searches.Goes.{GoesTo, goes_some}
+use Rattle.automata_hybrid.proofs.Searches.Goes.{GoesTo, goes_known, goes_some}
+use Rattle.automata_hybrid.proofs.Searches.Runs.{followed_clean}
+use Rattle.automata_hybrid.proofs.Searches.Units.{units_in}
 use Rattle.automata_hybrid.proofs.Walks.Reports.{reported_rises}
 
 -- a walk reads the units before one that it reads
@@ -59,6 +64,18 @@ silent_before way m input from j to more less silent k t = subst (HasReportedBy 
       let up : k ≤ here.0 = reported_rises way m input from j k here.0 more t here.1 in
       let down : here.0 ≤ k = reported_rises way m input j to here.0 k less here.1 (silent k t) in
       omega (arith, up, down)
+
+-- units that a walk follows by cached transitions change nothing
+pub goes_followed :
+    (way : Direction) (m : Machine) (input : Input) (from : ℕ) (begun : Known) (k to id : ℕ) (mid new : CacheView)
+    → IsMachine m → IsInput input → input.start ≤ input.end → IsStoreOf mid.store m → new ≡ mid
+    → GoesTo way m input from k begun (known_of mid) → IsFollowed way m new.store input 0 k to id
+    → HasReadNoQuit way m input k → GoesTo way m input from to begun (known_of new)
+goes_followed way m input from begun k to id mid new machine given undone sound same before f clean =
+    goes_known way m input from begun machine (units_in way input given undone) k to new
+    (subst (λ (c : CacheView). IsStoreOf c.store m) (sym same) sound)
+    (subst (λ (c : CacheView). GoesTo way m input from k begun (known_of c)) (sym same) before) f.more
+    (followed_clean f clean) (λ j more less. (f.taken j more less).known)
 
 -- a walk has read units up to where it is
 pub has_advanced :

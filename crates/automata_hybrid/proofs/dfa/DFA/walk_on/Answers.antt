@@ -27,7 +27,7 @@ use Rattle.automata_hybrid.proofs.Walks.Progress.{call_leaves, reads_some}
 use Rattle.automata_hybrid.proofs.Walks.Reports.{finish_start}
 use Rattle.automata_hybrid.proofs.Walks.Units.{run_dead, run_on, run_unheld}
 use Rattle.automata_hybrid.proofs.dfa.DFA.walk_on.Goals as goal
-use Rattle.automata_hybrid.proofs.dfa.DFA.walk_on.Goals.{After-in_ok-arrival, After-see_bounds-2}
+use Rattle.automata_hybrid.proofs.dfa.DFA.walk_on.Goals.{After-see_bounds-2, In_ok-arrival}
 
 pub returns-in_err-from-clause-called : goal.returns-in_err-from-clause-called
 returns-in_err-from-clause-called c =
@@ -76,7 +76,7 @@ returns-then-is_dead-clause-called c =
           };
       effect =
           run_dead d m input w (known_of c.args.cache.now) c.search_start.new.self r
-          (λ fresh. c.in_ok-from.ensures.answer.may) (begun c) dies new c.span_offset-place.result first
+          (λ fresh. c.in_ok-from.ensures.answer.may) (begun (goal.at.returns-then-is_dead-clause-called c).After-see_bounds-2) dies new c.span_offset-place.result first
           c.end_search.ensures.value;
     })
 
@@ -95,12 +95,12 @@ returns-in_err-arrival-clause-called c =
     (λ (x : Result (Unit {0}) SearchError). IsCallResult (keeping_of c.args.held.now) d m input w w
     (known_of c.args.cache.now) new x)
     c.from_residual-in_err-arrival.ensures.1
-    (FailsOnItsWay (reads_some input w c.requires.walk.reads) (λ fresh. c.in_ok-from.ensures.answer.may) first (begun c)
+    (FailsOnItsWay (reads_some input w c.requires.walk.reads) (λ fresh. c.in_ok-from.ensures.answer.may) first (begun (goal.at.returns-in_err-arrival-clause-called c).After-see_bounds-2)
     (call_leaves (keeping_of c.args.held.now) d m input w.units first new c.in_err-arrival.field-0.0 left))
 
 -- it has come to where it reports patterns, or to its end
 arrived :
-    (c : After-in_ok-arrival)
+    (c : In_ok-arrival)
     → HasAdvanced c.args.way c.args.self.now c.args.input.now c.args.walk.now.units c.search_start.new.self
     c.advance.new.cache c.in_ok-arrival.arrival
 arrived c =
@@ -117,7 +117,7 @@ returns-in_default-clause-called c =
     let w : Walk = c.args.walk.now in
     let r = c.requires.walk.reads in
     let arrival : Arrival = c.in_ok-arrival.arrival in
-    let advanced = arrived c in
+    let advanced = arrived (goal.at.returns-in_default-clause-called c).In_ok-arrival in
     let finish : Finishes d m input w.units arrival.units = subst (λ (o : Option ℕ). IsArrival d m c.advance.new.cache.store.table input w.units o arrival.units) c.in_default.«is» advanced.arrives in
     subst (λ (x : Walk). AnswersCall d m input w x (known_of c.args.cache.now) (known_of c.end_search-in_default.new.self)) (sym c.end-in_default.ensures)
     (record {
@@ -128,7 +128,7 @@ returns-in_default-clause-called c =
           };
       effect =
           run_on d m input w (known_of c.args.cache.now) c.search_start.new.self c.advance.new.cache r
-          (λ fresh. c.in_ok-from.ensures.answer.may) (begun c) arrival advanced (ended_walk w arrival.units)
+          (λ fresh. c.in_ok-from.ensures.answer.may) (begun (goal.at.returns-in_default-clause-called c).After-see_bounds-2) arrival advanced (ended_walk w arrival.units)
           c.end_search-in_default.new.self c.span_offset-last.result refl c.span_offset-last.ensures.value
           c.end_search-in_default.ensures.value (λ over. (refl, finish.stops arrival.units (omega arith)));
     })
@@ -140,7 +140,7 @@ returns-in_err-move_to-clause-called c =
     let input : Input = c.args.input.now in
     let w : Walk = c.args.walk.now in
     let arrival : Arrival = c.in_ok-arrival.arrival in
-    let advanced = arrived c in
+    let advanced = arrived (goal.at.returns-in_err-move_to-clause-called c).In_ok-arrival in
     let there : Arrives d m c.advance.new.cache.store.table input w.units c.in-Some.id arrival.units = subst (λ (o : Option ℕ). IsArrival d m c.advance.new.cache.store.table input w.units o arrival.units) c.in-Some.«is» advanced.arrives in
     at_err c.from_residual-in_err-move_to.result search.OutOfMemory
     (λ (x : Result (Unit {0}) SearchError). IsCallResult (keeping_of c.args.held.now) d m input w w
@@ -150,7 +150,7 @@ returns-in_err-move_to-clause-called c =
     (λ k. LeavesCall k d m input w (known_of c.args.cache.now) (known_of c.advance.new.cache) search.OutOfMemory)
     (sym c.in_err-move_to.ensures.refused)
     (run_unheld d m input w (known_of c.args.cache.now) c.search_start.new.self c.advance.new.cache
-    c.requires.walk.reads (λ fresh. c.in_ok-from.ensures.answer.may) (begun c) arrival advanced c.in-Some.id there))
+    c.requires.walk.reads (λ fresh. c.in_ok-from.ensures.answer.may) (begun (goal.at.returns-in_err-move_to-clause-called c).After-see_bounds-2) arrival advanced c.in-Some.id there))
 
 pub stand-requires-clause-here : goal.stand-requires-clause-here
 stand-requires-clause-here c = λ k t.
@@ -176,7 +176,7 @@ returns-clause-called c =
     let input : Input = c.args.input.now in
     let w : Walk = c.args.walk.now in
     let arrival : Arrival = c.in_ok-arrival.arrival in
-    let advanced = arrived c in
+    let advanced = arrived (goal.at.returns-clause-called c).In_ok-arrival in
     let s = c.stand.ensures in
     let there : Arrives d m c.advance.new.cache.store.table input w.units c.in-Some.id arrival.units = subst (λ (o : Option ℕ). IsArrival d m c.advance.new.cache.store.table input w.units o arrival.units) c.in-Some.«is» advanced.arrives in
     record {
@@ -188,7 +188,7 @@ returns-clause-called c =
           };
       effect =
           run_on d m input w (known_of c.args.cache.now) c.search_start.new.self c.advance.new.cache
-          c.requires.walk.reads (λ fresh. c.in_ok-from.ensures.answer.may) (begun c) arrival advanced c.stand.new.walk
+          c.requires.walk.reads (λ fresh. c.in_ok-from.ensures.answer.may) (begun (goal.at.returns-clause-called c).After-see_bounds-2) arrival advanced c.stand.new.walk
           c.end_search-2.new.self c.span_offset-last.result s.units c.span_offset-last.ensures.value
           c.end_search-2.ensures.value (λ ended. absurd (ended_at s.at.0 (sym ended ∙ s.at.1)));
     }
