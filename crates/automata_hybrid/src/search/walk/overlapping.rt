@@ -137,11 +137,8 @@ impl DFA {
         ensures resumed { OnOk result
             (after_resume way self.now input.now walk.now.stage (known_of cache.old) ≡ Some (known_of cache.new)) }
     {
-        cache.see_bounds();
         if walk.is_fresh() {
-            let start = self.walk_start(cache, input, way);
-            cache.see_bounds();
-            return start;
+            return self.walk_start(cache, input, way);
         }
         match held {
             Held::Row(Some(id)) => Ok(*id),
@@ -173,7 +170,6 @@ impl DFA {
             (known_of cache.old) (known_of cache.new) result }
     {
         let _skips = self.skips();
-        cache.see_bounds();
         let from = self.resume(cache, input, way, walk, held)?;
         let place = span_offset(input, way, walk.units());
         cache.search_start(place);
@@ -289,7 +285,6 @@ impl DFA {
         ensures called { IsCallResult (keeping_of held.old) way self.now input.now walk.old walk.new
             (known_of cache.old) (known_of cache.new) result }
     {
-        cache.see_bounds();
         walk.forget_match();
         if walk.has_ended() {
             return Ok(());

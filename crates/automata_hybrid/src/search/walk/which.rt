@@ -62,7 +62,6 @@ impl DFA {
     {
         walk_is_right(self.get_nfa());
         let _haystack = input.haystack();
-        cache.see_bounds();
         let mut walk = Cursor::start();
         let mut held = Held::Row(None);
         'walk: loop {

@@ -11,20 +11,20 @@ use Rattle.automata_hybrid.proofs.dfa.DFA.resume.Goals as goal
 pub returns-then-is_fresh-clause-answer : goal.returns-then-is_fresh-clause-answer
 returns-then-is_fresh-clause-answer c =
     start_answer c.args.way c.args.self.now c.args.input.now c.args.walk.now c.args.cache.now
-    c.walk_start-start.new.cache c.walk_start-start.result (c.is_fresh.ensures.yes c.if-is_fresh.true)
-    c.requires.walk.reported c.walk_start-start.ensures.answer
+    c.walk_start.new.cache c.walk_start.result (c.is_fresh.ensures.yes c.if-is_fresh.true)
+    c.requires.walk.reported c.walk_start.ensures.answer
 
 pub returns-then-is_fresh-clause-refusal : goal.returns-then-is_fresh-clause-refusal
 returns-then-is_fresh-clause-refusal c =
     start_error c.args.way c.args.self.now c.args.input.now c.args.walk.now c.args.cache.now
-    c.walk_start-start.new.cache c.walk_start-start.result (c.is_fresh.ensures.yes c.if-is_fresh.true)
-    c.walk_start-start.ensures.refusal
+    c.walk_start.new.cache c.walk_start.result (c.is_fresh.ensures.yes c.if-is_fresh.true)
+    c.walk_start.ensures.refusal
 
 pub returns-then-is_fresh-clause-resumed : goal.returns-then-is_fresh-clause-resumed
 returns-then-is_fresh-clause-resumed c =
     start_resumed c.args.way c.args.self.now c.args.input.now c.args.walk.now c.args.cache.now
-    c.walk_start-start.new.cache c.walk_start-start.result (c.is_fresh.ensures.yes c.if-is_fresh.true)
-    c.walk_start-start.ensures.run
+    c.walk_start.new.cache c.walk_start.result (c.is_fresh.ensures.yes c.if-is_fresh.true)
+    c.walk_start.ensures.run
 
 pub returns-in-Row-Some-clause-resumed : goal.returns-in-Row-Some-clause-resumed
 returns-in-Row-Some-clause-resumed c =

@@ -27,7 +27,7 @@ use Rattle.automata_hybrid.proofs.Walks.Progress.{call_leaves, reads_some}
 use Rattle.automata_hybrid.proofs.Walks.Reports.{finish_start}
 use Rattle.automata_hybrid.proofs.Walks.Units.{run_dead, run_on, run_unheld}
 use Rattle.automata_hybrid.proofs.dfa.DFA.walk_on.Goals as goal
-use Rattle.automata_hybrid.proofs.dfa.DFA.walk_on.Goals.{After-see_bounds-2, In_ok-arrival}
+use Rattle.automata_hybrid.proofs.dfa.DFA.walk_on.Goals.{After-see_bounds, In_ok-arrival}
 
 pub returns-in_err-from-clause-called : goal.returns-in_err-from-clause-called
 returns-in_err-from-clause-called c =
@@ -43,7 +43,7 @@ returns-in_err-from-clause-called c =
 
 -- the call goes on, and its search begins
 begun :
-    (c : After-see_bounds-2)
+    (c : After-see_bounds)
     → after_going_on c.args.way c.args.self.now c.args.input.now c.args.walk.now.stage c.args.walk.now.units
     (known_of c.args.cache.now) ≡ Some (known_of c.search_start.new.self)
 begun c =
@@ -63,7 +63,7 @@ returns-then-is_dead-clause-called c =
     let new : CacheView = c.end_search.new.self in
     let same : c.end.new.self ≡ ended_walk w w.units = c.end.ensures ∙ ap (ended_walk w) c.units-then-is_dead.ensures in
     let leads : Leads c.search_start.new.self.store.table c.in_ok-from.from (state_in d m input w.units) = subst (λ (t : Rows). Leads t c.in_ok-from.from (state_in d m input w.units)) (sym c.search_start.ensures.table) c.in_ok-from.ensures.answer.leads in
-    let dies : state_in d m input w.units ≡ dead = (dead_tagged c.search_start.new.self.store.table c.in_ok-from.from (c.see_bounds-2.ensures.sound.low c.in_ok-from.from) c.see_bounds-2.ensures.sound.small _ leads).0 (c.if-is_dead.ensures.0 refl) in
+    let dies : state_in d m input w.units ≡ dead = (dead_tagged c.search_start.new.self.store.table c.in_ok-from.from (c.see_bounds.ensures.sound.low c.in_ok-from.from) c.see_bounds.ensures.sound.small _ leads).0 (c.if-is_dead.ensures.0 refl) in
     let units : input.end - input.start ≡ length (tape_in d input).bytes = units_in d input r.undone c.span_offset-place.ensures.inside in
     let clean : HasReadNoQuit d m input w.units = clean_here d m input w c.requires.walk.reported.0 c.requires.walk.reported.1 r.on in
     let ends : Finishes d m input w.units w.units = finish_start d m input w.units (omega (arith, units, r.left)) clean dies in
@@ -76,7 +76,7 @@ returns-then-is_dead-clause-called c =
           };
       effect =
           run_dead d m input w (known_of c.args.cache.now) c.search_start.new.self r
-          (λ fresh. c.in_ok-from.ensures.answer.may) (begun (goal.at.returns-then-is_dead-clause-called c).After-see_bounds-2) dies new c.span_offset-place.result first
+          (λ fresh. c.in_ok-from.ensures.answer.may) (begun (goal.at.returns-then-is_dead-clause-called c).After-see_bounds) dies new c.span_offset-place.result first
           c.end_search.ensures.value;
     })
 
@@ -95,7 +95,7 @@ returns-in_err-arrival-clause-called c =
     (λ (x : Result (Unit {0}) SearchError). IsCallResult (keeping_of c.args.held.now) d m input w w
     (known_of c.args.cache.now) new x)
     c.from_residual-in_err-arrival.ensures.1
-    (FailsOnItsWay (reads_some input w c.requires.walk.reads) (λ fresh. c.in_ok-from.ensures.answer.may) first (begun (goal.at.returns-in_err-arrival-clause-called c).After-see_bounds-2)
+    (FailsOnItsWay (reads_some input w c.requires.walk.reads) (λ fresh. c.in_ok-from.ensures.answer.may) first (begun (goal.at.returns-in_err-arrival-clause-called c).After-see_bounds)
     (call_leaves (keeping_of c.args.held.now) d m input w.units first new c.in_err-arrival.field-0.0 left))
 
 -- it has come to where it reports patterns, or to its end
@@ -128,7 +128,7 @@ returns-in_default-clause-called c =
           };
       effect =
           run_on d m input w (known_of c.args.cache.now) c.search_start.new.self c.advance.new.cache r
-          (λ fresh. c.in_ok-from.ensures.answer.may) (begun (goal.at.returns-in_default-clause-called c).After-see_bounds-2) arrival advanced (ended_walk w arrival.units)
+          (λ fresh. c.in_ok-from.ensures.answer.may) (begun (goal.at.returns-in_default-clause-called c).After-see_bounds) arrival advanced (ended_walk w arrival.units)
           c.end_search-in_default.new.self c.span_offset-last.result refl c.span_offset-last.ensures.value
           c.end_search-in_default.ensures.value (λ over. (refl, finish.stops arrival.units (omega arith)));
     })
@@ -150,7 +150,7 @@ returns-in_err-move_to-clause-called c =
     (λ k. LeavesCall k d m input w (known_of c.args.cache.now) (known_of c.advance.new.cache) search.OutOfMemory)
     (sym c.in_err-move_to.ensures.refused)
     (run_unheld d m input w (known_of c.args.cache.now) c.search_start.new.self c.advance.new.cache
-    c.requires.walk.reads (λ fresh. c.in_ok-from.ensures.answer.may) (begun (goal.at.returns-in_err-move_to-clause-called c).After-see_bounds-2) arrival advanced c.in-Some.id there))
+    c.requires.walk.reads (λ fresh. c.in_ok-from.ensures.answer.may) (begun (goal.at.returns-in_err-move_to-clause-called c).After-see_bounds) arrival advanced c.in-Some.id there))
 
 pub stand-requires-clause-here : goal.stand-requires-clause-here
 stand-requires-clause-here c = λ k t.
@@ -188,7 +188,7 @@ returns-clause-called c =
           };
       effect =
           run_on d m input w (known_of c.args.cache.now) c.search_start.new.self c.advance.new.cache
-          c.requires.walk.reads (λ fresh. c.in_ok-from.ensures.answer.may) (begun (goal.at.returns-clause-called c).After-see_bounds-2) arrival advanced c.stand.new.walk
+          c.requires.walk.reads (λ fresh. c.in_ok-from.ensures.answer.may) (begun (goal.at.returns-clause-called c).After-see_bounds) arrival advanced c.stand.new.walk
           c.end_search-2.new.self c.span_offset-last.result s.units c.span_offset-last.ensures.value
           c.end_search-2.ensures.value (λ ended. absurd (ended_at s.at.0 (sym ended ∙ s.at.1)));
     }
