@@ -134,9 +134,11 @@ module _ (way : Direction) (m : Machine) (input : Input) (w : Walk) (old : Known
         counted = omega (arith, units, a.counted);
         its = (
           λ k more less. (
-              let read : WalkReads way m input k = reads_before k (omega (arith, less, units)) in
-              (read, arrival_silent way m mid.store.table input w.units arrival.id arrival.units k a.arrives more
-              (omega (arith, less, units)) read.0)),
+              let read : WalkReads way m input k = reads_before k (omega (arith, less, units)) in (
+                read,
+                arrival_silent way m mid.store.table input w.units arrival.id arrival.units k a.arrives more
+                    (omega (arith, less, units)) read.0,
+              )),
           λ over reads. (stops over).1 (subst (WalkReads way m input) units reads),
         );
         clean = λ k less.

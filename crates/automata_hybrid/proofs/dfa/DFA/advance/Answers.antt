@@ -101,9 +101,9 @@ pub reports-requires-clause-valid : goal.reports-requires-clause-valid
 reports-requires-clause-valid c = (
   state_in c.args.way c.args.self.now c.args.input.now (suc c.walk_far-stop.result.0.at),
   (dead_tagged c.read_unit.new.cache.store.table c.in_ok-next.next
-  (c.see_bounds-in-loop-read.ensures.sound.low c.in_ok-next.next) c.see_bounds-in-loop-read.ensures.sound.small _
-  c.in_ok-next.ensures.unit.leads).1
-  (λ b. false_true (c.if-is_dead.ensures.1 b)),
+      (c.see_bounds-in-loop-read.ensures.sound.low c.in_ok-next.next) c.see_bounds-in-loop-read.ensures.sound.small _
+      c.in_ok-next.ensures.unit.leads).1
+      (λ b. false_true (c.if-is_dead.ensures.1 b)),
 )
 
 pub returns-in_err-next-clause-advanced : goal.returns-in_err-next-clause-advanced
