@@ -1,7 +1,7 @@
 -- What follows of a call of a walk, by what a cache knows.
 use Rattle.std.proofs.Common.{ℕ, zero, suc, ◌≡◌, ◌∙◌, ◌+◌, ◌-◌, ◌<◌, ◌≤◌, ◌⊎◌, inl, inr, List, [], ◌∷◌, ◌++◌, length}
 use Rattle.std.proofs.Common.{Bool, true, false, cond, Option, None, Some, refl, sym, ap, subst, arith}
-use Rattle.std.specs.Prelude.{is_some, option_and_then, option_map}
+use Rattle.std.specs.Prelude.{is_some, option_and_then}
 use Rattle.std.proofs.lemmas.Bool.{cases_lt}
 use Rattle.automata_base.proofs.Paths.Orders.{none_some, some_none}
 use Rattle.automata_base.specs.Answers.Answers.{offset_in}

@@ -1,5 +1,5 @@
 -- What the calls of a walk make of what its cache knows, unit by unit.
-use Rattle.std.proofs.Common.{ℕ, suc, ◌≡◌, ◌+◌, ◌≤◌, length, inl, inr, refl, sym, subst, arith}
+use Rattle.std.proofs.Common.{ℕ, suc, ◌≡◌, ◌+◌, ◌≤◌, length, refl, sym, subst, arith}
 use Rattle.automata_base.specs.Answers.Answers.{AreUnsplit, IsInput, KeepsSplit, SkipsSplit, with_offsets}
 use Rattle.automata_base.specs.Answers.Answers.{without_split}
 use Rattle.automata_base.specs.Haystacks.Input.{Input}
