@@ -1,5 +1,5 @@
 -- What calls make of a cache follows what they make of what it knows.
-use Rattle.std.specs.Prelude.{ℕ, ⊤, Bool, List, Option}
+use Rattle.std.specs.Prelude.{ℕ, ⊤, List, Option}
 use Rattle.automata_base.specs.Answers.Answers.{IsInput}
 use Rattle.automata_base.specs.Haystacks.Input.{Input}
 use Rattle.automata_base.specs.Haystacks.Tapes.{IsHaystack}
@@ -17,16 +17,13 @@ use Rattle.automata_hybrid.specs.Known.Passes.{IsSearchRun}
 use Rattle.automata_hybrid.specs.Known.Pieces.{IsAnswerRun, IsBeginRun, IsPieceRun, IsWalkCallRun, IsWalkEndRun}
 use Rattle.automata_hybrid.specs.Known.Steps.{IsStepRun, StepFails}
 use Rattle.automata_hybrid.specs.Known.Stores.{known_of}
-use Rattle.automata_hybrid.specs.Known.Walks.{IsSetRun, IsWalkRun}
 use Rattle.automata_hybrid.specs.Machines.Machine.{Machine}
 use Rattle.automata_hybrid.specs.Pieces.State.{PiecesView}
-use Rattle.automata_hybrid.specs.Walks.State.{Keeping, Walk}
 use Rattle.automata_hybrid.specs.declared.search.pieces.BeginError.{BeginError}
 use Rattle.automata_hybrid.specs.Private.Calls.Steps as calls
 use Rattle.automata_hybrid.specs.Private.Pieces.Progress as pieces
 use Rattle.automata_hybrid.specs.Private.Pieces.Walks as over_pieces
 use Rattle.automata_hybrid.specs.Private.Searches.Progress as searches
-use Rattle.automata_hybrid.specs.Private.Walks.Progress as walks
 
 -- an event's unit is a byte or the end
 abbrev pub AsksForUnit : Event → Type 0
@@ -55,21 +52,6 @@ SearchesByKnown m =
     (way : Direction) (input : Input) (old new : CacheView) (error : Option SearchError) → IsInput input
     → searches.IsSearchRunInStore way m input old new error
     → IsSearchRun way m input (known_of old) (known_of new) error
-
--- What a call of a walk makes of a cache of the DFA is what it makes of what the cache knows, and so is what the search
--- for a set of patterns makes of it.
-pub record WalksByKnown (m : Machine) : Type 0 where
-  -- a call of a walk
-  pub calls :
-      (keeping : Keeping) (way : Direction) (input : Input) (walk next : Walk) (old new : CacheView)
-      (error : Option SearchError) → IsInput input
-      → walks.IsWalkRunInStore keeping way m input walk next old new error
-      → IsWalkRun keeping way m input walk next (known_of old) (known_of new) error
-  -- the search for a set
-  pub sets :
-      (input : Input) (set joined : List Bool) (old new : CacheView) (error : Option SearchError) → IsInput input
-      → walks.IsSetRunInStore m input set joined old new error
-      → IsSetRun m input set joined (known_of old) (known_of new) error
 
 -- What a call of a search in pieces makes of a cache of the DFA is what it makes of what the cache knows, and so is
 -- what a call of a walk over pieces makes of it.
