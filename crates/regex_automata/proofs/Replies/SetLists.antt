@@ -74,7 +74,7 @@ called_reported :
 called_reported m input set zero old walk new (NoCall walk1 new1 fresh same) =
     (subst (λ (w : Walk). HasReported Forward m input w 0) (sym fresh) (refl, refl), λ k l. absurd (omega (arith, l)))
 called_reported m input set (suc calls) old walk new
-(OneMore calls1 before walk1 mid new1 called is_open there reports ended) =
+    (OneMore calls1 before walk1 mid new1 called is_open there reports ended) =
     let reported = called_reported m input set calls old before mid called in
     ((reports calls reported.0).0, up_to (IsOpenAfter m input set) calls reported.1 is_open)
 
