@@ -11,7 +11,9 @@ none : (quits : List Bool) (b : ℕ) → are_quits quits b 0 ≡ true
 unfolding are_quits
 none quits b = refl
 
-pub are_quits-more : (quits : List Bool) (b : ℕ) → b < 256 → are_quits quits b (256 - b) ≡ is_quit quits b && are_quits quits (b + 1) (256 - (b + 1))
+pub are_quits-more :
+    (quits : List Bool) (b : ℕ) → b < 256
+    → are_quits quits b (256 - b) ≡ is_quit quits b && are_quits quits (b + 1) (256 - (b + 1))
 are_quits-more quits b h = ap (are_quits quits b) (left b h) ∙ more quits b (256 - (b + 1))
   where
     left : (b : ℕ) → b < 256 → 256 - b ≡ suc (256 - (b + 1))

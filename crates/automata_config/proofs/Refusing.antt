@@ -24,11 +24,15 @@ and-false false = refl
 -- The quit set as it was configured, and with the bytes from 0x80 on.
 pub settled_as_set :
     (o : Options) (a : Automaton) (quits : List Bool)
-    → length quits ≡ 256 → quits ≡ quits_of o → (has_unicode_word a && unicode_word_boundary_of o) ≡ false → quits ≡ settled_quits o a
+    → length quits ≡ 256 → quits ≡ quits_of o → (has_unicode_word a && unicode_word_boundary_of o) ≡ false
+    → quits ≡ settled_quits o a
 unfolding settled_quits
 settled_as_set o a quits whole set off = fill_by_all _ quits 256 false whole go
   where
-    go : (k : ℕ) → k < 256 → get_or quits k false ≡ (is_quit (quits_of o) k || (has_unicode_word a && unicode_word_boundary_of o && leb 128 k))
+    go :
+        (k : ℕ) → k < 256
+        → get_or quits k false
+        ≡ (is_quit (quits_of o) k || (has_unicode_word a && unicode_word_boundary_of o && leb 128 k))
     go k h =
         ap (λ q. get_or q k false) set
         ∙ (sym (or-false (is_quit (quits_of o) k)) ∙ ap (λ z. is_quit (quits_of o) k || (z && leb 128 k)) (sym off))
@@ -40,28 +44,37 @@ pub settled_with_non_ascii :
 unfolding settled_quits
 settled_with_non_ascii o a quits all whole set on same = fill_by_all _ all 256 false whole go
   where
-    go : (k : ℕ) → k < 256 → get_or all k false ≡ (is_quit (quits_of o) k || (has_unicode_word a && unicode_word_boundary_of o && leb 128 k))
+    go :
+        (k : ℕ) → k < 256
+        → get_or all k false
+        ≡ (is_quit (quits_of o) k || (has_unicode_word a && unicode_word_boundary_of o && leb 128 k))
     go k h =
-        same k h ∙ (ap (λ q. is_quit q k || leb 128 k) set ∙ ap (λ z. is_quit (quits_of o) k || (z && leb 128 k)) (sym on))
+        same k h
+        ∙ (ap (λ q. is_quit q k || leb 128 k) set ∙ ap (λ z. is_quit (quits_of o) k || (z && leb 128 k)) (sym on))
 
 -- Errors.
 pub supported : (u : Bool) (e : BuildError) → None ≡ cond u (Some e) None → u ≡ false
 supported true e h = cc
 supported false e h = refl
 
-third : {X : Type 0} (p q r : Bool) (x y z w : X) → p ≡ false → q ≡ false → cond p x (cond q y (cond r z w)) ≡ cond r z w
+third :
+    {X : Type 0} (p q r : Bool) (x y z w : X) → p ≡ false → q ≡ false → cond p x (cond q y (cond r z w)) ≡ cond r z w
 third p q r x y z w e f = ap (λ b. cond b x (cond q y (cond r z w))) e ∙ ap (λ b. cond b y (cond r z w)) f
 
 pub refusal-offset :
-    (o : Options) (a : Automaton) → is_unsupported o a ≡ false → is_too_small o a ≡ false → 134217727 < greatest_offset o a
+    (o : Options) (a : Automaton) → is_unsupported o a ≡ false → is_too_small o a ≡ false
+    → 134217727 < greatest_offset o a
     → settling_error o a ≡ Some (InsufficientStateIDCapacity (greatest_offset o a))
 refusal-offset o a e f g =
     third (is_unsupported o a) (is_too_small o a) (ltb 134217727 (greatest_offset o a)) _ _ _ _ e f
-    ∙ ap (λ b. cond b (Some (InsufficientStateIDCapacity (greatest_offset o a))) None) (lt-ltb 134217727 (greatest_offset o a) g)
+    ∙ ap (λ b. cond b (Some (InsufficientStateIDCapacity (greatest_offset o a))) None)
+    (lt-ltb 134217727 (greatest_offset o a) g)
 
 pub refusal-none :
-    (o : Options) (a : Automaton) → is_unsupported o a ≡ false → is_too_small o a ≡ false → greatest_offset o a ≤ 134217727
+    (o : Options) (a : Automaton) → is_unsupported o a ≡ false → is_too_small o a ≡ false
+    → greatest_offset o a ≤ 134217727
     → settling_error o a ≡ None
 refusal-none o a e f g =
     third (is_unsupported o a) (is_too_small o a) (ltb 134217727 (greatest_offset o a)) _ _ _ _ e f
-    ∙ ap (λ b. cond b (Some (InsufficientStateIDCapacity (greatest_offset o a))) None) (le-ltb 134217727 (greatest_offset o a) g)
+    ∙ ap (λ b. cond b (Some (InsufficientStateIDCapacity (greatest_offset o a))) None)
+    (le-ltb 134217727 (greatest_offset o a) g)

@@ -2,6 +2,7 @@ pub mod Rows
 pub mod Strides
 pub mod Additions
 pub mod Places
+pub mod Starts
 pub mod States
 pub mod Clears
 pub mod Usage

@@ -1,8 +1,10 @@
 //! Laws that searches and walks stand on. The contract of each function is the law; what it does is to cite others.
-ghost use Rattle.automata_hybrid.specs.Cache.Caches.{IsCacheOf, IsStoreOf};
-ghost use Rattle.automata_hybrid.specs.Known.Bounds.{CachesAreKnown};
+ghost use Rattle.std.specs.Prelude.{ℕ};
+ghost use Rattle.automata_hybrid.specs.Cache.Caches.{HoldsRow, IsCacheOf};
+ghost use Rattle.automata_hybrid.specs.Known.Bounds.{IsKnown};
+ghost use Rattle.automata_hybrid.specs.Known.Stores.{known_of};
 ghost use Rattle.automata_hybrid.specs.Known.Cached.{KnownStays};
-ghost use Rattle.automata_hybrid.specs.Known.Effects.{EventsFollow, IdsAreKnown, StartsFollow, StepsFollow};
+ghost use Rattle.automata_hybrid.specs.Known.Effects.{EventsFollow, KnowsId, StartsFollow, StepsFollow};
 ghost use Rattle.automata_hybrid.specs.Known.Follows.{PassesCost, SearchesFollow};
 ghost use Rattle.automata_hybrid.specs.Known.PiecesFollow.{PieceAnswersFollow, PiecesFollow};
 ghost use Rattle.automata_hybrid.specs.Known.WalksFollow.{CallsFollow, SetsFollow};
@@ -40,23 +42,16 @@ pub fn sizes_are_of_nfa(dfa: &DFA)
     dfa.see_machine();
 }
 
-/// A cache of a DFA is one within its settings. So an error that a call gives over the cache that it leaves is one that
-/// some cache of the DFA gives, within its settings.
-pub fn cache_is_within(dfa: &DFA, cache: &Cache)
-    requires { IsCacheOf cache.now dfa.now }
-    ensures { IsStoreOf cache.now.store dfa.now }
-{
-    cache.see_bounds();
-}
-
 /// What a cache of a DFA knows is what these laws are about: its rows have states of no greater cost than a state may
 /// have, none of them dead; it has all start slots; and its accounted bytes are within the capacity. And it knows each
 /// ID from which a step may be taken.
-pub fn caches_are_known(dfa: &DFA)
-    ensures known { CachesAreKnown dfa.now }
-    ensures ids { IdsAreKnown dfa.now }
+pub fn cache_is_known(dfa: &DFA, cache: &Cache)
+    requires { IsCacheOf cache.now dfa.now }
+    ensures known { IsKnown dfa.now (known_of cache.now) }
+    ensures ids { (id : ℕ) → HoldsRow cache.now id → KnowsId dfa.now (known_of cache.now) id }
 {
     dfa.see_machine();
+    cache.see_bounds();
 }
 
 /// What follows of what a search makes of what its cache knows: how often it determinizes, and when it clears nothing;

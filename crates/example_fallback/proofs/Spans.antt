@@ -24,7 +24,9 @@ one_meaning config text (re ∷ next ∷ res) are = absurd are.1
 abbrev pub span_of : Match → ℕ × ℕ
 span_of m = (m.start, m.end)
 
-spans : (res : List Re) (hay : List ℕ) (o : Option kit.Match) → option_map span_of (option_map (numbered_match res hay) o) ≡ option_map span o
+spans :
+    (res : List Re) (hay : List ℕ) (o : Option kit.Match)
+    → option_map span_of (option_map (numbered_match res hay) o) ≡ option_map span o
 spans res hay None = refl
 spans res hay (Some m) = refl
 

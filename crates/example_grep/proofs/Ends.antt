@@ -1,5 +1,6 @@
 -- Bytes that are replaced one by one.
-use Rattle.std.proofs.Common.{◌≡◌, ◌<◌, ℕ, zero, suc, List, [], ◌∷◌, ap, refl, sym, map, length, slice_index_or, slice_set, arith}
+use Rattle.std.proofs.Common.{◌≡◌, ◌<◌, ℕ, zero, suc, List, [], ◌∷◌, ap, refl, sym, map, length, slice_index_or}
+use Rattle.std.proofs.Common.{slice_set, arith}
 use Rattle.example_grep.specs.Blocks.{line_ends}
 
 -- the bytes, of which so many are replaced

@@ -5,7 +5,8 @@ use Rattle.std.proofs.lemmas.List.{append_assoc}
 use Rattle.example_grep.specs.Shown.{number_after, numbers_listed}
 
 -- what is listed so far, with what the patterns that are left will add, stays the same
-pub number_turn : (was is all : List ℕ) (first : Bool) (pattern : ℕ) (rest : List ℕ) → is ≡ was ++ number_after first pattern →
+pub number_turn :
+    (was is all : List ℕ) (first : Bool) (pattern : ℕ) (rest : List ℕ) → is ≡ was ++ number_after first pattern →
     was ++ numbers_listed first (pattern ∷ rest) ≡ all → is ++ numbers_listed false rest ≡ all
 number_turn was is all first pattern rest more so =
     ap (λ v. v ++ numbers_listed false rest) more

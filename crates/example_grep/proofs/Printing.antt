@@ -1,5 +1,6 @@
 -- What is printed, one match and one line after another.
-use Rattle.std.proofs.Common.{◌≡◌, ◌∙◌, ◌+◌, ◌<◌, ℕ, Bool, false, List, [], ◌∷◌, ◌++◌, Option, Some, None, refl, sym, ap, subst, map, take, get_or, length, add-one, arith}
+use Rattle.std.proofs.Common.{◌≡◌, ◌∙◌, ◌+◌, ◌<◌, ℕ, Bool, false, List, [], ◌∷◌, ◌++◌, Option, Some, None, refl, sym}
+use Rattle.std.proofs.Common.{ap, subst, map, take, get_or, length, add-one, arith}
 use Rattle.std.specs.Prelude.{OnOk, Result, Ok, Err, slice_range}
 use Rattle.std.proofs.lemmas.List.{append_assoc, append-nil, map-append}
 use Rattle.std.proofs.Math.Seq.{take-suc}
@@ -15,7 +16,8 @@ use Rattle.patterns.specs.declared.pattern.Pattern.{Pattern}
 use Rattle.patterns.specs.declared.set.RegexSet.{RegexSet}
 use Rattle.example_grep.specs.Lines.{IsSearcherFor, bytewise, count_after, found_line, one_more}
 use Rattle.example_grep.specs.Greps.{IsGrepFor, IsViewFor, KeepsView}
-use Rattle.example_grep.specs.Shown.{found_shown, line_shown, lines_shown, part_shown, parts_shown, shown_after, which_shown}
+use Rattle.example_grep.specs.Shown.{found_shown, line_shown, lines_shown, part_shown, parts_shown, shown_after}
+use Rattle.example_grep.specs.Shown.{which_shown}
 use Rattle.example_grep.specs.declared.search.Grep.{Grep}
 use Rattle.example_grep.specs.declared.lines.Line.{Line}
 use Rattle.example_grep.specs.declared.lines.LineSearcher.{LineSearcher}
@@ -37,25 +39,32 @@ module _ (regex : Regex) (prefix line old : List ℕ) where
   abbrev pub Prints : (was : List ℕ) → (last : Option ℕ) → Type 0
   Prints was last =
       (case_insensitive : Bool) (res : List Re) → IsRegexOf (bytewise case_insensitive) res regex
-      → was ++ parts_shown prefix line (left_any false res line last) ≡ old ++ parts_shown prefix line (left_any false res line None)
+      → was ++ parts_shown prefix line (left_any false res line last) ≡ old
+      ++ parts_shown prefix line (left_any false res line None)
 
-  module _ (own : Regex) (hay : List ℕ) (same : own ≡ regex) (same_line : hay ≡ line) (was : List ℕ) (last : Option ℕ) (so : Prints was last) where
+  module _ (own : Regex) (hay : List ℕ) (same : own ≡ regex) (same_line : hay ≡ line) (was : List ℕ) (last : Option ℕ)
+      (so : Prints was last) where
     next : (o : Option Match) → IsNextMeant own hay last o → IsNextMeant regex line last o
     next o h = subst (λ (r : Regex). IsNextMeant r line last o) same (subst (λ v. IsNextMeant own v last o) same_line h)
 
-    pub match_turn : (is : List ℕ) (m : Match) (last' : Option ℕ) → IsNextMeant own hay last (Some m) → last' ≡ Some m.end →
+    pub match_turn :
+        (is : List ℕ) (m : Match) (last' : Option ℕ) → IsNextMeant own hay last (Some m) → last' ≡ Some m.end →
         is ≡ was ++ part_shown prefix (slice_range line m.start m.end) → Prints is last'
     match_turn is m last' h end more = λ case_insensitive res of.
         ap (λ v. is ++ parts_shown prefix line (left_any false res line v)) end
         ∙ ap (λ v. v ++ parts_shown prefix line (left_any false res line (Some m.end))) more
-        ∙ append_assoc was (part_shown prefix (slice_range line m.start m.end)) (parts_shown prefix line (left_any false res line (Some m.end)))
-        ∙ ap (λ ms. was ++ parts_shown prefix line ms) (sym (next (Some m) h (bytewise case_insensitive) res of (any_bytes case_insensitive line)))
+        ∙ append_assoc was (part_shown prefix (slice_range line m.start m.end))
+        (parts_shown prefix line (left_any false res line (Some m.end)))
+        ∙ ap (λ ms. was ++ parts_shown prefix line ms)
+        (sym (next (Some m) h (bytewise case_insensitive) res of (any_bytes case_insensitive line)))
         ∙ so case_insensitive res of
 
     pub match_end : IsNextMeant own hay last None → (case_insensitive : Bool) (res : List Re) →
-        IsRegexOf (bytewise case_insensitive) res regex → was ≡ old ++ parts_shown prefix line (left_any false res line None)
+        IsRegexOf (bytewise case_insensitive) res regex
+        → was ≡ old ++ parts_shown prefix line (left_any false res line None)
     match_end h case_insensitive res of =
-        sym (ap (λ ms. was ++ parts_shown prefix line ms) (next None h (bytewise case_insensitive) res of (any_bytes case_insensitive line))
+        sym (ap (λ ms. was ++ parts_shown prefix line ms)
+        (next None h (bytewise case_insensitive) res of (any_bytes case_insensitive line))
         ∙ append-nil was)
         ∙ so case_insensitive res of
 
@@ -80,8 +89,11 @@ module _ (lines : List Line) (i : ℕ) (d : Line) (inside : i < length lines) wh
   line_next now show res old was is same so more =
       more ∙ ap (λ v. was ++ found_shown v res (found_line (get_or lines i d))) same
       ∙ ap (λ v. v ++ found_shown show res (found_line (get_or lines i d))) so
-      ∙ append_assoc old (lines_shown show res (map found_line (take i lines))) (found_shown show res (found_line (get_or lines i d)))
-      ∙ ap (λ v. old ++ v) (sym (ap (lines_shown show res) grown ∙ lines_push show res (map found_line (take i lines)) (found_line (get_or lines i d))))
+      ∙ append_assoc old (lines_shown show res (map found_line (take i lines)))
+      (found_shown show res (found_line (get_or lines i d)))
+      ∙ ap (λ v. old ++ v)
+      (sym (ap (lines_shown show res) grown
+      ∙ lines_push show res (map found_line (take i lines)) (found_line (get_or lines i d))))
 
   count_more : (n was is : ℕ) → was ≡ count_after n (map found_line (take i lines)) → is ≡ one_more was →
       is ≡ count_after n (map found_line (take (i + 1) lines))
@@ -90,7 +102,8 @@ module _ (lines : List Line) (i : ℕ) (d : Line) (inside : i < length lines) wh
       ∙ sym (ap (count_after n) grown ∙ counted_push n (map found_line (take i lines)) (found_line (get_or lines i d)))
 
 pub count_next : (lines : List Line) (i : ℕ) → i < length lines → (n was is : ℕ) →
-    was ≡ count_after n (map found_line (take i lines)) → is ≡ one_more was → is ≡ count_after n (map found_line (take (i + 1) lines))
+    was ≡ count_after n (map found_line (take i lines)) → is ≡ one_more was
+    → is ≡ count_after n (map found_line (take (i + 1) lines))
 count_next [] i inside n was is so more = absurd (omega (arith, inside))
 count_next (line ∷ lines) i inside n was is so more = count_more (line ∷ lines) i line inside n was is so more
 
@@ -138,7 +151,8 @@ view_next (view.Which a) (view.Which b) (view.Matches c) first second = absurd s
 view_next (view.Which a) (view.Which b) (view.Which c) first second = second ∙ first
 
 -- a grep whose parts are the same
-pub grep_kept : (case_insensitive : Bool) (res : List Re) (old new : Grep) → new.lines.dfa ≡ old.lines.dfa → new.show ≡ old.show →
+pub grep_kept :
+    (case_insensitive : Bool) (res : List Re) (old new : Grep) → new.lines.dfa ≡ old.lines.dfa → new.show ≡ old.show →
     KeepsView old.view new.view → IsGrepFor case_insensitive res old → IsGrepFor case_insensitive res new
 grep_kept case_insensitive res old new dfa show kept is = (
   subst (λ (m : Machine). IsSearcherFor case_insensitive res m) (sym dfa) is.0,
@@ -147,9 +161,13 @@ grep_kept case_insensitive res old new dfa show kept is = (
 )
 
 -- and one that is made of them
-pub grep_made : (case_insensitive : Bool) (res : List Re) (nfa : Automaton) (show : Show) (lines : LineSearcher) (own : View) (grep : Grep) →
-    grep.show ≡ show → grep.lines ≡ lines → grep.view ≡ own → lines.dfa.nfa ≡ nfa → match_kind_of lines.dfa.config ≡ LeftmostFirst →
-    IsViewFor case_insensitive show.flags.how res own → IsJoinedNfa (bytewise case_insensitive) res nfa → IsGrepFor case_insensitive res grep
+pub grep_made :
+    (case_insensitive : Bool) (res : List Re) (nfa : Automaton) (show : Show) (lines : LineSearcher) (own : View)
+    (grep : Grep) →
+    grep.show ≡ show → grep.lines ≡ lines → grep.view ≡ own → lines.dfa.nfa ≡ nfa
+    → match_kind_of lines.dfa.config ≡ LeftmostFirst →
+    IsViewFor case_insensitive show.flags.how res own → IsJoinedNfa (bytewise case_insensitive) res nfa
+    → IsGrepFor case_insensitive res grep
 grep_made case_insensitive res nfa show lines own grep same_show same_lines same_view same_nfa kind for is = (
   subst (λ (s : LineSearcher). IsSearcherFor case_insensitive res s.dfa) (sym same_lines)
       (subst (λ (a : Automaton). IsJoinedNfa (bytewise case_insensitive) res a) (sym same_nfa) is, kind),
@@ -164,7 +182,8 @@ on_ok (Err e) f h = tt
 
 module _ (case_insensitive : Bool) (res : List Re) (prefix line was is : List ℕ) where
   -- a line that is shown as it is
-  pub line_as_whole : (asked : How) → IsViewFor case_insensitive asked res view.Whole → is ≡ was ++ shown_after prefix line →
+  pub line_as_whole :
+      (asked : How) → IsViewFor case_insensitive asked res view.Whole → is ≡ was ++ shown_after prefix line →
       is ≡ was ++ line_shown asked res prefix line
   line_as_whole how.Whole for said = said
   line_as_whole how.Matches for said = absurd for
@@ -172,7 +191,8 @@ module _ (case_insensitive : Bool) (res : List Re) (prefix line was is : List �
 
   -- the matches of a line
   pub line_as_matches : (asked : How) (own : SpanSearcher) → IsViewFor case_insensitive asked res (view.Matches own) →
-      (IsRegexOf (bytewise case_insensitive) res own.pattern.regex → is ≡ was ++ parts_shown prefix line (left_any false res line None)) →
+      (IsRegexOf (bytewise case_insensitive) res own.pattern.regex
+      → is ≡ was ++ parts_shown prefix line (left_any false res line None)) →
       is ≡ was ++ line_shown asked res prefix line
   line_as_matches how.Whole own for said = absurd for
   line_as_matches how.Matches own for said = said for
@@ -180,7 +200,8 @@ module _ (case_insensitive : Bool) (res : List Re) (prefix line was is : List �
 
   -- a line with the patterns that match it
   pub line_as_which : (asked : How) (own : SetSearcher) → IsViewFor case_insensitive asked res (view.Which own) →
-      (IsDfaOf (bytewise case_insensitive) res own.set.dfa → is ≡ was ++ which_shown prefix line (map (is_found false line) res)) →
+      (IsDfaOf (bytewise case_insensitive) res own.set.dfa
+      → is ≡ was ++ which_shown prefix line (map (is_found false line) res)) →
       is ≡ was ++ line_shown asked res prefix line
   line_as_which how.Whole own for said = absurd for
   line_as_which how.Matches own for said = absurd for

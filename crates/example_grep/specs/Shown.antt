@@ -55,7 +55,8 @@ numbered_shown prefix numbers line = prefix ++ numbers ++ 58 ∷ line ++ 10 ∷ 
 abbrev pub which_shown : (prefix line : List ℕ) → (flags : List Bool) → List ℕ
 which_shown prefix line flags = numbered_shown prefix (numbers_listed true (members flags)) line
 
--- a line that is taken: the line, its matches alone, or it after the numbers of the patterns that match it by themselves
+-- a line that is taken: the line, its matches alone, or it after the numbers of the patterns that match it by
+-- themselves
 abbrev pub line_shown : How → List Re → (prefix line : List ℕ) → List ℕ
 line_shown how.Whole res prefix line = shown_after prefix line
 line_shown how.Matches res prefix line = parts_shown prefix line (left_any false res line None)

@@ -1,6 +1,8 @@
 //! Which rules match a record.
 ghost use Rattle.std.specs.Prelude.{◌≡◌, ◌≤◌, IfOk};
-ghost use Rattle.automata_hybrid.specs.Cache.Usage.{usage};
+ghost use Rattle.automata_hybrid.specs.Cache.Caches.{dfa_of};
+ghost use Rattle.automata_hybrid.specs.Known.Events.{usage};
+ghost use Rattle.automata_hybrid.specs.Known.Stores.{known_of};
 ghost use Rattle.regex_automata.specs.Promises.{IsCacheOf, KindAll, match_kind_of};
 ghost use Rattle.example_rules.specs.Rules.{IsFirst, IsNamed};
 
@@ -70,8 +72,8 @@ impl RuleMatcher {
 
     /// How many bytes the cache accounts for.
     pub fn memory_usage(&self) -> usize
-        ensures usage { result ≡ usage self.now.cache.store }
-        ensures within { result ≤ self.now.cache.store.table.of.capacity }
+        ensures usage { result ≡ usage (dfa_of self.now.cache) (known_of self.now.cache) }
+        ensures within { result ≤ (dfa_of self.now.cache).capacity }
     {
         self.cache.memory_usage()
     }

@@ -1,6 +1,7 @@
 -- The first match of a text.
 use Rattle.std.specs.Prelude.{ℕ, ◌≡◌, List, length, Option, true}
-use Rattle.regex_automata.specs.Promises.{Forward, HalfMatch, Input, IsFound, IsNearestAnswer, Machine, No, WithoutBase, engine}
+use Rattle.regex_automata.specs.Promises.{Forward, HalfMatch, Input, IsFound, IsNearestAnswer, Machine, No, WithoutBase}
+use Rattle.regex_automata.specs.Promises.{engine}
 
 -- a text, searched for its first match
 abbrev pub earliest : List ℕ → Input

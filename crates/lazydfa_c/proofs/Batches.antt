@@ -1,5 +1,6 @@
 -- Calls one after another, and one more.
-use Rattle.std.proofs.Common.{ℕ, suc, zero, inl, inr, get_or, ◌≡◌, ◌+◌, ◌<◌, ◌++◌, List, [], ◌∷◌, add-one, ap, arith, drop, length, refl}
+use Rattle.std.proofs.Common.{ℕ, suc, zero, inl, inr, get_or, ◌≡◌, ◌+◌, ◌<◌, ◌++◌, List, [], ◌∷◌, add-one, ap, arith}
+use Rattle.std.proofs.Common.{drop, length, refl}
 use Rattle.std.proofs.Common.{subst, sym, take, ◌∙◌}
 use Rattle.std.proofs.Math.ListN.{set}
 use Rattle.std.proofs.lemmas.List.{drop-set-lt, set-get_or, take_more_set}
@@ -26,7 +27,9 @@ call_more {A = A} Call [] f old at new s u t status calls done call = (
   record {
     status = status;
     done = done;
-    call = subst (λ (a : A). Call f a new s t status) calls.0 (subst (λ (v : Searcher). Call f at new v t status) calls.1 call);
+    call =
+        subst (λ (a : A). Call f a new s t status) calls.0
+        (subst (λ (v : Searcher). Call f at new v t status) calls.1 call);
   },
   (refl, refl),
 )

@@ -8,7 +8,8 @@ use Rattle.lazydfa_c.specs.declared.code.Code.TheVariants.{NoPattern, Unfinished
 use Rattle.lazydfa_c.specs.declared.code.Code.TheVariants.{TooLarge, StateRange, StartRange, PatternRange, Ranges}
 use Rattle.lazydfa_c.specs.declared.code.Code.TheVariants.{NotLazy, NotUtf8, Starts, Unsupported, Capacity}
 use Rattle.lazydfa_c.specs.declared.code.Code.TheVariants.{StateIDs, PatternCounts, OneStart, Quit, GaveUp, Anchored}
-use Rattle.lazydfa_c.specs.declared.code.Code.TheVariants.{NotAPair, NoToken, Skips, NotBegun, Syntax, NotText, NotCompiled}
+use Rattle.lazydfa_c.specs.declared.code.Code.TheVariants.{NotAPair, NoToken, Skips, NotBegun, Syntax, NotText}
+use Rattle.lazydfa_c.specs.declared.code.Code.TheVariants.{NotCompiled}
 
 -- the code of a number
 abbrev code_of : ℕ → Option Code
@@ -89,4 +90,5 @@ gives_back NotCompiled = refl
 -- the number determines the code
 pub codes_differ : (a b : Code) → number_of a ≡ number_of b → a ≡ b
 codes_differ a b same =
-    let back = gives_back a in let back' = gives_back b in let image : code_of (number_of a) ≡ code_of (number_of b) = ap code_of same in cc
+    let back = gives_back a in
+    let back' = gives_back b in let image : code_of (number_of a) ≡ code_of (number_of b) = ap code_of same in cc

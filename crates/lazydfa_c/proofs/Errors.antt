@@ -17,8 +17,10 @@ use Rattle.regex_automata.specs.declared.hybrid.regex.build.RegexBuildError.TheV
 use Rattle.regex_automata.specs.declared.tokens.error.TokenError.{TokenError}
 use Rattle.regex_automata.specs.declared.tokens.error.TokenError.TheVariants.{NoToken, Search}
 use Rattle.lazydfa_c.specs.Codes.{number_of}
-use Rattle.lazydfa_c.specs.Errors.{TellErrors, told_begin, told_build, told_builder, told_regex, told_search, told_token}
-use Rattle.lazydfa_c.specs.Statuses.{begin_status, build_status, builder_status, regex_status, search_status, token_status}
+use Rattle.lazydfa_c.specs.Errors.{TellErrors, told_begin, told_build, told_builder, told_regex, told_search}
+use Rattle.lazydfa_c.specs.Errors.{told_token}
+use Rattle.lazydfa_c.specs.Statuses.{begin_status, build_status, builder_status, regex_status, search_status}
+use Rattle.lazydfa_c.specs.Statuses.{token_status}
 use Rattle.lazydfa_c.specs.declared.code.Code.TheVariants as code
 use Rattle.lazydfa_c.specs.declared.status.Status.{Status}
 

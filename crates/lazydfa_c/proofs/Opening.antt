@@ -9,8 +9,10 @@ use Rattle.lazydfa_c.specs.declared.status.Status.{Status}
 use Rattle.regex_automata.specs.declared.hybrid.regex.Regex.{Regex}
 
 pub opens :
-    (Makes : Regex → Type 0) (Refuses : Status → Type 0) (regex : Regex) (old new : Handle) (r : Result (Unit {0}) Status)
+    (Makes : Regex → Type 0) (Refuses : Status → Type 0) (regex : Regex) (old new : Handle)
+    (r : Result (Unit {0}) Status)
     → Makes regex → OnOk r (IsRegexIn regex new) → OnErr r (new ≡ old)
     → IfErr r (λ s. s ≡ plain code.Memory) → OpensRegex Makes Refuses old new r
-opens Makes Refuses regex old new (Ok u) makes opened same memory = record { regex = regex; made = makes; opened = opened }
+opens Makes Refuses regex old new (Ok u) makes opened same memory =
+    record { regex = regex; made = makes; opened = opened }
 opens Makes Refuses regex old new (Err e) makes opened same memory = (same, inr memory)

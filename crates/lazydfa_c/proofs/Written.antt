@@ -1,5 +1,6 @@
 -- Writing a list into another, one element after another.
-use Rattle.std.proofs.Common.{ℕ, suc, zero, ◌≡◌, ◌<◌, ◌≤◌, ◌++◌, List, [], ◌∷◌, length, take, drop, ap, refl, subst, arith, ◌∙◌}
+use Rattle.std.proofs.Common.{ℕ, suc, zero, ◌≡◌, ◌<◌, ◌≤◌, ◌++◌, List, [], ◌∷◌, length, take, drop, ap, refl, subst}
+use Rattle.std.proofs.Common.{arith, ◌∙◌}
 use Rattle.std.proofs.Math.ListN.{set}
 use Rattle.lazydfa_c.specs.Caches.{written_over}
 
@@ -18,7 +19,8 @@ goes_on {A = A} (o ∷ out) (suc at) x rest h =
 
 -- there is no more room
 pub stops :
-    {A : Type 0} (out : List A) (at : ℕ) (x : A) (rest : List A) → length out ≤ at → under at rest out ≡ under at (x ∷ rest) out
+    {A : Type 0} (out : List A) (at : ℕ) (x : A) (rest : List A) → length out ≤ at
+    → under at rest out ≡ under at (x ∷ rest) out
 stops [] zero x [] h = refl
 stops [] zero x (y ∷ rest) h = refl
 stops [] (suc at) x [] h = refl

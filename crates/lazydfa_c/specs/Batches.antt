@@ -78,7 +78,8 @@ pub record IsWalkStep (way : Direction) (m : Machine) (input : Input) (walk next
   pub effect : IsWalkRun States way m input walk next (known_of old) (known_of new) (result_err result)
 
 -- steps one after another, each of which found one of these matches
-abbrev pub AreWalkSteps : Direction → Machine → Input → List HalfMatch → (walk next : Walk) → (old new : CacheView) → Type 0
+abbrev pub AreWalkSteps : Direction → Machine → Input → List HalfMatch → (walk next : Walk) → (old new : CacheView)
+    → Type 0
 AreWalkSteps way m input [] walk next old new = (next ≡ walk) × (new ≡ old)
 AreWalkSteps way m input (half ∷ halves) walk next old new =
     (w : Walk) × (c : CacheView) × IsWalkStep way m input walk w old c (Ok (Some half))

@@ -292,7 +292,8 @@ pub record OpensFrom
 -- `lazydfa_regex_share`: the handle is opened on the regex of the other one
 abbrev pub SharesHandle : (old new : Handle) → (from left : Handle) → Status → Type 0
 SharesHandle old new from left status =
-    (done : Result (Unit {0}) Status) × OpensFrom SharesRegex IsRegexIn old new from left done × (status ≡ done_status done)
+    (done : Result (Unit {0}) Status) × OpensFrom SharesRegex IsRegexIn old new from left done
+    × (status ≡ done_status done)
 
 -- `lazydfa_regex_reverse`: the handle is opened on the regex of the other one, reversed
 abbrev pub ReversesHandle : (old new : Handle) → (from left : Handle) → Status → Type 0
@@ -303,4 +304,5 @@ ReversesHandle old new from left status =
 -- `lazydfa_cache_new`: the handle is opened on a fresh cache of the regex of the other one
 abbrev pub NewsCache : (old new : Handle) → (from left : Handle) → Status → Type 0
 NewsCache old new from left status =
-    (done : Result (Unit {0}) Status) × OpensFrom SharesRegex IsCacheIn old new from left done × (status ≡ done_status done)
+    (done : Result (Unit {0}) Status) × OpensFrom SharesRegex IsCacheIn old new from left done
+    × (status ≡ done_status done)

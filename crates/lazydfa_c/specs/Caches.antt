@@ -1,7 +1,9 @@
 -- What the calls do that list patterns, make a cache a fresh one, or report what it accounts for.
 use Rattle.std.specs.Prelude.{ℕ, ◌≡◌, ◌⊎◌, ◌+◌, ◌-◌, ◌^◌, List, [], ◌∷◌, false, length, min, replicate}
 use Rattle.automata_base.specs.Haystacks.PatternSet.{members}
-use Rattle.automata_hybrid.specs.Cache.Usage.{usage}
+use Rattle.automata_hybrid.specs.Cache.Caches.{dfa_of}
+use Rattle.automata_hybrid.specs.Known.Events.{usage}
+use Rattle.automata_hybrid.specs.Known.Stores.{known_of}
 use Rattle.regex_automata.specs.Promises.{Input}
 use Rattle.regex_automata.specs.Regexes.Caches.{AreFresh}
 use Rattle.lazydfa_c.specs.Calls.{JoinsPatterns, regex_of}
@@ -56,9 +58,11 @@ pub record Resets (s t : Searcher) (status : Status) : Type 0 where
 -- what the getters of a cache and of its regex return
 abbrev pub usage_of : Searcher → Usage
 usage_of s = record {
-  memory = min (usage s.cache.forward.store + usage s.cache.reverse.store) (2 ^ 64 - 1);
-  forward_clears = s.cache.forward.store.clears;
-  reverse_clears = s.cache.reverse.store.clears;
+  memory =
+      min (usage (dfa_of s.cache.forward) (known_of s.cache.forward)
+      + usage (dfa_of s.cache.reverse) (known_of s.cache.reverse)) (2 ^ 64 - 1);
+  forward_clears = (known_of s.cache.forward).clears;
+  reverse_clears = (known_of s.cache.reverse).clears;
   patterns = length (regex_of s).forward.nfa.start_pattern;
 }
 

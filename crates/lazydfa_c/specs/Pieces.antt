@@ -1,4 +1,5 @@
--- What the calls of a search in pieces do, each seen by the cache before and after it and by the status that it returns.
+-- What the calls of a search in pieces do, each seen by the cache before and after it and by the status that it
+-- returns.
 use Rattle.std.specs.Prelude.{ℕ, ◌≡◌, ◌⊎◌, Bool, List, Option, Some, None}
 use Rattle.std.specs.Prelude.{Result, Ok, Err, OnOk, OnErr, IfOk}
 use Rattle.std.specs.Result.{result_err}

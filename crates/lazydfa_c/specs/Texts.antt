@@ -49,7 +49,8 @@ reading_of options settings = record {
 abbrev pub IsFailure : Status → Type 0
 IsFailure status = number_of code.Nothing < status.code
 
--- the handle is open on the regex of an NFA that finds what the texts mean; or it stays, and the status says that there is
+-- the handle is open on the regex of an NFA that finds what the texts mean; or it stays, and the status says that there
+-- is
 -- no such regex
 abbrev pub OpensTexts : Options → Reading → (texts : List (List ℕ)) → (old new : Handle)
     → Result (Unit {0}) Status → Type 0

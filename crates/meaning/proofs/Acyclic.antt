@@ -1,5 +1,6 @@
 -- No cycle of edges that read nothing passes a look in the joined NFA, since a rank falls along each edge of a pattern.
-use Rattle.std.proofs.Common.{ℕ, zero, suc, ◌≡◌, ◌+◌, ◌-◌, ◌<◌, ◌≤◌, List, [], ◌∷◌, Some, length, refl, sym, ap, ◌∙◌, subst, ⊎_elim, arith, lt_irrefl}
+use Rattle.std.proofs.Common.{ℕ, zero, suc, ◌≡◌, ◌+◌, ◌-◌, ◌<◌, ◌≤◌, List, [], ◌∷◌, Some, length, refl, sym, ap, ◌∙◌}
+use Rattle.std.proofs.Common.{subst, ⊎_elim, arith, lt_irrefl}
 use Rattle.std.specs.Prelude.{slice_get}
 use Rattle.std.proofs.lemmas.Bool.{cases_lt}
 use Rattle.regex_nfa.specs.States.{IsBelow}
@@ -39,14 +40,20 @@ module _ (k : kit_nfa.Nfa) (b p : ℕ) where
       Run n (b + q) path z → (y : ℕ) × (z ≡ b + y) × (rank k y ≤ rank k q)
   run_falls n holds q [] z l h = (q, sym h, omega arith)
   run_falls n holds q (e ∷ path) z l h =
-      let step = hop_falls q _ refl e h.0 (sym (ap (λ v. hop_at v all_true e) (node_known n b p k holds q l _ refl)) ∙ h.1) in
-      let rest = run_falls n holds step.0 path z (let i = step.2.0 in omega (arith, i, k.ranks_len)) (subst (λ v. Run n v path z) step.1 h.2) in
+      let step =
+      hop_falls q _ refl e h.0 (sym (ap (λ v. hop_at v all_true e) (node_known n b p k holds q l _ refl)) ∙ h.1) in
+      let rest =
+      run_falls n holds step.0 path z (let i = step.2.0 in omega (arith, i, k.ranks_len))
+      (subst (λ v. Run n v path z) step.1 h.2) in
       (rest.0, rest.1, (let falls = step.2.1 in let low = rest.2 in omega (arith, falls, low)))
 
   never_returns : (n : Nfa) → HasStatesOf n b p k → (q : ℕ) → q < length k.states.items → LeadsOn n (b + q) (b + q) → ⊥
   never_returns n holds q l h =
-      let step = hop_falls q _ refl h.0 h.1 (sym (ap (λ v. hop_at v all_true h.0) (node_known n b p k holds q l _ refl)) ∙ h.2) in
-      let rest = run_falls n holds step.0 h.3.0 (b + q) (let i = step.2.0 in omega (arith, i, k.ranks_len)) (subst (λ v. Run n v h.3.0 (b + q)) step.1 h.3.1) in
+      let step =
+      hop_falls q _ refl h.0 h.1 (sym (ap (λ v. hop_at v all_true h.0) (node_known n b p k holds q l _ refl)) ∙ h.2) in
+      let rest =
+      run_falls n holds step.0 h.3.0 (b + q) (let i = step.2.0 in omega (arith, i, k.ranks_len))
+      (subst (λ v. Run n v h.3.0 (b + q)) step.1 h.3.1) in
       let same : rest.0 ≡ q = (let at = rest.1 in omega (arith, at)) in
       let low : rank k q ≤ rank k step.0 = subst (λ v. rank k v ≤ rank k step.0) same rest.2 in
       lt_irrefl (rank k q) (let falls = step.2.1 in omega (arith, falls, low))
@@ -64,10 +71,13 @@ in_patterns n b p (k ∷ ks) holds q low high h =
     (cases_lt q (b + length k.states.items))
 
 -- behind the patterns there is no look
-no_look : (ks : List kit_nfa.Nfa) (i : ℕ) (look : Look) (to : ℕ) → node (joined_nfa ks) (size_of ks + i) ≡ Assert look to → ⊥
+no_look :
+    (ks : List kit_nfa.Nfa) (i : ℕ) (look : Look) (to : ℕ) → node (joined_nfa ks) (size_of ks + i) ≡ Assert look to → ⊥
 no_look ks i look to is = go i (sym (behind ks i) ∙ is) where
   go : (i : ℕ) →
-      node_or_fail (slice_get (Split (starts_of 0 ks) ∷ Split (size_of ks ∷ (size_of ks + 2) ∷ []) ∷ any_byte (size_of ks + 1) ∷ []) i)
+      node_or_fail
+      (slice_get (Split (starts_of 0 ks) ∷ Split (size_of ks ∷ (size_of ks + 2) ∷ []) ∷ any_byte (size_of ks + 1) ∷ [])
+      i)
       ≡ Assert look to → ⊥
   go zero h = cc
   go (suc zero) h = cc

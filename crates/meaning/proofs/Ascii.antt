@@ -1,5 +1,6 @@
 -- On a haystack of ASCII bytes every look holds where the same look of this library holds.
-use Rattle.std.proofs.Common.{ℕ, zero, suc, ◌≤◌, All, length, get_or, arith, ⊎_elim, subst, ◌≡◌, ◌<◌, List, Option, Some, None, true, false, not, ◌&&◌, refl, sym, ap, ap₂, ◌∙◌}
+use Rattle.std.proofs.Common.{ℕ, zero, suc, ◌≤◌, All, length, get_or, arith, ⊎_elim, subst, ◌≡◌, ◌<◌, List, Option}
+use Rattle.std.proofs.Common.{Some, None, true, false, not, ◌&&◌, refl, sym, ap, ap₂, ◌∙◌}
 use Rattle.std.specs.Prelude.{slice_get}
 use Rattle.std.proofs.lemmas.Bool.{cases_lt}
 use Rattle.std.proofs.lemmas.Option.{slice_get-get_or, slice_get_past}
@@ -46,7 +47,8 @@ holds_ascii is.WordAscii a b x y = holds_is is.WordAscii a b a b refl
 holds_ascii is.WordAsciiNegate a b x y = holds_is is.WordAsciiNegate a b a b refl
 holds_ascii is.WordUnicode a b x y = differ_is _ _ _ _ (word_is a x) (word_is b y)
 holds_ascii is.WordUnicodeNegate a b x y =
-    ap₂ (λ v w. v && w && not (kit_looks.differ (kit_looks.is_word (side a)) (kit_looks.is_word (side b)))) (whole a) (whole b)
+    ap₂ (λ v w. v && w && not (kit_looks.differ (kit_looks.is_word (side a)) (kit_looks.is_word (side b)))) (whole a)
+    (whole b)
     ∙ ap not (differ_is _ _ _ _ (word_is a x) (word_is b y))
 holds_ascii is.WordStartAscii a b x y = holds_is is.WordStartAscii a b a b refl
 holds_ascii is.WordEndAscii a b x y = holds_is is.WordEndAscii a b a b refl
@@ -75,7 +77,8 @@ module _ (hay : List ℕ) (ascii : All (λ b. b < 128) hay) where
   before (suc i) l =
       let small : i < length hay = omega (arith, l) in
       let w = inside i small in
-      (char_before_ascii hay (suc i) (get_or hay i 0) (before_is hay (suc i) ∙ w.0) w.1 ∙ sym w.0, subst IsAsciiSide (sym w.0) w.1)
+      (char_before_ascii hay (suc i) (get_or hay i 0) (before_is hay (suc i) ∙ w.0) w.1
+      ∙ sym w.0, subst IsAsciiSide (sym w.0) w.1)
 
   looks_agree_ascii : (l : kit_look.Look) (i : ℕ) → i ≤ length hay →
       kit_looks.holds l hay i ≡ our.holds 10 false (look_of l) (byte_before hay i) (slice_get hay i)
@@ -83,7 +86,8 @@ module _ (hay : List ℕ) (ascii : All (λ b. b < 128) hay) where
   looks_agree_ascii l i h =
       let a = after i in
       let b = before i h in
-      ap₂ (λ v w. holds_between l (record { byte = v; char = w }) (record { byte = slice_get hay i; char = text.char_at hay i }))
+      ap₂ (λ v w. holds_between l (record { byte = v; char = w })
+      (record { byte = slice_get hay i; char = text.char_at hay i }))
       (before_is hay i) b.0
       ∙ ap (λ v. holds_between l (side (byte_before hay i)) (record { byte = slice_get hay i; char = v })) a.0
       ∙ holds_ascii l (byte_before hay i) (slice_get hay i) b.1 a.1

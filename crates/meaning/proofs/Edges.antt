@@ -1,5 +1,6 @@
 -- The least accepting path from a state, by the least ones from where its edges lead.
-use Rattle.std.proofs.Common.{ℕ, suc, ◌≡◌, ◌+◌, ◌<◌, ◌≤◌, List, [], ◌∷◌, ◌⊎◌, Option, Some, None, option_map, refl, sym, ap, ◌∙◌, subst, ⊎_elim, inl, inr, arith}
+use Rattle.std.proofs.Common.{ℕ, suc, ◌≡◌, ◌+◌, ◌<◌, ◌≤◌, List, [], ◌∷◌, ◌⊎◌, Option, Some, None, option_map, refl, sym}
+use Rattle.std.proofs.Common.{ap, ◌∙◌, subst, ⊎_elim, inl, inr, arith}
 use Rattle.std.proofs.lemmas.Bool.{cases_lt}
 use Rattle.std.specs.Prelude.{slice_get, option_and_then}
 use Rattle.std.specs.Option.{option_or}
@@ -72,12 +73,16 @@ module _ (n : Nfa) (t : Tape) (s p : ℕ) (seen : List ℕ) (q : ℕ) where
           (λ (l : w.0 ≤ e).
           let same : w.0 ≡ e = omega (arith, l, w.2) in
           let target : w.1 ≡ r = some_inj (sym w.3 ∙ ap (λ v. hop n (truth n t p) q v) same ∙ leads) in
-          inl (w.4.0, w.4.1 ∙ ap (λ v. v ∷ w.4.0) same, subst (λ v. IsPathFrom n t p (q ∷ seen) v w.4.0 j z) target w.4.2))
+          inl (w.4.0, w.4.1
+          ∙ ap (λ v. v ∷ w.4.0) same, subst (λ v. IsPathFrom n t p (q ∷ seen) v w.4.0 j z) target w.4.2))
           (cases_lt e w.0)
 
-      go : (o o2 : Option HalfMatch) → IsLeastEnd n t s p (q ∷ seen) r o → IsLeastPast (suc e) o2 → IsLeastPast e (option_or o o2)
+      go :
+          (o o2 : Option HalfMatch) → IsLeastEnd n t s p (q ∷ seen) r o → IsLeastPast (suc e) o2
+          → IsLeastPast e (option_or o o2)
       go None None b d = λ path j z pattern h acc.
-          ⊎_elim (λ (w : Follows e r path j z). b w.0 j z pattern w.2 acc) (λ (w : IsPast (suc e) path j z). d path j z pattern w acc)
+          ⊎_elim (λ (w : Follows e r path j z). b w.0 j z pattern w.2 acc)
+          (λ (w : IsPast (suc e) path j z). d path j z pattern w acc)
           (inner path j z h)
       go None (Some half) b d = (
         d.0,
@@ -108,7 +113,9 @@ module _ (n : Nfa) (t : Tape) (s p : ℕ) (seen : List ℕ) (q : ℕ) where
   pub all_edges : (o : Option HalfMatch) → AcceptsNot → MovesNot → IsLeastPast 0 o → IsLeastEnd n t s p seen q o
   all_edges o not moves = go o
     where
-      inner : (path : List ℕ) (j z pattern : ℕ) → IsPathFrom n t p seen q path j z → accepts n z ≡ Some pattern → IsPast 0 path j z
+      inner :
+          (path : List ℕ) (j z pattern : ℕ) → IsPathFrom n t p seen q path j z → accepts n z ≡ Some pattern
+          → IsPast 0 path j z
       inner path j z pattern h acc =
           ⊎_elim (λ (w : IsPast 0 path j z). w) (λ (w : Reads path j z). absurd (moves w.0 w.3))
           (first_edge path j z pattern not h acc)
@@ -126,7 +133,8 @@ module _ (n : Nfa) (t : Tape) (s p : ℕ) (seen : List ℕ) (q : ℕ) where
       )
 
   -- no edge
-  pub none_best : AcceptsNot → ((e r : ℕ) → hop n (truth n t p) q e ≡ Some r → ⊥) → MovesNot → IsLeastEnd n t s p seen q None
+  pub none_best :
+      AcceptsNot → ((e r : ℕ) → hop n (truth n t p) q e ≡ Some r → ⊥) → MovesNot → IsLeastEnd n t s p seen q None
   none_best not hops moves = all_edges None not moves (past_none 0 (λ d r l h. hops d r h))
 
   -- the edge of the byte here
@@ -177,5 +185,6 @@ module _ (n : Nfa) (t : Tape) (s p : ℕ) (seen : List ℕ) (q : ℕ) where
           move_best u (b + r) (go r) not hops here (same u ∙ ap (option_map (λ v. b + v)) e) (later u r refl e)
 
   -- the path that ends here is the least of all
-  pub here_best : (half : HalfMatch) → accepts n q ≡ Some half.pattern → s + p ≡ half.offset → IsLeastEnd n t s p seen q (Some half)
+  pub here_best :
+      (half : HalfMatch) → accepts n q ≡ Some half.pattern → s + p ≡ half.offset → IsLeastEnd n t s p seen q (Some half)
   here_best half acc e = ([], p, q, (refl, refl), acc, e, λ other j z pattern h a. upto_nil other)

@@ -1,5 +1,6 @@
 -- Two sets of patterns with the same members are the same flags.
-use Rattle.std.proofs.Common.{ℕ, zero, suc, ◌≡◌, ◌+◌, ◌↔◌, Bool, true, false, List, [], ◌∷◌, Some, length, map, refl, sym, ap, ap₂, ◌∙◌, subst, inl, inr, arith, true≢false}
+use Rattle.std.proofs.Common.{ℕ, zero, suc, ◌≡◌, ◌+◌, ◌↔◌, Bool, true, false, List, [], ◌∷◌, Some, length, map, refl}
+use Rattle.std.proofs.Common.{sym, ap, ap₂, ◌∙◌, subst, inl, inr, arith, true≢false}
 use Rattle.std.specs.Prelude.{slice_get}
 use Rattle.automata_base.specs.Haystacks.PatternSet.{has, members, members_from}
 use Rattle.automata_base.specs.Lists.{In}
@@ -12,7 +13,8 @@ never e = absurd (true≢false (sym e))
 flag_from : (xs : List Bool) (k p : ℕ) → In p (members_from k xs) → (i : ℕ) × (p ≡ k + i) × (has xs i ≡ true)
 flag_from [] k p m = absurd m
 flag_from (true ∷ xs) k p (inl e) = (0, omega (arith, e), refl)
-flag_from (true ∷ xs) k p (inr m) = let w = flag_from xs (suc k) p m in (suc w.0, (let e = w.1 in omega (arith, e)), w.2)
+flag_from (true ∷ xs) k p (inr m) =
+    let w = flag_from xs (suc k) p m in (suc w.0, (let e = w.1 in omega (arith, e)), w.2)
 flag_from (false ∷ xs) k p m = let w = flag_from xs (suc k) p m in (suc w.0, (let e = w.1 in omega (arith, e)), w.2)
 
 member_from : (xs : List Bool) (k i : ℕ) → has xs i ≡ true → In (k + i) (members_from k xs)
@@ -28,7 +30,8 @@ member_from (false ∷ xs) k (suc i) e =
 
 pub is_member : (xs : List Bool) (p : ℕ) → In p (members xs) ↔ (has xs p ≡ true)
 is_member xs p = (
-  λ m. let w = flag_from xs 0 p m in let e : w.0 ≡ p = (let f = w.1 in omega (arith, f)) in subst (λ v. has xs v ≡ true) e w.2,
+  λ m. let w =
+      flag_from xs 0 p m in let e : w.0 ≡ p = (let f = w.1 in omega (arith, f)) in subst (λ v. has xs v ≡ true) e w.2,
   λ e. let s : 0 + p ≡ p = omega arith in subst (λ v. In v (members xs)) s (member_from xs 0 p e),
 )
 

@@ -1,5 +1,7 @@
--- The next match of an iteration is the one that the kit's iterator yields, and a match is found exactly if there is one.
-use Rattle.std.proofs.Common.{ℕ, zero, suc, ◌≡◌, ◌+◌, ◌<◌, ◌≤◌, ◌==◌, List, [], ◌∷◌, Option, Some, None, Bool, is_some, length, map, option_map, refl, sym, ap, ap₂, ◌∙◌, subst, ⊎_elim, inl, arith, add-one}
+-- The next match of an iteration is the one that the kit's iterator yields, and a match is found exactly if there is
+-- one.
+use Rattle.std.proofs.Common.{ℕ, zero, suc, ◌≡◌, ◌+◌, ◌<◌, ◌≤◌, ◌==◌, List, [], ◌∷◌, Option, Some, None, Bool, is_some}
+use Rattle.std.proofs.Common.{length, map, option_map, refl, sym, ap, ap₂, ◌∙◌, subst, ⊎_elim, inl, arith, add-one}
 use Rattle.std.specs.Prelude.{if◌then◌else◌}
 use Rattle.std.specs.Option.{unwrap_or}
 use Rattle.std.proofs.lemmas.Bool.{cases_lt, cond-true, cond-false, eq-eqb, ne_eqb}
@@ -27,11 +29,14 @@ module _ (d : Engine) (res : List Re) (hay : List ℕ) (search : ℕ → Option 
   -- whether there is a match
   pub truth_is : (s : ℕ) (truth : Bool) → IsMatch d (span_input hay s (length hay)) truth → truth ≡ is_some (search s)
   truth_is s truth h =
-      match_iff_find d (span_input hay s (length hay)) truth (option_map (numbered_match res hay) (search s)) (inl refl) h (spans s)
+      match_iff_find d (span_input hay s (length hay)) truth (option_map (numbered_match res hay) (search s)) (inl refl)
+      h (spans s)
       ∙ some_map (numbered_match res hay) (search s)
 
   -- the span is the one that is meant
-  pub span_is : (s : ℕ) (o : Option Match) → IsSpan d (span_input hay s (length hay)) o → o ≡ option_map (numbered_match res hay) (search s)
+  pub span_is :
+      (s : ℕ) (o : Option Match) → IsSpan d (span_input hay s (length hay)) o
+      → o ≡ option_map (numbered_match res hay) (search s)
   span_is s o h = span_once d (span_input hay s (length hay)) o _ h (spans s)
 
   -- a forward search has the end of the match that is meant
@@ -41,7 +46,8 @@ module _ (d : Engine) (res : List Re) (hay : List ℕ) (search : ℕ → Option 
   ends_with : (s : ℕ) (answer : Option Half) → IsAnswer Forward d (span_input hay s (length hay)) answer →
       (m : Option kit_find.Match) → IsSpan d (span_input hay s (length hay)) (option_map (numbered_match res hay) m) →
       option_map half_of answer ≡ option_map (end_of res hay) m
-  ends_with s answer a None h = ap (option_map half_of) (answer_once Forward d (span_input hay s (length hay)) answer None a h)
+  ends_with s answer a None h =
+      ap (option_map half_of) (answer_once Forward d (span_input hay s (length hay)) answer None a h)
   ends_with s answer a (Some m) h =
       ap (option_map half_of) (answer_once Forward d (span_input hay s (length hay)) answer (Some h.half) a h.answer)
       ∙ ap₂ (λ number end. Some (record { pattern = number; offset = end })) (sym h.pattern) (sym h.end)
@@ -64,15 +70,20 @@ module _ (d : Engine) (res : List Re) (hay : List ℕ) (search : ℕ → Option 
     abbrev taken : Option kit_find.Match → Option kit_find.Match
     taken o = if is_some_and o (λ m. m.trace.end == start) then search (start + 1) else search start
 
-    again : (k : kit_find.Match) → search start ≡ Some k → k.trace.end ≡ start → find_after search start ≡ search (suc start)
+    again :
+        (k : kit_find.Match) → search start ≡ Some k → k.trace.end ≡ start
+        → find_after search start ≡ search (suc start)
     again k e same =
         ap taken e
         ∙ cond-true (k.trace.end == start) (search (start + 1)) (search start) (eq-eqb k.trace.end start same)
         ∙ ap search (omega arith)
 
-    goes_on : (k : kit_find.Match) → search start ≡ Some k → (k.trace.end ≡ start → ⊥) → find_after search start ≡ search start
+    goes_on :
+        (k : kit_find.Match) → search start ≡ Some k → (k.trace.end ≡ start → ⊥)
+        → find_after search start ≡ search start
     goes_on k e other =
-        ap taken e ∙ cond-false (k.trace.end == start) (search (start + 1)) (search start) (ne_eqb k.trace.end start other)
+        ap taken e
+        ∙ cond-false (k.trace.end == start) (search (start + 1)) (search start) (ne_eqb k.trace.end start other)
 
     stops : search start ≡ None → find_after search start ≡ search start
     stops e = ap taken e
@@ -85,7 +96,9 @@ module _ (d : Engine) (res : List Re) (hay : List ℕ) (search : ℕ → Option 
         again w.0 w.1 (sym (some_inj empty.1 ∙ ap (λ (v : Match). v.end) w.2))
 
     -- the item after a match that ended here
-    next_is : (begin : ℕ) (o : Option Match) → IsNextItem (IsSpan d) (span_input hay begin (length hay)) start (Some start) o →
+    next_is :
+        (begin : ℕ) (o : Option Match) → IsNextItem (IsSpan d) (span_input hay begin (length hay)) start (Some start) o
+        →
         o ≡ option_map (numbered_match res hay) (find_after search start)
     next_is begin None (FindsHere h apart) =
         let e = span_is start None h in
@@ -118,7 +131,9 @@ module _ (d : Engine) (res : List Re) (hay : List ℕ) (search : ℕ → Option 
   item_is begin (Some end) o h = next_is end begin o h
 
   -- what the search finds lies in what is searched
-  found_inside : (s : ℕ) (m : kit_find.Match) → search s ≡ Some m → (s ≤ m.start) × (m.start ≤ m.trace.end) × (m.trace.end ≤ length hay)
+  found_inside :
+      (s : ℕ) (m : kit_find.Match) → search s ≡ Some m → (s ≤ m.start) × (m.start ≤ m.trace.end)
+      × (m.trace.end ≤ length hay)
   found_inside s m e =
       spans_inside d (span_input hay s (length hay)) (own m) (omega arith)
       (subst (λ o. IsSpan d (span_input hay s (length hay)) (option_map (numbered_match res hay) o)) e (spans s))
@@ -147,12 +162,14 @@ module _ (d : Engine) (res : List Re) (hay : List ℕ) (search : ℕ → Option 
   enough zero k e p q =
       ⊎_elim
       (λ none. ap (matches_from search zero) none ∙ sym (yields_none k) ∙ sym (ap (matches_from search k) none))
-      (λ (w : (m : kit_find.Match) × (find_after search e ≡ Some m)). let l = rises e w.0 w.1 in absurd (omega (arith, l.0, l.1, p)))
+      (λ (w : (m : kit_find.Match) × (find_after search e ≡ Some m)). let l = rises e w.0 w.1 in
+      absurd (omega (arith, l.0, l.1, p)))
       (option_cases (find_after search e))
   enough (suc n) zero e p q =
       ⊎_elim
       (λ none. ap (matches_from search (suc n)) none ∙ sym (ap (matches_from search zero) none))
-      (λ (w : (m : kit_find.Match) × (find_after search e ≡ Some m)). let l = rises e w.0 w.1 in absurd (omega (arith, l.0, l.1, q)))
+      (λ (w : (m : kit_find.Match) × (find_after search e ≡ Some m)). let l = rises e w.0 w.1 in
+      absurd (omega (arith, l.0, l.1, q)))
       (option_cases (find_after search e))
   enough (suc n) (suc k) e p q =
       ⊎_elim
@@ -164,11 +181,15 @@ module _ (d : Engine) (res : List Re) (hay : List ℕ) (search : ℕ → Option 
       ∙ sym (ap (matches_from search (suc k)) w.1))
       (option_cases (find_after search e))
 
-  after : (m : kit_find.Match) → map (numbered_match res hay) (matches_from search (length hay + 1) (Some m)) ≡ own m ∷ left_by search res hay (Some m.trace.end)
+  after :
+      (m : kit_find.Match)
+      → map (numbered_match res hay) (matches_from search (length hay + 1) (Some m)) ≡ own m
+      ∷ left_by search res hay (Some m.trace.end)
   unfolding matches_from
   after m =
       ap (λ n. map (numbered_match res hay) (matches_from search n (Some m))) (add-one (length hay))
-      ∙ ap (λ ms. own m ∷ map (numbered_match res hay) ms) (enough (length hay) (length hay + 1) m.trace.end (omega arith) (omega arith))
+      ∙ ap (λ ms. own m ∷ map (numbered_match res hay) ms)
+      (enough (length hay) (length hay + 1) m.trace.end (omega arith) (omega arith))
 
   first_left : (last : Option ℕ) (o : Option Match) → o ≡ option_map (numbered_match res hay) (next_by search last) →
       IsFirstLeft (left_by search res hay) last o

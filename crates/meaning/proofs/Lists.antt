@@ -1,5 +1,6 @@
 -- One more state, range or pattern, for loops that make the lists.
-use Rattle.std.proofs.Common.{ℕ, suc, ◌≡◌, ◌<◌, ◌+◌, List, [], ◌∷◌, ◌++◌, take, get_or, length, sym, ap, ap₂, ◌∙◌, refl, add-one, arith}
+use Rattle.std.proofs.Common.{ℕ, suc, ◌≡◌, ◌<◌, ◌+◌, List, [], ◌∷◌, ◌++◌, take, get_or, length, sym, ap, ap₂, ◌∙◌, refl}
+use Rattle.std.proofs.Common.{add-one, arith}
 use Rattle.std.proofs.Math.Seq.{take-suc}
 use Rattle.std.proofs.lemmas.List.{append_assoc, append-nil}
 use Rattle.regex_nfa.specs.declared.nfa.Nfa as kit_nfa
@@ -22,7 +23,9 @@ kit_ranges : (b : ℕ) (xs : List kit_transition.Transition) (x : kit_transition
 kit_ranges b [] x = refl
 kit_ranges b (y ∷ xs) x = ap (λ v. kits.range_of b y ∷ v) (kit_ranges b xs x)
 
-pub our_nodes : (xs : List our_state.State) (x : our_state.State) → ours.nodes_of (xs ++ x ∷ []) ≡ ours.nodes_of xs ++ ours.node_of x ∷ []
+pub our_nodes :
+    (xs : List our_state.State) (x : our_state.State)
+    → ours.nodes_of (xs ++ x ∷ []) ≡ ours.nodes_of xs ++ ours.node_of x ∷ []
 our_nodes [] x = refl
 our_nodes (y ∷ xs) x = ap (λ v. ours.node_of y ∷ v) (our_nodes xs x)
 
@@ -35,16 +38,22 @@ kit_nodes : (b p : ℕ) (ts : List kit_transition.Transition) (xs : List kit_sta
 kit_nodes b p ts [] x = refl
 kit_nodes b p ts (y ∷ xs) x = ap (λ v. kits.node_of b p ts y ∷ v) (kit_nodes b p ts xs x)
 
-pub ranges_push : (b : ℕ) (made : List our_transition.Transition) (x : our_transition.Transition) (own : List kit_transition.Transition)
+pub ranges_push :
+    (b : ℕ) (made : List our_transition.Transition) (x : our_transition.Transition)
+    (own : List kit_transition.Transition)
     (i : ℕ) (d : kit_transition.Transition) → i < length own → ours.ranges_of made ≡ kits.ranges_of b (take i own) →
-    ours.range_of x ≡ kits.range_of b (get_or own i d) → ours.ranges_of (made ++ x ∷ []) ≡ kits.ranges_of b (take (i + 1) own)
+    ours.range_of x ≡ kits.range_of b (get_or own i d)
+    → ours.ranges_of (made ++ x ∷ []) ≡ kits.ranges_of b (take (i + 1) own)
 ranges_push b made x own i d inside h e =
     our_ranges made x ∙ ap₂ (λ a b. a ++ b ∷ []) h e ∙ sym (kit_ranges b (take i own) (get_or own i d))
     ∙ ap (kits.ranges_of b) (sym (take-suc own i d inside) ∙ ap (λ v. take v own) (sym (add-one i)))
 
-pub nodes_push : (b p : ℕ) (ts : List kit_transition.Transition) (old : List Node) (made : List our_state.State) (x : our_state.State)
+pub nodes_push :
+    (b p : ℕ) (ts : List kit_transition.Transition) (old : List Node) (made : List our_state.State)
+    (x : our_state.State)
     (own : List kit_state.State) (i : ℕ) (d : kit_state.State) → i < length own →
-    ours.nodes_of made ≡ old ++ kits.nodes_of b p ts (take i own) → ours.node_of x ≡ kits.node_of b p ts (get_or own i d) →
+    ours.nodes_of made ≡ old ++ kits.nodes_of b p ts (take i own)
+    → ours.node_of x ≡ kits.node_of b p ts (get_or own i d) →
     ours.nodes_of (made ++ x ∷ []) ≡ old ++ kits.nodes_of b p ts (take (i + 1) own)
 nodes_push b p ts old made x own i d inside h e =
     our_nodes made x ∙ ap₂ (λ a b. a ++ b ∷ []) h e
@@ -66,8 +75,10 @@ nodes_of_all_push b p [] k =
 nodes_of_all_push b p (x ∷ ks) k =
     ap (λ v. nodes_of b p x.transitions.items x.states.items ++ v)
     (nodes_of_all_push (b + length x.states.items) (suc p) ks k
-    ∙ ap₂ (λ v w. nodes_of_all (b + length x.states.items) (suc p) ks ++ nodes_of v w k.transitions.items k.states.items) (omega arith) (omega arith))
-    ∙ sym (append_assoc (nodes_of b p x.transitions.items x.states.items) (nodes_of_all (b + length x.states.items) (suc p) ks) _)
+    ∙ ap₂ (λ v w. nodes_of_all (b + length x.states.items) (suc p) ks
+    ++ nodes_of v w k.transitions.items k.states.items) (omega arith) (omega arith))
+    ∙ sym (append_assoc (nodes_of b p x.transitions.items x.states.items)
+    (nodes_of_all (b + length x.states.items) (suc p) ks) _)
 
 pub starts_of_push : (b : ℕ) (ks : List kit_nfa.Nfa) (k : kit_nfa.Nfa) →
     starts_of b (ks ++ k ∷ []) ≡ starts_of b ks ++ (b + size_of ks + k.start) ∷ []

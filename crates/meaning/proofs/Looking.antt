@@ -1,5 +1,6 @@
 -- An assertion on bytes holds where the same look of this library holds.
-use Rattle.std.proofs.Common.{ℕ, zero, suc, ◌≡◌, List, Option, Some, None, Bool, true, false, not, ◌||◌, ◌&&◌, refl, ap, ap₂, ◌∙◌, ◌-◌, ◌==◌, true≢false, arith}
+use Rattle.std.proofs.Common.{ℕ, zero, suc, ◌≡◌, List, Option, Some, None, Bool, true, false, not, ◌||◌, ◌&&◌, refl, ap}
+use Rattle.std.proofs.Common.{ap₂, ◌∙◌, ◌-◌, ◌==◌, true≢false, arith}
 use Rattle.std.proofs.lemmas.Bool.{cond-false, ne_eqb}
 use Rattle.std.specs.Prelude.{slice_get}
 use Rattle.ucd_perl.specs.Perl as perl
@@ -18,7 +19,9 @@ use Rattle.meaning.specs.Agreeing.{HasNoUnicodeLook, HasSameLooks}
 pub before_is : (hay : List ℕ) (i : ℕ) → text.byte_before hay i ≡ byte_before hay i
 unfolding text.byte_before
 before_is hay zero = refl
-before_is hay (suc i) = cond-false (suc i == 0) None (slice_get hay (suc i - 1)) (ne_eqb (suc i) 0 (λ z. omega (arith, z))) ∙ ap (λ j. slice_get hay j) e
+before_is hay (suc i) =
+    cond-false (suc i == 0) None (slice_get hay (suc i - 1)) (ne_eqb (suc i) 0 (λ z. omega (arith, z)))
+    ∙ ap (λ j. slice_get hay j) e
   where
     e : suc i - 1 ≡ i
     e = omega arith

@@ -1,5 +1,6 @@
 -- The loop before the union of the joined NFA is a lazy one.
-use Rattle.std.proofs.Common.{ℕ, zero, suc, ◌≡◌, ◌+◌, ◌-◌, ◌<◌, ◌≤◌, List, [], ◌∷◌, Option, Some, None, length, option_map, refl, sym, ap, ◌∙◌, subst, ⊎_elim, arith}
+use Rattle.std.proofs.Common.{ℕ, zero, suc, ◌≡◌, ◌+◌, ◌-◌, ◌<◌, ◌≤◌, List, [], ◌∷◌, Option, Some, None, length}
+use Rattle.std.proofs.Common.{option_map, refl, sym, ap, ◌∙◌, subst, ⊎_elim, arith}
 use Rattle.std.specs.Prelude.{slice_get}
 use Rattle.std.proofs.lemmas.Bool.{cases_lt}
 use Rattle.regex_nfa.specs.States.{IsBelow, next_on}
@@ -68,7 +69,8 @@ edges_stay n b p (k ∷ ks) holds q r low high h =
     omega (arith, w))
     (cases_lt q (b + length k.states.items))
 
-pub starts_below : (b : ℕ) (ks : List kit_nfa.Nfa) (e r : ℕ) → slice_get (starts_of b ks) e ≡ Some r → r < b + size_of ks
+pub starts_below :
+    (b : ℕ) (ks : List kit_nfa.Nfa) (e r : ℕ) → slice_get (starts_of b ks) e ≡ Some r → r < b + size_of ks
 starts_below b [] e r h = absurd (none_some h)
 starts_below b (k ∷ ks) zero r h = let f = some_inj h in omega (arith, f, k.start_in)
 starts_below b (k ∷ ks) (suc e) r h = let w = starts_below (b + length k.states.items) ks e r h in omega (arith, w)

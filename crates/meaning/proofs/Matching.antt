@@ -1,5 +1,6 @@
 -- Whether there is a match, in an earliest search too, and by the textbook relation.
-use Rattle.std.proofs.Common.{ℕ, ◌≡◌, ◌+◌, ◌≤◌, ◌⊎◌, List, Option, Some, None, Bool, false, is_some, length, refl, sym, ◌∙◌, subst, ⊎_elim, inl, inr, arith, true≢false}
+use Rattle.std.proofs.Common.{ℕ, ◌≡◌, ◌+◌, ◌≤◌, ◌⊎◌, List, Option, Some, None, Bool, false, is_some, length, refl, sym}
+use Rattle.std.proofs.Common.{◌∙◌, subst, ⊎_elim, inl, inr, arith, true≢false}
 use Rattle.std.specs.Prelude.{IsTrue, ◌↔◌}
 use Rattle.regex_hir.specs.Re.{Re}
 use Rattle.regex_hir.specs.Find as kit_find
@@ -34,7 +35,8 @@ module _ (d : Engine) (all : IsSkipping d → ⊥) (hay : List ℕ) (s stop : �
       Accepts d.nfa (forward_tape hay s stop) d.unanchored i pattern path → ⊥
   accepts_none e (k, tries, SpanIsDone l) i pattern path h = let z = once e k tries in omega (arith, l, z, inside)
   accepts_none e (k, tries, SpanReportsNone w) i pattern path h =
-      w i pattern path (subst (λ v. Accepts d.nfa (forward_tape hay v stop) d.unanchored i pattern path) (sym (once e k tries)) h)
+      w i pattern path
+      (subst (λ v. Accepts d.nfa (forward_tape hay v stop) d.unanchored i pattern path) (sym (once e k tries)) h)
   accepts_none e (k, tries, StopsAtSplit skips anchored w) i pattern path h = all skips
 
   accepts_some : (e : Bool) (half : Half) → IsAnswer Forward d (over e) (Some half) →
@@ -43,11 +45,14 @@ module _ (d : Engine) (all : IsSkipping d → ⊥) (hay : List ℕ) (s stop : �
     a.2.pair.place,
     a.2.pair.pattern,
     a.2.reported.0,
-    subst (λ v. Accepts d.nfa (forward_tape hay v stop) d.unanchored a.2.pair.place a.2.pair.pattern a.2.reported.0) (once e a.0 a.1) a.2.reported.1,
+    subst (λ v. Accepts d.nfa (forward_tape hay v stop) d.unanchored a.2.pair.place a.2.pair.pattern a.2.reported.0)
+    (once e a.0 a.1) a.2.reported.1,
   )
 
   -- earliest or not, all searches agree whether there is a match
-  same_truth : (e f : Bool) (o p : Option Half) → IsAnswer Forward d (over e) o → IsAnswer Forward d (over f) p → is_some o ≡ is_some p
+  same_truth :
+      (e f : Bool) (o p : Option Half) → IsAnswer Forward d (over e) o → IsAnswer Forward d (over f) p
+      → is_some o ≡ is_some p
   same_truth e f None None a b = refl
   same_truth e f None (Some half) a b = let w = accepts_some f half b in absurd (accepts_none e a w.0 w.1 w.2 w.3)
   same_truth e f (Some half) None a b = let w = accepts_some e half a in absurd (accepts_none f b w.0 w.1 w.2 w.3)
@@ -64,24 +69,30 @@ unfolding find
 begins re hay start m e = (IsFirst-of_first_between _ start (length hay) m e).to
 
 -- a match is found exactly if some part of the haystack is one
-pub part_is : (res : List Re) (hay : List ℕ) (truth : Bool) → truth ≡ is_some (find (any_of res) hay 0) → IsTrue truth ↔ HasPart res hay
+pub part_is :
+    (res : List Re) (hay : List ℕ) (truth : Bool) → truth ≡ is_some (find (any_of res) hay 0)
+    → IsTrue truth ↔ HasPart res hay
 part_is res hay truth e = (
   λ t. there (option_cases (find (any_of res) hay 0)) t,
   λ h. e ∙ find_complete (any_of res) hay 0 h.0 h.1 (omega arith) h.2 h.3,
 ) where
-  there : (find (any_of res) hay 0 ≡ None) ⊎ ((m : kit_find.Match) × (find (any_of res) hay 0 ≡ Some m)) → IsTrue truth → HasPart res hay
+  there :
+      (find (any_of res) hay 0 ≡ None) ⊎ ((m : kit_find.Match) × (find (any_of res) hay 0 ≡ Some m)) → IsTrue truth
+      → HasPart res hay
   there (inl none) t = absurd (cc)
   there (inr (m, found)) t =
       let w = find_sound (any_of res) hay 0 m found in
       (m.start, m.trace.end, begins (any_of res) hay 0 m found, w.1)
 
 -- So a search over bytes, earliest or not, tells whether some part of the haystack is a match.
-pub part_of_answer : (ks : List kit_nfa.Nfa) (res : List Re) → ImplementAll ks res → (hay : List ℕ) → Each (HasSameLooks hay) ks →
+pub part_of_answer :
+    (ks : List kit_nfa.Nfa) (res : List Re) → ImplementAll ks res → (hay : List ℕ) → Each (HasSameLooks hay) ks →
     IsHaystack hay → (e : Bool) (o : Option Half) →
     IsAnswer Forward (joined_engine false ks) (record (span_input hay 0 (length hay)) { earliest = e }) o →
     (truth : Bool) → truth ≡ is_some o → IsTrue truth ↔ HasPart res hay
 part_of_answer ks res is hay same bytes e o a truth t =
     part_is res hay truth
     (t
-    ∙ answer_tells (joined_engine false ks) (λ h. true≢false (sym h.0)) hay 0 (length hay) (omega arith) e o a _ (bytes_mean ks res is hay same bytes 0)
+    ∙ answer_tells (joined_engine false ks) (λ h. true≢false (sym h.0)) hay 0 (length hay) (omega arith) e o a _
+    (bytes_mean ks res is hay same bytes 0)
     ∙ some_map (numbered_match res hay) (find (any_of res) hay 0))

@@ -1,5 +1,6 @@
 -- A search over the joined NFA finds what the alternation of the patterns means.
-use Rattle.std.proofs.Common.{ℕ, suc, ◌≡◌, ◌+◌, ◌≤◌, List, [], ◌∷◌, Option, Some, None, Bool, true, false, IsUtf8, length, option_map, refl, sym, ap, ap₂, ◌∙◌, subst, arith}
+use Rattle.std.proofs.Common.{ℕ, suc, ◌≡◌, ◌+◌, ◌≤◌, List, [], ◌∷◌, Option, Some, None, Bool, true, false, IsUtf8}
+use Rattle.std.proofs.Common.{length, option_map, refl, sym, ap, ap₂, ◌∙◌, subst, arith}
 use Rattle.std.specs.Prelude.{cond, is_some, slice_get, if◌then◌else◌}
 use Rattle.std.specs.Option.{option_or}
 use Rattle.regex_class.specs.Ranges.{in_ranges}
@@ -39,7 +40,8 @@ nothing hay i = nowhere hay i (slice_get hay i)
 pub either : (re : Re) (res : List Re) (hay : List ℕ) (i : ℕ) →
     attempt hay (any_of (re ∷ res)) accept i ≡ option_or (attempt hay re accept i) (attempt hay (any_of res) accept i)
 unfolding attempt
-either re [] hay i = sym (ap (option_or (attempt hay re accept i)) (nothing hay i) ∙ option_or-None (attempt hay re accept i))
+either re [] hay i =
+    sym (ap (option_or (attempt hay re accept i)) (nothing hay i) ∙ option_or-None (attempt hay re accept i))
 either re (next ∷ res) hay i = refl
 
 -- and its number
@@ -59,7 +61,8 @@ found_is (k ∷ ks) (re ∷ res) hay i p is =
     ∙ numbers (attempt hay re accept i) (attempt hay (any_of res) accept i) p (first_at res hay i)
     ∙ ap (option_map (half_of (p + first_at (re ∷ res) hay i))) (sym (either re res hay i))
 
-module _ (ks : List kit_nfa.Nfa) (res : List Re) (is : ImplementAll ks res) (hay : List ℕ) (same : Each (HasSameLooks hay) ks) where
+module _ (ks : List kit_nfa.Nfa) (res : List Re) (is : ImplementAll ks res) (hay : List ℕ)
+    (same : Each (HasSameLooks hay) ks) where
   finds : (s place : ℕ) → s + place ≤ length hay →
       IsLeastEnd (joined_nfa ks) (forward_tape hay s (length hay)) s place [] (size_of ks)
       (option_map (half_of (first_at res hay (s + place))) (attempt hay (any_of res) accept (s + place)))
@@ -71,17 +74,21 @@ module _ (ks : List kit_nfa.Nfa) (res : List Re) (is : ImplementAll ks res) (hay
 
   -- over bytes
   pub bytes_mean : IsHaystack hay → (s : ℕ) →
-      IsSpan (joined_engine false ks) (span_input hay s (length hay)) (option_map (numbered_match res hay) (find (any_of res) hay s))
+      IsSpan (joined_engine false ks) (span_input hay s (length hay))
+      (option_map (numbered_match res hay) (find (any_of res) hay s))
   unfolding find
   bytes_mean bytes s =
-      bytes_span (joined_nfa ks) (size_of ks) (size_of ks + 1) (size_of ks + 2) (starts_of 0 ks) false (loops_lazily ks) hay (length hay)
+      bytes_span (joined_nfa ks) (size_of ks) (size_of ks + 1) (size_of ks + 2) (starts_of 0 ks) false (loops_lazily ks)
+      hay (length hay)
       (omega arith) bytes (attempt hay (any_of res) accept) (first_at res hay) finds s refl
 
   -- where a match begins, as the least path there
   here : (i : ℕ) (trace : Trace) → i ≤ length hay → attempt hay (any_of res) accept i ≡ Some trace →
-      IsLeastEnd (joined_nfa ks) (forward_tape hay i (length hay)) i 0 [] (size_of ks) (Some (half_of (first_at res hay i) trace))
+      IsLeastEnd (joined_nfa ks) (forward_tape hay i (length hay)) i 0 [] (size_of ks)
+      (Some (half_of (first_at res hay i) trace))
   here i trace inside e =
-      subst (λ o. IsLeastEnd (joined_nfa ks) (forward_tape hay i (length hay)) i 0 [] (size_of ks) (option_map (half_of (first_at res hay i)) o)) e
+      subst (λ o. IsLeastEnd (joined_nfa ks) (forward_tape hay i (length hay)) i 0 [] (size_of ks)
+      (option_map (half_of (first_at res hay i)) o)) e
       (subst (λ v. IsLeastEnd (joined_nfa ks) (forward_tape hay i (length hay)) i 0 [] (size_of ks)
       (option_map (half_of (first_at res hay v)) (attempt hay (any_of res) accept v))) at_first
       (finds i 0 (omega (arith, inside))))
@@ -90,19 +97,24 @@ module _ (ks : List kit_nfa.Nfa) (res : List Re) (is : ImplementAll ks res) (hay
       at_first = omega arith
 
   ends_inside : (i : ℕ) (half : HalfMatch) → i ≤ length hay →
-      IsLeastEnd (joined_nfa ks) (forward_tape hay i (length hay)) i 0 [] (size_of ks) (Some half) → half.offset ≤ length hay
+      IsLeastEnd (joined_nfa ks) (forward_tape hay i (length hay)) i 0 [] (size_of ks) (Some half)
+      → half.offset ≤ length hay
   ends_inside i half inside own =
-      let l = path_inside (joined_nfa ks) (forward_tape hay i (length hay)) 0 [] (size_of ks) own.0 own.1 own.2 (omega arith) own.3 in
+      let l =
+      path_inside (joined_nfa ks) (forward_tape hay i (length hay)) 0 [] (size_of ks) own.0 own.1 own.2 (omega arith)
+      own.3 in
       let count = forward_length hay i (length hay) inside (omega arith) in
       let e = own.5 in
       omega (arith, l, count, e, inside)
 
   -- over text, under the UTF-8 promise
   text_means : IsHaystack hay → IsUtf8 hay → KeepsUtf8 Forward (joined_engine true ks) → (s : ℕ) →
-      IsSpan (joined_engine true ks) (span_input hay s (length hay)) (option_map (numbered_match res hay) (find_str (any_of res) hay s))
+      IsSpan (joined_engine true ks) (span_input hay s (length hay))
+      (option_map (numbered_match res hay) (find_str (any_of res) hay s))
   unfolding find_str
   text_means bytes text keeps s =
-      text_span (joined_nfa ks) (size_of ks) (size_of ks + 1) (size_of ks + 2) (starts_of 0 ks) true (loops_lazily ks) hay (length hay)
+      text_span (joined_nfa ks) (size_of ks) (size_of ks + 1) (size_of ks + 2) (starts_of 0 ks) true (loops_lazily ks)
+      hay (length hay)
       (omega arith) bytes (attempt hay (any_of res) accept) (first_at res hay) finds
       (λ i trace inside e.
       let own = here i trace inside e in
@@ -112,13 +124,19 @@ module _ (ks : List kit_nfa.Nfa) (res : List Re) (is : ImplementAll ks res) (hay
       let own = here i trace inside e in
       let still : own.1 ≡ 0 = let f = own.5 in omega (arith, f, empty) in (
         refl,
-        empty_start (joined_nfa ks) (forward_tape hay i (length hay)) 0 (size_of ks) (starts_of 0 ks) (union_is ks) own.0 own.2
-            (first_at res hay i) (subst (λ v. IsPathFrom (joined_nfa ks) (forward_tape hay i (length hay)) 0 [] (size_of ks) own.0 v own.2) still own.3) own.4,
+        empty_start (joined_nfa ks) (forward_tape hay i (length hay)) 0 (size_of ks) (starts_of 0 ks) (union_is ks)
+        own.0 own.2
+            (first_at res hay i)
+            (subst (λ v. IsPathFrom (joined_nfa ks) (forward_tape hay i (length hay)) 0 [] (size_of ks) own.0 v own.2)
+            still own.3) own.4,
       ))
       s
 
   -- The span of a search over the rest of a haystack is the leftmost match that the alternation means.
-  pub any_means : (utf8 : Bool) → IsHaystack hay → (utf8 ≡ true → IsUtf8 hay) → KeepsUtf8 Forward (joined_engine utf8 ks) → (s : ℕ) →
-      IsSpan (joined_engine utf8 ks) (span_input hay s (length hay)) (option_map (numbered_match res hay) (find_any utf8 res hay s))
+  pub any_means :
+      (utf8 : Bool) → IsHaystack hay → (utf8 ≡ true → IsUtf8 hay) → KeepsUtf8 Forward (joined_engine utf8 ks) → (s : ℕ)
+      →
+      IsSpan (joined_engine utf8 ks) (span_input hay s (length hay))
+      (option_map (numbered_match res hay) (find_any utf8 res hay s))
   any_means true bytes text keeps s = text_means bytes (text refl) keeps s
   any_means false bytes text keeps s = bytes_mean bytes s

@@ -1,5 +1,6 @@
 -- What a node does is what the kit's state does, its targets raised.
-use Rattle.std.proofs.Common.{ℕ, zero, suc, ◌≡◌, ◌+◌, ◌<◌, List, [], ◌∷◌, Option, Some, refl, sym, ap, ◌∙◌, ⊎_elim, find, option_map, length, arith}
+use Rattle.std.proofs.Common.{ℕ, zero, suc, ◌≡◌, ◌+◌, ◌<◌, List, [], ◌∷◌, Option, Some, refl, sym, ap, ◌∙◌, ⊎_elim}
+use Rattle.std.proofs.Common.{find, option_map, length, arith}
 use Rattle.std.specs.Prelude.{slice_get}
 use Rattle.std.proofs.lemmas.Bool.{cond-true, cond-false, cases_Bool}
 use Rattle.regex_nfa.specs.States.{state_at, covers, target_in, next_on}
@@ -19,7 +20,8 @@ node_at b p ts [] q l = absurd (omega (arith, l))
 node_at b p ts (x ∷ xs) zero l = refl
 node_at b p ts (x ∷ xs) (suc q) l = node_at b p ts xs q (omega (arith, l))
 
-pub length-nodes_of : (b p : ℕ) (ts : List Transition) (xs : List kit_state.State) → length (nodes_of b p ts xs) ≡ length xs
+pub length-nodes_of :
+    (b p : ℕ) (ts : List Transition) (xs : List kit_state.State) → length (nodes_of b p ts xs) ≡ length xs
 length-nodes_of b p ts [] = refl
 length-nodes_of b p ts (x ∷ xs) = ap suc (length-nodes_of b p ts xs)
 
@@ -48,7 +50,8 @@ takes_at-node_of b p ts (kit.Look l next) u = refl
 takes_at-node_of b p ts kit.Match u = refl
 takes_at-node_of b p ts kit.Fail u = refl
 
-module _ (n : Nfa) (b p : ℕ) (k : kit_nfa.Nfa) (holds : HasStatesOf n b p k) (q : ℕ) (inside : q < length k.states.items) where
+module _ (n : Nfa) (b p : ℕ) (k : kit_nfa.Nfa) (holds : HasStatesOf n b p k) (q : ℕ)
+    (inside : q < length k.states.items) where
   -- the node of a known state
   pub node_known : (x : kit_state.State) → state_of k q ≡ x → node n (b + q) ≡ node_of b p k.transitions.items x
   node_known x is = holds.nodes q inside ∙ ap (node_of b p k.transitions.items) is

@@ -5,7 +5,8 @@ use Rattle.std.specs.Option.{option_or}
 use Rattle.regex_hir.specs.Re.{Trace, write}
 use Rattle.automata_base.specs.Haystacks.Matches.{HalfMatch}
 
-pub map_cond : (b : Bool) (base r : ℕ) → cond b (Some (base + r)) None ≡ option_map (λ q. base + q) (cond b (Some r) None)
+pub map_cond :
+    (b : Bool) (base r : ℕ) → cond b (Some (base + r)) None ≡ option_map (λ q. base + q) (cond b (Some r) None)
 map_cond true base r = refl
 map_cond false base r = refl
 

@@ -1,6 +1,7 @@
 -- A path of a pattern through the haystack accepts, at an end that is not skipped, exactly if the pattern is found by
 -- itself.
-use Rattle.std.proofs.Common.{ℕ, zero, suc, ◌≡◌, ◌+◌, ◌-◌, ◌<◌, ◌≤◌, ◌↔◌, List, [], ◌∷◌, Some, None, Bool, true, false, not, IsUtf8, length, is_some, refl, sym, ap, ◌∙◌, subst, ⊎_elim, arith, true≢false}
+use Rattle.std.proofs.Common.{ℕ, zero, suc, ◌≡◌, ◌+◌, ◌-◌, ◌<◌, ◌≤◌, ◌↔◌, List, [], ◌∷◌, Some, None, Bool, true, false}
+use Rattle.std.proofs.Common.{not, IsUtf8, length, is_some, refl, sym, ap, ◌∙◌, subst, ⊎_elim, arith, true≢false}
 use Rattle.std.specs.Prelude.{slice_get, if◌then◌else◌}
 use Rattle.std.specs.Option.{option_or}
 use Rattle.std.proofs.lemmas.Bool.{cases_lt, cond-true}
@@ -96,13 +97,15 @@ alternate_at (re ∷ res) hay i trace e =
     (λ (own : attempt hay re accept i ≡ Some trace). (0, (re, trace, refl, own)))
     (λ (w : (attempt hay re accept i ≡ None) × (attempt hay (any_of res) accept i ≡ Some trace)).
     let rest = alternate_at res hay i trace w.1 in (suc rest.0, rest.1))
-    (option_or_cases (attempt hay re accept i) (attempt hay (any_of res) accept i) trace (sym (either re res hay i) ∙ e))
+    (option_or_cases (attempt hay re accept i) (attempt hay (any_of res) accept i) trace
+    (sym (either re res hay i) ∙ e))
 
 at_alternate : (res : List Re) (hay : List ℕ) (i p : ℕ) → MatchesAt hay i res p →
     (trace : Trace) × (attempt hay (any_of res) accept i ≡ Some trace)
 at_alternate [] hay i p m = absurd (none_some m.2)
 at_alternate (re ∷ res) hay i zero m =
-    (m.1, either re res hay i ∙ ap (λ o. option_or o (attempt hay (any_of res) accept i)) (ap (λ v. attempt hay v accept i) (some_inj m.2) ∙ m.3))
+    (m.1, either re res hay i
+    ∙ ap (λ o. option_or o (attempt hay (any_of res) accept i)) (ap (λ v. attempt hay v accept i) (some_inj m.2) ∙ m.3))
 at_alternate (re ∷ res) hay i (suc p) m =
     let rest = at_alternate res hay i p m in
     ⊎_elim
@@ -114,16 +117,21 @@ at_alternate (re ∷ res) hay i (suc p) m =
 
 -- So some pattern is found exactly if one of them is found by itself.
 pub any_is_found : (utf8 : Bool) (hay : List ℕ) (res : List Re) →
-    (is_some (find_any utf8 res hay 0) ≡ true) ↔ ((p : ℕ) × (re : Re) × (slice_get res p ≡ Some re) × (is_found utf8 hay re ≡ true))
+    (is_some (find_any utf8 res hay 0) ≡ true)
+    ↔ ((p : ℕ) × (re : Re) × (slice_get res p ≡ Some re) × (is_found utf8 hay re ≡ true))
 any_is_found utf8 hay res = (λ e. there e, λ w. back w.0 w.1 w.2 w.3)
   where
-    there : is_found utf8 hay (any_of res) ≡ true → (p : ℕ) × (re : Re) × (slice_get res p ≡ Some re) × (is_found utf8 hay re ≡ true)
+    there :
+        is_found utf8 hay (any_of res) ≡ true → (p : ℕ) × (re : Re) × (slice_get res p ≡ Some re)
+        × (is_found utf8 hay re ≡ true)
     there e =
         let w = found_at utf8 hay (any_of res) e in
         let own = alternate_at res hay w.0 w.1 w.2.1 in
         (own.0, own.1.0, own.1.2, at_found utf8 hay own.1.0 w.0 own.1.1 (w.2.0, own.1.3, w.2.2))
 
-    back : (p : ℕ) (re : Re) → slice_get res p ≡ Some re → is_found utf8 hay re ≡ true → is_found utf8 hay (any_of res) ≡ true
+    back :
+        (p : ℕ) (re : Re) → slice_get res p ≡ Some re → is_found utf8 hay re ≡ true
+        → is_found utf8 hay (any_of res) ≡ true
     back p re at e =
         let w = found_at utf8 hay re e in
         let own = at_alternate res hay w.0 p (re, w.1, at, w.2.1) in
@@ -150,12 +158,15 @@ module _ (ks : List kit_nfa.Nfa) (res : List Re) (is : ImplementAll ks res) (utf
 
   module _ (keeps : KeepsUtf8 Forward all) where
     -- A match that has such a path begins where a character does.
-    begin_whole : (k place z pattern : ℕ) (path : List ℕ) → place ≤ length hay → IsPathFrom (joined_nfa ks) t k [] (size_of ks) path place z →
+    begin_whole :
+        (k place z pattern : ℕ) (path : List ℕ) → place ≤ length hay
+        → IsPathFrom (joined_nfa ks) t k [] (size_of ks) path place z →
         accepts (joined_nfa ks) z ≡ Some pattern → (IsSkipping all → is_split hay (0 + place) ≡ false) → utf8 ≡ true →
         is_split hay (0 + k) ≡ false
     begin_whole k place z pattern path inside h acc unskipped e =
         ⊎_elim
-        (λ (l : k < place). (whole_path all keeps e hay bytes (text e) 0 k place z pattern path l (omega (arith, inside)) h acc).0)
+        (λ (l : k < place).
+        (whole_path all keeps e hay bytes (text e) 0 k place z pattern path l (omega (arith, inside)) h acc).0)
         (λ (l : place ≤ k).
         let grows = path_grows (joined_nfa ks) t k [] (size_of ks) path place z h in
         let here : place ≡ k = omega (arith, l, grows) in
@@ -168,11 +179,15 @@ module _ (ks : List kit_nfa.Nfa) (res : List Re) (is : ImplementAll ks res) (utf
         (cases_lt k place)
 
     -- And one that begins so ends so.
-    end_whole : (k place z pattern : ℕ) (path : List ℕ) → place ≤ length hay → IsPathFrom (joined_nfa ks) t k [] (size_of ks) path place z →
-        accepts (joined_nfa ks) z ≡ Some pattern → utf8 ≡ true → is_split hay k ≡ false → is_split hay (0 + place) ≡ false
+    end_whole :
+        (k place z pattern : ℕ) (path : List ℕ) → place ≤ length hay
+        → IsPathFrom (joined_nfa ks) t k [] (size_of ks) path place z →
+        accepts (joined_nfa ks) z ≡ Some pattern → utf8 ≡ true → is_split hay k ≡ false
+        → is_split hay (0 + place) ≡ false
     end_whole k place z pattern path inside h acc e begin =
         ⊎_elim
-        (λ (l : k < place). (whole_path all keeps e hay bytes (text e) 0 k place z pattern path l (omega (arith, inside)) h acc).1)
+        (λ (l : k < place).
+        (whole_path all keeps e hay bytes (text e) 0 k place z pattern path l (omega (arith, inside)) h acc).1)
         (λ (l : place ≤ k).
         let grows = path_grows (joined_nfa ks) t k [] (size_of ks) path place z h in
         let here : k ≡ 0 + place = omega (arith, l, grows) in
@@ -180,7 +195,8 @@ module _ (ks : List kit_nfa.Nfa) (res : List Re) (is : ImplementAll ks res) (utf
         (cases_lt k place)
 
     ends_begin : (pattern end : ℕ) → EndsAt all hay pattern end →
-        (re : Re) × (i : ℕ) × (trace : Trace) × (slice_get res pattern ≡ Some re) × (i ≤ end) × IsFoundAt utf8 hay re i trace
+        (re : Re) × (i : ℕ) × (trace : Trace) × (slice_get res pattern ≡ Some re) × (i ≤ end)
+        × IsFoundAt utf8 hay re i trace
     ends_begin pattern end (place, path, inside, accepted, at, unskipped) =
         (own.0, 0 + w.0, own.1, own.2, omega (arith, grows, at), (within, own.3, whole))
       where
@@ -241,10 +257,12 @@ module _ (ks : List kit_nfa.Nfa) (res : List Re) (is : ImplementAll ks res) (utf
         let inside : 0 + f.0 ≤ length hay = omega (arith, l) in (
           f.1.end,
           path_ends f.0 pattern f.1.end inside f.2.2
-              (union_path ks res is hay same 0 f.0 inside pattern (re, f.1, at, ap (attempt hay re accept) from ∙ f.2.1)),
+              (union_path ks res is hay same 0 f.0 inside pattern
+              (re, f.1, at, ap (attempt hay re accept) from ∙ f.2.1)),
         )
 
-    way_ends : (pattern : ℕ) (re : Re) (i end : ℕ) → slice_get res pattern ≡ Some re → i ≤ length hay → Matches hay re i end →
+    way_ends :
+        (pattern : ℕ) (re : Re) (i end : ℕ) → slice_get res pattern ≡ Some re → i ≤ length hay → Matches hay re i end →
         (utf8 ≡ true → is_split hay i ≡ false) → EndsAt all hay pattern end
     way_ends pattern re i end at l way begin =
         let from : i ≡ 0 + i = omega arith in
@@ -253,11 +271,13 @@ module _ (ks : List kit_nfa.Nfa) (res : List Re) (is : ImplementAll ks res) (utf
         (union_way ks res is hay same 0 i inside pattern re end at (subst (λ v. Matches hay re v end) from way))
 
   -- So of an automaton that joins these:
-  module _ (a : Automaton) (engines : engine_of a LeftmostFirst ≡ joined_engine utf8 ks) (keeps : KeepsUtf8 Forward (engine_of a KindAll)) where
+  module _ (a : Automaton) (engines : engine_of a LeftmostFirst ≡ joined_engine utf8 ks)
+      (keeps : KeepsUtf8 Forward (engine_of a KindAll)) where
     -- an accepting path of a pattern through the haystack ends at this offset
     abbrev pub IsEnd : (pattern end : ℕ) → Type 0
     IsEnd pattern end =
-        IsAccepted Forward a (span_input hay 0 (length hay)) a.start_unanchored (record { pattern = pattern; place = end })
+        IsAccepted Forward a (span_input hay 0 (length hay)) a.start_unanchored
+        (record { pattern = pattern; place = end })
 
     alike : engine_of a KindAll ≡ all
     alike = ap (λ (d : Engine). record d { kind = KindAll }) engines
@@ -283,7 +303,8 @@ module _ (ks : List kit_nfa.Nfa) (res : List Re) (is : ImplementAll ks res) (utf
 
     -- A pattern has such a path exactly if it is found by itself.
     pub accepted_is_found : (pattern : ℕ) →
-        ((end : ℕ) × IsEnd pattern end) ↔ ((re : Re) × (slice_get res pattern ≡ Some re) × (is_found utf8 hay re ≡ true))
+        ((end : ℕ) × IsEnd pattern end)
+        ↔ ((re : Re) × (slice_get res pattern ≡ Some re) × (is_found utf8 hay re ≡ true))
     accepted_is_found pattern = (
       λ w. ends_found kept pattern w.0 (of_end pattern w.0 w.1),
       λ w. let own = found_ends kept pattern w.0 w.1 w.2 in (own.0, is_end pattern own.0 own.1),

@@ -1,6 +1,8 @@
--- The paths of each pattern in the joined NFA: from the union of the starts, a path to a match state of a pattern is one
+-- The paths of each pattern in the joined NFA: from the union of the starts, a path to a match state of a pattern is
+-- one
 -- of that pattern alone.
-use Rattle.std.proofs.Common.{ℕ, zero, suc, ◌≡◌, ◌+◌, ◌<◌, ◌≤◌, List, [], ◌∷◌, Option, Some, None, length, option_map, refl, sym, ap, ◌∙◌, subst, ⊎_elim, inl, inr, arith}
+use Rattle.std.proofs.Common.{ℕ, zero, suc, ◌≡◌, ◌+◌, ◌<◌, ◌≤◌, List, [], ◌∷◌, Option, Some, None, length, option_map}
+use Rattle.std.proofs.Common.{refl, sym, ap, ◌∙◌, subst, ⊎_elim, inl, inr, arith}
 use Rattle.std.specs.Prelude.{slice_get}
 use Rattle.regex_hir.specs.Re.{Re, Trace, accept, attempt}
 use Rattle.regex_hir.specs.Matches.{Matches}
@@ -48,7 +50,8 @@ module _ (n : Nfa) (b p : ℕ) (k : kit_nfa.Nfa) (holds : HasStatesOf n b p k) w
       path_stays t (suc i) [] step.0 path j z (let low = next_on_within k q byte.0 step.0 step.1 in omega (arith, low))
       (subst (λ v. IsPathFrom n t (suc i) [] v path j z) step.2 h.3)
 
-  match_is : (x : kit_state.State) (pattern : ℕ) → accepts_at (node_of b p k.transitions.items x) ≡ Some pattern → pattern ≡ p
+  match_is :
+      (x : kit_state.State) (pattern : ℕ) → accepts_at (node_of b p k.transitions.items x) ≡ Some pattern → pattern ≡ p
   match_is (kit.ByteRange t) pattern h = absurd (none_some h)
   match_is (kit.Sparse from to) pattern h = absurd (none_some h)
   match_is (kit.Split first second) pattern h = absurd (none_some h)
@@ -67,7 +70,8 @@ module _ (n : Nfa) (b p : ℕ) (k : kit_nfa.Nfa) (holds : HasStatesOf n b p k) w
 
 -- What a pattern of these matches at an offset.
 abbrev pub MatchesAt : List ℕ → (i : ℕ) → List Re → ℕ → Type 0
-MatchesAt hay i res e = (re : Re) × (trace : Trace) × (slice_get res e ≡ Some re) × (attempt hay re accept i ≡ Some trace)
+MatchesAt hay i res e =
+    (re : Re) × (trace : Trace) × (slice_get res e ≡ Some re) × (attempt hay re accept i ≡ Some trace)
 
 module _ (n : Nfa) (hay : List ℕ) (s u place : ℕ) (inside : s + place ≤ length hay) where
   abbrev tape : Tape
@@ -83,7 +87,8 @@ module _ (n : Nfa) (hay : List ℕ) (s u place : ℕ) (inside : s + place ≤ le
   -- an accepting path from the start of one of the patterns
   abbrev pub IsPathOf : (r pattern end : ℕ) → Type 0
   IsPathOf r pattern end =
-      (path : List ℕ) × (j z : ℕ) × IsPathFrom n tape place (u ∷ []) r path j z × (accepts n z ≡ Some pattern) × (s + j ≡ end)
+      (path : List ℕ) × (j z : ℕ) × IsPathFrom n tape place (u ∷ []) r path j z × (accepts n z ≡ Some pattern)
+      × (s + j ≡ end)
 
   -- the path from the start of a pattern is a match of it
   path_matches : (b p : ℕ) (ks : List kit_nfa.Nfa) (res : List Re) → HoldsAll n b p ks → ImplementAll ks res →
@@ -96,11 +101,14 @@ module _ (n : Nfa) (hay : List ℕ) (s u place : ℕ) (inside : s + place ≤ le
       subst (λ v. IsPathFrom n tape place (u ∷ []) v w.0 w.1 w.2) (sym (some_inj begins)) w.3 in
       let own = path_is_own n b p k holds.0 tape place (u ∷ []) w.0 w.1 w.2 pattern h w.4 in
       let found = found_some p (b + k.start) (run k hay (length hay) k.start (s + place))
-      (pattern_finds n hay s (length hay) u place (s + place) (omega arith) refl inside b p k holds.0 same.0 (omega (arith, room)))
+      (pattern_finds n hay s (length hay) u place (s + place) (omega arith) refl inside b p k holds.0 same.0
+      (omega (arith, room)))
       w.0 w.1 w.2 pattern h w.4 in
       (omega (arith, own), (re, found.0, refl, sym (is.0.0 hay (s + place)) ∙ found.1))
   path_matches b p (k ∷ ks) (re ∷ res) holds is same room (suc e) r begins pattern end w =
-      let rest = path_matches (b + length k.states.items) (suc p) ks res holds.1 is.1 same.1 (omega (arith, room)) e r begins pattern end w in
+      let rest =
+      path_matches (b + length k.states.items) (suc p) ks res holds.1 is.1 same.1 (omega (arith, room)) e r begins
+      pattern end w in
       (let own = rest.0 in omega (arith, own), rest.1)
 
   -- and each match has such a path
@@ -115,11 +123,14 @@ module _ (n : Nfa) (hay : List ℕ) (s u place : ℕ) (inside : s + place ≤ le
       let least : IsLeastEnd n tape s place (u ∷ []) (b + k.start) (Some (half_of p trace)) =
       subst (λ o. IsLeastEnd n tape s place (u ∷ []) (b + k.start) (option_map (half_of p) o))
       (is.0.0 hay (s + place) ∙ ap (λ v. attempt hay v accept (s + place)) (some_inj at) ∙ found)
-      (pattern_finds n hay s (length hay) u place (s + place) (omega arith) refl inside b p k holds.0 same.0 (omega (arith, room))) in
+      (pattern_finds n hay s (length hay) u place (s + place) (omega arith) refl inside b p k holds.0 same.0
+      (omega (arith, room))) in
       let number : p ≡ p + 0 = omega arith in
       (b + k.start, refl, (least.0, least.1, least.2, least.3, least.4 ∙ ap (λ v. Some v) number, least.5))
   match_has_path b p (k ∷ ks) (x ∷ res) holds is same room (suc e) re trace at found =
-      let rest = match_has_path (b + length k.states.items) (suc p) ks res holds.1 is.1 same.1 (omega (arith, room)) e re trace at found in
+      let rest =
+      match_has_path (b + length k.states.items) (suc p) ks res holds.1 is.1 same.1 (omega (arith, room)) e re trace at
+      found in
       let number : suc p + e ≡ p + suc e = omega arith in
       (rest.0, rest.1, subst (λ v. IsPathOf rest.0 v trace.end) number rest.2)
 
@@ -136,21 +147,26 @@ module _ (n : Nfa) (hay : List ℕ) (s u place : ℕ) (inside : s + place ≤ le
         b + k.start,
         refl,
         subst (λ v. IsPathOf (b + k.start) v end) number
-            (path_of n b p k holds.0 hay s (length hay) (omega arith) same.0 end k.start (s + place) accepted place (u ∷ [])
+            (path_of n b p k holds.0 hay s (length hay) (omega arith) same.0 end k.start (s + place) accepted place
+            (u ∷ [])
             (let l = k.start_in in omega (arith, l)) refl inside
             (λ y l m. ⊎_elim (λ (f : b + y ≡ u). absurd (omega (arith, l, f, room))) (λ (f : ⊥). absurd f) m)),
       )
   way_has_path b p (k ∷ ks) (x ∷ res) holds is same room (suc e) re end at way =
-      let rest = way_has_path (b + length k.states.items) (suc p) ks res holds.1 is.1 same.1 (omega (arith, room)) e re end at way in
+      let rest =
+      way_has_path (b + length k.states.items) (suc p) ks res holds.1 is.1 same.1 (omega (arith, room)) e re end at
+      way in
       let number : suc p + e ≡ p + suc e = omega arith in
       (rest.0, rest.1, subst (λ v. IsPathOf rest.0 v end) number rest.2)
 
-module _ (ks : List kit_nfa.Nfa) (res : List Re) (is : ImplementAll ks res) (hay : List ℕ) (same : Each (HasSameLooks hay) ks) (s place : ℕ)
+module _ (ks : List kit_nfa.Nfa) (res : List Re) (is : ImplementAll ks res) (hay : List ℕ)
+    (same : Each (HasSameLooks hay) ks) (s place : ℕ)
     (inside : s + place ≤ length hay) where
   -- an accepting path of a pattern from the union, and where it ends
   abbrev pub IsUnionPath : (pattern end : ℕ) → Type 0
   IsUnionPath pattern end =
-      (path : List ℕ) × (j z : ℕ) × IsPathFrom (joined_nfa ks) (forward_tape hay s (length hay)) place [] (size_of ks) path j z
+      (path : List ℕ) × (j z : ℕ)
+      × IsPathFrom (joined_nfa ks) (forward_tape hay s (length hay)) place [] (size_of ks) path j z
       × (accepts (joined_nfa ks) z ≡ Some pattern) × (s + j ≡ end)
 
   -- An accepting path from the union, at a place of a span up to the haystack's end, is a match of its pattern there.
@@ -158,23 +174,29 @@ module _ (ks : List kit_nfa.Nfa) (res : List Re) (is : ImplementAll ks res) (hay
       IsPathFrom (joined_nfa ks) (forward_tape hay s (length hay)) place [] (size_of ks) path j z →
       accepts (joined_nfa ks) z ≡ Some pattern → MatchesAt hay (s + place) res pattern
   union_matches [] j z pattern h acc =
-      absurd (accepts_none (joined_nfa ks) (forward_tape hay s (length hay)) place (size_of ks) _ (union_is ks) refl pattern
+      absurd (accepts_none (joined_nfa ks) (forward_tape hay s (length hay)) place (size_of ks) _ (union_is ks) refl
+      pattern
       (ap (λ v. accepts (joined_nfa ks) v) h.1 ∙ acc))
   union_matches (e ∷ path) j z pattern (inl h) acc =
-      let own = path_matches (joined_nfa ks) hay s (size_of ks) place inside 0 0 ks res (holds_all ks) is same (omega arith) e h.0
+      let own =
+      path_matches (joined_nfa ks) hay s (size_of ks) place inside 0 0 ks res (holds_all ks) is same (omega arith) e h.0
       (sym (ap (λ v. hop_at v (truth (joined_nfa ks) (forward_tape hay s (length hay)) place) e) (union_is ks)) ∙ h.1)
       pattern (s + j) (path, j, z, h.3, acc, refl) in
       let number : e ≡ pattern = let f = own.0 in omega (arith, f) in
       subst (MatchesAt hay (s + place) res) number own.1
   union_matches (e ∷ path) j z pattern (inr h) acc =
-      absurd (moves_none (joined_nfa ks) (forward_tape hay s (length hay)) place (size_of ks) _ (union_is ks) (λ v r m. none_some m) h.0 h.2)
+      absurd (moves_none (joined_nfa ks) (forward_tape hay s (length hay)) place (size_of ks) _ (union_is ks)
+      (λ v r m. none_some m) h.0 h.2)
 
   -- a path from the start of a pattern is one from the union
-  from_union : (e r end : ℕ) → slice_get (starts_of 0 ks) e ≡ Some r → IsPathOf (joined_nfa ks) hay s (size_of ks) place inside r (0 + e) end →
+  from_union :
+      (e r end : ℕ) → slice_get (starts_of 0 ks) e ≡ Some r
+      → IsPathOf (joined_nfa ks) hay s (size_of ks) place inside r (0 + e) end →
       IsUnionPath e end
   from_union e r end begins w =
       let apart : In r (size_of ks ∷ []) → ⊥ =
-      λ i. ⊎_elim (λ (f : r ≡ size_of ks). let l = starts_below 0 ks e r begins in omega (arith, l, f)) (λ (x : ⊥). x) i in (
+      λ i. ⊎_elim (λ (f : r ≡ size_of ks). let l = starts_below 0 ks e r begins in omega (arith, l, f)) (λ (x : ⊥). x)
+      i in (
         e ∷ w.0,
         w.1,
         w.2,
@@ -191,11 +213,16 @@ module _ (ks : List kit_nfa.Nfa) (res : List Re) (is : ImplementAll ks res) (hay
   -- And each match of a pattern has such a path, to its end.
   pub union_path : (e : ℕ) → (m : MatchesAt hay (s + place) res e) → IsUnionPath e m.1.end
   union_path e m =
-      let own = match_has_path (joined_nfa ks) hay s (size_of ks) place inside 0 0 ks res (holds_all ks) is same (omega arith) e m.0 m.1 m.2 m.3 in
+      let own =
+      match_has_path (joined_nfa ks) hay s (size_of ks) place inside 0 0 ks res (holds_all ks) is same (omega arith) e
+      m.0 m.1 m.2 m.3 in
       from_union e own.0 m.1.end own.1 own.2
 
   -- And so has each way in which it matches.
-  pub union_way : (e : ℕ) (re : Re) (end : ℕ) → slice_get res e ≡ Some re → Matches hay re (s + place) end → IsUnionPath e end
+  pub union_way :
+      (e : ℕ) (re : Re) (end : ℕ) → slice_get res e ≡ Some re → Matches hay re (s + place) end → IsUnionPath e end
   union_way e re end at way =
-      let own = way_has_path (joined_nfa ks) hay s (size_of ks) place inside 0 0 ks res (holds_all ks) is same (omega arith) e re end at way in
+      let own =
+      way_has_path (joined_nfa ks) hay s (size_of ks) place inside 0 0 ks res (holds_all ks) is same (omega arith) e re
+      end at way in
       from_union e own.0 end own.1 own.2

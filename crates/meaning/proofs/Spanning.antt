@@ -1,12 +1,14 @@
 -- The leftmost match by what is found at each offset is the span that the paths define, where a lazy loop begins them.
-use Rattle.std.proofs.Common.{ℕ, zero, suc, ◌≡◌, ◌+◌, ◌-◌, ◌<◌, ◌≤◌, ◌⊎◌, List, [], ◌∷◌, Some, None, Bool, true, false, not, length, option_map, refl, sym, ap, ◌∙◌, subst, ⊎_elim, inl, inr, arith, true≢false}
+use Rattle.std.proofs.Common.{ℕ, zero, suc, ◌≡◌, ◌+◌, ◌-◌, ◌<◌, ◌≤◌, ◌⊎◌, List, [], ◌∷◌, Some, None, Bool, true, false}
+use Rattle.std.proofs.Common.{not, length, option_map, refl, sym, ap, ◌∙◌, subst, ⊎_elim, inl, inr, arith, true≢false}
 use Rattle.std.specs.Prelude.{if◌then◌else◌}
 use Rattle.std.proofs.lemmas.Bool.{cases_lt}
 use Rattle.regex_hir.specs.Re.{Rest, Trace}
 use Rattle.regex_hir.specs.Find as kit_find
 use Rattle.regex_hir.specs.Find.{first_between}
 use Rattle.regex_hir.specs.Text.{is_boundary}
-use Rattle.regex_hir.proofs.FindLemmas.{IsFirst, IsFirst-of_first_between, first_between_next, first_between_none, first_between_of_IsFirst, first_between_past, none_of_first_between}
+use Rattle.regex_hir.proofs.FindLemmas.{IsFirst, IsFirst-of_first_between, first_between_next, first_between_none}
+use Rattle.regex_hir.proofs.FindLemmas.{first_between_of_IsFirst, first_between_past, none_of_first_between}
 use Rattle.regex_hir.proofs.OptionLemmas.{option_cases}
 use Rattle.automata_base.specs.Answers.Answers.{SpanIsDone, SpanReportsNone, later}
 use Rattle.automata_base.specs.Answers.Spans.{IsSpan, IsPathStart, Chooses}
@@ -48,7 +50,8 @@ numbered number m = record { pattern = number m.start; start = m.start; end = m.
 module _ (n : Nfa) (a u x : ℕ) (starts : List ℕ) (utf8 : Bool) (loop : LoopsLazily n a u x) (hay : List ℕ) (stop : ℕ)
     (fits : stop ≤ length hay) (bytes : IsHaystack hay) (at : Rest) (number : ℕ → ℕ)
     (finds : (s place : ℕ) → s + place ≤ stop →
-    IsLeastEnd n (forward_tape hay s stop) s place [] a (option_map (half_of (number (s + place))) (at (s + place)))) where
+    IsLeastEnd n (forward_tape hay s stop) s place [] a
+    (option_map (half_of (number (s + place))) (at (s + place)))) where
   abbrev pub searched : Engine
   searched =
       record { nfa = n; anchored = a; unanchored = u; starts = starts; utf8 = utf8; kind = LeftmostFirst }
@@ -59,7 +62,8 @@ module _ (n : Nfa) (a u x : ℕ) (starts : List ℕ) (utf8 : Bool) (loop : Loops
   -- where nothing is found, no path accepts
   none_at : (s place : ℕ) → s + place ≤ stop → at (s + place) ≡ None → IsLeastEnd n (tape s) s place [] a None
   none_at s place inside none =
-      subst (λ o. IsLeastEnd n (tape s) s place [] a (option_map (half_of (number (s + place))) o)) none (finds s place inside)
+      subst (λ o. IsLeastEnd n (tape s) s place [] a (option_map (half_of (number (s + place))) o)) none
+      (finds s place inside)
 
   reach : (s : ℕ) → s ≤ stop → (i pattern : ℕ) (path : List ℕ) → Accepts n (tape s) u i pattern path →
       (k : ℕ) × (rest : List ℕ) × StartsAt searched (tape s) k i pattern path rest × (s + k ≤ stop)
@@ -89,7 +93,8 @@ module _ (n : Nfa) (a u x : ℕ) (starts : List ℕ) (utf8 : Bool) (loop : Loops
     pub own : IsLeastEnd n (tape s) s place [] a (Some (half_of (number m.start) m.trace))
     own =
         subst (λ o. IsLeastEnd n (tape s) s place [] a (option_map (half_of (number m.start)) o)) first.here
-        (subst (λ v. IsLeastEnd n (tape s) s place [] a (option_map (half_of (number v)) (at v))) (sym there) (finds s place fit))
+        (subst (λ v. IsLeastEnd n (tape s) s place [] a (option_map (half_of (number v)) (at v))) (sym there)
+        (finds s place fit))
 
     has : HasBytes (tape s)
     has = forward_bytes hay s stop bytes inside fits
@@ -112,7 +117,8 @@ module _ (n : Nfa) (a u x : ℕ) (starts : List ℕ) (utf8 : Bool) (loop : Loops
     least j pattern other h =
         ⊎_elim
         (λ (l : w.0 < place).
-        absurd (none_at s w.0 w.3 (first.before (s + w.0) (omega arith) (omega (arith, l, there))) w.1 j w.2.1.0 pattern w.2.1.1 w.2.1.2))
+        absurd (none_at s w.0 w.3 (first.before (s + w.0) (omega arith) (omega (arith, l, there))) w.1 j w.2.1.0 pattern
+        w.2.1.1 w.2.1.2))
         (λ (l : place ≤ w.0). ⊎_elim
         (λ (c : place < w.0). subst (λ v. Upto path v) (sym w.2.0) (inr (sooner_less place w.0 own.0 w.1 c)))
         (λ (c : w.0 ≤ place).
@@ -152,7 +158,8 @@ module _ (n : Nfa) (a u x : ℕ) (starts : List ℕ) (utf8 : Bool) (loop : Loops
     no_span k tries e =
         ⊎_elim
         (λ (l : stop < s + k). (k, tries, SpanIsDone l))
-        (λ (l : s + k ≤ stop). (k, tries, SpanReportsNone (selects_none (s + k) l (none_of_first_between at (s + k) stop e))))
+        (λ (l : s + k ≤ stop).
+        (k, tries, SpanReportsNone (selects_none (s + k) l (none_of_first_between at (s + k) stop e))))
         (cases_lt stop (s + k))
 
     pub a_span : (k : ℕ) → ComesTo Forward searched input k → (m : kit_find.Match) → IsFirst at (s + k) stop m →
@@ -198,9 +205,11 @@ module _ (n : Nfa) (a u x : ℕ) (starts : List ℕ) (utf8 : Bool) (loop : Loops
     pub bytes_span : utf8 ≡ false → IsSpan searched input (option_map (numbered number) (first_between at s stop))
     bytes_span plain =
         ⊎_elim
-        (λ e. subst (λ o. IsSpan searched input (option_map (numbered number) o)) (sym e) (no_span 0 at_once (from_here ∙ e)))
+        (λ e. subst (λ o. IsSpan searched input (option_map (numbered number) o)) (sym e)
+        (no_span 0 at_once (from_here ∙ e)))
         (λ f. subst (λ o. IsSpan searched input (option_map (numbered number) o)) (sym f.1)
-        (a_span 0 at_once f.0 (IsFirst-of_first_between at (s + 0) stop f.0 (from_here ∙ f.1)) (λ skip. absurd (true≢false (sym skip.0 ∙ plain)))))
+        (a_span 0 at_once f.0 (IsFirst-of_first_between at (s + 0) stop f.0 (from_here ∙ f.1))
+        (λ skip. absurd (true≢false (sym skip.0 ∙ plain)))))
         (option_cases (first_between at s stop))
 
   -- Over text a match is empty, or begins and ends where characters do; and if one is empty, places inside characters
@@ -229,12 +238,14 @@ module _ (n : Nfa) (a u x : ℕ) (starts : List ℕ) (utf8 : Bool) (loop : Loops
       abbrev Spans : ℕ → Type 0
       Spans k =
           ComesTo Forward searched (span_input hay s stop) k
-          → IsSpan searched (span_input hay s stop) (option_map (numbered number) (first_between at_starts (s + k) stop))
+          → IsSpan searched (span_input hay s stop)
+          (option_map (numbered number) (first_between at_starts (s + k) stop))
 
       none_later : (k : ℕ) → first_between at (s + k) stop ≡ None → Spans k
       none_later k e tries =
           subst (λ o. IsSpan searched (span_input hay s stop) (option_map (numbered number) o))
-          (sym (first_between_none at_starts (s + k) stop (λ i p q. starts_none i (none_of_first_between at (s + k) stop e i p q))))
+          (sym (first_between_none at_starts (s + k) stop
+          (λ i p q. starts_none i (none_of_first_between at (s + k) stop e i p q))))
           (no_span s k tries e)
 
       -- the leftmost match ends where a character does
@@ -256,10 +267,13 @@ module _ (n : Nfa) (a u x : ℕ) (starts : List ℕ) (utf8 : Bool) (loop : Loops
               (plain m.start m.trace first.to first.here)
 
       -- it ends inside a character, so it is empty there, and the search goes on
-      split_here : (k : ℕ) (m : kit_find.Match) → IsFirst at (s + k) stop m → is_split hay m.trace.end ≡ true → Spans (suc k) → Spans k
+      split_here :
+          (k : ℕ) (m : kit_find.Match) → IsFirst at (s + k) stop m → is_split hay m.trace.end ≡ true → Spans (suc k)
+          → Spans k
       split_here k m first c more tries =
           subst (λ o. IsSpan searched (span_input hay s stop) (option_map (numbered number) o))
-          (sym (first_between_next at_starts (s + k) stop none_here ∙ ap (λ v. first_between at_starts v stop) one_more))
+          (sym (first_between_next at_starts (s + k) stop none_here
+          ∙ ap (λ v. first_between at_starts v stop) one_more))
           (more (record { comes = inr (skips_there m.start m.trace first.to first.here empty, refl); before = tried }))
         where
           one_more : s + k + 1 ≡ s + suc k
@@ -271,7 +285,8 @@ module _ (n : Nfa) (a u x : ℕ) (starts : List ℕ) (utf8 : Bool) (loop : Loops
           empty : m.start ≡ m.trace.end
           empty =
               ⊎_elim (λ (e : m.start ≡ m.trace.end). e)
-              (λ (w : (is_split hay m.start ≡ false) × (is_split hay m.trace.end ≡ false)). absurd (true≢false (sym c ∙ w.1)))
+              (λ (w : (is_split hay m.start ≡ false) × (is_split hay m.trace.end ≡ false)). absurd
+              (true≢false (sym c ∙ w.1)))
               (plain m.start m.trace first.to first.here)
 
           none_here : at_starts (s + k) ≡ None
@@ -289,7 +304,8 @@ module _ (n : Nfa) (a u x : ℕ) (starts : List ℕ) (utf8 : Bool) (loop : Loops
               ⊎_elim (λ (b : j < k). tries.before j b)
               (λ (b : k ≤ j).
               let same : k ≡ j = omega (arith, b, l) in
-              subst (λ v. (s + v ≤ stop) × IsSplitAnswer Forward searched (later Forward v (span_input hay s stop))) same (
+              subst (λ v. (s + v ≤ stop) × IsSplitAnswer Forward searched (later Forward v (span_input hay s stop)))
+              same (
                 inside,
                 (
                   pair (s + k) inside m first,
@@ -307,12 +323,16 @@ module _ (n : Nfa) (a u x : ℕ) (starts : List ℕ) (utf8 : Bool) (loop : Loops
           (spans_from fuel (suc k) (omega (arith, room))))
           (option_cases (first_between at (s + k) stop))
         where
-          by : (m : kit_find.Match) → IsFirst at (s + k) stop m → (c : Bool) → is_split hay m.trace.end ≡ c → Spans (suc k) → Spans k
+          by :
+              (m : kit_find.Match) → IsFirst at (s + k) stop m → (c : Bool) → is_split hay m.trace.end ≡ c
+              → Spans (suc k) → Spans k
           by m first false c more = whole_here k m first c
           by m first true c more = split_here k m first c more
 
       -- over text the spans are tried one after another, until a match is not inside a character
-      pub text_span : IsSpan searched (span_input hay s stop) (option_map (numbered number) (first_between at_starts s stop))
+      pub text_span :
+          IsSpan searched (span_input hay s stop) (option_map (numbered number) (first_between at_starts s stop))
       text_span =
-          subst (λ v. IsSpan searched (span_input hay s stop) (option_map (numbered number) (first_between at_starts v stop)))
+          subst (λ v. IsSpan searched (span_input hay s stop)
+          (option_map (numbered number) (first_between at_starts v stop)))
           (omega arith) (spans_from (stop + 1) 0 (omega arith) (at_once s))

@@ -1,5 +1,7 @@
 -- Matches in text: those that are not empty begin and end where characters do.
-use Rattle.std.proofs.Common.{ℕ, suc, ◌≡◌, ◌+◌, ◌-◌, ◌<◌, ◌≤◌, ◌⊎◌, ◌&&◌, List, [], ◌∷◌, Option, Some, None, true, false, not, length, drop, get_or, IsUtf8, refl, sym, ap, ap₂, ◌∙◌, subst, ⊎_elim, inl, inr, arith, le-leb, true≢false}
+use Rattle.std.proofs.Common.{ℕ, suc, ◌≡◌, ◌+◌, ◌-◌, ◌<◌, ◌≤◌, ◌⊎◌, ◌&&◌, List, [], ◌∷◌, Option, Some, None, true}
+use Rattle.std.proofs.Common.{false, not, length, drop, get_or, IsUtf8, refl, sym, ap, ap₂, ◌∙◌, subst, ⊎_elim, inl}
+use Rattle.std.proofs.Common.{inr, arith, le-leb, true≢false}
 use Rattle.std.specs.Prelude.{slice_get, IsCharBoundary}
 use Rattle.std.proofs.lemmas.Bool.{cases_lt}
 use Rattle.std.proofs.lemmas.Option.{slice_get-get_or}
@@ -47,10 +49,12 @@ boundary hay i l e = (
         ∙ ap₂ (λ v w. v && w) (le-leb 128 (get_or hay i 0) low) (le-leb (get_or hay i 0) 191 (omega (arith, high)))
 
 -- text that begins and goes on with whole characters ends with one
-ends_whole : (hay : List ℕ) (i e : ℕ) → IsUtf8 hay → i ≤ e → e ≤ length hay → is_split hay i ≡ false → IsUtf8 (between hay i e) →
+ends_whole :
+    (hay : List ℕ) (i e : ℕ) → IsUtf8 hay → i ≤ e → e ≤ length hay → is_split hay i ≡ false → IsUtf8 (between hay i e) →
     is_split hay e ≡ false
 ends_whole hay i e text le fits begin inner =
-    ap is_continuation (sym at_end) ∙ first_unsplit (drop (e - i) (drop i hay)) (IsUtf8-drop (drop i hay) (e - i) rest cut)
+    ap is_continuation (sym at_end)
+    ∙ first_unsplit (drop (e - i) (drop i hay)) (IsUtf8-drop (drop i hay) (e - i) rest cut)
   where
     rest : IsUtf8 (drop i hay)
     rest = IsUtf8-drop hay i text (boundary hay i (omega (arith, le, fits)) begin)
@@ -59,16 +63,20 @@ ends_whole hay i e text le fits begin inner =
     cut = IsCharBoundary-from_take (drop i hay) (e - i) rest (drop_length i (e - i) hay (omega (arith, le, fits))) inner
 
     at_end : slice_get (drop (e - i) (drop i hay)) 0 ≡ slice_get hay e
-    at_end = nth_drop (e - i) (drop i hay) 0 ∙ nth_drop i hay (e - i + 0) ∙ ap (λ v. slice_get hay v) (omega (arith, le))
+    at_end =
+        nth_drop (e - i) (drop i hay) 0 ∙ nth_drop i hay (e - i + 0) ∙ ap (λ v. slice_get hay v) (omega (arith, le))
 
 -- Under the UTF-8 promise a match is empty, or begins and ends where characters do.
-module _ (d : Engine) (keeps : KeepsUtf8 Forward d) (utf8 : d.utf8 ≡ true) (hay : List ℕ) (bytes : IsHaystack hay) (text : IsUtf8 hay) where
+module _ (d : Engine) (keeps : KeepsUtf8 Forward d) (utf8 : d.utf8 ≡ true) (hay : List ℕ) (bytes : IsHaystack hay)
+    (text : IsUtf8 hay) where
   pub whole_path : (s k i z pattern : ℕ) (path : List ℕ) → k < i → s + i ≤ length hay →
       IsPathFrom d.nfa (forward_tape hay s (length hay)) k [] d.anchored path i z → accepts d.nfa z ≡ Some pattern →
       (is_split hay (s + k) ≡ false) × (is_split hay (s + i) ≡ false)
   whole_path s k i z pattern path l fits h acc =
       let joined = narrow d hay s (length hay) i k pattern z path (omega (arith, l)) fits (omega arith) h acc in
-      let inner = keeps hay (s + k) (s + i) pattern Yes d.anchored joined.0 utf8 bytes (omega (arith, l)) fits (λ e. cc) refl joined.1 in
+      let inner =
+      keeps hay (s + k) (s + i) pattern Yes d.anchored joined.0 utf8 bytes (omega (arith, l)) fits (λ e. cc) refl
+      joined.1 in
       let begin = unsplit hay (s + k) (s + i) (omega (arith, l)) inner in
       (begin, ends_whole hay (s + k) (s + i) text (omega (arith, l)) fits begin inner)
 
@@ -85,7 +93,9 @@ module _ (d : Engine) (keeps : KeepsUtf8 Forward d) (utf8 : d.utf8 ≡ true) (ha
           (subst (λ v. is_split hay v ≡ false) from whole.0, subst (λ v. is_split hay v ≡ false) own.5 whole.1)
 
 -- A path that stays at its place reads nothing.
-still : (n : Nfa) (t : Tape) (i : ℕ) (seen : List ℕ) (q : ℕ) (path : List ℕ) (z : ℕ) → IsPathFrom n t i seen q path i z → HasEpsilonPath n q z
+still :
+    (n : Nfa) (t : Tape) (i : ℕ) (seen : List ℕ) (q : ℕ) (path : List ℕ) (z : ℕ) → IsPathFrom n t i seen q path i z
+    → HasEpsilonPath n q z
 still n t i seen q [] z h = ([], h.1)
 still n t i seen q (e ∷ path) z (inl h) =
     let w = still n t i (q ∷ seen) h.0 path z h.3 in
@@ -94,7 +104,8 @@ still n t i seen q (e ∷ path) z (inr h) =
     absurd (let g = path_grows n t (suc i) [] h.0 path i z h.3 in omega (arith, g))
 
 -- So if a match from a union of starts is empty, the empty match is one of a start.
-pub empty_start : (n : Nfa) (t : Tape) (i u : ℕ) (starts : List ℕ) → node n u ≡ Split starts → (path : List ℕ) (z pattern : ℕ) →
+pub empty_start :
+    (n : Nfa) (t : Tape) (i u : ℕ) (starts : List ℕ) → node n u ≡ Split starts → (path : List ℕ) (z pattern : ℕ) →
     IsPathFrom n t i [] u path i z → accepts n z ≡ Some pattern → MatchesEmpty n starts
 empty_start n t i u starts is [] z pattern h acc =
     absurd (none_some (sym (ap accepts_at is) ∙ ap (λ v. accepts n v) h.1 ∙ acc))

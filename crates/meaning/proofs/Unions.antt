@@ -1,5 +1,6 @@
 -- The patterns' states in the joined NFA, and what its union of their starts finds.
-use Rattle.std.proofs.Common.{ℕ, zero, suc, ◌≡◌, ◌+◌, ◌-◌, ◌<◌, ◌≤◌, List, [], ◌∷◌, ◌++◌, Option, None, length, option_map, refl, sym, ap, ◌∙◌, ⊎_elim, arith}
+use Rattle.std.proofs.Common.{ℕ, zero, suc, ◌≡◌, ◌+◌, ◌-◌, ◌<◌, ◌≤◌, List, [], ◌∷◌, ◌++◌, Option, None, length}
+use Rattle.std.proofs.Common.{option_map, refl, sym, ap, ◌∙◌, ⊎_elim, arith}
 use Rattle.std.specs.Prelude.{slice_get, false}
 use Rattle.std.specs.Option.{option_or}
 use Rattle.std.proofs.lemmas.List.{append_assoc, length-append}
@@ -34,11 +35,14 @@ length-nodes_of_all b p [] = refl
 length-nodes_of_all b p (k ∷ ks) =
     let own = length-nodes_of b p k.transitions.items k.states.items in
     let rest = length-nodes_of_all (b + length k.states.items) (suc p) ks in
-    let both = length-append (nodes_of b p k.transitions.items k.states.items) (nodes_of_all (b + length k.states.items) (suc p) ks) in
+    let both =
+    length-append (nodes_of b p k.transitions.items k.states.items)
+    (nodes_of_all (b + length k.states.items) (suc p) ks) in
     omega (arith, own, rest, both)
 
 -- each pattern's states stand behind those of the patterns before it
-holds_from : (n : Nfa) → n.terminator ≡ 10 → n.reverse ≡ false → (ks : List kit_nfa.Nfa) (b p : ℕ) (pre post : List Node) →
+holds_from :
+    (n : Nfa) → n.terminator ≡ 10 → n.reverse ≡ false → (ks : List kit_nfa.Nfa) (b p : ℕ) (pre post : List Node) →
     length pre ≡ b → n.nodes ≡ pre ++ (nodes_of_all b p ks ++ post) → HoldsAll n b p ks
 holds_from n lines forward [] b p pre post count e = tt
 holds_from n lines forward (k ∷ ks) b p pre post count e = (
@@ -77,8 +81,13 @@ module _ (ks : List kit_nfa.Nfa) where
   pub holds_all : HoldsAll n 0 0 ks
   holds_all = holds_from n refl refl ks 0 0 [] _ refl refl
 
-  pub behind : (i : ℕ) → node n (union + i) ≡ node_or_fail (slice_get (Split (starts_of 0 ks) ∷ Split (union ∷ (union + 2) ∷ []) ∷ any_byte (union + 1) ∷ []) i)
-  behind i = ap node_or_fail (nth_right (nodes_of_all 0 0 ks) _ (union + i) i (let c = length-nodes_of_all 0 0 ks in omega (arith, c)))
+  pub behind :
+      (i : ℕ) → node n (union + i)
+      ≡ node_or_fail
+      (slice_get (Split (starts_of 0 ks) ∷ Split (union ∷ (union + 2) ∷ []) ∷ any_byte (union + 1) ∷ []) i)
+  behind i =
+      ap node_or_fail
+      (nth_right (nodes_of_all 0 0 ks) _ (union + i) i (let c = length-nodes_of_all 0 0 ks in omega (arith, c)))
 
   pub union_is : node n union ≡ Split (starts_of 0 ks)
   union_is = ap (node n) (omega arith) ∙ behind 0
@@ -95,12 +104,16 @@ found_of hay stop i p [] = None
 found_of hay stop i p (k ∷ ks) =
     option_or (option_map (half_of p) (run k hay stop k.start i)) (found_of hay stop i (suc p) ks)
 
-module _ (n : Nfa) (hay : List ℕ) (s stop u place i : ℕ) (fits : stop ≤ length hay) (at : i ≡ s + place) (inside : i ≤ stop) where
+module _ (n : Nfa) (hay : List ℕ) (s stop u place i : ℕ) (fits : stop ≤ length hay) (at : i ≡ s + place)
+    (inside : i ≤ stop) where
   -- from the start of one pattern, after the union
-  pub pattern_finds : (b p : ℕ) (k : kit_nfa.Nfa) → HasStatesOf n b p k → HasSameLooks hay k → b + length k.states.items ≤ u →
-      IsLeastEnd n (forward_tape hay s stop) s place (u ∷ []) (b + k.start) (option_map (half_of p) (run k hay stop k.start i))
+  pub pattern_finds :
+      (b p : ℕ) (k : kit_nfa.Nfa) → HasStatesOf n b p k → HasSameLooks hay k → b + length k.states.items ≤ u →
+      IsLeastEnd n (forward_tape hay s stop) s place (u ∷ []) (b + k.start)
+      (option_map (half_of p) (run k hay stop k.start i))
   pattern_finds b p k holds same room =
-      run_agrees n b p k holds hay s stop fits same k.start i place (u ∷ []) (let l = k.start_in in omega (arith, l)) at inside
+      run_agrees n b p k holds hay s stop fits same k.start i place (u ∷ []) (let l = k.start_in in omega (arith, l)) at
+      inside
       (λ x l m. ⊎_elim (λ (e : b + x ≡ u). absurd (omega (arith, l, e, room))) (λ (x : ⊥). absurd x) m)
 
   -- by the edges to the starts of the patterns from number `p` on
@@ -136,6 +149,7 @@ union_finds ks hay stop fits same s place inside =
     all_edges (joined_nfa ks) (forward_tape hay s stop) s place [] (size_of ks) _
     (accepts_none (joined_nfa ks) (forward_tape hay s stop) place (size_of ks) _ (union_is ks) refl)
     (moves_none (joined_nfa ks) (forward_tape hay s stop) place (size_of ks) _ (union_is ks) (λ v r m. none_some m))
-    (past (joined_nfa ks) hay s stop (size_of ks) place (s + place) fits refl inside 0 0 ks (holds_all ks) same (omega arith)
+    (past (joined_nfa ks) hay s stop (size_of ks) place (s + place) fits refl inside 0 0 ks (holds_all ks) same
+    (omega arith)
     (λ e. ap (λ v. hop_at v (truth (joined_nfa ks) (forward_tape hay s stop) place) (0 + e)) (union_is ks)
     ∙ ap (λ v. slice_get (starts_of 0 ks) v) (omega arith)))

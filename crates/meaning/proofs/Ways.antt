@@ -1,5 +1,6 @@
 -- Each path of the NFA of a pattern, be it the first or not, is one of the joined NFA.
-use Rattle.std.proofs.Common.{ℕ, suc, ◌≡◌, ◌+◌, ◌<◌, ◌≤◌, List, [], ◌∷◌, Some, None, cond, length, option_map, refl, sym, ap, ◌∙◌, inl, inr, arith}
+use Rattle.std.proofs.Common.{ℕ, suc, ◌≡◌, ◌+◌, ◌<◌, ◌≤◌, List, [], ◌∷◌, Some, None, cond, length, option_map, refl}
+use Rattle.std.proofs.Common.{sym, ap, ◌∙◌, inl, inr, arith}
 use Rattle.regex_nfa.specs.Paths.{Accepts, EmptyEdge, by_first, by_second, by_save, by_look, consumed, matched, skipped}
 use Rattle.regex_nfa.specs.States.{IsBelow}
 use Rattle.regex_nfa.specs.declared.nfa.Nfa as kit_nfa
@@ -35,11 +36,13 @@ module _ (n : Nfa) (b pat : ℕ) (k : kit_nfa.Nfa) (holds : HasStatesOf n b pat 
   edge_hops q r i p l at inside (by_look look is so) = (
     0,
     ap (λ v. hop_at v (truth n t p) 0) (node_known n b pat k holds q l _ is)
-        ∙ ap (λ v. cond v (Some (b + r)) None) (truth_is n b pat k holds hay s stop fits same q r look is p i at inside ∙ so),
+        ∙ ap (λ v. cond v (Some (b + r)) None)
+        (truth_is n b pat k holds hay s stop fits same q r look is p i at inside ∙ so),
     sound_of k q _ is,
   )
 
-  pub path_of : (end q i : ℕ) → Accepts k hay stop end q i → (p : ℕ) (seen : List ℕ) → q < length k.states.items → i ≡ s + p →
+  pub path_of :
+      (end q i : ℕ) → Accepts k hay stop end q i → (p : ℕ) (seen : List ℕ) → q < length k.states.items → i ≡ s + p →
       i ≤ stop → IsAbove k b seen q → IsPathTo end p seen q
   path_of end q i (matched _ _ is e) p seen l at inside above =
       ([], p, b + q, (refl, refl), ap accepts_at (node_known n b pat k holds q l _ is), sym at ∙ e)
@@ -53,7 +56,9 @@ module _ (n : Nfa) (b pat : ℕ) (k : kit_nfa.Nfa) (holds : HasStatesOf n b pat 
   path_of end q i (consumed _ _ r edge rest) p seen l at inside above =
       let here = (byte_below_some hay stop i edge.0 edge.1).0 in
       let own = next_on_within k q edge.0 r edge.2 in
-      let w = path_of end r (i + 1) rest (suc p) [] (omega (arith, own)) (omega (arith, at)) (omega (arith, here)) (λ y low m. absurd m) in (
+      let w =
+      path_of end r (i + 1) rest (suc p) [] (omega (arith, own)) (omega (arith, at)) (omega (arith, here))
+      (λ y low m. absurd m) in (
         0 ∷ w.0,
         w.1,
         w.2,

@@ -1,4 +1,5 @@
--- The NFA of patterns answers as the one that joins them, and their regex searches it as it is: it has no look cycle, so
+-- The NFA of patterns answers as the one that joins them, and their regex searches it as it is: it has no look cycle,
+-- so
 -- that it keeps no unions.
 use Rattle.std.proofs.Common.{◌≡◌, ◌∙◌, ◌↔◌, Bool, true, false, List, length, ap, sym, subst, refl}
 use Rattle.std.specs.Prelude.{Result, Ok, Err, IfErr, IsErrAnd, IsTrue}
@@ -28,7 +29,9 @@ dropped true p never = absurd (never refl p)
 dropped false p never = refl
 
 -- no cycle of a joined NFA passes a look
-has_no_look_cycle : (a : Automaton) (ks : List kit_nfa.Nfa) (utf8 : Bool) → engine_of a LeftmostFirst ≡ joined_engine utf8 ks → HasNoLookCycle a
+has_no_look_cycle :
+    (a : Automaton) (ks : List kit_nfa.Nfa) (utf8 : Bool) → engine_of a LeftmostFirst ≡ joined_engine utf8 ks
+    → HasNoLookCycle a
 has_no_look_cycle a ks utf8 same = subst IsLookAcyclic (sym (ap (λ (d : Engine). d.nfa) same)) (joined_acyclic ks)
 
 -- an NFA whose unions are merged answers as it did
@@ -39,7 +42,8 @@ answers_as a b checked into = record {
       λ input pair bytes.
       subst (λ v. IsAccepted Forward a input a.start_unanchored pair ↔ IsAccepted Forward b input v pair)
       (sym into.begins.unanchored)
-      (merged_pairs Forward a b input a.start_unanchored pair checked into bytes (start_below a No a.start_unanchored checked refl));
+      (merged_pairs Forward a b input a.start_unanchored pair checked into bytes
+      (start_below a No a.start_unanchored checked refl));
   utf8 = λ kind. merged_utf8 a b Forward kind checked into;
   count = ap length (sym into.begins.patterns);
 }

@@ -1,5 +1,7 @@
 -- A draft that gets one pattern after another.
-use Rattle.std.proofs.Common.{ℕ, suc, ◌≡◌, ◌+◌, ◌-◌, ◌*◌, ◌<◌, ◌≤◌, List, [], ◌∷◌, ◌++◌, Bool, Bor, false, length, map, take, get_or, option_map, refl, sym, ap, ap₂, ◌∙◌, subst, ⊎_elim, arith, add-one, length-append}
+use Rattle.std.proofs.Common.{ℕ, suc, ◌≡◌, ◌+◌, ◌-◌, ◌*◌, ◌<◌, ◌≤◌, List, [], ◌∷◌, ◌++◌, Bool, Bor, false, length, map}
+use Rattle.std.proofs.Common.{take, get_or, option_map, refl, sym, ap, ap₂, ◌∙◌, subst, ⊎_elim, arith, add-one}
+use Rattle.std.proofs.Common.{length-append}
 use Rattle.std.specs.Prelude.{slice_get, sum_by}
 use Rattle.std.proofs.lemmas.List.{append_assoc, length-map, length-take-le, map-append, take-map}
 use Rattle.std.proofs.lemmas.List.Sums.{sum_by-append, sum_by-cons}
@@ -41,7 +43,8 @@ implement_push [] (x ∷ res) k re are is = absurd are
 implement_push (x ∷ ks) [] k re are is = absurd are
 implement_push (x ∷ ks) (y ∷ res) k re are is = (are.0, implement_push ks res k re are.1 is)
 
-each_push : (P : kit_nfa.Nfa → Type 0) (ks : List kit_nfa.Nfa) (k : kit_nfa.Nfa) → Each P ks → P k → Each P (ks ++ k ∷ [])
+each_push :
+    (P : kit_nfa.Nfa → Type 0) (ks : List kit_nfa.Nfa) (k : kit_nfa.Nfa) → Each P ks → P k → Each P (ks ++ k ∷ [])
 each_push P [] k all own = (own, tt)
 each_push P (x ∷ ks) k all own = (all.0, each_push P ks k all.1 own)
 
@@ -56,11 +59,14 @@ starts_count draft ks has = ap length has.starts ∙ length-starts_of 0 ks
 raised : {a b : ℕ} → a ≡ b → a ≡ 0 + b
 raised e = omega (arith, e)
 
-has_push : (ascii : Bool) (old new : Draft) (ks : List kit_nfa.Nfa) (k : kit_nfa.Nfa) → Has old ks → Grows ascii old k new → Has new (ks ++ k ∷ [])
+has_push :
+    (ascii : Bool) (old new : Draft) (ks : List kit_nfa.Nfa) (k : kit_nfa.Nfa) → Has old ks → Grows ascii old k new
+    → Has new (ks ++ k ∷ [])
 has_push ascii old new ks k has grows = record {
   nodes = grows.nodes
       ∙ ap₂ (λ v w. v ++ w) has.nodes
-      (ap₂ (λ b p. nodes_of b p k.transitions.items k.states.items) (raised (states_count old ks has)) (raised (starts_count old ks has)))
+      (ap₂ (λ b p. nodes_of b p k.transitions.items k.states.items) (raised (states_count old ks has))
+      (raised (starts_count old ks has)))
       ∙ sym (nodes_of_all_push 0 0 ks k);
   starts = grows.starts
       ∙ ap₂ (λ v w. v ++ (w + k.start) ∷ []) has.starts (raised (states_count old ks has))
@@ -90,7 +96,8 @@ draft_push o texts text old new is (k, compiled, small, grows) = record {
 }
 
 -- none yet
-pub draft_empty : (o : Options) (draft : Draft) → draft.states.items ≡ [] → draft.starts.items ≡ [] → draft.room ≡ o.size_limit →
+pub draft_empty :
+    (o : Options) (draft : Draft) → draft.states.items ≡ [] → draft.starts.items ≡ [] → draft.room ≡ o.size_limit →
     IsDraftOf o [] draft
 draft_empty o draft states starts room =
     record {
@@ -103,18 +110,22 @@ draft_empty o draft states starts room =
     }
 
 -- one turn over the texts
-pub draft_next : (o : Options) (texts : List (Bor (List ℕ))) (i : ℕ) (d : Bor (List ℕ)) (old new : Draft) → i < length texts →
+pub draft_next :
+    (o : Options) (texts : List (Bor (List ℕ))) (i : ℕ) (d : Bor (List ℕ)) (old new : Draft) → i < length texts →
     IsDraftOf o (map (λ text. text.now) (take i texts)) old →
-    (k : kit_nfa.Nfa) × IsCompiled (config_of o) (get_or texts i d).now k × (table_bytes k ≤ old.room + 24) × Grows o.ascii old k new →
+    (k : kit_nfa.Nfa) × IsCompiled (config_of o) (get_or texts i d).now k × (table_bytes k ≤ old.room + 24)
+    × Grows o.ascii old k new →
     IsDraftOf o (map (λ text. text.now) (take (i + 1) texts)) new
 draft_next o texts i d old new inside is more =
     subst (λ v. IsDraftOf o v new)
     (sym (map-append (λ (text : Bor (List ℕ)). text.now) (take i texts) (get_or texts i d ∷ []))
-    ∙ ap (map (λ (text : Bor (List ℕ)). text.now)) (sym (take-suc texts i d inside) ∙ ap (λ v. take v texts) (sym (add-one i))))
+    ∙ ap (map (λ (text : Bor (List ℕ)). text.now))
+    (sym (take-suc texts i d inside) ∙ ap (λ v. take v texts) (sym (add-one i))))
     (draft_push o (map (λ text. text.now) (take i texts)) (get_or texts i d).now old new is more)
 
 -- how many patterns a draft of texts has
-meanings_count : (config : Config) (texts : List (List ℕ)) (res : List Re) → AreMeanings config texts res → length res ≡ length texts
+meanings_count :
+    (config : Config) (texts : List (List ℕ)) (res : List Re) → AreMeanings config texts res → length res ≡ length texts
 meanings_count config [] [] are = refl
 meanings_count config [] (re ∷ res) are = absurd are
 meanings_count config (text ∷ texts) [] are = absurd are
@@ -126,18 +137,22 @@ implement_count [] (re ∷ res) are = absurd are
 implement_count (k ∷ ks) [] are = absurd are
 implement_count (k ∷ ks) (re ∷ res) are = ap suc (implement_count ks res are.1)
 
-patterns_count : (o : Options) (texts : List (List ℕ)) (draft : Draft) (is : IsDraftOf o texts draft) → length is.ks ≡ length texts
+patterns_count :
+    (o : Options) (texts : List (List ℕ)) (draft : Draft) (is : IsDraftOf o texts draft) → length is.ks ≡ length texts
 patterns_count o texts draft is =
     implement_count is.ks is.res is.nfas.0 ∙ meanings_count (config_of o) texts is.res is.meant
 
 -- the text at which a draft of those before it fails
-pub first_fault : (o : Options) (texts : List (Bor (List ℕ))) (i : ℕ) (d : Bor (List ℕ)) (draft : Draft) (number : ℕ) (fault : Fault) →
+pub first_fault :
+    (o : Options) (texts : List (Bor (List ℕ))) (i : ℕ) (d : Bor (List ℕ)) (draft : Draft) (number : ℕ) (fault : Fault)
+    →
     i < length texts → IsDraftOf o (map (λ text. text.now) (take i texts)) draft → number ≡ length draft.starts.items →
     IsFaultOf o (get_or texts i d).now fault →
     IsFirstFault o (map (λ text. text.now) texts) (record { number = number; fault = fault })
 first_fault o texts i d draft number fault inside is count at =
     let place : number ≡ i =
-    count ∙ starts_count draft is.ks is.has ∙ patterns_count o (map (λ (text : Bor (List ℕ)). text.now) (take i texts)) draft is
+    count ∙ starts_count draft is.ks is.has
+    ∙ patterns_count o (map (λ (text : Bor (List ℕ)). text.now) (take i texts)) draft is
     ∙ length-map (take i texts) (λ (text : Bor (List ℕ)). text.now)
     ∙ length-take-le i texts (omega (arith, inside)) in
     record {
@@ -179,7 +194,8 @@ states_within o texts draft a is same =
     )
 
 -- also where unions are merged
-pub within_limit : (o : Options) (texts : List (List ℕ)) (draft : Draft) (a b : Automaton) (is : IsDraftOf o texts draft) →
+pub within_limit :
+    (o : Options) (texts : List (List ℕ)) (draft : Draft) (a b : Automaton) (is : IsDraftOf o texts draft) →
     engine_of a LeftmostFirst ≡ joined_engine o.utf8 is.ks → IsMergedWithin o.size_limit a b → IsWithinLimit o texts b
 within_limit o texts draft a b is same into =
     ⊎_elim (λ (l : 12 * length b.states ≤ o.size_limit). omega (arith, l))
@@ -187,12 +203,14 @@ within_limit o texts draft a b is same into =
 
 -- the three states that join the patterns
 pub joined_nodes : (s0 s1 s2 s3 : List State) (x y z : State) (n1 n2 n3 : Node) →
-    s1 ≡ s0 ++ x ∷ [] → s2 ≡ s1 ++ y ∷ [] → s3 ≡ s2 ++ z ∷ [] → ours.node_of x ≡ n1 → ours.node_of y ≡ n2 → ours.node_of z ≡ n3 →
+    s1 ≡ s0 ++ x ∷ [] → s2 ≡ s1 ++ y ∷ [] → s3 ≡ s2 ++ z ∷ [] → ours.node_of x ≡ n1 → ours.node_of y ≡ n2
+    → ours.node_of z ≡ n3 →
     ours.nodes_of s3 ≡ ours.nodes_of s0 ++ n1 ∷ n2 ∷ n3 ∷ []
 joined_nodes s0 s1 s2 s3 x y z n1 n2 n3 e1 e2 e3 is1 is2 is3 =
     ap ours.nodes_of e3 ∙ our_nodes s2 z
     ∙ ap₂ (λ v w. v ++ w ∷ []) (ap ours.nodes_of e2 ∙ our_nodes s1 y
-    ∙ ap₂ (λ v w. v ++ w ∷ []) (ap ours.nodes_of e1 ∙ our_nodes s0 x ∙ ap (λ v. ours.nodes_of s0 ++ v ∷ []) is1) is2) is3
+    ∙ ap₂ (λ v w. v ++ w ∷ []) (ap ours.nodes_of e1 ∙ our_nodes s0 x ∙ ap (λ v. ours.nodes_of s0 ++ v ∷ []) is1) is2)
+    is3
     ∙ append_assoc (ours.nodes_of s0 ++ n1 ∷ []) (n2 ∷ []) (n3 ∷ [])
     ∙ append_assoc (ours.nodes_of s0) (n1 ∷ []) (n2 ∷ n3 ∷ [])
 
@@ -204,7 +222,8 @@ pub finished : (draft : Draft) (ks : List kit_nfa.Nfa) (a : Automaton) (utf8 : B
     ∷ Split (length draft.states.items ∷ (length draft.states.items + 2) ∷ [])
     ∷ any_byte (length draft.states.items + 1) ∷ [] →
     a.start_pattern ≡ draft.starts.items → a.start_anchored ≡ length draft.states.items →
-    a.start_unanchored ≡ length draft.states.items + 1 → a.flags ≡ record { utf8 = utf8; reverse = false; line_terminator = 10 } →
+    a.start_unanchored ≡ length draft.states.items + 1
+    → a.flags ≡ record { utf8 = utf8; reverse = false; line_terminator = 10 } →
     a.keeps_unions ≡ false → engine_of a LeftmostFirst ≡ joined_engine utf8 ks
 finished draft ks a utf8 has nodes starts anchored unanchored flags dropped =
     ap₂ (λ v (f : Flags). record {
@@ -223,9 +242,13 @@ finished draft ks a utf8 has nodes starts anchored unanchored flags dropped =
       utf8 = utf8;
       kind = LeftmostFirst;
     }) dropped
-    ∙ ap₂ (λ v w. record { nfa = joined_nfa ks; anchored = v; unanchored = w; starts = a.start_pattern; utf8 = utf8; kind = LeftmostFirst })
+    ∙ ap₂ (λ v w.
+    record { nfa = joined_nfa ks; anchored = v; unanchored = w; starts = a.start_pattern; utf8 = utf8;
+        kind = LeftmostFirst })
     (anchored ∙ count) (unanchored ∙ ap (λ v. v + 1) count)
-    ∙ ap (λ v. record { nfa = joined_nfa ks; anchored = size_of ks; unanchored = size_of ks + 1; starts = v; utf8 = utf8; kind = LeftmostFirst })
+    ∙ ap (λ v.
+    record { nfa = joined_nfa ks; anchored = size_of ks; unanchored = size_of ks
+        + 1; starts = v; utf8 = utf8; kind = LeftmostFirst })
     (starts ∙ has.starts)
   where
     count : length draft.states.items ≡ size_of ks
@@ -240,4 +263,5 @@ finished draft ks a utf8 has nodes starts anchored unanchored flags dropped =
     all =
         ap₂ (λ v w. v ++ Split w ∷ Split (length draft.states.items ∷ (length draft.states.items + 2) ∷ [])
         ∷ any_byte (length draft.states.items + 1) ∷ []) has.nodes has.starts
-        ∙ ap (λ v. nodes_of_all 0 0 ks ++ Split (starts_of 0 ks) ∷ Split (v ∷ (v + 2) ∷ []) ∷ any_byte (v + 1) ∷ []) count
+        ∙ ap (λ v. nodes_of_all 0 0 ks ++ Split (starts_of 0 ks) ∷ Split (v ∷ (v + 2) ∷ []) ∷ any_byte (v + 1) ∷ [])
+        count

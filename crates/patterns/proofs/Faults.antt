@@ -8,7 +8,8 @@ use Rattle.patterns.specs.Faults.{IsAddFault, IsFaultOf, IsJoinFault, IsOfSize, 
 use Rattle.patterns.specs.Patterns.{config_of}
 use Rattle.patterns.specs.declared.compile.Options.{Options}
 use Rattle.patterns.specs.declared.error.Fault.{Fault}
-use Rattle.patterns.specs.declared.error.Fault.TheVariants.{Syntax, UnicodeWord, TooLarge, Malformed, Refused, Unbuilt, OutOfMemory}
+use Rattle.patterns.specs.declared.error.Fault.TheVariants.{Syntax, UnicodeWord, TooLarge, Malformed, Refused, Unbuilt}
+use Rattle.patterns.specs.declared.error.Fault.TheVariants.{OutOfMemory}
 
 pub join_fault : (fault : Fault) → IsOfSize fault → IsJoinFault fault
 join_fault (Syntax error) is = absurd is

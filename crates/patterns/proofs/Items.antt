@@ -1,5 +1,6 @@
 -- One item of an iteration after another.
-use Rattle.std.proofs.Common.{ℕ, ◌≡◌, ◌<◌, ◌≤◌, Bool, true, false, List, Option, Some, None, length, refl, ap, subst, arith}
+use Rattle.std.proofs.Common.{ℕ, ◌≡◌, ◌<◌, ◌≤◌, Bool, true, false, List, Option, Some, None, length, refl, ap, subst}
+use Rattle.std.proofs.Common.{arith}
 use Rattle.std.specs.Prelude.{Result, Ok, Err, IfErr, IfSome}
 use Rattle.std.specs.Result.{result_err}
 use Rattle.std.specs.Option.{unwrap_or}
@@ -34,7 +35,8 @@ module _ (p : Regex) (old new : Cache) (hay : List ℕ) (last : Option ℕ) wher
       GivesMatch p old new hay (Some (Ok m)) last (Some end) ended ended
   gives_match true m end on is next lies ends = open_is on
   gives_match false m end on is next lies ends =
-      record { next = subst (λ v. IsNextMeant p hay last v) is next; within = lies; place = ap (λ (n : ℕ). Some n) ends; going = refl }
+      record { next = subst (λ v. IsNextMeant p hay last v) is next; within = lies; place = ap (λ (n : ℕ). Some n) ends;
+          going = refl }
 
   pub gives_none : (ended : Bool) → ended ≡ false → {o : Option Match} → o ≡ None → IsNextMeant p hay last o →
       GivesMatch p old new hay None last last ended true
@@ -47,17 +49,21 @@ module _ (p : Regex) (old new : Cache) (hay : List ℕ) (last : Option ℕ) wher
   gives_error false e on refused = (refused, record { place = refl; over = refl })
 
 -- what an item of an iteration that goes on makes of the caches
-pub item_run : (p : Regex) (input : Input) (last : Option ℕ) (ended : Bool) (old new : Cache) (item : Option (Result Match SearchError)) →
+pub item_run :
+    (p : Regex) (input : Input) (last : Option ℕ) (ended : Bool) (old new : Cache)
+    (item : Option (Result Match SearchError)) →
     ended ≡ false → IsNextRun p input last old new (item_error item) → IsItemRun p input last ended old new item
 item_run p input last true old new item on run = open_is on
 item_run p input last false old new item on run = run
 
 -- after a match fewer items may come, and after an error none
-pub fewer_left : (p : Regex) (hay : List ℕ) (last : Option ℕ) (ended : Bool) (m : Match) (end : ℕ) → ended ≡ false → end ≡ m.end →
+pub fewer_left :
+    (p : Regex) (hay : List ℕ) (last : Option ℕ) (ended : Bool) (m : Match) (end : ℕ) → ended ≡ false → end ≡ m.end →
     GoesPast p (rest_of hay last) last m → most_left ended hay (Some end) < most_left ended hay last
 fewer_left p hay last true m end on ends goes = open_is on
 fewer_left p hay None false m end on ends goes = let l = goes.0.2 in omega (arith, ends, l)
-fewer_left p hay (Some at) false m end on ends goes = let l = goes.0.2 in let past = goes.1 refl in omega (arith, ends, l, past)
+fewer_left p hay (Some at) false m end on ends goes =
+    let l = goes.0.2 in let past = goes.1 refl in omega (arith, ends, l, past)
 
 pub some_left : (hay : List ℕ) (last : Option ℕ) (ended : Bool) → ended ≡ false → unwrap_or last 0 ≤ length hay →
     0 < most_left ended hay last
@@ -66,8 +72,10 @@ some_left hay None false on within = omega arith
 some_left hay (Some at) false on within = omega (arith, within)
 
 -- what an item says
-pub item_match : (p : Regex) (old new : Cache) (hay : List ℕ) (m : Match) (last last' : Option ℕ) (ended ended' : Bool) →
-    GivesMatch p old new hay (Some (Ok m)) last last' ended ended' → IsNextMeant p hay last (Some m) × (last' ≡ Some m.end) × (ended' ≡ false)
+pub item_match :
+    (p : Regex) (old new : Cache) (hay : List ℕ) (m : Match) (last last' : Option ℕ) (ended ended' : Bool) →
+    GivesMatch p old new hay (Some (Ok m)) last last' ended ended' → IsNextMeant p hay last (Some m)
+    × (last' ≡ Some m.end) × (ended' ≡ false)
 item_match p old new hay m last last' true ended' h = let e = h.0 in absurd (cc)
 item_match p old new hay m last last' false ended' h = (h.next, h.place, h.going)
 

@@ -1,5 +1,6 @@
 -- What the searches for a pattern find, by what the pattern means.
-use Rattle.std.proofs.Common.{ℕ, ◌≡◌, ◌<◌, ◌≤◌, List, [], ◌∷◌, Option, Bool, true, false, is_some, length, option_map, ◌∙◌, ap, sym, subst, ⊎_elim, All}
+use Rattle.std.proofs.Common.{ℕ, ◌≡◌, ◌<◌, ◌≤◌, List, [], ◌∷◌, Option, Bool, true, false, is_some, length, option_map}
+use Rattle.std.proofs.Common.{◌∙◌, ap, sym, subst, ⊎_elim, All}
 use Rattle.std.specs.Prelude.{Result, Ok, Err, IfOk, IsAscii}
 use Rattle.std.specs.Option.{unwrap_or}
 use Rattle.std.proofs.lemmas.Bool.{cases_Bool}
@@ -47,7 +48,8 @@ looks_same ascii hay only (k ∷ ks) looks = (
   looks_same ascii hay only ks looks.1,
 )
 
-module _ (p : Regex) (o : Options) (res : List Re) (is : IsRegexOf o res p) (hay : List ℕ) (for : IsFor o hay) (bytes : IsHaystack hay) where
+module _ (p : Regex) (o : Options) (res : List Re) (is : IsRegexOf o res p) (hay : List ℕ) (for : IsFor o hay)
+    (bytes : IsHaystack hay) where
   abbrev made : IsJoinedNfa o res p.forward.nfa
   made = is.joined
 
@@ -56,13 +58,18 @@ module _ (p : Regex) (o : Options) (res : List Re) (is : IsRegexOf o res p) (hay
   own = ap (engine_of p.forward.nfa) is.kind
 
   -- each search has the span that is meant
-  spans : (s : ℕ) → IsSpan (forward_engine p) (span_input hay s (length hay)) (option_map (numbered_match res hay) (find_any o.utf8 res hay s))
+  spans :
+      (s : ℕ) → IsSpan (forward_engine p) (span_input hay s (length hay))
+      (option_map (numbered_match res hay) (find_any o.utf8 res hay s))
   spans s =
-      subst (λ d. IsSpan d (span_input hay s (length hay)) (option_map (numbered_match res hay) (find_any o.utf8 res hay s))) (sym own)
+      subst (λ d. IsSpan d (span_input hay s (length hay))
+      (option_map (numbered_match res hay) (find_any o.utf8 res hay s))) (sym own)
       (((made.answers.alike LeftmostFirst).matches.span (span_input hay s (length hay))
       (option_map (numbered_match res hay) (find_any o.utf8 res hay s)) bytes).0
-      (subst (λ d. IsSpan d (span_input hay s (length hay)) (option_map (numbered_match res hay) (find_any o.utf8 res hay s))) (sym made.joins)
-      (any_means made.ks res made.nfas.0 hay (looks_same o.ascii hay for.1 made.ks made.nfas.1) o.utf8 bytes for.0 keeps s)))
+      (subst (λ d. IsSpan d (span_input hay s (length hay))
+      (option_map (numbered_match res hay) (find_any o.utf8 res hay s))) (sym made.joins)
+      (any_means made.ks res made.nfas.0 hay (looks_same o.ascii hay for.1 made.ks made.nfas.1) o.utf8 bytes for.0 keeps
+      s)))
     where
       keeps : KeepsUtf8 Forward (joined_engine o.utf8 made.ks)
       keeps =
@@ -89,7 +96,8 @@ module _ (p : Regex) (o : Options) (res : List Re) (is : IsRegexOf o res p) (hay
   pub next_means : (begin : ℕ) (last : Option ℕ) (found : Option Match) →
       IsNextItem (IsSpan (forward_engine p)) (span_input hay begin (length hay)) (unwrap_or last 0) last found →
       IsFirstLeft (left_any o.utf8 res hay) last found
-  next_means begin last found h = item_left (forward_engine p) res hay (find_any o.utf8 res hay) spans begin last found h
+  next_means begin last found h =
+      item_left (forward_engine p) res hay (find_any o.utf8 res hay) spans begin last found h
 
 -- for every meaning that the regex is of
 pub found_means : (p : Regex) (hay : List ℕ) (s : ℕ) (input : Input) (r : Result (Option Match) SearchError) →
@@ -124,6 +132,7 @@ pub next_found : (p : Regex) → MatchesAreSpans p → (hay : List ℕ) (last : 
     → input.end ≤ length input.haystack → IfOk r (IsNextMatch p input last) → IfOk r (IsNextMeant p hay last)
 next_found p law hay last input (Err e) same bytes within h = tt
 next_found p law hay last input (Ok found) same bytes within h = λ o res is for.
-    next_means p o res is hay for (subst (λ (v : Input). IsHaystack v.haystack) same bytes) (unwrap_or last 0) last found
+    next_means p o res is hay for (subst (λ (v : Input). IsHaystack v.haystack) same bytes) (unwrap_or last 0) last
+    found
     (subst (λ (v : Input). IsNextItem (IsSpan (forward_engine p)) v v.start last found) same
     ((law is.sound input (bytes, within)).next last found h))

@@ -1,5 +1,6 @@
 -- What the searches of a set of patterns report, by what the patterns mean.
-use Rattle.std.proofs.Common.{ℕ, ◌≡◌, ◌<◌, ◌⊎◌, ◌↔◌, Bool, true, false, List, [], ◌∷◌, Option, Some, is_some, length, map, refl, sym, ap, ◌∙◌, subst, inl, inr, arith, true≢false}
+use Rattle.std.proofs.Common.{ℕ, ◌≡◌, ◌<◌, ◌⊎◌, ◌↔◌, Bool, true, false, List, [], ◌∷◌, Option, Some, is_some, length}
+use Rattle.std.proofs.Common.{map, refl, sym, ap, ◌∙◌, subst, inl, inr, arith, true≢false}
 use Rattle.std.specs.Prelude.{slice_get}
 use Rattle.std.proofs.lemmas.List.{length-map, length-replicate}
 use Rattle.regex_hir.specs.Re.{Re}
@@ -15,7 +16,8 @@ use Rattle.automata_base.specs.Paths.Selections.{Pair}
 use Rattle.automata_base.proofs.ByteClasses.PatternsInSets.{members_from-replicate}
 use Rattle.automata_hybrid.specs.Machines.Builds.{Builds}
 use Rattle.automata_hybrid.specs.Walks.State.{fresh_walk}
-use Rattle.regex_automata.specs.Promises.{AreWalked, Forward, Input, JoinsReported, KindAll, Machine, MatchesIn, SetsHaveMatching}
+use Rattle.regex_automata.specs.Promises.{AreWalked, Forward, Input, JoinsReported, KindAll, Machine, MatchesIn}
+use Rattle.regex_automata.specs.Promises.{SetsHaveMatching}
 use Rattle.regex_automata.specs.Promises.{HasReported, ReportsNext, Walk, engine_of, half_nth, match_kind_of}
 use Rattle.regex_automata.specs.Spans.Contracts.{empty_set}
 use Rattle.meaning.specs.Agreeing.{Each, HasSameLooks}
@@ -30,7 +32,9 @@ use Rattle.patterns.proofs.Drafting.{implement_count}
 use Rattle.patterns.proofs.Searching.{looks_same}
 
 -- The DFA that is built of the NFA of some patterns.
-pub dfa_is : (o : Options) (res : List Re) (a : Automaton) (m : Machine) → IsJoinedNfa o res a → KeepsUtf8 Forward (engine_of a KindAll) →
+pub dfa_is :
+    (o : Options) (res : List Re) (a : Automaton) (m : Machine) → IsJoinedNfa o res a
+    → KeepsUtf8 Forward (engine_of a KindAll) →
     Builds (set_settings_of o) a m → IsDfaOf o res m
 dfa_is o res a m joins keeps (s, settled, same) =
     let own : m.nfa ≡ a = ap (λ (v : Machine). v.nfa) same in
@@ -41,7 +45,8 @@ dfa_is o res a m joins keeps (s, settled, same) =
     }
 
 -- A set that was empty, with room for each pattern.
-pub joins_empty : (m : Machine) (hay : List ℕ) (i : Input) (n : ℕ) (old new : List Bool) → i ≡ span_input hay 0 (length hay) →
+pub joins_empty :
+    (m : Machine) (hay : List ℕ) (i : Input) (n : ℕ) (old new : List Bool) → i ≡ span_input hay 0 (length hay) →
     old ≡ empty_set n → n ≡ length m.nfa.start_pattern → JoinsReported m i old new →
     JoinsReported m (span_input hay 0 (length hay)) (empty_set (length m.nfa.start_pattern)) new
 joins_empty m hay i n old new same fresh room which =
@@ -49,7 +54,8 @@ joins_empty m hay i n old new same fresh room which =
     (subst (λ v. JoinsReported m i v new) (fresh ∙ ap empty_set room) which)
 
 -- What the first call of a walk reports.
-pub first_match : (m : Machine) (hay : List ℕ) (i : Input) (old new : Walk) → i ≡ span_input hay 0 (length hay) → old ≡ fresh_walk →
+pub first_match :
+    (m : Machine) (hay : List ℕ) (i : Input) (old new : Walk) → i ≡ span_input hay 0 (length hay) → old ≡ fresh_walk →
     ReportsNext Forward m i old new → (pairs : List Pair) → AreWalked Forward m (span_input hay 0 (length hay)) pairs →
     new.found ≡ half_nth pairs 0
 first_match m hay i old new same fresh reports pairs walked =
@@ -61,7 +67,8 @@ joined : (n p : ℕ) (P : Type 0) → In p (members (empty_set n)) ⊎ ((p < len
 joined n p P (inl h) = absurd (subst (In p) (members_from-replicate n 0) h)
 joined n p P (inr h) = h.1
 
-module _ (m : Machine) (o : Options) (res : List Re) (is : IsDfaOf o res m) (hay : List ℕ) (for : IsFor o hay) (bytes : IsHaystack hay) where
+module _ (m : Machine) (o : Options) (res : List Re) (is : IsDfaOf o res m) (hay : List ℕ) (for : IsFor o hay)
+    (bytes : IsHaystack hay) where
   abbrev input : Input
   input = span_input hay 0 (length hay)
 
@@ -69,7 +76,10 @@ module _ (m : Machine) (o : Options) (res : List Re) (is : IsDfaOf o res m) (hay
   made = is.joined
 
   -- what accepts in the NFA accepts in the one that joins the patterns
-  ends : (pair : Pair) → IsAccepted Forward made.joined input made.joined.start_unanchored pair ↔ IsAccepted Forward m.nfa input m.nfa.start_unanchored pair
+  ends :
+      (pair : Pair)
+      → IsAccepted Forward made.joined input made.joined.start_unanchored pair
+      ↔ IsAccepted Forward m.nfa input m.nfa.start_unanchored pair
   ends pair = made.answers.ends input pair bytes
 
   looks : Each (HasSameLooks hay) made.ks
@@ -88,7 +98,8 @@ module _ (m : Machine) (o : Options) (res : List Re) (is : IsDfaOf o res m) (hay
   )
     where
       joined_is :
-          ((end : ℕ) × IsAccepted Forward made.joined input made.joined.start_unanchored (record { pattern = p; place = end }))
+          ((end : ℕ)
+          × IsAccepted Forward made.joined input made.joined.start_unanchored (record { pattern = p; place = end }))
           ↔ ((re : Re) × (slice_get res p ≡ Some re) × (is_found o.utf8 hay re ≡ true))
       joined_is = accepted_is_found made.ks res made.nfas.0 o.utf8 hay looks bytes for.0 made.joined made.joins keeps p
 
@@ -101,7 +112,8 @@ module _ (m : Machine) (o : Options) (res : List Re) (is : IsDfaOf o res m) (hay
   pub set_means : SetsHaveMatching m → (new : List Bool) → length new ≡ length m.nfa.start_pattern →
       JoinsReported m input (empty_set (length m.nfa.start_pattern)) new → new ≡ map (is_found o.utf8 hay) res
   set_means law new capacity which =
-      same_set new (map (is_found o.utf8 hay) res) (capacity ∙ count ∙ sym (length-map res (is_found o.utf8 hay))) (λ p. (
+      same_set new (map (is_found o.utf8 hay) res) (capacity ∙ count ∙ sym (length-map res (is_found o.utf8 hay)))
+      (λ p. (
         λ h. found p (joined (length m.nfa.start_pattern) p _ ((said p).0 h)),
         λ e. matching p ((has_map (is_found o.utf8 hay) res p).0 e),
       ))
@@ -110,13 +122,15 @@ module _ (m : Machine) (o : Options) (res : List Re) (is : IsDfaOf o res m) (hay
           ↔ (In p (members (empty_set (length m.nfa.start_pattern)))
           ⊎ ((p < length (empty_set (length m.nfa.start_pattern))) × MatchesIn m input m.nfa.start_unanchored p))
       said p =
-          law.sets input m.nfa.start_unanchored (empty_set (length m.nfa.start_pattern)) new is.kind refl refl (bytes, omega arith)
+          law.sets input m.nfa.start_unanchored (empty_set (length m.nfa.start_pattern)) new is.kind refl refl
+          (bytes, omega arith)
           (omega arith) which p
 
       found : (p : ℕ) → MatchesIn m input m.nfa.start_unanchored p → has (map (is_found o.utf8 hay) res) p ≡ true
       found p w = (has_map (is_found o.utf8 hay) res p).1 ((found_is p).0 (w.at, w.accepted))
 
-      matching : (p : ℕ) → (re : Re) × (slice_get res p ≡ Some re) × (is_found o.utf8 hay re ≡ true) → In p (members new)
+      matching :
+          (p : ℕ) → (re : Re) × (slice_get res p ≡ Some re) × (is_found o.utf8 hay re ≡ true) → In p (members new)
       matching p h =
           let path = (found_is p).1 h in
           let w : MatchesIn m input m.nfa.start_unanchored p = record { at = path.0; accepted = path.1 } in
@@ -132,16 +146,20 @@ module _ (m : Machine) (o : Options) (res : List Re) (is : IsDfaOf o res m) (hay
       ∙ same_flag (is_some (half_nth walk.0 0)) (is_some (find_any o.utf8 res hay 0)) (
         λ e. (any_is_found o.utf8 hay res).1 (there walk.0 (λ pair h. (accepted pair).0 h) e),
         λ e. let w = (any_is_found o.utf8 hay res).0 e in let path = (found_is w.0).1 (w.1, w.2, w.3) in
-            has_pair walk.0 (record { pattern = w.0; place = path.0 }) ((accepted (record { pattern = w.0; place = path.0 })).1 path.1),
+            has_pair walk.0 (record { pattern = w.0; place = path.0 })
+            ((accepted (record { pattern = w.0; place = path.0 })).1 path.1),
       )
     where
       walk : (pairs : List Pair) × AreReported Forward m.nfa KindAll input pairs
       walk = reported Forward KindAll input
 
       accepted : (pair : Pair) → InPairs pair walk.0 ↔ IsAccepted Forward m.nfa input m.nfa.start_unanchored pair
-      accepted pair = all Forward input walk.0 m.nfa.start_unanchored (bytes, omega arith) (omega arith) refl walk.1 pair
+      accepted pair =
+          all Forward input walk.0 m.nfa.start_unanchored (bytes, omega arith) (omega arith) refl walk.1 pair
 
-      there : (pairs : List Pair) → ((pair : Pair) → InPairs pair pairs → IsAccepted Forward m.nfa input m.nfa.start_unanchored pair) →
+      there :
+          (pairs : List Pair)
+          → ((pair : Pair) → InPairs pair pairs → IsAccepted Forward m.nfa input m.nfa.start_unanchored pair) →
           is_some (half_nth pairs 0) ≡ true →
           (p : ℕ) × (re : Re) × (slice_get res p ≡ Some re) × (is_found o.utf8 hay re ≡ true)
       there [] each e = absurd (true≢false (sym e))
@@ -153,12 +171,16 @@ module _ (m : Machine) (o : Options) (res : List Re) (is : IsDfaOf o res m) (hay
       has_pair (x ∷ pairs) pair h = refl
 
   -- what a walk reports are ends of matches
-  pub ends_meant : AllPairsAreReported m.nfa → (pairs : List Pair) → AreWalked Forward m input pairs → AreEnds o res hay pairs
+  pub ends_meant :
+      AllPairsAreReported m.nfa → (pairs : List Pair) → AreWalked Forward m input pairs → AreEnds o res hay pairs
   ends_meant all pairs walked = record {
     all = λ p re i j at l begin way. (accepted (record { pattern = p; place = j })).1
         ((ends (record { pattern = p; place = j })).0
-        (way_is_accepted made.ks res made.nfas.0 o.utf8 hay looks bytes for.0 made.joined made.joins keeps p re i j at l begin way));
-    own = λ pair h. accepted_matches made.ks res made.nfas.0 o.utf8 hay looks bytes for.0 made.joined made.joins keeps pair.pattern pair.place
+        (way_is_accepted made.ks res made.nfas.0 o.utf8 hay looks bytes for.0 made.joined made.joins keeps p re i j at l
+        begin way));
+    own =
+        λ pair h. accepted_matches made.ks res made.nfas.0 o.utf8 hay looks bytes for.0 made.joined made.joins keeps
+        pair.pattern pair.place
         ((ends pair).1 ((accepted pair).0 h));
   }
     where

@@ -41,13 +41,15 @@ pub record GivesNext (regex : Regex) (hay : List ℕ) (m : Match) (last last' : 
   -- the iteration has not ended
   pub going : ended' ≡ false
 
--- one item of an iteration, and the caches before it and after it; where the last match ended, and whether the iteration
+-- one item of an iteration, and the caches before it and after it; where the last match ended, and whether the
+-- iteration
 -- has ended, before it and after it
 abbrev pub GivesMatch :
     Regex → (old new : Cache) → List ℕ → Option (Result Match SearchError) → (last last' : Option ℕ)
     → (ended ended' : Bool) → Type 0
 GivesMatch regex old new hay item last last' true ended' = (item ≡ None) × HasNoMore last last' ended'
-GivesMatch regex old new hay None last last' false ended' = IsNextMeant regex hay last None × HasNoMore last last' ended'
+GivesMatch regex old new hay None last last' false ended' =
+    IsNextMeant regex hay last None × HasNoMore last last' ended'
 GivesMatch regex old new hay (Some (Ok m)) last last' false ended' = GivesNext regex hay m last last' ended'
 GivesMatch regex old new hay (Some (Err e)) last last' false ended' =
     IsNextError regex old new (rest_of hay last) last e × HasNoMore last last' ended'

@@ -1,5 +1,6 @@
 -- What NFAs and regexes of patterns are: each text is read as a tree, and what its NFA finds is what the tree means.
-use Rattle.std.specs.Prelude.{ℕ, ◌≡◌, ◌+◌, ◌*◌, ◌≤◌, ◌↔◌, true, false, List, [], ◌∷◌, length, Option, Some, IsAscii, IsUtf8}
+use Rattle.std.specs.Prelude.{ℕ, ◌≡◌, ◌+◌, ◌*◌, ◌≤◌, ◌↔◌, true, false, List, [], ◌∷◌, length, Option, Some, IsAscii}
+use Rattle.std.specs.Prelude.{IsUtf8}
 use Rattle.regex_hir.specs.Re.{Re}
 use Rattle.regex_hir.specs.Meaning.{meaning}
 use Rattle.regex_hir.specs.declared.hir.Hir as kit_hir
@@ -121,7 +122,8 @@ abbrev pub settings_of : Options → settings.Options
 settings_of options = settings.overwritten settings.unset
     (record settings.unset { unicode_word_boundary = Some options.ascii })
 
--- these settings, but for the match kind, which is leftmost-first, and Unicode's word boundaries, which are those of the options
+-- these settings, but for the match kind, which is leftmost-first, and Unicode's word boundaries, which are those of
+-- the options
 abbrev pub settings_with : settings.Options → Options → settings.Options
 settings_with config options = settings.overwritten settings.unset
     (record config { match_kind = Some LeftmostFirst; unicode_word_boundary = Some options.ascii })

@@ -1,5 +1,6 @@
 -- What a DFA that finds which of several patterns match is, and what a search of it returns and makes of its cache.
-use Rattle.std.specs.Prelude.{ℕ, ◌≡◌, ◌≤◌, ◌⊎◌, Bool, true, false, List, length, Some, Result, Err, IfErr, IfOk, is_some, slice_get}
+use Rattle.std.specs.Prelude.{ℕ, ◌≡◌, ◌≤◌, ◌⊎◌, Bool, true, false, List, length, Some, Result, Err, IfErr, IfOk}
+use Rattle.std.specs.Prelude.{is_some, slice_get}
 use Rattle.std.specs.Result.{result_err}
 use Rattle.regex_hir.specs.Matches.{Matches}
 use Rattle.regex_hir.specs.Re.{Re}
@@ -82,7 +83,8 @@ abbrev pub IsSetSearched : Machine → Input → (old new : CacheView) → Resul
 IsSetSearched m input old new result =
     ((new ≡ old) × (result ≡ Err search.OutOfMemory))
     ⊎ ((joined : List Bool)
-    × IsSetRun m input (empty_set (length m.nfa.start_pattern)) joined (known_of old) (known_of new) (result_err result))
+    × IsSetRun m input (empty_set (length m.nfa.start_pattern)) joined (known_of old) (known_of new)
+    (result_err result))
 
 -- what a search for whether some pattern matches returns, by its DFA and its input alone
 pub record IsAnyAnswer (m : Machine) (input : Input) (result : Result Bool SearchError) : Type 0 where
@@ -99,7 +101,8 @@ IsAnySearched m input old new result =
 
 -- among these pairs of a pattern and an offset are all ends of matches in a haystack, and no pattern that has no match
 pub record AreEnds (options : Options) (res : List Re) (hay : List ℕ) (pairs : List Pair) : Type 0 where
-  -- in whatever way a pattern matches a part of the haystack, in text one that begins where a character does, its end is
+  -- in whatever way a pattern matches a part of the haystack, in text one that begins where a character does, its end
+  -- is
   -- one of them
   pub all :
       (p : ℕ) (re : Re) (i j : ℕ) → slice_get res p ≡ Some re → i ≤ length hay

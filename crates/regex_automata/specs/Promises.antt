@@ -5,10 +5,10 @@
 pub use Rattle.automata_hybrid.specs.Cache.Caches.{CacheView, IsCacheOf}
 pub use Rattle.regex_automata.specs.Regexes.Caches.{AreCachesOf}
 -- What a cache knows: the states that have rows, and which transitions and start states are cached, without the IDs and
--- cells in which it stands; and what a cache of a DFA may know, by `laws::caches_are_known`.
+-- cells in which it stands; and what a cache of a DFA may know, by `laws::cache_is_known`.
 pub use Rattle.automata_hybrid.specs.Known.Known.{Known}
 pub use Rattle.automata_hybrid.specs.Known.Stores.{known_of}
-pub use Rattle.automata_hybrid.specs.Known.Bounds.{CachesAreKnown, IsKnown}
+pub use Rattle.automata_hybrid.specs.Known.Bounds.{IsKnown}
 pub use Rattle.regex_automata.specs.Regexes.Caches.{AreKnown}
 -- What contracts see of a DFA; its NFA, as paths need it; its match kind.
 pub use Rattle.automata_hybrid.specs.Machines.Machine.{Machine, engine}
@@ -52,7 +52,8 @@ pub use Rattle.automata_hybrid.specs.Known.PiecesFollow.{IsCostOfUnits, PieceAns
 -- A walk over a haystack in pieces: where it stands after so many bytes of the span of an input, or all; the patterns
 -- at which it stands; what a call returns, where it stops, and what its end means; and that the states of a pass report
 -- just the patterns that match at each offset, by `laws::states_have_matching`.
-pub use Rattle.automata_hybrid.specs.Pieces.Walks.{EndsWith, HasBegunWalk, HasWalked, HasWalkedAll, IsAtMatch, HasNoMatch}
+pub use Rattle.automata_hybrid.specs.Pieces.Walks.{EndsWith, HasBegunWalk, HasWalked, HasWalkedAll, IsAtMatch}
+pub use Rattle.automata_hybrid.specs.Pieces.Walks.{HasNoMatch}
 pub use Rattle.automata_hybrid.specs.Pieces.Walks.{IsWalked, StopsAt, WalksOn, patterns_here}
 pub use Rattle.automata_hybrid.specs.Pieces.Matching.{MatchesAt, StatesHaveMatching}
 -- Some path of the pattern, from a start and through the span of an input, ends in a match; under `MatchKind::All` a
@@ -72,10 +73,12 @@ pub use Rattle.regex_automata.specs.Spans.Outcomes.{FindsMatch}
 -- One item of `find_iter`: the match or the error that it gives, and what is left to be searched after it; its match
 -- may be sliced from the haystack.
 pub use Rattle.regex_automata.specs.Spans.Iteration.{GivesItem, LiesInHaystack}
--- What the passes over an input report is what its paths define, over a sound pair, by `laws::matches_are_spans`; an item
+-- What the passes over an input report is what its paths define, over a sound pair, by `laws::matches_are_spans`; an
+-- item
 -- of `find_iter` by the paths; what a loop has collected.
 pub use Rattle.regex_automata.specs.Spans.Iteration.{AreCollected, ComesTo}
-pub use Rattle.regex_automata.specs.Spans.OfPaths.{CollectsMatches, IsItemOfPaths, LoopsCollect, MatchesAreSpans, SpansAreOfPaths}
+pub use Rattle.regex_automata.specs.Spans.OfPaths.{CollectsMatches, IsItemOfPaths, LoopsCollect, MatchesAreSpans}
+pub use Rattle.regex_automata.specs.Spans.OfPaths.{SpansAreOfPaths}
 -- The patterns of a set, as a list; a member of a list.
 pub use Rattle.automata_base.specs.Haystacks.PatternSet.{members}
 pub use Rattle.automata_base.specs.Lists.{In}
@@ -98,7 +101,8 @@ pub use Rattle.automata_hybrid.specs.Steps.Starts.{IsStartAnswer}
 pub use Rattle.automata_hybrid.specs.Known.Steps.{IsStepRun, StepFails, IsStartRun, StartFails}
 pub use Rattle.automata_hybrid.specs.Known.Effects.{EventFollows, EventsFollow, FailureFollows, StepFollows}
 pub use Rattle.automata_hybrid.specs.Known.Effects.{StartsFollow, StepsFollow}
--- Nothing but a lack of memory prevents an answer. What a search makes of what its cache knows, event by event; and what
+-- Nothing but a lack of memory prevents an answer. What a search makes of what its cache knows, event by event; and
+-- what
 -- follows of it, by `laws::searches_follow` and `laws::spans_follow`: among others, until the next clear nothing is
 -- lost, and if all that a search uses is cached, nothing changes but the progress.
 pub use Rattle.automata_hybrid.specs.Searches.Contracts.{IsMemory, IsUnhindered}

@@ -245,7 +245,8 @@ AreTokenSpans d h end offset (t ∷ ts) = IsSpan d (asked h end offset) (Some t)
 abbrev pub HasNoSpanPast : Engine → List ℕ → (end offset : ℕ) → Type 0
 HasNoSpanPast d h end offset =
     IsSpan d (asked h end offset) None
-    ⊎ ((pattern : ℕ) × IsSpan d (asked h end offset) (Some (record { pattern = pattern; start = offset; end = offset })))
+    ⊎ ((pattern : ℕ)
+    × IsSpan d (asked h end offset) (Some (record { pattern = pattern; start = offset; end = offset })))
 
 -- what tokens are by the ordered paths
 pub record AreOfPaths (m : Machine) (d : Engine) (h : List ℕ) (end : ℕ) : Type 0 where

@@ -11,7 +11,7 @@ pub use automata_base::laws::{
     walk_is_right,
 };
 pub use automata_hybrid::laws::{
-    answers_agree, cache_is_within, caches_are_known, calls_follow, first_match_is_found,
+    answers_agree, cache_is_known, calls_follow, first_match_is_found,
     known_stays, pieces_are_whole, pieces_follow, searches_follow, sets_follow, sets_have_matching,
     sizes_are_of_nfa, states_have_matching, steps_follow, walks_agree,
 };
@@ -64,10 +64,8 @@ pub fn regex_caches_are_known(regex: &Regex, cache: &Cache)
     ensures { AreKnown regex.now cache.now }
 {
     let (forward, reverse) = cache.as_parts();
-    cache_is_within(regex.forward(), forward);
-    cache_is_within(regex.reverse(), reverse);
-    caches_are_known(regex.forward());
-    caches_are_known(regex.reverse());
+    cache_is_known(regex.forward(), forward);
+    cache_is_known(regex.reverse(), reverse);
 }
 
 /// What follows of what a search for a span makes of the two caches, and one for the next match: how often it

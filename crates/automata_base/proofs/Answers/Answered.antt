@@ -14,7 +14,9 @@ pub haystack_later : (way : Direction) (k : ℕ) (input : Input) → (later way 
 haystack_later Forward k input = refl
 haystack_later Backward k input = refl
 
-half_is : (a b : Half) → a.pattern ≡ b.pattern → a.offset ≡ b.offset → a.base ≡ b.base → ◌≡◌ {A = Option Half} (Some a) (Some b)
+half_is :
+    (a b : Half) → a.pattern ≡ b.pattern → a.offset ≡ b.offset → a.base ≡ b.base
+    → ◌≡◌ {A = Option Half} (Some a) (Some b)
 half_is a b x y z = ap₂ (λ v w. v w) (ap₂ half_by x y) z
   where
     half_by : ℕ → ℕ → ℕ → Option Half
@@ -32,22 +34,29 @@ module _ (T : Input → Option Pair → Type 0) (S : Type 0) (way : Direction) (
   ends (Some half) a = a
 
   split_keeps :
-      (k : ℕ) (p q : Pair) → p ≡ q → is_split (later way k input).haystack (offset_in way (later way k input) p.place) ≡ true
+      (k : ℕ) (p q : Pair) → p ≡ q
+      → is_split (later way k input).haystack (offset_in way (later way k input) p.place) ≡ true
       → is_split input.haystack (offset_in way (later way k input) q.place) ≡ false → ⊥
   split_keeps k p q e split keeps =
-      false≢true (sym keeps ∙ (sym (ap₂ (λ v (w : Pair). is_split v (offset_in way (later way k input) w.place)) (haystack_later way k input) e) ∙ split))
+      false≢true
+      (sym keeps
+      ∙ (sym (ap₂ (λ v (w : Pair). is_split v (offset_in way (later way k input) w.place)) (haystack_later way k input)
+      e) ∙ split))
 
   no_further : (o : Option Half) (k k' : ℕ) → Ends o k → Tries T S way input k' → k < k' → ⊥
   no_further o k k' e c l =
       go o e (c.before k l)
       (⊎_elim (λ (z : k' ≡ 0). absurd (omega (arith, z, l))) (λ (z : S × (input.anchored ≡ No)). z) c.comes)
     where
-      go : (o : Option Half) → Ends o k → (input.start + k ≤ input.end) × IsSplit T way (later way k input) → S × (input.anchored ≡ No) → ⊥
+      go :
+          (o : Option Half) → Ends o k → (input.start + k ≤ input.end) × IsSplit T way (later way k input) → S
+          × (input.anchored ≡ No) → ⊥
       go None (SpanIsDone m) s z = omega (arith, m, s.0)
       go None (SpanReportsNone m) s z = some_none (once (later way k input) (Some s.1.0) None s.1.1 m)
       go None (StopsAtSplit skips anchored m) s z = anchored z.1
       go (Some half) m s z =
-          split_keeps k s.1.0 m.pair (some_inj (once (later way k input) (Some s.1.0) (Some m.pair) s.1.1 m.reported)) s.1.2
+          split_keeps k s.1.0 m.pair (some_inj (once (later way k input) (Some s.1.0) (Some m.pair) s.1.1 m.reported))
+          s.1.2
           (m.whole z.0)
 
   none_some : (a : Half) (k : ℕ) → Ends None k → Ends (Some a) k → ⊥
@@ -62,9 +71,11 @@ module _ (T : Input → Option Pair → Type 0) (S : Type 0) (way : Direction) (
   same_ends (Some a) None k e e' = absurd (none_some a k e' e)
   same_ends None (Some a) k e e' = absurd (none_some a k e e')
   same_ends (Some a) (Some b) k e e' =
-      let p : e.pair ≡ e'.pair = some_inj (once (later way k input) (Some e.pair) (Some e'.pair) e.reported e'.reported) in
+      let p : e.pair ≡ e'.pair =
+      some_inj (once (later way k input) (Some e.pair) (Some e'.pair) e.reported e'.reported) in
       half_is a b (e.pattern ∙ (ap (λ (v : Pair). v.pattern) p ∙ sym e'.pattern))
-      (e.offset ∙ (ap (λ (v : Pair). offset_in way (later way k input) v.place) p ∙ sym e'.offset)) (e.base ∙ sym e'.base)
+      (e.offset ∙ (ap (λ (v : Pair). offset_in way (later way k input) v.place) p ∙ sym e'.offset))
+      (e.base ∙ sym e'.base)
 
   pub answers_once : (o o' : Option Half) → Answers T S way input o → Answers T S way input o' → o ≡ o'
   answers_once o o' a a' = go (ends o a) (ends o' a') where

@@ -131,6 +131,7 @@ comes_forth f r h b i e m pattern path pair bytes u w a = (short, (o.0, o.1, o.2
           wide.0,
           wide.1,
           subst (λ v. IsPathFrom f.nfa (forward_tape h b e) v [] f.anchored wide.0 i wide.1) (omega arith)
-              (subst (λ v. IsPathFrom f.nfa (forward_tape h b e) (s - b) [] f.anchored wide.0 v wide.1) (omega (arith, short)) wide.2),
+              (subst (λ v. IsPathFrom f.nfa (forward_tape h b e) (s - b) [] f.anchored wide.0 v wide.1)
+              (omega (arith, short)) wide.2),
           wide.3,
         )

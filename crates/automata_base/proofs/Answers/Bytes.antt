@@ -77,13 +77,16 @@ next_past (x ∷ xs) after zero l = absurd (omega (arith, l))
 next_past (x ∷ xs) after (suc i) l = next_past xs after i (omega (arith, l))
 
 -- Forward.
-pub forward_next : (h : List ℕ) (s e i : ℕ) → s + i ≤ e → e ≤ length h → next (forward_tape h s e) i ≡ slice_get h (s + i)
+pub forward_next :
+    (h : List ℕ) (s e i : ℕ) → s + i ≤ e → e ≤ length h → next (forward_tape h s e) i ≡ slice_get h (s + i)
 forward_next h s e i l k = ⊎_elim
     (λ (c : s + i ≡ e).
-    next_past (between h s e) (slice_get h e) i (let n = between_length h s e (omega (arith, l)) k in omega (arith, n, c))
+    next_past (between h s e) (slice_get h e) i
+    (let n = between_length h s e (omega (arith, l)) k in omega (arith, n, c))
     ∙ ap (λ v. slice_get h v) (sym c))
     (λ (c : s + i < e).
-    next_inside (between h s e) (slice_get h e) i (let n = between_length h s e (omega (arith, l)) k in omega (arith, n, c))
+    next_inside (between h s e) (slice_get h e) i
+    (let n = between_length h s e (omega (arith, l)) k in omega (arith, n, c))
     ∙ nth_between h s e i c)
     (eq-or-lt_of_le l)
 
@@ -104,7 +107,8 @@ forward_length h s e l k = between_length h s e l k
 
 -- Backward; the offset `o` is that of the place `i`.
 pub reverse_byte :
-    (h : List ℕ) (s e i o : ℕ) → suc (i + o) ≡ e → s ≤ o → e ≤ length h → slice_get (reverse_tape h s e).bytes i ≡ slice_get h o
+    (h : List ℕ) (s e i o : ℕ) → suc (i + o) ≡ e → s ≤ o → e ≤ length h
+    → slice_get (reverse_tape h s e).bytes i ≡ slice_get h o
 reverse_byte h s e i o c l k =
     nth_reverse (between h s e) i (o - s)
     (let n = between_length h s e (omega (arith, l, c)) k in omega (arith, n, c, l))

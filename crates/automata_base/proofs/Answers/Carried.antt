@@ -2,20 +2,25 @@
 use Rattle.std.proofs.Common.{ℕ, zero, suc, ◌≡◌, ◌<◌, ◌≤◌, ◌+◌, ◌-◌, Bool, List, [], ◌∷◌, ◌⊎◌, ◌↔◌, Option, Some, None}
 use Rattle.std.proofs.Common.{inl, inr, sym, ◌∙◌, subst}
 use Rattle.std.proofs.Common.{take, drop, refl}
-use Rattle.automata_base.specs.Answers.Answers.{Answers, ArePatternsFound, AreUnsplit, Half, IsAnswer, IsOverlapping, IsOverlappingFrom, IsSplit}
-use Rattle.automata_base.specs.Answers.Answers.{HasNoAnswerAt, KeepsSplit, OverlapsOver, SelectsFrom, SelectsOver, SkipsSplit, SpanIsDone}
+use Rattle.automata_base.specs.Answers.Answers.{Answers, ArePatternsFound, AreUnsplit, Half, IsAnswer, IsOverlapping}
+use Rattle.automata_base.specs.Answers.Answers.{IsOverlappingFrom, IsSplit}
+use Rattle.automata_base.specs.Answers.Answers.{HasNoAnswerAt, KeepsSplit, OverlapsOver, SelectsFrom, SelectsOver}
+use Rattle.automata_base.specs.Answers.Answers.{SkipsSplit, SpanIsDone}
 use Rattle.automata_base.specs.Answers.Answers.{SpanReportsNone, StopsAtSplit, Tries, WalksNoSpan, WalksSpan, later}
 use Rattle.automata_base.specs.Answers.OfPasses.{EndsFrom, EndsOver, IsFarthestAnswer, IsNearestAnswer}
-use Rattle.automata_base.specs.Answers.Spans.{AreMatches, AreSpans, Chooses, FindsHere, FindsLater, IsMatch, IsNextItem, IsPathStart, IsSpan}
+use Rattle.automata_base.specs.Answers.Spans.{AreMatches, AreSpans, Chooses, FindsHere, FindsLater, IsMatch, IsNextItem}
+use Rattle.automata_base.specs.Answers.Spans.{IsPathStart, IsSpan}
 use Rattle.automata_base.specs.Answers.Spans.{from, in_full}
 use Rattle.automata_base.specs.Haystacks.Input.{Input}
 use Rattle.automata_base.specs.Haystacks.Matches.{Match}
-use Rattle.automata_base.specs.Haystacks.Tapes.{IsHaystack, Direction, Forward, Backward, between, tape_of, forward_tape}
+use Rattle.automata_base.specs.Haystacks.Tapes.{IsHaystack, Direction, Forward, Backward, between, tape_of}
+use Rattle.automata_base.specs.Haystacks.Tapes.{forward_tape}
 use Rattle.automata_base.specs.Nfas.Engines.{Engine, Anchored, No, IsSkipping, first_state}
 use Rattle.automata_base.specs.Nfas.Nfa.{Nfa}
 use Rattle.automata_base.specs.Paths.Order.{Before}
 use Rattle.automata_base.specs.Paths.Paths.{Tape}
-use Rattle.automata_base.specs.Paths.Selections.{Accepts, IsChosen, IsFarthest, IsNearest, IsOverlappingOn, Pair, Selects}
+use Rattle.automata_base.specs.Paths.Selections.{Accepts, IsChosen, IsFarthest, IsNearest, IsOverlappingOn, Pair}
+use Rattle.automata_base.specs.Paths.Selections.{Selects}
 use Rattle.automata_base.proofs.Answers.Answered.{haystack_later}
 use Rattle.automata_base.proofs.Answers.Bytes.{nth_drop}
 use Rattle.automata_base.proofs.Answers.Total.{reverse_bytes}
@@ -37,7 +42,8 @@ pub tape_bytes : (way : Direction) (h : List ℕ) (s e : ℕ) → IsHaystack h �
 tape_bytes Forward h s e bytes = between_bytes h s e bytes
 tape_bytes Backward h s e bytes = reverse_bytes (between h s e) (between_bytes h s e bytes)
 
-later_bytes : (way : Direction) (k : ℕ) (input : Input) → IsHaystack input.haystack → IsHaystack (later way k input).haystack
+later_bytes :
+    (way : Direction) (k : ℕ) (input : Input) → IsHaystack input.haystack → IsHaystack (later way k input).haystack
 later_bytes way k input bytes = subst (λ v. IsHaystack v) (sym (haystack_later way k input)) bytes
 
 -- What is reported over each span is turned, and what says whether split places are skipped.
@@ -109,7 +115,8 @@ module _ (d e : Engine) (R : Tape → ℕ → List ℕ → List ℕ → Type 0) 
       (c.order t q) d.kind earliest answer h)
 
   selects_over :
-      (way : Direction) (input : Input) (answer : Option Pair) → IsHaystack input.haystack → SelectsOver way d input answer
+      (way : Direction) (input : Input) (answer : Option Pair) → IsHaystack input.haystack
+      → SelectsOver way d input answer
       → SelectsOver way e input answer
   selects_over way input answer bytes h =
       let t = tape_of way input.haystack input.start input.end in
@@ -121,7 +128,8 @@ module _ (d e : Engine) (R : Tape → ℕ → List ℕ → List ℕ → Type 0) 
       (way : Direction) (input : Input) (answer : Option Half) → IsHaystack input.haystack → IsAnswer way d input answer
       → IsAnswer way e input answer
   answer_carried way input answer bytes h =
-      answers_turned (SelectsOver way d) (SelectsOver way e) (IsSkipping d) (IsSkipping e) way c.skips (selects_over way) input
+      answers_turned (SelectsOver way d) (SelectsOver way e) (IsSkipping d) (IsSkipping e) way c.skips
+      (selects_over way) input
       answer bytes h
 
   nearest_carried :
@@ -147,7 +155,8 @@ module _ (d e : Engine) (R : Tape → ℕ → List ℕ → List ℕ → Type 0) 
       (Rule : Nfa → Tape → ℕ → Option Pair → Type 0)
       → ((t : Tape) (mode : Anchored) (q : ℕ) (answer : Option Pair) → IsHaystack t.bytes → first_state d mode ≡ Some q
       → Rule d.nfa t q answer → Rule e.nfa t q answer)
-      → (way : Direction) (input : Input) (answer : Option Pair) → IsHaystack input.haystack → EndsOver Rule way d input answer
+      → (way : Direction) (input : Input) (answer : Option Pair) → IsHaystack input.haystack
+      → EndsOver Rule way d input answer
       → EndsOver Rule way e input answer
   ends_over Rule turn way input answer bytes h =
       subst (λ o. EndsFrom Rule e t o answer) (c.starts input.anchored) (go (first_state d input.anchored) refl h)
@@ -162,20 +171,23 @@ module _ (d e : Engine) (R : Tape → ℕ → List ℕ → List ℕ → Type 0) 
           turn t input.anchored q answer (tape_bytes way input.haystack input.start input.end bytes) is h
 
   pub near_carried :
-      (way : Direction) (input : Input) (answer : Option Half) → IsHaystack input.haystack → IsNearestAnswer way d input answer
+      (way : Direction) (input : Input) (answer : Option Half) → IsHaystack input.haystack
+      → IsNearestAnswer way d input answer
       → IsNearestAnswer way e input answer
   near_carried way input answer bytes h =
       answers_turned (EndsOver IsNearest way d) (EndsOver IsNearest way e) (IsSkipping d) (IsSkipping e) way c.skips
       (ends_over IsNearest nearest_carried way) input answer bytes h
 
   pub far_carried :
-      (way : Direction) (input : Input) (answer : Option Half) → IsHaystack input.haystack → IsFarthestAnswer way d input answer
+      (way : Direction) (input : Input) (answer : Option Half) → IsHaystack input.haystack
+      → IsFarthestAnswer way d input answer
       → IsFarthestAnswer way e input answer
   far_carried way input answer bytes h =
       answers_turned (EndsOver IsFarthest way d) (EndsOver IsFarthest way e) (IsSkipping d) (IsSkipping e) way c.skips
       (ends_over IsFarthest farthest_carried way) input answer bytes h
 
-  pub match_carried : (input : Input) (truth : Bool) → IsHaystack input.haystack → IsMatch d input truth → IsMatch e input truth
+  pub match_carried :
+      (input : Input) (truth : Bool) → IsHaystack input.haystack → IsMatch d input truth → IsMatch e input truth
   match_carried input truth bytes h = (h.0, answer_carried Forward (in_full input) h.0 bytes h.1, h.2)
 
   overlaps_from :
@@ -203,7 +215,8 @@ module _ (d e : Engine) (R : Tape → ℕ → List ℕ → List ℕ → Type 0) 
   unsplit_carried way input pairs found (KeepsSplit f e) = KeepsSplit (λ s. f (c.skips.1 s)) e
 
   pub walk_carried :
-      (way : Direction) (input : Input) (found : List Pair) → IsHaystack input.haystack → IsOverlapping way d input found
+      (way : Direction) (input : Input) (found : List Pair) → IsHaystack input.haystack
+      → IsOverlapping way d input found
       → IsOverlapping way e input found
   walk_carried way input found bytes (WalksNoSpan l e) = WalksNoSpan l e
   walk_carried way input found bytes (WalksSpan l pairs o unsplit) =
@@ -215,7 +228,8 @@ module _ (d e : Engine) (R : Tape → ℕ → List ℕ → List ℕ → Type 0) 
   set_carried input capacity given found bytes h = (h.0, walk_carried Forward input h.0 bytes h.1, h.2)
 
   pub span_carried :
-      (input : Input) (answer : Option Match) → IsHaystack input.haystack → IsSpan d input answer → IsSpan e input answer
+      (input : Input) (answer : Option Match) → IsHaystack input.haystack → IsSpan d input answer
+      → IsSpan e input answer
   span_carried input None bytes h = answer_carried Forward input None bytes h
   span_carried input (Some m) bytes s =
       let t = forward_tape input.haystack s.half.base input.end in
@@ -228,7 +242,8 @@ module _ (d e : Engine) (R : Tape → ℕ → List ℕ → List ℕ → Type 0) 
         λ j r other acc.
             let g = back j r other acc in
             subst (λ k. IsChosen k input.earliest s.length f.0 j other) c.kinds
-            (chosen_carried d.nfa e.nfa t s.first (R t s.first) there back (c.same t s.first) (c.order t s.first) d.kind input.earliest
+            (chosen_carried d.nfa e.nfa t s.first (R t s.first) there back (c.same t s.first) (c.order t s.first) d.kind
+            input.earliest
             s.length j s.path f.0 g.0 other f.1 g.1 (s.chosen.1 j r g.0 g.2)),
       ) in record {
         half = s.half;
@@ -252,7 +267,8 @@ module _ (d e : Engine) (R : Tape → ℕ → List ℕ → List ℕ → Type 0) 
   next_carried input start last found bytes (FindsHere h apart) =
       FindsHere (span_carried (from start input) found bytes h) apart
   next_carried input start last found bytes (FindsLater m h empty later) =
-      FindsLater m (span_carried (from start input) (Some m) bytes h) empty (span_carried (from (suc start) input) found bytes later)
+      FindsLater m (span_carried (from start input) (Some m) bytes h) empty
+      (span_carried (from (suc start) input) found bytes later)
 
   matches_carried :
       (input : Input) (start : ℕ) (last : Option ℕ) (ms : List Match) → IsHaystack input.haystack
@@ -261,5 +277,6 @@ module _ (d e : Engine) (R : Tape → ℕ → List ℕ → List ℕ → Type 0) 
   matches_carried input start last (m ∷ ms) bytes h =
       (next_carried input start last (Some m) bytes h.0, matches_carried input m.end (Some m.end) ms bytes h.1)
 
-  pub spans_carried : (input : Input) (ms : List Match) → IsHaystack input.haystack → AreSpans d input ms → AreSpans e input ms
+  pub spans_carried :
+      (input : Input) (ms : List Match) → IsHaystack input.haystack → AreSpans d input ms → AreSpans e input ms
   spans_carried input ms bytes h = matches_carried input input.start None ms bytes h

@@ -6,7 +6,8 @@ use Rattle.automata_base.specs.Paths.Order.{Upto, Begins}
 use Rattle.automata_base.specs.Nfas.Nfa.{Nfa, accepts}
 use Rattle.automata_base.specs.Paths.Paths.{Tape, IsPathFrom, IsPath}
 use Rattle.automata_base.specs.Powersets.Cuts.{MatchKind, All, LeftmostFirst}
-use Rattle.automata_base.specs.Paths.Selections.{Accepts, ByEdges, ByPlace, IsChosen, IsPreferred, Pair, Selects, IsFarthest}
+use Rattle.automata_base.specs.Paths.Selections.{Accepts, ByEdges, ByPlace, IsChosen, IsPreferred, Pair, Selects}
+use Rattle.automata_base.specs.Paths.Selections.{IsFarthest}
 use Rattle.automata_base.proofs.Paths.Orders.{before_upto, before_irrefl, nil_cons}
 use Rattle.automata_base.proofs.Paths.Searches.{accepting_inside}
 use Rattle.automata_base.proofs.Paths.Places.{path_grows}
@@ -16,7 +17,8 @@ use Rattle.automata_base.proofs.Answers.Loops.{skips, lazily, Lazily, skipping, 
 use Rattle.automata_base.proofs.Answers.Loops.{HasBytes}
 
 pub chosen_upto :
-    (kind : MatchKind) (earliest : Bool) (i : ℕ) (path other : List ℕ) → IsChosen kind earliest i path i other → Upto path other
+    (kind : MatchKind) (earliest : Bool) (i : ℕ) (path other : List ℕ) → IsChosen kind earliest i path i other
+    → Upto path other
 chosen_upto All true i path other (ByPlace l) = absurd (omega (arith, l))
 chosen_upto All true i path other (ByEdges e h) = h
 chosen_upto LeftmostFirst true i path other (ByPlace l) = absurd (omega (arith, l))
@@ -28,7 +30,8 @@ chosen_upto All false i path other (ByEdges e h) = h
 -- A chosen path of a lazy loop, taken apart.
 abbrev pub StartsAt : Engine → Tape → (k i pattern : ℕ) → List ℕ → List ℕ → Type 0
 StartsAt d t k i pattern path rest =
-    (path ≡ skips k (0 ∷ rest)) × ((z : ℕ) × IsPathFrom d.nfa t k [] d.anchored rest i z × (accepts d.nfa z ≡ Some pattern))
+    (path ≡ skips k (0 ∷ rest))
+    × ((z : ℕ) × IsPathFrom d.nfa t k [] d.anchored rest i z × (accepts d.nfa z ≡ Some pattern))
 
 pub starts_at :
     (d : Engine) (x : ℕ) (t : Tape) (i pattern : ℕ) (path : List ℕ) → LoopsLazily d.nfa d.anchored d.unanchored x
@@ -41,7 +44,8 @@ starts_at d x t i pattern path loop a =
 
 -- That is the place at which the path first stands on the anchored start.
 pub lazy_start :
-    (d : Engine) (x : ℕ) (t : Tape) (k i pattern : ℕ) (path rest : List ℕ) → LoopsLazily d.nfa d.anchored d.unanchored x → HasBytes t → i ≤ length t.bytes
+    (d : Engine) (x : ℕ) (t : Tape) (k i pattern : ℕ) (path rest : List ℕ) → LoopsLazily d.nfa d.anchored d.unanchored x
+    → HasBytes t → i ≤ length t.bytes
     → StartsAt d t k i pattern path rest → IsPathStart d No t path k
 lazy_start d x t k i pattern path rest loop bytes l s = (
   skips k (0 ∷ []),
@@ -56,7 +60,8 @@ lazy_start d x t k i pattern path rest loop bytes l s = (
 pub same_start : (d : Engine) (t : Tape) (path : List ℕ) → BeginsAnchored d → IsPathStart d No t path 0
 same_start d t path same = ([], path, refl, (refl, same), none)
   where
-    none : (shorter : List ℕ) (sooner : ℕ) → Begins shorter [] → IsPath d.nfa t d.unanchored sooner d.anchored shorter → ⊥
+    none :
+        (shorter : List ℕ) (sooner : ℕ) → Begins shorter [] → IsPath d.nfa t d.unanchored sooner d.anchored shorter → ⊥
     none [] sooner b h = nil_cons b.2
     none (y ∷ ys) sooner b h = nil_cons b.2
 
@@ -89,11 +94,13 @@ least_start d x earliest t k i pattern path rest loop bytes c s k' p z other h m
     clash : k' < k → ⊥
     clash l =
         before_irrefl (skips k' (0 ∷ other))
-        (before_upto (skips k' (0 ∷ other)) (skips k (0 ∷ rest)) (skips k' (0 ∷ other)) (sooner_less k' k other rest l) upto)
+        (before_upto (skips k' (0 ∷ other)) (skips k (0 ∷ rest)) (skips k' (0 ∷ other)) (sooner_less k' k other rest l)
+        upto)
 
 -- The farthest end of a search under `MatchKind::All`.
 pub all_farthest :
-    (n : Nfa) (t : Tape) (start : ℕ) (answer : Option Pair) → Selects All false n t start answer → IsFarthest n t start answer
+    (n : Nfa) (t : Tape) (start : ℕ) (answer : Option Pair) → Selects All false n t start answer
+    → IsFarthest n t start answer
 all_farthest n t start None s = s
 all_farthest n t start (Some pair) s = ((s.0, s.1), farthest)
   where

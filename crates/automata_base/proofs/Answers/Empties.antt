@@ -97,7 +97,8 @@ empty_here d s e = go key.0 key.1
         sorted_has (From (λ root path q. IsPathAt d.nfa all_true [] root path q) d.starts)
         (closure_of d.nfa all_true d.starts) q.0 (starts_closure d s).1 q.2
 
-    go : (key : List ℕ) → From (λ root path q. IsPathAt d.nfa all_true [] root path q) d.starts q.0 key → HasEmptyMatch d
+    go :
+        (key : List ℕ) → From (λ root path q. IsPathAt d.nfa all_true [] root path q) d.starts q.0 key → HasEmptyMatch d
     go [] f = absurd f
     go (k ∷ path) f =
         (f.0, q.0, q.1, nth_in d.starts k f.0 f.1, (path, walk_run d.nfa all_true [] f.0 path q.0 f.2), q.3)

@@ -3,7 +3,8 @@ use Rattle.std.proofs.Common.{ℕ, suc, ◌≡◌, ◌-◌, ◌∙◌, Bool, Lis
 use Rattle.automata_base.specs.declared.util.search.MatchKind.{MatchKind}
 use Rattle.automata_base.specs.Answers.TruePairs.{IsTruePair, Joins, KeepsUtf8}
 use Rattle.automata_base.specs.Haystacks.Tapes.{Direction, Forward, tape_of}
-use Rattle.automata_base.specs.Nfas.Engines.{Anchored, BeginsLazily, Engine, HasEmptyMatch, MatchesEmpty, No, Pattern, Reaches, Road, Yes}
+use Rattle.automata_base.specs.Nfas.Engines.{Anchored, BeginsLazily, Engine, HasEmptyMatch, MatchesEmpty, No, Pattern}
+use Rattle.automata_base.specs.Nfas.Engines.{Reaches, Road, Yes}
 use Rattle.automata_base.specs.Nfas.Engines.{ByteEdge, FreeEdge, LazyLoop, SharedStart, engine_of, first_state}
 use Rattle.automata_base.specs.Nfas.Nfa.{Nfa, Node}
 use Rattle.automata_base.specs.Nfas.Nodes.{Automaton, nfa_of, nodes_of}
@@ -42,7 +43,8 @@ module _ (nodes : List Node) (terminator : ℕ) (reverse : Bool) where
   reaches_with v w q z r = (r.0, road_with v w q r.0 z r.1)
 
   pub lazily_with :
-      (v w : Bool) (anchored unanchored : ℕ) → BeginsLazily (n v) anchored unanchored → BeginsLazily (n w) anchored unanchored
+      (v w : Bool) (anchored unanchored : ℕ) → BeginsLazily (n v) anchored unanchored
+      → BeginsLazily (n w) anchored unanchored
   lazily_with v w anchored unanchored (SharedStart same) = SharedStart same
   lazily_with v w anchored unanchored (LazyLoop skip l) =
       LazyLoop skip (l.0, l.1, λ r. l.2 (reaches_with w v anchored unanchored r))
@@ -53,7 +55,8 @@ module _ (a : Automaton) (kind : MatchKind) where
 
   accepted :
       (v w : Bool) (t : Tape) (start i pattern : ℕ) (path : List ℕ)
-      → Accepts (nfa_of (with_unions v)) t start i pattern path → Accepts (nfa_of (with_unions w)) t start i pattern path
+      → Accepts (nfa_of (with_unions v)) t start i pattern path
+      → Accepts (nfa_of (with_unions w)) t start i pattern path
   accepted = accepts_with (nodes_of a.states) a.flags.line_terminator a.flags.reverse
 
   empty : (v w : Bool) → HasEmptyMatch (engine_of (with_unions v) kind) → HasEmptyMatch (engine_of (with_unions w) kind)
@@ -61,7 +64,8 @@ module _ (a : Automaton) (kind : MatchKind) where
 
   joined :
       (v w : Bool) (h : List ℕ) (i j pattern : ℕ)
-      → Joins Forward (engine_of (with_unions v) kind) h i j pattern → Joins Forward (engine_of (with_unions w) kind) h i j pattern
+      → Joins Forward (engine_of (with_unions v) kind) h i j pattern
+      → Joins Forward (engine_of (with_unions w) kind) h i j pattern
   joined v w h i j pattern f = (f.0, accepted v w (tape_of Forward h i j) a.start_anchored (j - i) pattern f.0 f.1)
 
   pub pair_with :
@@ -75,11 +79,13 @@ module _ (a : Automaton) (kind : MatchKind) where
         let joins = p.joins h i j pattern hay le few in
         (λ f. joins.0 (joined w v h i j pattern f), λ b. joined v w h i j pattern (joins.1 b));
     begins =
-        lazily_with (nodes_of a.states) a.flags.line_terminator a.flags.reverse v w a.start_anchored a.start_unanchored p.begins;
+        lazily_with (nodes_of a.states) a.flags.line_terminator a.flags.reverse v w a.start_anchored a.start_unanchored
+        p.begins;
   }
 
   first_with :
-      (v w : Bool) (mode : Anchored) → first_state (engine_of (with_unions v) kind) mode ≡ first_state (engine_of (with_unions w) kind) mode
+      (v w : Bool) (mode : Anchored)
+      → first_state (engine_of (with_unions v) kind) mode ≡ first_state (engine_of (with_unions w) kind) mode
   first_with v w No = refl
   first_with v w Yes = refl
   first_with v w (Pattern k) = refl

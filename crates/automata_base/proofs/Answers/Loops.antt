@@ -80,7 +80,8 @@ Lazily n t i a path j z =
 
 pub lazily :
     (n : Nfa) (t : Tape) (u a x : ℕ) → node n u ≡ Split (a ∷ x ∷ []) → node n x ≡ any_byte u
-    → (i : ℕ) (path : List ℕ) (j z p : ℕ) → accepts n z ≡ Some p → IsPathFrom n t i [] u path j z → Lazily n t i a path j z
+    → (i : ℕ) (path : List ℕ) (j z p : ℕ) → accepts n z ≡ Some p → IsPathFrom n t i [] u path j z
+    → Lazily n t i a path j z
 lazily n t u a x c d i [] j z p m h =
     absurd (union_accepts n u a x p c (subst (λ v. accepts n v ≡ Some p) (sym h.1) m))
 lazily n t u a x c d i (e ∷ []) j z p m (inl h) = go (union_hop n (truth n t i) u a x e h.0 c h.1)
@@ -134,7 +135,10 @@ HasBytes t = (o b : ℕ) → slice_get t.bytes o ≡ Some b → b < 256
 -- The two states of the loop differ, and neither is the anchored start.
 pub union_apart :
     (n : Nfa) (u a x : ℕ) → node n u ≡ Split (a ∷ x ∷ []) → node n x ≡ any_byte u → x ≡ u → ⊥
-union_apart n u a x c d e = none_some (subst (λ v. hop_at v all_true 0 ≡ Some a) (ap (λ v. node n v) (sym e) ∙ d) (subst (λ v. hop_at v all_true 0 ≡ Some a) (sym c) refl))
+union_apart n u a x c d e =
+    none_some
+    (subst (λ v. hop_at v all_true 0 ≡ Some a) (ap (λ v. node n v) (sym e) ∙ d)
+    (subst (λ v. hop_at v all_true 0 ≡ Some a) (sym c) refl))
 
 pub skip_apart : (n : Nfa) (u a x : ℕ) → node n x ≡ any_byte u → (Reaches n a u → ⊥) → x ≡ a → ⊥
 skip_apart n u a x d f e =

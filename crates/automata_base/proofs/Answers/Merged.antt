@@ -6,12 +6,15 @@ use Rattle.automata_base.specs.Answers.Alike.{AnswerAlike}
 use Rattle.automata_base.specs.Answers.Spans.{IsPathStart}
 use Rattle.automata_base.specs.Answers.TruePairs.{IsTruePair, Joins, KeepsUtf8}
 use Rattle.automata_base.specs.Haystacks.Tapes.{Backward, Direction, IsHaystack, tape_of}
-use Rattle.automata_base.specs.Laws.MergedUnions.{MergedAcceptAlike, MergedAnswerAlike, MergedBeginAlike, MergedKeepUtf8, MergedPairsAlike, MergedReadUtf8, MergedStayAcyclic, MergedStayPaired}
+use Rattle.automata_base.specs.Laws.MergedUnions.{MergedAcceptAlike, MergedAnswerAlike, MergedBeginAlike}
+use Rattle.automata_base.specs.Laws.MergedUnions.{MergedKeepUtf8, MergedPairsAlike, MergedReadUtf8, MergedStayAcyclic}
+use Rattle.automata_base.specs.Laws.MergedUnions.{MergedStayPaired}
 use Rattle.automata_base.specs.Haystacks.Input.{Input}
 use Rattle.automata_base.specs.Laws.Walks.{IsAccepted}
 use Rattle.automata_base.specs.Lists.{In}
 use Rattle.automata_base.specs.Nfas.Accepted.{IsChecked, IsInRange}
-use Rattle.automata_base.specs.Nfas.Engines.{Anchored, Engine, No, Yes, Pattern, HasEmptyMatch, IsSkipping, MatchesEmpty, engine_of, first_state}
+use Rattle.automata_base.specs.Nfas.Engines.{Anchored, Engine, No, Yes, Pattern, HasEmptyMatch, IsSkipping}
+use Rattle.automata_base.specs.Nfas.Engines.{MatchesEmpty, engine_of, first_state}
 use Rattle.automata_base.specs.Nfas.MergedNfas.{IsMergedNfa}
 use Rattle.automata_base.specs.Nfas.Mirrors.{BeginsAlike}
 use Rattle.automata_base.specs.Nfas.Utf8.{ReadsUtf8}
@@ -22,11 +25,14 @@ use Rattle.automata_base.specs.Paths.Order.{Begins}
 use Rattle.automata_base.specs.Paths.Paths.{Tape, IsPath}
 use Rattle.automata_base.specs.Paths.Selections.{Accepts, Pair}
 use Rattle.automata_base.specs.Powersets.Cuts.{All, MatchKind}
-use Rattle.automata_base.proofs.Answers.Carried.{IsCarried, tape_bytes, answer_carried, match_carried, near_carried, far_carried}
+use Rattle.automata_base.proofs.Answers.Carried.{IsCarried, tape_bytes, answer_carried, match_carried, near_carried}
+use Rattle.automata_base.proofs.Answers.Carried.{far_carried}
 use Rattle.automata_base.proofs.Answers.Carried.{walk_carried, set_carried, span_carried, spans_carried}
 use Rattle.automata_base.proofs.Nfas.Merges.Back.{path_back}
-use Rattle.automata_base.proofs.Nfas.Merges.Comparing.{Compares, IsBeginning, IsHead, before_from, before_to, begins_from}
-use Rattle.automata_base.proofs.Nfas.Merges.Comparing.{begins_to, both_ways, equal_from, equal_to, head_from, head_to, same_head}
+use Rattle.automata_base.proofs.Nfas.Merges.Comparing.{Compares, IsBeginning, IsHead, before_from, before_to}
+use Rattle.automata_base.proofs.Nfas.Merges.Comparing.{begins_from}
+use Rattle.automata_base.proofs.Nfas.Merges.Comparing.{begins_to, both_ways, equal_from, equal_to, head_from, head_to}
+use Rattle.automata_base.proofs.Nfas.Merges.Comparing.{same_head}
 use Rattle.automata_base.proofs.Nfas.Merges.Forth.{path_forth}
 use Rattle.automata_base.proofs.Nfas.Merges.Places.{MayEnd, match_may_end, old_one}
 use Rattle.automata_base.proofs.Nfas.Merges.Readings.{reads_back_old, reads_forth_old}
@@ -58,10 +64,12 @@ module _ (n m : Nfa) (t : Tape) (start on : ℕ) (R : List ℕ → List ℕ → 
         c.2,
         λ shorter sooner begins p.
             let d = back sooner shorter p in
-            none d.0 sooner (begins_from d.0 head (beginnings d.0 shorter head c.0 d.1 c.1 (begins_to shorter c.0 begins))) d.2,
+            none d.0 sooner
+            (begins_from d.0 head (beginnings d.0 shorter head c.0 d.1 c.1 (begins_to shorter c.0 begins))) d.2,
       )
 
-module _ (n m : Nfa) (anchored : ℕ) (lists : List (List ℕ)) (merged : IsMerged n m anchored lists) (ranged : IsInRange n)
+module _ (n m : Nfa) (anchored : ℕ) (lists : List (List ℕ)) (merged : IsMerged n m anchored lists)
+    (ranged : IsInRange n)
     (t : Tape) (bytes : IsHaystack t.bytes) (q : ℕ) (within : q < length n.nodes) where
   -- The second path corresponds to the first one.
   abbrev Goes : List ℕ → List ℕ → Type 0
@@ -71,7 +79,8 @@ module _ (n m : Nfa) (anchored : ℕ) (lists : List (List ℕ)) (merged : IsMerg
       (i w : ℕ) (path : List ℕ) → MayEnd n anchored w → IsPath n t q i w path
       → (other : List ℕ) × Goes path other × IsPath m t q i w other
   goes_forth i w path ends h =
-      (path_forth n m anchored lists t merged ranged bytes path).0 0 q [] [] i w within ends (λ r s e. absurd e) (λ r s e. absurd e)
+      (path_forth n m anchored lists t merged ranged bytes path).0 0 q [] [] i w within ends (λ r s e. absurd e)
+      (λ r s e. absurd e)
       (λ r l. ((λ e. e), (λ e. e))) h
 
   goes_back :
@@ -199,9 +208,11 @@ module _ (a b : Automaton) (kind : MatchKind) (checked : IsChecked a) (into : Is
     kinds = refl;
     starts = one_start;
     there =
-        λ t mode q bytes is. accepts_forth n m a.start_anchored lists into.merged checked.range t bytes q (below mode q is);
+        λ t mode q bytes is. accepts_forth n m a.start_anchored lists into.merged checked.range t bytes q
+        (below mode q is);
     back =
-        λ t mode q bytes is. accepts_back n m a.start_anchored lists into.merged checked.range t bytes q (below mode q is);
+        λ t mode q bytes is. accepts_back n m a.start_anchored lists into.merged checked.range t bytes q
+        (below mode q is);
     same =
         λ t q w x y z f g h.
         equal_from x z ((compared n m lists t q (Unit {0}) ⊥ ⊥ w x y z f g).1 (equal_to w y h));
@@ -218,10 +229,12 @@ module _ (a b : Automaton) (kind : MatchKind) (checked : IsChecked a) (into : Is
     starts = λ mode. sym (one_start mode);
     there =
         λ t mode q bytes is.
-        accepts_back n m a.start_anchored lists into.merged checked.range t bytes q (below mode q (one_start mode ∙ is));
+        accepts_back n m a.start_anchored lists into.merged checked.range t bytes q
+        (below mode q (one_start mode ∙ is));
     back =
         λ t mode q bytes is.
-        accepts_forth n m a.start_anchored lists into.merged checked.range t bytes q (below mode q (one_start mode ∙ is));
+        accepts_forth n m a.start_anchored lists into.merged checked.range t bytes q
+        (below mode q (one_start mode ∙ is));
     same =
         λ t q w x y z f g h.
         equal_from x z ((compared n m lists t q (Unit {0}) ⊥ ⊥ x w z y f g).0 (equal_to w y h));
@@ -235,16 +248,36 @@ module _ (a b : Automaton) (kind : MatchKind) (checked : IsChecked a) (into : Is
   both_alike : AnswerAlike d e
   both_alike = record {
     searches = record {
-      answer = λ way input o bytes. (answer_carried d e There carried_there way input o bytes, answer_carried e d Back carried_back way input o bytes);
-      truth = λ input o bytes. (match_carried d e There carried_there input o bytes, match_carried e d Back carried_back input o bytes);
-      nearest = λ way input o bytes. (near_carried d e There carried_there way input o bytes, near_carried e d Back carried_back way input o bytes);
-      farthest = λ way input o bytes. (far_carried d e There carried_there way input o bytes, far_carried e d Back carried_back way input o bytes);
+      answer =
+          λ way input o bytes.
+          (answer_carried d e There carried_there way input o bytes, answer_carried e d Back carried_back way input o
+          bytes);
+      truth =
+          λ input o bytes.
+          (match_carried d e There carried_there input o bytes, match_carried e d Back carried_back input o bytes);
+      nearest =
+          λ way input o bytes.
+          (near_carried d e There carried_there way input o bytes, near_carried e d Back carried_back way input o
+          bytes);
+      farthest =
+          λ way input o bytes.
+          (far_carried d e There carried_there way input o bytes, far_carried e d Back carried_back way input o bytes);
     };
     matches = record {
-      span = λ input o bytes. (span_carried d e There carried_there input o bytes, span_carried e d Back carried_back input o bytes);
-      list = λ input ms bytes. (spans_carried d e There carried_there input ms bytes, spans_carried e d Back carried_back input ms bytes);
-      overlapping = λ way input found bytes. (walk_carried d e There carried_there way input found bytes, walk_carried e d Back carried_back way input found bytes);
-      patterns = λ input capacity given found bytes. (set_carried d e There carried_there input capacity given found bytes, set_carried e d Back carried_back input capacity given found bytes);
+      span =
+          λ input o bytes.
+          (span_carried d e There carried_there input o bytes, span_carried e d Back carried_back input o bytes);
+      list =
+          λ input ms bytes.
+          (spans_carried d e There carried_there input ms bytes, spans_carried e d Back carried_back input ms bytes);
+      overlapping =
+          λ way input found bytes.
+          (walk_carried d e There carried_there way input found bytes, walk_carried e d Back carried_back way input
+          found bytes);
+      patterns =
+          λ input capacity given found bytes.
+          (set_carried d e There carried_there input capacity given found bytes, set_carried e d Back carried_back input
+          capacity given found bytes);
     };
     skipping = skipping_alike;
   }
@@ -255,9 +288,11 @@ module _ (a b : Automaton) (kind : MatchKind) (checked : IsChecked a) (into : Is
       → ((path : List ℕ) × Accepts n t q i p path) ↔ ((path : List ℕ) × Accepts m t q i p path)
   accepts_alike t q i p bytes l = (
     (λ h.
-        let c = accepts_forth n m a.start_anchored lists into.merged checked.range t bytes q l i p h.0 h.1 in (c.0, c.2)),
+        let c = accepts_forth n m a.start_anchored lists into.merged checked.range t bytes q l i p h.0 h.1 in
+        (c.0, c.2)),
     (λ h.
-        let c = accepts_back n m a.start_anchored lists into.merged checked.range t bytes q l i p h.0 h.1 in (c.0, c.2)),
+        let c = accepts_back n m a.start_anchored lists into.merged checked.range t bytes q l i p h.0 h.1 in
+        (c.0, c.2)),
   )
 
   pair_alike :
@@ -289,8 +324,10 @@ module _ (a b : Automaton) (kind : MatchKind) (checked : IsChecked a) (into : Is
 
       both :
           (place : ℕ)
-          → ((path : List ℕ) × Accepts n t start place pair.pattern path) ↔ ((path : List ℕ) × Accepts m t start place pair.pattern path)
-      both place = accepts_alike t start place pair.pattern (tape_bytes way input.haystack input.start input.end bytes) l
+          → ((path : List ℕ) × Accepts n t start place pair.pattern path)
+          ↔ ((path : List ℕ) × Accepts m t start place pair.pattern path)
+      both place =
+          accepts_alike t start place pair.pattern (tape_bytes way input.haystack input.start input.end bytes) l
 
   utf8_there : (way : Direction) → KeepsUtf8 way d → KeepsUtf8 way e
   utf8_there way keeps h i j pattern mode start path on hay l k not_no first accepts =
@@ -346,7 +383,8 @@ module _ (a b : Automaton) (kind : MatchKind) (checked : IsChecked a) (into : Is
   reads_here : (way : Direction) → ReadsUtf8 way b → ReadsUtf8 way a
   reads_here way h start q p bytes i text match =
       h start q p bytes (subst (λ v. In start v) (sym one_list) i)
-      (reads_forth_old n m a.start_anchored lists into.merged checked.range start bytes q p (any_within start i) text match)
+      (reads_forth_old n m a.start_anchored lists into.merged checked.range start bytes q p (any_within start i) text
+      match)
       (match_forth n m a.start_anchored lists into.merged q p match)
 
 module _ (f : Engine) (a b : Automaton) (checked : IsChecked a) (into : IsMergedNfa a b) where
@@ -354,9 +392,11 @@ module _ (f : Engine) (a b : Automaton) (checked : IsChecked a) (into : IsMerged
       (h : List ℕ) (i j p : ℕ) → IsHaystack h
       → Joins Backward (engine_of a All) h i j p ↔ Joins Backward (engine_of b All) h i j p
   joined_back h i j p bytes =
-      subst (λ v. Joins Backward (engine_of a All) h i j p ↔ ((path : List ℕ) × Accepts (nfa_of b) (tape_of Backward h i j) v (j - i) p path))
+      subst (λ v. Joins Backward (engine_of a All) h i j p
+      ↔ ((path : List ℕ) × Accepts (nfa_of b) (tape_of Backward h i j) v (j - i) p path))
       (sym into.begins.anchored)
-      (accepts_alike a b All checked into (tape_of Backward h i j) a.start_anchored (j - i) p (tape_bytes Backward h i j bytes)
+      (accepts_alike a b All checked into (tape_of Backward h i j) a.start_anchored (j - i) p
+      (tape_bytes Backward h i j bytes)
       (anchored_ends a b All checked into).0)
 
   stays_paired : IsTruePair f (engine_of a All) → IsTruePair f (engine_of b All)
@@ -375,7 +415,8 @@ pub merged_accepts : MergedAcceptAlike
 merged_accepts a b t start i pattern checked into bytes l = accepts_alike a b All checked into t start i pattern bytes l
 
 pub merged_pairs : MergedPairsAlike
-merged_pairs way a b input start pair checked into bytes l = pair_alike a b All checked into way input start pair bytes l
+merged_pairs way a b input start pair checked into bytes l =
+    pair_alike a b All checked into way input start pair bytes l
 
 pub merged_acyclic : MergedStayAcyclic
 merged_acyclic a b checked into none =

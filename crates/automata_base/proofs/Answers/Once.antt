@@ -13,7 +13,8 @@ use Rattle.automata_base.specs.Haystacks.Matches.{Match}
 use Rattle.automata_base.proofs.Paths.Places.{path_end}
 use Rattle.automata_base.specs.Haystacks.Tapes.{Direction, Forward, tape_of, forward_tape}
 use Rattle.automata_base.specs.Nfas.Engines.{Engine, Anchored, No, Yes, Pattern, first_state, IsSkipping}
-use Rattle.automata_base.specs.Answers.Answers.{Half, SelectsFrom, SelectsOver, later, IsAnswer, HasNoAnswerAt, SpanIsDone}
+use Rattle.automata_base.specs.Answers.Answers.{Half, SelectsFrom, SelectsOver, later, IsAnswer, HasNoAnswerAt}
+use Rattle.automata_base.specs.Answers.Answers.{SpanIsDone}
 use Rattle.automata_base.specs.Answers.Answers.{SpanReportsNone, StopsAtSplit}
 use Rattle.automata_base.specs.Haystacks.Input.{Input}
 use Rattle.automata_base.proofs.Answers.Answered.{answers_once}
@@ -56,7 +57,8 @@ sel_once kind earliest n t q (Some a) None s s' = absurd (s' a.place a.pattern s
 sel_once kind earliest n t q (Some a) (Some b) s s' =
     let e =
     accepting_once n t q a.place b.place a.pattern b.pattern s.0 s'.0 s.1 s'.1
-    (chosen_once kind earliest a.place b.place s.0 s'.0 (s.2 b.place b.pattern s'.0 s'.1) (s'.2 a.place a.pattern s.0 s.1)) in
+    (chosen_once kind earliest a.place b.place s.0 s'.0 (s.2 b.place b.pattern s'.0 s'.1)
+    (s'.2 a.place a.pattern s.0 s.1)) in
     ap₂ pair_of e.1 e.0
   where
     pair_of : ℕ → ℕ → Option Pair
@@ -72,11 +74,13 @@ sel_over_once :
     (way : Direction) (d : Engine) (input : Input) (a b : Option Pair)
     → SelectsOver way d input a → SelectsOver way d input b → a ≡ b
 sel_over_once way d input a b s s' =
-    sel_from_once d input.earliest (tape_of way input.haystack input.start input.end) (first_state d input.anchored) a b s s'
+    sel_from_once d input.earliest (tape_of way input.haystack input.start input.end) (first_state d input.anchored) a b
+    s s'
 
 -- A search has one answer.
 pub answer_once :
-    (way : Direction) (d : Engine) (input : Input) (o o' : Option Half) → IsAnswer way d input o → IsAnswer way d input o' → o ≡ o'
+    (way : Direction) (d : Engine) (input : Input) (o o' : Option Half) → IsAnswer way d input o
+    → IsAnswer way d input o' → o ≡ o'
 answer_once way d input o o' = answers_once (SelectsOver way d) (IsSkipping d) way input (sel_over_once way d) o o'
 
 -- Two beginnings of one list.
@@ -93,7 +97,8 @@ prefixes (x ∷ a) (y ∷ b) c d e = go (prefixes a b c d (cons_tail e))
 
 -- A path has one start.
 pub start_once :
-    (d : Engine) (m : Anchored) (t : Tape) (path : List ℕ) (k k' : ℕ) → IsPathStart d m t path k → IsPathStart d m t path k' → k ≡ k'
+    (d : Engine) (m : Anchored) (t : Tape) (path : List ℕ) (k k' : ℕ) → IsPathStart d m t path k
+    → IsPathStart d m t path k' → k ≡ k'
 start_once d No t path k k' s s' = go (prefixes s.0 s'.0 s.1 s'.1 (sym s.2 ∙ s'.2))
   where
     go : (s.0 ≡ s'.0) ⊎ (Begins s.0 s'.0 ⊎ Begins s'.0 s.0) → k ≡ k'
@@ -110,7 +115,8 @@ match_is a b pattern start end = λ i. record { pattern = pattern i; start = sta
 
 -- The spans of one forward answer are one.
 span_of_once :
-    (d : Engine) (input : Input) (m m' : Match) (s : IsSpanOfPath d input m) (s' : IsSpanOfPath d input m') → s.half ≡ s'.half
+    (d : Engine) (input : Input) (m m' : Match) (s : IsSpanOfPath d input m) (s' : IsSpanOfPath d input m')
+    → s.half ≡ s'.half
     → m ≡ m'
 span_of_once d input m m' s s' same =
     match_is m m' (s.pattern ∙ (ap (λ (v : Half). v.pattern) same ∙ sym s'.pattern))
@@ -126,10 +132,12 @@ span_of_once d input m m' s s' same =
     there : Chooses d input.earliest t s.first s'.length s.half.pattern s'.path
     there =
         subst
-        (λ (v : Half). Chooses d input.earliest (forward_tape input.haystack v.base input.end) s.first s'.length v.pattern s'.path)
+        (λ (v : Half). Chooses d input.earliest (forward_tape input.haystack v.base input.end) s.first s'.length
+        v.pattern s'.path)
         (sym same)
         (subst
-        (λ v. Chooses d input.earliest (forward_tape input.haystack s'.half.base input.end) v s'.length s'.half.pattern s'.path)
+        (λ v. Chooses d input.earliest (forward_tape input.haystack s'.half.base input.end) v s'.length s'.half.pattern
+        s'.path)
         first_same s'.chosen)
 
     path_same : s.path ≡ s'.path
@@ -139,7 +147,8 @@ span_of_once d input m m' s s' same =
 
     begins : IsPathStart d input.anchored t s'.path s'.before
     begins =
-        subst (λ (v : Half). IsPathStart d input.anchored (forward_tape input.haystack v.base input.end) s'.path s'.before)
+        subst (λ (v : Half). IsPathStart d input.anchored (forward_tape input.haystack v.base input.end) s'.path
+        s'.before)
         (sym same) s'.begins
 
     start : s.before ≡ s'.before
@@ -156,7 +165,8 @@ span_once d input (Some a) None s s' =
     absurd (none_some (answer_once Forward d input None (Some s.half) s' s.answer))
 span_once d input (Some a) (Some b) s s' =
     ap (λ v. Some v)
-    (span_of_once d input a b s s' (some_inj (answer_once Forward d input (Some s.half) (Some s'.half) s.answer s'.answer)))
+    (span_of_once d input a b s s'
+    (some_inj (answer_once Forward d input (Some s.half) (Some s'.half) s.answer s'.answer)))
 
 -- What finds one answer finds one list.
 abbrev pub FindsOnce : (Input → Option Match → Type 0) → Type 0
@@ -176,7 +186,8 @@ next_none Finds input start last m once (FindsLater n s empty t) (FindsLater n' 
 
 pub next_some :
     (Finds : Input → Option Match → Type 0) (input : Input) (start : ℕ) (last : Option ℕ) (m m' : Match)
-    → FindsOnce Finds → IsNextItem Finds input start last (Some m) → IsNextItem Finds input start last (Some m') → m ≡ m'
+    → FindsOnce Finds → IsNextItem Finds input start last (Some m) → IsNextItem Finds input start last (Some m')
+    → m ≡ m'
 next_some Finds input start last m m' once (FindsHere s apart) (FindsHere s' apart') =
     some_inj (once (from start input) (Some m) (Some m') s s')
 next_some Finds input start last m m' once (FindsHere s apart) (FindsLater n' s' empty' t') =
@@ -203,16 +214,19 @@ matches_once Finds input start last (m ∷ ms) (m' ∷ ms') once s s' =
     e = next_some Finds input start last m m' once s.0 s'.0
 
 -- An input has one list of spans.
-pub spans_once : (d : Engine) (input : Input) (ms ms' : List Match) → AreSpans d input ms → AreSpans d input ms' → ms ≡ ms'
+pub spans_once :
+    (d : Engine) (input : Input) (ms ms' : List Match) → AreSpans d input ms → AreSpans d input ms' → ms ≡ ms'
 spans_once d input ms ms' s s' =
     matches_once (IsSpan d) input input.start None ms ms' (λ input a b. span_once d input a b) s s'
 
 -- A search that does not skip is made once.
 plain : (way : Direction) (d : Engine) (input : Input) (k : ℕ) → (IsSkipping d → ⊥) → ComesTo way d input k → k ≡ 0
-plain way d input k f c = ⊎_elim (λ (z : k ≡ 0). z) (λ (z : IsSkipping d × (input.anchored ≡ No)). absurd (f z.0)) c.comes
+plain way d input k f c =
+    ⊎_elim (λ (z : k ≡ 0). z) (λ (z : IsSkipping d × (input.anchored ≡ No)). absurd (f z.0)) c.comes
 
 clash_from :
-    (d : Engine) (v w : Bool) (t : Tape) (o : Option ℕ) (pair : Pair) → SelectsFrom d v t o None → SelectsFrom d w t o (Some pair) → ⊥
+    (d : Engine) (v w : Bool) (t : Tape) (o : Option ℕ) (pair : Pair) → SelectsFrom d v t o None
+    → SelectsFrom d w t o (Some pair) → ⊥
 clash_from d v w t None pair s s' = some_none s'
 clash_from d v w t (Some q) pair s s' = s pair.place pair.pattern s'.0 s'.1
 
@@ -233,19 +247,23 @@ clash d v w input half f a b = go a.2
     go : HasNoAnswerAt (SelectsOver Forward d) (IsSkipping d) Forward (with_earliest v input) a.0 → ⊥
     go (SpanIsDone l) = omega (arith, l, zero_a, zero_b, b.2.within)
     go (SpanReportsNone s) =
-        clash_from d v w (forward_tape input.haystack (input.start + 0) input.end) (first_state d input.anchored) b.2.pair
+        clash_from d v w (forward_tape input.haystack (input.start + 0) input.end) (first_state d input.anchored)
+        b.2.pair
         (subst (λ x. SelectsOver Forward d (later Forward x (with_earliest v input)) None) zero_a s)
-        (subst (λ x. SelectsOver Forward d (later Forward x (with_earliest w input)) (Some b.2.pair)) zero_b b.2.reported)
+        (subst (λ x. SelectsOver Forward d (later Forward x (with_earliest w input)) (Some b.2.pair)) zero_b
+        b.2.reported)
     go (StopsAtSplit skips anchored s) = f skips
 
 -- If the input is not earliest or nothing is skipped, there is a match exactly if the search that is not earliest has
 -- one.
 pub match_iff_find :
     (d : Engine) (input : Input) (truth : Bool) (answer : Option Match)
-    → (input.earliest ≡ false) ⊎ (IsSkipping d → ⊥) → IsMatch d input truth → IsSpan d input answer → truth ≡ is_some answer
+    → (input.earliest ≡ false) ⊎ (IsSkipping d → ⊥) → IsMatch d input truth → IsSpan d input answer
+    → truth ≡ is_some answer
 match_iff_find d input truth answer premise m s = m.2 ∙ go answer s m.0 m.1 premise
   where
-    same : (o : Option Half) → input.earliest ≡ false → IsAnswer Forward d input o → IsAnswer Forward d (in_full input) o
+    same :
+        (o : Option Half) → input.earliest ≡ false → IsAnswer Forward d input o → IsAnswer Forward d (in_full input) o
     same o e a = subst (λ v. IsAnswer Forward d (with_earliest v input) o) e a
 
     go :

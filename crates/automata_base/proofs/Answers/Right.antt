@@ -36,7 +36,8 @@ Looped d input half i path =
 
 looped :
     (d : Engine) (x : ℕ) (input : Input) (half : Half) (q i : ℕ) (path : List ℕ)
-    → LoopsLazily d.nfa d.anchored d.unanchored x → IsHaystack input.haystack → input.end ≤ length input.haystack → input.anchored ≡ No
+    → LoopsLazily d.nfa d.anchored d.unanchored x → IsHaystack input.haystack → input.end ≤ length input.haystack
+    → input.anchored ≡ No
     → Answered d input half q i path → Looped d input half i path
 looped d x input half q i path loop bytes w m a = (
   s.0,
@@ -73,7 +74,8 @@ short_start d input half q i path lazy bytes w a short = go (mode_cases input.an
     same m e = subst (λ v. IsPathStart d v t path 0) (sym m) (same_start d t path e)
 
     go :
-        (input.anchored ≡ No) ⊎ (input.anchored ≡ No → ⊥) → BeginsLazily d.nfa d.anchored d.unanchored → IsShort d input half → IsPathStart d input.anchored t path 0
+        (input.anchored ≡ No) ⊎ (input.anchored ≡ No → ⊥) → BeginsLazily d.nfa d.anchored d.unanchored
+        → IsShort d input half → IsPathStart d input.anchored t path 0
     go (inr f) lazy short = anchored_start d input.anchored t path f
     go (inl m) (SharedStart e) short = same m e
     go (inl m) (LazyLoop x loop) (inr (inl f)) = absurd (f m)
@@ -99,7 +101,9 @@ start_found f r input half q i path pair keeps bytes w a long = go (mode_cases i
     h : List ℕ
     h = input.haystack
 
-    go : (input.anchored ≡ No) ⊎ (input.anchored ≡ No → ⊥) → BeginsLazily f.nfa f.anchored f.unanchored → StartFound f r input half path
+    go :
+        (input.anchored ≡ No) ⊎ (input.anchored ≡ No → ⊥) → BeginsLazily f.nfa f.anchored f.unanchored
+        → StartFound f r input half path
     go (inr g) lazy = absurd (long (inr (inl g)))
     go (inl m) (SharedStart e) = absurd (long (inr (inr e)))
     go (inl m) (LazyLoop x loop) = (c.0, c.4, omega (arith, c.3, a.1), finds)
@@ -184,13 +188,15 @@ far_right f r input (Found (Some m)) pair keeps bytes w s = (Some m, refl, go s.
 
 -- Under `MatchKind::All` a search back that answers by the ordered paths finds the farthest place.
 back_far :
-    (r : Engine) (input : Input) (half : Half) (o : Option Half) → r.kind ≡ All → IsAnswer Backward r (back input half) o
+    (r : Engine) (input : Input) (half : Half) (o : Option Half) → r.kind ≡ All
+    → IsAnswer Backward r (back input half) o
     → IsFarthestAnswer Backward r (back input half) o
 back_far r input half o all a =
     turn_answers (SelectsOver Backward r) (EndsOver IsFarthest Backward r) (IsSkipping r) Backward (back input half)
     (λ k reported inside s.
     all_farthest r.nfa (reverse_tape input.haystack half.base (half.offset - k)) r.anchored reported
-    (subst (λ v. Selects v false r.nfa (reverse_tape input.haystack half.base (half.offset - k)) r.anchored reported) all s))
+    (subst (λ v. Selects v false r.nfa (reverse_tape input.haystack half.base (half.offset - k)) r.anchored reported)
+    all s))
     o a
 
 pub span_right :

@@ -42,7 +42,8 @@ pub span_inside :
 span_inside d input m w s =
     let a = answered d input s.half s.answer in
     let l =
-    start_inside d input.anchored (forward_tape input.haystack s.half.base input.end) s.first s.length s.half.pattern s.before input.earliest s.path
+    start_inside d input.anchored (forward_tape input.haystack s.half.base input.end) s.first s.length s.half.pattern
+    s.before input.earliest s.path
     s.is_first s.chosen s.begins in
     let g =
     end_inside d input.haystack s.half.base input.end s.first s.length s.half.pattern s.path a.3.4 w s.chosen.0 in
@@ -50,17 +51,21 @@ span_inside d input m w s =
 
 -- A reverse answer lies in its span.
 back_inside :
-    (r : Engine) (h : List ℕ) (b e : ℕ) (found : Half) → e ≤ length h → IsAnswer Backward r (anchored_back h b e) (Some found)
+    (r : Engine) (h : List ℕ) (b e : ℕ) (found : Half) → e ≤ length h
+    → IsAnswer Backward r (anchored_back h b e) (Some found)
     → (b ≤ found.offset) × (found.offset ≤ e)
 back_inside r h b e found w a =
     let z = only_once (SelectsOver Backward r) (IsSkipping r) h b e a.0 a.1 in
-    let g = accepting_inside r.nfa (reverse_tape h b (e - a.0)) r.anchored a.2.pair.place a.2.pair.pattern a.2.reported.0 a.2.reported.1 in
+    let g =
+    accepting_inside r.nfa (reverse_tape h b (e - a.0)) r.anchored a.2.pair.place a.2.pair.pattern a.2.reported.0
+    a.2.reported.1 in
     let n = tape_length h b (e - a.0) (omega (arith, z, a.2.within)) (omega (arith, w)) in
     (omega (arith, a.2.offset, z, g, n, a.2.within), omega (arith, a.2.offset))
 
 -- Any two DFAs find matches that lie in the span.
 pub try_inside :
-    (f r : Engine) (input : Input) (m : Match) → input.end ≤ length input.haystack → IsTrySearch f r input (Found (Some m))
+    (f r : Engine) (input : Input) (m : Match) → input.end ≤ length input.haystack
+    → IsTrySearch f r input (Found (Some m))
     → (input.start ≤ m.start) × (m.start ≤ m.end) × (m.end ≤ input.end)
 try_inside f r input m w s = go s.start
   where
@@ -128,8 +133,10 @@ pub all_first :
 all_first Finds input start last [] s = tt
 all_first Finds input start last (m ∷ ms) s = (s.0, all_first Finds input m.end (Some m.end) ms s.1)
 
-module _ (Finds : Input → Option Match → Type 0) (input : Input) (stays : StaysInside Finds) (w : input.end ≤ length input.haystack) where
-  rise_from : (start : ℕ) (ms : List Match) → AreFirst Finds input start (Some start) ms → Rise input.end (Some start) ms
+module _ (Finds : Input → Option Match → Type 0) (input : Input) (stays : StaysInside Finds)
+    (w : input.end ≤ length input.haystack) where
+  rise_from :
+      (start : ℕ) (ms : List Match) → AreFirst Finds input start (Some start) ms → Rise input.end (Some start) ms
   rise_from start [] s = tt
   rise_from start (m ∷ ms) s =
       let f = next_inside Finds input start (Some start) m stays w s.0 in
@@ -145,14 +152,17 @@ module _ (Finds : Input → Option Match → Type 0) (input : Input) (stays : St
   count_from end start (m ∷ ms) l r = let g = count_from end m.end ms r.0.within r.1 in omega (arith, g, r.0.past)
 
   -- At most one match more than the span has bytes.
-  pub first_few : (ms : List Match) → AreFirst Finds input input.start None ms → length ms ≤ suc (input.end - input.start)
+  pub first_few :
+      (ms : List Match) → AreFirst Finds input input.start None ms → length ms ≤ suc (input.end - input.start)
   first_few [] s = omega arith
   first_few (m ∷ ms) s =
       let f = next_inside Finds input input.start None m stays w s.0 in
       let g = count_from input.end m.end ms f.2 (rise_from m.end ms s.1) in
       omega (arith, g, f.0, f.1)
 
-  matches_rise : (ms : List Match) → AreMatches Finds input input.start None ms → Rise input.end None ms × (length ms ≤ suc (input.end - input.start))
+  matches_rise :
+      (ms : List Match) → AreMatches Finds input input.start None ms → Rise input.end None ms
+      × (length ms ≤ suc (input.end - input.start))
   matches_rise ms s = let f = all_first Finds input input.start None ms s in (first_rise ms f, first_few ms f)
 
 pub spans_rise :
@@ -173,15 +183,22 @@ module _
     (F G : Input → Option Match → Type 0) (input : Input)
     (right : (start : ℕ) (o : Option Match) → F (from start input) o → G (from start input) o)
   where
-    next_right : (start : ℕ) (last : Option ℕ) (o : Option Match) → IsNextItem F input start last o → IsNextItem G input start last o
+    next_right :
+        (start : ℕ) (last : Option ℕ) (o : Option Match) → IsNextItem F input start last o
+        → IsNextItem G input start last o
     next_right start last o (FindsHere s apart) = FindsHere (right start o s) apart
-    next_right start last o (FindsLater m s empty t) = FindsLater m (right start (Some m) s) empty (right (suc start) o t)
+    next_right start last o (FindsLater m s empty t) =
+        FindsLater m (right start (Some m) s) empty (right (suc start) o t)
 
-    pub matches_right : (start : ℕ) (last : Option ℕ) (ms : List Match) → AreMatches F input start last ms → AreMatches G input start last ms
+    pub matches_right :
+        (start : ℕ) (last : Option ℕ) (ms : List Match) → AreMatches F input start last ms
+        → AreMatches G input start last ms
     matches_right start last [] s = next_right start last None s
     matches_right start last (m ∷ ms) s = (next_right start last (Some m) s.0, matches_right m.end (Some m.end) ms s.1)
 
-    pub first_right : (start : ℕ) (last : Option ℕ) (ms : List Match) → AreFirst F input start last ms → AreFirst G input start last ms
+    pub first_right :
+        (start : ℕ) (last : Option ℕ) (ms : List Match) → AreFirst F input start last ms
+        → AreFirst G input start last ms
     first_right start last [] s = tt
     first_right start last (m ∷ ms) s = (next_right start last (Some m) s.0, first_right m.end (Some m.end) ms s.1)
 

@@ -8,7 +8,8 @@ use Rattle.automata_base.proofs.Paths.Orders.{some_inj, some_none}
 use Rattle.automata_base.proofs.Paths.Places.{path_grows}
 use Rattle.automata_base.specs.Haystacks.Tapes.{IsHaystack, Forward, Backward, forward_tape, reverse_tape, is_split}
 use Rattle.automata_base.specs.Nfas.Engines.{Engine, Anchored, No, Yes, Pattern, first_state, LoopsLazily, IsSkipping}
-use Rattle.automata_base.specs.Answers.Answers.{Half, SelectsFrom, later, IsAnswer, IsSplit, Tries, SpanIsDone, SpanReportsNone}
+use Rattle.automata_base.specs.Answers.Answers.{Half, SelectsFrom, later, IsAnswer, IsSplit, Tries, SpanIsDone}
+use Rattle.automata_base.specs.Answers.Answers.{SpanReportsNone}
 use Rattle.automata_base.specs.Answers.Answers.{StopsAtSplit}
 use Rattle.automata_base.specs.Haystacks.Input.{Input}
 use Rattle.automata_base.specs.Answers.TruePairs.{Joins, IsTruePair, KeepsUtf8}
@@ -54,8 +55,10 @@ answered d input half a = go (first_state d input.anchored) refl a.2.reported
       (
         e,
         a.2.offset ∙ ap (λ v. v + a.2.pair.place) (sym a.2.base),
-        subst (λ v. Chooses d input.earliest (forward_tape input.haystack v input.end) q a.2.pair.place half.pattern s.0) (sym a.2.base)
-            (subst (λ v. Chooses d input.earliest (forward_tape input.haystack (input.start + a.0) input.end) q a.2.pair.place v s.0) (sym a.2.pattern) (s.1, s.2)),
+        subst (λ v. Chooses d input.earliest (forward_tape input.haystack v input.end) q a.2.pair.place half.pattern
+        s.0) (sym a.2.base)
+            (subst (λ v. Chooses d input.earliest (forward_tape input.haystack (input.start + a.0) input.end) q
+            a.2.pair.place v s.0) (sym a.2.pattern) (s.1, s.2)),
         omega (arith, a.2.base),
         omega (arith, a.2.base, a.2.within),
         λ k. ap (λ v. is_split input.haystack v) a.2.offset ∙ a.2.whole k,
@@ -64,7 +67,8 @@ answered d input half a = go (first_state d input.anchored) refl a.2.reported
 
 -- In an unanchored search the path is one from the unanchored start.
 pub unanchored :
-    (d : Engine) (input : Input) (half : Half) (q i : ℕ) (path : List ℕ) → input.anchored ≡ No → Answered d input half q i path
+    (d : Engine) (input : Input) (half : Half) (q i : ℕ) (path : List ℕ) → input.anchored ≡ No
+    → Answered d input half q i path
     → Chooses d input.earliest (forward_tape input.haystack half.base input.end) d.unanchored i half.pattern path
 unanchored d input half q i path m a =
     subst (λ v. Chooses d input.earliest (forward_tape input.haystack half.base input.end) v i half.pattern path)
@@ -75,7 +79,8 @@ abbrev pub anchored_back : List ℕ → ℕ → ℕ → Input
 anchored_back h b e = record { haystack = h; start = b; end = e; anchored = Yes; earliest = false }
 
 pub only_once :
-    (T : Input → Option Pair → Type 0) (S : Type 0) (h : List ℕ) (b e k : ℕ) → Tries T S Backward (anchored_back h b e) k
+    (T : Input → Option Pair → Type 0) (S : Type 0) (h : List ℕ) (b e k : ℕ)
+    → Tries T S Backward (anchored_back h b e) k
     → k ≡ 0
 only_once T S h b e k c = ⊎_elim (λ (z : k ≡ 0). z) (λ (z : S × (Yes ≡ No)). absurd (yes_no z.1)) c.comes
 
@@ -89,7 +94,8 @@ pub farthest_greatest :
     (n : Nfa) (t : Tape) (start m : ℕ) (answer : Option Pair) → IsGreatest n t start m → IsFarthest n t start answer
     → (pair : Pair) × (answer ≡ Some pair) × (pair.place ≡ m)
 farthest_greatest n t start m None g f = absurd (f m g.0.0 g.0.1 g.0.2)
-farthest_greatest n t start m (Some pair) g f = (pair, refl, place (eq-or-lt_of_le (g.1 pair.place pair.pattern f.0.0 f.0.1)))
+farthest_greatest n t start m (Some pair) g f =
+    (pair, refl, place (eq-or-lt_of_le (g.1 pair.place pair.pattern f.0.0 f.0.1)))
   where
     place : (pair.place ≡ m) ⊎ (pair.place < m) → pair.place ≡ m
     place (inl e) = e
@@ -194,4 +200,5 @@ start_unsplit f r h b e i k pattern z rest pair keeps bytes u w l p m ends s = g
     go (inl c) = ap (λ v. is_split h (b + v)) c ∙ ends skipping
     go (inr c) =
         unsplit h (b + k) (b + i) (omega (arith, c))
-        (keeps h (b + k) (b + i) pattern Yes f.anchored j.0 skipping.0 bytes (omega (arith, c)) (omega (arith, u, w)) yes_no refl j.1)
+        (keeps h (b + k) (b + i) pattern Yes f.anchored j.0 skipping.0 bytes (omega (arith, c)) (omega (arith, u, w))
+        yes_no refl j.1)

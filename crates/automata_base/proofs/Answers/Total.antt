@@ -17,7 +17,8 @@ use Rattle.automata_base.specs.Answers.Answers.{Half, SelectsFrom, SelectsOver, 
 use Rattle.automata_base.specs.Answers.Answers.{HasAnswerAt, IsSound, SpanIsDone, SpanReportsNone, StopsAtSplit}
 use Rattle.automata_base.specs.Haystacks.Input.{Input}
 use Rattle.automata_base.specs.Answers.TruePairs.{IsTruePair, KeepsUtf8}
-use Rattle.automata_base.specs.Answers.Spans.{IsSpan, IsShort, back, Outcome, Found, NotAPair, IsTrySearch, HasStartBy, StartIsBase}
+use Rattle.automata_base.specs.Answers.Spans.{IsSpan, IsShort, back, Outcome, Found, NotAPair, IsTrySearch, HasStartBy}
+use Rattle.automata_base.specs.Answers.Spans.{StartIsBase}
 use Rattle.automata_base.specs.Answers.Spans.{StartIsFound}
 use Rattle.automata_base.specs.Haystacks.Matches.{Match}
 use Rattle.automata_base.proofs.Answers.Bytes.{nth_reverse, reverse_length}
@@ -52,7 +53,8 @@ reverse_bytes xs b o u e =
 pub tape_units :
     (way : Direction) (h : List ℕ) (s e : ℕ) → IsHaystack h → s ≤ e → e ≤ length h → IsTape (tape_of way h s e)
 tape_units Forward h s e b l w i =
-    next_unit (between h s e) (slice_get h e) i (λ o u g. forward_bytes h s e b l w o u g) (unit_of (slice_get h e) (b e))
+    next_unit (between h s e) (slice_get h e) i (λ o u g. forward_bytes h s e b l w o u g)
+    (unit_of (slice_get h e) (b e))
 tape_units Backward h s e b l w i =
     next_unit (reverse (between h s e)) (byte_before h s) i
     (reverse_bytes (between h s e) (λ o u g. forward_bytes h s e b l w o u g)) (before_unit h s b)
@@ -103,7 +105,9 @@ search_from way d input s b skips (suc n) k c l = ⊎_elim
         half : Half
         half = record { pattern = pair.pattern; offset = o; base = (later way k input).start }
 
-        answer : (IsSkipping d → is_split input.haystack o ≡ false) → HasAnswerAt (SelectsOver way d) (IsSkipping d) way input k half
+        answer :
+            (IsSkipping d → is_split input.haystack o ≡ false)
+            → HasAnswerAt (SelectsOver way d) (IsSkipping d) way input k half
         answer whole = record {
           pair = pair;
           within = m;
@@ -125,7 +129,8 @@ search_from way d input s b skips (suc n) k c l = ⊎_elim
             here = (pair, a, ap (λ v. is_split v o) (haystack_later way k input) ∙ e)
 
             before :
-                input.anchored ≡ No → (j : ℕ) → j < suc k → (input.start + j ≤ input.end) × IsSplitAnswer way d (later way j input)
+                input.anchored ≡ No → (j : ℕ) → j < suc k → (input.start + j ≤ input.end)
+                × IsSplitAnswer way d (later way j input)
             before free j l = ⊎_elim
                 (λ (e : j ≡ k).
                 (omega (arith, m, e), subst (λ v. IsSplitAnswer way d (later way v input)) (sym e) here))
@@ -152,7 +157,8 @@ short_or_not f input half =
   where
     go :
         (half.base ≡ half.offset) ⊎ (half.base ≡ half.offset → ⊥) → (input.anchored ≡ No) ⊎ (input.anchored ≡ No → ⊥)
-        → (f.unanchored ≡ f.anchored) ⊎ (f.unanchored ≡ f.anchored → ⊥) → IsShort f input half ⊎ (IsShort f input half → ⊥)
+        → (f.unanchored ≡ f.anchored) ⊎ (f.unanchored ≡ f.anchored → ⊥) → IsShort f input half
+        ⊎ (IsShort f input half → ⊥)
     go (inl e) m a = inl (inl e)
     go (inr e) (inr m) a = inl (inr (inl m))
     go (inr e) (inl m) (inl a) = inl (inr (inr a))
@@ -185,7 +191,9 @@ try_exists f r input sf sr b kf kr = go (answer_exists Forward f input sf b kf)
 
             inside : IsInput (back input half)
             inside =
-                let g = end_inside f input.haystack half.base input.end reported.0 reported.1 half.pattern reported.2 reported.3.4 b.1 reported.3.2.0 in
+                let g =
+                end_inside f input.haystack half.base input.end reported.0 reported.1 half.pattern reported.2
+                reported.3.4 b.1 reported.3.2.0 in
                 let e = reported.3.1 in
                 let w = b.1 in
                 (b.0, omega (arith, g, e, w))
@@ -194,7 +202,8 @@ try_exists f r input sf sr b kf kr = go (answer_exists Forward f input sf b kf)
                 (start : ℕ) → HasStartBy (IsAnswer Backward r) f input half start
                 → (outcome : Outcome) × IsTrySearch f r input outcome
             found_at start begins =
-                (Found (Some (match_of half start)), record { half = half; front = a; start = begins; pattern = refl; end = refl })
+                (Found (Some (match_of half start)),
+                record { half = half; front = a; start = begins; pattern = refl; end = refl })
 
             start :
                 IsShort f input half ⊎ (IsShort f input half → ⊥) → (outcome : Outcome) × IsTrySearch f r input outcome

@@ -5,12 +5,14 @@ use Rattle.automata_base.specs.Answers.Answers.{StopsAtSplit}
 use Rattle.automata_base.specs.Nfas.Engines.{Engine}
 use Rattle.automata_base.specs.Haystacks.Input.{Input}
 use Rattle.automata_base.specs.Paths.Selections.{Pair}
-use Rattle.automata_base.specs.Answers.Spans.{FindsStartBy, Found, NotAPair, Outcome, ReportsBy, StartIsBase, StartIsFound, back}
+use Rattle.automata_base.specs.Answers.Spans.{FindsStartBy, Found, NotAPair, Outcome, ReportsBy, StartIsBase}
+use Rattle.automata_base.specs.Answers.Spans.{StartIsFound, back}
 use Rattle.automata_base.specs.Haystacks.Tapes.{Direction}
 
 -- what is reported over the spans that a search tries
 module _ (T U : Input → Option Pair → Type 0) (S : Type 0) (way : Direction) (input : Input)
-    (turn : (k : ℕ) (o : Option Pair) → input.start + k ≤ input.end → T (later way k input) o → U (later way k input) o) where
+    (turn : (k : ℕ) (o : Option Pair) → input.start + k ≤ input.end → T (later way k input) o
+    → U (later way k input) o) where
   turn_tries : (k : ℕ) → Tries T S way input k → Tries U S way input k
   turn_tries k tries = record {
     comes = tries.comes;
@@ -47,7 +49,8 @@ module _ (T U : Input → Option Pair → Type 0) (S : Type 0) (way : Direction)
 -- what the search on finds, and the one back
 module _ (Fronts Fronts' Backs Backs' : Input → Option Half → Type 0) (f : Engine) (input : Input)
     (front : (o : Option Half) → Fronts input o → Fronts' input o)
-    (rear : (half : Half) (o : Option Half) → Fronts input (Some half) → Backs (back input half) o → Backs' (back input half) o) where
+    (rear : (half : Half) (o : Option Half) → Fronts input (Some half) → Backs (back input half) o
+    → Backs' (back input half) o) where
   turn_start :
       (half : Half) (o : Option ℕ) → Fronts input (Some half) → FindsStartBy Backs f input half o
       → FindsStartBy Backs' f input half o
@@ -56,7 +59,8 @@ module _ (Fronts Fronts' Backs Backs' : Input → Option Half → Type 0) (f : E
   turn_start half (Some start) given (StartIsFound long found backs same) =
       StartIsFound long found (rear half (Some found) given backs) same
 
-  pub turn_outcome : (outcome : Outcome) → ReportsBy Fronts Backs f input outcome → ReportsBy Fronts' Backs' f input outcome
+  pub turn_outcome :
+      (outcome : Outcome) → ReportsBy Fronts Backs f input outcome → ReportsBy Fronts' Backs' f input outcome
   turn_outcome (Found None) t = front None t
   turn_outcome (Found (Some m)) t = record {
     half = t.half;

@@ -2,7 +2,8 @@
 use Rattle.std.proofs.Common.{ℕ, suc, ◌≡◌, ◌<◌, ◌≤◌, ◌+◌, ◌-◌, Bool, List, length, Option, Some, sym, ap, ◌∙◌}
 use Rattle.std.proofs.Common.{arith, ⊎_elim, eq-or-lt_of_le}
 use Rattle.std.specs.Prelude.{slice_get}
-use Rattle.automata_base.specs.Haystacks.Tapes.{forward_tape, reverse_tape, byte_before, ReadsByteBefore, ReadsUnitAt, ReadsUpto, MeetsNone}
+use Rattle.automata_base.specs.Haystacks.Tapes.{forward_tape, reverse_tape, byte_before, ReadsByteBefore, ReadsUnitAt}
+use Rattle.automata_base.specs.Haystacks.Tapes.{ReadsUpto, MeetsNone}
 use Rattle.automata_base.proofs.Answers.Bytes.{forward_next, forward_prev, reverse_next}
 
 before_suc : (h : List ℕ) (o p : ℕ) → o ≡ suc p → byte_before h o ≡ slice_get h p

@@ -2,7 +2,8 @@
 use Rattle.std.proofs.Common.{ℕ, zero, suc, ◌≡◌, ◌∙◌, ◌<◌, ◌≤◌, ◌⊎◌, inl, inr, Bool, true, false, List, [], ◌∷◌, length}
 use Rattle.std.proofs.Common.{Option, Some, None, refl, sym, ap, subst, arith}
 use Rattle.std.proofs.Common.{eq-or-lt_of_le}
-use Rattle.automata_base.specs.Answers.Answers.{Half, KeepsSplit, SkipsSplit, WalksNoSpan, WalksSpan, later, offset_in, with_offsets}
+use Rattle.automata_base.specs.Answers.Answers.{Half, KeepsSplit, SkipsSplit, WalksNoSpan, WalksSpan, later, offset_in}
+use Rattle.automata_base.specs.Answers.Answers.{with_offsets}
 use Rattle.automata_base.specs.Retraced.Computed.{is_in, once_past}
 use Rattle.automata_base.specs.Retraced.Passes.{earlier_or, pair_at, first_among}
 use Rattle.automata_base.specs.Powersets.Cuts.{MatchKind}
@@ -49,7 +50,9 @@ once_in seen (x ∷ xs) y h = go (is_in x seen) (λ i. once_in seen xs y i) (λ 
   go false old new (inr i) = inr (new i)
 
 -- a step reports patterns of match states
-pub step_own : (a : Automaton) → IsChecked a → (kind : MatchKind) (q : Powerset) (unit : Option ℕ) → ReportsOwn a (successor a kind q unit)
+pub step_own :
+    (a : Automaton) → IsChecked a → (kind : MatchKind) (q : Powerset) (unit : Option ℕ)
+    → ReportsOwn a (successor a kind q unit)
 unfolding successor
 step_own a d kind q unit p h =
     let s = picked (accepts (nfa_of a)) _ p (once_in [] _ p h) in d.patterns s.0 p s.1
@@ -76,14 +79,18 @@ record IsReportedAt (patterns : List ℕ) (i : ℕ) (pair : Pair) : Type 0 where
   place : pair.place ≡ i
   pattern : In pair.pattern patterns
 
-pair_reported : (patterns : List ℕ) (i : ℕ) (o : Option Pair) (pair : Pair) → pair_at patterns i o ≡ Some pair → (o ≡ Some pair) ⊎ IsReportedAt patterns i pair
+pair_reported :
+    (patterns : List ℕ) (i : ℕ) (o : Option Pair) (pair : Pair) → pair_at patterns i o ≡ Some pair → (o ≡ Some pair)
+    ⊎ IsReportedAt patterns i pair
 pair_reported [] i o pair e = inl e
 pair_reported (p ∷ ps) i o pair e =
     let at : Pair = record { pattern = p; place = i } in
     let same : pair ≡ at = sym (some_inj e) in
     inr (record { place = ap (λ (v : Pair). v.place) same; pattern = inl (ap (λ (v : Pair). v.pattern) same) })
 
-earlier_reported : (o other : Option Pair) (pair : Pair) → earlier_or o other ≡ Some pair → (o ≡ Some pair) ⊎ ((o ≡ None) × (other ≡ Some pair))
+earlier_reported :
+    (o other : Option Pair) (pair : Pair) → earlier_or o other ≡ Some pair → (o ≡ Some pair)
+    ⊎ ((o ≡ None) × (other ≡ Some pair))
 earlier_reported None other pair e = inr (refl, e)
 earlier_reported (Some first) other pair e = inl e
 
@@ -96,26 +103,36 @@ module _ (kind : MatchKind) (a : Automaton) (mode : Anchored) (t : Tape) (pair :
   below_more k b = (omega (arith, b.0), b.1)
 
   here : (k : ℕ) → IsReportedAt (reported_at a kind mode t k) k pair → ReportedBelow (suc k)
-  here k s = (omega (arith, s.place), subst (λ i. In pair.pattern (reported_at a kind mode t i)) (sym s.place) s.pattern)
+  here k s =
+      (omega (arith, s.place), subst (λ i. In pair.pattern (reported_at a kind mode t i)) (sym s.place) s.pattern)
 
   last_below : (k : ℕ) → last_reported a kind mode t k ≡ Some pair → ReportedBelow k
   unfolding last_reported
   last_below zero e = absurd (none_some e)
-  last_below (suc k) e = go (λ before. last_below k before) (pair_reported (reported_at a kind mode t k) k (last_reported a kind mode t k) pair e) where
-    go : (last_reported a kind mode t k ≡ Some pair → ReportedBelow k) → (last_reported a kind mode t k ≡ Some pair) ⊎ IsReportedAt (reported_at a kind mode t k) k pair → ReportedBelow (suc k)
+  last_below (suc k) e =
+      go (λ before. last_below k before)
+      (pair_reported (reported_at a kind mode t k) k (last_reported a kind mode t k) pair e) where
+    go :
+        (last_reported a kind mode t k ≡ Some pair → ReportedBelow k) → (last_reported a kind mode t k ≡ Some pair)
+        ⊎ IsReportedAt (reported_at a kind mode t k) k pair → ReportedBelow (suc k)
     go sooner (inl before) = below_more k (sooner before)
     go sooner (inr s) = here k s
 
   pub first_below : (k : ℕ) → first_reported a kind mode t k ≡ Some pair → ReportedBelow k
   unfolding first_reported
   first_below zero e = absurd (none_some e)
-  first_below (suc k) e = go (λ before. first_below k before) (earlier_reported (first_reported a kind mode t k) (pair_at (reported_at a kind mode t k) k None) pair e) where
-    next : (◌≡◌ {A = Option Pair} None (Some pair)) ⊎ IsReportedAt (reported_at a kind mode t k) k pair → ReportedBelow (suc k)
+  first_below (suc k) e =
+      go (λ before. first_below k before)
+      (earlier_reported (first_reported a kind mode t k) (pair_at (reported_at a kind mode t k) k None) pair e) where
+    next :
+        (◌≡◌ {A = Option Pair} None (Some pair)) ⊎ IsReportedAt (reported_at a kind mode t k) k pair
+        → ReportedBelow (suc k)
     next (inl n) = absurd (none_some n)
     next (inr s) = here k s
 
     go : (first_reported a kind mode t k ≡ Some pair → ReportedBelow k)
-        → (first_reported a kind mode t k ≡ Some pair) ⊎ ((first_reported a kind mode t k ≡ None) × (pair_at (reported_at a kind mode t k) k None ≡ Some pair))
+        → (first_reported a kind mode t k ≡ Some pair)
+        ⊎ ((first_reported a kind mode t k ≡ None) × (pair_at (reported_at a kind mode t k) k None ≡ Some pair))
         → ReportedBelow (suc k)
     go sooner (inl before) = below_more k (sooner before)
     go sooner (inr now) = next (pair_reported (reported_at a kind mode t k) k None pair now.1)
@@ -126,17 +143,22 @@ module _ (kind : MatchKind) (a : Automaton) (mode : Anchored) (t : Tape) (pair :
 
 -- the first of what is reported stays the first
 pub first_stays :
-    (reported : ℕ → List ℕ) (pair : Pair) (k n : ℕ) → k ≤ n → first_among reported k ≡ Some pair → first_among reported n ≡ Some pair
-first_stays reported pair k zero l e = let z : k ≡ 0 = omega (arith, l) in subst (λ i. first_among reported i ≡ Some pair) z e
+    (reported : ℕ → List ℕ) (pair : Pair) (k n : ℕ) → k ≤ n → first_among reported k ≡ Some pair
+    → first_among reported n ≡ Some pair
+first_stays reported pair k zero l e =
+    let z : k ≡ 0 = omega (arith, l) in subst (λ i. first_among reported i ≡ Some pair) z e
 first_stays reported pair k (suc n) l e = go (λ more. first_stays reported pair k n more e) (eq-or-lt_of_le l) where
-  go : (k ≤ n → first_among reported n ≡ Some pair) → (k ≡ suc n) ⊎ (k < suc n) → first_among reported (suc n) ≡ Some pair
+  go :
+      (k ≤ n → first_among reported n ≡ Some pair) → (k ≡ suc n) ⊎ (k < suc n)
+      → first_among reported (suc n) ≡ Some pair
   go before (inl same) = subst (λ i. first_among reported i ≡ Some pair) same e
   go before (inr less) = ap (λ o. earlier_or o (pair_at (reported n) n None)) (before (omega (arith, less)))
 
 -- a place of the tape of a span is an offset in the span
 place_in :
     (way : Direction) (input : Input) (place : ℕ) → input.start ≤ input.end → input.end ≤ length input.haystack
-    → place < suc (length (tape_of way input.haystack input.start input.end).bytes) → IsInSpan input (offset_in way input place)
+    → place < suc (length (tape_of way input.haystack input.start input.end).bytes)
+    → IsInSpan input (offset_in way input place)
 place_in Forward input place s few l =
     let n = forward_length input.haystack input.start input.end s few in (omega arith, omega (arith, n, l, s))
 place_in Backward input place s few l =
@@ -144,7 +166,8 @@ place_in Backward input place s few l =
 
 -- what the pass over the span of an input reports is reported at a place of its tape
 pub over_below :
-    (way : Direction) (a : Automaton) (kind : MatchKind) (input : Input) (pair : Pair) → reported_over way a kind input ≡ Some pair
+    (way : Direction) (a : Automaton) (kind : MatchKind) (input : Input) (pair : Pair)
+    → reported_over way a kind input ≡ Some pair
     → ReportedBelow kind a input.anchored (tape_of way input.haystack input.start input.end) pair
     (suc (length (tape_of way input.haystack input.start input.end).bytes))
 over_below way a kind input pair reported =
@@ -159,11 +182,14 @@ pub reported_within :
 reported_within Forward a kind input half few f =
     let b = over_below Forward a kind (later Forward f.0 input) f.2.pair (sym f.2.reported) in
     let w = place_in Forward (later Forward f.0 input) f.2.pair.place f.2.within few b.0 in
-    ((omega (arith, w.0, f.2.offset), omega (arith, w.1, f.2.offset)), omega (arith, f.2.base), omega (arith, w.0, f.2.offset, f.2.base))
+    ((omega (arith, w.0, f.2.offset), omega (arith, w.1, f.2.offset)), omega (arith, f.2.base), omega
+    (arith, w.0, f.2.offset, f.2.base))
 reported_within Backward a kind input half few f =
     let b = over_below Backward a kind (later Backward f.0 input) f.2.pair (sym f.2.reported) in
-    let w = place_in Backward (later Backward f.0 input) f.2.pair.place (omega (arith, f.2.within)) (omega (arith, few)) b.0 in
-    ((omega (arith, w.0, f.2.offset), omega (arith, w.1, f.2.offset)), omega (arith, f.2.base), omega (arith, w.0, f.2.offset, f.2.base))
+    let w =
+    place_in Backward (later Backward f.0 input) f.2.pair.place (omega (arith, f.2.within)) (omega (arith, few)) b.0 in
+    ((omega (arith, w.0, f.2.offset), omega (arith, w.1, f.2.offset)), omega (arith, f.2.base), omega
+    (arith, w.0, f.2.offset, f.2.base))
 
 -- and its pattern is the automaton's
 pattern_reported :
@@ -172,7 +198,8 @@ pattern_reported :
 pattern_reported way a kind input half d f =
     let i = later way f.0 input in
     let b = over_below way a kind i f.2.pair (sym f.2.reported) in
-    subst (IsPatternOf a) (sym f.2.pattern) (reported_own a d kind i.anchored (tape_of way i.haystack i.start i.end) f.2.pair.place f.2.pair.pattern b.1)
+    subst (IsPatternOf a) (sym f.2.pattern)
+    (reported_own a d kind i.anchored (tape_of way i.haystack i.start i.end) f.2.pair.place f.2.pair.pattern b.1)
 
 pub reported_lies : (a : Automaton) → IsChecked a → ReportedLiesWithin a
 reported_lies a d way kind input half few f =
@@ -180,13 +207,15 @@ reported_lies a d way kind input half few f =
 
 -- so do the pairs of a walk
 offset_lies :
-    (a : Automaton) → IsChecked a → (way : Direction) (kind : MatchKind) (input : Input) (pairs : List Pair) (pair : Pair)
+    (a : Automaton) → IsChecked a
+    → (way : Direction) (kind : MatchKind) (input : Input) (pairs : List Pair) (pair : Pair)
     → input.start ≤ input.end → input.end ≤ length input.haystack → SpanReports way a kind input pairs
     → InPairs pair (with_offsets way input pairs) → IsPatternOf a pair.pattern × IsInSpan input pair.place
 offset_lies a d way kind input pairs pair ahead few reported i =
     let t : Tape = tape_of way input.haystack input.start input.end in
     let r = in_offsets way input pair pairs i in
-    let s = in_reported a kind input.anchored t (suc (length t.bytes)) r.raw (subst (InPairs r.raw) reported r.inside) in (
+    let s =
+    in_reported a kind input.anchored t (suc (length t.bytes)) r.raw (subst (InPairs r.raw) reported r.inside) in (
       subst (IsPatternOf a) (sym r.pattern) (reported_own a d kind input.anchored t r.raw.place r.raw.pattern s.1),
       subst (IsInSpan input) (sym r.place) (place_in way input r.raw.place ahead few s.0),
     )

@@ -1,5 +1,6 @@
 -- Boundaries between bytes, the classes that they make, and the stride that has room for the classes.
-use Rattle.std.proofs.Common.{ℕ, zero, suc, ◌≡◌, ◌+◌, ◌-◌, ◌*◌, ◌^◌, ◌<◌, ◌≤◌, Bool, true, false, eqb, get_or-set_other, length-set, subst}
+use Rattle.std.proofs.Common.{ℕ, zero, suc, ◌≡◌, ◌+◌, ◌-◌, ◌*◌, ◌^◌, ◌<◌, ◌≤◌, Bool, true, false, eqb, get_or-set_other}
+use Rattle.std.proofs.Common.{length-set, subst}
 use Rattle.std.proofs.Common.{cond, List, length, get_or, refl, sym, ap, ◌∙◌, arith, ◌⊎◌, inl, inr}
 use Rattle.std.proofs.Math.Nat.{pow-le-pow_right}
 use Rattle.std.proofs.lemmas.Bool.{cases_lt}
@@ -29,9 +30,12 @@ count-same f g (suc n) h =
     ∙ (ap (λ c. c + cond (f (suc n)) 1 0) (count-same f g n (λ b l. h b (omega (arith, l))))
     ∙ (ap (λ t. boundary_count g n + cond t 1 0) (h (suc n) (omega arith)) ∙ sym (count_more g n)))
 
-pub count_rises : (f : ℕ → Bool) (n : ℕ) → (boundary_count f n ≤ boundary_count f (n + 1)) × (boundary_count f (n + 1) ≤ boundary_count f n + 1)
+pub count_rises :
+    (f : ℕ → Bool) (n : ℕ) → (boundary_count f n ≤ boundary_count f (n + 1))
+    × (boundary_count f (n + 1) ≤ boundary_count f n + 1)
 count_rises f n =
-    let more : boundary_count f (n + 1) ≡ boundary_count f n + cond (f (suc n)) 1 0 = ap (boundary_count f) (add_one n) ∙ count_more f n in
+    let more : boundary_count f (n + 1) ≡ boundary_count f n + cond (f (suc n)) 1 0 =
+    ap (boundary_count f) (add_one n) ∙ count_more f n in
     (omega (arith, more), omega (arith, more, one_at_most (f (suc n))))
   where
     add_one : (n : ℕ) → n + 1 ≡ suc n
@@ -55,9 +59,11 @@ count_grows f m (suc n) =
     move n m = omega arith
 
 -- What is counted up to a byte, from what is counted up to the byte before it.
-pub count_next : (f : ℕ → Bool) (k c : ℕ) → 1 ≤ k → c ≡ boundary_count f (k - 1) → c + cond (f k) 1 0 ≡ boundary_count f k
+pub count_next :
+    (f : ℕ → Bool) (k c : ℕ) → 1 ≤ k → c ≡ boundary_count f (k - 1) → c + cond (f k) 1 0 ≡ boundary_count f k
 count_next f zero c h e = absurd (omega (arith, h))
-count_next f (suc n) c h e = ap (λ x. x + cond (f (suc n)) 1 0) (e ∙ ap (boundary_count f) (less n)) ∙ sym (count_more f n)
+count_next f (suc n) c h e =
+    ap (λ x. x + cond (f (suc n)) 1 0) (e ∙ ap (boundary_count f) (less n)) ∙ sym (count_more f n)
   where
     less : (n : ℕ) → suc n - 1 ≡ n
     less n = omega arith
@@ -71,7 +77,8 @@ from_bool-small true = omega arith
 from_bool-small false = omega arith
 
 -- A table of the counts, begun and gone on with.
-pub first_counted : (f : ℕ → Bool) (map : List ℕ) → get_or map 0 0 ≡ 0 → (k : ℕ) → k < 1 → get_or map k 0 ≡ boundary_count f k
+pub first_counted :
+    (f : ℕ → Bool) (map : List ℕ) → get_or map 0 0 ≡ 0 → (k : ℕ) → k < 1 → get_or map k 0 ≡ boundary_count f k
 first_counted f map e zero h = e ∙ sym (count_none f)
 first_counted f map e (suc k) h = absurd (omega (arith, h))
 
@@ -81,9 +88,11 @@ pub next_counted :
     → (k : ℕ) → k < n + 1 → get_or (set map n c) k 0 ≡ boundary_count f k
 next_counted f map n c within e h k l = go (eqb_tells k n)
   where
-    go : ((eqb k n ≡ true) × (k ≡ n)) ⊎ ((eqb k n ≡ false) × (k ≡ n → ⊥)) → get_or (set map n c) k 0 ≡ boundary_count f k
+    go :
+        ((eqb k n ≡ true) × (k ≡ n)) ⊎ ((eqb k n ≡ false) × (k ≡ n → ⊥)) → get_or (set map n c) k 0 ≡ boundary_count f k
     go (inl w) =
-        ap (λ z. get_or (set map n c) z 0) w.1 ∙ (get_or-set_same map n c 0 within ∙ (e ∙ ap (boundary_count f) (sym w.1)))
+        ap (λ z. get_or (set map n c) z 0) w.1
+        ∙ (get_or-set_same map n c 0 within ∙ (e ∙ ap (boundary_count f) (sym w.1)))
     go (inr w) = get_or-set_other map n k c 0 w.1 ∙ h k (omega (arith, l, w.1))
 
 -- A table of the counts below a byte, and the last of them.
@@ -109,7 +118,8 @@ pub counted_same :
     (f : ℕ → Bool) (map : List ℕ) (class byte : ℕ) → 1 ≤ byte → byte < 256 → f byte ≡ false
     → Counted f map class byte → Counted f (set map byte class) class (byte + 1)
 counted_same f map class byte first within e c =
-    subst (λ z. Counted f (set map byte z) z (byte + 1)) (none class) (counted_next f map class byte 0 first within (sym (ap (λ z. cond z 1 0) e)) c)
+    subst (λ z. Counted f (set map byte z) z (byte + 1)) (none class)
+    (counted_next f map class byte 0 first within (sym (ap (λ z. cond z 1 0) e)) c)
   where
     none : (class : ℕ) → class + 0 ≡ class
     none class = omega arith

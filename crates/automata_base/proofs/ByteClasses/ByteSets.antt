@@ -1,6 +1,8 @@
 -- Sets of bytes, by their words and by what each byte is.
-use Rattle.std.proofs.Common.{ℕ, zero, suc, ◌≡◌, ◌≤◌, ◌+◌, ◌*◌, ◌/◌, ◌%◌, ◌^◌, ◌<◌, ◌⊎◌, inl, inr, Bool, true, false, eqb}
-use Rattle.std.proofs.Common.{true≢false, List, [], ◌∷◌, length, length-set, get_or, replicate, refl, sym, ap, ◌∙◌, arith}
+use Rattle.std.proofs.Common.{ℕ, zero, suc, ◌≡◌, ◌≤◌, ◌+◌, ◌*◌, ◌/◌, ◌%◌, ◌^◌, ◌<◌, ◌⊎◌, inl, inr, Bool, true, false}
+use Rattle.std.proofs.Common.{eqb}
+use Rattle.std.proofs.Common.{true≢false, List, [], ◌∷◌, length, length-set, get_or, replicate, refl, sym, ap, ◌∙◌}
+use Rattle.std.proofs.Common.{arith}
 use Rattle.std.specs.Int.{bit_at}
 use Rattle.std.specs.Int.RustNames.{bit_or}
 use Rattle.std.proofs.lemmas.Nat.{le_or_l, le_or_r}
@@ -13,16 +15,20 @@ use Rattle.automata_base.specs.ByteClasses.ByteSets.{IsByteSet, has_byte, truths
 use Rattle.automata_base.specs.ByteClasses.WordsBack.{at_word, of_bits, truth_in, truths_by_bytes, whole}
 
 -- No word has a bit.
-pub no_bytes : (words : List ℕ) → ((k : ℕ) → k < 4 → get_or words k 0 ≡ 0) → (byte : ℕ) → byte < 256 → is_quit (truths_of words) byte ≡ false
+pub no_bytes :
+    (words : List ℕ) → ((k : ℕ) → k < 4 → get_or words k 0 ≡ 0) → (byte : ℕ) → byte < 256
+    → is_quit (truths_of words) byte ≡ false
 no_bytes words none byte h =
     truth_in words byte h
-    ∙ (ap (λ w. eqb (bit_at w (byte % 64)) 1) (none (byte / 64) (omega (arith, h))) ∙ ap (λ z. eqb z 1) (bit_at-zero (byte % 64)))
+    ∙ (ap (λ w. eqb (bit_at w (byte % 64)) 1) (none (byte / 64) (omega (arith, h)))
+    ∙ ap (λ z. eqb z 1) (bit_at-zero (byte % 64)))
 
 abbrev none : List ℕ
 none = 0 ∷ 0 ∷ 0 ∷ 0 ∷ []
 
 pub empty_truths : replicate 256 false ≡ truths_of (0 ∷ 0 ∷ 0 ∷ 0 ∷ [])
-empty_truths = truths_by_bytes none (replicate 256 false) refl (λ k l. get_or-replicate 256 k false false l ∙ sym (clear k l))
+empty_truths =
+    truths_by_bytes none (replicate 256 false) refl (λ k l. get_or-replicate 256 k false false l ∙ sym (clear k l))
   where
     zeros : (k : ℕ) → k < 4 → get_or none k 0 ≡ 0
     zeros zero l = refl
@@ -32,12 +38,15 @@ empty_truths = truths_by_bytes none (replicate 256 false) refl (λ k l. get_or-r
     zeros (suc (suc (suc (suc k)))) l = absurd (omega (arith, l))
 
     clear : (k : ℕ) → k < 256 → has_byte none k ≡ false
-    clear k l = ap (λ w. eqb (bit_at w (k % 64)) 1) (zeros (k / 64) (omega (arith, l))) ∙ ap (λ z. eqb z 1) (bit_at-zero (k % 64))
+    clear k l =
+        ap (λ w. eqb (bit_at w (k % 64)) 1) (zeros (k / 64) (omega (arith, l)))
+        ∙ ap (λ z. eqb z 1) (bit_at-zero (k % 64))
 
 -- Words that have no bit together have none each.
 pub or_none :
     (words : List ℕ)
-    → eqb (bit_or (bit_or (bit_or (get_or words 0 0) (get_or words 1 0)) (get_or words 2 0)) (get_or words 3 0)) 0 ≡ true
+    → eqb (bit_or (bit_or (bit_or (get_or words 0 0) (get_or words 1 0)) (get_or words 2 0)) (get_or words 3 0)) 0
+    ≡ true
     → (k : ℕ) → k < 4 → get_or words k 0 ≡ 0
 or_none words h k l = go k l
   where
@@ -84,9 +93,11 @@ zero_word words k l small nothing = sym (of_bits (λ i. false) 64 (get_or words 
 
 pub none_or :
     (words : List ℕ) → IsByteSet words → ((byte : ℕ) → byte < 256 → is_quit (truths_of words) byte ≡ false)
-    → eqb (bit_or (bit_or (bit_or (get_or words 0 0) (get_or words 1 0)) (get_or words 2 0)) (get_or words 3 0)) 0 ≡ true
+    → eqb (bit_or (bit_or (bit_or (get_or words 0 0) (get_or words 1 0)) (get_or words 2 0)) (get_or words 3 0)) 0
+    ≡ true
 none_or words h nothing =
-    ap (λ z. eqb (bit_or (bit_or (bit_or z (get_or words 1 0)) (get_or words 2 0)) (get_or words 3 0)) 0) (zero 0 (omega arith))
+    ap (λ z. eqb (bit_or (bit_or (bit_or z (get_or words 1 0)) (get_or words 2 0)) (get_or words 3 0)) 0)
+    (zero 0 (omega arith))
     ∙ (ap (λ z. eqb (bit_or (bit_or (bit_or 0 z) (get_or words 2 0)) (get_or words 3 0)) 0) (zero 1 (omega arith))
     ∙ (ap (λ z. eqb (bit_or (bit_or (bit_or 0 0) z) (get_or words 3 0)) 0) (zero 2 (omega arith))
     ∙ ap (λ z. eqb (bit_or (bit_or (bit_or 0 0) 0) z) 0) (zero 3 (omega arith))))
@@ -101,7 +112,8 @@ pub with_byte :
     → ((i : ℕ) → i < 64 → (i ≡ byte % 64 → ⊥) → bit_at word i ≡ bit_at (get_or words (byte / 64) 0) i)
     → truths_of (set words (byte / 64) word) ≡ set (truths_of words) byte put
 with_byte words byte put word l h same others =
-    sym (truths_by_bytes changed (set (truths_of words) byte put) (length-set (truths_of words) byte put ∙ whole words) (λ k m. go k m (eqb_tells k byte)))
+    sym (truths_by_bytes changed (set (truths_of words) byte put) (length-set (truths_of words) byte put ∙ whole words)
+    (λ k m. go k m (eqb_tells k byte)))
   where
     changed : List ℕ
     changed = set words (byte / 64) word
@@ -112,15 +124,20 @@ with_byte words byte put word l h same others =
     own : get_or changed (byte / 64) 0 ≡ word
     own = get_or-set_same words (byte / 64) word 0 inside
 
-    other : (k : ℕ) → k < 256 → (k ≡ byte → ⊥) → ((eqb (k / 64) (byte / 64) ≡ true) × (k / 64 ≡ byte / 64)) ⊎ ((eqb (k / 64) (byte / 64) ≡ false) × (k / 64 ≡ byte / 64 → ⊥)) → has_byte changed k ≡ has_byte words k
+    other :
+        (k : ℕ) → k < 256 → (k ≡ byte → ⊥) → ((eqb (k / 64) (byte / 64) ≡ true) × (k / 64 ≡ byte / 64))
+        ⊎ ((eqb (k / 64) (byte / 64) ≡ false) × (k / 64 ≡ byte / 64 → ⊥)) → has_byte changed k ≡ has_byte words k
     other k m apart (inl w) =
         ap (λ z. eqb (bit_at (get_or changed z 0) (k % 64)) 1) w.1
         ∙ (ap (λ z. eqb (bit_at z (k % 64)) 1) own
         ∙ (ap (λ z. eqb z 1) (others (k % 64) (omega arith) (λ e. apart (omega (arith, e, w.1))))
         ∙ ap (λ z. eqb (bit_at (get_or words z 0) (k % 64)) 1) (sym w.1)))
-    other k m apart (inr w) = ap (λ z. eqb (bit_at z (k % 64)) 1) (get_or-set_other words (byte / 64) (k / 64) word 0 w.1)
+    other k m apart (inr w) =
+        ap (λ z. eqb (bit_at z (k % 64)) 1) (get_or-set_other words (byte / 64) (k / 64) word 0 w.1)
 
-    go : (k : ℕ) → k < 256 → ((eqb k byte ≡ true) × (k ≡ byte)) ⊎ ((eqb k byte ≡ false) × (k ≡ byte → ⊥)) → is_quit (set (truths_of words) byte put) k ≡ has_byte changed k
+    go :
+        (k : ℕ) → k < 256 → ((eqb k byte ≡ true) × (k ≡ byte)) ⊎ ((eqb k byte ≡ false) × (k ≡ byte → ⊥))
+        → is_quit (set (truths_of words) byte put) k ≡ has_byte changed k
     go k m (inl w) =
         ap (is_quit (set (truths_of words) byte put)) w.1
         ∙ (get_or-set_same (truths_of words) byte put false (omega (arith, h, whole words))

@@ -39,7 +39,8 @@ upto k f b = ltb b k && f b
 pub runs_next :
     (m n o : List Bool) (f : ℕ → Bool) (k : ℕ) (is : Bool)
     → is ≡ f k → Adds m n (upto k f) → Adds n o (λ b. eqb b k && is) → Adds m o (upto (k + 1) f)
-runs_next m n o f k is e x y = adds_both m n o (upto k f) (λ b. eqb b k && is) (upto (k + 1) f) (λ b. go b (eqb_tells b k)) x y
+runs_next m n o f k is e x y =
+    adds_both m n o (upto k f) (λ b. eqb b k && is) (upto (k + 1) f) (λ b. go b (eqb_tells b k)) x y
   where
     go : (b : ℕ) → ((eqb b k ≡ true) × (b ≡ k)) ⊎ ((eqb b k ≡ false) × (b ≡ k → ⊥))
         → ltb b (k + 1) && f b ≡ (ltb b k && f b) || (eqb b k && is)
@@ -69,14 +70,16 @@ pub adds_no_quits :
     (m : List Bool) (quits : List Bool) → ((b : ℕ) → b < 256 → is_quit quits b ≡ false) → Adds m m (quits_bound quits)
 adds_no_quits m quits none = record {
   marks = λ b l.
-      let bound : quits_bound quits b ≡ false = ap (λ z. differ z (is_quit quits (b - 1))) (none b l) ∙ none (b - 1) (omega arith) in
+      let bound : quits_bound quits b ≡ false =
+      ap (λ z. differ z (is_quit quits (b - 1))) (none b l) ∙ none (b - 1) (omega arith) in
       sym (ap (λ z. is_marked m b || z) bound ∙ or-false (is_marked m b));
 }
 
 -- Looks and states.
 pub word_bounds :
     (t : ℕ) (look : Look)
-    → (look ≡ Start → ⊥) → (look ≡ End → ⊥) → (look ≡ StartLF → ⊥) → (look ≡ EndLF → ⊥) → (look ≡ StartCRLF → ⊥) → (look ≡ EndCRLF → ⊥)
+    → (look ≡ Start → ⊥) → (look ≡ End → ⊥) → (look ≡ StartLF → ⊥) → (look ≡ EndLF → ⊥) → (look ≡ StartCRLF → ⊥)
+    → (look ≡ EndCRLF → ⊥)
     → (b : ℕ) → look_bounds t look b ≡ ((bounds 48 57 b || bounds 65 90 b) || (bounds 95 95 b || bounds 97 122 b))
 unfolding look_bounds
 word_bounds t Start n1 n2 n3 n4 n5 n6 b = absurd (n1 refl)
@@ -88,16 +91,19 @@ word_bounds t EndCRLF n1 n2 n3 n4 n5 n6 b = absurd (n6 refl)
 word_bounds t look n1 n2 n3 n4 n5 n6 b = refl
 
 -- All boundaries.
-pub bounded_off : (a : Automaton) (quits : List Bool) (on : Bool) → on ≡ false → (b : ℕ) → is_boundary a quits on b ≡ true
+pub bounded_off :
+    (a : Automaton) (quits : List Bool) (on : Bool) → on ≡ false → (b : ℕ) → is_boundary a quits on b ≡ true
 unfolding is_boundary
 bounded_off a quits on e b = ap (λ z. is_boundary a quits z b) e
 
 pub bounded_on :
-    (a : Automaton) (quits : List Bool) (on : Bool) (m n o : List Bool) → on ≡ true → ((b : ℕ) → b < 256 → is_marked m b ≡ false)
+    (a : Automaton) (quits : List Bool) (on : Bool) (m n o : List Bool) → on ≡ true
+    → ((b : ℕ) → b < 256 → is_marked m b ≡ false)
     → Adds m n (states_bound a.flags.line_terminator a.states) → Adds n o (quits_bound quits)
     → (b : ℕ) → b < 256 → is_marked o b ≡ is_boundary a quits on b
 unfolding is_boundary
 bounded_on a quits on m n o e none x y b h =
     y.marks b h
-    ∙ (ap (λ z. z || quits_bound quits b) (x.marks b h ∙ ap (λ z. z || states_bound a.flags.line_terminator a.states b) (none b h))
+    ∙ (ap (λ z. z || quits_bound quits b)
+    (x.marks b h ∙ ap (λ z. z || states_bound a.flags.line_terminator a.states b) (none b h))
     ∙ sym (ap (λ z. is_boundary a quits z b) e))

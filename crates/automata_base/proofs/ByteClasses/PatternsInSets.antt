@@ -37,7 +37,9 @@ taken_out xs at l =
     next (x ∷ xs) zero l = refl
     next (x ∷ xs) (suc at) l = ap (λ ys. false ∷ ys) (next xs at (omega (arith, l)))
 
-pub all_out : (xs : List Bool) (at : ℕ) → length xs ≤ at → at ≤ length xs → replicate at false ++ drop at xs ≡ replicate (length xs) false
+pub all_out :
+    (xs : List Bool) (at : ℕ) → length xs ≤ at → at ≤ length xs
+    → replicate at false ++ drop at xs ≡ replicate (length xs) false
 all_out [] zero l m = refl
 all_out [] (suc at) l m = absurd (omega (arith, m))
 all_out (x ∷ xs) zero l m = absurd (omega (arith, l))
@@ -72,7 +74,8 @@ set_counted xs i n h l e c = record {
   small = small-set xs i h c.small;
 }
 
-pub few_more : (xs : List Bool) (i : ℕ) → i < length xs → get_or xs i false ≡ false → length (members xs) + 1 ≤ length xs
+pub few_more :
+    (xs : List Bool) (i : ℕ) → i < length xs → get_or xs i false ≡ false → length (members xs) + 1 ≤ length xs
 few_more xs i h e =
     let more = members-set xs i 0 h e in
     let few = members-few (set xs i true) 0 in

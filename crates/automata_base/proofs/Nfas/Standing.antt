@@ -1,6 +1,7 @@
 -- States that stand for lists of those of another NFA, as the code tests them.
 use Rattle.std.proofs.Common.{ℕ, zero, suc, ◌≡◌, ◌<◌, ◌≤◌, ◌+◌, ◌-◌, ◌⊎◌, inl, inr, false, ltb, cond, List, [], ◌∷◌}
-use Rattle.std.proofs.Common.{rules, Result, Ok, Err, ◌++◌, ◌||◌, Option, Some, None, length, get_or, drop, Vec, refl, sym, ap, ◌∙◌, subst, arith}
+use Rattle.std.proofs.Common.{rules, Result, Ok, Err, ◌++◌, ◌||◌, Option, Some, None, length, get_or, drop, Vec, refl}
+use Rattle.std.proofs.Common.{sym, ap, ◌∙◌, subst, arith}
 use Rattle.std.proofs.lemmas.Bool.Decides.{nat_tests}
 use Rattle.std.proofs.lemmas.List.{drop_all}
 use Rattle.std.specs.Prelude.{MatchOption, MatchResult, IfOk, IfSome, is_some, slice_get}
@@ -9,7 +10,8 @@ use Rattle.std.specs.Cmp.{unsigned_Decides}
 use Rattle.std.specs.declared.alloc.Global.{Global}
 use Rattle.automata_base.specs.Lists.{In}
 use Rattle.automata_base.specs.Nfas.MergedNfas.{IsMergedNfa, KeepsBounds}
-use Rattle.automata_base.specs.Nfas.Merges.{IsMerged, ReadsFor, Shows, list_or_none, stood_for, all_stood_for, target_for}
+use Rattle.automata_base.specs.Nfas.Merges.{IsMerged, ReadsFor, Shows, list_or_none, stood_for, all_stood_for}
+use Rattle.automata_base.specs.Nfas.Merges.{target_for}
 use Rattle.automata_base.specs.Nfas.Nfa.{Node, Range, Read, Split, accepts_at, node, node_or_fail, takes_at}
 use Rattle.automata_base.specs.Nfas.Nodes.{Automaton, node_of, nodes_of, nfa_of}
 use Rattle.automata_base.specs.Nfas.KeptClosure.{AreRows}
@@ -41,7 +43,9 @@ pub ok_of :
 ok_of P Q N (Ok x) f m = f x m
 ok_of P Q N (Err e) f m = tt
 
-lists_get : (vs : List (Vec ℕ Global)) (k : ℕ) (v : Vec ℕ Global) → k < length vs → v ≡ get_or vs k v → slice_get (lists_of vs) k ≡ Some v.items
+lists_get :
+    (vs : List (Vec ℕ Global)) (k : ℕ) (v : Vec ℕ Global) → k < length vs → v ≡ get_or vs k v
+    → slice_get (lists_of vs) k ≡ Some v.items
 lists_get [] k v l e = absurd (omega (arith, l))
 lists_get (w ∷ vs) zero v l e = ap (λ (z : Vec ℕ Global). Some z.items) (sym e)
 lists_get (w ∷ vs) (suc k) v l e = lists_get vs k v (omega (arith, l)) e
@@ -66,7 +70,8 @@ pub stand_next :
     → i < length ids → q ≡ get_or ids i q → rest ≡ stood_for count lists q ++ next
     → Stand count lists ids list i rest → Stand count lists ids list (i + 1) next
 stand_next count lists ids list i q rest next l e parts s same =
-    s (ap (all_stood_for count lists) (next_drop ids i q l e) ∙ (ap (λ z. stood_for count lists q ++ z) same ∙ sym parts))
+    s (ap (all_stood_for count lists) (next_drop ids i q l e)
+    ∙ (ap (λ z. stood_for count lists q ++ z) same ∙ sym parts))
 
 pub stand_all :
     (count : ℕ) (lists : List (List ℕ)) (ids list : List ℕ) (i : ℕ) (rest : List ℕ)
@@ -87,7 +92,8 @@ IsPlain a q =
     (q < length a.states) × ((q ≡ a.start_anchored → ⊥) × ((ranges : List Range) × (node (nfa_of a) q ≡ Read ranges)))
 
 -- States that read bytes match no pattern.
-pub plain_unmatched : (a : Automaton) (xs : List ℕ) → ((q : ℕ) → In q xs → IsPlain a q) → has_match (nfa_of a) xs ≡ false
+pub plain_unmatched :
+    (a : Automaton) (xs : List ℕ) → ((q : ℕ) → In q xs → IsPlain a q) → has_match (nfa_of a) xs ≡ false
 plain_unmatched a [] p = refl
 plain_unmatched a (x ∷ xs) p =
     let w = p x (inl refl) in
@@ -127,9 +133,11 @@ reads_all a lists rows count m list ranges is plain leads are reads = record {
 
 -- The row of a byte was tested.
 pub row_found :
-    (lists rows : List (Vec ℕ Global)) (count : ℕ) (m : Node) (u : ℕ) (target : Option ℕ) (row : List ℕ) (v : Vec ℕ Global)
+    (lists rows : List (Vec ℕ Global)) (count : ℕ) (m : Node) (u : ℕ) (target : Option ℕ) (row : List ℕ)
+    (v : Vec ℕ Global)
     → u < length rows → target ≡ takes_at m u → v ≡ get_or rows u v → row ≡ v.items
-    → target_for count (lists_of lists) target ≡ row → target_for count (lists_of lists) (takes_at m u) ≡ list_at (lists_of rows) u
+    → target_for count (lists_of lists) target ≡ row
+    → target_for count (lists_of lists) (takes_at m u) ≡ list_at (lists_of rows) u
 row_found lists rows count m u target row v l is e own leads =
     ap (target_for count (lists_of lists)) (sym is) ∙ (leads ∙ (own ∙ sym (list_item rows u v l e)))
 
@@ -148,7 +156,8 @@ shows_union a b lists count m alternates list is split stand further =
 abbrev pub IsOld : (a b : Automaton) → List (List ℕ) → (now was : Node) → Type 0
 IsOld a b lists now was =
     (now ≡ was)
-    ⊎ ((alternates : List ℕ) × (was ≡ Split alternates) × Shows (nfa_of a) (nfa_of b) a.start_anchored lists now alternates)
+    ⊎ ((alternates : List ℕ) × (was ≡ Split alternates)
+    × Shows (nfa_of a) (nfa_of b) a.start_anchored lists now alternates)
 
 pub old_found :
     (a b : Automaton) (lists : List (List ℕ)) (now was now' was' : Node)
@@ -167,7 +176,8 @@ pub further_found :
     → k < length vs → v ≡ get_or vs k v → list ≡ v.items → node (nfa_of b) (length a.states + k) ≡ m
     → Shows (nfa_of a) (nfa_of b) a.start_anchored (lists_of vs) m list → IsFurther a b (lists_of vs) k
 further_found a b vs k m list v l e own at shows =
-    subst (λ z. Shows (nfa_of a) (nfa_of b) a.start_anchored (lists_of vs) z (stood_for (length a.states) (lists_of vs) (length a.states + k)))
+    subst (λ z. Shows (nfa_of a) (nfa_of b) a.start_anchored (lists_of vs) z
+    (stood_for (length a.states) (lists_of vs) (length a.states + k)))
     (sym at)
     (subst (Shows (nfa_of a) (nfa_of b) a.start_anchored (lists_of vs) m)
     (own ∙ sym (stood_further (length a.states) vs k (length a.states + k) v (omega arith) (omega arith) l e)) shows)
@@ -183,16 +193,21 @@ pub merged_of :
 merged_of a b vs terminator reverse count old further = record {
   terminator = terminator;
   reverse = reverse;
-  count = (let x = nodes_length a.states in let y = nodes_length b.states in let z = lists_length vs in omega (arith, x, y, z, count));
+  count =
+      (let x = nodes_length a.states in let y = nodes_length b.states in let z = lists_length vs in
+      omega (arith, x, y, z, count));
   old = λ q l. old q (subst (λ z. q < z) (nodes_length a.states) l);
   further = λ q least l.
       let x = nodes_length a.states in
       let y = nodes_length b.states in
       let back : length a.states + (q - length a.states) ≡ q = omega (arith, x, least) in
       let few : q - length a.states < length vs = omega (arith, x, y, least, l, count) in
-      subst (λ z. Shows (nfa_of a) (nfa_of b) a.start_anchored (lists_of vs) (node (nfa_of b) z) (stood_for (length (nodes_of a.states)) (lists_of vs) z))
+      subst (λ z. Shows (nfa_of a) (nfa_of b) a.start_anchored (lists_of vs) (node (nfa_of b) z)
+      (stood_for (length (nodes_of a.states)) (lists_of vs) z))
       back
-      (subst (λ z. Shows (nfa_of a) (nfa_of b) a.start_anchored (lists_of vs) (node (nfa_of b) (length a.states + (q - length a.states))) (stood_for z (lists_of vs) (length a.states + (q - length a.states))))
+      (subst (λ z. Shows (nfa_of a) (nfa_of b) a.start_anchored (lists_of vs)
+      (node (nfa_of b) (length a.states + (q - length a.states)))
+      (stood_for z (lists_of vs) (length a.states + (q - length a.states))))
       (sym x) (further (q - length a.states) few));
 }
 

@@ -5,7 +5,8 @@ use Rattle.automata_base.specs.Lists.{Sorted}
 use Rattle.automata_base.specs.Nfas.Nfa.{Nfa}
 use Rattle.automata_base.specs.Paths.Order.{Before, Upto}
 use Rattle.automata_base.specs.Paths.Paths.{Tape}
-use Rattle.automata_base.specs.Paths.Selections.{Accepts, IsAllAt, IsFirstAt, ArePatternsAt, Pair, Pairs, IsOverlappingOn}
+use Rattle.automata_base.specs.Paths.Selections.{Accepts, IsAllAt, IsFirstAt, ArePatternsAt, Pair, Pairs}
+use Rattle.automata_base.specs.Paths.Selections.{IsOverlappingOn}
 use Rattle.automata_base.specs.Paths.Selections.{ByEdges, ByPlace, IsChosen, ReportsLeast, ReportsNoneAt, Selects}
 use Rattle.automata_base.specs.Powersets.Cuts.{MatchKind, All, LeftmostFirst}
 
@@ -43,7 +44,8 @@ module _ (n m : Nfa) (t : Tape) (q : ℕ) (R : List ℕ → List ℕ → Type 0)
       )
 
   sorted_carried :
-      (i : ℕ) (ps : List ℕ) → Sorted (λ p path. Accepts n t q i p path) ps → Sorted (λ p path. Accepts m t q i p path) ps
+      (i : ℕ) (ps : List ℕ) → Sorted (λ p path. Accepts n t q i p path) ps
+      → Sorted (λ p path. Accepts m t q i p path) ps
   sorted_carried i [] h = tt
   sorted_carried i (p ∷ ps) h =
       let c = there i p h.0 h.1 in (
@@ -80,7 +82,8 @@ module _ (n m : Nfa) (t : Tape) (q : ℕ) (R : List ℕ → List ℕ → Type 0)
             let d = back j other more acc in order path c.0 d.0 more c.1 d.1 (h.first j other d.0 l d.2);
       })
 
-  patterns_carried : (kind : MatchKind) (i : ℕ) (ps : List ℕ) → ArePatternsAt kind n t q i ps → ArePatternsAt kind m t q i ps
+  patterns_carried :
+      (kind : MatchKind) (i : ℕ) (ps : List ℕ) → ArePatternsAt kind n t q i ps → ArePatternsAt kind m t q i ps
   patterns_carried All i ps h = all_carried i ps h
   patterns_carried LeftmostFirst i ps h = first_carried i ps h
 

@@ -21,13 +21,17 @@ below_in N (x ∷ xs) y e (inr i) = below_in N xs y (and_parts (ltb x N) (all_be
 
 ranges_in : (N : ℕ) (rs : List Range) (u y : ℕ) → ranges_below N rs ≡ true → takes_in rs u ≡ Some y → y < N
 ranges_in N [] u y e t = absurd (none_some t)
-ranges_in N (r ∷ rs) u y e t = go (within r.lo r.hi u) t (ranges_in N rs u y (and_parts (ltb r.next N) (ranges_below N rs) e).1)
+ranges_in N (r ∷ rs) u y e t =
+    go (within r.lo r.hi u) t (ranges_in N rs u y (and_parts (ltb r.next N) (ranges_below N rs) e).1)
   where
     go : (b : Bool) → cond b (Some r.next) (takes_in rs u) ≡ Some y → (takes_in rs u ≡ Some y → y < N) → y < N
-    go true t ih = subst (λ v. v < N) (some_inj t) (ltb-true r.next N (and_parts (ltb r.next N) (ranges_below N rs) e).0)
+    go true t ih =
+        subst (λ v. v < N) (some_inj t) (ltb-true r.next N (and_parts (ltb r.next N) (ranges_below N rs) e).0)
     go false t ih = ih t
 
-node_in : (N : ℕ) (nodes : List Node) (q : ℕ) → nodes_below N nodes ≡ true → node_below N (node_or_fail (slice_get nodes q)) ≡ true
+node_in :
+    (N : ℕ) (nodes : List Node) (q : ℕ) → nodes_below N nodes ≡ true
+    → node_below N (node_or_fail (slice_get nodes q)) ≡ true
 node_in N [] q e = refl
 node_in N (x ∷ xs) zero e = (and_parts (node_below N x) (nodes_below N xs) e).0
 node_in N (x ∷ xs) (suc q) e = node_in N xs q (and_parts (node_below N x) (nodes_below N xs) e).1

@@ -1,4 +1,5 @@
--- Least keys of a list of states, followed by least paths from what the states lead to, are least keys, also if only the
+-- Least keys of a list of states, followed by least paths from what the states lead to, are least keys, also if only
+-- the
 -- least of them can be joined.
 use Rattle.std.proofs.Common.{ℕ, zero, suc, ◌≡◌, ◌<◌, List, [], ◌∷◌, ◌++◌, ◌⊎◌, Option, Some, None, inl, inr, refl, sym}
 use Rattle.std.proofs.Common.{ap, ◌∙◌, subst, arith}
@@ -9,11 +10,14 @@ use Rattle.automata_base.proofs.Paths.Orders.{cons_head, cons_tail, none_some, b
 use Rattle.automata_base.proofs.Paths.Orders.{before_append, before_irrefl, before_upto, before_trans}
 
 -- The index of a state among those that are picked.
-pub put_nth : (o : Option ℕ) (ys : List ℕ) (r : ℕ) → (k : ℕ) × (slice_get ys k ≡ Some r) → (k : ℕ) × (slice_get (cons_some o ys) k ≡ Some r)
+pub put_nth :
+    (o : Option ℕ) (ys : List ℕ) (r : ℕ) → (k : ℕ) × (slice_get ys k ≡ Some r) → (k : ℕ)
+    × (slice_get (cons_some o ys) k ≡ Some r)
 put_nth None ys r h = h
 put_nth (Some x) ys r h = (suc h.0, h.1)
 
-pub in_pick : (g : ℕ → Option ℕ) (N : List ℕ) (y r : ℕ) → In y N → g y ≡ Some r → (k : ℕ) × (slice_get (pick g N) k ≡ Some r)
+pub in_pick :
+    (g : ℕ → Option ℕ) (N : List ℕ) (y r : ℕ) → In y N → g y ≡ Some r → (k : ℕ) × (slice_get (pick g N) k ≡ Some r)
 in_pick g [] y r h e = elim h [ ]
 in_pick g (x ∷ xs) y r (inl h) e =
     (zero, subst (λ o. slice_get (cons_some o (pick g xs)) zero ≡ Some r) (sym e ∙ ap g h) refl)

@@ -56,7 +56,9 @@ pub no_leader : (n : Nfa) (xs : List ℕ) → leader n xs ≡ None → front n x
 no_leader n [] h = refl
 no_leader n (q ∷ xs) h = go (accepts n q) h (no_leader n xs)
   where
-    go : (o : Option ℕ) → first_of_two o q (leader n xs) ≡ None → (leader n xs ≡ None → front n xs ≡ xs) → stop_at o q (front n xs) ≡ q ∷ xs
+    go :
+        (o : Option ℕ) → first_of_two o q (leader n xs) ≡ None → (leader n xs ≡ None → front n xs ≡ xs)
+        → stop_at o q (front n xs) ≡ q ∷ xs
     go None h ih = ap (λ v. q ∷ v) (ih h)
     go (Some p) h ih = absurd (none_some (sym h))
 
@@ -121,7 +123,8 @@ leader_sorted n P (x ∷ xs) m s h = go (accepts n x) refl h (leader_sorted n P 
         placed : (q : ℕ) → In q (x ∷ xs) → In q (x ∷ front n xs) ⊎ ((key : List ℕ) → P q key → Upto w.0 key)
         placed q (inl i) = inl (inl i)
         placed q (inr i) =
-            ⊎_elim (λ (k : In q (front n xs)). inl (inr k)) (λ (k : (key : List ℕ) → P q key → Upto w.0 key). inr k) (w.4 q i)
+            ⊎_elim (λ (k : In q (front n xs)). inl (inr k)) (λ (k : (key : List ℕ) → P q key → Upto w.0 key). inr k)
+            (w.4 q i)
 
         matches : (q p : ℕ) (key : List ℕ) → In q (x ∷ xs) → accepts n q ≡ Some p → P q key → Upto w.0 key
         matches q p key (inl i) a h = absurd (none_some (sym e ∙ (ap (λ v. accepts n v) (sym i) ∙ a)))
@@ -133,7 +136,8 @@ Led n P xs m =
     × ((q p : ℕ) (key : List ℕ) → accepts n q ≡ Some p → P q key → Upto a key)
     × IsListOf (λ q key. P q key × Before key a) (front n xs)
 
-pub led : (n : Nfa) (P : ℕ → List ℕ → Type 0) (xs : List ℕ) (m : ℕ) → IsListOf P xs → leader n xs ≡ Some m → Led n P xs m
+pub led :
+    (n : Nfa) (P : ℕ → List ℕ → Type 0) (xs : List ℕ) (m : ℕ) → IsListOf P xs → leader n xs ≡ Some m → Led n P xs m
 led n P xs m l h =
     (w.0, w.1, w.2, λ q p key a k. w.5 q p key (l.0 q key k) a k, (placed, w.3))
   where
@@ -142,5 +146,6 @@ led n P xs m l h =
 
     placed : (q : ℕ) (key : List ℕ) → P q key × Before key w.0 → In q (front n xs)
     placed q key k = ⊎_elim (λ (i : In q (front n xs)). i)
-        (λ (f : (key : List ℕ) → P q key → Upto w.0 key). absurd (before_irrefl key (before_upto key w.0 key k.1 (f key k.0))))
+        (λ (f : (key : List ℕ) → P q key → Upto w.0 key). absurd
+        (before_irrefl key (before_upto key w.0 key k.1 (f key k.0))))
         (w.4 q (l.0 q key k.0))

@@ -13,7 +13,8 @@ use Rattle.automata_base.specs.Powersets.Powerset.{Powerset}
 use Rattle.automata_base.proofs.Paths.Orders.{none_some}
 use Rattle.automata_base.proofs.Paths.Walks.{walk_more}
 use Rattle.automata_base.proofs.Paths.Sift.{Sifted, sift, same, picked_in}
-use Rattle.automata_base.proofs.Paths.Staying.{Ending, keep_sieve, ends_sieve, kept_at, ends_stay, keep_true, stays_kept}
+use Rattle.automata_base.proofs.Paths.Staying.{Ending, keep_sieve, ends_sieve, kept_at, ends_stay, keep_true}
+use Rattle.automata_base.proofs.Paths.Staying.{stays_kept}
 use Rattle.automata_base.proofs.Paths.Late.{late}
 use Rattle.automata_base.proofs.Paths.Truths.{truths}
 use Rattle.automata_base.specs.Haystacks.LookSets.{truth_of}
@@ -74,7 +75,8 @@ pub decides_known :
     → IsUnit u
     → ((look : Look) → (K look ≡ true) ↔ IsKnownLook n prev look)
     → IsClosure n K roots C → IsMake n patterns C prev Q → (IsNews n Q u → ⊥)
-    → IsListOf (Ending n (From (λ root path q. IsPathAt n (truth_between n prev u) [] root path q) roots)) (pick (ends n) Q.nfa)
+    → IsListOf (Ending n (From (λ root path q. IsPathAt n (truth_between n prev u) [] root path q) roots))
+    (pick (ends n) Q.nfa)
 decides_known n K patterns roots C prev u Q unit known c make quiet = subst Goal (sym make.nfa) here
   where
     T : Truth
@@ -113,12 +115,14 @@ decides_known n K patterns roots C prev u Q unit known c make quiet = subst Goal
         was_known = either (truth_of Q.known look) refl
 
     there :
-        (q : ℕ) (key : List ℕ) → Sifted (ends n) (Sifted (keep n) (From (W K) roots)) q key → Ending n (From (W T) roots) q key
+        (q : ℕ) (key : List ℕ) → Sifted (ends n) (Sifted (keep n) (From (W K) roots)) q key
+        → Ending n (From (W T) roots) q key
     there q [] k = absurd k.1.1
     there q (i ∷ s) k = (k.0, (k.1.1.0, k.1.1.1, walk_more n K T [] k.1.1.0 s q more k.1.1.2))
 
     back :
-        (q : ℕ) (key : List ℕ) → Ending n (From (W T) roots) q key → Sifted (ends n) (Sifted (keep n) (From (W K) roots)) q key
+        (q : ℕ) (key : List ℕ) → Ending n (From (W T) roots) q key
+        → Sifted (ends n) (Sifted (keep n) (From (W K) roots)) q key
     back q [] k = absurd k.1
     back q (i ∷ s) k = (
       k.0,
@@ -130,7 +134,8 @@ decides_known n K patterns roots C prev u Q unit known c make quiet = subst Goal
 
     here : Goal (pick (keep n) C)
     here =
-        same (Sifted (ends n) (Sifted (keep n) (From (W K) roots))) (Ending n (From (W T) roots)) (pick (ends n) (pick (keep n) C))
+        same (Sifted (ends n) (Sifted (keep n) (From (W K) roots))) (Ending n (From (W T) roots))
+        (pick (ends n) (pick (keep n) C))
         there back
         (sift (Sifted (keep n) (From (W K) roots)) (ends n) (pick (keep n) C) (ends_sieve n)
         (sift (From (W K) roots) (keep n) C (keep_sieve n) c))
@@ -154,10 +159,12 @@ pub decides :
     → KeepsCycles n → IsUnit u
     → ((look : Look) → (K look ≡ true) ↔ IsKnownLook n prev look)
     → IsClosure n K roots C → IsMake n patterns C prev Q → IsDecided n Q u L
-    → IsListOf (Ending n (From (λ root path q. IsPathAt n (truth_between n prev u) [] root path q) roots)) (pick (ends n) L)
+    → IsListOf (Ending n (From (λ root path q. IsPathAt n (truth_between n prev u) [] root path q) roots))
+    (pick (ends n) L)
 decides n K patterns roots C prev u Q L free unit known c make (HasNews news h) =
     late n K (truth_between n prev u) roots C L (λ look k. ((known look).0 k).1 u unit) free c
     (news_closure n patterns C prev u Q L unit make news h)
 decides n K patterns roots C prev u Q L free unit known c make (HasNoNews quiet same) =
-    subst (λ v. IsListOf (Ending n (From (λ root path q. IsPathAt n (truth_between n prev u) [] root path q) roots)) (pick (ends n) v))
+    subst (λ v. IsListOf (Ending n (From (λ root path q. IsPathAt n (truth_between n prev u) [] root path q) roots))
+    (pick (ends n) v))
     (sym same) (decides_known n K patterns roots C prev u Q unit known c make quiet)

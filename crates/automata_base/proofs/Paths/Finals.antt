@@ -7,7 +7,8 @@ use Rattle.automata_base.specs.Paths.Paths.{Tape, KeepsCycles}
 use Rattle.automata_base.specs.Powersets.Cuts.{MatchKind, All}
 use Rattle.automata_base.specs.Paths.Selections.{Accepts, Pair, IsNearest, IsFarthest, Pairs, Reports, Selects}
 use Rattle.automata_base.specs.Paths.Selections.{IsOverlappingOn}
-use Rattle.automata_base.specs.Retraced.Passes.{earlier_or, first_among, last_among, pair_at, pairs_upto, reported_of, search_of}
+use Rattle.automata_base.specs.Retraced.Passes.{earlier_or, first_among, last_among, pair_at, pairs_upto, reported_of}
+use Rattle.automata_base.specs.Retraced.Passes.{search_of}
 use Rattle.automata_base.specs.Nfas.Accepted.{IsInRange}
 use Rattle.automata_base.specs.Powersets.Passes.{IsTape}
 use Rattle.automata_base.proofs.Paths.Searches.{sel_right, walk_right}
@@ -56,7 +57,9 @@ first_right reported At (suc k) f = go (first_among reported k) (first_right rep
     new : (i : ℕ) → i < suc k → (i ≡ k) ⊎ (i < k)
     new i l = eq-or-lt_of_le (le_of_suc-le-suc l)
 
-    go : (o : Option Pair) → IsFirst At k o → (xs : List ℕ) → At k xs → IsFirst At (suc k) (earlier_or o (pair_at xs k None))
+    go :
+        (o : Option Pair) → IsFirst At k o → (xs : List ℕ) → At k xs
+        → IsFirst At (suc k) (earlier_or o (pair_at xs k None))
     go (Some pair) h xs a = (h.0, omega (arith, h.1), h.2, h.3)
     go None h [] a = λ i l. ⊎_elim (λ (e : i ≡ k). subst (λ v. At v []) (sym e) a) (λ (b : i < k). h i b) (new i l)
     go None h (p ∷ rest) a = (rest, omega arith, a, h)
@@ -66,16 +69,22 @@ pub pass_sel_right :
     → IsInRange n → start < length n.nodes → PassSelects kind earliest n t start (search_of kind earliest n t start)
 pass_sel_right kind true n t start r l =
     go (first_among (reported_of n kind start t) (suc (length t.bytes)))
-    (first_right (reported_of n kind start t) (Reports kind n t start) (suc (length t.bytes)) (λ i. reported_right n kind start t i r l))
+    (first_right (reported_of n kind start t) (Reports kind n t start) (suc (length t.bytes))
+    (λ i. reported_right n kind start t i r l))
   where
-    go : (o : Option Pair) → IsFirst (Reports kind n t start) (suc (length t.bytes)) o → PassSelects kind true n t start o
+    go :
+        (o : Option Pair) → IsFirst (Reports kind n t start) (suc (length t.bytes)) o
+        → PassSelects kind true n t start o
     go None h = λ i b. h i (omega (arith, b))
     go (Some pair) h = (h.0, le_of_suc-le-suc h.1, h.2, h.3)
 pass_sel_right kind false n t start r l =
     go (last_among (reported_of n kind start t) (suc (length t.bytes)))
-    (last_right (reported_of n kind start t) (Reports kind n t start) (suc (length t.bytes)) (λ i. reported_right n kind start t i r l))
+    (last_right (reported_of n kind start t) (Reports kind n t start) (suc (length t.bytes))
+    (λ i. reported_right n kind start t i r l))
   where
-    go : (o : Option Pair) → IsLast (Reports kind n t start) (suc (length t.bytes)) o → PassSelects kind false n t start o
+    go :
+        (o : Option Pair) → IsLast (Reports kind n t start) (suc (length t.bytes)) o
+        → PassSelects kind false n t start o
     go None h = λ i b. h i (omega (arith, b))
     go (Some pair) h = (h.0, le_of_suc-le-suc h.1, h.2, λ j b c. h.3 j b (omega (arith, c)))
 
@@ -85,14 +94,16 @@ pub search_right :
     → IsInRange n → start < length n.nodes → KeepsCycles n → IsTape t
     → Selects kind earliest n t start (search_of kind earliest n t start)
 search_right kind earliest n t start r l free tape_of =
-    sel_right kind earliest n t start (search_of kind earliest n t start) free tape_of (pass_sel_right kind earliest n t start r l)
+    sel_right kind earliest n t start (search_of kind earliest n t start) free tape_of
+    (pass_sel_right kind earliest n t start r l)
 
 walk_pairs :
     (kind : MatchKind) (n : Nfa) (t : Tape) (start k : ℕ)
     → IsInRange n → start < length n.nodes → Pairs (Reports kind n t start) k (pairs_upto n kind start t k)
 walk_pairs kind n t start zero r l = refl
 walk_pairs kind n t start (suc k) r l =
-    (pairs_upto n kind start t k, reported_of n kind start t k, walk_pairs kind n t start k r l, reported_right n kind start t k r l, refl)
+    (pairs_upto n kind start t k, reported_of n kind start t k, walk_pairs kind n t start k r l, reported_right n kind
+    start t k r l, refl)
 
 -- Late is right, for walks.
 pub walked_right :
@@ -100,7 +111,8 @@ pub walked_right :
     → IsInRange n → start < length n.nodes → KeepsCycles n → IsTape t
     → IsOverlappingOn kind n t start (pairs_upto n kind start t (suc (length t.bytes)))
 walked_right kind n t start r l free tape_of =
-    walk_right kind n t start (pairs_upto n kind start t (suc (length t.bytes))) free tape_of (walk_pairs kind n t start (suc (length t.bytes)) r l)
+    walk_right kind n t start (pairs_upto n kind start t (suc (length t.bytes))) free tape_of
+    (walk_pairs kind n t start (suc (length t.bytes)) r l)
 
 -- For every NFA: the nearest end, and under `MatchKind::All` the farthest.
 pub earliest_right :

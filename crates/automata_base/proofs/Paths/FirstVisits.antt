@@ -101,7 +101,9 @@ nth_first [] ys k r e = absurd (none_some e)
 nth_first (x ∷ xs) ys zero r e = (omega arith, e)
 nth_first (x ∷ xs) ys (suc k) r e = let w = nth_first xs ys k r e in (omega (arith, w.0), w.1)
 
-nth_second : (xs ys : List ℕ) (k r : ℕ) → slice_get ys k ≡ Some r → (j : ℕ) × (j ≡ length xs + k) × (slice_get (xs ++ ys) j ≡ Some r)
+nth_second :
+    (xs ys : List ℕ) (k r : ℕ) → slice_get ys k ≡ Some r → (j : ℕ) × (j ≡ length xs + k)
+    × (slice_get (xs ++ ys) j ≡ Some r)
 nth_second [] ys k r e = (k, omega arith, e)
 nth_second (x ∷ xs) ys k r e = let w = nth_second xs ys k r e in (suc w.0, omega (arith, w.1), w.2)
 
@@ -114,7 +116,8 @@ nth_either (x ∷ xs) ys (suc j) r e = go (nth_either xs ys j r e)
   where
     go :
         ((j < length xs) × (slice_get xs j ≡ Some r)) ⊎ ((k : ℕ) × (j ≡ length xs + k) × (slice_get ys k ≡ Some r))
-        → ((suc j < suc (length xs)) × (slice_get xs j ≡ Some r)) ⊎ ((k : ℕ) × (suc j ≡ suc (length xs) + k) × (slice_get ys k ≡ Some r))
+        → ((suc j < suc (length xs)) × (slice_get xs j ≡ Some r))
+        ⊎ ((k : ℕ) × (suc j ≡ suc (length xs) + k) × (slice_get ys k ≡ Some r))
     go (inl h) = inl (omega (arith, h.0), h.1)
     go (inr h) = inr (h.0, omega (arith, h.1), h.2)
 
@@ -160,7 +163,8 @@ module _ (n : Nfa) (A : Truth) (x : ℕ) (S stack : List ℕ) (new : In x S → 
           inr (inl (w.0, k, w.2, p, c.0, (w.1, c.1, (w.4, w.5)), refl))
       go (inr w) =
           let c = nth_second (children n A x) stack k o.1.0 o.1.1 in
-          inr (inr (c.0, k, p, c.1, (o.1.0, c.2, (away, walk_fewer n A (S ++ (x ∷ [])) (x ∷ S) o.1.0 p q also w.1)), refl))
+          inr (inr
+          (c.0, k, p, c.1, (o.1.0, c.2, (away, walk_fewer n A (S ++ (x ∷ [])) (x ∷ S) o.1.0 p q also w.1)), refl))
         where
           away : In o.1.0 (x ∷ S) → ⊥
           away (inl e) = w.0 e
@@ -253,10 +257,12 @@ module _ (n : Nfa) (A : Truth) (x : ℕ) (S stack : List ℕ) (new : In x S → 
           ⊎ ((k : ℕ) × (j ≡ length (children n A x) + k) × (slice_get stack k ≡ Some h.0))
           → (image : List ℕ) × Other q image × Carries P Other (j ∷ p) image
       go (inl c) =
-          (0 ∷ (j ∷ p), (other_end q (j ∷ p) h, (x, refl, (new, (h.0, hop_children n A x j ∙ c.1, h.2.0, h.2.1)))), carries_first j p)
+          (0 ∷ (j ∷ p), (other_end q (j ∷ p) h, (x, refl, (new, (h.0, hop_children n A x j ∙ c.1, h.2.0, h.2.1)))),
+          carries_first j p)
       go (inr c) = (
         suc c.0 ∷ p,
-        (other_end q (j ∷ p) h, (h.0, c.2, ((λ i. h.2.0 (inr i)), walk_fewer n A (x ∷ S) S h.0 p q (λ y i. inr i) h.2.1))),
+        (other_end q (j ∷ p) h,
+        (h.0, c.2, ((λ i. h.2.0 (inr i)), walk_fewer n A (x ∷ S) S h.0 p q (λ y i. inr i) h.2.1))),
         carries_second j c.0 p c.1,
       )
 
@@ -348,10 +354,14 @@ visits_closure n A roots out v =
     same (From (Fresh n A []) roots) (From (λ root path q. IsPathAt n A [] root path q) roots) out there back
     (visits_list n A roots [] out v)
   where
-    there : (q : ℕ) (key : List ℕ) → From (Fresh n A []) roots q key → From (λ root path q. IsPathAt n A [] root path q) roots q key
+    there :
+        (q : ℕ) (key : List ℕ) → From (Fresh n A []) roots q key
+        → From (λ root path q. IsPathAt n A [] root path q) roots q key
     there q [] h = h
     there q (k ∷ p) h = (h.0, h.1, h.2.1)
 
-    back : (q : ℕ) (key : List ℕ) → From (λ root path q. IsPathAt n A [] root path q) roots q key → From (Fresh n A []) roots q key
+    back :
+        (q : ℕ) (key : List ℕ) → From (λ root path q. IsPathAt n A [] root path q) roots q key
+        → From (Fresh n A []) roots q key
     back q [] h = h
     back q (k ∷ p) h = (h.0, h.1, ((λ i. i), h.2))

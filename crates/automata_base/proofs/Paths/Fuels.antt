@@ -70,14 +70,16 @@ room_less x S (suc k) l e = go (eqb_tells k x) (room_more x S k) (room_less x S 
         let b : bit (is_in k S) ≡ 1 = ap bit (ap (λ v. is_in v S) h.1 ∙ e) in
         omega (arith, a, b, m)
     go (inr h) m ih =
-        let w = ih (⊎_elim (λ (s : x ≡ k). absurd (h.1 (sym s))) (λ (s : x < k). s) (eq-or-lt_of_le (le_of_suc-le-suc l))) e in
+        let w =
+        ih (⊎_elim (λ (s : x ≡ k). absurd (h.1 (sym s))) (λ (s : x < k). s) (eq-or-lt_of_le (le_of_suc-le-suc l))) e in
         let b = bit_more (eqb k x) (is_in k S) in
         omega (arith, w, b)
 
 abbrev pub AllBelow : ℕ → List ℕ → Type 0
 AllBelow N xs = (y : ℕ) → In y xs → y < N
 
-no_room : (n : Nfa) (A : Truth) (stack seen : List ℕ) (N : ℕ) → AllBelow N stack → room seen N ≤ 0 → Visits n A stack seen []
+no_room :
+    (n : Nfa) (A : Truth) (stack seen : List ℕ) (N : ℕ) → AllBelow N stack → room seen N ≤ 0 → Visits n A stack seen []
 no_room n A [] seen N b r = done
 no_room n A (x ∷ stack) seen N b r = go (is_in_cases x seen) (no_room n A stack seen N (λ y i. b y (inr i)) r)
   where
@@ -94,13 +96,16 @@ Recurses rec n A N fuel =
 visits_inner :
     (rec : List ℕ → List ℕ → List ℕ) (n : Nfa) (A : Truth) (N fuel : ℕ)
     → ((q c : ℕ) → In c (children n A q) → c < N) → Recurses rec n A N fuel
-    → (stack seen : List ℕ) → AllBelow N stack → room seen N ≤ suc fuel → Visits n A stack seen (visits_with rec n A stack seen)
+    → (stack seen : List ℕ) → AllBelow N stack → room seen N ≤ suc fuel
+    → Visits n A stack seen (visits_with rec n A stack seen)
 visits_inner rec n A N fuel c r [] seen b l = done
 visits_inner rec n A N fuel c r (x ∷ stack) seen b l =
     go (is_in x seen) refl (visits_inner rec n A N fuel c r stack seen (λ y i. b y (inr i)) l)
   where
     below : AllBelow N (children n A x ++ stack)
-    below y i = ⊎_elim (λ (j : In y (children n A x)). c x y j) (λ (j : In y stack). b y (inr j)) (in_either y (children n A x) stack i)
+    below y i =
+        ⊎_elim (λ (j : In y (children n A x)). c x y j) (λ (j : In y stack). b y (inr j))
+        (in_either y (children n A x) stack i)
 
     go :
         (t : Bool) → is_in x seen ≡ t → Visits n A stack seen (visits_with rec n A stack seen)
@@ -113,7 +118,8 @@ visits_inner rec n A N fuel c r (x ∷ stack) seen b l =
         (let w = room_less x seen N (b x (inl refl)) e in omega (arith, w, l)))
 
 pub visits_fuel :
-    (fuel : ℕ) (n : Nfa) (A : Truth) (N : ℕ) → ((q c : ℕ) → In c (children n A q) → c < N) → Recurses (first_visits fuel n A) n A N fuel
+    (fuel : ℕ) (n : Nfa) (A : Truth) (N : ℕ) → ((q c : ℕ) → In c (children n A q) → c < N)
+    → Recurses (first_visits fuel n A) n A N fuel
 visits_fuel zero n A N c stack seen b l = no_room n A stack seen N b l
 visits_fuel (suc fuel) n A N c stack seen b l =
     visits_inner (first_visits fuel n A) n A N fuel c (visits_fuel fuel n A N c) stack seen b l
@@ -123,7 +129,8 @@ room_most zero = omega arith
 room_most (suc k) = let h = room_most k in omega (arith, h)
 
 pub closure_right :
-    (n : Nfa) (A : Truth) (roots : List ℕ) → IsInRange n → AllBelow (length n.nodes) roots → IsClosure n A roots (closure_of n A roots)
+    (n : Nfa) (A : Truth) (roots : List ℕ) → IsInRange n → AllBelow (length n.nodes) roots
+    → IsClosure n A roots (closure_of n A roots)
 closure_right n A roots r b =
     visits_closure n A roots (closure_of n A roots)
     (visits_fuel (length n.nodes) n A (length n.nodes) (λ q c i. r.0 q c A i) roots [] b (room_most (length n.nodes)))

@@ -9,7 +9,8 @@ use Rattle.automata_base.specs.Paths.Paths.{IsPathAt, Tape, IsPath, truth, prev,
 use Rattle.automata_base.specs.Powersets.Cuts.{MatchKind, All, LeftmostFirst, cut, cut_for, IsOnce, targets}
 use Rattle.automata_base.specs.Powersets.Passes.{IsTape, IsClosureOf, IsDecided, IsSuccessor, IsStart, IsPass}
 use Rattle.automata_base.specs.Powersets.Powerset.{Powerset}
-use Rattle.automata_base.specs.Paths.Selections.{Accepts, IsFirstAt, ArePatternsAt, Reports, ReportsLeast, ReportsNoneAt}
+use Rattle.automata_base.specs.Paths.Selections.{Accepts, IsFirstAt, ArePatternsAt, Reports, ReportsLeast}
+use Rattle.automata_base.specs.Paths.Selections.{ReportsNoneAt}
 use Rattle.automata_base.proofs.Paths.Orders.{before_total, before_upto, before_trans}
 use Rattle.automata_base.proofs.Paths.Places.{path_end, accepts_ends}
 use Rattle.automata_base.proofs.Paths.Sift.{same}
@@ -21,7 +22,9 @@ use Rattle.automata_base.proofs.Paths.Readings.{once_is_none, once_is_one, patte
 use Rattle.automata_base.proofs.Paths.Decisions.{decides}
 
 -- Inside the span the next unit is a byte.
-pub next_byte : (bytes : List ℕ) (after : Option ℕ) (i : ℕ) → i < length bytes → (u : ℕ) × (slice_get bytes i ≡ Some u) × (next_in bytes after i ≡ Some u)
+pub next_byte :
+    (bytes : List ℕ) (after : Option ℕ) (i : ℕ) → i < length bytes → (u : ℕ) × (slice_get bytes i ≡ Some u)
+    × (next_in bytes after i ≡ Some u)
 next_byte [] after i h = absurd (omega (arith, h))
 next_byte (u ∷ us) after zero h = (u, refl, refl)
 next_byte (u ∷ us) after (suc i) h = next_byte us after i (omega (arith, h))
@@ -50,7 +53,8 @@ Means kind n t start i Q =
     × ((xs : List ℕ) → IsListOf (Ending n (From (W_at n t i) roots)) xs → IsListOf (EndsWithin n t start best i) xs)
 
 pub means_start :
-    (kind : MatchKind) (n : Nfa) (t : Tape) (start : ℕ) (Q : Powerset) → IsStart n start t.before Q → Means kind n t start 0 Q
+    (kind : MatchKind) (n : Nfa) (t : Tape) (start : ℕ) (Q : Powerset) → IsStart n start t.before Q
+    → Means kind n t start 0 Q
 means_start kind n t start Q h = (None, [], start ∷ [], h, best kind, λ xs l. first n t start xs l)
   where
     best : (kind : MatchKind) → IsBestFor kind n t start None 0
@@ -97,7 +101,8 @@ after_none n t start i None N l b e = (
     later : (j pattern : ℕ) (path : List ℕ) → j < suc i → Accepts n t start j pattern path → ⊥
     later j pattern path k a = ⊎_elim
         (λ (k : j < i). b j pattern path k a)
-        (λ (s : j ≡ i). none_within n t start i None N pattern path l e (subst (λ v. Accepts n t start v pattern path) s a) tt)
+        (λ (s : j ≡ i). none_within n t start i None N pattern path l e
+        (subst (λ v. Accepts n t start v pattern path) s a) tt)
         (up_to_here j i k)
 after_none n t start i (Some a) N l b e = (
   Some a,
@@ -146,11 +151,14 @@ beats n t start i (Some b0) a b w =
     (λ j other path l c. before_upto a b0 path w (b.4 j other path l c), split, λ key k. before_trans key a b0 k w)
   where
     split : (path : List ℕ) → Before path b0 ⊎ Before a path
-    split path = ⊎_elim (λ (k : Before path b0). inl k) (λ (k : Upto b0 path). inr (before_upto a b0 path w k)) (before_total path b0)
+    split path =
+        ⊎_elim (λ (k : Before path b0). inl k) (λ (k : Upto b0 path). inr (before_upto a b0 path w k))
+        (before_total path b0)
 
 after_some :
     (n : Nfa) (t : Tape) (start i : ℕ) (best : Option (List ℕ)) (N : List ℕ) (m : ℕ)
-    → IsListOf (EndsWithin n t start best i) N → IsBest n t start best i → leader n N ≡ Some m → After n t start i N (Some m)
+    → IsListOf (EndsWithin n t start best i) N → IsBest n t start best i → leader n N ≡ Some m
+    → After n t start i N (Some m)
 after_some n t start i best N m l b e = (
   Some a,
   same (λ q key. P q key × Before key a) (EndsWithin n t start (Some a) i) (front n N) there back w.4,
@@ -218,7 +226,8 @@ onward All n t start i L u best byte b l = (None, refl, on)
     g b = takes n b u
 
     on :
-        (xs : List ℕ) → IsListOf (Ending n (From (W_at n t (suc i)) (pick g L))) xs → IsListOf (EndsWithin n t start None (suc i)) xs
+        (xs : List ℕ) → IsListOf (Ending n (From (W_at n t (suc i)) (pick g L))) xs
+        → IsListOf (EndsWithin n t start None (suc i)) xs
     on xs h =
         step n t start i u None (pick (ends n) L) xs byte tt
         (subst (λ v. IsListOf (EndsWithin n t start v i) (pick (ends n) L)) b l)
@@ -296,7 +305,9 @@ pass_means kind n t start (suc k) Q free tape_of l p =
 -- What the pass reports at a place is what the paths define.
 pub pass_reports :
     (kind : MatchKind) (n : Nfa) (t : Tape) (start i : ℕ) (patterns : List ℕ)
-    → KeepsCycles n → IsTape t → i ≤ length t.bytes → Reports kind n t start i patterns → ArePatternsAt kind n t start i patterns
+    → KeepsCycles n → IsTape t → i ≤ length t.bytes → Reports kind n t start i patterns
+    → ArePatternsAt kind n t start i patterns
 pass_reports kind n t start i patterns free tape_of l p =
     subst (λ v. ArePatternsAt kind n t start i v) p.2
-    (means_reports kind n t start i p.1.0 p.0 free tape_of (pass_means kind n t start i p.1.0 free tape_of l p.1.1) p.1.2)
+    (means_reports kind n t start i p.1.0 p.0 free tape_of (pass_means kind n t start i p.1.0 free tape_of l p.1.1)
+    p.1.2)

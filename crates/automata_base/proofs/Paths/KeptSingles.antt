@@ -43,7 +43,8 @@ fewer n A seen less q (e ∷ path) z f w =
 -- A kept state on the way to `x`, from which a path goes on past `x`.
 abbrev pub KeptAhead : Nfa → (ℕ → Bool) → Truth → Truth → ℕ → List ℕ → ℕ → ℕ → Type 0
 KeptAhead n k K T root p x q =
-    (y : ℕ) (a b d : List ℕ) (e : ℕ) → p ≡ a ++ (e ∷ b) → k y ≡ true → IsPathAt n K [] root a y → IsPathAt n T [] y d q → ⊥
+    (y : ℕ) (a b d : List ℕ) (e : ℕ) → p ≡ a ++ (e ∷ b) → k y ≡ true → IsPathAt n K [] root a y → IsPathAt n T [] y d q
+    → ⊥
 
 hop_along :
     (n : Nfa) (K : Truth) (e y z r : ℕ) → hop n K y e ≡ Some z → (seen : List ℕ) (root : ℕ) (a : List ℕ)
@@ -57,13 +58,15 @@ hop_along n K e y z r h seen root (e0 ∷ a) u t =
 -- No state on the way to `x` goes on past `x`, from these edges on.
 abbrev pub NoneFrom : Nfa → Truth → Truth → ℕ → List ℕ → ℕ → ℕ → List ℕ → Type 0
 NoneFrom n K T root p x q b =
-    (a : List ℕ) (e y : ℕ) (more d : List ℕ) → p ≡ a ++ (e ∷ b) → IsPathAt n K [] root a y → IsPathAt n K more y (e ∷ b) x
+    (a : List ℕ) (e y : ℕ) (more d : List ℕ) → p ≡ a ++ (e ∷ b) → IsPathAt n K [] root a y
+    → IsPathAt n K more y (e ∷ b) x
     → LeadsOn n x y → IsPathAt n T (x ∷ []) y d q → ⊥
 
 -- Where no kept one is, no state at all is.
 pub none_ahead :
     (n : Nfa) (k : ℕ → Bool) (K T : Truth) (root : ℕ) (p : List ℕ) (x q : ℕ)
-    → ClosedButSingles n k → k x ≡ true → ends_at (node n q) ≡ true → IsPathAt n K [] root p x → KeptAhead n k K T root p x q
+    → ClosedButSingles n k → k x ≡ true → ends_at (node n q) ≡ true → IsPathAt n K [] root p x
+    → KeptAhead n k K T root p x q
     → (b : List ℕ) → NoneFrom n K T root p x q b
 none_ahead n k K T root p x q closed kx end w none [] a e y more d s pre post on v =
     go (closed x y kx on (e ∷ [], walk_run n K more y (e ∷ []) x post))
@@ -79,7 +82,8 @@ none_ahead n k K T root p x q closed kx end w none [] a e y more d s pre post on
             let j = single_at (node n y) h.0 T e' v.0 h.1 v.1 in
             v.2 (inr (inl (j.1 ∙ (sym i.1 ∙ post.3))))
 none_ahead n k K T root p x q closed kx end w none (e2 ∷ b) a e y more d s pre post on v =
-    go (closed x y kx on (e ∷ (e2 ∷ b), walk_run n K more y (e ∷ (e2 ∷ b)) x post)) (none_ahead n k K T root p x q closed kx end w none b)
+    go (closed x y kx on (e ∷ (e2 ∷ b), walk_run n K more y (e ∷ (e2 ∷ b)) x post))
+    (none_ahead n k K T root p x q closed kx end w none b)
   where
     s2 : p ≡ (a ++ (e ∷ [])) ++ (e2 ∷ b)
     s2 = s ∙ sym (append_assoc a (e ∷ []) (e2 ∷ b))

@@ -1,9 +1,11 @@
 -- NFAs whose powerset states keep the cycles of what they keep.
-use Rattle.std.proofs.Common.{ℕ, ◌≡◌, ◌||◌, ◌&&◌, arith, Bool, true, false, cond, List, [], ◌∷◌, ◌⊎◌, Some, None, inl, inr, refl}
+use Rattle.std.proofs.Common.{ℕ, ◌≡◌, ◌||◌, ◌&&◌, arith, Bool, true, false, cond, List, [], ◌∷◌, ◌⊎◌, Some, None, inl}
+use Rattle.std.proofs.Common.{inr, refl}
 use Rattle.std.proofs.Common.{sym, ap, ◌∙◌, subst, length}
 use Rattle.std.proofs.lemmas.Bool.{lt-ltb}
 use Rattle.automata_base.specs.Lists.{pick, cons_some}
-use Rattle.automata_base.specs.Nfas.Nfa.{Nfa, Node, Split, Assert, Read, Accept, node, hop_at, stays_at, keep, keeps, splits_at}
+use Rattle.automata_base.specs.Nfas.Nfa.{Nfa, Node, Split, Assert, Read, Accept, node, hop_at, stays_at, keep, keeps}
+use Rattle.automata_base.specs.Nfas.Nfa.{splits_at}
 use Rattle.automata_base.specs.Paths.Paths.{all_true, Run, IsLookAcyclic, KeepsCycles, IsSingle}
 use Rattle.automata_base.proofs.Paths.Orders.{none_some}
 use Rattle.automata_base.proofs.Paths.Staying.{stays_no_loop}
@@ -18,12 +20,14 @@ unions_keep n on x y k leads back = go (node n y) refl
 
     kept : (m : Node) → node n y ≡ m → (stays_at m || (splits_at m && true)) ≡ true → (keeps n y ≡ true) ⊎ IsSingle n y
     kept m e h = inl
-        (ap (λ v. stays_at v || (splits_at v && n.keeps_unions)) e ∙ (ap (λ w. stays_at m || (splits_at m && w)) on ∙ h))
+        (ap (λ v. stays_at v || (splits_at v && n.keeps_unions)) e
+        ∙ (ap (λ w. stays_at m || (splits_at m && w)) on ∙ h))
 
     go : (m : Node) → node n y ≡ m → (keeps n y ≡ true) ⊎ IsSingle n y
     go (Split []) e = none back.0 e back.1
     go (Split (r ∷ [])) e = inr (r, e)
-    go (Split (r ∷ (r2 ∷ rest))) e = kept (Split (r ∷ (r2 ∷ rest))) e (ap (λ b. b && true) (lt-ltb 1 (length (r ∷ (r2 ∷ rest))) (omega arith)))
+    go (Split (r ∷ (r2 ∷ rest))) e =
+        kept (Split (r ∷ (r2 ∷ rest))) e (ap (λ b. b && true) (lt-ltb 1 (length (r ∷ (r2 ∷ rest))) (omega arith)))
     go (Assert look next) e = kept (Assert look next) e refl
     go (Read ranges) e = kept (Read ranges) e refl
     go (Accept p) e = kept (Accept p) e refl
@@ -36,7 +40,8 @@ without false false = refl
 -- Without kept unions, byte, look and match states are kept alone.
 keeps_staying : (n : Nfa) (q : ℕ) → n.keeps_unions ≡ false → keeps n q ≡ stays_at (node n q)
 keeps_staying n q off =
-    ap (λ w. stays_at (node n q) || (splits_at (node n q) && w)) off ∙ without (stays_at (node n q)) (splits_at (node n q))
+    ap (λ w. stays_at (node n q) || (splits_at (node n q) && w)) off
+    ∙ without (stays_at (node n q)) (splits_at (node n q))
 
 pub unions_dropped :
     (n : Nfa) (xs : List ℕ) → n.keeps_unions ≡ false

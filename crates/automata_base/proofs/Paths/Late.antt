@@ -1,5 +1,6 @@
 -- Deciding looks afterwards leaves the order, whatever the looks' cycles, if the kept states are closed under cycles.
-use Rattle.std.proofs.Common.{ℕ, ◌≡◌, Bool, true, false, cond, List, [], ◌∷◌, ◌++◌, ◌⊎◌, Option, Some, None, inl, inr, refl}
+use Rattle.std.proofs.Common.{ℕ, ◌≡◌, Bool, true, false, cond, List, [], ◌∷◌, ◌++◌, ◌⊎◌, Option, Some, None, inl, inr}
+use Rattle.std.proofs.Common.{refl}
 use Rattle.std.proofs.Common.{sym, ap, ◌∙◌, subst, true≢false, ⊎_elim}
 use Rattle.automata_base.specs.Paths.Order.{Before, Begins}
 use Rattle.automata_base.specs.Lists.{In, IsListOf, pick, From}
@@ -13,7 +14,8 @@ use Rattle.automata_base.proofs.Paths.Compose.{ComposesLeast, compose_least}
 use Rattle.automata_base.proofs.Paths.Sift.{Sifted, IsSieve, sift, same}
 use Rattle.automata_base.proofs.Paths.Included.{Includes}
 use Rattle.automata_base.proofs.Paths.KeptSingles.{ClosedButSingles, KeptAhead, none_ahead, fewer}
-use Rattle.automata_base.proofs.Paths.Staying.{ends_sieve, kept_at, keep_true, stay_cases, ends_stay, fork_hop, Ending, stays_kept}
+use Rattle.automata_base.proofs.Paths.Staying.{ends_sieve, kept_at, keep_true, stay_cases, ends_stay, fork_hop, Ending}
+use Rattle.automata_base.proofs.Paths.Staying.{stays_kept}
 
 -- What a powerset state keeps, by a choice of states.
 abbrev pub keep_by : (ℕ → Bool) → ℕ → Option ℕ
@@ -67,13 +69,15 @@ first_kept n k K T seen q (e ∷ t) z stays b w =
 
     go :
         (c : Bool) → k q ≡ c
-        → (stays_at (node n q) ≡ true) ⊎ ((ends_at (node n q) ≡ false) × ((A : Truth) (e : ℕ) → hop_at (node n q) A e ≡ fork_at (node n q) e))
+        → (stays_at (node n q) ≡ true)
+        ⊎ ((ends_at (node n q) ≡ false) × ((A : Truth) (e : ℕ) → hop_at (node n q) A e ≡ fork_at (node n q) e))
         → FirstKept n k K T (q ∷ seen) w.0 t z → FirstKept n k K T seen q (e ∷ t) z
     go true c h f = here c
     go false c (inl s) f = here (stays q s)
     go false c (inr h) f =
         let j : fork n q e ≡ Some w.0 = sym (h.1 T e) ∙ w.1 in
-        (f.0, e ∷ f.1, f.2, ap (λ v. e ∷ v) f.3, (w.0, fork_hop (node n q) K e w.0 j, w.2, f.4), (w.0, c, j, f.5), f.6, f.7)
+        (f.0, e ∷ f.1, f.2, ap (λ v. e ∷ v) f.3, (w.0, fork_hop (node n q) K e w.0 j, w.2, f.4), (w.0, c, j, f.5), f.6,
+        f.7)
 
 -- A walk on from `x` to `z` meets none of `more`, if none of them that `x` leads to goes on to `z` past `first`.
 walk_past_by :
@@ -109,7 +113,8 @@ walk_join_by :
     → Includes K T
     → ((y : ℕ) (d : List ℕ) → LeadsOn n x y → IsPathAt n T (x ∷ []) y d z → G y → ⊥)
     → ((y : ℕ) → In y seen → G y)
-    → ((y : ℕ) (a b more : List ℕ) (e : ℕ) → p ≡ a ++ (e ∷ b) → IsPathAt n K seen q a y → IsPathAt n K more y (e ∷ b) x → G y)
+    → ((y : ℕ) (a b more : List ℕ) (e : ℕ) → p ≡ a ++ (e ∷ b) → IsPathAt n K seen q a y → IsPathAt n K more y (e ∷ b) x
+    → G y)
     → IsPathAt n K seen q p x → IsPathAt n T [] x s z → IsPathAt n T seen q (p ++ s) z
 walk_join_by n K T seen q [] x s z G more f g h w v =
     subst (λ u. IsPathAt n T seen u s z) (sym w)
@@ -126,7 +131,8 @@ walk_join_by n K T seen q (e ∷ p) x s z G more f g h w v =
         → IsPathAt n K past y (e' ∷ b) x → G y
     inner y a b past e' c u t = h y (e ∷ a) b past e' (ap (λ (l : List ℕ). e ∷ l) c) (w.0, w.1, w.2, u) t
 
--- The closure of what a closure keeps under more looks has the byte and match states of the closure from the roots under
+-- The closure of what a closure keeps under more looks has the byte and match states of the closure from the roots
+-- under
 -- those looks, in its order, if what is kept is closed under cycles.
 pub late_by :
     (n : Nfa) (k : ℕ → Bool) (K T : Truth) (roots C L : List ℕ)
@@ -150,11 +156,15 @@ late_by n k K T roots C L more stays cycles c l =
     P' : ℕ → List ℕ → Type 0
     P' = Ending n (From W_T roots)
 
-    there : (q : ℕ) (key : List ℕ) → Sifted (ends n) (From W_T (pick (keep_by k) C)) q key → From S (pick (keep_by k) C) q key
+    there :
+        (q : ℕ) (key : List ℕ) → Sifted (ends n) (From W_T (pick (keep_by k) C)) q key
+        → From S (pick (keep_by k) C) q key
     there q [] h = h.1
     there q (i ∷ s) h = (h.1.0, h.1.1, (h.0, h.1.2))
 
-    back : (q : ℕ) (key : List ℕ) → From S (pick (keep_by k) C) q key → Sifted (ends n) (From W_T (pick (keep_by k) C)) q key
+    back :
+        (q : ℕ) (key : List ℕ) → From S (pick (keep_by k) C) q key
+        → Sifted (ends n) (From W_T (pick (keep_by k) C)) q key
     back q [] h = absurd h
     back q (i ∷ s) h = (h.2.0, (h.0, h.1, h.2.1))
 
@@ -177,7 +187,8 @@ late_by n k K T roots C L more stays cycles c l =
         -- A state on the way to `x`.
         G : ℕ → Type 0
         G y =
-            (a b past : List ℕ) × (e : ℕ) × (p1 ≡ a ++ (e ∷ b)) × IsPathAt n K [] p.0 a y × IsPathAt n K past y (e ∷ b) x
+            (a b past : List ℕ) × (e : ℕ) × (p1 ≡ a ++ (e ∷ b)) × IsPathAt n K [] p.0 a y
+            × IsPathAt n K past y (e ∷ b) x
 
         ahead : KeptAhead n k K T p.0 p1 x q
         ahead y a b d e h ky u v =
@@ -186,7 +197,8 @@ late_by n k K T roots C L more stays cycles c l =
 
         meets : (y : ℕ) (d : List ℕ) → LeadsOn n x y → IsPathAt n T (x ∷ []) y d q → G y → ⊥
         meets y d on v h =
-            none_ahead n k K T p.0 p1 x q cycles kx (kept_at (ends_at (node n q)) q q w.0) p.2 ahead h.1 h.0 h.3 y h.2 d h.4 h.5 h.6 on v
+            none_ahead n k K T p.0 p1 x q cycles kx (kept_at (ends_at (node n q)) q q w.0) p.2 ahead h.1 h.0 h.3 y h.2 d
+            h.4 h.5 h.6 on v
 
     divides : Divides (From W_K roots) (keep_by k) S P' []
     divides q [] h = absurd h.1
@@ -210,7 +222,8 @@ late_by n k K T roots C L more stays cycles c l =
         apart y r' [] p g b = absurd p
         apart y r' (i' ∷ other) p g b =
             dropped_apart n k K h.1.0 f.1 f.0 [] other b.0 b.1 y f.5 (cons_tail b.2)
-            (subst (λ v. IsPathAt n K [] v other y) (some_inj (sym p.1 ∙ (ap (λ v. slice_get roots v) (sym (cons_head b.2)) ∙ h.1.1))) p.2)
+            (subst (λ v. IsPathAt n K [] v other y)
+            (some_inj (sym p.1 ∙ (ap (λ v. slice_get roots v) (sym (cons_head b.2)) ∙ h.1.1))) p.2)
             (kept_at (k y) y r' g)
 
 -- The same of what an NFA keeps.

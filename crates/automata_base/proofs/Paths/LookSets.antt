@@ -20,12 +20,16 @@ low_of true m = omega arith
 low_of false m = omega arith
 
 -- the bit of a look of the list
-bit_from : (A : Truth) (looks : List Look) (k : ℕ) (look : Look) → slice_get looks k ≡ Some look → bit_at (bits_from A looks) k ≡ cond (A look) 1 0
+bit_from :
+    (A : Truth) (looks : List Look) (k : ℕ) (look : Look) → slice_get looks k ≡ Some look
+    → bit_at (bits_from A looks) k ≡ cond (A look) 1 0
 bit_from A [] k look e = cc
 bit_from A (x ∷ xs) zero look e =
-    bit_at_lowest (cond (A x) 1 0 + 2 * bits_from A xs) ∙ (low_of (A x) (bits_from A xs) ∙ ap (λ y. cond (A y) 1 0) (let same : x ≡ look = cc in same))
+    bit_at_lowest (cond (A x) 1 0 + 2 * bits_from A xs)
+    ∙ (low_of (A x) (bits_from A xs) ∙ ap (λ y. cond (A y) 1 0) (let same : x ≡ look = cc in same))
 bit_from A (x ∷ xs) (suc k) look e =
-    bit_at-suc (cond (A x) 1 0 + 2 * bits_from A xs) k ∙ (ap (λ m. bit_at m k) (half_of (A x) (bits_from A xs)) ∙ bit_from A xs k look e)
+    bit_at-suc (cond (A x) 1 0 + 2 * bits_from A xs) k
+    ∙ (ap (λ m. bit_at m k) (half_of (A x) (bits_from A xs)) ∙ bit_from A xs k look e)
 
 pub nth_index : (look : Look) → slice_get all_looks (look_index look) ≡ Some look
 nth_index Start = refl
@@ -74,11 +78,14 @@ low_bit : (m : ℕ) (b : Bool) → m % 2 ≡ cond b 1 0 → m ≡ cond b 1 0 + 2
 low_bit m true e = omega (arith, e)
 low_bit m false e = omega (arith, e)
 
-bits_back : (A : Truth) (looks : List Look) (m : ℕ) → m < 2 ^ length looks → ((k : ℕ) (look : Look) → slice_get looks k ≡ Some look → bit_at m k ≡ cond (A look) 1 0) → m ≡ bits_from A looks
+bits_back :
+    (A : Truth) (looks : List Look) (m : ℕ) → m < 2 ^ length looks
+    → ((k : ℕ) (look : Look) → slice_get looks k ≡ Some look → bit_at m k ≡ cond (A look) 1 0) → m ≡ bits_from A looks
 bits_back A [] m l h = omega (arith, l)
 bits_back A (x ∷ xs) m l h =
     low_bit m (A x) (sym (bit_at_lowest m) ∙ h 0 x refl)
-    ∙ ap (λ v. cond (A x) 1 0 + 2 * v) (bits_back A xs (m / 2) (half_small m (length xs) l) (λ k look e. sym (bit_at-suc m k) ∙ h (suc k) look e))
+    ∙ ap (λ v. cond (A x) 1 0 + 2 * v)
+    (bits_back A xs (m / 2) (half_small m (length xs) l) (λ k look e. sym (bit_at-suc m k) ∙ h (suc k) look e))
 
 index_or : Option Look → ℕ
 index_or None = 18
@@ -101,10 +108,14 @@ index_of (suc (suc (suc (suc (suc (suc (suc (suc (suc (suc (suc zero))))))))))) 
 index_of (suc (suc (suc (suc (suc (suc (suc (suc (suc (suc (suc (suc zero)))))))))))) look e = ap index_or e
 index_of (suc (suc (suc (suc (suc (suc (suc (suc (suc (suc (suc (suc (suc zero))))))))))))) look e = ap index_or e
 index_of (suc (suc (suc (suc (suc (suc (suc (suc (suc (suc (suc (suc (suc (suc zero)))))))))))))) look e = ap index_or e
-index_of (suc (suc (suc (suc (suc (suc (suc (suc (suc (suc (suc (suc (suc (suc (suc zero))))))))))))))) look e = ap index_or e
-index_of (suc (suc (suc (suc (suc (suc (suc (suc (suc (suc (suc (suc (suc (suc (suc (suc zero)))))))))))))))) look e = ap index_or e
-index_of (suc (suc (suc (suc (suc (suc (suc (suc (suc (suc (suc (suc (suc (suc (suc (suc (suc zero))))))))))))))))) look e = ap index_or e
-index_of (suc (suc (suc (suc (suc (suc (suc (suc (suc (suc (suc (suc (suc (suc (suc (suc (suc (suc k)))))))))))))))))) look e = cc
+index_of (suc (suc (suc (suc (suc (suc (suc (suc (suc (suc (suc (suc (suc (suc (suc zero))))))))))))))) look e =
+    ap index_or e
+index_of (suc (suc (suc (suc (suc (suc (suc (suc (suc (suc (suc (suc (suc (suc (suc (suc zero)))))))))))))))) look e =
+    ap index_or e
+index_of (suc (suc (suc (suc (suc (suc (suc (suc (suc (suc (suc (suc (suc (suc (suc (suc (suc zero))))))))))))))))) look
+    e = ap index_or e
+index_of (suc (suc (suc (suc (suc (suc (suc (suc (suc (suc (suc (suc (suc (suc (suc (suc (suc (suc k))))))))))))))))))
+    look e = cc
 
 one_bit : (v : ℕ) → v < 2 → v ≡ cond (eqb v 1) 1 0
 one_bit zero h = refl
@@ -115,7 +126,8 @@ one_bit (suc (suc v)) h = omega (arith, h)
 pub set_of-truth_of : (a : ℕ) → IsLookSet a → a ≡ set_of (truth_of a)
 set_of-truth_of a s =
     bits_back (truth_of a) all_looks a s
-    (λ k look e. ap (bit_at a) (index_of k look e) ∙ one_bit (bit_at a (look_index look)) (bit_at-lt a (look_index look)))
+    (λ k look e. ap (bit_at a) (index_of k look e)
+    ∙ one_bit (bit_at a (look_index look)) (bit_at-lt a (look_index look)))
 
 -- what a set of looks has determines it
 pub same_looks : (a b : ℕ) → IsLookSet a → IsLookSet b → ((look : Look) → truth_of a look ≡ truth_of b look) → a ≡ b

@@ -1,5 +1,6 @@
 -- The steps of a loop that visits states from a stack.
-use Rattle.std.proofs.Common.{ℕ, ◌≡◌, List, [], ◌∷◌, ◌++◌, ◌↔◌, inl, inr, refl, sym, ap, ◌∙◌, subst, ⊎_elim, append_assoc, append-nil}
+use Rattle.std.proofs.Common.{ℕ, ◌≡◌, List, [], ◌∷◌, ◌++◌, ◌↔◌, inl, inr, refl, sym, ap, ◌∙◌, subst, ⊎_elim}
+use Rattle.std.proofs.Common.{append_assoc, append-nil}
 use Rattle.automata_base.specs.Lists.{In}
 use Rattle.automata_base.specs.Nfas.Nfa.{Nfa, Truth}
 use Rattle.automata_base.specs.Paths.Paths.{IsClosure}
@@ -34,7 +35,8 @@ moved x y xs ys = (there, back)
     there : In y (x ∷ (xs ++ ys)) → In y (xs ++ (x ∷ ys))
     there (inl e) = in_right y xs (x ∷ ys) (inl e)
     there (inr i) =
-        ⊎_elim (λ (j : In y xs). in_left y xs (x ∷ ys) j) (λ (j : In y ys). in_right y xs (x ∷ ys) (inr j)) (in_either y xs ys i)
+        ⊎_elim (λ (j : In y xs). in_left y xs (x ∷ ys) j) (λ (j : In y ys). in_right y xs (x ∷ ys) (inr j))
+        (in_either y xs ys i)
 
     back : In y (xs ++ (x ∷ ys)) → In y (x ∷ (xs ++ ys))
     back i =
@@ -62,8 +64,10 @@ visits_apart n m A B stack seen more out below rest apart same (skip {x = x} {st
 visits_apart n m A B stack seen more out below rest apart same (visit {x = x} {stack = under} {out = others} new w) v =
     visit (λ i. ⊎_elim new (λ (k : In x more). apart x (inl refl) k) (in_either x seen more i))
     (subst (λ z. Visits m B z (x ∷ (seen ++ more)) (others ++ rest)) next
-    (visits_apart n m A B (children n A x ++ under) (x ∷ seen) more others below rest (λ y i. apart y (inr i)) (λ y i. same y (inr i)) w
-    (visits_same m B below (x ∷ (others ++ (seen ++ more))) (others ++ (x ∷ (seen ++ more))) rest (λ y. moved x y others (seen ++ more)) v)))
+    (visits_apart n m A B (children n A x ++ under) (x ∷ seen) more others below rest (λ y i. apart y (inr i))
+    (λ y i. same y (inr i)) w
+    (visits_same m B below (x ∷ (others ++ (seen ++ more))) (others ++ (x ∷ (seen ++ more))) rest
+    (λ y. moved x y others (seen ++ more)) v)))
   where
     next : (children n A x ++ under) ++ below ≡ children m B x ++ (under ++ below)
     next = append_assoc (children n A x) under below ∙ ap (λ z. z ++ (under ++ below)) (same x (inl refl))
@@ -82,14 +86,16 @@ pub under_way_visit :
     → IsUnderWay n A roots (children n A x ++ stack) (visited ++ (x ∷ []))
 under_way_visit n A roots x stack visited new u rest v =
     subst (λ w. Visits n A roots [] w) (sym (append_assoc visited (x ∷ []) rest))
-    (u (x ∷ rest) (visit new (visits_same n A (children n A x ++ stack) (visited ++ (x ∷ [])) (x ∷ visited) rest both v)))
+    (u (x ∷ rest)
+    (visit new (visits_same n A (children n A x ++ stack) (visited ++ (x ∷ [])) (x ∷ visited) rest both v)))
   where
     both : (y : ℕ) → In y (visited ++ (x ∷ [])) ↔ In y (x ∷ visited)
     both y = (there, back)
       where
         there : In y (visited ++ (x ∷ [])) → In y (x ∷ visited)
         there i = ⊎_elim (λ (j : In y visited). inr j)
-            (λ (j : In y (x ∷ [])). ⊎_elim (λ (e : y ≡ x). inl e) (λ (b : ⊥). absurd b) j) (in_either y visited (x ∷ []) i)
+            (λ (j : In y (x ∷ [])). ⊎_elim (λ (e : y ≡ x). inl e) (λ (b : ⊥). absurd b) j)
+            (in_either y visited (x ∷ []) i)
 
         back : In y (x ∷ visited) → In y (visited ++ (x ∷ []))
         back (inl e) = in_right y visited (x ∷ []) (inl e)

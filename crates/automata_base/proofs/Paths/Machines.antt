@@ -55,7 +55,8 @@ once_visits (x ∷ xs) seen = go (is_in x seen) refl (once_visits xs seen) (once
     go :
         (t : Bool) → is_in x seen ≡ t → Visits no_nodes no_truth xs seen (once_past seen xs)
         → Visits no_nodes no_truth xs (x ∷ seen) (once_past (x ∷ seen) xs)
-        → Visits no_nodes no_truth (x ∷ xs) seen (elim t [ true ↦ once_past seen xs | false ↦ x ∷ once_past (x ∷ seen) xs ])
+        → Visits no_nodes no_truth (x ∷ xs) seen
+        (elim t [ true ↦ once_past seen xs | false ↦ x ∷ once_past (x ∷ seen) xs ])
     go true e a b = skip (is_in_true x seen e) a
     go false e a b = visit (is_in_false x seen e) b
 
@@ -85,7 +86,10 @@ and_true false b e f = absurd (true≢false (sym e))
 
 -- Looks by their numbers.
 abbrev pub looks : List Look
-looks = Start ∷ End ∷ StartLF ∷ EndLF ∷ StartCRLF ∷ EndCRLF ∷ WordAscii ∷ WordAsciiNegate ∷ WordUnicode ∷ WordUnicodeNegate ∷ WordStartAscii ∷ WordEndAscii ∷ WordStartUnicode ∷ WordEndUnicode ∷ WordStartHalfAscii ∷ WordEndHalfAscii ∷ WordStartHalfUnicode ∷ WordEndHalfUnicode ∷ []
+looks =
+    Start ∷ End ∷ StartLF ∷ EndLF ∷ StartCRLF ∷ EndCRLF ∷ WordAscii ∷ WordAsciiNegate ∷ WordUnicode ∷ WordUnicodeNegate
+    ∷ WordStartAscii ∷ WordEndAscii ∷ WordStartUnicode ∷ WordEndUnicode ∷ WordStartHalfAscii ∷ WordEndHalfAscii
+    ∷ WordStartHalfUnicode ∷ WordEndHalfUnicode ∷ []
 
 look_of : (a : Look) → slice_get looks (look_index a) ≡ Some a
 look_of Start = refl
@@ -111,9 +115,12 @@ some_look : {x y : Look} → ◌≡◌ {A = Option Look} (Some x) (Some y) → x
 some_look e = cc
 
 pub code_one : (a b : Look) → eqb (look_index a) (look_index b) ≡ true → a ≡ b
-code_one a b e = some_look (sym (look_of a) ∙ (ap (λ v. slice_get looks v) (eqb-true (look_index a) (look_index b) e) ∙ look_of b))
+code_one a b e =
+    some_look (sym (look_of a) ∙ (ap (λ v. slice_get looks v) (eqb-true (look_index a) (look_index b) e) ∙ look_of b))
 
-looks_at_true : (f : Look → Bool) (x : Node) → looks_at f x ≡ true → (look : Look) × (next : ℕ) × (x ≡ Assert look next) × (f look ≡ true)
+looks_at_true :
+    (f : Look → Bool) (x : Node) → looks_at f x ≡ true → (look : Look) × (next : ℕ) × (x ≡ Assert look next)
+    × (f look ≡ true)
 looks_at_true f (Split alternates) e = absurd (true≢false (sym e))
 looks_at_true f (Assert look next) e = (look, next, refl, e)
 looks_at_true f (Read ranges) e = absurd (true≢false (sym e))
@@ -129,7 +136,8 @@ any_node_true f (x ∷ xs) e = go (or_cases (looks_at f x) (any_node f xs) e) (a
         (looks_at f x ≡ true) ⊎ (any_node f xs ≡ true)
         → (any_node f xs ≡ true
         → (q : ℕ) × (look : Look) × (next : ℕ) × (node_or_fail (slice_get xs q) ≡ Assert look next) × (f look ≡ true))
-        → (q : ℕ) × (look : Look) × (next : ℕ) × (node_or_fail (slice_get (x ∷ xs) q) ≡ Assert look next) × (f look ≡ true)
+        → (q : ℕ) × (look : Look) × (next : ℕ) × (node_or_fail (slice_get (x ∷ xs) q) ≡ Assert look next)
+        × (f look ≡ true)
     go (inl h) ih = let w = looks_at_true f x h in (0, w.0, w.1, w.2, w.3)
     go (inr h) ih = let w = ih h in (suc w.0, w.1, w.2, w.3, w.4)
 
@@ -163,7 +171,8 @@ pub any_state_from :
     → In q qs → node n q ≡ Assert look next → f look ≡ true → any_state f n qs ≡ true
 any_state_from f n [] q look next i e t = absurd i
 any_state_from f n (x ∷ xs) q look next (inl i) e t =
-    or_left (looks_at f (node n x)) (any_state f n xs) (ap (λ v. looks_at f (node n v)) (sym i) ∙ (ap (λ v. looks_at f v) e ∙ t))
+    or_left (looks_at f (node n x)) (any_state f n xs)
+    (ap (λ v. looks_at f (node n v)) (sym i) ∙ (ap (λ v. looks_at f v) e ∙ t))
 any_state_from f n (x ∷ xs) q look next (inr i) e t =
     or_right (looks_at f (node n x)) (any_state f n xs) (any_state_from f n xs q look next i e t)
 
@@ -184,7 +193,9 @@ always_true t r Start prev e = λ next i. e
 always_true t r End prev e = absurd (true≢false (sym e))
 always_true t r StartLF prev e = λ next i. e
 always_true t r EndLF prev e = absurd (true≢false (sym e))
-always_true t r StartCRLF prev e = λ next i. or_left (is_absent prev || is_byte (second_half r) prev) (is_byte (first_half r) prev && not (is_byte (second_half r) next)) e
+always_true t r StartCRLF prev e =
+    λ next i. or_left (is_absent prev || is_byte (second_half r) prev)
+    (is_byte (first_half r) prev && not (is_byte (second_half r) next)) e
 always_true t r EndCRLF prev e = absurd (true≢false (sym e))
 always_true t r WordAscii prev e = absurd (true≢false (sym e))
 always_true t r WordAsciiNegate prev e = absurd (true≢false (sym e))
@@ -240,7 +251,8 @@ known_right n prev look = (there, back)
     there e =
         let w = and_parts (any_node f n.nodes) (always n.terminator n.reverse look prev) e in
         let v = any_node_true f n.nodes w.0 in
-        ((v.0, v.2, v.3 ∙ ap (λ l. Assert l v.2) (code_one v.1 look v.4)), always_true n.terminator n.reverse look prev w.1)
+        ((v.0, v.2, v.3 ∙ ap (λ l. Assert l v.2) (code_one v.1 look v.4)), always_true n.terminator n.reverse look prev
+        w.1)
 
     back : IsKnownLook n prev look → known_looks n prev look ≡ true
     back k =
@@ -265,7 +277,8 @@ three_from a b c e f g = and_true (a && b) c (and_true a b e f) g
 pub needed_right :
     (n : Nfa) (xs : List ℕ) (look : Look)
     → (any_state (λ other. eqb (look_index other) (look_index look)) n xs ≡ true) ↔ IsNeeded n xs look
-needed_right n xs look = (there, λ k. any_state_from f n xs k.0 look k.1 k.2 k.3 (eq-eqb (look_index look) (look_index look) refl))
+needed_right n xs look =
+    (there, λ k. any_state_from f n xs k.0 look k.1 k.2 k.3 (eq-eqb (look_index look) (look_index look) refl))
   where
     f : Look → Bool
     f other = eqb (look_index other) (look_index look)
@@ -280,13 +293,17 @@ flag_right :
     ↔ ((xs ≡ [] → ⊥) × ((look : Look) × Occurs n look × (f look ≡ true)) × (b ≡ true))
 flag_right n f xs b = (there, back)
   where
-    there : is_full xs && any_node f n.nodes && b ≡ true → (xs ≡ [] → ⊥) × ((look : Look) × Occurs n look × (f look ≡ true)) × (b ≡ true)
+    there :
+        is_full xs && any_node f n.nodes && b ≡ true → (xs ≡ [] → ⊥) × ((look : Look) × Occurs n look × (f look ≡ true))
+        × (b ≡ true)
     there e =
         let w = three_true (is_full xs) (any_node f n.nodes) b e in
         let v = any_node_true f n.nodes w.1 in
         (full_true xs w.0, (v.1, (v.0, v.2, v.3), v.4), w.2)
 
-    back : (xs ≡ [] → ⊥) × ((look : Look) × Occurs n look × (f look ≡ true)) × (b ≡ true) → is_full xs && any_node f n.nodes && b ≡ true
+    back :
+        (xs ≡ [] → ⊥) × ((look : Look) × Occurs n look × (f look ≡ true)) × (b ≡ true)
+        → is_full xs && any_node f n.nodes && b ≡ true
     back h =
         three_from (is_full xs) (any_node f n.nodes) b (full_from xs h.0)
         (any_node_from f n.nodes h.1.1.0 h.1.0 h.1.1.1 h.1.1.2 h.1.2) h.2
@@ -320,16 +337,21 @@ make_right n patterns C prev = record {
 
     known :
         (look : Look)
-        → (any_state all n xs && known_looks n prev look ≡ true) ↔ (((other : Look) × IsNeeded n xs other) × IsKnownLook n prev look)
+        → (any_state all n xs && known_looks n prev look ≡ true)
+        ↔ (((other : Look) × IsNeeded n xs other) × IsKnownLook n prev look)
     known look = (there, back)
       where
-        there : any_state all n xs && known_looks n prev look ≡ true → ((other : Look) × IsNeeded n xs other) × IsKnownLook n prev look
+        there :
+            any_state all n xs && known_looks n prev look ≡ true → ((other : Look) × IsNeeded n xs other)
+            × IsKnownLook n prev look
         there e =
             let w = and_parts (any_state all n xs) (known_looks n prev look) e in
             let v = any_state_true all n xs w.0 in
             ((v.1, (v.0, v.2, v.3, v.4)), (known_right n prev look).0 w.1)
 
-        back : ((other : Look) × IsNeeded n xs other) × IsKnownLook n prev look → any_state all n xs && known_looks n prev look ≡ true
+        back :
+            ((other : Look) × IsNeeded n xs other) × IsKnownLook n prev look
+            → any_state all n xs && known_looks n prev look ≡ true
         back h =
             and_true (any_state all n xs) (known_looks n prev look)
             (any_state_from all n xs h.0.1.0 h.0.0 h.0.1.1 h.0.1.2 h.0.1.3 refl) ((known_right n prev look).1 h.1)
@@ -381,7 +403,8 @@ arrive_right n patterns roots prev r b = (
     inside : AllBelow (length n.nodes) (pick (keep n) C)
     inside y i =
         let w = in_picked (keep n) C y i in
-        subst (λ v. v < length n.nodes) (keep_sieve n w.0 y w.2) (closure_below n (known_looks n prev) roots C r b c w.0 w.1)
+        subst (λ v. v < length n.nodes) (keep_sieve n w.0 y w.2)
+        (closure_below n (known_looks n prev) roots C r b c w.0 w.1)
 
 -- What is decided.
 any_look_true : (f : Look → Bool) (looks : List Look) → any_look f looks ≡ true → (look : Look) × (f look ≡ true)
@@ -394,7 +417,9 @@ any_look_true f (x ∷ xs) e = go (f x) refl e (any_look_true f xs)
     go true h k again = (x, h)
     go false h k again = again k
 
-any_look_from : (f : Look → Bool) (looks : List Look) (k : ℕ) (look : Look) → slice_get looks k ≡ Some look → f look ≡ true → any_look f looks ≡ true
+any_look_from :
+    (f : Look → Bool) (looks : List Look) (k : ℕ) (look : Look) → slice_get looks k ≡ Some look → f look ≡ true
+    → any_look f looks ≡ true
 any_look_from f [] k look e h = cc
 any_look_from f (x ∷ xs) zero look e h =
     let same : x ≡ look = cc in ap (λ b. b || any_look f xs) (ap f same ∙ h)
@@ -428,7 +453,8 @@ decide_right n u Q r b = go (has_news n Q u) refl
 
     go :
         (t : Bool) → has_news n Q u ≡ t
-        → IsDecided n Q u (elim t [ true ↦ L | false ↦ Q.nfa ]) × AllBelow (length n.nodes) (elim t [ true ↦ L | false ↦ Q.nfa ])
+        → IsDecided n Q u (elim t [ true ↦ L | false ↦ Q.nfa ])
+        × AllBelow (length n.nodes) (elim t [ true ↦ L | false ↦ Q.nfa ])
     go true e =
         let w = any_look_true f all_looks e in
         let a = and_parts (truth_of Q.needed w.0) (true_looks n Q u w.0 && not (truth_of Q.known w.0)) w.1 in
@@ -443,7 +469,8 @@ decide_right n u Q r b = go (has_news n Q u) refl
             true≢false
             (sym (any_look_from f all_looks (look_index h.0) h.0 (nth_index h.0)
             (and_true (truth_of Q.needed h.0) (true_looks n Q u h.0 && not (truth_of Q.known h.0)) h.1
-            (and_true (true_looks n Q u h.0) (not (truth_of Q.known h.0)) h.2 (not_false (truth_of Q.known h.0) h.3)))) ∙ e)
+            (and_true (true_looks n Q u h.0) (not (truth_of Q.known h.0)) h.2 (not_false (truth_of Q.known h.0) h.3))))
+            ∙ e)
 
 pub targets_below : (n : Nfa) (u : Option ℕ) (xs : List ℕ) → IsInRange n → AllBelow (length n.nodes) (targets n u xs)
 targets_below n None xs r = λ y i. absurd i

@@ -69,7 +69,8 @@ pub path_extend :
     → IsPathFrom n t i seen q p j b → Moves n t j b r → IsPathFrom n t (suc j) [] r s k z
     → IsPathFrom n t i seen q (p ++ (0 ∷ s)) k z
 path_extend n t i seen q [] j b r s k z h m g =
-    inr (r, refl, subst (λ v. Moves n t v q r) (sym h.0) (subst (λ v. Moves n t j v r) (sym h.1) m), subst (λ v. IsPathFrom n t (suc v) [] r s k z) (sym h.0) g)
+    inr (r, refl, subst (λ v. Moves n t v q r) (sym h.0) (subst (λ v. Moves n t j v r) (sym h.1) m), subst
+    (λ v. IsPathFrom n t (suc v) [] r s k z) (sym h.0) g)
 path_extend n t i seen q (e ∷ p) j b r s k z (inl h) m g =
     inl (h.0, h.1, h.2, path_extend n t i (q ∷ seen) h.0 p j b r s k z h.3 m g)
 path_extend n t i seen q (e ∷ p) j b r s k z (inr h) m g =
@@ -110,7 +111,8 @@ last_place n t i seen q (e ∷ p) j z l (inr h) = go (eq-or-lt_of_le l) (last_pl
 -- A path that goes on from another.
 pub resume :
     (n : Nfa) (t : Tape) (i : ℕ) (seen : List ℕ) (q : ℕ) (p : List ℕ) (j x : ℕ) (c : List ℕ) (k y : ℕ)
-    → IsPathFrom n t i seen q p j x → IsPathFrom n t i seen q (p ++ c) k y → (seen' : List ℕ) × IsPathFrom n t j seen' x c k y
+    → IsPathFrom n t i seen q p j x → IsPathFrom n t i seen q (p ++ c) k y → (seen' : List ℕ)
+    × IsPathFrom n t j seen' x c k y
 resume n t i seen q [] j x c k y h g =
     (seen, subst (λ v. IsPathFrom n t v seen x c k y) h.0 (subst (λ v. IsPathFrom n t i seen v c k y) h.1 g))
 resume n t i seen q (e ∷ p) j x c k y (inl h) (inl g) =
@@ -135,7 +137,8 @@ reader_apart n t start i x u r p j y z zs h m g = go (resume n t 0 [] start p i 
   where
     go : (seen : List ℕ) × IsPathFrom n t i seen x (z ∷ zs) j y → i < j
     go w = ⊎_elim
-        (λ (k : (r : ℕ) × (hop n (truth n t i) x z ≡ Some r) × (In r (x ∷ w.0) → ⊥) × IsPathFrom n t i (x ∷ w.0) r zs j y).
+        (λ (k : (r : ℕ) × (hop n (truth n t i) x z ≡ Some r) × (In r (x ∷ w.0) → ⊥)
+        × IsPathFrom n t i (x ∷ w.0) r zs j y).
         absurd (hop_takes n x (truth n t i) z u k.0 r k.1 m))
         (λ (k : (r : ℕ) × (z ≡ 0) × Moves n t i x r × IsPathFrom n t (suc i) [] r zs j y).
         path_grows n t (suc i) [] k.0 zs j y k.3)
@@ -149,7 +152,8 @@ match_last n t start i x q p j y z zs h m g = go (resume n t 0 [] start p i x (z
   where
     go : (seen : List ℕ) × IsPathFrom n t i seen x (z ∷ zs) j y → ⊥
     go w = ⊎_elim
-        (λ (k : (r : ℕ) × (hop n (truth n t i) x z ≡ Some r) × (In r (x ∷ w.0) → ⊥) × IsPathFrom n t i (x ∷ w.0) r zs j y).
+        (λ (k : (r : ℕ) × (hop n (truth n t i) x z ≡ Some r) × (In r (x ∷ w.0) → ⊥)
+        × IsPathFrom n t i (x ∷ w.0) r zs j y).
         hop_accepts_at (node n x) (truth n t i) z k.0 q k.1 m)
         (λ (k : (r : ℕ) × (z ≡ 0) × Moves n t i x r × IsPathFrom n t (suc i) [] r zs j y).
         takes_accepts n x k.2.0 k.0 q k.2.2 m)

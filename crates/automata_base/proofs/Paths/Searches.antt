@@ -8,8 +8,10 @@ use Rattle.std.specs.Prelude.{slice_get}
 use Rattle.automata_base.specs.Nfas.Nfa.{Nfa}
 use Rattle.automata_base.specs.Paths.Paths.{Tape, IsPathFrom, KeepsCycles}
 use Rattle.automata_base.specs.Powersets.Cuts.{MatchKind, All, LeftmostFirst}
-use Rattle.automata_base.specs.Paths.Selections.{Accepts, IsFirstAt, ArePatternsAt, Reports, Pair, Pairs, IsOverlappingOn}
-use Rattle.automata_base.specs.Paths.Selections.{ByEdges, ByPlace, IsLeastAt, IsPreferred, ReportsLeast, ReportsNoneAt, Selects}
+use Rattle.automata_base.specs.Paths.Selections.{Accepts, IsFirstAt, ArePatternsAt, Reports, Pair, Pairs}
+use Rattle.automata_base.specs.Paths.Selections.{IsOverlappingOn}
+use Rattle.automata_base.specs.Paths.Selections.{ByEdges, ByPlace, IsLeastAt, IsPreferred, ReportsLeast, ReportsNoneAt}
+use Rattle.automata_base.specs.Paths.Selections.{Selects}
 use Rattle.automata_base.proofs.Paths.Orders.{cons_head, nil_cons, none_some, upto_before}
 use Rattle.automata_base.specs.Powersets.Passes.{IsTape}
 use Rattle.automata_base.proofs.Paths.Invariants.{pass_reports}
@@ -20,7 +22,8 @@ pub pairs_map :
     → ((i : ℕ) (patterns : List ℕ) → i < k → At i patterns → At' i patterns) → Pairs At k pairs → Pairs At' k pairs
 pairs_map At At' zero pairs f p = p
 pairs_map At At' (suc k) pairs f p =
-    (p.0, p.1, pairs_map At At' k p.0 (λ i patterns l. f i patterns (omega (arith, l))) p.2, f k p.1 (omega arith) p.3, p.4)
+    (p.0, p.1, pairs_map At At' k p.0 (λ i patterns l. f i patterns (omega (arith, l))) p.2, f k p.1 (omega arith) p.3,
+    p.4)
 
 -- The whole list of a walk.
 pub walk_right :
@@ -81,7 +84,8 @@ head_least LeftmostFirst n t start i p rest (ReportsLeast q path one h) =
 
 three : (i j : ℕ) → (i < j) ⊎ ((i ≡ j) ⊎ (j < i))
 three i j = ⊎_elim (λ (l : i < j). inl l)
-    (λ (l : j ≤ i). ⊎_elim (λ (e : j ≡ i). inr (inl (sym e))) (λ (k : j < i). inr (inr k)) (eq-or-lt_of_le l)) (cases_lt i j)
+    (λ (l : j ≤ i). ⊎_elim (λ (e : j ≡ i). inr (inl (sym e))) (λ (k : j < i). inr (inr k)) (eq-or-lt_of_le l))
+    (cases_lt i j)
 
 pub sel_none :
     (kind : MatchKind) (earliest : Bool) (n : Nfa) (t : Tape) (start : ℕ)
@@ -92,7 +96,8 @@ sel_none kind earliest n t start f i pattern path a =
 
 pub sel_earliest :
     (kind : MatchKind) (n : Nfa) (t : Tape) (start : ℕ) (pair : Pair) (rest : List ℕ)
-    → ArePatternsAt kind n t start pair.place (pair.pattern ∷ rest) → ((j : ℕ) → j < pair.place → ArePatternsAt kind n t start j [])
+    → ArePatternsAt kind n t start pair.place (pair.pattern ∷ rest)
+    → ((j : ℕ) → j < pair.place → ArePatternsAt kind n t start j [])
     → Selects kind true n t start (Some pair)
 sel_earliest kind n t start pair rest here f = (w.0, w.1, chosen)
   where
@@ -105,7 +110,9 @@ sel_earliest kind n t start pair rest here f = (w.0, w.1, chosen)
         → IsPreferred (pair.place < j) pair.place w.0 j other
     chosen j pattern other a = go (three pair.place j)
       where
-        go : (pair.place < j) ⊎ ((pair.place ≡ j) ⊎ (j < pair.place)) → IsPreferred (pair.place < j) pair.place w.0 j other
+        go :
+            (pair.place < j) ⊎ ((pair.place ≡ j) ⊎ (j < pair.place))
+            → IsPreferred (pair.place < j) pair.place w.0 j other
         go (inl l) = ByPlace l
         go (inr (inl e)) = ByEdges e (w.2 pattern other (subst (λ v. Accepts n t start v pattern other) (sym e) a))
         go (inr (inr l)) = absurd (none_before kind n t start pair.place f j pattern other l a)
@@ -126,7 +133,9 @@ sel_all n t start pair rest here f = (w.0, w.1, chosen)
         → IsPreferred (j < pair.place) pair.place w.0 j other
     chosen j pattern other a = go (three pair.place j)
       where
-        go : (pair.place < j) ⊎ ((pair.place ≡ j) ⊎ (j < pair.place)) → IsPreferred (j < pair.place) pair.place w.0 j other
+        go :
+            (pair.place < j) ⊎ ((pair.place ≡ j) ⊎ (j < pair.place))
+            → IsPreferred (j < pair.place) pair.place w.0 j other
         go (inl l) = absurd ((f j l (accepting_inside n t start j pattern other a)).0 pattern other a)
         go (inr (inl e)) = ByEdges e (w.2 pattern other (subst (λ v. Accepts n t start v pattern other) (sym e) a))
         go (inr (inr l)) = ByPlace l
@@ -138,7 +147,8 @@ upto :
     → IsLeastAt n t start place pattern path
     → (k j p : ℕ) (other : List ℕ) → j < k → Accepts n t start j p other → Upto path other
 upto n t start place pattern path f h zero j p other l a = absurd (omega (arith, l))
-upto n t start place pattern path f h (suc k) j p other l a = go (three place j) (upto n t start place pattern path f h k)
+upto n t start place pattern path f h (suc k) j p other l a =
+    go (three place j) (upto n t start place pattern path f h k)
   where
     go :
         (place < j) ⊎ ((place ≡ j) ⊎ (j < place))
@@ -151,7 +161,8 @@ upto n t start place pattern path f h (suc k) j p other l a = go (three place j)
         beyond : IsFirstAt n t start j [] → Upto path other
         beyond (ReportsNoneAt none g) =
             let w = g p other a in
-            inr (upto_before path w.less other (ih w.place w.pattern w.less (omega (arith, w.earlier, l)) w.accepted) w.before)
+            inr (upto_before path w.less other (ih w.place w.pattern w.less (omega (arith, w.earlier, l)) w.accepted)
+            w.before)
         beyond (ReportsLeast q least one g) = absurd (nil_cons one)
 
 pub sel_first :
@@ -163,7 +174,8 @@ sel_first n t start pair rest (ReportsNoneAt none h) f = absurd (nil_cons (sym n
 sel_first n t start pair rest (ReportsLeast p path one h) f = (
   path,
   subst (λ v. Accepts n t start pair.place v path) (sym (cons_head one)) h.accepted,
-  λ j pattern other a. upto n t start pair.place p path f h (suc (length t.bytes)) j pattern other (let k = accepting_inside n t start j pattern other a in omega (arith, k)) a,
+  λ j pattern other a. upto n t start pair.place p path f h (suc (length t.bytes)) j pattern other
+  (let k = accepting_inside n t start j pattern other a in omega (arith, k)) a,
 )
 
 -- A plain search.

@@ -22,7 +22,8 @@ use Rattle.automata_base.proofs.Paths.Staying.{Ending, keep_sieve, ends_sieve, k
 use Rattle.automata_base.proofs.Paths.Late.{FirstKept, first_kept}
 use Rattle.automata_base.proofs.Paths.Steps.{takes_ends}
 use Rattle.automata_base.proofs.Paths.Cuts.{leader, no_leader, no_leader_in, leader_in, leader_accepts}
-use Rattle.automata_base.proofs.Paths.Readings.{sorted_has, targets_all, targets_cut, patterns_all, patterns_cut, reported}
+use Rattle.automata_base.proofs.Paths.Readings.{sorted_has, targets_all, targets_cut, patterns_all, patterns_cut}
+use Rattle.automata_base.proofs.Paths.Readings.{reported}
 use Rattle.automata_base.proofs.Paths.Readings.{once_is_none, once_is_one}
 use Rattle.automata_base.proofs.Paths.Decisions.{decides_known, news_closure, truth_between}
 use Rattle.automata_base.proofs.Paths.Invariants.{next_byte}
@@ -38,13 +39,16 @@ HasWalk n A q z = (path : List ℕ) × IsPathAt n A [] q path z
 abbrev pub Split2 : Nfa → Truth → List ℕ → ℕ → ℕ → List ℕ → ℕ → Type 0
 Split2 n A seen q r path z = HasWalk n A q z ⊎ (IsPathAt n A (seen ++ (q ∷ [])) r path z × (r ≡ q → ⊥))
 
-suffix : (n : Nfa) (A : Truth) (seen : List ℕ) (q r : ℕ) (path : List ℕ) (z : ℕ) → IsPathAt n A seen r path z → Split2 n A seen q r path z
+suffix :
+    (n : Nfa) (A : Truth) (seen : List ℕ) (q r : ℕ) (path : List ℕ) (z : ℕ) → IsPathAt n A seen r path z
+    → Split2 n A seen q r path z
 suffix n A seen q r [] z w = ⊎_elim
     (λ (e : r ≡ q). inl ([], sym e ∙ w)) (λ (f : r ≡ q → ⊥). inr (w, f)) (cases_eq r q)
 suffix n A seen q r (e ∷ path) z w = go (cases_eq r q) (suffix n A (r ∷ seen) q w.0 path z w.3)
   where
     go : (r ≡ q) ⊎ (r ≡ q → ⊥) → Split2 n A (r ∷ seen) q w.0 path z → Split2 n A seen q r (e ∷ path) z
-    go (inl s) h = inl (e ∷ path, subst (λ v. IsPathAt n A [] v (e ∷ path) z) s (walk_forget n A [] seen r (e ∷ path) z w))
+    go (inl s) h =
+        inl (e ∷ path, subst (λ v. IsPathAt n A [] v (e ∷ path) z) s (walk_forget n A [] seen r (e ∷ path) z w))
     go (inr f) (inl h) = inl h
     go (inr f) (inr h) = inr ((w.0, w.1, fresh, h.0), f)
       where
@@ -61,7 +65,8 @@ walk_cons n A q e r z h w = go (suffix n A [] q r w.0 z w.1)
     go (inr k) = (e ∷ w.0, (r, h, (λ i. ⊎_elim (λ (s : r ≡ q). k.1 s) (λ (b : ⊥). b) i), k.0))
 
 pub walk_then :
-    (n : Nfa) (A : Truth) (seen : List ℕ) (q : ℕ) (p : List ℕ) (y z : ℕ) → IsPathAt n A seen q p y → HasWalk n A y z → HasWalk n A q z
+    (n : Nfa) (A : Truth) (seen : List ℕ) (q : ℕ) (p : List ℕ) (y z : ℕ) → IsPathAt n A seen q p y → HasWalk n A y z
+    → HasWalk n A q z
 walk_then n A seen q [] y z w h = subst (λ v. HasWalk n A v z) (sym w) h
 walk_then n A seen q (e ∷ p) y z w h = walk_cons n A q e w.0 z w.1 (walk_then n A (q ∷ seen) w.0 p y z w.3 h)
 
@@ -85,7 +90,9 @@ decides_set n K patterns roots C prev u Q L unit known c make (HasNoNews quiet s
     W root path z = IsPathAt n (truth_between n prev u) [] root path z
 
     l : IsListOf (Ending n (From W roots)) (pick (ends n) L)
-    l = subst (λ v. IsListOf (Ending n (From W roots)) (pick (ends n) v)) (sym same) (decides_known n K patterns roots C prev u Q unit known c make quiet)
+    l =
+        subst (λ v. IsListOf (Ending n (From W roots)) (pick (ends n) v)) (sym same)
+        (decides_known n K patterns roots C prev u Q unit known c make quiet)
 decides_set n K patterns roots C prev u Q L unit known c make (HasNews news h) = (from_list, to_list)
   where
     T : Truth
@@ -128,7 +135,8 @@ decides_set n K patterns roots C prev u Q L unit known c make (HasNews news h) =
     found : (q : ℕ) (key : List ℕ) → ends n q ≡ Some q → From (W T) roots q key → In q L
     found q [] e k = absurd k
     found q (i ∷ t) e k =
-        let f : FirstKept n (keeps n) K T [] k.0 t q = first_kept n (keeps n) K T [] k.0 t q (λ x s. stays_kept n x s) (kept_at (ends_at (node n q)) q q e) k.2 in
+        let f : FirstKept n (keeps n) K T [] k.0 t q =
+        first_kept n (keeps n) K T [] k.0 t q (λ x s. stays_kept n x s) (kept_at (ends_at (node n q)) q q e) k.2 in
         let j = in_pick (keep n) C f.0 f.0 (c.0 f.0 (i ∷ f.1) (k.0, k.1, f.4)) (keep_true (keeps n f.0) f.0 f.6) in
         l.0 q (j.0 ∷ f.2) (f.0, j.1, f.7)
 
@@ -170,7 +178,8 @@ step_set n t start i u N byte s q = (λ r. there r.0 r.1, λ m. back m.0 m.1)
         let x = in_picked g N k.0 (nth_in (pick g N) j k.0 k.1) in
         let y = s.0 x.0 x.1 in (
           y.1.0 ++ (0 ∷ p),
-          path_extend n t 0 [] start y.1.0 i x.0 k.0 p (suc i) q y.1.1 (u, byte, x.2) (walk_path n t (suc i) [] k.0 p q k.2),
+          path_extend n t 0 [] start y.1.0 i x.0 k.0 p (suc i) q y.1.1 (u, byte, x.2)
+          (walk_path n t (suc i) [] k.0 p q k.2),
         )
 
     back : (path : List ℕ) → IsPath n t start (suc i) q path → Reached n (truth n t (suc i)) (pick g N) q
@@ -203,9 +212,12 @@ decided_set n t start i Q L tape_of m d =
 start_set : (n : Nfa) (t : Tape) (start : ℕ) (q : ℕ) → Reached n (truth n t 0) (start ∷ []) q ↔ IsMet n t start 0 q
 start_set n t start q = (λ r. there r.0 r.1, λ m. (0 ∷ m.0, (start, refl, path_walk n t 0 [] start m.0 0 q refl m.1)))
   where
-    there : (key : List ℕ) → From (λ root path z. IsPathAt n (truth n t 0) [] root path z) (start ∷ []) q key → IsMet n t start 0 q
+    there :
+        (key : List ℕ) → From (λ root path z. IsPathAt n (truth n t 0) [] root path z) (start ∷ []) q key
+        → IsMet n t start 0 q
     there [] k = absurd k
-    there (zero ∷ p) k = (p, walk_path n t 0 [] start p q (subst (λ v. IsPathAt n (truth n t 0) [] v p q) (sym (some_inj k.1)) k.2))
+    there (zero ∷ p) k =
+        (p, walk_path n t 0 [] start p q (subst (λ v. IsPathAt n (truth n t 0) [] v p q) (sym (some_inj k.1)) k.2))
     there (suc j ∷ p) k = absurd (none_some k.1)
 
 -- With nothing to report, the cut leaves the targets.
@@ -215,7 +227,8 @@ quiet_targets :
     → pick (λ b. takes n b u) (cut_for kind n L) ≡ pick (λ b. takes n b u) (pick (ends n) L)
 quiet_targets All n t start i u L quiet s = targets_all n u L
 quiet_targets LeftmostFirst n t start i u L quiet s =
-    targets_cut n u L ∙ ap (λ v. pick (λ b. takes n b u) v) (no_leader n (pick (ends n) L) (go (leader n (pick (ends n) L)) refl))
+    targets_cut n u L
+    ∙ ap (λ v. pick (λ b. takes n b u) v) (no_leader n (pick (ends n) L) (go (leader n (pick (ends n) L)) refl))
   where
     go : (o : Option ℕ) → leader n (pick (ends n) L) ≡ o → leader n (pick (ends n) L) ≡ None
     go None e = e
@@ -239,7 +252,9 @@ means_set_succ kind n t start i P Q tape_of inside quiet m s = go (next_byte t.b
     N = decided_set n t start i P s.0 tape_of m s.2
 
     go : (u : ℕ) × (slice_get t.bytes i ≡ Some u) × (next t i ≡ Some u) → MeansSet n t start (suc i) Q
-    go b = (s.1, pick (λ v. takes n v b.0) (cut_for kind n s.0), arrival, λ q. subst (Goal q) (sym e) (step_set n t start i b.0 (pick (ends n) s.0) b.1 N q))
+    go b =
+        (s.1, pick (λ v. takes n v b.0) (cut_for kind n s.0), arrival, λ q. subst (Goal q) (sym e)
+        (step_set n t start i b.0 (pick (ends n) s.0) b.1 N q))
       where
         Goal : ℕ → List ℕ → Type 0
         Goal q roots = Reached n (truth n t (suc i)) roots q ↔ IsMet n t start (suc i) q
@@ -314,7 +329,8 @@ reports_honest All n t start i P Q tape_of m s =
   where
     w : IsSet (λ p. (path : List ℕ) × Accepts n t start i p path) Q.patterns
     w = all_reports_set n t start i P Q tape_of m s
-reports_honest LeftmostFirst n t start i P Q tape_of m s = subst (λ v. IsHonest n t start i v) (sym s.4.made.patterns) (go (leader n (pick (ends n) s.0)) refl)
+reports_honest LeftmostFirst n t start i P Q tape_of m s =
+    subst (λ v. IsHonest n t start i v) (sym s.4.made.patterns) (go (leader n (pick (ends n) s.0)) refl)
   where
     N : IsSet (EndsMet n t start i) (pick (ends n) s.0)
     N = decided_set n t start i P s.0 tape_of m s.2
@@ -326,8 +342,10 @@ reports_honest LeftmostFirst n t start i P Q tape_of m s = subst (λ v. IsHonest
         none = once_is_none (pick (accepts n) (cut n s.0)) s.1 (patterns_cut n s.0 ∙ ap (λ v. reported n v) e) s.3
 
         quiet : s.1 ≡ [] → (p : ℕ) (path : List ℕ) → Accepts n t start i p path → ⊥
-        quiet f p path a = no_leader_in n (pick (ends n) s.0) a.0 p e (N.1 a.0 (accepts_ends n a.0 p a.2, (path, a.1))) a.2
-    go (Some x) e = (λ f. absurd (nil_cons (sym f ∙ one)), λ p rest f. (y.1.0, (x, y.1.1, a.1 ∙ ap Some (cons_head (sym one ∙ f)))))
+        quiet f p path a =
+            no_leader_in n (pick (ends n) s.0) a.0 p e (N.1 a.0 (accepts_ends n a.0 p a.2, (path, a.1))) a.2
+    go (Some x) e =
+        (λ f. absurd (nil_cons (sym f ∙ one)), λ p rest f. (y.1.0, (x, y.1.1, a.1 ∙ ap Some (cons_head (sym one ∙ f)))))
       where
         a : (p : ℕ) × (accepts n x ≡ Some p)
         a = leader_accepts n (pick (ends n) s.0) x e
@@ -365,20 +383,24 @@ reported_nothing kind n t start (suc k) tape_of l f j pattern path h a =
     quiet LeftmostFirst ih = ih
 
     go :
-        (kind : MatchKind) → (j ≡ k) ⊎ (j < k) → (IsQuiet kind n t start k → Reports kind n t start k [] → IsHonest n t start k [])
+        (kind : MatchKind) → (j ≡ k) ⊎ (j < k)
+        → (IsQuiet kind n t start k → Reports kind n t start k [] → IsHonest n t start k [])
         → ((j pattern : ℕ) (path : List ℕ) → j < k → Accepts n t start j pattern path → ⊥)
         → Reports kind n t start k [] → ⊥
     go kind (inr b) honest ih p = ih j pattern path b a
-    go kind (inl e) honest ih p = (honest (quiet kind ih) p).0 refl pattern path (subst (λ v. Accepts n t start v pattern path) e a)
+    go kind (inl e) honest ih p =
+        (honest (quiet kind ih) p).0 refl pattern path (subst (λ v. Accepts n t start v pattern path) e a)
 
 pub nearest_right :
     (kind : MatchKind) (n : Nfa) (t : Tape) (start : ℕ) (answer : Option Pair)
     → IsTape t → PassSelects kind true n t start answer → IsNearest n t start answer
 nearest_right kind n t start None tape_of p = λ i pattern path a.
-    reported_nothing kind n t start (suc (length t.bytes)) tape_of (omega arith) (λ j h. p j (le_of_suc-le-suc h)) i pattern path
+    reported_nothing kind n t start (suc (length t.bytes)) tape_of (omega arith) (λ j h. p j (le_of_suc-le-suc h)) i
+    pattern path
     (let k = accepting_inside n t start i pattern path a in omega (arith, k)) a
 nearest_right kind n t start (Some pair) tape_of p =
-    ((pass_honest kind n t start pair.place (pair.pattern ∷ p.0) tape_of p.1 (quiet kind) p.2).1 pair.pattern p.0 refl, before)
+    ((pass_honest kind n t start pair.place (pair.pattern ∷ p.0) tape_of p.1 (quiet kind) p.2).1 pair.pattern p.0 refl,
+    before)
   where
     before : (j pattern : ℕ) (path : List ℕ) → j < pair.place → Accepts n t start j pattern path → ⊥
     before = reported_nothing kind n t start pair.place tape_of (omega (arith, p.1)) p.3
@@ -400,7 +422,8 @@ pub farthest_right :
     (n : Nfa) (t : Tape) (start : ℕ) (answer : Option Pair)
     → IsTape t → PassSelects All false n t start answer → IsFarthest n t start answer
 farthest_right n t start None tape_of p = λ i pattern path a.
-    (pairs_right n t start i [] tape_of (accepting_inside n t start i pattern path a) (p i (accepting_inside n t start i pattern path a))).1
+    (pairs_right n t start i [] tape_of (accepting_inside n t start i pattern path a)
+    (p i (accepting_inside n t start i pattern path a))).1
     pattern (path, a)
 farthest_right n t start (Some pair) tape_of p = (
   (pairs_right n t start pair.place (pair.pattern ∷ p.0) tape_of p.1 p.2).0 pair.pattern (inl refl),

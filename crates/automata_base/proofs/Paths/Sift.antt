@@ -17,7 +17,8 @@ in_picked g [] r h = absurd h
 in_picked g (x ∷ xs) r h = go (g x) refl h (in_picked g xs r)
   where
     go :
-        (o : Option ℕ) → g x ≡ o → In r (cons_some o (pick g xs)) → (In r (pick g xs) → (y : ℕ) × In y xs × (g y ≡ Some r))
+        (o : Option ℕ) → g x ≡ o → In r (cons_some o (pick g xs))
+        → (In r (pick g xs) → (y : ℕ) × In y xs × (g y ≡ Some r))
         → (y : ℕ) × In y (x ∷ xs) × (g y ≡ Some r)
     go None e h ih = let w = ih h in (w.0, inr w.1, w.2)
     go (Some r0) e (inl h) ih = (x, inl refl, e ∙ ap Some (sym h))
@@ -58,7 +59,8 @@ same_sorted :
     → Sorted P xs → Sorted P' xs
 same_sorted P P' [] f g s = tt
 same_sorted P P' (x ∷ xs) f g s =
-    (s.0, f x s.0 s.1, λ other h. s.2 other (g x other h), λ y other i h. s.3 y other i (g y other h), same_sorted P P' xs f g s.4)
+    (s.0, f x s.0 s.1, λ other h. s.2 other (g x other h), λ y other i h. s.3 y other i (g y other h), same_sorted P P'
+    xs f g s.4)
 
 -- Keys said in another way.
 pub same :

@@ -31,7 +31,8 @@ kept_at true q r e = refl
 kept_at false q r e = absurd (none_some e)
 
 -- A state that stays is a look or has no edge that stays at its place; any other has edges that no look decides.
-pub stay_cases : (x : Node) → (stays_at x ≡ true) ⊎ ((ends_at x ≡ false) × ((A : Truth) (e : ℕ) → hop_at x A e ≡ fork_at x e))
+pub stay_cases :
+    (x : Node) → (stays_at x ≡ true) ⊎ ((ends_at x ≡ false) × ((A : Truth) (e : ℕ) → hop_at x A e ≡ fork_at x e))
 stay_cases (Split alternates) = inr (refl, λ A e. refl)
 stay_cases (Assert look next) = inl refl
 stay_cases (Read ranges) = inl refl

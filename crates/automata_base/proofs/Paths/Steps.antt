@@ -60,7 +60,8 @@ pub step :
     (n : Nfa) (t : Tape) (start i u : ℕ) (best : Option (List ℕ)) (N xs : List ℕ)
     → slice_get t.bytes i ≡ Some u → IsPast n t start best i
     → IsListOf (EndsWithin n t start best i) N
-    → IsListOf (Ending n (From (λ root path q. IsPathAt n (truth n t (suc i)) [] root path q) (pick (λ b. takes n b u) N))) xs
+    → IsListOf
+    (Ending n (From (λ root path q. IsPathAt n (truth n t (suc i)) [] root path q) (pick (λ b. takes n b u) N))) xs
     → IsListOf (EndsWithin n t start best (suc i)) xs
 step n t start i u best N xs byte past l m =
     compose P g S P' (0 ∷ []) N xs joins divides l
@@ -98,7 +99,9 @@ step n t start i u best N xs byte past l m =
 
     divides : Divides P g S P' (0 ∷ [])
     divides q key h =
-        (f.0, f.1, f.2, f.3, (takes_ends n f.0 u f.1 moves, f.4, within_less best f.2 0 f.3 (subst (λ v. Within best v) f.7 h.2)), moves, (h.0, f.6), f.7, apart)
+        (f.0, f.1, f.2, f.3,
+        (takes_ends n f.0 u f.1 moves, f.4, within_less best f.2 0 f.3 (subst (λ v. Within best v) f.7 h.2)), moves,
+        (h.0, f.6), f.7, apart)
       where
         f : (b r : ℕ) × (head rest : List ℕ) × IsPathFrom n t 0 [] start head i b × Moves n t i b r
             × IsPathAt n (truth n t (suc i)) [] r rest q × (key ≡ head ++ (0 ∷ rest))

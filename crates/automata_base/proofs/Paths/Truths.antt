@@ -67,12 +67,15 @@ truths n patterns C prev Q u look make need occurs unit = go look occurs
     known : (look : Look) → truth_of Q.known look ≡ true → holds t r look prev u ≡ true
     known look e = ((make.known look).0 e).1.1 u unit
 
-    knows : (look : Look) → Occurs n look → ((next : Option ℕ) → holds t r look prev next ≡ true) → truth_of Q.known look ≡ true
+    knows :
+        (look : Look) → Occurs n look → ((next : Option ℕ) → holds t r look prev next ≡ true)
+        → truth_of Q.known look ≡ true
     knows look o f = (make.known look).1 (need, (o, λ next i. f next))
 
     exact : (look : Look) → decided t r Q.word Q.half look u ≡ holds t r look prev u → Shows n Q prev u look
     exact look e =
-        known_or (truth_of Q.known look) (decided t r Q.word Q.half look u) (holds t r look prev u) (known look) (λ x. sym e ∙ x) (λ h. inr (e ∙ h))
+        known_or (truth_of Q.known look) (decided t r Q.word Q.half look u) (holds t r look prev u) (known look)
+        (λ x. sym e ∙ x) (λ h. inr (e ∙ h))
 
     only_before :
         (look : Look) → decided t r Q.word Q.half look u ≡ false
@@ -87,23 +90,33 @@ truths n patterns C prev Q u look make need occurs unit = go look occurs
     go StartLF o = only_before StartLF refl (λ h. knows StartLF o (λ next. h))
     go EndLF o = exact EndLF refl
     go StartCRLF o =
-        known_or (truth_of Q.known StartCRLF) (Q.half && not (is_byte (second_half r) u)) (holds t r StartCRLF prev u) (known StartCRLF)
-        (λ x. or_right (is_absent prev || is_byte (second_half r) prev) (is_byte (first_half r) prev && not (is_byte (second_half r) u))
+        known_or (truth_of Q.known StartCRLF) (Q.half && not (is_byte (second_half r) u)) (holds t r StartCRLF prev u)
+        (known StartCRLF)
+        (λ x. or_right (is_absent prev || is_byte (second_half r) prev)
+        (is_byte (first_half r) prev && not (is_byte (second_half r) u))
         (sym halves ∙ x))
         (λ h. ⊎_elim
         (λ (b : is_absent prev || is_byte (second_half r) prev ≡ true).
-        inl (knows StartCRLF o (λ next. or_left (is_absent prev || is_byte (second_half r) prev) (is_byte (first_half r) prev && not (is_byte (second_half r) next)) b)))
+        inl (knows StartCRLF o
+        (λ next. or_left (is_absent prev || is_byte (second_half r) prev)
+        (is_byte (first_half r) prev && not (is_byte (second_half r) next)) b)))
         (λ (b : is_byte (first_half r) prev && not (is_byte (second_half r) u) ≡ true). inr (halves ∙ b))
-        (or_cases (is_absent prev || is_byte (second_half r) prev) (is_byte (first_half r) prev && not (is_byte (second_half r) u)) h))
+        (or_cases (is_absent prev || is_byte (second_half r) prev)
+        (is_byte (first_half r) prev && not (is_byte (second_half r) u)) h))
       where
-        halves : Q.half && not (is_byte (second_half r) u) ≡ is_byte (first_half r) prev && not (is_byte (second_half r) u)
+        halves :
+            Q.half && not (is_byte (second_half r) u) ≡ is_byte (first_half r) prev && not (is_byte (second_half r) u)
         halves = ap (λ v. v && not (is_byte (second_half r) u)) (half_is (StartCRLF, o, refl))
     go EndCRLF o =
-        exact EndCRLF (ap (λ v. is_absent u || is_byte (first_half r) u || (is_byte (second_half r) u && not v)) (half_is (EndCRLF, o, refl)))
+        exact EndCRLF
+        (ap (λ v. is_absent u || is_byte (first_half r) u || (is_byte (second_half r) u && not v))
+        (half_is (EndCRLF, o, refl)))
     go WordAscii o = exact WordAscii (ap (λ v. differ v (is_word u)) (word_is (WordAscii, o, refl)))
-    go WordAsciiNegate o = exact WordAsciiNegate (ap (λ v. not (differ v (is_word u))) (word_is (WordAsciiNegate, o, refl)))
+    go WordAsciiNegate o =
+        exact WordAsciiNegate (ap (λ v. not (differ v (is_word u))) (word_is (WordAsciiNegate, o, refl)))
     go WordUnicode o = exact WordUnicode (ap (λ v. differ v (is_word u)) (word_is (WordUnicode, o, refl)))
-    go WordUnicodeNegate o = exact WordUnicodeNegate (ap (λ v. not (differ v (is_word u))) (word_is (WordUnicodeNegate, o, refl)))
+    go WordUnicodeNegate o =
+        exact WordUnicodeNegate (ap (λ v. not (differ v (is_word u))) (word_is (WordUnicodeNegate, o, refl)))
     go WordStartAscii o = exact WordStartAscii (ap (λ v. not v && is_word u) (word_is (WordStartAscii, o, refl)))
     go WordEndAscii o = exact WordEndAscii (ap (λ v. v && not (is_word u)) (word_is (WordEndAscii, o, refl)))
     go WordStartUnicode o = exact WordStartUnicode (ap (λ v. not v && is_word u) (word_is (WordStartUnicode, o, refl)))

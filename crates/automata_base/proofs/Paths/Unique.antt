@@ -35,7 +35,8 @@ accepting_one n t start i a j b path h k =
 
 -- The least path is preceded by none.
 none_least :
-    (n : Nfa) (t : Tape) (start i pattern : ℕ) (path : List ℕ) → IsPreceded n t start i path → IsLeastAt n t start i pattern path
+    (n : Nfa) (t : Tape) (start i pattern : ℕ) (path : List ℕ) → IsPreceded n t start i path
+    → IsLeastAt n t start i pattern path
     → ⊥
 none_least n t start i pattern path w h =
     before_irrefl path (before_trans path w.less path (h.first w.place w.pattern w.less w.earlier w.accepted) w.before)
@@ -72,7 +73,8 @@ walk_one kind n t start a b h k =
     pairs_one (ArePatternsAt kind n t start) (suc (length t.bytes)) a b (λ i x y. at_one kind n t start i x y) h k
 
 pub powerset_path :
-    (A B : Powerset) → A.nfa ≡ B.nfa → A.patterns ≡ B.patterns → A.known ≡ B.known → A.needed ≡ B.needed → A.word ≡ B.word → A.half ≡ B.half → A ≡ B
+    (A B : Powerset) → A.nfa ≡ B.nfa → A.patterns ≡ B.patterns → A.known ≡ B.known → A.needed ≡ B.needed
+    → A.word ≡ B.word → A.half ≡ B.half → A ≡ B
 powerset_path A B l p k d w h = λ i.
     record {
       nfa = l i;
@@ -88,10 +90,13 @@ make_one :
     → IsMake n patterns C prev A → IsMake n patterns C prev B → A ≡ B
 make_one n patterns C prev A B a b =
     powerset_path A B l (a.patterns ∙ sym b.patterns)
-    (same_looks A.known B.known a.known_set b.known_set (λ look. bool_iff (truth_of A.known look) (truth_of B.known look)
+    (same_looks A.known B.known a.known_set b.known_set
+    (λ look. bool_iff (truth_of A.known look) (truth_of B.known look)
     (λ e. let w = (a.known look).0 e in (b.known look).1 ((w.0.0, subst (λ v. IsNeeded n v w.0.0) l w.0.1), w.1))
-    (λ e. let w = (b.known look).0 e in (a.known look).1 ((w.0.0, subst (λ v. IsNeeded n v w.0.0) (sym l) w.0.1), w.1))))
-    (same_looks A.needed B.needed a.needed_set b.needed_set (λ look. bool_iff (truth_of A.needed look) (truth_of B.needed look)
+    (λ e. let w = (b.known look).0 e in
+    (a.known look).1 ((w.0.0, subst (λ v. IsNeeded n v w.0.0) (sym l) w.0.1), w.1))))
+    (same_looks A.needed B.needed a.needed_set b.needed_set
+    (λ look. bool_iff (truth_of A.needed look) (truth_of B.needed look)
     (λ e. (b.needed look).1 (subst (λ v. IsNeeded n v look) l ((a.needed look).0 e)))
     (λ e. (a.needed look).1 (subst (λ v. IsNeeded n v look) (sym l) ((b.needed look).0 e)))))
     (bool_iff A.word B.word
@@ -119,7 +124,8 @@ arrival_one n patterns roots prev A B a b =
     c : a.list ≡ b.list
     c =
         list_one (From (λ root path q. IsPathAt n b.truth [] root path q) roots) a.list b.list
-        (closure_agrees n a.truth b.truth roots a.list (λ x look next e. k look) (λ x look next e. k' look) a.closure) b.closure
+        (closure_agrees n a.truth b.truth roots a.list (λ x look next e. k look) (λ x look next e. k' look) a.closure)
+        b.closure
 
 pub decided_one :
     (n : Nfa) (Q : Powerset) (u : Option ℕ) (L M : List ℕ) → IsDecided n Q u L → IsDecided n Q u M → L ≡ M

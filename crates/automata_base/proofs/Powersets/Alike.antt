@@ -1,4 +1,5 @@
--- On bytes that an automaton does not distinguish its steps are alike, and so are its starts after them; the dead state stays dead.
+-- On bytes that an automaton does not distinguish its steps are alike, and so are its starts after them; the dead state
+-- stays dead.
 use Rattle.std.proofs.Common.{ℕ, zero, suc, ◌≡◌, Bool, true, false, not, ◌&&◌, ◌||◌, eqb, if◌then◌else◌, List, [], ◌∷◌}
 use Rattle.std.proofs.Common.{length, Option, Some, None, refl, sym, ap, ◌∙◌, subst}
 use Rattle.std.proofs.lemmas.Bool.{eqb-true}
@@ -35,7 +36,8 @@ pub alike_step :
     → IsAlike a u v → NeedsOwnLooks a q → successor a kind q (Some u) ≡ successor a kind q (Some v)
 unfolding successor
 alike_step a kind q u v s own =
-    ap (λ L. arrive n (once_past [] (pick (accepts n) (cut_for kind n L))) (targets n (Some u) (cut_for kind n L)) (Some u))
+    ap (λ L. arrive n (once_past [] (pick (accepts n) (cut_for kind n L))) (targets n (Some u) (cut_for kind n L))
+    (Some u))
     (decide_alike n q (Some u) (Some v) sees own)
     ∙ (ap (λ (g : ℕ → Option ℕ). arrive n reported (pick g L') (Some u)) (λ i b. s.takes b i)
     ∙ arrive_alike n reported (targets n (Some v) L') (Some u) (Some v) sees)
@@ -71,7 +73,8 @@ unfolding Reported Other
 reported_of t u = go (eqb u 10) refl (eqb u 13) refl (eqb u t) refl (is_word_byte u) refl
   where
     go :
-        (a : Bool) → eqb u 10 ≡ a → (b : Bool) → eqb u 13 ≡ b → (c : Bool) → eqb u t ≡ c → (w : Bool) → is_word_byte u ≡ w
+        (a : Bool) → eqb u 10 ≡ a → (b : Bool) → eqb u 13 ≡ b → (c : Bool) → eqb u t ≡ c → (w : Bool)
+        → is_word_byte u ≡ w
         → Reported t u (if a then 3 else (if b then 4 else (if c then 5 else (if w then 1 else 0))))
     go true e b f c g w h = eqb-true u 10 e
     go false e true f c g w h = eqb-true u 13 f
@@ -88,7 +91,9 @@ sees_one n u v e = record {
   word = λ h. ap is_word_byte e;
 }
 
-sees_other : (n : Nfa) (u v : ℕ) (word : Bool) → Other n.terminator u word → Other n.terminator v word → SeesAlike n (Some u) (Some v)
+sees_other :
+    (n : Nfa) (u v : ℕ) (word : Bool) → Other n.terminator u word → Other n.terminator v word
+    → SeesAlike n (Some u) (Some v)
 unfolding Other
 sees_other n u v word a b = record {
   absent = refl;
@@ -98,7 +103,9 @@ sees_other n u v word a b = record {
   word = λ h. a.3 ∙ sym b.3;
 }
 
-sees_reported : (n : Nfa) (u v kind : ℕ) → Reported n.terminator u kind → Reported n.terminator v kind → SeesAlike n (Some u) (Some v)
+sees_reported :
+    (n : Nfa) (u v kind : ℕ) → Reported n.terminator u kind → Reported n.terminator v kind
+    → SeesAlike n (Some u) (Some v)
 unfolding Reported
 sees_reported n u v zero a b = sees_other n u v false a b
 sees_reported n u v (suc zero) a b = sees_other n u v true a b
@@ -120,12 +127,14 @@ sees_behind n None None e = record {
 sees_behind n None (Some v) e = absurd (subst (λ k. Reported n.terminator v k) (sym e) (reported_of n.terminator v))
 sees_behind n (Some u) None e = absurd (subst (λ k. Reported n.terminator u k) e (reported_of n.terminator u))
 sees_behind n (Some u) (Some v) e =
-    sees_reported n u v (behind_of n.terminator (Some v)) (subst (λ k. Reported n.terminator u k) e (reported_of n.terminator u)) (reported_of n.terminator v)
+    sees_reported n u v (behind_of n.terminator (Some v))
+    (subst (λ k. Reported n.terminator u k) e (reported_of n.terminator u)) (reported_of n.terminator v)
 
 -- Behind what is of one kind an automaton starts alike.
 pub behind_alike :
     (a : Automaton) (mode : Anchored) (x y : Option ℕ)
-    → behind_of a.flags.line_terminator x ≡ behind_of a.flags.line_terminator y → start_state_of a mode x ≡ start_state_of a mode y
+    → behind_of a.flags.line_terminator x ≡ behind_of a.flags.line_terminator y
+    → start_state_of a mode x ≡ start_state_of a mode y
 unfolding start_state_of
 behind_alike a mode x y e = go (mode_start a mode)
   where
@@ -162,7 +171,8 @@ dead_arrives n LeftmostFirst (Some u) = dead_makes n (Some u)
 pub dead_stays : (a : Automaton) (kind : MatchKind) (u : Option ℕ) → successor a kind dead u ≡ dead
 unfolding successor
 dead_stays a kind u =
-    ap (λ L. arrive n (once_past [] (pick (accepts n) (cut_for kind n L))) (targets n u (cut_for kind n L)) u) (dead_decides n u)
+    ap (λ L. arrive n (once_past [] (pick (accepts n) (cut_for kind n L))) (targets n u (cut_for kind n L)) u)
+    (dead_decides n u)
     ∙ dead_arrives n kind u
   where
     n : Nfa

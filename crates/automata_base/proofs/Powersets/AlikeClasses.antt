@@ -104,18 +104,25 @@ not_false : (b : Bool) → not b ≡ false → b ≡ true
 not_false true h = refl
 not_false false h = absurd (true≢false h)
 
-dense_next : (xs : List ℕ) (b : ℕ) → targets_bound xs (suc b) ≡ false → takes_in (dense_from 0 xs) b ≡ takes_in (dense_from 0 xs) (suc b)
+dense_next :
+    (xs : List ℕ) (b : ℕ) → targets_bound xs (suc b) ≡ false
+    → takes_in (dense_from 0 xs) b ≡ takes_in (dense_from 0 xs) (suc b)
 dense_next xs b h =
     dense_takes xs 0 b b (omega arith)
-    ∙ (ap some_unless (sym (eqb-true (get_or xs (suc b) 0) (get_or xs b 0) same)) ∙ sym (dense_takes xs 0 (suc b) (suc b) (omega arith)))
+    ∙ (ap some_unless (sym (eqb-true (get_or xs (suc b) 0) (get_or xs b 0) same))
+    ∙ sym (dense_takes xs 0 (suc b) (suc b) (omega arith)))
   where
     less : (b : ℕ) → suc b - 1 ≡ b
     less b = omega arith
 
     same : eqb (get_or xs (suc b) 0) (get_or xs b 0) ≡ true
-    same = ap (λ k. eqb (get_or xs (suc b) 0) (get_or xs k 0)) (sym (less b)) ∙ not_false (eqb (get_or xs (suc b) 0) (get_or xs (suc b - 1) 0)) h
+    same =
+        ap (λ k. eqb (get_or xs (suc b) 0) (get_or xs k 0)) (sym (less b))
+        ∙ not_false (eqb (get_or xs (suc b) 0) (get_or xs (suc b - 1) 0)) h
 
-state_next : (t : ℕ) (s : State) (b : ℕ) → state_bounds t s (suc b) ≡ false → takes_at (node_of s) b ≡ takes_at (node_of s) (suc b)
+state_next :
+    (t : ℕ) (s : State) (b : ℕ) → state_bounds t s (suc b) ≡ false
+    → takes_at (node_of s) b ≡ takes_at (node_of s) (suc b)
 unfolding state_bounds
 state_next t (is.ByteRange lo hi next) b h = ap (λ z. cond z (Some next) None) (within_next lo hi b h)
 state_next t (is.Sparse ts) b h = ranges_next ts.items b h
@@ -129,14 +136,17 @@ state_next t (is.Match pattern) b h = refl
 
 takes_next :
     (t : ℕ) (states : List State) (q b : ℕ) → states_bound t states (suc b) ≡ false
-    → takes_at (node_or_fail (slice_get (nodes_of states) q)) b ≡ takes_at (node_or_fail (slice_get (nodes_of states) q)) (suc b)
+    → takes_at (node_or_fail (slice_get (nodes_of states) q)) b
+    ≡ takes_at (node_or_fail (slice_get (nodes_of states) q)) (suc b)
 takes_next t [] q b h = refl
 takes_next t (s ∷ ss) zero b h = state_next t s b (or_parts (state_bounds t s (suc b)) (states_bound t ss (suc b)) h).0
-takes_next t (s ∷ ss) (suc q) b h = takes_next t ss q b (or_parts (state_bounds t s (suc b)) (states_bound t ss (suc b)) h).1
+takes_next t (s ∷ ss) (suc q) b h =
+    takes_next t ss q b (or_parts (state_bounds t s (suc b)) (states_bound t ss (suc b)) h).1
 
 -- Looks.
 abbrev LookNext : (Look → Bool) → (ℕ → ℕ → Bool) → Type 0
-LookNext test bound = (t : ℕ) (look : Look) (b : ℕ) → test look ≡ true → look_bounds t look b ≡ false → bound t b ≡ false
+LookNext test bound =
+    (t : ℕ) (look : Look) (b : ℕ) → test look ≡ true → look_bounds t look b ≡ false → bound t b ≡ false
 
 line_next : LookNext is_line_look (λ t b. bounds t t b)
 unfolding look_bounds
@@ -180,7 +190,8 @@ state_look test bound next t (is.Match pattern) b e h = absurd (true≢false (sy
 
 states_look :
     (test : Look → Bool) (bound : ℕ → ℕ → Bool) → LookNext test bound
-    → (t : ℕ) (states : List State) (b : ℕ) → any_node test (nodes_of states) ≡ true → states_bound t states b ≡ false → bound t b ≡ false
+    → (t : ℕ) (states : List State) (b : ℕ) → any_node test (nodes_of states) ≡ true → states_bound t states b ≡ false
+    → bound t b ≡ false
 states_look test bound next t [] b e h = absurd (true≢false (sym e))
 states_look test bound next t (s ∷ ss) b e h =
     let parts = or_parts (state_bounds t s b) (states_bound t ss b) h in
@@ -199,7 +210,8 @@ word_byte_next b h =
     ap (λ z. z || within 65 90 b || eqb b 95 || within 97 122 b) (within_next 48 57 b digits_upper.0)
     ∙ (ap (λ z. within 48 57 (suc b) || z || eqb b 95 || within 97 122 b) (within_next 65 90 b digits_upper.1)
     ∙ (ap (λ z. within 48 57 (suc b) || within 65 90 (suc b) || z || within 97 122 b) (eqb_next 95 b under_lower.0)
-    ∙ ap (λ z. within 48 57 (suc b) || within 65 90 (suc b) || eqb (suc b) 95 || z) (within_next 97 122 b under_lower.1)))
+    ∙ ap (λ z. within 48 57 (suc b) || within 65 90 (suc b) || eqb (suc b) 95 || z)
+    (within_next 97 122 b under_lower.1)))
 
 -- What a byte without a boundary says.
 parts_of :
@@ -208,7 +220,8 @@ parts_of :
 unfolding is_boundary
 parts_of a quits on b h =
     let p = or_parts (not on) (states_bound a.flags.line_terminator a.states b || quits_bound quits b) h in
-    let q = or_parts (states_bound a.flags.line_terminator a.states b) (quits_bound quits b) p.1 in (is_on on p.0, q.0, q.1)
+    let q = or_parts (states_bound a.flags.line_terminator a.states b) (quits_bound quits b) p.1 in
+    (is_on on p.0, q.0, q.1)
   where
     is_on : (x : Bool) → not x ≡ false → x ≡ true
     is_on true e = refl
@@ -254,7 +267,8 @@ class_alike a quits on u v e = record {
         any_node is_crlf_look (nodes_of a.states) ≡ true → (b : ℕ) → f (suc b) ≡ false
         → (bounds 13 13 (suc b) ≡ false) × (bounds 10 10 (suc b) ≡ false)
     crlf has b h =
-        or_parts (bounds 13 13 (suc b)) (bounds 10 10 (suc b)) (states_look is_crlf_look _ crlf_next t a.states (suc b) has (states b h))
+        or_parts (bounds 13 13 (suc b)) (bounds 10 10 (suc b))
+        (states_look is_crlf_look _ crlf_next t a.states (suc b) has (states b h))
 
 -- So they lead a powerset state alike.
 pub class_step :
@@ -268,7 +282,8 @@ pub class_quits :
     (a : Automaton) (quits : List Bool) (on : Bool) (u v : ℕ)
     → class_of a quits on u ≡ class_of a quits on v → is_quit quits u ≡ is_quit quits v
 class_quits a quits on u v e =
-    same_in_class (is_boundary a quits on) (is_quit quits) (λ b h. quit_next quits b (parts_of a quits on (suc b) h).2) u v e
+    same_in_class (is_boundary a quits on) (is_quit quits) (λ b h. quit_next quits b (parts_of a quits on (suc b) h).2)
+    u v e
 
 -- With classes off a byte is its own class.
 each_bounds : (a : Automaton) (quits : List Bool) (b : ℕ) → is_boundary a quits false b ≡ true

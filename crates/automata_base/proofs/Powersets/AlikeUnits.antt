@@ -20,7 +20,8 @@ use Rattle.automata_base.proofs.Powersets.AlikeBytes.{is_line_look}
 
 -- Two truths that agree on the NFA's looks close alike.
 same_children :
-    (n : Nfa) (A B : Truth) → ((look : Look) → Occurs n look → A look ≡ B look) → (q : ℕ) → children n A q ≡ children n B q
+    (n : Nfa) (A B : Truth) → ((look : Look) → Occurs n look → A look ≡ B look) → (q : ℕ)
+    → children n A q ≡ children n B q
 same_children n A B e q = go (node n q) refl
   where
     go : (x : Node) → node n q ≡ x → children_at x A ≡ children_at x B
@@ -41,7 +42,8 @@ same_inner f g n A B h e (x ∷ stack) seen =
     go :
         (b : Bool) → visits_with f n A stack seen ≡ visits_with g n B stack seen
         → f (children n A x ++ stack) (x ∷ seen) ≡ g (children n B x ++ stack) (x ∷ seen)
-        → ◌≡◌ {A = List ℕ} (elim b [ true ↦ visits_with f n A stack seen | false ↦ x ∷ f (children n A x ++ stack) (x ∷ seen) ])
+        → ◌≡◌ {A = List ℕ}
+        (elim b [ true ↦ visits_with f n A stack seen | false ↦ x ∷ f (children n A x ++ stack) (x ∷ seen) ])
         (elim b [ true ↦ visits_with g n B stack seen | false ↦ x ∷ g (children n B x ++ stack) (x ∷ seen) ])
     go true again deeper = again
     go false again deeper = ap (λ out. x ∷ out) deeper
@@ -110,7 +112,8 @@ same_always n x y Start s o = s.absent
 same_always n x y End s o = refl
 same_always n x y StartLF s o = ap₂ (λ a b. a || b) s.absent (same_line n x y StartLF s o refl)
 same_always n x y EndLF s o = refl
-same_always n x y StartCRLF s o = ap₂ (λ a b. a || b) s.absent (second_alike n x y s (has_look is_crlf_look n StartCRLF o refl))
+same_always n x y StartCRLF s o =
+    ap₂ (λ a b. a || b) s.absent (second_alike n x y s (has_look is_crlf_look n StartCRLF o refl))
 same_always n x y EndCRLF s o = refl
 same_always n x y WordAscii s o = refl
 same_always n x y WordAsciiNegate s o = refl
@@ -129,7 +132,8 @@ and_alike : (a b c : Bool) → (a ≡ true → b ≡ c) → a && b ≡ a && c
 and_alike true b c e = e refl
 and_alike false b c e = refl
 
-pub same_known : (n : Nfa) (x y : Option ℕ) → SeesAlike n x y → (look : Look) → known_looks n x look ≡ known_looks n y look
+pub same_known :
+    (n : Nfa) (x y : Option ℕ) → SeesAlike n x y → (look : Look) → known_looks n x look ≡ known_looks n y look
 same_known n x y s look =
     and_alike (any_node f n.nodes) (always n.terminator n.reverse look x) (always n.terminator n.reverse look y)
     (λ e. same_always n x y look s (found (any_node_true f n.nodes e)))
@@ -155,7 +159,8 @@ arrive_alike n patterns roots x y s =
     powerset_path (arrive n patterns roots x) (arrive n patterns roots y) (ap list k) refl
     (ap (λ K. set_of (λ look. any_state (λ other. true) n (list K) && K look)) k)
     (ap (λ K. set_of (λ look. any_state (λ other. eqb (look_index other) (look_index look)) n (list K))) k)
-    (flag_alike (full x) (full y) (any_node is_word_look n.nodes) (is_word x) (is_word y) (ap (λ K. is_full (list K)) k) s.word)
+    (flag_alike (full x) (full y) (any_node is_word_look n.nodes) (is_word x) (is_word y) (ap (λ K. is_full (list K)) k)
+    s.word)
     (flag_alike (full x) (full y) (any_node is_crlf_look n.nodes) (is_byte (first_half n.reverse) x)
     (is_byte (first_half n.reverse) y) (ap (λ K. is_full (list K)) k) (first_alike n x y s))
   where
@@ -209,7 +214,8 @@ pub decide_alike :
     → SeesAlike n x y → ((look : Look) → truth_of Q.needed look ≡ true → Occurs n look) → decide n Q x ≡ decide n Q y
 decide_alike n Q x y s own =
     ap₂ (λ b L. elim b [ true ↦ L | false ↦ Q.nfa ])
-    (same_any (news x) (news y) reported) (same_closure n (true_looks n Q x) (true_looks n Q y) Q.nfa (same_truth n Q x y s))
+    (same_any (news x) (news y) reported)
+    (same_closure n (true_looks n Q x) (true_looks n Q y) Q.nfa (same_truth n Q x y s))
   where
     news : Option ℕ → Look → Bool
     news unit look = truth_of Q.needed look && (true_looks n Q unit look && not (truth_of Q.known look))

@@ -1,8 +1,10 @@
 -- What a sparse set holds once a list was put behind its members.
-use Rattle.std.proofs.Common.{◌≡◌, ◌<◌, ◌≤◌, ◌+◌, ℕ, zero, suc, List, [], ◌∷◌, ◌++◌, length, get_or, set, take, refl, sym, ap, ◌∙◌}
+use Rattle.std.proofs.Common.{◌≡◌, ◌<◌, ◌≤◌, ◌+◌, ℕ, zero, suc, List, [], ◌∷◌, ◌++◌, length, get_or, set, take, refl}
+use Rattle.std.proofs.Common.{sym, ap, ◌∙◌}
 use Rattle.std.proofs.Common.{subst, ⊎_elim, arith, length-append}
 use Rattle.std.proofs.lemmas.Bool.{cases_eq}
-use Rattle.std.proofs.lemmas.List.{get_or-take, get_or_append_left, length-take-le, get_or-set_same, get_or-set_other, get_or_default}
+use Rattle.std.proofs.lemmas.List.{get_or-take, get_or_append_left, length-take-le, get_or-set_same, get_or-set_other}
+use Rattle.std.proofs.lemmas.List.{get_or_default}
 use Rattle.automata_base.specs.Lists.{In, Distinct}
 use Rattle.automata_base.specs.Powersets.Members.{Members}
 use Rattle.automata_base.specs.Powersets.SparseSet.{members_of, IsSparse}
@@ -23,11 +25,14 @@ module _ (dense sparse : List ℕ) (len : ℕ) (within : len ≤ length dense)
     (list : List ℕ) (small : (q : ℕ) → In q list → q < length dense) (distinct : Distinct list)
     (apart : (q : ℕ) → In q list → In q (take len dense) → ⊥) where
   all : Distinct (take len dense ++ list)
-  all = distinct_append (take len dense) list (members_distinct dense sparse len within below back) distinct (λ x i j. apart x j i)
+  all =
+      distinct_append (take len dense) list (members_distinct dense sparse len within below back) distinct
+      (λ x i j. apart x j i)
 
   low : (q : ℕ) → In q (take len dense ++ list) → q < length dense
   low q i =
-      ⊎_elim (λ (k : In q (take len dense)). members_below dense sparse len within below back q k) (λ (k : In q list). small q k)
+      ⊎_elim (λ (k : In q (take len dense)). members_below dense sparse len within below back q k)
+      (λ (k : In q list). small q k)
       (in_either q (take len dense) list i)
 
   both : length (take len dense ++ list) ≡ len + length list
@@ -45,7 +50,9 @@ module _ (dense sparse : List ℕ) (len : ℕ) (within : len ≤ length dense)
 
     pub more_below : (k : ℕ) → k < end → get_or more k 0 < length more
     more_below k l =
-        let b = low (get_or (take len dense ++ list) k 0) (In-get_or (take len dense ++ list) k 0 (omega (arith, l, at_end, both))) in
+        let b =
+        low (get_or (take len dense ++ list) k 0)
+        (In-get_or (take len dense ++ list) k 0 (omega (arith, l, at_end, both))) in
         let h = here k l in
         omega (arith, b, h, long)
 
@@ -53,7 +60,8 @@ module _ (dense sparse : List ℕ) (len : ℕ) (within : len ≤ length dense)
     places_init k l =
         let n = length-take-le len dense within in
         ap (λ z. get_or sparse z 0)
-        (here k (omega (arith, l, at_end)) ∙ (get_or_append_left (take len dense) list 0 k (omega (arith, l, n)) ∙ get_or-take len dense k 0 l))
+        (here k (omega (arith, l, at_end))
+        ∙ (get_or_append_left (take len dense) list 0 k (omega (arith, l, n)) ∙ get_or-take len dense k 0 l))
         ∙ back k l
 
     pub places_next :
@@ -85,7 +93,8 @@ module _ (dense sparse : List ℕ) (len : ℕ) (within : len ≤ length dense)
             (sym (here k (omega (arith, first, l))) ∙ (e ∙ here i l))
 
 -- The same of a sparse set.
-module _ (s : Inside) (v : Members) (list : List ℕ) (inv : IsSparse s) (view : members_of s ≡ v) (fits : (q : ℕ) → In q list → q < v.capacity)
+module _ (s : Inside) (v : Members) (list : List ℕ) (inv : IsSparse s) (view : members_of s ≡ v)
+    (fits : (q : ℕ) → In q list → q < v.capacity)
     (distinct : Distinct list) (new : (q : ℕ) → In q list → In q v.items → ⊥) where
   fits' : (q : ℕ) → In q list → q < length s.dense.items
   fits' q i = subst (λ z. q < z) (sym (ap (λ w. w.capacity) view)) (fits q i)
@@ -96,7 +105,8 @@ module _ (s : Inside) (v : Members) (list : List ℕ) (inv : IsSparse s) (view :
   pub set_fits : s.len + length list ≤ length s.dense.items
   set_fits = list_fits s.dense.items s.sparse.items s.len inv.within inv.below inv.back list fits' distinct new'
 
-  module _ (more : List ℕ) (taken : take (s.len + length list) more ≡ v.items ++ list) (long : length more ≡ v.capacity) where
+  module _ (more : List ℕ) (taken : take (s.len + length list) more ≡ v.items ++ list)
+      (long : length more ≡ v.capacity) where
     taken' : take (s.len + length list) more ≡ take s.len s.dense.items ++ list
     taken' = taken ∙ ap (λ w. w.items ++ list) (sym view)
 
@@ -105,7 +115,8 @@ module _ (s : Inside) (v : Members) (list : List ℕ) (inv : IsSparse s) (view :
 
     pub set_below : (k : ℕ) → k < s.len + length list → get_or more k 0 < length more
     set_below =
-        more_below s.dense.items s.sparse.items s.len inv.within inv.below inv.back list fits' distinct new' (s.len + length list) more refl taken' long'
+        more_below s.dense.items s.sparse.items s.len inv.within inv.below inv.back list fits' distinct new'
+        (s.len + length list) more refl taken' long'
 
     pub set_id : (i id : ℕ) → i < s.len + length list → id ≡ get_or more i id → id < v.capacity
     set_id i id l read =
@@ -116,12 +127,14 @@ module _ (s : Inside) (v : Members) (list : List ℕ) (inv : IsSparse s) (view :
 
     pub set_init : (k : ℕ) → k < s.len → get_or s.sparse.items (get_or more k 0) 0 ≡ k
     set_init =
-        places_init s.dense.items s.sparse.items s.len inv.within inv.below inv.back list fits' distinct new' (s.len + length list) more refl taken' long'
+        places_init s.dense.items s.sparse.items s.len inv.within inv.below inv.back list fits' distinct new'
+        (s.len + length list) more refl taken' long'
 
     pub set_next :
         (places : List ℕ) (i id : ℕ) → i < s.len + length list → id ≡ get_or more i id → length places ≡ v.capacity
         → ((k : ℕ) → k < i → get_or places (get_or more k 0) 0 ≡ k)
         → (k : ℕ) → k < i + 1 → get_or (set places id i) (get_or more k 0) 0 ≡ k
     set_next places i id l read same =
-        places_next s.dense.items s.sparse.items s.len inv.within inv.below inv.back list fits' distinct new' (s.len + length list) more refl taken' long'
+        places_next s.dense.items s.sparse.items s.len inv.within inv.below inv.back list fits' distinct new'
+        (s.len + length list) more refl taken' long'
         places i id l read (same ∙ ap (λ w. w.capacity) (sym view))

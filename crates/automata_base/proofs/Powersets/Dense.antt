@@ -23,7 +23,8 @@ dense_below (suc m ∷ xs) k u l =
     ap (λ b. cond b (Some (suc m)) (takes_in (dense_from (suc k) xs) u)) (within_other k u (λ e. omega (arith, l, e)))
     ∙ dense_below xs (suc k) u (omega (arith, l))
 
-pub dense_takes : (xs : List ℕ) (k i u : ℕ) → u ≡ k + i → i < length xs → takes_in (dense_from k xs) u ≡ some_unless (get_or xs i 0)
+pub dense_takes :
+    (xs : List ℕ) (k i u : ℕ) → u ≡ k + i → i < length xs → takes_in (dense_from k xs) u ≡ some_unless (get_or xs i 0)
 dense_takes [] k i u e l = absurd (omega (arith, l))
 dense_takes (zero ∷ xs) k zero u e l = dense_below xs (suc k) u (omega (arith, e))
 dense_takes (zero ∷ xs) k (suc i) u e l = dense_takes xs (suc k) i u (omega (arith, e)) (omega (arith, l))

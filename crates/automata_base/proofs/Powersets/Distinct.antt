@@ -110,7 +110,9 @@ among_push_other q k seen ne = go (In-cases k seen)
 
     go : In k seen ⊎ (In k seen → ⊥) → among k (seen ++ q ∷ []) ≡ among k seen
     go (inl i) = among-In k (seen ++ q ∷ []) (within_front q seen k (inr i)) ∙ sym (among-In k seen i)
-    go (inr ni) = false_from_ne_true (among k (seen ++ q ∷ [])) (λ h. split ni (in_either k seen (q ∷ []) (In-among k (seen ++ q ∷ []) h)))
+    go (inr ni) =
+        false_from_ne_true (among k (seen ++ q ∷ []))
+        (λ h. split ni (in_either k seen (q ∷ []) (In-among k (seen ++ q ∷ []) h)))
         ∙ sym (false_from_ne_true (among k seen) (λ h. ni (In-among k seen h)))
 
 unvisited_above : (w : ℕ → ℕ) (seen : List ℕ) (q n : ℕ) → n ≤ q → unvisited w (seen ++ q ∷ []) n ≡ unvisited w seen n
@@ -122,22 +124,28 @@ unvisited_above w seen q (suc n) l =
     let rest : unvisited w (seen ++ q ∷ []) n ≡ unvisited w seen n = unvisited_above w seen q n (omega arith) in
     ap (λ b. cond b 0 (w n) + unvisited w (seen ++ q ∷ []) n) first ∙ ap (λ z. cond (among n seen) 0 (w n) + z) rest
 
-pub unvisited_push : (w : ℕ → ℕ) (seen : List ℕ) (q n : ℕ) → q < n → (In q seen → ⊥) → unvisited w (seen ++ q ∷ []) n + w q ≡ unvisited w seen n
+pub unvisited_push :
+    (w : ℕ → ℕ) (seen : List ℕ) (q n : ℕ) → q < n → (In q seen → ⊥)
+    → unvisited w (seen ++ q ∷ []) n + w q ≡ unvisited w seen n
 unfolding unvisited
 unvisited_push w seen q zero l new = absurd (omega arith)
 unvisited_push w seen q (suc n) l new = go (cases_eq n q) (λ m. unvisited_push w seen q n m new)
   where
-    go : (n ≡ q) ⊎ (n ≡ q → ⊥) → (q < n → unvisited w (seen ++ q ∷ []) n + w q ≡ unvisited w seen n) → unvisited w (seen ++ q ∷ []) (suc n) + w q ≡ unvisited w seen (suc n)
+    go :
+        (n ≡ q) ⊎ (n ≡ q → ⊥) → (q < n → unvisited w (seen ++ q ∷ []) n + w q ≡ unvisited w seen n)
+        → unvisited w (seen ++ q ∷ []) (suc n) + w q ≡ unvisited w seen (suc n)
     go (inl e) again =
         let now : among n (seen ++ q ∷ []) ≡ true = among-In n (seen ++ q ∷ []) (within_front q seen n (inl e)) in
-        let before : among n seen ≡ false = false_from_ne_true (among n seen) (λ h. new (subst (λ z. In z seen) e (In-among n seen h))) in
+        let before : among n seen ≡ false =
+        false_from_ne_true (among n seen) (λ h. new (subst (λ z. In z seen) e (In-among n seen h))) in
         let one : cond (among n (seen ++ q ∷ [])) 0 (w n) ≡ 0 = ap (λ b. cond b 0 (w n)) now in
         let two : cond (among n seen) 0 (w n) ≡ w n = ap (λ b. cond b 0 (w n)) before in
         let rest : unvisited w (seen ++ q ∷ []) n ≡ unvisited w seen n = unvisited_above w seen q n (omega arith) in
         let same : w n ≡ w q = ap w e in
         omega arith
     go (inr ne) again =
-        let first : cond (among n (seen ++ q ∷ [])) 0 (w n) ≡ cond (among n seen) 0 (w n) = ap (λ b. cond b 0 (w n)) (among_push_other q n seen ne) in
+        let first : cond (among n (seen ++ q ∷ [])) 0 (w n) ≡ cond (among n seen) 0 (w n) =
+        ap (λ b. cond b 0 (w n)) (among_push_other q n seen ne) in
         let rest : unvisited w (seen ++ q ∷ []) n + w q ≡ unvisited w seen n = again (omega arith) in
         omega arith
 
@@ -146,11 +154,15 @@ unfolding unvisited among
 unvisited_ones zero = refl
 unvisited_ones (suc n) = let h : unvisited (λ k. 1) [] n ≡ n = unvisited_ones n in omega arith
 
-counted : (n : ℕ) (seen xs : List ℕ) → Distinct xs → ((x : ℕ) → In x seen → In x xs → ⊥) → ((x : ℕ) → In x xs → x < n) → length xs ≤ unvisited (λ k. 1) seen n
+counted :
+    (n : ℕ) (seen xs : List ℕ) → Distinct xs → ((x : ℕ) → In x seen → In x xs → ⊥) → ((x : ℕ) → In x xs → x < n)
+    → length xs ≤ unvisited (λ k. 1) seen n
 counted n seen [] d apart below = omega arith
 counted n seen (x ∷ xs) (new, d) apart below =
-    let took : unvisited (λ k. 1) (seen ++ x ∷ []) n + 1 ≡ unvisited (λ k. 1) seen n = unvisited_push (λ k. 1) seen x n (below x (inl refl)) (λ i. apart x i (inl refl)) in
-    let rest : length xs ≤ unvisited (λ k. 1) (seen ++ x ∷ []) n = counted n (seen ++ x ∷ []) xs d apart' (λ y i. below y (inr i)) in
+    let took : unvisited (λ k. 1) (seen ++ x ∷ []) n + 1 ≡ unvisited (λ k. 1) seen n =
+    unvisited_push (λ k. 1) seen x n (below x (inl refl)) (λ i. apart x i (inl refl)) in
+    let rest : length xs ≤ unvisited (λ k. 1) (seen ++ x ∷ []) n =
+    counted n (seen ++ x ∷ []) xs d apart' (λ y i. below y (inr i)) in
     omega arith
   where
     split : (y : ℕ) → In y xs → In y (x ∷ seen) → ⊥
@@ -171,5 +183,6 @@ unfolding unvisited among
 unvisited_most w seen zero = omega arith
 unvisited_most w seen (suc n) =
     let rest : unvisited w seen n ≤ unvisited w [] n = unvisited_most w seen n in
-    let first : cond (among n seen) 0 (w n) ≤ w n = cond_both (among n seen) 0 (w n) (λ z. z ≤ w n) (λ e. omega arith) (λ e. omega arith) in
+    let first : cond (among n seen) 0 (w n) ≤ w n =
+    cond_both (among n seen) 0 (w n) (λ z. z ≤ w n) (λ e. omega arith) (λ e. omega arith) in
     omega arith

@@ -1,6 +1,8 @@
 -- Lists in which what is kept of a closure stands: their bytes, and where they lead.
-use Rattle.std.proofs.Common.{ℕ, Bool, true, false, true≢false, ◌≡◌, ◌<◌, ◌≤◌, ◌+◌, ◌-◌, zero, suc, List, [], ◌∷◌, ◌++◌, length, get_or}
-use Rattle.std.proofs.Common.{take, drop, drop-drop, Option, Some, None, is_some, ◌||◌, refl, sym, ap, ◌∙◌, subst, arith}
+use Rattle.std.proofs.Common.{ℕ, Bool, true, false, true≢false, ◌≡◌, ◌<◌, ◌≤◌, ◌+◌, ◌-◌, zero, suc, List, [], ◌∷◌, ◌++◌}
+use Rattle.std.proofs.Common.{length, get_or}
+use Rattle.std.proofs.Common.{take, drop, drop-drop, Option, Some, None, is_some, ◌||◌, refl, sym, ap, ◌∙◌, subst}
+use Rattle.std.proofs.Common.{arith}
 use Rattle.std.proofs.Common.{append_assoc, append-nil, if◌then◌else◌, is_ok, Result, Ok, Err, OnOk, option_to_list}
 use Rattle.std.specs.declared.alloc.AllocError.{AllocError}
 use Rattle.std.specs.List.{All}
@@ -16,7 +18,8 @@ use Rattle.automata_base.specs.Nfas.Nodes.{Automaton, nfa_of}
 use Rattle.automata_base.specs.Paths.Paths.{IsClosure}
 use Rattle.automata_base.specs.Powersets.Closure.{IsUnderWay}
 use Rattle.automata_base.specs.Powersets.Code.{varint, difference, ids_code}
-use Rattle.automata_base.specs.Powersets.Cuts.{MatchKind, All as AllMatches, LeftmostFirst, cut, cut_after, cut_for, has_match, is_cut, targets, IsOnce}
+use Rattle.automata_base.specs.Powersets.Cuts.{MatchKind, All as AllMatches, LeftmostFirst, cut, cut_after, cut_for}
+use Rattle.automata_base.specs.Powersets.Cuts.{has_match, is_cut, targets, IsOnce}
 use Rattle.automata_base.specs.Powersets.Powerset.{IsId}
 use Rattle.automata_base.specs.Powersets.Results.{AreMatched}
 use Rattle.automata_base.proofs.Paths.Loops.{under_way_done, under_way_start}
@@ -41,7 +44,8 @@ last_of before [] = before
 last_of before (x ∷ xs) = last_of x xs
 
 -- The bytes of two lists in a row.
-code_of_both : (before : ℕ) (xs ys : List ℕ) → ids_code before (xs ++ ys) ≡ ids_code before xs ++ ids_code (last_of before xs) ys
+code_of_both :
+    (before : ℕ) (xs ys : List ℕ) → ids_code before (xs ++ ys) ≡ ids_code before xs ++ ids_code (last_of before xs) ys
 unfolding ids_code
 code_of_both before [] ys = refl
 code_of_both before (id ∷ xs) ys =
@@ -50,18 +54,21 @@ code_of_both before (id ∷ xs) ys =
 
 -- The bytes of NFA states behind the first of them.
 pub rest_code :
-    (kept rest code : List ℕ) (first : ℕ) → kept ≡ first ∷ rest → code ≡ ids_code first rest → All IsId rest → IsRestCode kept code
+    (kept rest code : List ℕ) (first : ℕ) → kept ≡ first ∷ rest → code ≡ ids_code first rest → All IsId rest
+    → IsRestCode kept code
 unfolding ids_code
 rest_code kept rest code first whole is ids =
     subst (λ z. IsRestCode z code) (sym whole)
     (record {
       joined = λ before.
-          ap (λ z. varint (difference before first) ++ z) (sym is) ∙ ap (λ z. z ++ code) (sym (append-nil (varint (difference before first))));
+          ap (λ z. varint (difference before first) ++ z) (sym is)
+          ∙ ap (λ z. z ++ code) (sym (append-nil (varint (difference before first))));
       ids = ids;
     })
 
 -- The last of two lists in a row, the second of which is not empty.
-last_of_end : (before : ℕ) (xs ys : List ℕ) (d : ℕ) → 0 < length ys → last_of before (xs ++ ys) ≡ get_or ys (length ys - 1) d
+last_of_end :
+    (before : ℕ) (xs ys : List ℕ) (d : ℕ) → 0 < length ys → last_of before (xs ++ ys) ≡ get_or ys (length ys - 1) d
 last_of_end before [] [] d l = absurd (omega (arith, l))
 last_of_end before [] (y ∷ ys) d l =
     let one : length (y ∷ ys) - 1 ≡ length ys = omega arith in
@@ -74,13 +81,15 @@ last_of_end before (x ∷ xs) ys d l = last_of_end x xs ys d l
 
 -- The bytes of a front, of the first of a part, of the others of the part, and of what comes after its last.
 pub code_of_parts :
-    (front part back code : List ℕ) (last : ℕ) → IsRestCode part code → 0 < length part → last ≡ get_or part (length part - 1) last
+    (front part back code : List ℕ) (last : ℕ) → IsRestCode part code → 0 < length part
+    → last ≡ get_or part (length part - 1) last
     → ids_code 0 (front ++ (part ++ back)) ≡ (ids_code 0 (front ++ take 1 part) ++ code) ++ ids_code last back
 code_of_parts front part back code last is some at =
     ap (ids_code 0) (sym (append_assoc front part back))
     ∙ (code_of_both 0 (front ++ part) back
     ∙ (ap (λ z. z ++ ids_code (last_of 0 (front ++ part)) back) joined
-    ∙ ap (λ z. (ids_code 0 (front ++ take 1 part) ++ code) ++ ids_code z back) (last_of_end 0 front part last some ∙ sym at)))
+    ∙ ap (λ z. (ids_code 0 (front ++ take 1 part) ++ code) ++ ids_code z back)
+    (last_of_end 0 front part last some ∙ sym at)))
   where
     joined : ids_code 0 (front ++ part) ≡ ids_code 0 (front ++ take 1 part) ++ code
     joined =
@@ -90,18 +99,24 @@ code_of_parts front part back code last is some at =
 
 -- They have numbers that IDs may have, if those of the front, of the first of the part and of the back have.
 pub ids_of_parts :
-    (front part back code : List ℕ) → IsRestCode part code → All IsId (front ++ take 1 part) → All IsId back → All IsId (front ++ (part ++ back))
+    (front part back code : List ℕ) → IsRestCode part code → All IsId (front ++ take 1 part) → All IsId back
+    → All IsId (front ++ (part ++ back))
 ids_of_parts front part back code is begin end =
     subst (All IsId)
     (append_assoc (front ++ take 1 part) (drop 1 part) back
     ∙ (append_assoc front (take 1 part) (drop 1 part ++ back)
-    ∙ ap (λ z. front ++ z) (sym (append_assoc (take 1 part) (drop 1 part) back) ∙ ap (λ z. z ++ back) (take-append-drop 1 part))))
-    (All-append IsId ((front ++ take 1 part) ++ drop 1 part) back (All-append IsId (front ++ take 1 part) (drop 1 part) begin is.ids) end)
+    ∙ ap (λ z. front ++ z)
+    (sym (append_assoc (take 1 part) (drop 1 part) back) ∙ ap (λ z. z ++ back) (take-append-drop 1 part))))
+    (All-append IsId ((front ++ take 1 part) ++ drop 1 part) back
+    (All-append IsId (front ++ take 1 part) (drop 1 part) begin is.ids) end)
 
 -- What stands before a part, and the first of the part after it.
-pub begin_of : (list part : List ℕ) (start : ℕ) → IsPartAt list part start → 0 < length part → take (start + 1) list ≡ take start list ++ take 1 part
+pub begin_of :
+    (list part : List ℕ) (start : ℕ) → IsPartAt list part start → 0 < length part
+    → take (start + 1) list ≡ take start list ++ take 1 part
 begin_of list part start at some =
-    one_more start list ∙ ap (λ z. take start list ++ z) (sym (first (length part) some (drop start list)) ∙ ap (take 1) at.same)
+    one_more start list
+    ∙ ap (λ z. take start list ++ z) (sym (first (length part) some (drop start list)) ∙ ap (take 1) at.same)
   where
     next : (n : ℕ) (xs : List ℕ) → take (suc n) xs ≡ take n xs ++ take 1 (drop n xs)
     next zero xs = refl
@@ -128,7 +143,8 @@ last_at list part start d at some =
     ∙ (sym (get_or-drop start list (n - 1) d)
     ∙ (sym (get_or-take n (drop start list) (n - 1) d below) ∙ ap (λ z. get_or z (n - 1) d) at.same))
 
--- The bytes of a list in which a part stands, if they were appended so: those up to the first of the part, the others of
+-- The bytes of a list in which a part stands, if they were appended so: those up to the first of the part, the others
+-- of
 -- the part, and those after its last.
 pub pushed_parts :
     (ids part code out more next new : List ℕ) (start last here : ℕ) {X : Type 0} (r : Result X AllocError)
@@ -139,7 +155,8 @@ pub pushed_parts :
     → OnOk r (new ≡ out ++ ids_code 0 ids)
 pushed_parts ids part code out more next new start last here (Ok x) is at some is_last is_here first second third =
     third
-    ∙ (ap (λ z. z ++ ids_code here back) (second ∙ ap (λ z. z ++ code) (first ∙ ap (λ z. out ++ ids_code 0 z) (begin_of ids part start at some)))
+    ∙ (ap (λ z. z ++ ids_code here back)
+    (second ∙ ap (λ z. z ++ code) (first ∙ ap (λ z. out ++ ids_code 0 z) (begin_of ids part start at some)))
     ∙ (ap (λ z. z ++ ids_code here back) (append_assoc out begin code)
     ∙ (append_assoc out (begin ++ code) (ids_code here back)
     ∙ ap (λ z. out ++ z)
@@ -157,10 +174,12 @@ pushed_parts ids part code out more next new start last here (Err x) is at some 
 pub ids_of_pushed :
     (ids part code : List ℕ) (start : ℕ) {X : Type 0} (r : Result X AllocError)
     → IsRestCode part code → IsPartAt ids part start → 0 < length part → All IsId (take (start + 1) ids)
-    → OnOk r (All IsId (take (length ids - (start + length part)) (drop (start + length part) ids))) → OnOk r (All IsId ids)
+    → OnOk r (All IsId (take (length ids - (start + length part)) (drop (start + length part) ids)))
+    → OnOk r (All IsId ids)
 ids_of_pushed ids part code start (Ok x) is at some first last =
     subst (All IsId) (sym (part_split ids part start at))
-    (ids_of_parts (take start ids) part (take (length ids - (start + length part)) (drop (start + length part) ids)) code is
+    (ids_of_parts (take start ids) part (take (length ids - (start + length part)) (drop (start + length part) ids))
+    code is
     (subst (All IsId) (begin_of ids part start at some) first) last)
 ids_of_pushed ids part code start (Err x) is at some first last = tt
 
@@ -180,7 +199,9 @@ pub cut_none : (n : Nfa) (xs : List ℕ) → has_match n xs ≡ false → cut n 
 cut_none n [] e = refl
 cut_none n (q ∷ xs) e = go (accepts n q) e (cut_none n xs)
   where
-    go : (o : Option ℕ) → (is_some o || has_match n xs) ≡ false → (has_match n xs ≡ false → cut n xs ≡ xs) → cut_after o q (cut n xs) ≡ q ∷ xs
+    go :
+        (o : Option ℕ) → (is_some o || has_match n xs) ≡ false → (has_match n xs ≡ false → cut n xs ≡ xs)
+        → cut_after o q (cut n xs) ≡ q ∷ xs
     go None h more = ap (λ z. q ∷ z) (more h)
     go (Some p) h more = absurd (true≢false h)
 
@@ -188,15 +209,20 @@ picks_none : (n : Nfa) (xs : List ℕ) → has_match n xs ≡ false → pick (ac
 picks_none n [] e = refl
 picks_none n (q ∷ xs) e = go (accepts n q) e (picks_none n xs)
   where
-    go : (o : Option ℕ) → (is_some o || has_match n xs) ≡ false → (has_match n xs ≡ false → pick (accepts n) xs ≡ []) → cons_some o (pick (accepts n) xs) ≡ []
+    go :
+        (o : Option ℕ) → (is_some o || has_match n xs) ≡ false → (has_match n xs ≡ false → pick (accepts n) xs ≡ [])
+        → cons_some o (pick (accepts n) xs) ≡ []
     go None h more = more h
     go (Some p) h more = absurd (true≢false h)
 
-match_of_both : (n : Nfa) (xs ys : List ℕ) → has_match n xs ≡ false → has_match n ys ≡ false → has_match n (xs ++ ys) ≡ false
+match_of_both :
+    (n : Nfa) (xs ys : List ℕ) → has_match n xs ≡ false → has_match n ys ≡ false → has_match n (xs ++ ys) ≡ false
 match_of_both n [] ys e f = f
 match_of_both n (q ∷ xs) ys e f = go (accepts n q) e (λ h. match_of_both n xs ys h f)
   where
-    go : (o : Option ℕ) → (is_some o || has_match n xs) ≡ false → (has_match n xs ≡ false → has_match n (xs ++ ys) ≡ false) → (is_some o || has_match n (xs ++ ys)) ≡ false
+    go :
+        (o : Option ℕ) → (is_some o || has_match n xs) ≡ false
+        → (has_match n xs ≡ false → has_match n (xs ++ ys) ≡ false) → (is_some o || has_match n (xs ++ ys)) ≡ false
     go None h more = more h
     go (Some p) h more = absurd (true≢false h)
 
@@ -227,7 +253,9 @@ targets_whole kind n u list front end row tail joined none are =
     both : targets n (Some u) (front ++ end) ≡ targets n (Some u) front ++ row
     both = pick_of_both (λ b. takes n b u) front end ∙ ap (λ z. targets n (Some u) front ++ z) (sym are.same)
 
-    whole : (kind : MatchKind) → is_cut kind n front ≡ false → targets n (Some u) (cut_for kind n list) ≡ targets n (Some u) (cut_for kind n front) ++ row
+    whole :
+        (kind : MatchKind) → is_cut kind n front ≡ false
+        → targets n (Some u) (cut_for kind n list) ≡ targets n (Some u) (cut_for kind n front) ++ row
     whole AllMatches uncut = ap (targets n (Some u)) joined ∙ both
     whole LeftmostFirst uncut =
         ap (λ z. targets n (Some u) (cut n z)) joined
@@ -235,7 +263,8 @@ targets_whole kind n u list front end row tail joined none are =
         ∙ both ∙ ap (λ z. targets n (Some u) z ++ row) (sym (cut_none n front uncut))
 
 matched_with :
-    (a : Automaton) (xs ys ps : List ℕ) → pick (accepts (nfa_of a)) ys ≡ pick (accepts (nfa_of a)) xs → AreMatched a ys ps → AreMatched a xs ps
+    (a : Automaton) (xs ys ps : List ℕ) → pick (accepts (nfa_of a)) ys ≡ pick (accepts (nfa_of a)) xs
+    → AreMatched a ys ps → AreMatched a xs ps
 matched_with a xs ys ps same m = record {
   once = subst (λ z. IsOnce z ps) same m.once;
   distinct = m.distinct;
@@ -265,7 +294,8 @@ matched_front LeftmostFirst a list front end ps false joined first none m =
     m
 
 pub found_below :
-    (a : Automaton) (list found : List ℕ) (u : ℕ) → IsChecked a → AreTargets (nfa_of a) list u found → (q : ℕ) → In q found → q < length a.states
+    (a : Automaton) (list found : List ℕ) (u : ℕ) → IsChecked a → AreTargets (nfa_of a) list u found → (q : ℕ)
+    → In q found → q < length a.states
 found_below a list found u checked are q i =
     let p = in_picked (λ b. takes (nfa_of a) b u) list q (subst (λ z. In q z) are.same i) in
     subst (λ z. q < z) (nodes_length a.states) (checked.range.1 p.0 u q p.2)
@@ -273,7 +303,8 @@ found_below a list found u checked are q i =
 -- With nothing visited before, what was added is the closure.
 pub way_closure :
     (n : Nfa) (A : Truth) (roots old new : List ℕ) → old ≡ []
-    → ((all tail : List ℕ) → IsUnderWay n A all (roots ++ tail) old → IsUnderWay n A all tail new) → IsClosure n A roots new
+    → ((all tail : List ℕ) → IsUnderWay n A all (roots ++ tail) old → IsUnderWay n A all tail new)
+    → IsClosure n A roots new
 way_closure n A roots old new fresh way =
     under_way_done n A roots new
     (way roots [] (subst (IsUnderWay n A roots (roots ++ [])) (sym fresh)
@@ -286,7 +317,8 @@ pub match_next : (n : Nfa) (xs : List ℕ) (i x : ℕ) (w : Bool) → i < length
 match_next n xs i x w l e none h =
     h ∙ (ap (has_match n) (next_drop xs i x l e) ∙ ap (λ z. is_some z || has_match n (drop (i + 1) xs)) none)
 
-pub match_here : (n : Nfa) (xs : List ℕ) (i x p : ℕ) (w : Bool) → i < length xs → x ≡ get_or xs i x → accepts n x ≡ Some p
+pub match_here :
+    (n : Nfa) (xs : List ℕ) (i x p : ℕ) (w : Bool) → i < length xs → x ≡ get_or xs i x → accepts n x ≡ Some p
     → w ≡ has_match n (drop i xs) → true ≡ w
 match_here n xs i x p w l e some h =
     sym (h ∙ (ap (has_match n) (next_drop xs i x l e) ∙ ap (λ z. is_some z || has_match n (drop (i + 1) xs)) some))
@@ -295,7 +327,8 @@ pub match_done : (n : Nfa) (xs : List ℕ) (i : ℕ) (w : Bool) → length xs �
 match_done n xs i w l h = sym (h ∙ ap (has_match n) (drop_all i xs l))
 
 -- As the two before, by a test of what is read.
-pub match_next_test : (n : Nfa) (xs : List ℕ) (i x : ℕ) (o : Option ℕ) (w : Bool) → i < length xs → x ≡ get_or xs i x → accepts n x ≡ o
+pub match_next_test :
+    (n : Nfa) (xs : List ℕ) (i x : ℕ) (o : Option ℕ) (w : Bool) → i < length xs → x ≡ get_or xs i x → accepts n x ≡ o
     → is_some o ≡ false → w ≡ has_match n (drop i xs) → w ≡ has_match n (drop (i + 1) xs)
 match_next_test n xs i x None w l e same f h = match_next n xs i x w l e same h
 match_next_test n xs i x (Some p) w l e same f h = absurd (true≢false f)
@@ -314,7 +347,8 @@ picks_next g xs out more front i x o l e s m h =
     ∙ ap (λ z. out ++ cons_some z (pick g (drop (i + 1) xs))) (sym s)
     ∙ ap (λ z. out ++ pick g z) (sym (next_drop xs i x l e)) ∙ h
 
-pub picks_done : (g : ℕ → Option ℕ) (xs out front : List ℕ) (i : ℕ) → length xs ≤ i → out ++ pick g (drop i xs) ≡ front → out ≡ front
+pub picks_done :
+    (g : ℕ → Option ℕ) (xs out front : List ℕ) (i : ℕ) → length xs ≤ i → out ++ pick g (drop i xs) ≡ front → out ≡ front
 picks_done g xs out front i l h = sym (ap (λ z. out ++ pick g z) (drop_all i xs l) ∙ append-nil out) ∙ h
 
 -- ---- what is kept of a closure
@@ -330,10 +364,12 @@ kept_of_parts n states front middle back first kept whole joined a b put =
     ∙ (ap (λ z. pick (keep n) front ++ z) (sym (pick_of_both (keep n) middle back))
     ∙ (sym (pick_of_both (keep n) front (middle ++ back)) ∙ ap (pick (keep n)) (sym joined))))))
 
-any_of_both : (f : Look → Bool) (n : Nfa) (xs ys : List ℕ) → any_state f n (xs ++ ys) ≡ (any_state f n xs || any_state f n ys)
+any_of_both :
+    (f : Look → Bool) (n : Nfa) (xs ys : List ℕ) → any_state f n (xs ++ ys) ≡ (any_state f n xs || any_state f n ys)
 any_of_both f n [] ys = refl
 any_of_both f n (x ∷ xs) ys =
-    ap (λ z. looks_at f (node n x) || z) (any_of_both f n xs ys) ∙ joined (looks_at f (node n x)) (any_state f n xs) (any_state f n ys)
+    ap (λ z. looks_at f (node n x) || z) (any_of_both f n xs ys)
+    ∙ joined (looks_at f (node n x)) (any_state f n xs) (any_state f n ys)
   where
     joined : (a b c : Bool) → a || (b || c) ≡ (a || b) || c
     joined true b c = refl
@@ -341,7 +377,8 @@ any_of_both f n (x ∷ xs) ys =
 
 pub looks_of_parts :
     (f : Look → Bool) (n : Nfa) (states front middle back first kept whole : List ℕ) (t r : Bool)
-    → states ≡ front ++ (middle ++ back) → first ≡ pick (keep n) front → kept ≡ pick (keep n) middle → any_state f n kept ≡ false
+    → states ≡ front ++ (middle ++ back) → first ≡ pick (keep n) front → kept ≡ pick (keep n) middle
+    → any_state f n kept ≡ false
     → t ≡ any_state f n first → r ≡ (t || any_state f n back) → whole ≡ pick (keep n) states → r ≡ any_state f n whole
 looks_of_parts f n states front middle back first kept whole t r joined a b none is_t is_r all =
     is_r ∙ (ap (λ z. z || any_state f n back) (is_t ∙ (ap (any_state f n) a ∙ any_kept f n front))

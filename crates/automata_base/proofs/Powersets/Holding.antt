@@ -40,8 +40,10 @@ module _ (dense sparse : List ℕ) (len : ℕ) (within : len ≤ length dense)
   -- a number that is below the capacity and not a member leaves room for it
   pub has_room : (id : ℕ) → id < length dense → (In id (take len dense) → ⊥) → len < length dense
   has_room id l new =
-      let most : length (take len dense ++ id ∷ []) ≤ length dense = distinct_below (length dense) (take len dense ++ id ∷ []) all (λ x i. small x i) in
-      let parts : length (take len dense ++ id ∷ []) ≡ length (take len dense) + 1 = length-append (take len dense) (id ∷ []) in
+      let most : length (take len dense ++ id ∷ []) ≤ length dense =
+      distinct_below (length dense) (take len dense ++ id ∷ []) all (λ x i. small x i) in
+      let parts : length (take len dense ++ id ∷ []) ≡ length (take len dense) + 1 =
+      length-append (take len dense) (id ∷ []) in
       let n : length (take len dense) ≡ len = length-take-le len dense within in
       omega arith
     where
@@ -60,12 +62,15 @@ module _ (dense sparse : List ℕ) (len : ℕ) (within : len ≤ length dense)
       small : (x : ℕ) → In x (take len dense ++ id ∷ []) → x < length dense
       small x i = split x (in_either x (take len dense) (id ∷ []) i)
 
-  pub below_set : (id k : ℕ) → id < length dense → len < length dense → k < len + 1 → get_or (set dense len id) k 0 < length (set dense len id)
+  pub below_set :
+      (id k : ℕ) → id < length dense → len < length dense → k < len + 1
+      → get_or (set dense len id) k 0 < length (set dense len id)
   below_set id k l room m = go (cases_eq k len)
     where
       go : (k ≡ len) ⊎ (k ≡ len → ⊥) → get_or (set dense len id) k 0 < length (set dense len id)
       go (inl e) =
-          let at : get_or (set dense len id) k 0 ≡ id = ap (λ z. get_or (set dense len id) z 0) e ∙ get_or-set_same dense len id 0 room in
+          let at : get_or (set dense len id) k 0 ≡ id =
+          ap (λ z. get_or (set dense len id) z 0) e ∙ get_or-set_same dense len id 0 room in
           let n : length (set dense len id) ≡ length dense = length-set dense len id in
           omega arith
       go (inr ne) =
@@ -81,10 +86,15 @@ module _ (dense sparse : List ℕ) (len : ℕ) (within : len ≤ length dense)
     where
       go : (k ≡ len) ⊎ (k ≡ len → ⊥) → get_or (set sparse id len) (get_or (set dense len id) k 0) 0 ≡ k
       go (inl e) =
-          ap (λ z. get_or (set sparse id len) z 0) (ap (λ z. get_or (set dense len id) z 0) e ∙ get_or-set_same dense len id 0 room)
+          ap (λ z. get_or (set sparse id len) z 0)
+          (ap (λ z. get_or (set dense len id) z 0) e ∙ get_or-set_same dense len id 0 room)
           ∙ (get_or-set_same sparse id len 0 l ∙ sym e)
       go (inr ne) =
           let lk : k < len = omega arith in
-          let other : get_or dense k 0 ≡ id → ⊥ = λ e. new (In-Contains id (take len dense) (k, (let n : length (take len dense) ≡ len = length-take-le len dense within in let h : k < length (take len dense) = omega arith in h), taken k id lk ∙ e)) in
+          let other : get_or dense k 0 ≡ id → ⊥ =
+          λ e. new
+          (In-Contains id (take len dense)
+          (k, (let n : length (take len dense) ≡ len = length-take-le len dense within in
+          let h : k < length (take len dense) = omega arith in h), taken k id lk ∙ e)) in
           ap (λ z. get_or (set sparse id len) z 0) (get_or-set_other dense len k id 0 ne)
           ∙ (get_or-set_other sparse id (get_or dense k 0) len 0 other ∙ back k lk)

@@ -5,7 +5,8 @@ use Rattle.std.proofs.Common.{append_assoc, append-nil, length-append}
 use Rattle.std.proofs.lemmas.List.{at_drop_more, take_more, drop_all, take_all}
 use Rattle.automata_base.specs.Lists.{In, pick, cons_some, Distinct}
 use Rattle.automata_base.specs.Haystacks.Looks.{Look}
-use Rattle.automata_base.specs.Nfas.Nfa.{Nfa, Node, Split, Assert, Read, Accept, node, keep, keeps, splits_at, stays_at, accepts}
+use Rattle.automata_base.specs.Nfas.Nfa.{Nfa, Node, Split, Assert, Read, Accept, node, keep, keeps, splits_at, stays_at}
+use Rattle.automata_base.specs.Nfas.Nfa.{accepts}
 use Rattle.automata_base.specs.Nfas.Nfa.{accepts_at, takes, takes_at, looks_at}
 use Rattle.automata_base.specs.Retraced.Computed.{any_state, is_in}
 use Rattle.automata_base.specs.Powersets.Cuts.{cut, cut_after, targets}
@@ -44,8 +45,11 @@ keep_next n xs kept more whole i x b l e s m h =
     ∙ ap (λ z. cons_some (cond z (Some x) None) (pick (keep n) (drop (i + 1) xs))) s)
     ∙ (ap (λ z. kept ++ pick (keep n) z) (sym (next_drop xs i x l e)) ∙ h)))
 
-pub room_next : (kept more : List ℕ) (k i x : ℕ) (b : Bool) → more ≡ kept ++ cond b (x ∷ []) [] → length kept ≤ k + i → length more ≤ k + (i + 1)
-room_next kept more k i x true m l = let a = ap length m in let c = length-append kept (x ∷ []) in omega (arith, a, c, l)
+pub room_next :
+    (kept more : List ℕ) (k i x : ℕ) (b : Bool) → more ≡ kept ++ cond b (x ∷ []) [] → length kept ≤ k + i
+    → length more ≤ k + (i + 1)
+room_next kept more k i x true m l =
+    let a = ap length m in let c = length-append kept (x ∷ []) in omega (arith, a, c, l)
 room_next kept more k i x false m l = let a = ap length m in let c = length-append kept [] in omega (arith, a, c, l)
 
 pub looks_next :
@@ -63,10 +67,15 @@ any_kept f n (x ∷ xs) = go (node n x) refl (any_kept f n xs)
   where
     go :
         (m : Node) → node n x ≡ m → any_state f n (pick (keep n) xs) ≡ any_state f n xs
-        → any_state f n (cons_some (cond (stays_at m || (splits_at m && n.keeps_unions)) (Some x) None) (pick (keep n) xs)) ≡ (looks_at f (node n x) || any_state f n xs)
+        → any_state f n
+        (cons_some (cond (stays_at m || (splits_at m && n.keeps_unions)) (Some x) None) (pick (keep n) xs))
+        ≡ (looks_at f (node n x) || any_state f n xs)
     go (Split alternates) e h = union (ltb 1 (length alternates) && n.keeps_unions)
       where
-        union : (b : Bool) → any_state f n (cons_some (cond b (Some x) None) (pick (keep n) xs)) ≡ (looks_at f (node n x) || any_state f n xs)
+        union :
+            (b : Bool)
+            → any_state f n (cons_some (cond b (Some x) None) (pick (keep n) xs))
+            ≡ (looks_at f (node n x) || any_state f n xs)
         union true = ap (λ z. looks_at f (node n x) || z) h
         union false = h ∙ sym (ap (λ z. looks_at f z || any_state f n xs) e)
     go (Assert look next) e h = ap (λ z. looks_at f (node n x) || z) h
@@ -79,7 +88,8 @@ pub looks_done :
 looks_done n f xs i t w l h = sym (ap (λ z. t || any_state f n z) (drop_all i xs l) ∙ or-false t) ∙ h
 
 pub kept_done :
-    (n : Nfa) (xs kept whole : List ℕ) (i : ℕ) → length xs ≤ i → kept ++ pick (keep n) (drop i xs) ≡ whole → kept ≡ whole
+    (n : Nfa) (xs kept whole : List ℕ) (i : ℕ) → length xs ≤ i → kept ++ pick (keep n) (drop i xs) ≡ whole
+    → kept ≡ whole
 kept_done n xs kept whole i l h = sym (ap (λ z. kept ++ pick (keep n) z) (drop_all i xs l) ∙ append-nil kept) ∙ h
 
 -- No more states are kept than there are.
@@ -87,7 +97,9 @@ pub kept_few : (n : Nfa) (xs : List ℕ) → length (pick (keep n) xs) ≤ lengt
 kept_few n [] = omega arith
 kept_few n (x ∷ xs) = go (keeps n x) (kept_few n xs)
   where
-    go : (b : Bool) → length (pick (keep n) xs) ≤ length xs → length (cons_some (cond b (Some x) None) (pick (keep n) xs)) ≤ length (x ∷ xs)
+    go :
+        (b : Bool) → length (pick (keep n) xs) ≤ length xs
+        → length (cons_some (cond b (Some x) None) (pick (keep n) xs)) ≤ length (x ∷ xs)
     go true l = omega (arith, l)
     go false l = omega (arith, l)
 
@@ -108,7 +120,9 @@ cut_here n xs i x p l e some h =
     ∙ sym (h ∙ (ap (λ z. take i xs ++ cut n z) (next_drop xs i x l e)
     ∙ ap (λ z. take i xs ++ cut_after z x (cut n (drop (i + 1) xs))) some)))
 
-pub cut_done : (n : Nfa) (xs : List ℕ) (i : ℕ) → length xs ≤ i → cut n xs ≡ take i xs ++ cut n (drop i xs) → take (length xs) xs ≡ cut n xs
+pub cut_done :
+    (n : Nfa) (xs : List ℕ) (i : ℕ) → length xs ≤ i → cut n xs ≡ take i xs ++ cut n (drop i xs)
+    → take (length xs) xs ≡ cut n xs
 cut_done n xs i l h =
     take_all (length xs) xs (omega arith)
     ∙ sym (h ∙ (ap (λ z. take i xs ++ cut n z) (drop_all i xs l) ∙ (append-nil (take i xs) ∙ take_all i xs l)))
@@ -136,7 +150,8 @@ pub cut_picks_done :
     → pick (accepts n) (cut n xs) ≡ pick (accepts n) (cut n (drop i xs)) → pick (accepts n) (cut n xs) ≡ []
 cut_picks_done n xs i l h = h ∙ ap (λ z. pick (accepts n) (cut n z)) (drop_all i xs l)
 
--- The targets of what counts are, as long as no match state came, the next state's and those of the rest, and none then.
+-- The targets of what counts are, as long as no match state came, the next state's and those of the rest, and none
+-- then.
 pub cut_targets_next :
     (n : Nfa) (xs : List ℕ) (u i x : ℕ) → i < length xs → x ≡ get_or xs i x → accepts n x ≡ None
     → targets n (Some u) (cut n (drop i xs)) ≡ cons_some (takes n x u) (targets n (Some u) (cut n (drop (i + 1) xs)))
@@ -178,20 +193,29 @@ matched_none a list e = record {
   few = omega arith;
 }
 
-pub in_next : (p : ℕ) (xs : List ℕ) (i x : ℕ) (w : Bool) → i < length xs → x ≡ get_or xs i x → eqb p x ≡ false → w ≡ is_in p (drop i xs) → w ≡ is_in p (drop (i + 1) xs)
+pub in_next :
+    (p : ℕ) (xs : List ℕ) (i x : ℕ) (w : Bool) → i < length xs → x ≡ get_or xs i x → eqb p x ≡ false
+    → w ≡ is_in p (drop i xs) → w ≡ is_in p (drop (i + 1) xs)
 in_next p xs i x w l e f h = h ∙ (ap (is_in p) (next_drop xs i x l e) ∙ ap (λ z. z || is_in p (drop (i + 1) xs)) f)
 
-pub in_here : (p : ℕ) (xs : List ℕ) (i x : ℕ) (w : Bool) → i < length xs → x ≡ get_or xs i x → eqb p x ≡ true → w ≡ is_in p (drop i xs) → true ≡ w
-in_here p xs i x w l e t h = sym (h ∙ (ap (is_in p) (next_drop xs i x l e) ∙ ap (λ z. z || is_in p (drop (i + 1) xs)) t))
+pub in_here :
+    (p : ℕ) (xs : List ℕ) (i x : ℕ) (w : Bool) → i < length xs → x ≡ get_or xs i x → eqb p x ≡ true
+    → w ≡ is_in p (drop i xs) → true ≡ w
+in_here p xs i x w l e t h =
+    sym (h ∙ (ap (is_in p) (next_drop xs i x l e) ∙ ap (λ z. z || is_in p (drop (i + 1) xs)) t))
 
-pub pick_next : (g : ℕ → Option ℕ) (xs : List ℕ) (i x : ℕ) → i < length xs → x ≡ get_or xs i x → pick g (drop i xs) ≡ cons_some (g x) (pick g (drop (i + 1) xs))
+pub pick_next :
+    (g : ℕ → Option ℕ) (xs : List ℕ) (i x : ℕ) → i < length xs → x ≡ get_or xs i x
+    → pick g (drop i xs) ≡ cons_some (g x) (pick g (drop (i + 1) xs))
 pick_next g xs i x l e = ap (pick g) (next_drop xs i x l e)
 
 pub kept_in : (n : Nfa) (xs : List ℕ) (q : ℕ) → In q (pick (keep n) xs) → In q xs
 kept_in n [] q i = i
 kept_in n (x ∷ xs) q i = go (keeps n x) (kept_in n xs q) i
   where
-    go : (b : Bool) → (In q (pick (keep n) xs) → In q xs) → In q (cons_some (cond b (Some x) None) (pick (keep n) xs)) → In q (x ∷ xs)
+    go :
+        (b : Bool) → (In q (pick (keep n) xs) → In q xs) → In q (cons_some (cond b (Some x) None) (pick (keep n) xs))
+        → In q (x ∷ xs)
     go true ih (inl e) = inl e
     go true ih (inr j) = inr (ih j)
     go false ih j = inr (ih j)
@@ -207,7 +231,8 @@ is_in_push k x (y ∷ ys) = ap (λ v. eqb k y || v) (is_in_push k x ys) ∙ swap
 
 once_same : (ys seen xs : List ℕ) → ((y : ℕ) → is_in y ys ≡ is_in y seen) → once_from ys xs ≡ ys ++ once_past seen xs
 once_same ys seen [] h = sym (append-nil ys)
-once_same ys seen (x ∷ xs) h = go (is_in x seen) refl (once_same ys seen xs h) (once_same (ys ++ x ∷ []) (x ∷ seen) xs more)
+once_same ys seen (x ∷ xs) h =
+    go (is_in x seen) refl (once_same ys seen xs h) (once_same (ys ++ x ∷ []) (x ∷ seen) xs more)
   where
     more : (y : ℕ) → is_in y (ys ++ x ∷ []) ≡ is_in y (x ∷ seen)
     more y = is_in_push y x ys ∙ ap (λ z. eqb y x || z) (h y)
@@ -215,13 +240,17 @@ once_same ys seen (x ∷ xs) h = go (is_in x seen) refl (once_same ys seen xs h)
     go :
         (t : Bool) → is_in x seen ≡ t → once_from ys xs ≡ ys ++ once_past seen xs
         → once_from (ys ++ x ∷ []) xs ≡ (ys ++ x ∷ []) ++ once_past (x ∷ seen) xs
-        → once_from (ys ++ cond (is_in x ys) [] (x ∷ [])) xs ≡ ys ++ elim t [ true ↦ once_past seen xs | false ↦ x ∷ once_past (x ∷ seen) xs ]
-    go true e a b = ap (λ z. once_from (ys ++ cond z [] (x ∷ [])) xs) (h x ∙ e) ∙ (ap (λ z. once_from z xs) (append-nil ys) ∙ a)
+        → once_from (ys ++ cond (is_in x ys) [] (x ∷ [])) xs ≡ ys
+        ++ elim t [ true ↦ once_past seen xs | false ↦ x ∷ once_past (x ∷ seen) xs ]
+    go true e a b =
+        ap (λ z. once_from (ys ++ cond z [] (x ∷ [])) xs) (h x ∙ e) ∙ (ap (λ z. once_from z xs) (append-nil ys) ∙ a)
     go false e a b =
-        ap (λ z. once_from (ys ++ cond z [] (x ∷ [])) xs) (h x ∙ e) ∙ (b ∙ append_assoc ys (x ∷ []) (once_past (x ∷ seen) xs))
+        ap (λ z. once_from (ys ++ cond z [] (x ∷ [])) xs) (h x ∙ e)
+        ∙ (b ∙ append_assoc ys (x ∷ []) (once_past (x ∷ seen) xs))
 
 pub once_done :
-    (g : ℕ → Option ℕ) (xs ys : List ℕ) (i : ℕ) → length xs ≤ i → once_from ys (pick g (drop i xs)) ≡ once_from [] (pick g xs) → IsOnce (pick g xs) ys
+    (g : ℕ → Option ℕ) (xs ys : List ℕ) (i : ℕ) → length xs ≤ i
+    → once_from ys (pick g (drop i xs)) ≡ once_from [] (pick g xs) → IsOnce (pick g xs) ys
 once_done g xs ys i l h =
     subst (λ z. IsOnce (pick g xs) z)
     (sym (sym (ap (λ z. once_from ys (pick g z)) (drop_all i xs l)) ∙ (h ∙ once_same [] [] (pick g xs) (λ y. refl))))
@@ -239,10 +268,12 @@ pub pattern_next :
     → Patterns g xs i P ys → Patterns g xs (i + 1) P more
 pattern_next g xs i x P None ys more l e s below some none h =
     subst (λ z. Patterns g xs (i + 1) P z) (sym (none refl))
-    (sym (ap (once_from ys) (pick_next g xs i x l e ∙ ap (λ z. cons_some z (pick g (drop (i + 1) xs))) s)) ∙ h.0, h.1, h.2)
+    (sym (ap (once_from ys) (pick_next g xs i x l e ∙ ap (λ z. cons_some z (pick g (drop (i + 1) xs))) s))
+    ∙ h.0, h.1, h.2)
 pattern_next g xs i x P (Some p) ys more l e s below some none h =
     subst (λ z. Patterns g xs (i + 1) P z) (sym (some p refl))
-    (sym (ap (once_from ys) (pick_next g xs i x l e ∙ ap (λ z. cons_some z (pick g (drop (i + 1) xs))) s)) ∙ h.0, distinct (is_in p ys) refl, bound (is_in p ys))
+    (sym (ap (once_from ys) (pick_next g xs i x l e ∙ ap (λ z. cons_some z (pick g (drop (i + 1) xs))) s))
+    ∙ h.0, distinct (is_in p ys) refl, bound (is_in p ys))
   where
     distinct : (b : Bool) → is_in p ys ≡ b → Distinct (ys ++ cond b [] (p ∷ []))
     distinct true e = subst Distinct (sym (append-nil ys)) h.1
@@ -265,7 +296,8 @@ pattern_next g xs i x P (Some p) ys more l e s below some none h =
 pub pattern_room :
     (ys : List ℕ) (p P : ℕ) → Distinct ys → ((q : ℕ) → In q ys → q < P) → p < P → is_in p ys ≡ false → length ys < P
 pattern_room ys p P d below l new =
-    let most : length (ys ++ p ∷ []) ≤ P = distinct_below P (ys ++ p ∷ []) (distinct_append ys (p ∷ []) d ((λ i. i), tt) apart) small in
+    let most : length (ys ++ p ∷ []) ≤ P =
+    distinct_below P (ys ++ p ∷ []) (distinct_append ys (p ∷ []) d ((λ i. i), tt) apart) small in
     let parts : length (ys ++ p ∷ []) ≡ length ys + 1 = length-append ys (p ∷ []) in
     omega arith
   where

@@ -39,7 +39,8 @@ under_way_visits n A roots visited u = subst (λ w. Visits n A roots [] w) (appe
 
 -- The edges of a list without looks are the same whichever looks hold.
 pub plain :
-    (n : Nfa) (xs : List ℕ) → ((other : Look) → any_state (λ look. eqb (look_index look) (look_index other)) n xs ≡ false)
+    (n : Nfa) (xs : List ℕ)
+    → ((other : Look) → any_state (λ look. eqb (look_index look) (look_index other)) n xs ≡ false)
     → (q : ℕ) → In q xs → (A B : Truth) → children n A q ≡ children n B q
 plain n [] none q i A B = absurd i
 plain n (x ∷ xs) none q (inl e) A B = subst (λ z. children n A z ≡ children n B z) (sym e) (at (node n x) none)
@@ -48,11 +49,16 @@ plain n (x ∷ xs) none q (inl e) A B = subst (λ z. children n A z ≡ children
     same k = grind (arith, nat_tests)
 
     at :
-        (m : Node) → ((other : Look) → (looks_at (λ look. eqb (look_index look) (look_index other)) m || any_state (λ look. eqb (look_index look) (look_index other)) n xs) ≡ false)
+        (m : Node)
+        → ((other : Look)
+        → (looks_at (λ look. eqb (look_index look) (look_index other)) m
+        || any_state (λ look. eqb (look_index look) (look_index other)) n xs) ≡ false)
         → children_at m A ≡ children_at m B
     at (Split alternates) f = refl
     at (Assert look next) f =
-        absurd (true≢false (sym (ap (λ b. b || any_state (λ z. eqb (look_index z) (look_index look)) n xs) (same (look_index look))) ∙ f look))
+        absurd (true≢false
+        (sym (ap (λ b. b || any_state (λ z. eqb (look_index z) (look_index look)) n xs) (same (look_index look)))
+        ∙ f look))
     at (Read ranges) f = refl
     at (Accept p) f = refl
 plain n (x ∷ xs) none q (inr i) A B =
@@ -74,7 +80,8 @@ row_read n list rows u row are l read = subst (AreTargets n list u) (list_item r
 
 -- To the rows of the bytes below this one was added where a node leads.
 pub record Added (m : Node) (old new : List (Vec ℕ Global)) (u : ℕ) : Type 0 where
-  pub below : (v : ℕ) → v < 256 → v < u → list_at (lists_of new) v ≡ list_at (lists_of old) v ++ option_to_list (takes_at m v)
+  pub below :
+      (v : ℕ) → v < 256 → v < u → list_at (lists_of new) v ≡ list_at (lists_of old) v ++ option_to_list (takes_at m v)
   pub above : (v : ℕ) → v < 256 → u ≤ v → list_at (lists_of new) v ≡ list_at (lists_of old) v
 
 nothing : (xs ys : List ℕ) (o : Option ℕ) → o ≡ None → ys ≡ xs → ys ≡ xs ++ option_to_list o
@@ -92,9 +99,12 @@ added_next m old rows new u w o small same is_o more others a = record { below =
         more ∙ ap (λ z. z ++ option_to_list o) (a.above u small (omega arith))
         ∙ ap (λ z. list_at (lists_of old) u ++ option_to_list z) (is_o ∙ ap (takes_at m) same)
 
-    below : (v : ℕ) → v < 256 → v < u + 1 → list_at (lists_of new) v ≡ list_at (lists_of old) v ++ option_to_list (takes_at m v)
+    below :
+        (v : ℕ) → v < 256 → v < u + 1
+        → list_at (lists_of new) v ≡ list_at (lists_of old) v ++ option_to_list (takes_at m v)
     below v few l =
-        ⊎_elim (λ (e : v ≡ u). subst (λ z. list_at (lists_of new) z ≡ list_at (lists_of old) z ++ option_to_list (takes_at m z)) (sym e) here)
+        ⊎_elim (λ (e : v ≡ u). subst
+        (λ z. list_at (lists_of new) z ≡ list_at (lists_of old) z ++ option_to_list (takes_at m z)) (sym e) here)
         (λ (ne : v ≡ u → ⊥). others v (λ e. ne (sym e)) ∙ a.below v few (omega arith))
         (cases_eq v u)
 
@@ -103,7 +113,8 @@ added_next m old rows new u w o small same is_o more others a = record { below =
 
 pub added_some :
     (m : Node) (old rows new : List (Vec ℕ Global)) (u w next : ℕ) (o : Option ℕ)
-    → length rows ≡ 256 → u < 256 → w ≡ u → o ≡ takes_at m w → o ≡ Some next → lists_of new ≡ push_at (lists_of rows) u next
+    → length rows ≡ 256 → u < 256 → w ≡ u → o ≡ takes_at m w → o ≡ Some next
+    → lists_of new ≡ push_at (lists_of rows) u next
     → Added m old rows u → Added m old new (u + 1)
 added_some m old rows new u w next o few small same is_o some pushed a =
     added_next m old rows new u w o small same is_o
@@ -125,10 +136,13 @@ pub record Filling (n : Nfa) (list : List ℕ) (rows : List (Vec ℕ Global)) (i
   pub same : (u : ℕ) → u < 256 → list_at (lists_of rows) u ++ targets n (Some u) (drop i list) ≡ targets n (Some u) list
 
 pub filling_init :
-    (n : Nfa) (list : List ℕ) (rows : List (Vec ℕ Global)) → lists_of rows ≡ no_lists 256 → length rows ≡ 256 → Filling n list rows 0
+    (n : Nfa) (list : List ℕ) (rows : List (Vec ℕ Global)) → lists_of rows ≡ no_lists 256 → length rows ≡ 256
+    → Filling n list rows 0
 filling_init n list rows none few = record {
   few = few;
-  same = λ u small. ap (λ z. list_at z u ++ targets n (Some u) list) none ∙ ap (λ z. z ++ targets n (Some u) list) (none_at 256 u);
+  same =
+      λ u small. ap (λ z. list_at z u ++ targets n (Some u) list) none
+      ∙ ap (λ z. z ++ targets n (Some u) list) (none_at 256 u);
 }
 
 pub filling_next :
@@ -138,7 +152,8 @@ pub filling_next :
 filling_next n list old new i x m l e at few adds f = record {
   few = few;
   same = λ u small.
-      picks_next (λ b. takes n b u) list (list_at (lists_of old) u) (list_at (lists_of new) u) (targets n (Some u) list) i x (takes_at m u)
+      picks_next (λ b. takes n b u) list (list_at (lists_of old) u) (list_at (lists_of new) u) (targets n (Some u) list)
+      i x (takes_at m u)
       l e (ap (λ z. takes_at z u) at) (adds u small) (f.same u small);
 }
 
@@ -147,5 +162,7 @@ pub filling_done :
     → has_match n list ≡ false → length list ≤ i → Filling n list rows i → AreRows n list rows
 filling_done n list rows i plain l f u small = record {
   unmatched = plain;
-  same = picks_done (λ b. takes n b u) list (list_at (lists_of rows) u) (targets n (Some u) list) i l (f.same u (omega (arith, small, f.few)));
+  same =
+      picks_done (λ b. takes n b u) list (list_at (lists_of rows) u) (targets n (Some u) list) i l
+      (f.same u (omega (arith, small, f.few)));
 }

@@ -1,6 +1,8 @@
 -- States without epsilon edges at the front of a list: they are visited in a row, and never wait on the stack.
-use Rattle.std.proofs.Common.{◌≡◌, ◌<◌, ◌≤◌, ◌+◌, ◌⊎◌, Bool, true, false, cond, ℕ, zero, suc, List, [], ◌∷◌, ◌++◌, length}
-use Rattle.std.proofs.Common.{refl, sym, ap, ◌∙◌, subst, inl, inr, arith, length-append, drop, length-drop, append_assoc, get_or, reverse}
+use Rattle.std.proofs.Common.{◌≡◌, ◌<◌, ◌≤◌, ◌+◌, ◌⊎◌, Bool, true, false, cond, ℕ, zero, suc, List, [], ◌∷◌, ◌++◌}
+use Rattle.std.proofs.Common.{length}
+use Rattle.std.proofs.Common.{refl, sym, ap, ◌∙◌, subst, inl, inr, arith, length-append, drop, length-drop}
+use Rattle.std.proofs.Common.{append_assoc, get_or, reverse}
 use Rattle.std.proofs.lemmas.List.{reverse-append, reverse-reverse}
 use Rattle.std.proofs.lemmas.Bool.{cases_Bool, cond_both}
 use Rattle.automata_base.specs.declared.nfa.thompson.State.{State}
@@ -31,8 +33,10 @@ leaf_on n A roots rest order after q false leaf new grown had same u =
     subst (IsUnderWay n A roots rest) (sym (same refl)) (under_way_skip n A roots q rest order (had refl) u)
 
 pub extends_on : (first order after : List ℕ) (q : ℕ) (added : Bool)
-    → (added ≡ true → after ≡ order ++ q ∷ []) → (added ≡ false → after ≡ order) → Extends first order → Extends first after
-extends_on first order after q true grown same (more, e) = (more ++ q ∷ [], grown refl ∙ (ap (λ z. z ++ q ∷ []) e ∙ append_assoc first more (q ∷ [])))
+    → (added ≡ true → after ≡ order ++ q ∷ []) → (added ≡ false → after ≡ order) → Extends first order
+    → Extends first after
+extends_on first order after q true grown same (more, e) =
+    (more ++ q ∷ [], grown refl ∙ (ap (λ z. z ++ q ∷ []) e ∙ append_assoc first more (q ∷ [])))
 extends_on first order after q false grown same (more, e) = (more, same refl ∙ e)
 
 among_more : (k : ℕ) (seen added : List ℕ) → among k seen ≡ true → among k (seen ++ added) ≡ true
@@ -44,17 +48,21 @@ unvisited_more w seen added zero = omega arith
 unvisited_more w seen added (suc n) = one_more (unvisited_more w seen added n) (cases_Bool (among n seen))
   where
     one_more : unvisited w (seen ++ added) n ≤ unvisited w seen n → (among n seen ≡ true) ⊎ (among n seen ≡ false)
-        → cond (among n (seen ++ added)) 0 (w n) + unvisited w (seen ++ added) n ≤ cond (among n seen) 0 (w n) + unvisited w seen n
+        → cond (among n (seen ++ added)) 0 (w n) + unvisited w (seen ++ added) n ≤ cond (among n seen) 0 (w n)
+        + unvisited w seen n
     one_more rest (inl e) =
         let a : cond (among n (seen ++ added)) 0 (w n) ≡ 0 = ap (λ b. cond b 0 (w n)) (among_more n seen added e) in
         omega (arith, a, rest)
     one_more rest (inr e) =
         let a : cond (among n seen) 0 (w n) ≡ w n = ap (λ b. cond b 0 (w n)) e in
-        let b : cond (among n (seen ++ added)) 0 (w n) ≤ w n = cond_both (among n (seen ++ added)) 0 (w n) (λ z. z ≤ w n) (λ _. omega arith) (λ _. omega arith) in
+        let b : cond (among n (seen ++ added)) 0 (w n) ≤ w n =
+        cond_both (among n (seen ++ added)) 0 (w n) (λ z. z ≤ w n) (λ _. omega arith) (λ _. omega arith) in
         omega (arith, a, b, rest)
 
-unvisited_extends : (w : ℕ → ℕ) (first after : List ℕ) (n : ℕ) → Extends first after → unvisited w after n ≤ unvisited w first n
-unvisited_extends w first after n (more, e) = subst (λ z. unvisited w z n ≤ unvisited w first n) (sym e) (unvisited_more w first more n)
+unvisited_extends :
+    (w : ℕ → ℕ) (first after : List ℕ) (n : ℕ) → Extends first after → unvisited w after n ≤ unvisited w first n
+unvisited_extends w first after n (more, e) =
+    subst (λ z. unvisited w z n ≤ unvisited w first n) (sym e) (unvisited_more w first more n)
 
 In-drop : (q n : ℕ) (xs : List ℕ) → In q (drop n xs) → In q xs
 In-drop q zero xs i = i
@@ -76,7 +84,8 @@ waiting_on a looks old start order after was waiting kids x w =
     subst (λ z. length z ≤ length (kids ++ was)) (sym x.left.1) (few_left x.left.0 kids was) in (
       record {
         way = λ roots tail u. x.way roots tail
-            (subst (λ z. IsUnderWay (nfa_of a) (truth_of looks) roots z order) (append_assoc kids was tail) (w.way roots tail u));
+            (subst (λ z. IsUnderWay (nfa_of a) (truth_of looks) roots z order) (append_assoc kids was tail)
+            (w.way roots tail u));
         room =
             (let less = unvisited_extends (extra_at a.states) order after (length a.states) x.grown in
             omega (arith, less, shorter, w.room));
@@ -90,7 +99,9 @@ waiting_on a looks old start order after was waiting kids x w =
     back q (inl i) = in_left q kids was (In-drop q x.left.0 kids i)
     back q (inr i) = in_right q kids was i
 
-pub expanded_step : (a : Automaton) (looks : ℕ) (old : List ℕ) (start : ℕ) (order seen after stack waiting : List ℕ) (q : ℕ) (state : State)
+pub expanded_step :
+    (a : Automaton) (looks : ℕ) (old : List ℕ) (start : ℕ) (order seen after stack waiting : List ℕ) (q : ℕ)
+    (state : State)
     → IsChecked a → state ≡ get_or a.states q state → (In q order → ⊥) → seen ≡ order ++ q ∷ []
     → IsExpanded (nfa_of a) (truth_of looks) (children_at (node_of state) (truth_of looks)) seen after stack waiting
     → Walking a looks old start order (q ∷ stack)
@@ -103,7 +114,8 @@ expanded_step a looks old start order seen after stack waiting q state checked i
 
 -- a state on top from which nothing is left to visit
 pub passed_step : (a : Automaton) (looks : ℕ) (old : List ℕ) (start : ℕ) (order after stack : List ℕ) (q : ℕ)
-    → ((roots tail : List ℕ) → IsUnderWay (nfa_of a) (truth_of looks) roots (q ∷ tail) order → IsUnderWay (nfa_of a) (truth_of looks) roots tail after)
+    → ((roots tail : List ℕ) → IsUnderWay (nfa_of a) (truth_of looks) roots (q ∷ tail) order
+    → IsUnderWay (nfa_of a) (truth_of looks) roots tail after)
     → Extends order after → Walking a looks old start order (q ∷ stack)
     → Walking a looks old start after stack × (work a after stack < work a order (q ∷ stack))
 unfolding work
@@ -133,17 +145,20 @@ had_way n A order after q had same roots tail u =
     subst (λ z. IsUnderWay n A roots tail z) (sym same) (under_way_skip n A roots q tail order had u)
 
 -- the children of a new state are states
-pub children_below : (a : Automaton) (looks : ℕ) (old : List ℕ) (start : ℕ) (order seen stack : List ℕ) (q : ℕ) (state : State)
+pub children_below :
+    (a : Automaton) (looks : ℕ) (old : List ℕ) (start : ℕ) (order seen stack : List ℕ) (q : ℕ) (state : State)
     → IsChecked a → state ≡ get_or a.states q state → (In q order → ⊥) → seen ≡ order ++ q ∷ []
     → Walking a looks old start order (q ∷ stack)
     → (p : ℕ) → In p (children_at (node_of state) (truth_of looks)) → p < length a.states
 children_below a looks old start order seen stack q state checked is new grown w p i =
     let kids = children_at (node_of state) (truth_of looks) in
-    (new_step a looks old start order seen stack (kids ++ stack) q state checked is new grown refl w).0.below p (in_left p kids stack i)
+    (new_step a looks old start order seen stack (kids ++ stack) q state checked is new grown refl w).0.below p
+    (in_left p kids stack i)
 
 -- some were visited, and the others wait
 pub visited_some : (n : Nfa) (A : Truth) (kids before after was waiting : List ℕ) (k : ℕ)
-    → ((roots tail : List ℕ) → IsUnderWay n A roots (kids ++ tail) before → IsUnderWay n A roots (drop k kids ++ tail) after)
+    → ((roots tail : List ℕ) → IsUnderWay n A roots (kids ++ tail) before
+    → IsUnderWay n A roots (drop k kids ++ tail) after)
     → Extends before after → waiting ≡ drop k kids ++ was → IsExpanded n A kids before after was waiting
 visited_some n A kids before after was waiting k way grown e = record {
   way = λ roots tail u. subst (λ z. IsUnderWay n A roots z after)
@@ -156,5 +171,7 @@ pub pushed_left : (list : List ℕ) (k x : ℕ) (was stack : List ℕ) → k < l
     → stack ≡ was ++ reverse (drop (k + 1) list) → x ∷ reverse stack ≡ drop k list ++ reverse was
 pushed_left list k x was stack l is e =
     let turned : reverse stack ≡ drop (k + 1) list ++ reverse was =
-    ap reverse e ∙ (reverse-append was (reverse (drop (k + 1) list)) ∙ ap (λ z. z ++ reverse was) (reverse-reverse (drop (k + 1) list))) in
+    ap reverse e
+    ∙ (reverse-append was (reverse (drop (k + 1) list))
+    ∙ ap (λ z. z ++ reverse was) (reverse-reverse (drop (k + 1) list))) in
     ap (λ z. x ∷ z) turned ∙ ap (λ z. z ++ reverse was) (sym (next_drop list k x l is))

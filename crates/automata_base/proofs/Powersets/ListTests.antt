@@ -29,15 +29,19 @@ use Rattle.automata_base.proofs.Paths.Machines.{and_true}
 
 pub test_fails :
     {X : Type 0} (F : List X → Bool) (T : X → Bool) (xs : List X) (i : ℕ) (x : X) (w : Bool)
-    → ((y : X) (ys : List X) → F (y ∷ ys) ≡ (T y && F ys)) → i < length xs → x ≡ get_or xs i x → T x ≡ false → w ≡ F (drop i xs) → false ≡ w
+    → ((y : X) (ys : List X) → F (y ∷ ys) ≡ (T y && F ys)) → i < length xs → x ≡ get_or xs i x → T x ≡ false
+    → w ≡ F (drop i xs) → false ≡ w
 test_fails F T xs i x w cons l e t h =
-    sym (h ∙ (at_drop_more F xs i x l ∙ (cons (get_or xs i x) (drop (i + 1) xs) ∙ ap (λ b. b && F (drop (i + 1) xs)) (ap T (sym e) ∙ t))))
+    sym (h ∙ (at_drop_more F xs i x l
+    ∙ (cons (get_or xs i x) (drop (i + 1) xs) ∙ ap (λ b. b && F (drop (i + 1) xs)) (ap T (sym e) ∙ t))))
 
 pub test_next :
     {X : Type 0} (F : List X → Bool) (T : X → Bool) (xs : List X) (i : ℕ) (x : X) (w : Bool)
-    → ((y : X) (ys : List X) → F (y ∷ ys) ≡ (T y && F ys)) → i < length xs → x ≡ get_or xs i x → T x ≡ true → w ≡ F (drop i xs) → w ≡ F (drop (i + 1) xs)
+    → ((y : X) (ys : List X) → F (y ∷ ys) ≡ (T y && F ys)) → i < length xs → x ≡ get_or xs i x → T x ≡ true
+    → w ≡ F (drop i xs) → w ≡ F (drop (i + 1) xs)
 test_next F T xs i x w cons l e t h =
-    h ∙ (at_drop_more F xs i x l ∙ (cons (get_or xs i x) (drop (i + 1) xs) ∙ ap (λ b. b && F (drop (i + 1) xs)) (ap T (sym e) ∙ t)))
+    h ∙ (at_drop_more F xs i x l
+    ∙ (cons (get_or xs i x) (drop (i + 1) xs) ∙ ap (λ b. b && F (drop (i + 1) xs)) (ap T (sym e) ∙ t)))
 
 pub or_move : (a t r : Bool) → (a || t) || r ≡ t || (a || r)
 or_move true true r = refl
@@ -61,7 +65,9 @@ any_done f xs i t l h = sym (ap (λ z. t || any_node f (nodes_of z)) (drop_all i
 
 ranges_fit : (n : ℕ) (ts : List Transition) → transitions_below n ts ≡ true → ranges_below n (ranges_of ts) ≡ true
 ranges_fit n [] h = refl
-ranges_fit n (t ∷ ts) h = let w = and_parts (ltb t.next n) (transitions_below n ts) h in and_true (ltb t.next n) (ranges_below n (ranges_of ts)) w.0 (ranges_fit n ts w.1)
+ranges_fit n (t ∷ ts) h =
+    let w = and_parts (ltb t.next n) (transitions_below n ts) h in
+    and_true (ltb t.next n) (ranges_below n (ranges_of ts)) w.0 (ranges_fit n ts w.1)
 
 dense_fit : (n k : ℕ) (xs : List ℕ) → all_below n xs ≡ true → ranges_below n (dense_from k xs) ≡ true
 dense_fit n k [] h = refl
@@ -77,7 +83,8 @@ node_fits n (Dense targets) h = dense_fit n 0 targets.value h
 node_fits n (LookState look next) h = h
 node_fits n (Union alternates) h = h
 node_fits n (BinaryUnion alt1 alt2) h =
-    let w = and_parts (ltb alt1 n) (ltb alt2 n) h in and_true (ltb alt1 n) (ltb alt2 n && true) w.0 (and_true (ltb alt2 n) true w.1 refl)
+    let w = and_parts (ltb alt1 n) (ltb alt2 n) h in
+    and_true (ltb alt1 n) (ltb alt2 n && true) w.0 (and_true (ltb alt2 n) true w.1 refl)
 node_fits n (Capture next pattern index slot) h = and_true (ltb next n) true h refl
 node_fits n Fail h = refl
 node_fits n (Match pattern) h = refl
@@ -105,24 +112,30 @@ match_fits P (Capture next pattern index slot) p h e = absurd (none_apart p e)
 match_fits P Fail p h e = absurd (none_apart p e)
 match_fits P (Match pattern) p h e = subst (λ z. z < P) (some_same pattern p e) (ltb-true pattern P h)
 
-pub patterns_fit : (P : ℕ) (xs : List State) (q p : ℕ) → matches_below P xs ≡ true → accepts_at (node_or_fail (slice_get (nodes_of xs) q)) ≡ Some p → p < P
+pub patterns_fit :
+    (P : ℕ) (xs : List State) (q p : ℕ) → matches_below P xs ≡ true
+    → accepts_at (node_or_fail (slice_get (nodes_of xs) q)) ≡ Some p → p < P
 patterns_fit P [] q p h e = absurd (none_apart p e)
 patterns_fit P (x ∷ xs) zero p h e = match_fits P x p (and_parts (match_below P x) (matches_below P xs) h).0 e
 patterns_fit P (x ∷ xs) (suc q) p h e = patterns_fit P xs q p (and_parts (match_below P x) (matches_below P xs) h).1 e
 
 pub ordered_fails :
     (xs : List Transition) (i low : ℕ) (x : Transition) (w : Bool)
-    → i < length xs → x ≡ get_or xs i x → leb low x.lo && leb x.lo x.hi ≡ false → w ≡ ordered_from low (drop i xs) → false ≡ w
+    → i < length xs → x ≡ get_or xs i x → leb low x.lo && leb x.lo x.hi ≡ false → w ≡ ordered_from low (drop i xs)
+    → false ≡ w
 ordered_fails xs i low x w l e t h =
     sym (h ∙ (at_drop_more (ordered_from low) xs i x l
-    ∙ (ap (λ (z : Transition). leb low z.lo && leb z.lo z.hi && ordered_from (z.hi + 1) (drop (i + 1) xs)) (sym e) ∙ ap (λ b. b && ordered_from (x.hi + 1) (drop (i + 1) xs)) t)))
+    ∙ (ap (λ (z : Transition). leb low z.lo && leb z.lo z.hi && ordered_from (z.hi + 1) (drop (i + 1) xs)) (sym e)
+    ∙ ap (λ b. b && ordered_from (x.hi + 1) (drop (i + 1) xs)) t)))
 
 pub ordered_next :
     (xs : List Transition) (i low : ℕ) (x : Transition) (w : Bool)
-    → i < length xs → x ≡ get_or xs i x → leb low x.lo && leb x.lo x.hi ≡ true → w ≡ ordered_from low (drop i xs) → w ≡ ordered_from (x.hi + 1) (drop (i + 1) xs)
+    → i < length xs → x ≡ get_or xs i x → leb low x.lo && leb x.lo x.hi ≡ true → w ≡ ordered_from low (drop i xs)
+    → w ≡ ordered_from (x.hi + 1) (drop (i + 1) xs)
 ordered_next xs i low x w l e t h =
     h ∙ (at_drop_more (ordered_from low) xs i x l
-    ∙ (ap (λ (z : Transition). leb low z.lo && leb z.lo z.hi && ordered_from (z.hi + 1) (drop (i + 1) xs)) (sym e) ∙ ap (λ b. b && ordered_from (x.hi + 1) (drop (i + 1) xs)) t))
+    ∙ (ap (λ (z : Transition). leb low z.lo && leb z.lo z.hi && ordered_from (z.hi + 1) (drop (i + 1) xs)) (sym e)
+    ∙ ap (λ b. b && ordered_from (x.hi + 1) (drop (i + 1) xs)) t))
 
 pub extra_is : (s : State) → extra_of s ≡ alternates_of s - 1
 extra_is (ByteRange lo hi next) = omega arith
@@ -135,19 +148,24 @@ extra_is (Capture next pattern index slot) = omega arith
 extra_is Fail = omega arith
 extra_is (Match pattern) = omega arith
 
-pub sum_next : (f : State → ℕ) (xs : List State) (i : ℕ) (x : State) → i < length xs → x ≡ get_or xs i x → sum_by f (take (i + 1) xs) ≡ sum_by f (take i xs) + f x
+pub sum_next :
+    (f : State → ℕ) (xs : List State) (i : ℕ) (x : State) → i < length xs → x ≡ get_or xs i x
+    → sum_by f (take (i + 1) xs) ≡ sum_by f (take i xs) + f x
 sum_next f xs i x l e = sum_by_more f xs i x l ∙ ap (λ z. sum_by f (take i xs) + f z) (sym e)
 
 pub sum_all : (f : State → ℕ) (xs : List State) (i : ℕ) → length xs ≤ i → sum_by f (take i xs) ≡ sum_by f xs
 sum_all f xs i l = ap (sum_by f) (take_all i xs l)
 
-pub room_all : (xs : List State) (i room : ℕ) → length xs ≤ i → room ≡ 1 + sum_by extra_of (take i xs) → room ≡ stack_room xs
+pub room_all :
+    (xs : List State) (i room : ℕ) → length xs ≤ i → room ≡ 1 + sum_by extra_of (take i xs) → room ≡ stack_room xs
 unfolding stack_room
 room_all xs i room l h = h ∙ ap (λ z. 1 + z) (sum_all extra_of xs i l)
 
 pub checked_range : (a : Automaton) → states_below (length a.states) a.states ≡ true → IsInRange (nfa_of a)
 checked_range a h =
-    in_range (nfa_of a) (subst (λ n. nodes_below n (nodes_of a.states) ≡ true) (sym (nodes_length a.states)) (nodes_fit (length a.states) a.states h))
+    in_range (nfa_of a)
+    (subst (λ n. nodes_below n (nodes_of a.states) ≡ true) (sym (nodes_length a.states))
+    (nodes_fit (length a.states) a.states h))
 
 pub checked_starts : (n : ℕ) (xs : List ℕ) → all_below n xs ≡ true → All (λ s. s < n) xs
 checked_starts n xs h k d l = below_in n xs (get_or xs k d) h (In-get_or xs k d l)

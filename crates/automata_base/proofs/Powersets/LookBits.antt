@@ -32,7 +32,8 @@ insert_bit n k j l = go (eqb_tells j k)
 -- the low eighteen bits are those of the number
 pub low_bits : (n k : ℕ) → k < 18 → bit_at (bit_and n 262143) k ≡ bit_at n k
 low_bits n k l =
-    bit_at_and n 262143 k ∙ (ap (min (bit_at n k)) (bit_at_ones 18 k l) ∙ (let two : bit_at n k < 2 = bit_at-lt n k in omega arith))
+    bit_at_and n 262143 k
+    ∙ (ap (min (bit_at n k)) (bit_at_ones 18 k l) ∙ (let two : bit_at n k < 2 = bit_at-lt n k in omega arith))
 
 pub bit_small : (k : ℕ) → k < 18 → 1 * 2 ^ k % 4294967296 < 2 ^ 18
 bit_small k l =
@@ -57,8 +58,10 @@ code_nth (suc (suc (suc (suc (suc (suc (suc (suc (suc (suc (suc (suc (suc zero))
 code_nth (suc (suc (suc (suc (suc (suc (suc (suc (suc (suc (suc (suc (suc (suc zero)))))))))))))) h = refl
 code_nth (suc (suc (suc (suc (suc (suc (suc (suc (suc (suc (suc (suc (suc (suc (suc zero))))))))))))))) h = refl
 code_nth (suc (suc (suc (suc (suc (suc (suc (suc (suc (suc (suc (suc (suc (suc (suc (suc zero)))))))))))))))) h = refl
-code_nth (suc (suc (suc (suc (suc (suc (suc (suc (suc (suc (suc (suc (suc (suc (suc (suc (suc zero))))))))))))))))) h = refl
-code_nth (suc (suc (suc (suc (suc (suc (suc (suc (suc (suc (suc (suc (suc (suc (suc (suc (suc (suc k)))))))))))))))))) h = absurd (omega (arith, h))
+code_nth (suc (suc (suc (suc (suc (suc (suc (suc (suc (suc (suc (suc (suc (suc (suc (suc (suc zero))))))))))))))))) h =
+    refl
+code_nth (suc (suc (suc (suc (suc (suc (suc (suc (suc (suc (suc (suc (suc (suc (suc (suc (suc (suc k))))))))))))))))))
+    h = absurd (omega (arith, h))
 
 pub code_below : (look : Look) → look_index look < 18
 code_below l.Start = omega arith
@@ -103,7 +106,8 @@ sofar_next base f set set' k look b h is grown t so other = go (eqb_tells (look_
         → truth_of set' other ≡ (base other || (ltb (look_index other) (k + 1) && f other))
     go (inl w) =
         let same : other ≡ look = code_one other look w.0 in
-        let more : ltb (look_index other) (k + 1) ≡ true = lt-ltb (look_index other) (k + 1) (omega (arith, number, w.1)) in
+        let more : ltb (look_index other) (k + 1) ≡ true =
+        lt-ltb (look_index other) (k + 1) (omega (arith, number, w.1)) in
         let less : ltb (look_index other) k ≡ false = le-ltb (look_index other) k (omega (arith, number, w.1)) in
         let passes : b ≡ f other = t ∙ ap f (sym same) in
         grown other ∙ (ap (λ z. z && b || truth_of set other) w.0
@@ -133,7 +137,9 @@ or_and false b c e f g h = true≢false (sym f)
 abbrev pub Unnews : Truth → Truth → Truth → ℕ → Type 0
 Unnews N T K k = (look : Look) → look_index look < k → N look ≡ true → T look ≡ true → K look ≡ false → ⊥
 
-pub unnews_next : (N T K : Truth) (k : ℕ) (look : Look) → k < 18 → look ≡ nth_look k → N look && T look && not (K look) ≡ false → Unnews N T K k → Unnews N T K (k + 1)
+pub unnews_next :
+    (N T K : Truth) (k : ℕ) (look : Look) → k < 18 → look ≡ nth_look k → N look && T look && not (K look) ≡ false
+    → Unnews N T K k → Unnews N T K (k + 1)
 unnews_next N T K k look h is at so other less = go (eqb_tells (look_index other) (look_index look))
   where
     number : look_index look ≡ k
@@ -143,5 +149,7 @@ unnews_next N T K k look h is at so other less = go (eqb_tells (look_index other
         ((eqb (look_index other) (look_index look) ≡ true) × (look_index other ≡ look_index look))
         ⊎ ((eqb (look_index other) (look_index look) ≡ false) × (look_index other ≡ look_index look → ⊥))
         → N other ≡ true → T other ≡ true → K other ≡ false → ⊥
-    go (inl w) = subst (λ z. N z ≡ true → T z ≡ true → K z ≡ false → ⊥) (sym (code_one other look w.0)) (or_and (N look) (T look) (K look) at)
+    go (inl w) =
+        subst (λ z. N z ≡ true → T z ≡ true → K z ≡ false → ⊥) (sym (code_one other look w.0))
+        (or_and (N look) (T look) (K look) at)
     go (inr w) = so other (let ne : look_index other ≡ k → ⊥ = λ e. w.1 (e ∙ sym number) in omega (arith, less, ne))

@@ -47,7 +47,8 @@ pub step_made :
     → IsClosureMade a made.patterns (targets (nfa_of a) unit (cut_for kind (nfa_of a) list)) unit made
     → IsStepMade a kind from unit made
 step_made a kind from unit list made checked is_of decided matched arrived =
-    let step : IsSuccessor (nfa_of a) kind from unit made = (list, made.patterns, decided, matched.once, arrived.closure) in
+    let step : IsSuccessor (nfa_of a) kind from unit made =
+    (list, made.patterns, decided, matched.once, arrived.closure) in
     let same = is_successor a kind from unit made checked.range is_of step in
     let few : length made.nfa ≤ length a.states = arrived.few in
     let seldom : length made.patterns ≤ length a.start_pattern = matched.few in
@@ -95,7 +96,8 @@ start_made a mode prev start made checked at below arrived =
 pub start_dead :
     (a : Automaton) (mode : Anchored) (prev : Option ℕ) (states patterns : List ℕ)
     → IsChecked a → None ≡ mode_start a mode → states ≡ [] → patterns ≡ []
-    → IsStartMade a mode prev (record { nfa = states; patterns = patterns; known = 0; needed = 0; word = false; half = false })
+    → IsStartMade a mode prev
+    (record { nfa = states; patterns = patterns; known = 0; needed = 0; word = false; half = false })
 start_dead a mode prev states patterns checked at e f =
     subst (IsStartMade a mode prev) (sym (ap (λ (xs : List ℕ). empty xs patterns) e ∙ ap (empty []) f))
     (starts a mode prev dead checked

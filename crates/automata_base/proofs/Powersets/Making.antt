@@ -62,8 +62,10 @@ pub masked :
     (n : Nfa) (any mask empty : ℕ) (f : l.Look → Bool) (b : Bool)
     → ((look : Look) → truth_of any look ≡ any_node (λ other. eqb (look_index other) (look_index look)) n.nodes)
     → ((look : Look) → truth_of mask look ≡ f look) → empty ≡ 0
-    → (b ≡ true → (look : Look) × (truth_of any look ≡ true) × (truth_of mask look ≡ true) × (truth_of empty look ≡ false))
-    → (b ≡ false → (look : Look) → truth_of any look ≡ true → truth_of mask look ≡ true → truth_of empty look ≡ false → ⊥)
+    → (b ≡ true → (look : Look) × (truth_of any look ≡ true) × (truth_of mask look ≡ true)
+    × (truth_of empty look ≡ false))
+    → (b ≡ false → (look : Look) → truth_of any look ≡ true → truth_of mask look ≡ true → truth_of empty look ≡ false
+    → ⊥)
     → b ≡ any_node f n.nodes
 masked n any mask empty f b are is z yes' no' = bool_iff b (any_node f n.nodes) there (back b refl)
   where
@@ -79,7 +81,9 @@ masked n any mask empty f b are is z yes' no' = bool_iff b (any_node f n.nodes) 
     back false e h =
         let v = any_node_true f n.nodes h in
         absurd (no' e v.1
-        (are v.1 ∙ any_node_from (λ other. eqb (look_index other) (look_index v.1)) n.nodes v.0 v.1 v.2 v.3 (eq-eqb (look_index v.1) (look_index v.1) refl))
+        (are v.1
+        ∙ any_node_from (λ other. eqb (look_index other) (look_index v.1)) n.nodes v.0 v.1 v.2 v.3
+        (eq-eqb (look_index v.1) (look_index v.1) refl))
         (is v.1 ∙ v.4) (ap (λ k. truth_of k v.1) z ∙ truth_of_none v.1))
 
 -- Whether a list has a look, by the set of its looks.
@@ -101,7 +105,9 @@ some_state n list needed b are yes' no' = bool_iff b (any_state (λ other. true)
     back true e h = e
     back false e h =
         let v = any_state_true (λ other. true) n list h in
-        absurd (true≢false (sym (any_state_from (λ other. eqb (look_index other) (look_index v.1)) n list v.0 v.1 v.2 v.3 v.4 (eq-eqb (look_index v.1) (look_index v.1) refl))
+        absurd (true≢false
+        (sym (any_state_from (λ other. eqb (look_index other) (look_index v.1)) n list v.0 v.1 v.2 v.3 v.4
+        (eq-eqb (look_index v.1) (look_index v.1) refl))
         ∙ (sym (are v.1) ∙ no' e v.1)))
 
 pub made :
@@ -111,13 +117,18 @@ pub made :
     → ((look : Look) → truth_of needed look ≡ any_state (λ other. eqb (look_index other) (look_index look)) n list)
     → word ≡ (is_full list && any_node is_word_look n.nodes && l.is_word prev)
     → half ≡ (is_full list && any_node is_crlf_look n.nodes && l.is_byte (l.first_half n.reverse) prev)
-    → IsMake n patterns C prev (record { nfa = list; patterns = patterns; known = known; needed = needed; word = word; half = half })
+    → IsMake n patterns C prev
+    (record { nfa = list; patterns = patterns; known = known; needed = needed; word = word; half = half })
 made n patterns C list prev known needed word half s z e k d w h =
     subst (λ Q. IsMake n patterns C prev Q)
-    (sym (powerset_path (record { nfa = list; patterns = patterns; known = known; needed = needed; word = word; half = half })
+    (sym (powerset_path
+    (record { nfa = list; patterns = patterns; known = known; needed = needed; word = word; half = half })
     (make n patterns C prev) e refl
-    (set_of-truth_of known s ∙ ap set_of (λ i look. (k look ∙ ap (λ xs. any_state (λ other. true) n xs && known_looks n prev look) e) i))
-    (set_of-truth_of needed z ∙ ap set_of (λ i look. (d look ∙ ap (λ xs. any_state (λ other. eqb (look_index other) (look_index look)) n xs) e) i))
+    (set_of-truth_of known s
+    ∙ ap set_of (λ i look. (k look ∙ ap (λ xs. any_state (λ other. true) n xs && known_looks n prev look) e) i))
+    (set_of-truth_of needed z
+    ∙ ap set_of
+    (λ i look. (d look ∙ ap (λ xs. any_state (λ other. eqb (look_index other) (look_index look)) n xs) e) i))
     (w ∙ ap (λ xs. is_full xs && any_node is_word_look n.nodes && l.is_word prev) e)
     (h ∙ ap (λ xs. is_full xs && any_node is_crlf_look n.nodes && l.is_byte (l.first_half n.reverse) prev) e)))
     (make_right n patterns C prev)

@@ -64,7 +64,8 @@ none_reported :
 none_reported kind true a mode t e = none_first a kind mode t (suc (length t.bytes)) e
 none_reported kind false a mode t e = none_last a kind mode t (suc (length t.bytes)) e
 
-pub first_is : (a : Automaton) (kind : MatchKind) (mode : Anchored) → first_state (engine_of a kind) mode ≡ mode_start a mode
+pub first_is :
+    (a : Automaton) (kind : MatchKind) (mode : Anchored) → first_state (engine_of a kind) mode ≡ mode_start a mode
 first_is a kind No = refl
 first_is a kind Yes = refl
 first_is a kind (Pattern p) = refl
@@ -77,9 +78,13 @@ all_get : (n : ℕ) (xs : List ℕ) (k q : ℕ) → All (λ s. s < n) xs → sli
 all_get n xs k q h e =
     subst (λ v. v < n) (get_or_from_slice_get xs k q 0 e) (h k 0 (slice_get_within xs k q e))
 
-pub start_below : (a : Automaton) (mode : Anchored) (q : ℕ) → IsChecked a → mode_start a mode ≡ Some q → q < length (nodes_of a.states)
-start_below a No q d e = let s : a.start_unanchored ≡ q = some_inj e in omega (arith, d.unanchored, s, nodes_length a.states)
-start_below a Yes q d e = let s : a.start_anchored ≡ q = some_inj e in omega (arith, d.anchored, s, nodes_length a.states)
+pub start_below :
+    (a : Automaton) (mode : Anchored) (q : ℕ) → IsChecked a → mode_start a mode ≡ Some q
+    → q < length (nodes_of a.states)
+start_below a No q d e =
+    let s : a.start_unanchored ≡ q = some_inj e in omega (arith, d.unanchored, s, nodes_length a.states)
+start_below a Yes q d e =
+    let s : a.start_anchored ≡ q = some_inj e in omega (arith, d.anchored, s, nodes_length a.states)
 start_below a (Pattern p) q d e =
     let l : q < length a.states = all_get (length a.states) a.start_pattern p q d.starts e in
     omega (arith, l, nodes_length a.states)
@@ -99,21 +104,25 @@ reported_over_selects :
 reported_over_selects a kind way input o d free i l e =
     let t : Tape = tape_of way input.haystack input.start input.end in
     let tape : IsTape t = tape_units way input.haystack input.start input.end i.0 l i.1 in
-    let s : SelectsFrom (engine_of a kind) input.earliest t (mode_start a input.anchored) (reported_by kind input.earliest a input.anchored t) =
+    let s : SelectsFrom (engine_of a kind) input.earliest t (mode_start a input.anchored)
+    (reported_by kind input.earliest a input.anchored t) =
     reported_from a kind input.earliest input.anchored t (mode_start a input.anchored) d free tape refl in
     subst (λ (p : Option Pair). SelectsOver way (engine_of a kind) input p) (sym e)
-    (subst (λ (q : Option ℕ). SelectsFrom (engine_of a kind) input.earliest t q (reported_by kind input.earliest a input.anchored t))
+    (subst (λ (q : Option ℕ). SelectsFrom (engine_of a kind) input.earliest t q
+    (reported_by kind input.earliest a input.anchored t))
     (sym (first_is a kind input.anchored)) s)
 
 pub reported_right : (a : Automaton) → IsChecked a → ReportedIsRight a
 reported_right a d way kind input answer free i =
     turn_answers (ReportsOver way a kind) (SelectsOver way (engine_of a kind)) (IsSkipping (engine_of a kind)) way input
     (λ k o l h.
-    let n : IsInput (later way k input) × ((later way k input).start ≤ (later way k input).end) = later_input way k input i l in
+    let n : IsInput (later way k input) × ((later way k input).start ≤ (later way k input).end) =
+    later_input way k input i l in
     reported_over_selects a kind way (later way k input) o d free n.0 n.1 h)
     answer
 
-module _ (Rule : Nfa → Tape → ℕ → Option Pair → Type 0) (a : Automaton) (kind : MatchKind) (earliest : Bool) (d : IsChecked a)
+module _ (Rule : Nfa → Tape → ℕ → Option Pair → Type 0) (a : Automaton) (kind : MatchKind) (earliest : Bool)
+    (d : IsChecked a)
     (rule : (mode : Anchored) (t : Tape) (start : ℕ)
     → mode_start a mode ≡ Some start → IsInRange (nfa_of a) → start < length (nodes_of a.states) → IsTape t
     → Rule (nfa_of a) t start (reported_by kind earliest a mode t)) where
@@ -129,11 +138,14 @@ module _ (Rule : Nfa → Tape → ℕ → Option Pair → Type 0) (a : Automaton
       → ReportsOver way a kind input o → EndsOver Rule way (engine_of a kind) input o
   ends_over way input o same i l h =
       let t : Tape = tape_of way input.haystack input.start input.end in
-      let s : EndsFrom Rule (engine_of a kind) t (mode_start a input.anchored) (reported_by kind earliest a input.anchored t) =
-      ends_from input.anchored t (mode_start a input.anchored) (tape_units way input.haystack input.start input.end i.0 l i.1) refl in
+      let s : EndsFrom Rule (engine_of a kind) t (mode_start a input.anchored)
+      (reported_by kind earliest a input.anchored t) =
+      ends_from input.anchored t (mode_start a input.anchored)
+      (tape_units way input.haystack input.start input.end i.0 l i.1) refl in
       subst (λ r. EndsOver Rule way (engine_of a kind) input r)
       (sym (h ∙ ap (λ e. reported_by kind e a input.anchored t) same))
-      (subst (λ (q : Option ℕ). EndsFrom Rule (engine_of a kind) t q (reported_by kind earliest a input.anchored t)) (sym (first_is a kind input.anchored)) s)
+      (subst (λ (q : Option ℕ). EndsFrom Rule (engine_of a kind) t q (reported_by kind earliest a input.anchored t))
+      (sym (first_is a kind input.anchored)) s)
 
   later_earliest : (way : Direction) (k : ℕ) (input : Input) → (later way k input).earliest ≡ input.earliest
   later_earliest Forward k input = refl
@@ -144,9 +156,11 @@ module _ (Rule : Nfa → Tape → ℕ → Option Pair → Type 0) (a : Automaton
       → input.earliest ≡ earliest → IsInput input → IsReported way a kind input answer
       → Answers (EndsOver Rule way (engine_of a kind)) (IsSkipping (engine_of a kind)) way input answer
   ends_right way input answer same i reported =
-      turn_answers (ReportsOver way a kind) (EndsOver Rule way (engine_of a kind)) (IsSkipping (engine_of a kind)) way input
+      turn_answers (ReportsOver way a kind) (EndsOver Rule way (engine_of a kind)) (IsSkipping (engine_of a kind)) way
+      input
       (λ k o l h.
-      let n : IsInput (later way k input) × ((later way k input).start ≤ (later way k input).end) = later_input way k input i l in
+      let n : IsInput (later way k input) × ((later way k input).start ≤ (later way k input).end) =
+      later_input way k input i l in
       ends_over way (later way k input) o (later_earliest way k input ∙ same) n.0 n.1 h)
       answer reported
 
@@ -155,5 +169,6 @@ reported_ends_right a d way kind input answer i reported = (
   λ e. ends_right IsNearest a kind true d (reported_nearest kind a) way input answer e i reported,
   λ e all.
       subst (λ (k : MatchKind). IsFarthestAnswer way (engine_of a k) input answer) (sym all)
-      (ends_right IsFarthest a KindAll false d (reported_farthest a) way input answer e i (subst (λ (k : MatchKind). IsReported way a k input answer) all reported)),
+      (ends_right IsFarthest a KindAll false d (reported_farthest a) way input answer e i
+      (subst (λ (k : MatchKind). IsReported way a k input answer) all reported)),
 )

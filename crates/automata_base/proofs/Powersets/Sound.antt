@@ -13,7 +13,8 @@ use Rattle.automata_base.proofs.Nfas.Reach.Led.{acyclic_is, empty_is}
 use Rattle.automata_base.proofs.Nfas.Reach.Refused.{passing, room_small}
 
 pub sound :
-    (d : Data) (keeps_unions : Bool) → states_error d.states.items d.start_anchored d.start_unanchored d.start_pattern.items ≡ None
+    (d : Data) (keeps_unions : Bool)
+    → states_error d.states.items d.start_anchored d.start_unanchored d.start_pattern.items ≡ None
     → IsLooks (automaton_of d keeps_unions) d.looks → d.room ≡ stack_room d.states.items
     → IsTrue d.has_empty ↔ ReachesMatch d.states.items d.start_pattern.items
     → IsTrue d.skips_lazily ↔ SkipsLazily (automaton_of d keeps_unions)

@@ -12,7 +12,8 @@ use Rattle.automata_base.proofs.Powersets.Distinct.{In-get_or}
 use Rattle.automata_base.proofs.Powersets.Holding.{has_room, below_set, back_set}
 
 -- A member stands at its place.
-pub at_place : (items : List ℕ) (q : ℕ) → In q items → (place_in items q < length items) × (get_or items (place_in items q) 0 ≡ q)
+pub at_place :
+    (items : List ℕ) (q : ℕ) → In q items → (place_in items q < length items) × (get_or items (place_in items q) 0 ≡ q)
 at_place [] q i = absurd i
 at_place (x ∷ xs) q i = go (eqb_tells x q) i (at_place xs q)
   where
@@ -21,12 +22,14 @@ at_place (x ∷ xs) q i = go (eqb_tells x q) i (at_place xs q)
         → (In q xs → (place_in xs q < length xs) × (get_or xs (place_in xs q) 0 ≡ q))
         → (place_in (x ∷ xs) q < length (x ∷ xs)) × (get_or (x ∷ xs) (place_in (x ∷ xs) q) 0 ≡ q)
     go (inl e) i ih =
-        subst (λ b. (cond b 0 (suc (place_in xs q)) < length (x ∷ xs)) × (get_or (x ∷ xs) (cond b 0 (suc (place_in xs q))) 0 ≡ q))
+        subst (λ b. (cond b 0 (suc (place_in xs q)) < length (x ∷ xs))
+        × (get_or (x ∷ xs) (cond b 0 (suc (place_in xs q))) 0 ≡ q))
         (sym e.0) (omega arith, e.1)
     go (inr e) (inl f) ih = absurd (e.1 (sym f))
     go (inr e) (inr j) ih =
         let w = ih j in
-        subst (λ b. (cond b 0 (suc (place_in xs q)) < length (x ∷ xs)) × (get_or (x ∷ xs) (cond b 0 (suc (place_in xs q))) 0 ≡ q))
+        subst (λ b. (cond b 0 (suc (place_in xs q)) < length (x ∷ xs))
+        × (get_or (x ∷ xs) (cond b 0 (suc (place_in xs q))) 0 ≡ q))
         (sym e.0) (omega (arith, w.0), w.1)
 
 -- Where a sparse set holds a member.
@@ -37,9 +40,12 @@ module _ (s : Inside) (inv : IsSparse s) where
   pub sparse_place :
       (q : ℕ) → In q (take s.len s.dense.items)
       → (q < length s.sparse.items) × (get_or s.sparse.items q 0 ≡ place_in (take s.len s.dense.items) q)
-  sparse_place q i = (inside, sym (ap (λ z. get_or s.sparse.items z 0) here) ∙ inv.back (place_in (take s.len s.dense.items) q) within)
+  sparse_place q i =
+      (inside, sym (ap (λ z. get_or s.sparse.items z 0) here) ∙ inv.back (place_in (take s.len s.dense.items) q) within)
     where
-      at : (place_in (take s.len s.dense.items) q < length (take s.len s.dense.items)) × (get_or (take s.len s.dense.items) (place_in (take s.len s.dense.items) q) 0 ≡ q)
+      at :
+          (place_in (take s.len s.dense.items) q < length (take s.len s.dense.items))
+          × (get_or (take s.len s.dense.items) (place_in (take s.len s.dense.items) q) 0 ≡ q)
       at = at_place (take s.len s.dense.items) q i
 
       within : place_in (take s.len s.dense.items) q < s.len
@@ -65,7 +71,9 @@ module _ (s : Inside) (inv : IsSparse s) where
         p : (id < length s.sparse.items) × (get_or s.sparse.items id 0 ≡ place_in (take s.len s.dense.items) id)
         p = sparse_place id member
 
-        at_it : (place_in (take s.len s.dense.items) id < length (take s.len s.dense.items)) × (get_or (take s.len s.dense.items) (place_in (take s.len s.dense.items) id) 0 ≡ id)
+        at_it :
+            (place_in (take s.len s.dense.items) id < length (take s.len s.dense.items))
+            × (get_or (take s.len s.dense.items) (place_in (take s.len s.dense.items) id) 0 ≡ id)
         at_it = at_place (take s.len s.dense.items) id member
 
         spot : i ≡ place_in (take s.len s.dense.items) id
@@ -74,14 +82,16 @@ module _ (s : Inside) (inv : IsSparse s) where
         found : get_or s.dense.items i 0 ≡ id
         found =
             ap (λ z. get_or s.dense.items z 0) spot
-            ∙ (sym (get_or-take s.len s.dense.items (place_in (take s.len s.dense.items) id) 0 (omega (arith, at_it.0, short))) ∙ at_it.1)
+            ∙ (sym (get_or-take s.len s.dense.items (place_in (take s.len s.dense.items) id) 0
+            (omega (arith, at_it.0, short))) ∙ at_it.1)
 
     pub is_other : here ≡ get_or s.dense.items i here → (here ≡ id → ⊥) → In id (take s.len s.dense.items) → ⊥
     is_other read other member =
         let w = stands member in
         other (read ∙ (get_or_default s.dense.items i here 0 (omega (arith, w.0, inv.within)) ∙ w.1))
 
-module _ (s : Inside) (v : Members) (id : ℕ) (inv : IsSparse s) (view : members_of s ≡ v) (fits : id < v.capacity) (new : In id v.items → ⊥) where
+module _ (s : Inside) (v : Members) (id : ℕ) (inv : IsSparse s) (view : members_of s ≡ v) (fits : id < v.capacity)
+    (new : In id v.items → ⊥) where
   fits' : id < length s.dense.items
   fits' = subst (λ z. id < z) (sym (ap (λ w. w.capacity) view)) fits
 
@@ -91,10 +101,12 @@ module _ (s : Inside) (v : Members) (id : ℕ) (inv : IsSparse s) (view : member
   pub room : s.len < length s.dense.items
   room = has_room s.dense.items s.sparse.items s.len inv.within inv.below inv.back id fits' new'
 
-  pub below_more : (k : ℕ) → k < s.len + 1 → get_or (set s.dense.items s.len id) k 0 < length (set s.dense.items s.len id)
+  pub below_more :
+      (k : ℕ) → k < s.len + 1 → get_or (set s.dense.items s.len id) k 0 < length (set s.dense.items s.len id)
   below_more k l = below_set s.dense.items s.sparse.items s.len inv.within inv.below inv.back id k fits' room l
 
-  pub back_more : (k : ℕ) → k < s.len + 1 → get_or (set s.sparse.items id s.len) (get_or (set s.dense.items s.len id) k 0) 0 ≡ k
+  pub back_more :
+      (k : ℕ) → k < s.len + 1 → get_or (set s.sparse.items id s.len) (get_or (set s.dense.items s.len id) k 0) 0 ≡ k
   back_more k l =
       let both : length s.sparse.items ≡ length s.dense.items = inv.same in
       let at : id < length s.sparse.items = subst (λ z. id < z) (sym both) fits' in
@@ -103,5 +115,7 @@ module _ (s : Inside) (v : Members) (id : ℕ) (inv : IsSparse s) (view : member
   pub items_more : take (s.len + 1) (set s.dense.items s.len id) ≡ v.items ++ id ∷ []
   items_more = take_more_set s.dense.items s.len id room ∙ ap (λ w. w.items ++ id ∷ []) view
 
-  pub lengths_more : (length (set s.dense.items s.len id) ≡ length s.dense.items) × (length (set s.sparse.items id s.len) ≡ length s.dense.items)
+  pub lengths_more :
+      (length (set s.dense.items s.len id) ≡ length s.dense.items)
+      × (length (set s.sparse.items id s.len) ≡ length s.dense.items)
   lengths_more = (length-set s.dense.items s.len id, length-set s.sparse.items id s.len ∙ inv.same)

@@ -31,7 +31,8 @@ is_successor a kind q u r range of h =
 
 start_at :
     (n : Nfa) (start : Option ℕ) (prev : Option ℕ) (r : Powerset)
-    → IsInRange n → ((s : ℕ) → start ≡ Some s → s < length n.nodes) → IsStartAt n start prev r → r ≡ start_or_dead n start prev
+    → IsInRange n → ((s : ℕ) → start ≡ Some s → s < length n.nodes) → IsStartAt n start prev r
+    → r ≡ start_or_dead n start prev
 start_at n None prev r range below h = h
 start_at n (Some s) prev r range below h =
     arrival_one n [] (s ∷ []) prev r (start_behind n s prev) h (arrive_right n [] (s ∷ []) prev range one).0
@@ -58,7 +59,9 @@ successors_are_right a range kind q r u of = (
       (succ_right (nfa_of a) kind u q range (λ y i. subst (λ v. y < v) (sym (nodes_length a.states)) (of y i))).0,
 )
 
-start_is : (n : Nfa) (start prev : Option ℕ) → IsInRange n → ((s : ℕ) → start ≡ Some s → s < length n.nodes) → IsStartAt n start prev (start_or_dead n start prev)
+start_is :
+    (n : Nfa) (start prev : Option ℕ) → IsInRange n → ((s : ℕ) → start ≡ Some s → s < length n.nodes)
+    → IsStartAt n start prev (start_or_dead n start prev)
 start_is n None prev range below = refl
 start_is n (Some s) prev range below = (arrive_right n [] (s ∷ []) prev range one).0
   where
@@ -67,13 +70,15 @@ start_is n (Some s) prev range below = (arrive_right n [] (s ∷ []) prev range 
     one y (inr i) = absurd i
 
 pub starts_are_right :
-    (a : Automaton) → IsInRange (nfa_of a) → ((mode : Anchored) (s : ℕ) → mode_start a mode ≡ Some s → s < length a.states)
+    (a : Automaton) → IsInRange (nfa_of a)
+    → ((mode : Anchored) (s : ℕ) → mode_start a mode ≡ Some s → s < length a.states)
     → PowersetStartsAreRight a
 unfolding start_state_of
 starts_are_right a range below mode prev r = (
   is_start a mode prev r range (below mode),
   λ e. subst (λ z. IsStartOf a mode prev z) (sym e)
-      (start_is (nfa_of a) (mode_start a mode) prev range (λ s f. subst (λ v. s < v) (sym (nodes_length a.states)) (below mode s f))),
+      (start_is (nfa_of a) (mode_start a mode) prev range
+      (λ s f. subst (λ v. s < v) (sym (nodes_length a.states)) (below mode s f))),
 )
 
 -- what is made of a closure needs looks of the automaton

@@ -2,7 +2,8 @@
 use Rattle.std.proofs.Common.{ℕ, zero, suc, ◌≡◌, ◌<◌, ◌≤◌, ◌⊎◌, ◌↔◌, inl, inr, Bool, true, false, List, [], ◌++◌}
 use Rattle.std.proofs.Common.{length, Option, Some, None, refl, sym, ap, ap₂, ◌∙◌, subst, arith}
 use Rattle.std.specs.Prelude.{IsTrue}
-use Rattle.automata_base.specs.Answers.Answers.{AreUnsplit, IsInput, IsOverlappingFrom, KeepsSplit, OverlapsOver, SkipsSplit, Walks}
+use Rattle.automata_base.specs.Answers.Answers.{AreUnsplit, IsInput, IsOverlappingFrom, KeepsSplit, OverlapsOver}
+use Rattle.automata_base.specs.Answers.Answers.{SkipsSplit, Walks}
 use Rattle.automata_base.specs.Answers.Answers.{WalksNoSpan, WalksSpan, with_offsets, without_split}
 use Rattle.automata_base.specs.Powersets.Cuts.{MatchKind}
 use Rattle.automata_base.specs.Nfas.Accepted.{IsChecked}
@@ -50,7 +51,8 @@ overlaps_over a kind way input pairs d free i l e =
     let t : Tape = tape_of way input.haystack input.start input.end in
     let tape : IsTape t = tape_units way input.haystack input.start input.end i.0 l i.1 in
     subst (OverlapsOver way (engine_of a kind) input) (sym e)
-    (subst (λ (q : Option ℕ). IsOverlappingFrom (engine_of a kind) t q (pairs_reported a kind input.anchored t (suc (length t.bytes))))
+    (subst (λ (q : Option ℕ). IsOverlappingFrom (engine_of a kind) t q
+    (pairs_reported a kind input.anchored t (suc (length t.bytes))))
     (sym (first_is a kind input.anchored))
     (overlaps_from a kind input.anchored t (mode_start a input.anchored) d free tape refl))
 
@@ -66,7 +68,8 @@ turn_walks :
     → ((pairs : List Pair) → input.start ≤ input.end → T input pairs → U input pairs)
     → Walks T S way input found → Walks U S way input found
 turn_walks T U S way input found turn (WalksNoSpan l e) = WalksNoSpan l e
-turn_walks T U S way input found turn (WalksSpan l pairs reported unsplit) = WalksSpan l pairs (turn pairs l reported) unsplit
+turn_walks T U S way input found turn (WalksSpan l pairs reported unsplit) =
+    WalksSpan l pairs (turn pairs l reported) unsplit
 
 unsplit_once :
     (S : Type 0) (way : Direction) (input : Input) (x y a b : List Pair)
@@ -84,31 +87,39 @@ pub walks_once :
 walks_once T S way input a b once (WalksNoSpan l e) (WalksNoSpan l' e') = e ∙ sym e'
 walks_once T S way input a b once (WalksNoSpan l e) (WalksSpan l' y t u) = absurd (omega (arith, l, l'))
 walks_once T S way input a b once (WalksSpan l x t u) (WalksNoSpan l' e) = absurd (omega (arith, l, l'))
-walks_once T S way input a b once (WalksSpan l x t u) (WalksSpan l' y t' u') = unsplit_once S way input x y a b (once x y t t') u u'
+walks_once T S way input a b once (WalksSpan l x t u) (WalksSpan l' y t' u') =
+    unsplit_once S way input x y a b (once x y t t') u u'
 
 pub walks_one : WalksAreOne
 walks_one way a kind input first second h k =
-    walks_once (SpanReports way a kind) (IsSkipping (engine_of a kind)) way input first second (λ x y e f. e ∙ sym f) h k
+    walks_once (SpanReports way a kind) (IsSkipping (engine_of a kind)) way input first second (λ x y e f. e ∙ sym f) h
+    k
 
 pub walk_right : (a : Automaton) → IsChecked a → WalkIsRight a
 walk_right a d way kind input found free i h =
-    turn_walks (SpanReports way a kind) (OverlapsOver way (engine_of a kind)) (IsSkipping (engine_of a kind)) way input found
+    turn_walks (SpanReports way a kind) (OverlapsOver way (engine_of a kind)) (IsSkipping (engine_of a kind)) way input
+    found
     (λ pairs l e. overlaps_over a kind way input pairs d free i l e) h
 
 pub overlapping_reported : (a : Automaton) → IsChecked a → OverlappingIsReported a
 overlapping_reported a d way kind input found free i h =
-    turn_walks (OverlapsOver way (engine_of a kind)) (SpanReports way a kind) (IsSkipping (engine_of a kind)) way input found
+    turn_walks (OverlapsOver way (engine_of a kind)) (SpanReports way a kind) (IsSkipping (engine_of a kind)) way input
+    found
     (λ pairs l o.
-    overlaps_once a kind (tape_of way input.haystack input.start input.end) (first_state (engine_of a kind) input.anchored) pairs
-    (pairs_reported a kind input.anchored (tape_of way input.haystack input.start input.end) (suc (length (tape_of way input.haystack input.start input.end).bytes))) o
+    overlaps_once a kind (tape_of way input.haystack input.start input.end)
+    (first_state (engine_of a kind) input.anchored) pairs
+    (pairs_reported a kind input.anchored (tape_of way input.haystack input.start input.end)
+    (suc (length (tape_of way input.haystack input.start input.end).bytes))) o
     (overlaps_over a kind way input _ d free i l refl)) h
 
 -- whether split places are skipped is decided by two flags
 pub skips_or_not :
     (a : Automaton) (kind : MatchKind) (utf8 empty : Bool)
-    → utf8 ≡ a.flags.utf8 → (IsTrue empty ↔ HasEmpty a) → IsSkipping (engine_of a kind) ⊎ (IsSkipping (engine_of a kind) → ⊥)
+    → utf8 ≡ a.flags.utf8 → (IsTrue empty ↔ HasEmpty a) → IsSkipping (engine_of a kind)
+    ⊎ (IsSkipping (engine_of a kind) → ⊥)
 skips_or_not a kind false empty u e = inr (λ (s : IsSkipping (engine_of a kind)). absurd (cc))
-skips_or_not a kind true false u e = inr (λ (s : IsSkipping (engine_of a kind)). let f : IsTrue false = e.1 s.1 in absurd (cc))
+skips_or_not a kind true false u e =
+    inr (λ (s : IsSkipping (engine_of a kind)). let f : IsTrue false = e.1 s.1 in absurd (cc))
 skips_or_not a kind true true u e = inl (sym u, e.0 refl)
 
 unsplit_all :
@@ -124,7 +135,8 @@ walks_reported a utf8 empty u e way kind input = go (done_or_open input.start in
     done_or_open : (s t : ℕ) → (t < s) ⊎ (s ≤ t)
     done_or_open s t = grind arith
 
-    go : (input.end < input.start) ⊎ (input.start ≤ input.end) → (found : List Pair) × AreReported way a kind input found
+    go :
+        (input.end < input.start) ⊎ (input.start ≤ input.end) → (found : List Pair) × AreReported way a kind input found
     go (inl l) = ([], WalksNoSpan l refl)
     go (inr l) =
         let t : Tape = tape_of way input.haystack input.start input.end in

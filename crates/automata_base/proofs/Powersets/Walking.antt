@@ -30,7 +30,8 @@ pub state_read : (states : List State) (q : ℕ) (s : State) → slice_get state
 state_read states q s e = sym (get_or_from_slice_get states q s s e)
 
 pub node_at :
-    (states : List State) (x : ℕ) (s d : State) → x < length states → s ≡ get_or states x d → node_or_fail (slice_get (nodes_of states) x) ≡ node_of s
+    (states : List State) (x : ℕ) (s d : State) → x < length states → s ≡ get_or states x d
+    → node_or_fail (slice_get (nodes_of states) x) ≡ node_of s
 node_at [] x s d l e = absurd (omega (arith, l))
 node_at (y ∷ ys) zero s d l e = ap (λ v. node_of v) (sym e)
 node_at (y ∷ ys) (suc x) s d l e = node_at ys x s d (omega (arith, l)) e
@@ -47,45 +48,62 @@ pub record Walking (a : Automaton) (looks : ℕ) (old : List ℕ) (start : ℕ) 
 unfoldable pub work : Automaton → List ℕ → List ℕ → ℕ
 work a order stack = length stack + unvisited (λ q. suc (extra_at a.states q)) order (length a.states)
 
-unvisited_take : (states : List State) (n : ℕ) → n ≤ length states → unvisited (extra_at states) [] n ≡ sum_by extra_of (take n states)
+unvisited_take :
+    (states : List State) (n : ℕ) → n ≤ length states
+    → unvisited (extra_at states) [] n ≡ sum_by extra_of (take n states)
 unfolding unvisited among
 unvisited_take states zero l = refl
 unvisited_take states (suc n) l =
-    let rest : unvisited (extra_at states) [] n ≡ sum_by extra_of (take n states) = unvisited_take states n (omega arith) in
-    let more : sum_by extra_of (take (n + 1) states) ≡ sum_by extra_of (take n states) + extra_of (get_or states n Fail) = sum_by_more extra_of states n Fail (omega arith) in
+    let rest : unvisited (extra_at states) [] n ≡ sum_by extra_of (take n states) =
+    unvisited_take states n (omega arith) in
+    let more : sum_by extra_of (take (n + 1) states) ≡ sum_by extra_of (take n states)
+    + extra_of (get_or states n Fail) = sum_by_more extra_of states n Fail (omega arith) in
     let one : n + 1 ≡ suc n = omega arith in
-    let more' : sum_by extra_of (take (suc n) states) ≡ sum_by extra_of (take n states) + extra_of (get_or states n Fail) = subst (λ z. sum_by extra_of (take z states) ≡ sum_by extra_of (take n states) + extra_of (get_or states n Fail)) one more in
+    let more' : sum_by extra_of (take (suc n) states) ≡ sum_by extra_of (take n states)
+    + extra_of (get_or states n Fail) =
+        subst (λ z. sum_by extra_of (take z states) ≡ sum_by extra_of (take n states) + extra_of (get_or states n Fail))
+        one more in
     omega arith
 
 room_is : (states : List State) → 1 + unvisited (extra_at states) [] (length states) ≡ stack_room states
 unfolding stack_room
 room_is states =
-    let all : unvisited (extra_at states) [] (length states) ≡ sum_by extra_of (take (length states) states) = unvisited_take states (length states) (omega arith) in
-    let whole : sum_by extra_of (take (length states) states) ≡ sum_by extra_of states = ap (sum_by extra_of) (take_all (length states) states (omega arith)) in
+    let all : unvisited (extra_at states) [] (length states) ≡ sum_by extra_of (take (length states) states) =
+    unvisited_take states (length states) (omega arith) in
+    let whole : sum_by extra_of (take (length states) states) ≡ sum_by extra_of states =
+    ap (sum_by extra_of) (take_all (length states) states (omega arith)) in
     omega arith
 
 children_few : (state : State) (A : Truth) → length (children_at (node_of state) A) ≤ extra_of state + 1
 children_few (ByteRange lo hi next) A = omega arith
 children_few (Sparse ts) A = omega arith
 children_few (Dense ts) A = omega arith
-children_few (Look look next) A = cond_both (A look) (next ∷ []) [] (λ xs. length xs ≤ 0 + 1) (λ e. omega arith) (λ e. omega arith)
+children_few (Look look next) A =
+    cond_both (A look) (next ∷ []) [] (λ xs. length xs ≤ 0 + 1) (λ e. omega arith) (λ e. omega arith)
 children_few (Union alternates) A = omega arith
 children_few (BinaryUnion alt1 alt2) A = omega arith
 children_few (Capture next pattern index slot) A = omega arith
 children_few Fail A = omega arith
 children_few (Match pattern) A = omega arith
 
-few : (a : Automaton) (A : Truth) (q : ℕ) → q < length a.states → length (children (nfa_of a) A q) ≤ extra_at a.states q + 1
+few :
+    (a : Automaton) (A : Truth) (q : ℕ) → q < length a.states
+    → length (children (nfa_of a) A q) ≤ extra_at a.states q + 1
 few a A q l =
-    subst (λ n. length (children_at n A) ≤ extra_at a.states q + 1) (sym (node_at a.states q (get_or a.states q Fail) Fail l refl))
+    subst (λ n. length (children_at n A) ≤ extra_at a.states q + 1)
+    (sym (node_at a.states q (get_or a.states q Fail) Fail l refl))
     (children_few (get_or a.states q Fail) A)
 
-pub walk_begins : (a : Automaton) (looks : ℕ) (old : List ℕ) (start : ℕ) → start < length a.states → Walking a looks old start old (start ∷ [])
+pub walk_begins :
+    (a : Automaton) (looks : ℕ) (old : List ℕ) (start : ℕ) → start < length a.states
+    → Walking a looks old start old (start ∷ [])
 walk_begins a looks old start l =
     record {
       way = λ roots tail u. u;
       room =
-          (let most : unvisited (extra_at a.states) old (length a.states) ≤ unvisited (extra_at a.states) [] (length a.states) = unvisited_most (extra_at a.states) old (length a.states) in
+          (let most : unvisited (extra_at a.states) old (length a.states)
+          ≤ unvisited (extra_at a.states) [] (length a.states) =
+              unvisited_most (extra_at a.states) old (length a.states) in
           let all : 1 + unvisited (extra_at a.states) [] (length a.states) ≡ stack_room a.states = room_is a.states in
           omega arith);
       below = below;
@@ -99,24 +117,37 @@ walk_skips : (a : Automaton) (looks : ℕ) (old : List ℕ) (start : ℕ) (order
     Walking a looks old start order (q ∷ stack) → Walking a looks old start order stack
 walk_skips a looks old start order stack q had w =
     record {
-      way = λ roots tail u. under_way_skip (nfa_of a) (truth_of looks) roots q (stack ++ tail) order had (w.way roots tail u);
-      room = (let room : suc (length stack) + unvisited (extra_at a.states) order (length a.states) ≤ stack_room a.states = w.room in omega arith);
+      way =
+          λ roots tail u. under_way_skip (nfa_of a) (truth_of looks) roots q (stack ++ tail) order had
+          (w.way roots tail u);
+      room =
+          (let room : suc (length stack) + unvisited (extra_at a.states) order (length a.states)
+          ≤ stack_room a.states = w.room in omega arith);
       below = λ p i. w.below p (inr i);
     }
 
-walk_visits : (a : Automaton) (looks : ℕ) (old : List ℕ) (start : ℕ) (order stack : List ℕ) (q : ℕ) → IsChecked a → (In q order → ⊥) →
-    Walking a looks old start order (q ∷ stack) → Walking a looks old start (order ++ q ∷ []) (children (nfa_of a) (truth_of looks) q ++ stack)
+walk_visits :
+    (a : Automaton) (looks : ℕ) (old : List ℕ) (start : ℕ) (order stack : List ℕ) (q : ℕ) → IsChecked a
+    → (In q order → ⊥) →
+    Walking a looks old start order (q ∷ stack)
+    → Walking a looks old start (order ++ q ∷ []) (children (nfa_of a) (truth_of looks) q ++ stack)
 walk_visits a looks old start order stack q checked new w =
     record {
       way = λ roots tail u.
-          subst (λ s. IsUnderWay (nfa_of a) (truth_of looks) roots s (order ++ q ∷ [])) (sym (append_assoc (children (nfa_of a) (truth_of looks) q) stack tail))
+          subst (λ s. IsUnderWay (nfa_of a) (truth_of looks) roots s (order ++ q ∷ []))
+          (sym (append_assoc (children (nfa_of a) (truth_of looks) q) stack tail))
           (under_way_visit (nfa_of a) (truth_of looks) roots q (stack ++ tail) order new (w.way roots tail u));
       room =
-          (let room : suc (length stack) + unvisited (extra_at a.states) order (length a.states) ≤ stack_room a.states = w.room in
-          let took : unvisited (extra_at a.states) (order ++ q ∷ []) (length a.states) + extra_at a.states q ≡ unvisited (extra_at a.states) order (length a.states) =
+          (let room : suc (length stack) + unvisited (extra_at a.states) order (length a.states)
+          ≤ stack_room a.states = w.room in
+          let took : unvisited (extra_at a.states) (order ++ q ∷ []) (length a.states) + extra_at a.states q
+          ≡ unvisited (extra_at a.states) order (length a.states) =
           unvisited_push (extra_at a.states) order q (length a.states) (w.below q (inl refl)) new in
-          let short : length (children (nfa_of a) (truth_of looks) q) ≤ extra_at a.states q + 1 = few a (truth_of looks) q (w.below q (inl refl)) in
-          let both : length (children (nfa_of a) (truth_of looks) q ++ stack) ≡ length (children (nfa_of a) (truth_of looks) q) + length stack = length-append (children (nfa_of a) (truth_of looks) q) stack in
+          let short : length (children (nfa_of a) (truth_of looks) q) ≤ extra_at a.states q + 1 =
+          few a (truth_of looks) q (w.below q (inl refl)) in
+          let both : length (children (nfa_of a) (truth_of looks) q ++ stack)
+          ≡ length (children (nfa_of a) (truth_of looks) q) + length stack =
+              length-append (children (nfa_of a) (truth_of looks) q) stack in
           omega arith);
       below = λ p i. below p (in_either p (children (nfa_of a) (truth_of looks) q) stack i);
     }
@@ -125,8 +156,10 @@ walk_visits a looks old start order stack q checked new w =
     below p (inl i) = subst (λ z. p < z) (nodes_length a.states) (checked.range.0 q p (truth_of looks) i)
     below p (inr i) = w.below p (inr i)
 
-pub walk_ends : (a : Automaton) (looks : ℕ) (old : List ℕ) (start : ℕ) (order : List ℕ) → Walking a looks old start order [] →
-    (roots tail : List ℕ) → IsUnderWay (nfa_of a) (truth_of looks) roots (start ∷ tail) old → IsUnderWay (nfa_of a) (truth_of looks) roots tail order
+pub walk_ends :
+    (a : Automaton) (looks : ℕ) (old : List ℕ) (start : ℕ) (order : List ℕ) → Walking a looks old start order [] →
+    (roots tail : List ℕ) → IsUnderWay (nfa_of a) (truth_of looks) roots (start ∷ tail) old
+    → IsUnderWay (nfa_of a) (truth_of looks) roots tail order
 walk_ends a looks old start order w roots tail u = w.way roots tail u
 
 work_skips : (a : Automaton) (order stack : List ℕ) (q : ℕ) → work a order stack < work a order (q ∷ stack)
@@ -137,26 +170,36 @@ work_visits : (a : Automaton) (looks : ℕ) (order stack : List ℕ) (q : ℕ) �
     work a (order ++ q ∷ []) (children (nfa_of a) (truth_of looks) q ++ stack) < work a order (q ∷ stack)
 unfolding work
 work_visits a looks order stack q l new =
-    let took : unvisited (λ p. suc (extra_at a.states p)) (order ++ q ∷ []) (length a.states) + suc (extra_at a.states q) ≡ unvisited (λ p. suc (extra_at a.states p)) order (length a.states) =
+    let took : unvisited (λ p. suc (extra_at a.states p)) (order ++ q ∷ []) (length a.states)
+    + suc (extra_at a.states q) ≡ unvisited (λ p. suc (extra_at a.states p)) order (length a.states) =
     unvisited_push (λ p. suc (extra_at a.states p)) order q (length a.states) l new in
-    let short : length (children (nfa_of a) (truth_of looks) q) ≤ extra_at a.states q + 1 = few a (truth_of looks) q l in
-    let both : length (children (nfa_of a) (truth_of looks) q ++ stack) ≡ length (children (nfa_of a) (truth_of looks) q) + length stack = length-append (children (nfa_of a) (truth_of looks) q) stack in
+    let short : length (children (nfa_of a) (truth_of looks) q) ≤ extra_at a.states q + 1 =
+    few a (truth_of looks) q l in
+    let both : length (children (nfa_of a) (truth_of looks) q ++ stack)
+    ≡ length (children (nfa_of a) (truth_of looks) q) + length stack =
+        length-append (children (nfa_of a) (truth_of looks) q) stack in
     omega arith
 
 pub pushed_top : (xs ys : List ℕ) (x : ℕ) → xs ≡ ys ++ x ∷ [] → reverse xs ≡ x ∷ reverse ys
 pushed_top xs ys x e = ap reverse e ∙ reverse-append ys (x ∷ [])
 
-pub read_children : (a : Automaton) (A : Truth) (q : ℕ) (state : State) → q < length a.states → state ≡ get_or a.states q state → children_at (node_of state) A ≡ children (nfa_of a) A q
+pub read_children :
+    (a : Automaton) (A : Truth) (q : ℕ) (state : State) → q < length a.states → state ≡ get_or a.states q state
+    → children_at (node_of state) A ≡ children (nfa_of a) A q
 read_children a A q state l is = sym (ap (λ n. children_at n A) (node_at a.states q state state l is))
 
 -- a state that is new: what stands on the stack then is its children, over what stood there
-pub new_step : (a : Automaton) (looks : ℕ) (old : List ℕ) (start : ℕ) (order order' stack stack' : List ℕ) (q : ℕ) (state : State) →
-    IsChecked a → state ≡ get_or a.states q state → (In q order → ⊥) → order' ≡ order ++ q ∷ [] → stack' ≡ children_at (node_of state) (truth_of looks) ++ stack →
+pub new_step :
+    (a : Automaton) (looks : ℕ) (old : List ℕ) (start : ℕ) (order order' stack stack' : List ℕ) (q : ℕ) (state : State)
+    →
+    IsChecked a → state ≡ get_or a.states q state → (In q order → ⊥) → order' ≡ order ++ q ∷ []
+    → stack' ≡ children_at (node_of state) (truth_of looks) ++ stack →
     Walking a looks old start order (q ∷ stack) →
     Walking a looks old start order' stack' × (work a order' stack' < work a order (q ∷ stack))
 new_step a looks old start order order' stack stack' q state checked is new grown put w =
     let below : q < length a.states = w.below q (inl refl) in
-    let put' : stack' ≡ children (nfa_of a) (truth_of looks) q ++ stack = put ∙ ap (λ z. z ++ stack) (read_children a (truth_of looks) q state below is) in
+    let put' : stack' ≡ children (nfa_of a) (truth_of looks) q ++ stack =
+    put ∙ ap (λ z. z ++ stack) (read_children a (truth_of looks) q state below is) in
     let P : List ℕ → List ℕ → Type 0 = λ o s. Walking a looks old start o s × (work a o s < work a order (q ∷ stack)) in
     subst (λ o. P o stack') (sym grown) (subst (P (order ++ q ∷ [])) (sym put')
     (walk_visits a looks old start order stack q checked new w, work_visits a looks order stack q below new))
@@ -171,23 +214,32 @@ old_step a looks old start order order' stack q had same w =
 
 -- a state without epsilon edges: the set has it, and nothing is left
 pub leaf_step : (a : Automaton) (looks : ℕ) (old : List ℕ) (start : ℕ) (after : List ℕ) (state : State) (added : Bool) →
-    IsChecked a → state ≡ get_or a.states start state → children_at (node_of state) (truth_of looks) ≡ [] → start < length a.states →
+    IsChecked a → state ≡ get_or a.states start state → children_at (node_of state) (truth_of looks) ≡ []
+    → start < length a.states →
     (added ≡ true → In start old → ⊥) → (added ≡ true → after ≡ old ++ start ∷ []) →
     (added ≡ false → In start old) → (added ≡ false → after ≡ old) → Walking a looks old start after []
 leaf_step a looks old start after state true checked is leaf below new grown had same =
-    (new_step a looks old start old after [] [] start state checked is (new refl) (grown refl) (ap (λ z. z ++ []) (sym leaf)) (walk_begins a looks old start below)).0
+    (new_step a looks old start old after [] [] start state checked is (new refl) (grown refl)
+    (ap (λ z. z ++ []) (sym leaf)) (walk_begins a looks old start below)).0
 leaf_step a looks old start after state false checked is leaf below new grown had same =
     (old_step a looks old start old after [] start (had refl) (same refl) (walk_begins a looks old start below)).0
 
 -- the children of a new state find room
-pub step_room : (a : Automaton) (looks : ℕ) (old : List ℕ) (start : ℕ) (order items : List ℕ) (q : ℕ) (state : State) → state ≡ get_or a.states q state → (In q order → ⊥) →
-    Walking a looks old start order (q ∷ reverse items) → length items + length (children_at (node_of state) (truth_of looks)) ≤ stack_room a.states
+pub step_room :
+    (a : Automaton) (looks : ℕ) (old : List ℕ) (start : ℕ) (order items : List ℕ) (q : ℕ) (state : State)
+    → state ≡ get_or a.states q state → (In q order → ⊥) →
+    Walking a looks old start order (q ∷ reverse items)
+    → length items + length (children_at (node_of state) (truth_of looks)) ≤ stack_room a.states
 step_room a looks old start order items q state is new w =
     let below : q < length a.states = w.below q (inl refl) in
-    let room : suc (length (reverse items)) + unvisited (extra_at a.states) order (length a.states) ≤ stack_room a.states = w.room in
-    let took : unvisited (extra_at a.states) (order ++ q ∷ []) (length a.states) + extra_at a.states q ≡ unvisited (extra_at a.states) order (length a.states) =
+    let room : suc (length (reverse items)) + unvisited (extra_at a.states) order (length a.states)
+    ≤ stack_room a.states = w.room in
+    let took : unvisited (extra_at a.states) (order ++ q ∷ []) (length a.states) + extra_at a.states q
+    ≡ unvisited (extra_at a.states) order (length a.states) =
     unvisited_push (extra_at a.states) order q (length a.states) below new in
-    let short : length (children (nfa_of a) (truth_of looks) q) ≤ extra_at a.states q + 1 = few a (truth_of looks) q below in
-    let same : length (children_at (node_of state) (truth_of looks)) ≡ length (children (nfa_of a) (truth_of looks) q) = ap length (read_children a (truth_of looks) q state below is) in
+    let short : length (children (nfa_of a) (truth_of looks) q) ≤ extra_at a.states q + 1 =
+    few a (truth_of looks) q below in
+    let same : length (children_at (node_of state) (truth_of looks)) ≡ length (children (nfa_of a) (truth_of looks) q) =
+    ap length (read_children a (truth_of looks) q state below is) in
     let turned : length (reverse items) ≡ length items = length-reverse items in
     omega arith

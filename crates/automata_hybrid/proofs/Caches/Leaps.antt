@@ -19,7 +19,7 @@ use Rattle.automata_hybrid.specs.Cache.Clears.{AllStarts, IsSlot, LeadsToStart}
 use Rattle.automata_base.proofs.Paths.Orders.{some_inj}
 use Rattle.automata_hybrid.specs.Cache.Table.{RowsFitCells, Rows, cell_at, row_cost}
 use Rattle.automata_hybrid.specs.Private.Cache.Table.{with_cell}
-use Rattle.automata_hybrid.specs.Cache.Usage.{usage}
+use Rattle.automata_hybrid.specs.Private.Cache.Usage.{usage_in_store}
 use Rattle.automata_hybrid.specs.Private.Cache.Usage.{IsCache}
 use Rattle.automata_hybrid.specs.declared.cache.settings.Settings.{Settings}
 use Rattle.automata_hybrid.specs.Machines.Machine.{Machine}
@@ -220,19 +220,19 @@ parts_none c nfa same = record { scratch = same; leaps = _; within = _ }
 
 pub parts_kept :
     (c new : Stored) (nfa : Automaton) (held : Option (Box Leaps)) → new.table.of ≡ c.table.of
-    → ((l : Leaps) → AreLeaps c.table l → AreLeaps new.table l) → usage new ≡ usage c
+    → ((l : Leaps) → AreLeaps c.table l → AreLeaps new.table l) → usage_in_store new ≡ usage_in_store c
     → AreCacheParts c nfa held → AreCacheParts new nfa held
 parts_kept c new nfa None of stay same parts = record { scratch = parts.scratch ∙ ap (λ (m : Machine). m.nfa) (sym of); leaps = _; within = _ }
 parts_kept c new nfa (Some l) of stay same parts = record {
   scratch = parts.scratch ∙ ap (λ (m : Machine). m.nfa) (sym of);
   leaps = stay l.value parts.leaps;
   within =
-      subst (λ (m : Machine). usage new + leaps_bytes (length l.value.cells.items) ≤ m.capacity) (sym of)
+      subst (λ (m : Machine). usage_in_store new + leaps_bytes (length l.value.cells.items) ≤ m.capacity) (sym of)
       (subst (λ k. k + leaps_bytes (length l.value.cells.items) ≤ c.table.of.capacity) (sym same) parts.within);
 }
 
 -- a transition takes no room
-used_next : (c : Stored) (id class next : ℕ) → usage (with_next c id class next) ≡ usage c
+used_next : (c : Stored) (id class next : ℕ) → usage_in_store (with_next c id class next) ≡ usage_in_store c
 used_next c id class next =
     ap (λ k. cell_size * k + cell_size * length c.starts + row_size * (length c.table.rows + 3)
     + entry_size * (length c.table.rows + 1) + fixed_rows_cost + sum_by row_cost c.table.rows + c.table.of.fixed)

@@ -18,7 +18,7 @@ use Rattle.automata_hybrid.specs.Cache.Clears.{AllStarts}
 use Rattle.automata_hybrid.specs.Cache.Stores.{Stored, fresh_store}
 use Rattle.automata_hybrid.specs.Private.Cache.Stores.{with_table}
 use Rattle.automata_hybrid.specs.Private.Cache.Stores.{cache_settings}
-use Rattle.automata_hybrid.specs.Cache.Usage.{usage}
+use Rattle.automata_hybrid.specs.Private.Cache.Usage.{usage_in_store}
 use Rattle.automata_hybrid.specs.Private.Cache.Usage.{Fits}
 use Rattle.automata_hybrid.specs.Private.Cache.Usage.{IsCache}
 
@@ -66,10 +66,10 @@ IsCache-grown c settings t r i wide named e fits =
     let cells : length (c.table.cells ++ c.table.of.template) ≡ length c.table.cells + c.table.of.stride = length-append c.table.cells c.table.of.template ∙ ap (λ n. length c.table.cells + n) wide in
     let rows : length (c.table.rows ++ r ∷ []) ≡ length c.table.rows + 1 = length-append c.table.rows (r ∷ []) in
     let costs : sum_by row_cost (c.table.rows ++ r ∷ []) ≡ sum_by row_cost c.table.rows + cost r.state = sum_by_push row_cost c.table.rows r in
-    let used : usage (with_table c (with_row c.table r)) ≤ c.table.of.capacity = omega (arith, cells, rows, costs, fits.0) in
+    let used : usage_in_store (with_table c (with_row c.table r)) ≤ c.table.of.capacity = omega (arith, cells, rows, costs, fits.0) in
     record {
       named = named;
-      within = subst (λ (u : Rows). usage (with_table c u) ≤ u.of.capacity) (sym e) used;
+      within = subst (λ (u : Rows). usage_in_store (with_table c u) ≤ u.of.capacity) (sym e) used;
       enough = rw e i.enough;
       offsets = rw e i.offsets;
       slots = rw e i.slots;

@@ -14,7 +14,7 @@ use Rattle.automata_config.specs.Options.{match_kind_of}
 use Rattle.automata_hybrid.specs.Cache.Table.{row_cost}
 use Rattle.automata_hybrid.specs.Calls.Events.{Event, Start, Step}
 use Rattle.automata_hybrid.specs.Cache.Caches.{CacheView, IsStoreOf}
-use Rattle.automata_hybrid.specs.Known.Bounds.{CachesAreKnown, IsKnown}
+use Rattle.automata_hybrid.specs.Known.Bounds.{IsKnown}
 use Rattle.automata_hybrid.specs.Known.Events.{usage}
 use Rattle.automata_hybrid.specs.Known.Known.{Known, counted, keep_row, keep_start, row_in, rows_of_starts, with_row}
 use Rattle.automata_hybrid.proofs.Calls.Events.{asked_state}
@@ -154,8 +154,8 @@ stored_known c s = record {
   clears = s.clears;
 }
 
-pub caches_are_known : (m : Machine) → CachesAreKnown m
-caches_are_known m c s =
+pub cache_is_known : (m : Machine) (c : CacheView) → IsStoreOf c.store m → IsKnown m (known_of c)
+cache_is_known m c s =
     subst (λ (d : Machine). IsStoreOf c.store d → IsKnown d (known_of c)) s.of (stored_known c) s
 
 -- the costs of a DFA are within its settings

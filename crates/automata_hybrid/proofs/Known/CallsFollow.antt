@@ -1,7 +1,7 @@
 -- What follows of a call of a walk, by what a cache knows.
 use Rattle.std.proofs.Common.{ℕ, zero, suc, ◌≡◌, ◌∙◌, ◌+◌, ◌-◌, ◌<◌, ◌≤◌, ◌⊎◌, inl, inr, List, [], ◌∷◌, ◌++◌, length}
 use Rattle.std.proofs.Common.{Bool, true, false, cond, Option, None, Some, refl, sym, ap, subst, arith}
-use Rattle.std.specs.Prelude.{is_some, option_and_then, option_map}
+use Rattle.std.specs.Prelude.{is_some, option_and_then}
 use Rattle.std.proofs.lemmas.Bool.{cases_lt}
 use Rattle.automata_base.proofs.Paths.Orders.{none_some, some_none}
 use Rattle.automata_base.specs.Answers.Answers.{offset_in}
@@ -26,7 +26,7 @@ use Rattle.automata_hybrid.specs.Known.Walks.{EndsCall, FailsAfterIt, FailsAtIt,
 use Rattle.automata_hybrid.specs.Known.Walks.{GivesUpOnIt}
 use Rattle.automata_hybrid.specs.Known.Walks.{IsCallLeftAt, IsNotBack, IsNotResumed, LeavesCall, MayGoOn, ReadsNone}
 use Rattle.automata_hybrid.specs.Known.Walks.{ReadsNoQuit}
-use Rattle.automata_hybrid.specs.Known.Walks.{ReadsSome, RunsOutOnIt, after_resume, after_walked, has_its_row}
+use Rattle.automata_hybrid.specs.Known.Walks.{ReadsSome, RunsOutOnIt, after_going_on, after_resume, has_its_row}
 use Rattle.automata_hybrid.specs.Known.Walks.{with_row_back}
 use Rattle.automata_hybrid.specs.Known.WalksFollow.{CallFollows, CallsFollow, KnowsItsState, KnowsUnits, KnowsWalk}
 use Rattle.automata_hybrid.specs.Machines.Machine.{Machine, quits_on}
@@ -47,8 +47,8 @@ use Rattle.automata_hybrid.proofs.Known.Growth.{clears_none, grown_after, grown_
 use Rattle.automata_hybrid.proofs.Known.Growth.{grown_still, grown_trans}
 use Rattle.automata_hybrid.proofs.Known.Growth.{nothing_after, nothing_first, nothing_second}
 use Rattle.automata_hybrid.proofs.Known.Makes.{back_follows, back_there, event_once, events_follow, mapped}
-use Rattle.automata_hybrid.proofs.Known.PassesFollow.{Leaves, UnitsFollow, event_idle, event_still, then_some}
-use Rattle.automata_hybrid.proofs.Known.PassesFollow.{unit_leaves, units_follow}
+use Rattle.automata_hybrid.proofs.Known.PassesFollow.{Leaves, UnitsFollow, event_idle, event_still, unit_leaves}
+use Rattle.automata_hybrid.proofs.Known.PassesFollow.{units_follow}
 use Rattle.automata_hybrid.proofs.Searches.Follows.{tape_few}
 use Rattle.automata_hybrid.proofs.Searches.PassState.{false_true}
 use Rattle.automata_hybrid.proofs.Steps.Steps.{no_quit_unit}
@@ -100,31 +100,6 @@ call_clears_none m old new (At q) n whole there few room =
     clears_none m old (counted new) (n + 1) whole (omega (arith, few)) room
 call_clears_none m old new Ended n whole there few room =
     clears_none m old new (n + 1) (there refl) (omega (arith, few)) room
-
--- the cache with the state that a walk goes on from, and then units that are read
-record Went (way : Direction) (m : Machine) (input : Input) (s : Stage) (from units : ℕ)
-    (old new : Known) : Type 0 where
-  pub base : Known
-  pub resumed : after_resume way m input s old ≡ Some base
-  pub run :
-      after_many (pass_trace way m input) way m input from units (begun (given_up_offset way input from) base)
-      ≡ Some new
-
-went :
-    (way : Direction) (m : Machine) (input : Input) (s : Stage) (from units : ℕ) (old new : Known)
-    → after_walked way m input s from units old ≡ Some new → Went way m input s from units old new
-went way m input s from units old new is =
-    let parts =
-    then_some (after_many (pass_trace way m input) way m input from units)
-    (option_map (begun (given_up_offset way input from)) (after_resume way m input s old)) new is in
-    let first = mapped (begun (given_up_offset way input from)) (after_resume way m input s old) parts.0 parts.1 in
-    record {
-      base = first.0;
-      resumed = first.1;
-      run =
-          subst (λ (c : Known). after_many (pass_trace way m input) way m input from units c
-          ≡ Some new) first.2 parts.2;
-    }
 
 -- one unit more
 units_more :
@@ -190,6 +165,32 @@ module _ (way : Direction) (m : Machine) (input : Input) (bounds : HasBounds m) 
         learned = b.has at.row.alive;
       }
   has_resumed old base sound Ended at may is = absurd (none_some is)
+
+  -- a call has begun, from what it goes on from
+  record Began (old first : Known) : Type 0 where
+    pub base : Known
+    pub has : Resumed way m input w.stage old base
+    pub begins : first ≡ begun (given_up_offset way input w.units) base
+
+  began :
+      (old first : Known) → IsKnown m old → MayGoOn way m input w.stage
+      → after_going_on way m input w.stage w.units old ≡ Some first → Began old first
+  began old first sound may goes_on =
+      let parts =
+      mapped (begun (given_up_offset way input w.units)) (after_resume way m input w.stage old) first goes_on in
+      record {
+        base = parts.0;
+        has = has_resumed old parts.0 sound w.stage reported may parts.1;
+        begins = parts.2;
+      }
+
+  from_base :
+      (old first : Known) (b : Began old first) (n : ℕ) (mid : Known)
+      → after_many (pass_trace way m input) way m input w.units n first ≡ Some mid
+      → after_many (pass_trace way m input) way m input w.units n (begun (given_up_offset way input w.units) b.base)
+      ≡ Some mid
+  from_base old first b n mid run =
+      subst (λ (c : Known). after_many (pass_trace way m input) way m input w.units n c ≡ Some mid) b.begins run
 
   not_resumed :
       (old new : Known) (e : SearchError) → IsKnown m old → (s : Stage)
@@ -503,37 +504,36 @@ module _ (way : Direction) (m : Machine) (input : Input) (bounds : HasBounds m) 
   call_read next old new sound (ReadsSome over c) = record {
     few = within c.units refl;
     learned = λ there nothing j more less. (
-        let first = nothing_second m old way_there.base new (r.there there) rest nothing in
+        let first = nothing_second m old b.base new (b.has.there there) rest nothing in
         subst (λ (v : Known). KnowsUnit way m v input j) (sym parts.2)
         (g.learned (nothing_first m
-        (begun (given_up_offset way input w.units) way_there.base) parts.0 new g.grown last first) j more
+        (begun (given_up_offset way input w.units) b.base) parts.0 new g.grown last first) j more
         (omega (arith, less, c.counted))));
   } where
+    b : Began old c.begun
+    b = began old c.begun sound c.may c.goes_on
+
     parts :
-        (mid : Known) × (after_walked way m input w.stage w.units c.units old ≡ Some mid)
+        (mid : Known) × (after_many (pass_trace way m input) way m input w.units c.units c.begun ≡ Some mid)
         × (new ≡ ended (given_up_offset way input (w.units + (c.units - 1))) mid)
     parts =
         mapped (ended (given_up_offset way input (w.units + (c.units - 1))))
-        (after_walked way m input w.stage w.units c.units old) new c.run
-
-    way_there : Went way m input w.stage w.units c.units old parts.0
-    way_there = went way m input w.stage w.units c.units old parts.0 parts.1
-
-    r : Resumed way m input w.stage old way_there.base
-    r = has_resumed old way_there.base sound w.stage reported c.may way_there.resumed
+        (after_many (pass_trace way m input) way m input w.units c.units c.begun) new c.run
 
     g :
         UnitsFollow (pass_trace way m input) way m input w.units c.units
-        (begun (given_up_offset way input w.units) way_there.base) parts.0
-    g = goes old way_there.base r (to_read way m input skips w k reported c.some) c.units parts.0 way_there.run
+        (begun (given_up_offset way input w.units) b.base) parts.0
+    g =
+        goes old b.base b.has (to_read way m input skips w k reported c.some) c.units parts.0
+        (from_base old c.begun b c.units parts.0 parts.1)
 
     last : IsGrown m parts.0 new
     last = grown_still m parts.0 new (subst (λ (v : Known). IsStill parts.0 v) (sym parts.2) refl)
 
-    rest : IsGrown m way_there.base new
+    rest : IsGrown m b.base new
     rest =
-        grown_trans m way_there.base parts.0 new
-        (grows old way_there.base r (to_read way m input skips w k reported c.some) parts.0 g.grown) last
+        grown_trans m b.base parts.0 new
+        (grows old b.base b.has (to_read way m input skips w k reported c.some) parts.0 g.grown) last
 
     within : (i : ℕ) → i ≡ c.units → w.units ≤ input.end - input.start + 1 → next.units ≤ input.end - input.start + 1
     within zero is l = omega (arith, is, c.counted, l)
@@ -563,13 +563,12 @@ module _ (way : Direction) (m : Machine) (input : Input) (bounds : HasBounds m) 
         ready = λ _. still;
       }
   call_ended keeping next old new sound reports (ReadsSome over c) =
+      let b = began old c.begun sound c.may c.goes_on in
       let parts =
       mapped (ended (given_up_offset way input (w.units + (c.units - 1))))
-      (after_walked way m input w.stage w.units c.units old) new c.run in
-      let way_there = went way m input w.stage w.units c.units old parts.0 parts.1 in
-      call_reads old way_there.base (has_resumed old way_there.base sound w.stage reported c.may way_there.resumed)
-      (to_read way m input skips w k reported c.some) keeping next new parts.0 c.units reports c.counted c.its c.clean
-      way_there.run parts.2
+      (after_many (pass_trace way m input) way m input w.units c.units c.begun) new c.run in
+      call_reads old b.base b.has (to_read way m input skips w k reported c.some) keeping next new parts.0 c.units
+      reports c.counted c.its c.clean (from_base old c.begun b c.units parts.0 parts.1) parts.2
 
   -- a call that failed
   pub call_left :
@@ -597,26 +596,26 @@ module _ (way : Direction) (m : Machine) (input : Input) (bounds : HasBounds m) 
             (u.grown.idle x.0, IsInputError x.1));
         ready = λ none. absurd (reads none);
       }
-  call_left keeping next old new e sound (FailsOnItsWay reads s) = go keeping s.left where
+  call_left keeping next old new e sound (FailsOnItsWay reads may first goes_on s) = go keeping s.left where
     r : IsToRead input w.stage w.units w.reported
     r = to_read way m input skips w k reported reads
 
-    way_there : Went way m input w.stage w.units s.units old s.mid
-    way_there = went way m input w.stage w.units s.units old s.mid s.run
+    b : Began old first
+    b = began old first sound may goes_on
 
-    has : Resumed way m input w.stage old way_there.base
-    has = has_resumed old way_there.base sound w.stage reported s.may way_there.resumed
+    run :
+        after_many (pass_trace way m input) way m input w.units s.units (begun (given_up_offset way input w.units) b.base)
+        ≡ Some s.mid
+    run = from_base old first b s.units s.mid s.run
 
     go :
         (keeping : Keeping) → IsCallLeftAt keeping way m input (w.units + s.units) s.mid new e
         → CallFollows keeping way m input w next old new (Some e)
     go keeping (FailsAtIt fails) =
-        call_stops old way_there.base has r keeping next new s.mid e s.units s.reads s.clean s.silent way_there.run
-        fails
+        call_stops old b.base b.has r keeping next new s.mid e s.units s.reads s.clean s.silent run fails
     go Ids (FailsAfterIt kept unheld read) = absurd (let is : Ids ≡ States = kept in cc)
     go States (FailsAfterIt kept unheld read) =
-        call_unheld old way_there.base has r States next new s.mid e s.units s.reads s.clean s.silent way_there.run
-        unheld read
+        call_unheld old b.base b.has r States next new s.mid e s.units s.reads s.clean s.silent run unheld read
         (IsHoldError refl (w.units + s.units) (omega arith) unheld)
 
 -- each call

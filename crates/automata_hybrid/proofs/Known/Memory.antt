@@ -23,7 +23,7 @@ use Rattle.automata_hybrid.specs.Known.Passes.{QuitsBehind, SearchFails, CannotS
 use Rattle.automata_hybrid.specs.Machines.Machine.{Machine, unit_class}
 use Rattle.automata_hybrid.specs.Machines.StartSlots.{slot_behind, supports}
 use Rattle.automata_hybrid.specs.Searches.Contracts.{IsMemory, IsUnhindered}
-use Rattle.automata_hybrid.specs.Searches.Passes.{Reads, given_up_offset, tape_in}
+use Rattle.automata_hybrid.specs.Searches.Passes.{given_up_offset, tape_in}
 use Rattle.automata_hybrid.specs.Searches.Progress.{start_event, unit_event}
 use Rattle.automata_hybrid.specs.Searches.Traces.{pass_trace}
 use Rattle.automata_hybrid.specs.declared.cache.row.Row.{Row}
@@ -92,23 +92,23 @@ event_memory m e at old new error free fails = go fails.why where
 module _ (way : Direction) (m : Machine) (input : Input) (undone : input.start ≤ input.end)
     (few : input.end ≤ length input.haystack) (clean : (byte : ℕ) → InReach input byte → is_quit m.quits byte ≡ false)
     (mode : supports m input.anchored ≡ true) (free : minimum_cache_clear_count_of m.config ≡ None) where
-  unit_memory :
-      (place : ℕ) (mid new : Known) (error : SearchError) → Reads way m input place
+  pub unit_memory :
+      (place : ℕ) (mid new : Known) (error : SearchError) → place ≤ length (tape_in way input).bytes
       → UnitFails way m input place mid new error → IsMemory error
-  unit_memory place mid new error reads (MeetsQuit byte unit quits is same) =
-      absurd (false_true (sym (clean byte (unit_reach way input place byte undone few reads.0 unit)) ∙ quits))
-  unit_memory place mid new error reads (CannotStep steps fails) =
+  unit_memory place mid new error within (MeetsQuit byte unit quits is same) =
+      absurd (false_true (sym (clean byte (unit_reach way input place byte undone few within unit)) ∙ quits))
+  unit_memory place mid new error within (CannotStep steps fails) =
       event_memory m (unit_event (pass_trace way m input) way input place) (given_up_offset way input place)
       (moved (given_up_offset way input place) mid) new error free fails
 
-  pass_memory : (old new : Known) (error : SearchError) → PassFails way m input old new error → IsMemory error
+  pub pass_memory : (old new : Known) (error : SearchError) → PassFails way m input old new error → IsMemory error
   pass_memory old new error (QuitsBehind byte quits is same) =
       let b = is_behind m (tape_in way input).before byte quits in
       absurd (false_true (sym (clean byte (behind_reach way input byte undone b.0)) ∙ b.1))
   pass_memory old new error (LacksMode clear lacks is same) = absurd (false_true (sym lacks ∙ mode))
   pass_memory old new error (CannotStart may fails) =
       event_memory m (start_event way input) (offset_in way input 0) old new error free fails
-  pass_memory old new error (FailsLater may first starts f) = unit_memory f.place f.mid new error f.reads f.fails
+  pass_memory old new error (FailsLater may first starts f) = unit_memory f.place f.mid new error f.reads.0 f.fails
 
 -- a search that nothing else can prevent
 pub search_memory :

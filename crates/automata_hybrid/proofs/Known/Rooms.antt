@@ -14,7 +14,8 @@ use Rattle.automata_hybrid.specs.Cache.Ids.{offset_limit}
 use Rattle.automata_hybrid.specs.Cache.Stores.{Stored}
 use Rattle.automata_hybrid.specs.Cache.Table.{Leads, id_of, row_cost}
 use Rattle.automata_hybrid.specs.Private.Cache.Table.{Lacks}
-use Rattle.automata_hybrid.specs.Cache.Usage.{row_usage, usage}
+use Rattle.automata_hybrid.specs.Cache.Usage.{row_usage}
+use Rattle.automata_hybrid.specs.Private.Cache.Usage.{usage_in_store}
 use Rattle.automata_hybrid.specs.Private.Cache.Usage.{Fits, refuses_at, refuses_to_clear}
 use Rattle.automata_hybrid.specs.Known.Events as known
 use Rattle.automata_hybrid.specs.Known.Known.{Known, has_state, row_in}
@@ -26,7 +27,8 @@ abbrev pub known_with : Stored → ℕ → Known
 known_with c n = known_of (record { store = c; count = n })
 
 -- the accounted bytes
-usage_is : (c : Stored) (n : ℕ) → IsStoreOf c c.table.of → known.usage c.table.of (known_with c n) ≡ usage c
+pub usage_is :
+    (c : Stored) (n : ℕ) → IsStoreOf c c.table.of → known.usage c.table.of (known_with c n) ≡ usage_in_store c
 usage_is c n s =
     ap
     (λ k. cell_size * k + cell_size * c.table.of.slots + row_size * (length c.table.rows + 3)

@@ -14,7 +14,7 @@ use Rattle.automata_hybrid.specs.Known.Bounds.{IsKnown}
 use Rattle.automata_hybrid.specs.Known.Cached.{KnowsItsStart, KnowsUnit}
 use Rattle.automata_hybrid.specs.Known.Growth.{ClearedNothing, IsGrown}
 use Rattle.automata_hybrid.specs.Known.Known.{Known}
-use Rattle.automata_hybrid.specs.Known.Walks.{EndsCall, FailsOnItsWay, FailsToGoOn, HaveCalled, LeavesCall, LeavesSet}
+use Rattle.automata_hybrid.specs.Known.Walks.{EndsCall, HaveCalled, LeavesSet}
 use Rattle.automata_hybrid.specs.Known.Walks.{NoCall, OneMore, ReadsNone, ReadsSome, has_its_row}
 use Rattle.automata_hybrid.specs.Known.WalksFollow.{CallFollows, KnowsItsState, KnowsWalk, KnowsWhich, SetFollows}
 use Rattle.automata_hybrid.specs.Known.WalksFollow.{SetsFollow}
@@ -38,7 +38,7 @@ use Rattle.automata_hybrid.proofs.Searches.Follows.{tape_few}
 use Rattle.automata_hybrid.proofs.Walks.CachedSets.{closed_stops, half_none}
 use Rattle.automata_hybrid.proofs.Walks.Calls.{ended_at, fresh_at, place_pair}
 use Rattle.automata_hybrid.proofs.Walks.Follows.{at_state}
-use Rattle.automata_hybrid.proofs.Walks.Progress.{of_input, walk_reads_before}
+use Rattle.automata_hybrid.proofs.Walks.Progress.{left_reads, of_input, walk_reads_before}
 use Rattle.automata_hybrid.proofs.Walks.Reports.{Begins, walked_begin}
 use Rattle.automata_hybrid.proofs.Walks.Sets.{reported_one, take_front}
 
@@ -128,13 +128,6 @@ begun_state m input Fresh old mid grown holds begins =
     grown.starts input.anchored (tape_in Forward input).before begins
 begun_state m input (At q) old mid grown holds begins = holds
 begun_state m input Ended old mid grown holds begins = tt
-
--- a call that fails is to read units
-left_reads :
-    (m : Machine) (input : Input) (w : Walk) (old new : Known) (e : SearchError)
-    → LeavesCall Ids Forward m input w old new e → ReadsNoUnit input w → ⊥
-left_reads m input w old new e (FailsToGoOn reads fails) = reads
-left_reads m input w old new e (FailsOnItsWay reads s) = reads
 
 module _ (m : Machine) (bounds : HasBounds m) (skips : Skips m ⊎ (Skips m → ⊥)) (input : Input) (set : List Bool)
     (list : (pairs : List Pair) × AreWalked Forward m input pairs) (old : Known) (sound : IsKnown m old) where
@@ -330,7 +323,7 @@ module _ (m : Machine) (bounds : HasBounds m) (skips : Skips m ⊎ (Skips m → 
         let here = c.known (which_walk m s.mid input s.walk set s.calls made.reported s.still_open list s.there
         (which_idle m input set old s.mid made.grown count knows)) in
         (grown.idle (ap (λ (v : Known). v.count) here.0 ∙ count), of_input Forward m input s.walk e here.1));
-    done = λ past. absurd (left_reads m input s.walk s.mid new e s.left (HasNoneLeft (omega (arith, past))));
+    done = λ past. absurd (left_reads Ids Forward m input s.walk s.mid new e s.left (HasNoneLeft (omega (arith, past))));
   } where
     made : CallsMade s.calls s.walk s.mid
     made = calls_made s.calls s.walk s.mid s.called

@@ -1,29 +1,33 @@
--- What the calls of a walk make of their cache and of the progress.
-use Rattle.std.proofs.Common.{ℕ, suc, ◌≡◌, ◌+◌, ◌≤◌, length, inl, inr, refl, sym, subst, arith}
-use Rattle.automata_base.specs.Answers.Answers.{AreUnsplit, KeepsSplit, SkipsSplit, with_offsets, without_split}
+-- What the calls of a walk make of what its cache knows, unit by unit.
+use Rattle.std.proofs.Common.{ℕ, suc, ◌≡◌, ◌+◌, ◌≤◌, length, refl, sym, subst, arith}
+use Rattle.automata_base.specs.Answers.Answers.{AreUnsplit, IsInput, KeepsSplit, SkipsSplit, with_offsets}
+use Rattle.automata_base.specs.Answers.Answers.{without_split}
 use Rattle.automata_base.specs.Haystacks.Input.{Input}
 use Rattle.automata_base.specs.declared.util.search.Direction.{Direction}
 use Rattle.automata_config.specs.declared.error.SearchError.{SearchError}
-use Rattle.automata_hybrid.specs.Cache.Caches.{CacheView}
-use Rattle.automata_hybrid.specs.Walks.Cached.{IsToRead}
+use Rattle.automata_hybrid.specs.declared.search.walk.advance.Arrival.{Arrival}
+use Rattle.automata_hybrid.specs.Cache.Caches.{CacheView, IsStoreOf}
+use Rattle.automata_hybrid.specs.Known.Known.{Known}
+use Rattle.automata_hybrid.specs.Known.Passes.{UnitFails}
+use Rattle.automata_hybrid.specs.Known.Stores.{known_of}
+use Rattle.automata_hybrid.specs.Known.Walks.{FailsAfterIt, FailsAtIt, FailsOnItsWay, FailsToGoOn, IsCallLeftAt}
+use Rattle.automata_hybrid.specs.Known.Walks.{IsCallStopped, LeavesCall}
 use Rattle.automata_hybrid.specs.Machines.Machine.{Machine}
+use Rattle.automata_hybrid.specs.Private.Machines.Machine.{IsMachine}
+use Rattle.automata_hybrid.specs.Private.Searches.PassState.{IsFollowed}
 use Rattle.automata_hybrid.specs.Private.Walks.Answers.{IsArrival}
 use Rattle.automata_hybrid.specs.Private.Walks.Parts.{HasAdvanced}
-use Rattle.automata_hybrid.specs.declared.search.walk.advance.Arrival.{Arrival}
-use Rattle.automata_hybrid.specs.Private.Searches.Progress.{IsLeftAt}
-use Rattle.automata_hybrid.specs.Walks.Progress.{HasEnded, HasMore}
-use Rattle.automata_hybrid.specs.Private.Walks.Progress.{FailsAfterUnit, FailsAtUnitInStore, FailsOnItsWayInStore, FailsToGoOnInStore}
-use Rattle.automata_hybrid.specs.Walks.Progress.{HasNoneLeft, ReadsNoUnit}
-use Rattle.automata_hybrid.specs.Private.Walks.Progress.{IsCallLeftAtInStore, IsCallStoppedInStore, LeavesCallInStore}
 use Rattle.automata_hybrid.specs.Searches.Cached.{IsOfInput}
 use Rattle.automata_hybrid.specs.Searches.Passes.{HasReadNoQuit, Skips}
-use Rattle.automata_hybrid.specs.Private.Searches.Passes.{IsUnitError}
 use Rattle.automata_hybrid.specs.Walks.Answers.{HasReportedBy, IsSilent, WalkReads, pairs_reported_in}
-use Rattle.automata_hybrid.specs.Walks.Follows.{IsKnownError}
+use Rattle.automata_hybrid.specs.Walks.Cached.{IsToRead}
+use Rattle.automata_hybrid.specs.Walks.Follows.{IsHoldError, IsInputError, IsKnownError}
+use Rattle.automata_hybrid.specs.Walks.Progress.{HasEnded, HasMore, HasNoneLeft, ReadsNoUnit}
 use Rattle.automata_hybrid.specs.Walks.State.{Ids, Keeping, States, Walk}
-use Rattle.automata_hybrid.specs.Walks.Follows.{IsHoldError, IsInputError}
 use Rattle.automata_hybrid.proofs.Searches.PassState.{dead_more}
-use Rattle.automata_hybrid.proofs.Searches.Goes.{GoesTo, goes_some}
+use Rattle.automata_hybrid.proofs.Searches.Goes.{GoesTo, goes_known, goes_some}
+use Rattle.automata_hybrid.proofs.Searches.Runs.{followed_clean}
+use Rattle.automata_hybrid.proofs.Searches.Units.{units_in}
 use Rattle.automata_hybrid.proofs.Walks.Reports.{reported_rises}
 
 -- a walk reads the units before one that it reads
@@ -61,13 +65,25 @@ silent_before way m input from j to more less silent k t = subst (HasReportedBy 
       let down : here.0 ≤ k = reported_rises way m input j to here.0 k less here.1 (silent k t) in
       omega (arith, up, down)
 
+-- units that a walk follows by cached transitions change nothing
+pub goes_followed :
+    (way : Direction) (m : Machine) (input : Input) (from : ℕ) (begun : Known) (k to id : ℕ) (mid new : CacheView)
+    → IsMachine m → IsInput input → input.start ≤ input.end → IsStoreOf mid.store m → new ≡ mid
+    → GoesTo way m input from k begun (known_of mid) → IsFollowed way m new.store input 0 k to id
+    → HasReadNoQuit way m input k → GoesTo way m input from to begun (known_of new)
+goes_followed way m input from begun k to id mid new machine given undone sound same before f clean =
+    goes_known way m input from begun machine (units_in way input given undone) k to new
+    (subst (λ (c : CacheView). IsStoreOf c.store m) (sym same) sound)
+    (subst (λ (c : CacheView). GoesTo way m input from k begun (known_of c)) (sym same) before) f.more
+    (followed_clean f clean) (λ j more less. (f.taken j more less).known)
+
 -- a walk has read units up to where it is
 pub has_advanced :
     (way : Direction) (m : Machine) (input : Input) (from k : ℕ) (a : Arrival) (old new : CacheView) → from ≤ k
-    → suc k ≡ a.units → WalkReads way m input k → GoesTo way m input from (suc k) old new
+    → suc k ≡ a.units → WalkReads way m input k → GoesTo way m input from (suc k) (known_of old) (known_of new)
     → IsArrival way m new.store.table input from a.id a.units → HasAdvanced way m input from old new a
 has_advanced way m input from k a old new more same reads all arrives =
-    let some = goes_some way m input from k old new more all in
+    let some = goes_some way m input from k (known_of old) (known_of new) more all in
     record {
       arrives = arrives;
       before = some.0;
@@ -78,19 +94,18 @@ has_advanced way m input from k a old new more same reads all arrives =
 
 -- a call that failed at a unit
 pub call_stopped :
-    (way : Direction) (m : Machine) (input : Input) (from k : ℕ) (old new : CacheView) (e : SearchError)
+    (way : Direction) (m : Machine) (input : Input) (from k : ℕ) (begun mid new : Known) (e : SearchError)
     → WalkReads way m input k → HasReadNoQuit way m input k → IsSilent way m input from k
-    → IsUnitError way m new.store input k e
-    → (run : CacheView) → GoesTo way m input from k old run → IsLeftAt way m input k run new
-    → IsCallStoppedInStore Ids way m input from old new e
-call_stopped way m input from k old new e reads clean silent refused run all left = record {
+    → GoesTo way m input from k begun mid → UnitFails way m input k mid new e
+    → IsCallStopped Ids way m input from begun new e
+call_stopped way m input from k begun mid new e reads clean silent all fails = record {
   units = all.units;
   reads = subst (WalkReads way m input) (sym all.upto) reads;
   clean = subst (HasReadNoQuit way m input) (sym all.upto) clean;
   silent = subst (IsSilent way m input from) (sym all.upto) silent;
-  mid = run;
-  goes = all.goes;
-  left = subst (λ j. IsCallLeftAtInStore Ids way m input j run new e) (sym all.upto) (FailsAtUnitInStore refused left);
+  mid = mid;
+  run = all.run;
+  left = subst (λ j. IsCallLeftAt Ids way m input j mid new e) (sym all.upto) (FailsAtIt fails);
 }
 
 -- a call that is to read units reads some
@@ -102,27 +117,29 @@ reads_some input w r (HasNoneLeft past) = omega (arith, r.undone, r.left, past)
 
 -- a call that fails is to read units
 pub left_reads :
-    (keeping : Keeping) (way : Direction) (m : Machine) (input : Input) (w : Walk) (old new : CacheView) (e : SearchError)
-    → LeavesCallInStore keeping way m input w old new e → ReadsNoUnit input w → ⊥
-left_reads keeping way m input w old new e (FailsToGoOnInStore reads why none) = reads
-left_reads keeping way m input w old new e (FailsOnItsWayInStore reads begun resumed stopped) = reads
+    (keeping : Keeping) (way : Direction) (m : Machine) (input : Input) (w : Walk) (old new : Known)
+    (e : SearchError) → LeavesCall keeping way m input w old new e → ReadsNoUnit input w → ⊥
+left_reads keeping way m input w old new e (FailsToGoOn reads fails) = reads
+left_reads keeping way m input w old new e (FailsOnItsWay reads may begun goes_on stopped) = reads
 
 step_leaves :
-    (keeping : Keeping) (way : Direction) (m : Machine) (input : Input) (k : ℕ) (old new : CacheView) (e : SearchError)
-    → IsCallLeftAtInStore Ids way m input k old new e → IsCallLeftAtInStore keeping way m input k old new e
-step_leaves keeping way m input k old new e (FailsAtUnitInStore refused left) = FailsAtUnitInStore refused left
-step_leaves keeping way m input k old new e (FailsAfterUnit kept unheld read) = absurd (let is : Ids ≡ States = kept in cc)
+    (keeping : Keeping) (way : Direction) (m : Machine) (input : Input) (k : ℕ) (old new : Known) (e : SearchError)
+    → IsCallLeftAt Ids way m input k old new e → IsCallLeftAt keeping way m input k old new e
+step_leaves keeping way m input k old new e (FailsAtIt fails) = FailsAtIt fails
+step_leaves keeping way m input k old new e (FailsAfterIt kept unheld read) =
+    absurd (let is : Ids ≡ States = kept in cc)
 
 pub call_leaves :
-    (keeping : Keeping) (way : Direction) (m : Machine) (input : Input) (from : ℕ) (old new : CacheView) (e : SearchError)
-    → IsCallStoppedInStore Ids way m input from old new e → IsCallStoppedInStore keeping way m input from old new e
-call_leaves keeping way m input from old new e stopped = record {
+    (keeping : Keeping) (way : Direction) (m : Machine) (input : Input) (from : ℕ) (begun new : Known)
+    (e : SearchError) → IsCallStopped Ids way m input from begun new e
+    → IsCallStopped keeping way m input from begun new e
+call_leaves keeping way m input from begun new e stopped = record {
   units = stopped.units;
   reads = stopped.reads;
   clean = stopped.clean;
   silent = stopped.silent;
   mid = stopped.mid;
-  goes = stopped.goes;
+  run = stopped.run;
   left = step_leaves keeping way m input (from + stopped.units) stopped.mid new e stopped.left;
 }
 

@@ -16,12 +16,12 @@ use Rattle.automata_base.specs.declared.util.search.Direction.TheVariants.{Forwa
 use Rattle.automata_base.specs.Laws.Walks.{WalkIsRight}
 use Rattle.automata_config.specs.Options.{match_kind_of}
 use Rattle.automata_base.proofs.ByteClasses.PatternsInSets.{members-few}
-use Rattle.automata_hybrid.specs.Cache.Caches.{CacheView}
+use Rattle.automata_hybrid.specs.Known.Known.{Known}
+use Rattle.automata_hybrid.specs.Known.Walks.{HaveCalled, NoCall}
 use Rattle.automata_hybrid.specs.Walks.Cached.{IsOpen, LacksOne, NoPair}
 use Rattle.automata_hybrid.specs.Machines.Machine.{Machine, engine}
 use Rattle.automata_base.specs.Powersets.Powerset.{Powerset, cost}
 use Rattle.automata_hybrid.specs.Walks.Progress.{IsJoined, IsJoinedAfter}
-use Rattle.automata_hybrid.specs.Private.Walks.Progress.{HaveCalledInStore, NoCallInStore}
 use Rattle.automata_hybrid.specs.Searches.Passes.{tape_in}
 use Rattle.automata_hybrid.specs.Walks.Answers.{AreWalked, HasReported, HasReportedAt}
 use Rattle.automata_hybrid.specs.Private.Walks.Answers.{GoesOn}
@@ -289,15 +289,16 @@ module _ (m : Machine) (input : Input) (old : List Bool) where
 
       -- by one call more
       pub calls_more :
-          (e : input.earliest ≡ false) (lacks : IsLacking (set new half.pattern true)) (cache last : CacheView)
-          → HaveCalledInStore m input old cache (suc j.k) next last → HaveCalledInStore m input old cache (joins_more e lacks).k next last
+          (e : input.earliest ≡ false) (lacks : IsLacking (set new half.pattern true)) (first last : Known)
+          → HaveCalled m input old first (suc j.k) next last
+          → HaveCalled m input old first (joins_more e lacks).k next last
       unfolding joins_more
-      calls_more e lacks cache last called = called
+      calls_more e lacks first last called = called
 
 -- a walk that has not begun has made no call
 pub joins_begin :
-    (m : Machine) (input : Input) (walk : Walk) (set : List Bool) (c : CacheView) → walk ≡ fresh_walk
-    → (j : Joins m input walk set set) × HaveCalledInStore m input set c j.k walk c
+    (m : Machine) (input : Input) (walk : Walk) (set : List Bool) (c : Known) → walk ≡ fresh_walk
+    → (j : Joins m input walk set set) × HaveCalled m input set c j.k walk c
 joins_begin m input walk set c fresh = (
   record {
     k = 0;
@@ -307,7 +308,7 @@ joins_begin m input walk set c fresh = (
     capacity = refl;
     open_at = inl refl;
   },
-  NoCallInStore walk c fresh refl,
+  NoCall walk c fresh refl,
 )
 
 -- how many steps a walk has left, at most: for each unit as many as a state has patterns, and one more

@@ -1,7 +1,7 @@
--- One call of a walk that reads units: what it makes of its cache.
+-- One call of a walk that reads units: what it makes of what its cache knows.
 use Rattle.std.proofs.Common.{ℕ, suc, ◌≡◌, ◌∙◌, ◌+◌, ◌-◌, ◌≤◌, ◌<◌, false, length, Option, None, Some, refl, sym, ap}
 use Rattle.std.proofs.Common.{subst, arith}
-use Rattle.std.specs.Prelude.{Result, Ok, Err}
+use Rattle.std.specs.Prelude.{Result, Ok, Err, option_map}
 use Rattle.automata_base.specs.Answers.Answers.{offset_in}
 use Rattle.automata_base.specs.Haystacks.Input.{Input}
 use Rattle.automata_base.specs.Haystacks.Tapes.{is_split}
@@ -12,22 +12,27 @@ use Rattle.automata_base.specs.declared.util.search.Direction.{Direction}
 use Rattle.automata_config.specs.Options.{match_kind_of}
 use Rattle.automata_config.specs.declared.error.SearchError.{SearchError}
 use Rattle.automata_config.specs.declared.error.SearchError.TheVariants as search
-use Rattle.automata_hybrid.specs.Cache.Caches.{CacheView, IsStoreOf, with_store}
-use Rattle.automata_hybrid.specs.Cache.Progress.{progress_finished, progress_started}
+use Rattle.automata_hybrid.specs.declared.search.walk.advance.Arrival.{Arrival}
+use Rattle.automata_hybrid.specs.Cache.Caches.{CacheView, with_store}
+use Rattle.automata_hybrid.specs.Cache.Progress.{progress_finished}
 use Rattle.automata_hybrid.specs.Cache.Stores.{with_searched}
 use Rattle.automata_hybrid.specs.Cache.Table.{Leads, Names, Rows}
-use Rattle.automata_hybrid.specs.Machines.Machine.{Machine}
-use Rattle.automata_hybrid.specs.Searches.Passes.{HasReadNoQuit, Skips, given_up_offset, state_in, tape_in, unit_offset}
-use Rattle.automata_hybrid.specs.Private.Searches.Passes.{IsStepError}
-use Rattle.automata_hybrid.specs.Private.Searches.Progress.{Goes, GoesToEnd, with_search_begun}
-use Rattle.automata_hybrid.specs.Walks.Answers.{IsSilent, IsUnheld, WalkReads}
-use Rattle.automata_hybrid.specs.Private.Walks.Answers.{Arrives, IsArrival}
-use Rattle.automata_hybrid.specs.Walks.Cached.{IsToRead}
-use Rattle.automata_hybrid.specs.Private.Walks.Parts.{HasAdvanced, IsUnitResult}
+use Rattle.automata_hybrid.specs.Known.Known.{Known, ended}
+use Rattle.automata_hybrid.specs.Known.Passes.{after_many, after_unit}
+use Rattle.automata_hybrid.specs.Known.Stores.{known_of}
+use Rattle.automata_hybrid.specs.Known.Walks.{EndsCall, FailsAfterIt, FailsOnItsWay, IsCallStopped, LeavesCall, MayGoOn}
+use Rattle.automata_hybrid.specs.Known.Walks.{ReadsSome, after_going_on}
+use Rattle.automata_hybrid.specs.Machines.Machine.{Machine, quits_on}
 use Rattle.automata_hybrid.specs.Private.Searches.Units.{IsRead}
-use Rattle.automata_hybrid.specs.Private.Walks.Progress.{FailsAfterUnit, FailsOnItsWayInStore, IsCallStoppedInStore, IsResumed, IsWalkRunInStore, ReadsSomeInStore}
-use Rattle.automata_hybrid.specs.Walks.State.{Ended, Keeping, States, Walk}
-use Rattle.automata_hybrid.specs.declared.search.walk.advance.Arrival.{Arrival}
+use Rattle.automata_hybrid.specs.Private.Walks.Answers.{Arrives, IsArrival}
+use Rattle.automata_hybrid.specs.Private.Walks.Parts.{HasAdvanced, IsUnitResult}
+use Rattle.automata_hybrid.specs.Private.Walks.State.{ended_walk}
+use Rattle.automata_hybrid.specs.Searches.Passes.{Skips, given_up_offset, state_in, tape_in, unit_offset}
+use Rattle.automata_hybrid.specs.Searches.Traces.{pass_trace}
+use Rattle.automata_hybrid.specs.Walks.Answers.{IsSilent, IsUnheld, WalkReads}
+use Rattle.automata_hybrid.specs.Walks.Cached.{IsToRead}
+use Rattle.automata_hybrid.specs.Walks.State.{Ended, States, Walk}
+use Rattle.automata_hybrid.proofs.Known.PassesFollow.{then_some}
 use Rattle.automata_hybrid.proofs.Searches.Goes.{ended_here, left_here, taken_here}
 use Rattle.automata_hybrid.proofs.Searches.PassState.{state_more}
 use Rattle.automata_hybrid.proofs.Steps.Steps.{no_quit_unit, unit_no_quit}
@@ -47,14 +52,7 @@ unit_result way m input place id quit_at at unit old new (Ok n) is first second 
       read = taken_here way m input place id at unit old new is second named h.taken;
     }
 unit_result way m input place id quit_at at unit old new (Err e) is first second named h =
-    let q : Powerset = state_in way m input place in
-    record {
-      error =
-          subst (λ a. IsStepError m new.store q (unit_at (tape_in way input) place) a (given_up_offset way input place) e) (sym first)
-          (subst (λ b. IsStepError m new.store q (unit_at (tape_in way input) place) quit_at b e) (sym second)
-          (subst (λ v. IsStepError m new.store q v quit_at at e) (sym is) (h.refused q named)));
-      left = left_here way m input place id at unit old new is second named h.left;
-    }
+    left_here way m input place id at unit old new is second named quit_at e first h.fails
 
 -- the state from which a unit was to be read is not dead
 pub read_alive :
@@ -72,75 +70,121 @@ arrival_silent way m t input from None units k a more less few =
 arrival_silent way m t input from (Some id) units k a more less few =
     silent_before way m input from k a.place more (omega (arith, less, a.one_after)) a.silent
 
--- a walk was gone on with, a search began at its first unit, and it came to where it reports patterns, or to its end
-module _ (way : Direction) (m : Machine) (input : Input) (w : Walk) (old between begun mid : CacheView)
-    (first : IsStoreOf old.store m) (r : IsToRead input w.stage w.units w.reported)
-    (resumed : IsResumed way m input w.stage old between)
-    (begins : begun ≡ with_store between (with_searched between.store (progress_started between.store.searched (given_up_offset way input w.units))))
-    (sound : IsStoreOf begun.store m) (arrival : Arrival) (a : HasAdvanced way m input w.units begun mid arrival) where
-  -- and the search ended at the last unit that was read
-  module _ (keeping : Keeping) (next : Walk) (new : CacheView) (at : ℕ) (units : next.units ≡ arrival.units)
-      (place : at ≡ given_up_offset way input (arrival.units - 1))
-      (ends : new ≡ with_store mid (with_searched mid.store (progress_finished mid.store.searched at)))
-      (stops : next.stage ≡ Ended → (next.found ≡ None) × (WalkReads way m input arrival.units → ⊥)) where
-    ends_at : GoesToEnd way m input w.units (suc a.before) (with_search_begun way input w.units between) new
-    ends_at =
-        let k : w.units + (suc a.before - 1) ≡ arrival.units - 1 = omega (arith, a.counted) in
-        subst (λ (c : CacheView). GoesToEnd way m input w.units (suc a.before) c new) begins
-        (mid, a.goes, ended_here way input (w.units + (suc a.before - 1)) at mid new (ap (given_up_offset way input) k ∙ sym place) ends)
+-- units of which a walk that met no quit byte, or came to where it reports patterns, has read the last one
+arrival_clean :
+    (way : Direction) (m : Machine) (t : Rows) (input : Input) (from : ℕ) (id : Option ℕ) (units k : ℕ)
+    → IsArrival way m t input from id units → k < units → WalkReads way m input k
+    → quits_on m (unit_at (tape_in way input) k) ≡ false
+arrival_clean way m t input from None units k a less reads =
+    unit_no_quit m (unit_at (tape_in way input) k) (λ byte unit. a.clean k byte reads unit)
+arrival_clean way m t input from (Some id) units k a less reads =
+    unit_no_quit m (unit_at (tape_in way input) k) (λ byte unit. a.clean k byte less unit)
 
-    pub run_on : IsWalkRunInStore keeping way m input w next old new None
-    run_on = record {
-      of = first;
+-- a walk was gone on with from a dead state: its search ended where it began
+pub run_dead :
+    (way : Direction) (m : Machine) (input : Input) (w : Walk) (old : Known) (begun : CacheView)
+    → IsToRead input w.stage w.units w.reported → MayGoOn way m input w.stage
+    → after_going_on way m input w.stage w.units old ≡ Some (known_of begun) → state_in way m input w.units ≡ dead
+    → (new : CacheView) (at : ℕ) → at ≡ given_up_offset way input w.units
+    → new ≡ with_store begun (with_searched begun.store (progress_finished begun.store.searched at))
+    → EndsCall way m input w (ended_walk w w.units) old (known_of new)
+unfolding after_many
+run_dead way m input w old begun r may goes_on dies new at place ends =
+    let first : w.units + (0 - 1) ≡ w.units = omega arith in
+    ReadsSome (λ over. refl)
+    (record {
+      some = reads_some input w r;
+      may = may;
+      begun = known_of begun;
+      goes_on = goes_on;
+      units = 0;
+      counted = omega arith;
+      its = (λ k more less. absurd (omega (arith, more, less)), λ over reads. reads.1 dies);
+      clean = λ k less. absurd (omega (arith, less));
       run =
-          ReadsSomeInStore (λ over. (stops over).0)
-          (record {
-            some = reads_some input w r;
-            begun = between;
-            resumed = resumed;
-            units = suc a.before;
-            counted = omega (arith, units, a.counted);
-            its = (
-              λ k more less. (
-                  let read : WalkReads way m input k = walk_reads_before way m input k (w.units + a.before) (omega (arith, less, units, a.counted)) a.reads in
-                  (read, arrival_silent way m mid.store.table input w.units arrival.id arrival.units k a.arrives more (omega (arith, less, units)) read.0)),
-              λ over reads. (stops over).1 (subst (WalkReads way m input) units reads),
-            );
-            read = ends_at;
-          });
-    }
+          ap Some (sym
+          (ended_here way input (w.units + (0 - 1)) at begun new (ap (given_up_offset way input) first ∙ sym place)
+          ends));
+    })
+
+-- a walk was gone on with, a search began at its first unit, and it came to where it reports patterns, or to its end
+module _ (way : Direction) (m : Machine) (input : Input) (w : Walk) (old : Known) (begun mid : CacheView)
+    (r : IsToRead input w.stage w.units w.reported) (may : MayGoOn way m input w.stage)
+    (goes_on : after_going_on way m input w.stage w.units old ≡ Some (known_of begun)) (arrival : Arrival)
+    (a : HasAdvanced way m input w.units begun mid arrival) where
+  reads_before : (k : ℕ) → k < arrival.units → WalkReads way m input k
+  reads_before k less = walk_reads_before way m input k (w.units + a.before) (omega (arith, less, a.counted)) a.reads
+
+  -- and the search ended at the last unit that was read
+  pub run_on :
+      (next : Walk) (new : CacheView) (at : ℕ) → next.units ≡ arrival.units
+      → at ≡ given_up_offset way input (arrival.units - 1)
+      → new ≡ with_store mid (with_searched mid.store (progress_finished mid.store.searched at))
+      → (next.stage ≡ Ended → (next.found ≡ None) × (WalkReads way m input arrival.units → ⊥))
+      → EndsCall way m input w next old (known_of new)
+  run_on next new at units place ends stops =
+      let last : w.units + (suc a.before - 1) ≡ arrival.units - 1 = omega (arith, a.counted) in
+      ReadsSome (λ over. (stops over).0)
+      (record {
+        some = reads_some input w r;
+        may = may;
+        begun = known_of begun;
+        goes_on = goes_on;
+        units = suc a.before;
+        counted = omega (arith, units, a.counted);
+        its = (
+          λ k more less. (
+              let read : WalkReads way m input k = reads_before k (omega (arith, less, units)) in (
+                read,
+                arrival_silent way m mid.store.table input w.units arrival.id arrival.units k a.arrives more
+                    (omega (arith, less, units)) read.0,
+              )),
+          λ over reads. (stops over).1 (subst (WalkReads way m input) units reads),
+        );
+        clean = λ k less.
+            arrival_clean way m mid.store.table input w.units arrival.id arrival.units (w.units + k) a.arrives
+            (omega (arith, less, a.counted)) (reads_before (w.units + k) (omega (arith, less, a.counted)));
+        run =
+            ap (option_map (ended (given_up_offset way input (w.units + (suc a.before - 1))))) a.goes
+            ∙ ap Some (sym
+            (ended_here way input (w.units + (suc a.before - 1)) at mid new
+            (ap (given_up_offset way input) last ∙ sym place) ends));
+      })
 
   -- or the state there cannot be held
   module _ (id : ℕ) (arrived : Arrives way m mid.store.table input w.units id arrival.units) where
     same_place : arrived.place ≡ w.units + a.before
     same_place = omega (arith, arrived.one_after, a.counted)
 
-    clean_before : HasReadNoQuit way m input (w.units + a.before)
-    clean_before j byte l unit = arrived.clean j byte (omega (arith, l, a.counted)) unit
-
     unheld_on : IsUnheld way m input (w.units + a.before) search.OutOfMemory
     unheld_on = record {
-      clean = unit_no_quit m (unit_at (tape_in way input) (w.units + a.before)) (λ byte unit. arrived.clean (w.units + a.before) byte (omega (arith, a.counted)) unit);
-      reports = subst (λ n. 0 < length (state_in way m input n).patterns) a.counted (arrived.reports (state_in way m input arrival.units) arrived.named);
-      unskipped = subst (λ n. Skips m → is_split input.haystack (offset_in way input n) ≡ false) same_place arrived.unskipped;
+      clean = unit_no_quit m (unit_at (tape_in way input) (w.units + a.before))
+          (λ byte unit. arrived.clean (w.units + a.before) byte (omega (arith, a.counted)) unit);
+      reports = subst (λ n. 0 < length (state_in way m input n).patterns) a.counted
+          (arrived.reports (state_in way m input arrival.units) arrived.named);
+      unskipped =
+          subst (λ n. Skips m → is_split input.haystack (offset_in way input n) ≡ false) same_place
+          arrived.unskipped;
       memory = refl;
     }
 
-    left_unheld : IsCallStoppedInStore States way m input w.units (with_search_begun way input w.units between) mid search.OutOfMemory
-    left_unheld =
-        subst (λ (c : CacheView). IsCallStoppedInStore States way m input w.units c mid search.OutOfMemory) begins
-        (go a.goes)
-      where
-        go : Goes way m input w.units (suc a.before) begun mid → IsCallStoppedInStore States way m input w.units begun mid search.OutOfMemory
-        go (before, reads, unit) = record {
+    left_unheld :
+        after_many (pass_trace way m input) way m input w.units (suc a.before) (known_of begun) ≡ Some (known_of mid)
+        → IsCallStopped States way m input w.units (known_of begun) (known_of mid) search.OutOfMemory
+    unfolding after_many
+    left_unheld run =
+        let parts =
+        then_some (after_unit (pass_trace way m input) way m input (w.units + a.before))
+        (after_many (pass_trace way m input) way m input w.units a.before (known_of begun)) (known_of mid) run in
+        record {
           units = a.before;
           reads = a.reads;
-          clean = clean_before;
+          clean = λ j byte less unit. arrived.clean j byte (omega (arith, less, a.counted)) unit;
           silent = subst (IsSilent way m input w.units) same_place arrived.silent;
-          mid = before;
-          goes = reads;
-          left = FailsAfterUnit refl unheld_on unit;
+          mid = parts.0;
+          run = parts.1;
+          left = FailsAfterIt refl unheld_on parts.2;
         }
 
-    pub run_unheld : (next : Walk) → IsWalkRunInStore States way m input w next old mid (Some search.OutOfMemory)
-    run_unheld next = record { of = first; run = FailsOnItsWayInStore (reads_some input w r) between resumed left_unheld }
+    pub run_unheld : LeavesCall States way m input w old (known_of mid) search.OutOfMemory
+    run_unheld = FailsOnItsWay (reads_some input w r) may (known_of begun) goes_on (left_unheld a.goes)

@@ -4,7 +4,7 @@ use Rattle.automata_hybrid.specs.Cache.Ids.{dead_id, quit_id}
 use Rattle.automata_hybrid.specs.Machines.Machine.{Machine}
 use Rattle.automata_hybrid.specs.Cache.Table.{RowsFitCells, IsRowId}
 use Rattle.automata_hybrid.specs.Cache.Clears.{AllStarts}
-use Rattle.automata_hybrid.specs.Cache.Usage.{usage}
+use Rattle.automata_hybrid.specs.Private.Cache.Usage.{usage_in_store}
 use Rattle.automata_hybrid.specs.Cache.Stores.{Stored, fresh_store}
 
 -- what contracts see of a cache: its states, and how often it determinized
@@ -14,9 +14,13 @@ pub record CacheView : Type 0 where
   -- The count of determinizations.
   pub count : ℕ
 
--- the cache belongs to this machine
+-- the DFA that a cache belongs to
+abbrev pub dfa_of : CacheView → Machine
+dfa_of c = c.store.table.of
+
+-- the cache belongs to this DFA
 abbrev pub IsCacheOf : CacheView → Machine → Type 0
-IsCacheOf c m = c.store.table.of ≡ m
+IsCacheOf c m = dfa_of c ≡ m
 
 -- a cache of this DFA: its rows fit together, each start slot has its own start or none yet, and its accounted bytes
 -- are within the settings
@@ -30,7 +34,7 @@ pub record IsStoreOf (c : Stored) (m : Machine) : Type 0 where
   -- There are as many start slots as the DFA has.
   pub slots : length c.starts ≡ m.slots
   -- Its accounted bytes are within the capacity.
-  pub within : usage c ≤ m.capacity
+  pub within : usage_in_store c ≤ m.capacity
   -- A row has at most 512 cells.
   pub small : c.table.of.stride ≤ 512
   -- A new row has as many cells as each row.

@@ -1,4 +1,4 @@
--- The accounted bytes of a cache, what fits, and when a clear is not allowed.
+-- What a new row takes, and when too few bytes were searched.
 use Rattle.std.specs.Prelude.{ℕ, ◌+◌, ◌*◌, ◌<◌, ◌≤◌, length, Bool, true, false, cond, Option, None, Some}
 use Rattle.std.specs.Prelude.{sum_by, nat_lt}
 use Rattle.automata_base.specs.Powersets.Accounting.{cell_size, entry_size, fixed_rows_cost}
@@ -10,14 +10,6 @@ use Rattle.automata_hybrid.specs.Private.Cache.Clears.{kept}
 use Rattle.automata_hybrid.specs.Cache.Progress.{saturated, total_len, progress_cleared}
 use Rattle.automata_hybrid.specs.Cache.Stores.{Stored}
 use Rattle.automata_config.specs.Options.{minimum_cache_clear_count_of, minimum_bytes_per_state_of}
-
--- the accounted bytes: those of the cells and of the slots, of the rows with the three fixed ones, and of their entries
--- in the map, which has one of these three; the costs of all states, and the room for determinization
-abbrev pub usage : Stored → ℕ
-usage c =
-    cell_size * length c.table.cells + cell_size * length c.starts + row_size * (length c.table.rows + 3)
-    + entry_size * (length c.table.rows + 1) + fixed_rows_cost + sum_by row_cost c.table.rows
-    + c.table.of.fixed
 
 -- what a new row takes beside the cost of its state: its cells, and its entries in the list and in the map
 abbrev pub row_usage : Machine → ℕ

@@ -1,11 +1,9 @@
--- What is true of what each cache of a DFA knows.
+-- What is true of what each cache of a DFA knows: `laws::cache_is_known`.
 use Rattle.std.specs.Prelude.{◌≡◌, ◌^◌, ◌<◌, ◌≤◌, length}
 use Rattle.automata_base.specs.Powersets.Powerset.{cost, dead}
-use Rattle.automata_hybrid.specs.Cache.Caches.{CacheView, IsStoreOf}
 use Rattle.automata_hybrid.specs.Known.Events.{usage}
 use Rattle.automata_hybrid.specs.Known.Growth.{HasRow}
 use Rattle.automata_hybrid.specs.Known.Known.{Known}
-use Rattle.automata_hybrid.specs.Known.Stores.{known_of}
 use Rattle.automata_hybrid.specs.Machines.Machine.{Machine}
 use Rattle.automata_hybrid.specs.declared.cache.row.Row.{Row}
 
@@ -21,7 +19,3 @@ pub record IsKnown (m : Machine) (c : Known) : Type 0 where
   pub within : usage m c ≤ m.capacity
   -- the count of clears is a number of 64 bits
   pub clears : c.clears < 2 ^ 64
-
--- What a cache of the DFA knows is so.
-abbrev pub CachesAreKnown : Machine → Type 0
-CachesAreKnown m = (c : CacheView) → IsStoreOf c.store m → IsKnown m (known_of c)

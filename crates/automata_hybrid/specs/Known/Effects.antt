@@ -6,7 +6,6 @@ use Rattle.automata_base.specs.declared.util.search.Anchored.{Anchored}
 use Rattle.automata_config.specs.Options.{match_kind_of}
 use Rattle.automata_config.specs.declared.error.StartError.{StartError}
 use Rattle.automata_config.specs.declared.error.StepError.{StepError}
-use Rattle.automata_hybrid.specs.Cache.Caches.{CacheView, HoldsRow, IsCacheOf}
 use Rattle.automata_hybrid.specs.Cache.Ids.{fixed_from}
 use Rattle.automata_hybrid.specs.Cache.Progress.{progress_cleared, saturated}
 use Rattle.automata_hybrid.specs.Calls.Events.{Event, Start, Step}
@@ -15,7 +14,6 @@ use Rattle.automata_hybrid.specs.Known.Events.{after_event, fits, is_cached, ref
 use Rattle.automata_hybrid.specs.Known.Growth.{HasRow, IsGrown}
 use Rattle.automata_hybrid.specs.Known.Known.{Known, counted, has_state}
 use Rattle.automata_hybrid.specs.Known.Steps.{IsStartRun, IsStepRun, StartFails, StepFails, id_in}
-use Rattle.automata_hybrid.specs.Known.Stores.{known_of}
 use Rattle.automata_hybrid.specs.Machines.Machine.{Machine, quits_on}
 use Rattle.automata_hybrid.specs.Steps.Starts.{start_row}
 use Rattle.automata_hybrid.specs.declared.cache.row.Row.{Row}
@@ -60,10 +58,6 @@ EventsFollow m =
 -- an ID is known: it is a fixed one, or that of a row
 abbrev pub KnowsId : Machine → Known → (id : ℕ) → Type 0
 KnowsId m c id = (fixed_from ≤ id) ⊎ ((q : Powerset) × (id_in m c q ≡ Some id))
-
--- An ID from which a step may be taken over a cache of the DFA is known to it.
-abbrev pub IdsAreKnown : Machine → Type 0
-IdsAreKnown m = (c : CacheView) (id : ℕ) → IsCacheOf c m → HoldsRow c id → KnowsId m (known_of c) id
 
 -- what follows of a step that returns Ok
 pub record StepFollows (m : Machine) (id : ℕ) (unit : Option ℕ) (old new : Known) : Type 0 where

@@ -1,6 +1,6 @@
 -- What the calls of a walk, and the search for a set of patterns, make of what their cache knows.
 use Rattle.std.specs.Prelude.{ℕ, zero, suc, ◌≡◌, ◌<◌, ◌+◌, ◌-◌, ◌⊎◌, Bool, true, false, List}
-use Rattle.std.specs.Prelude.{Option, None, Some, MatchOption, is_some, option_and_then, option_map}
+use Rattle.std.specs.Prelude.{Option, None, Some, MatchOption, is_some, option_map}
 use Rattle.automata_base.specs.Answers.Answers.{offset_in}
 use Rattle.automata_base.specs.Haystacks.Input.{Input}
 use Rattle.automata_base.specs.Paths.Paths.{next as unit_at}
@@ -35,11 +35,10 @@ after_resume way m input Fresh c = after_event m (start_event way input) c c
 after_resume way m input (At q) c = with_row_back m q c
 after_resume way m input Ended c = None
 
--- what a walk that goes on from a place makes of it by so many units
-abbrev pub after_walked : Direction → Machine → Input → Stage → (from units : ℕ) → Known → Option Known
-after_walked way m input stage from units c =
-    option_and_then (after_many (pass_trace way m input) way m input from units)
-    (option_map (begun (given_up_offset way input from)) (after_resume way m input stage c))
+-- what a walk that goes on from a place makes of it by this state, where the call begins
+abbrev pub after_going_on : Direction → Machine → Input → Stage → (from : ℕ) → Known → Option Known
+after_going_on way m input stage from c =
+    option_map (begun (given_up_offset way input from)) (after_resume way m input stage c)
 
 -- none of so many units from a place on is a quit byte
 abbrev pub ReadsNoQuit : Direction → Machine → Input → (from units : ℕ) → Type 0
@@ -57,6 +56,10 @@ pub record CallReads (way : Direction) (m : Machine) (input : Input) (walk next 
   pub some : ReadsNoUnit input walk → ⊥
   -- it may go on
   pub may : MayGoOn way m input walk.stage
+  -- what the cache knows once it has begun
+  pub begun : Known
+  -- the state that it goes on from made this of it
+  pub goes_on : after_going_on way m input walk.stage walk.units old ≡ Some begun
   -- how many units are read
   pub units : ℕ
   -- they are counted
@@ -68,7 +71,7 @@ pub record CallReads (way : Direction) (m : Machine) (input : Input) (walk next 
   -- what they make of the cache; the search ends at the last of them
   pub run :
       option_map (ended (given_up_offset way input (walk.units + (units - 1))))
-      (after_walked way m input walk.stage walk.units units old)
+      (after_many (pass_trace way m input) way m input walk.units units begun)
       ≡ Some new
 
 -- what a call that answers makes of its walk and its cache; a walk that has ended has no match
@@ -110,25 +113,23 @@ pub data IsCallLeftAt (keeping : Keeping) (way : Direction) (m : Machine) (input
       keeping ≡ States → IsUnheld way m input k e → after_unit (pass_trace way m input) way m input k old ≡ Some new
       → IsCallLeftAt keeping way m input k old new e
 
--- a call reads some units, which report nothing, and fails at the next one
-pub record IsCallStopped (keeping : Keeping) (way : Direction) (m : Machine) (input : Input) (walk : Walk)
-    (old new : Known) (e : SearchError) : Type 0 where
-  -- it may go on
-  pub may : MayGoOn way m input walk.stage
+-- a call that has begun at a place reads some units from there on, which report nothing, and fails at the next one
+pub record IsCallStopped (keeping : Keeping) (way : Direction) (m : Machine) (input : Input) (from : ℕ)
+    (begun new : Known) (e : SearchError) : Type 0 where
   -- how many units are read
   pub units : ℕ
   -- the walk reads the next one too
-  pub reads : WalkReads way m input (walk.units + units)
+  pub reads : WalkReads way m input (from + units)
   -- none before it is a quit byte
-  pub clean : HasReadNoQuit way m input (walk.units + units)
+  pub clean : HasReadNoQuit way m input (from + units)
   -- the units report nothing
-  pub silent : IsSilent way m input walk.units (walk.units + units)
+  pub silent : IsSilent way m input from (from + units)
   -- what the cache knows after them
   pub mid : Known
   -- they made this of it
-  pub run : after_walked way m input walk.stage walk.units units old ≡ Some mid
+  pub run : after_many (pass_trace way m input) way m input from units begun ≡ Some mid
   -- it fails at the next one
-  pub left : IsCallLeftAt keeping way m input (walk.units + units) mid new e
+  pub left : IsCallLeftAt keeping way m input (from + units) mid new e
 
 -- what a call that is to read units makes of its cache, if it fails
 pub data LeavesCall (keeping : Keeping) (way : Direction) (m : Machine) (input : Input) (walk : Walk)
@@ -139,8 +140,9 @@ pub data LeavesCall (keeping : Keeping) (way : Direction) (m : Machine) (input :
       → LeavesCall keeping way m input walk old new e
   -- it goes on, and fails at a unit
   FailsOnItsWay :
-      (ReadsNoUnit input walk → ⊥) → IsCallStopped keeping way m input walk old new e
-      → LeavesCall keeping way m input walk old new e
+      (ReadsNoUnit input walk → ⊥) → MayGoOn way m input walk.stage → (begun : Known)
+      → after_going_on way m input walk.stage walk.units old ≡ Some begun
+      → IsCallStopped keeping way m input walk.units begun new e → LeavesCall keeping way m input walk old new e
 
 -- what a call of a walk makes of what its cache knows, by the error that it returns, if it fails
 abbrev pub IsWalkRun :

@@ -25,17 +25,21 @@ ghost use Rattle.automata_hybrid.specs.Private.Cache.Table.{IsNewState};
 ghost use Rattle.automata_hybrid.specs.Cache.Stores.{IsSoundStore, cell_of};
 ghost use Rattle.automata_hybrid.specs.Private.Cache.Stores.{with_next, with_start_in_store};
 ghost use Rattle.automata_hybrid.specs.Cache.Stores.{with_searched};
-ghost use Rattle.automata_hybrid.specs.Cache.Usage.{usage};
+ghost use Rattle.automata_hybrid.specs.Private.Cache.Usage.{usage_in_store};
 ghost use Rattle.automata_hybrid.specs.Private.Cache.Usage.{cleared, Fits};
 ghost use Rattle.automata_hybrid.specs.Private.Cache.Changes.{AddsNext, AddsRow};
-ghost use Rattle.automata_hybrid.specs.Cache.Caches.{HoldsRow, IsCacheOf, IsStoreOf, counted, fresh_cache, with_store};
+ghost use Rattle.automata_hybrid.specs.Cache.Caches.{HoldsRow, IsCacheOf, IsStoreOf, counted, dfa_of, fresh_cache};
+ghost use Rattle.automata_hybrid.specs.Cache.Caches.{with_store};
+ghost use Rattle.automata_hybrid.specs.Known.Events.{usage};
+ghost use Rattle.automata_hybrid.specs.Known.Stores.{known_of};
 ghost use Rattle.automata_hybrid.specs.Private.Cache.Growth.{PutsBack};
 ghost use Rattle.automata_hybrid.specs.Private.Cache.Growth.{AddFails};
 ghost use Rattle.automata_hybrid.specs.Private.Steps.Starts.{IsStartSlot};
 ghost use Rattle.automata_hybrid.specs.Private.Walks.State.{IsHandle};
 ghost use Rattle.automata_hybrid.specs.Cache.Progress.{progress_finished, progress_started, progress_updated};
 ghost use Rattle.automata_hybrid.specs.Cache.Progress.{saturated, total_len};
-ghost use Rattle.automata_hybrid.specs.Cache.States.{IsHeldState, held_states};
+ghost use Rattle.automata_hybrid.specs.Cache.States.{IsHeldState, LeadsAsStart, held_states};
+ghost use Rattle.automata_base.specs.declared.util.search.Anchored.{Anchored};
 ghost use Rattle.automata_config.specs.Options.{match_kind_of};
 
 pub(crate) mod clears;
@@ -283,8 +287,10 @@ impl Cache {
     /// byte, at the edge of the haystack, after a line feed, after a carriage return, and after another line terminator.
     /// `is_unknown` is true of those that are not cached.
     pub fn starts(&self) -> &[LazyStateID]
-        ensures { result.now ≡ self.now.store.starts }
+        ensures value { result.now ≡ self.now.store.starts }
+        ensures leads { (mode : Anchored) (behind : Option ℕ) → LeadsAsStart self.now.store mode behind }
     {
+        self.see_bounds();
         self.store.starts.as_slice()
     }
 
@@ -591,7 +597,7 @@ impl Cache {
         requires dfa { IsCacheOf self.now dfa.now }
         requires of { IsShapeOf self.now.store.table shape }
         requires rows { shape.rows ≡ length self.now.store.table.rows }
-        requires room { usage self.now.store + making_bytes shape ≤ self.now.store.table.of.capacity }
+        requires room { usage_in_store self.now.store + making_bytes shape ≤ self.now.store.table.of.capacity }
         ensures leaps { IfOk result (λ b. AreLeaps self.now.store.table b.value) }
         ensures shape { IfOk result (λ b. b.value.shape ≡ shape) }
     {
@@ -607,21 +613,21 @@ impl Cache {
     /// The count begins at 0 when the cache is made or reset. If it rises fast, a greater capacity
     /// (`Config::cache_capacity`) may save time.
     pub fn clear_count(&self) -> usize
-        ensures { result ≡ self.now.store.clears }
+        ensures { result ≡ (known_of self.now).clears }
     {
         self.store.clears
     }
 
     /// Whether a search was started and has not finished.
     pub fn in_progress(&self) -> bool
-        ensures { result ≡ is_some self.now.store.searched.running }
+        ensures { result ≡ is_some (known_of self.now).searched.running }
     {
         self.store.searched.running.is_some()
     }
 
     /// The bytes searched since the last clear, with those of an open search.
     pub fn search_total_len(&self) -> usize
-        ensures { result ≡ total_len self.now.store.searched }
+        ensures { result ≡ total_len (known_of self.now).searched }
     {
         self.store.searched.total_len()
     }
@@ -693,9 +699,10 @@ impl Cache {
     /// self.cache.memory_usage()
     /// ```
     pub fn memory_usage(&self) -> usize
-        ensures usage { result ≡ usage self.now.store }
-        ensures within { result ≤ self.now.store.table.of.capacity }
+        ensures usage { result ≡ usage (dfa_of self.now) (known_of self.now) }
+        ensures within { result ≤ (dfa_of self.now).capacity }
     {
+        self.see_bounds();
         self.store.memory_usage()
     }
 
@@ -703,7 +710,7 @@ impl Cache {
     /// step. Together they never exceed the capacity, or the minimum capacity if that was raised to. Leaps are made where
     /// there is room for them, and dropped where a state is added or the cache is cleared.
     pub fn leap_usage(&self) -> usize
-        ensures { usage self.now.store + result ≤ self.now.store.table.of.capacity }
+        ensures { usage (dfa_of self.now) (known_of self.now) + result ≤ (dfa_of self.now).capacity }
     {
         self.see_bounds();
         match &self.leaping.leaps {
@@ -714,7 +721,7 @@ impl Cache {
 
     /// What is true of each cache; among it, that it is within the settings of the DFA that it belongs to. It does
     /// nothing.
-    pub fn see_bounds(&self)
+    pub(crate) fn see_bounds(&self)
         ensures bounds { IsStoreOf self.now.store self.now.store.table.of }
         ensures sound { IsSoundStore self.now.store }
     {

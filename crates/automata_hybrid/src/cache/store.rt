@@ -13,7 +13,7 @@ ghost use Rattle.automata_hybrid.specs.Cache.Clears.{row_of};
 ghost use Rattle.automata_hybrid.specs.Cache.Stores.{IsCacheError, fresh_store};
 ghost use Rattle.automata_hybrid.specs.Private.Cache.Stores.{with_table};
 ghost use Rattle.automata_hybrid.specs.Private.Cache.Stores.{cache_settings};
-ghost use Rattle.automata_hybrid.specs.Cache.Usage.{usage};
+ghost use Rattle.automata_hybrid.specs.Private.Cache.Usage.{usage_in_store};
 ghost use Rattle.automata_hybrid.specs.Private.Cache.Usage.{Fits, refuses_to_clear};
 ghost use Rattle.automata_hybrid.specs.Private.Cache.Usage.{FitsAny, IsCleared};
 ghost use Rattle.automata_hybrid.specs.Private.Cache.Changes.{grown, put_found};
@@ -106,7 +106,7 @@ impl Store {
 
     /// The accounted bytes.
     pub fn memory_usage(&self) -> usize
-        ensures usage { result ≡ usage self.now }
+        ensures usage { result ≡ usage_in_store self.now }
         ensures within { result ≤ self.now.table.of.capacity }
     {
         let states = self.table.len();
@@ -141,7 +141,7 @@ impl Store {
 
     /// The bytes of the capacity that are not taken.
     pub fn room(&self) -> usize
-        ensures { usage self.now + result ≤ self.now.table.of.capacity }
+        ensures { usage_in_store self.now + result ≤ self.now.table.of.capacity }
     {
         self.settings.capacity - self.memory_usage()
     }

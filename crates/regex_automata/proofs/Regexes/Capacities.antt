@@ -1,5 +1,6 @@
 -- The capacity that an error names is enough for both DFAs.
-use Rattle.std.proofs.Common.{ℕ, ◌≡◌, ◌∙◌, ◌<◌, ◌≤◌, ◌==◌, ◌&&◌, ◌⊎◌, inl, inr, Bool, Option, None, Some, true, false, cond, max, not}
+use Rattle.std.proofs.Common.{ℕ, ◌≡◌, ◌∙◌, ◌<◌, ◌≤◌, ◌==◌, ◌&&◌, ◌⊎◌, inl, inr, Bool, Option, None, Some, true, false}
+use Rattle.std.proofs.Common.{cond, max, not}
 use Rattle.std.proofs.Common.{ltb, arith, ap, refl, sym, subst}
 use Rattle.std.specs.Prelude.{IfErr, Result, Ok, Err}
 use Rattle.std.specs.Result.{result_err}
@@ -7,10 +8,12 @@ use Rattle.std.proofs.Math.Nat.{le-max_left, le-max_right}
 use Rattle.std.proofs.lemmas.Bool.{eq-eqb, lt-ltb, ltb-true}
 use Rattle.automata_base.specs.Nfas.Nodes.{Automaton}
 use Rattle.automata_config.specs.Options.{Options, cache_capacity_of, skip_cache_capacity_check_of}
-use Rattle.automata_config.specs.Settling.{greatest_offset, has_unicode_word, is_unsupported, max_offset, settled_minimum}
+use Rattle.automata_config.specs.Settling.{greatest_offset, has_unicode_word, is_unsupported, max_offset}
+use Rattle.automata_config.specs.Settling.{settled_minimum}
 use Rattle.automata_config.specs.Settling.{settled_quits, settling_error}
 use Rattle.automata_config.specs.declared.error.BuildError.{BuildError}
-use Rattle.automata_config.specs.declared.error.BuildError.TheVariants.{InsufficientCacheCapacity, InsufficientStateIDCapacity}
+use Rattle.automata_config.specs.declared.error.BuildError.TheVariants.{InsufficientCacheCapacity}
+use Rattle.automata_config.specs.declared.error.BuildError.TheVariants.{InsufficientStateIDCapacity}
 use Rattle.automata_config.specs.declared.error.BuildError.TheVariants.{PatternCounts, Unsupported}
 use Rattle.regex_automata.specs.Regexes.Builds.{NamesEnough, backward, error_of_both, error_of_two, pair_error}
 use Rattle.regex_automata.specs.Regexes.Builds.{pattern_count}
@@ -101,7 +104,8 @@ module _ (u v s b d : Bool) (m n i j capacity minimum given : ℕ)
       second_of (tested_at u s b m i capacity) a g minimum given
       (subst (λ x. error_of_two (tested_at u s b m i capacity) x ≡ Some (InsufficientCacheCapacity minimum given)) e is)
 
-  grows_by : IsOfCapacity (tested_at u s b m i capacity) ⊎ IsOfCapacity (tested_at v s d n j capacity) → capacity ≤ minimum
+  grows_by :
+      IsOfCapacity (tested_at u s b m i capacity) ⊎ IsOfCapacity (tested_at v s d n j capacity) → capacity ≤ minimum
   grows_by (inl (a, g, e)) =
       let (_, _, less, same) = small_is u s (ltb capacity m) b capacity m i a g e in
       omega (arith, ltb-true capacity m less, same, first_named a g e)
@@ -140,7 +144,8 @@ two_with :
     (settling_error (backward (record o { cache_capacity = Some capacity })) b)
     ≡ errors_at o a b capacity
 two_with o a b capacity =
-    ap (λ e. error_of_two e (settling_error (record (backward o) { cache_capacity = Some capacity }) b)) (settled_with o a capacity)
+    ap (λ e. error_of_two e (settling_error (record (backward o) { cache_capacity = Some capacity }) b))
+    (settled_with o a capacity)
     ∙ ap (λ e. error_of_two (settings_error o a capacity) e) (settled_with (backward o) b capacity)
 
 enough_if :
@@ -148,16 +153,19 @@ enough_if :
     → ((k l : ℕ) → counts ≡ InsufficientCacheCapacity k l → ⊥)
     → cond same (errors_at o a b (cache_capacity_of o)) (Some counts) ≡ Some (InsufficientCacheCapacity minimum given)
     → cond same (errors_at o a b minimum) (Some counts) ≡ Some (InsufficientCacheCapacity m g) → ⊥
-enough_if o a b minimum given m g false counts others is again = others m g (let e : counts ≡ InsufficientCacheCapacity m g = cc in e)
+enough_if o a b minimum given m g false counts others is again =
+    others m g (let e : counts ≡ InsufficientCacheCapacity m g = cc in e)
 enough_if o a b minimum given m g true counts others is again =
     enough (is_unsupported o a) (is_unsupported (backward o) b) (skip_cache_capacity_check_of o)
     (ltb max_offset (greatest_offset o a)) (ltb max_offset (greatest_offset (backward o) b)) (settled_minimum o a)
-    (settled_minimum (backward o) b) (greatest_offset o a) (greatest_offset (backward o) b) (cache_capacity_of o) minimum given is
+    (settled_minimum (backward o) b) (greatest_offset o a) (greatest_offset (backward o) b) (cache_capacity_of o)
+    minimum given is
     (m, g, again)
 
 pub enough_of : (o : Options) (a b : Automaton) (e : BuildError) → pair_error o a b ≡ Some e → NamesEnough o a b e
 enough_of o a b e is minimum given named m g again =
-    enough_if o a b minimum given m g (pattern_count a == pattern_count b) (PatternCounts (pattern_count a) (pattern_count b))
+    enough_if o a b minimum given m g (pattern_count a == pattern_count b)
+    (PatternCounts (pattern_count a) (pattern_count b))
     (λ k l same. cc) (is ∙ ap (λ x. Some x) named)
     (subst (λ x. cond (pattern_count a == pattern_count b) x (Some (PatternCounts (pattern_count a) (pattern_count b)))
     ≡ Some (InsufficientCacheCapacity m g)) (two_with o a b minimum) again)

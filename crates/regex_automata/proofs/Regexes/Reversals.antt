@@ -22,7 +22,8 @@ use Rattle.regex_automata.specs.Regexes.SoundPairs.{IsSoundPair, forward_engine,
 
 module _ (o : Options) (a b : Automaton) (p : Regex) (built : BuildsPair o a b p) where
   pair_is :
-      ((kind : MatchKind) → IsTruePair (engine_of a kind) (engine_of b All)) → IsTruePair (forward_engine p) (reverse_engine p)
+      ((kind : MatchKind) → IsTruePair (engine_of a kind) (engine_of b All))
+      → IsTruePair (forward_engine p) (reverse_engine p)
   pair_is f =
       subst (λ (m : Machine). IsTruePair (engine m) (reverse_engine p)) (sym built.0.2)
       (subst (λ (m : Machine). IsTruePair (engine_of a (match_kind_of o)) (engine m)) (sym built.1.2)
@@ -60,5 +61,6 @@ module _ (o : Options) (a kept b : Automaton) (keeping : IsKeepingUnions a kept)
 
   pub refused_of : (e : BuildError) → pair_error o kept b ≡ Some e → pair_error o a b ≡ Some e
   refused_of e refused =
-      sym (subst (λ (k : Automaton). pair_error o k b ≡ pair_error o a b) (sym keeping.0) (refusal_with kept.keeps_unions))
+      sym (subst (λ (k : Automaton). pair_error o k b ≡ pair_error o a b) (sym keeping.0)
+      (refusal_with kept.keeps_unions))
       ∙ refused

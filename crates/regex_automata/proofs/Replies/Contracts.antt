@@ -9,13 +9,10 @@ use Rattle.automata_base.specs.Paths.Paths.{KeepsCycles}
 use Rattle.automata_base.specs.Answers.Spans.{IsMatch, IsSpan, TryFinds}
 use Rattle.automata_base.specs.declared.util.search.Direction.TheVariants.{Forward}
 use Rattle.automata_config.specs.declared.error.SearchError.{SearchError}
-use Rattle.automata_hybrid.specs.Cache.Caches.{CacheView, IsStoreOf}
 use Rattle.automata_hybrid.specs.Searches.Contracts.{IsMemory, unsupported_error}
 use Rattle.automata_hybrid.specs.Searches.Passes.{NoQuitInReach, Skips, tape_in}
 use Rattle.automata_hybrid.specs.Machines.StartSlots.{supports}
 use Rattle.automata_hybrid.specs.Steps.Starts.{quit_behind}
-use Rattle.automata_hybrid.proofs.Known.Bounds.{caches_are_known}
-use Rattle.automata_hybrid.proofs.Searches.Contracts.{is_store}
 use Rattle.regex_automata.specs.Spans.IsMatch.{IsNearestThere}
 use Rattle.regex_automata.specs.Spans.Contracts.{IsSpanOf, IsSpanReported, IsTruthOf}
 use Rattle.regex_automata.specs.Regexes.Caches.{AreCachesOf, AreFresh, AreKnown}
@@ -28,21 +25,12 @@ use Rattle.regex_automata.specs.declared.hybrid.regex.Regex.{Regex}
 use Rattle.regex_automata.specs.declared.hybrid.regex.caches.Cache.{Cache}
 use Rattle.automata_config.specs.Options.{minimum_cache_clear_count_of}
 
-pub are_known :
-    (c : Cache) (p : Regex) → AreCachesOf c p → IsStoreOf c.forward.store c.forward.store.table.of
-    → IsStoreOf c.reverse.store c.reverse.store.table.of → AreKnown p c
-are_known c p of forward reverse = (
-  caches_are_known p.forward c.forward (is_store c.forward.store p.forward of.0 forward),
-  caches_are_known p.reverse c.reverse (is_store c.reverse.store p.reverse of.1 reverse),
-)
-
 -- caches of the current regex, and what they know
 pub of_current :
     (regexes : List Regex) (h : History) (c : Cache) (p : Regex)
-    → slice_get regexes h.current ≡ Some p → AreCachesOf c p → IsStoreOf c.forward.store c.forward.store.table.of
-    → IsStoreOf c.reverse.store c.reverse.store.table.of → AreOfCurrent regexes h c
-of_current regexes h c p at of forward reverse = λ r is.
-    subst (λ (q : Regex). AreCachesOf c q × AreKnown q c) (some_inj (sym at ∙ is)) (of, are_known c p of forward reverse)
+    → slice_get regexes h.current ≡ Some p → AreCachesOf c p → AreKnown p c → AreOfCurrent regexes h c
+of_current regexes h c p at of known = λ r is.
+    subst (λ (q : Regex). AreCachesOf c q × AreKnown q c) (some_inj (sym at ∙ is)) (of, known)
 
 pub memory_of_sound :
     (p : Regex) (old new : Cache) (input : Input) (e : SearchError)
@@ -89,7 +77,8 @@ pub truth_returned :
     → ((Skips p.forward → ⊥) → IfOk r (IsNearestThere p.forward input))
     → (input.start ≤ input.end → quit_behind p.forward (tape_in Forward input).before ≡ None
     → supports p.forward input.anchored ≡ false → r ≡ Err (unsupported_error input))
-    → (NoQuitInReach p.forward input → supports p.forward input.anchored ≡ true → minimum_cache_clear_count_of p.forward.config ≡ None
+    → (NoQuitInReach p.forward input → supports p.forward input.anchored ≡ true
+    → minimum_cache_clear_count_of p.forward.config ≡ None
     → IfErr r IsMemory)
     → (input.end < input.start → r ≡ Ok false)
     → IsTruthOf p input r

@@ -24,7 +24,8 @@ pub is_own : (rs : List Regex) (h : History) (q : Request) (answer : Reply) (r :
     → slice_get rs h.current ≡ Some r → own_fault rs h q ≡ None → IsOwnValue r h.walks q answer → IsReply rs h q answer
 is_own [] h q answer r at fine own = absurd (none_some at)
 is_own (x ∷ xs) h q answer r at fine own =
-    subst (λ (o : Option Fault). MatchOption o (IsOwnValueBy (slice_get (x ∷ xs) h.current) h.walks q answer) (λ why. answer ≡ reply.Bad why)) (sym fine)
+    subst (λ (o : Option Fault). MatchOption o (IsOwnValueBy (slice_get (x ∷ xs) h.current) h.walks q answer)
+    (λ why. answer ≡ reply.Bad why)) (sym fine)
     (subst (λ (o : Option Regex). IsOwnValueBy o h.walks q answer) (sym at) own)
 
 -- a bad request
@@ -32,13 +33,16 @@ pub is_bad : (rs : List Regex) (h : History) (q : Request) (answer : Reply) (r :
     → slice_get rs h.current ≡ Some r → own_fault rs h q ≡ Some why → answer ≡ reply.Bad why → IsReply rs h q answer
 is_bad [] h q answer r why at bad e = absurd (none_some at)
 is_bad (x ∷ xs) h q answer r why at bad e =
-    subst (λ (o : Option Fault). MatchOption o (IsOwnValueBy (slice_get (x ∷ xs) h.current) h.walks q answer) (λ why. answer ≡ reply.Bad why)) (sym bad) e
+    subst (λ (o : Option Fault). MatchOption o (IsOwnValueBy (slice_get (x ∷ xs) h.current) h.walks q answer)
+    (λ why. answer ≡ reply.Bad why)) (sym bad) e
 
 -- a reset that ran out of memory
 pub refused_reset : (rs : List Regex) (h : History) (k : ℕ) (r : Regex)
-    → slice_get rs h.current ≡ Some r → true ≡ nat_lt k (length rs) → IsReply rs h (request.Reset k) (reply.Done (Err search.OutOfMemory))
+    → slice_get rs h.current ≡ Some r → true ≡ nat_lt k (length rs)
+    → IsReply rs h (request.Reset k) (reply.Done (Err search.OutOfMemory))
 refused_reset rs h k r at lt =
-    is_own rs h (request.Reset k) (reply.Done (Err search.OutOfMemory)) r at (ap (λ b. if b then none_of else Some fault.NoRegex) (sym lt)) refl
+    is_own rs h (request.Reset k) (reply.Done (Err search.OutOfMemory)) r at
+    (ap (λ b. if b then none_of else Some fault.NoRegex) (sym lt)) refl
 
 -- what a request with no fault of its own does to the caches
 pub is_made :

@@ -29,7 +29,8 @@ module _ (rs : List Regex) where
   length-walks (v ∷ ws) (j ∷ ks) all = ap suc (length-walks ws ks all.1)
 
   -- after the last there is none
-  pub no_walk : (ws : List Begun) (ks : List KeptWalk) (n : ℕ) → AreWalks rs ws ks → length ks ≤ n → slice_get ws n ≡ None
+  pub no_walk :
+      (ws : List Begun) (ks : List KeptWalk) (n : ℕ) → AreWalks rs ws ks → length ks ≤ n → slice_get ws n ≡ None
   no_walk [] ks n all le = refl
   no_walk (v ∷ ws) [] n all le = absurd all
   no_walk (v ∷ ws) (j ∷ ks) zero all le = absurd (omega arith)

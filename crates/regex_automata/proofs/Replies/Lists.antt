@@ -49,7 +49,8 @@ module _ (regexes : List Regex) (script : List Request) where
 module _ (regexes : List Regex) (script : List Request) (first : Cache) where
   abbrev pub Continues : List Reply → History → Cache → List Request → Type 0
   Continues done h at left =
-      (rest : List Reply) → AreAnsweredAfter regexes h at left rest → AreAnsweredAfter regexes start first script (done ++ rest)
+      (rest : List Reply) → AreAnsweredAfter regexes h at left rest
+      → AreAnsweredAfter regexes start first script (done ++ rest)
 
   pub continues_turn :
       (done new : List Reply) (h : History) (at next : Cache) (i : ℕ) (q : Request) (r : Reply)
@@ -60,7 +61,8 @@ module _ (regexes : List Regex) (script : List Request) (first : Cache) where
       let cut : drop i script ≡ q ∷ drop (i + 1) script =
       rw add-one (drop-cons script i q lt ∙ ap (λ (x : Request). x ∷ drop (suc i) script) (sym is)) in
       subst (λ (xs : List Reply). AreAnsweredAfter regexes start first script (xs ++ rest)) (sym e)
-      (subst (λ (xs : List Reply). AreAnsweredAfter regexes start first script xs) (sym (append_assoc done (r ∷ []) rest))
+      (subst (λ (xs : List Reply). AreAnsweredAfter regexes start first script xs)
+      (sym (append_assoc done (r ∷ []) rest))
       (subst (λ (left : List Request). Continues done h at left) cut all (r ∷ rest) (next, of, made, more)))
 
   pub continues_end :
@@ -92,7 +94,8 @@ module _ (script : List Request) where
       let bad = reply.Bad fault.NoRegex in
       let turned : AreRepliesAfter [] h script (done ++ (bad ∷ rest)) =
       all (bad ∷ rest)
-      (λ g. subst (λ (left : List Request). AreRepliesAfter [] g left (bad ∷ rest)) (sym cut) (refl, more (after g q bad)))
+      (λ g. subst (λ (left : List Request). AreRepliesAfter [] g left (bad ∷ rest)) (sym cut)
+      (refl, more (after g q bad)))
       h in
       subst (λ (xs : List Reply). AreRepliesAfter [] h script (xs ++ rest)) (sym e)
       (subst (λ (xs : List Reply). AreRepliesAfter [] h script xs) (sym (append_assoc done (bad ∷ []) rest)) turned)

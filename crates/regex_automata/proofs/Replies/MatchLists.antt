@@ -28,7 +28,8 @@ unreported_turn p q input now ended item ms regex is going reports unreported u 
           (subst (λ (r : Regex). ReportsUnsupported r now ended item) regex reports) going u,
     )
 
-pub match_error : {m : Match} {e : SearchError} → ◌≡◌ {A = Option (Result Match SearchError)} (Some (Ok m)) (Some (Err e)) → ⊥
+pub match_error :
+    {m : Match} {e : SearchError} → ◌≡◌ {A = Option (Result Match SearchError)} (Some (Ok m)) (Some (Err e)) → ⊥
 match_error h = cc
 
 pub none_error : {e : SearchError} → ◌≡◌ {A = Option (Result Match SearchError)} None (Some (Err e)) → ⊥
@@ -60,4 +61,5 @@ memory_next p old new input now last e is le refused sound free = next refused w
   next : IsNextError p old new now last e → IsMemory e
   next (FailsHere first) = memory_of_sound p old new now e sound here first
   next (FailsLater m found empty between later) =
-      memory_of_sound p between new (from (suc now.start) now) e sound (free_from p now (suc now.start) (omega arith) here) later
+      memory_of_sound p between new (from (suc now.start) now) e sound
+      (free_from p now (suc now.start) (omega arith) here) later

@@ -1,5 +1,6 @@
 -- The list of the patterns of a set, and what walks say of it.
-use Rattle.std.proofs.Common.{◌≡◌, ◌∙◌, ◌<◌, ◌≤◌, ◌⊎◌, ℕ, zero, suc, Bool, true, false, List, [], ◌∷◌, Option, Some, None}
+use Rattle.std.proofs.Common.{◌≡◌, ◌∙◌, ◌<◌, ◌≤◌, ◌⊎◌, ℕ, zero, suc, Bool, true, false, List, [], ◌∷◌, Option, Some}
+use Rattle.std.proofs.Common.{None}
 use Rattle.std.proofs.Common.{Result, Ok, Err, IfErr, OnOk, IfSome, arith, inl, inr, length, refl, subst, sym, ap}
 use Rattle.std.specs.Prelude.{IsOk}
 use Rattle.std.proofs.lemmas.List.{length-replicate}
@@ -31,7 +32,8 @@ rising_from low k (j ∷ ks) le all = let at = all.0 in (omega arith, all.1)
 members_rise_from : (k : ℕ) (set : List Bool) → AreRising k (members_from k set)
 members_rise_from k [] = tt
 members_rise_from k (true ∷ rest) = (omega arith, members_rise_from (suc k) rest)
-members_rise_from k (false ∷ rest) = rising_from k (suc k) (members_from (suc k) rest) (omega arith) (members_rise_from (suc k) rest)
+members_rise_from k (false ∷ rest) =
+    rising_from k (suc k) (members_from (suc k) rest) (omega arith) (members_rise_from (suc k) rest)
 
 pub members_rise : (set : List Bool) (found : List ℕ) → found ≡ members set → AreRising 0 found
 members_rise set found is = subst (λ (ks : List ℕ). AreRising 0 ks) (sym is) (members_rise_from 0 set)
@@ -44,7 +46,8 @@ pub patterns_reported :
 patterns_reported P input capacity old new found fresh none is reported =
     subst (λ (ks : List ℕ). ArePatterns P input capacity [] ks) (sym is)
     (subst (λ (ks : List ℕ). ArePatterns P input capacity ks (members new)) none
-    (subst (λ n. ArePatterns P input n (members old) (members new)) (ap length fresh ∙ length-replicate capacity false) reported))
+    (subst (λ n. ArePatterns P input n (members old) (members new)) (ap length fresh ∙ length-replicate capacity false)
+    reported))
 
 -- the same of a call that may have failed
 pub reported_where :
@@ -70,12 +73,14 @@ called_reported :
     → HasReported Forward m input walk calls × ((k : ℕ) → k < calls → IsOpenAfter m input set k)
 called_reported m input set zero old walk new (NoCall walk1 new1 fresh same) =
     (subst (λ (w : Walk). HasReported Forward m input w 0) (sym fresh) (refl, refl), λ k l. absurd (omega (arith, l)))
-called_reported m input set (suc calls) old walk new (OneMore calls1 before walk1 mid new1 called is_open there reports ended) =
+called_reported m input set (suc calls) old walk new
+    (OneMore calls1 before walk1 mid new1 called is_open there reports ended) =
     let reported = called_reported m input set calls old before mid called in
     ((reports calls reported.0).0, up_to (IsOpenAfter m input set) calls reported.1 is_open)
 
 pub reported_set :
-    (m : Machine) (input : Input) (set : List Bool) (old new : Known) → EndsSet m input set old new → HasReportedSet m input set
+    (m : Machine) (input : Input) (set : List Bool) (old new : Known) → EndsSet m input set old new
+    → HasReportedSet m input set
 reported_set m input set old new s =
     let reported = called_reported m input set s.calls old s.walk new s.called in
     record { calls = s.calls; walk = s.walk; reported = reported.0; on = reported.1; last = s.last }

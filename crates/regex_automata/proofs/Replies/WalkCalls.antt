@@ -1,5 +1,6 @@
 -- Calls of a walk, by how many have answered before.
-use Rattle.std.proofs.Common.{◌≡◌, ◌∙◌, ◌+◌, ◌<◌, ◌≤◌, ℕ, suc, false, List, length, Option, None, Ok, Err, IfSome, add-one, ap, arith}
+use Rattle.std.proofs.Common.{◌≡◌, ◌∙◌, ◌+◌, ◌<◌, ◌≤◌, ℕ, suc, false, List, length, Option, None, Ok, Err, IfSome}
+use Rattle.std.proofs.Common.{add-one, ap, arith}
 use Rattle.std.proofs.Common.{refl, subst, sym}
 use Rattle.automata_base.specs.Answers.Answers.{IsOverlapping}
 use Rattle.automata_base.specs.Haystacks.Input.{Input}
@@ -22,7 +23,8 @@ use Rattle.automata_hybrid.proofs.Walks.CachedSets.{half_none}
 use Rattle.regex_automata.specs.Spans.Contracts.{IsStep}
 use Rattle.regex_automata.specs.Replay.Caches.{HasAnswered}
 
-not_supported : (m : Machine) (mode : Anchored) (behind : Option ℕ) → MayStart m mode behind → supports m mode ≡ false → ⊥
+not_supported :
+    (m : Machine) (mode : Anchored) (behind : Option ℕ) → MayStart m mode behind → supports m mode ≡ false → ⊥
 not_supported m mode behind may e = let f = may.1 in cc
 
 -- a walk whose anchored mode is not supported has not begun
@@ -93,6 +95,8 @@ module _ (way : Direction) (m : Machine) (input : Input) (old : Walk) (k : ℕ) 
       subst (λ (w : Walk). HasAnswered way m input w k) (sym is) (record { reported = h.reported; ended = h.ended })
 
 -- a walk that has not begun has answered no call
-pub fresh_answered : (way : Direction) (m : Machine) (input : Input) (w : Walk) → w ≡ fresh_walk → HasAnswered way m input w 0
+pub fresh_answered :
+    (way : Direction) (m : Machine) (input : Input) (w : Walk) → w ≡ fresh_walk → HasAnswered way m input w 0
 fresh_answered way m input w is =
-    subst (λ (v : Walk). HasAnswered way m input v 0) (sym is) (record { reported = (refl, refl); ended = λ pairs all. (λ over. absurd (cc), λ lt. absurd (omega arith)) })
+    subst (λ (v : Walk). HasAnswered way m input v 0) (sym is)
+    (record { reported = (refl, refl); ended = λ pairs all. (λ over. absurd (cc), λ lt. absurd (omega arith)) })

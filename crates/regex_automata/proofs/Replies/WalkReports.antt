@@ -11,7 +11,8 @@ use Rattle.automata_config.specs.declared.error.SearchError.{SearchError}
 use Rattle.automata_hybrid.specs.Walks.Answers.{half_nth}
 use Rattle.regex_automata.specs.Replay.Histories.{Begun, History, start, stepped, step_at, after, history}
 use Rattle.regex_automata.specs.Spans.Contracts.{IsStep}
-use Rattle.regex_automata.specs.Replay.Replies.{IsReply, IsOwnValueBy, IsStepOf, walk_fault, AreReplies, AreRepliesAfter}
+use Rattle.regex_automata.specs.Replay.Replies.{IsReply, IsOwnValueBy, IsStepOf, walk_fault, AreReplies}
+use Rattle.regex_automata.specs.Replay.Replies.{AreRepliesAfter}
 use Rattle.regex_automata.specs.Replay.Replies.{AreReportedFrom, report, reported_to, ReportWalks, dfa_of}
 use Rattle.regex_automata.specs.declared.hybrid.regex.Regex.{Regex}
 use Rattle.regex_automata.specs.declared.replay.requests.Request.{Request}
@@ -45,12 +46,16 @@ becomes_itself (Some v) w e =
     (ap (λ (x : Begun). x.regex) i, ap (λ (x : Begun). x.way) i, ap (λ (x : Begun). x.input) i)
 
 -- a walk that is begun has reported nothing, and the others stay
-push_other : (ws : List Begun) (new : Begun) (k : ℕ) (v : Begun) → slice_get ws k ≡ Some v → slice_get (ws ++ new ∷ []) k ≡ Some v
+push_other :
+    (ws : List Begun) (new : Begun) (k : ℕ) (v : Begun) → slice_get ws k ≡ Some v
+    → slice_get (ws ++ new ∷ []) k ≡ Some v
 push_other [] new k v e = absurd (none_some e)
 push_other (x ∷ ws) new zero v e = e
 push_other (x ∷ ws) new (suc k) v e = push_other ws new k v e
 
-push_reported : (ws : List Begun) (new : Begun) (k : ℕ) → new.reported ≡ 0 → slice_get ws k ≡ None → reported_of (slice_get (ws ++ new ∷ []) k) ≡ 0
+push_reported :
+    (ws : List Begun) (new : Begun) (k : ℕ) → new.reported ≡ 0 → slice_get ws k ≡ None
+    → reported_of (slice_get (ws ++ new ∷ []) k) ≡ 0
 push_reported [] new zero z e = z
 push_reported [] new (suc k) z e = refl
 push_reported (x ∷ ws) new zero z e = absurd (some_none e)
@@ -76,7 +81,8 @@ step_other (x ∷ ws) (suc j) (suc k) ne = step_other ws j k (λ e. ne (ap suc e
 -- an Ok reply to a step: its walk exists and belongs to the current regex
 by_regex :
     (ws : List Begun) (k : ℕ) (b : Bool) (r : Option Regex) (found : Option HalfMatch)
-    → MatchOption (if b then None else Some fault.OtherRegex) (IsOwnValueBy r ws (request.StepWalk k) (reply.Half (Ok found)))
+    → MatchOption (if b then None else Some fault.OtherRegex)
+    (IsOwnValueBy r ws (request.StepWalk k) (reply.Half (Ok found)))
     (λ why. reply.Half (Ok found) ≡ reply.Bad why)
     → (b ≡ true) × ((x : Regex) × (r ≡ Some x) × IsStepOf x (slice_get ws k) (Ok found))
 by_regex ws k true None found own = absurd own
@@ -87,7 +93,8 @@ by_walk :
     (ws : List Begun) (k current : ℕ) (o : Option Begun) (r : Option Regex) (found : Option HalfMatch)
     → MatchOption (walk_fault current o) (IsOwnValueBy r ws (request.StepWalk k) (reply.Half (Ok found)))
     (λ why. reply.Half (Ok found) ≡ reply.Bad why)
-    → (v : Begun) × (o ≡ Some v) × (v.regex ≡ current) × ((x : Regex) × (r ≡ Some x) × IsStepOf x (slice_get ws k) (Ok found))
+    → (v : Begun) × (o ≡ Some v) × (v.regex ≡ current)
+    × ((x : Regex) × (r ≡ Some x) × IsStepOf x (slice_get ws k) (Ok found))
 by_walk ws k current None r found own = absurd (half_bad own)
 by_walk ws k current (Some v) r found own =
     let (same, step) = by_regex ws k (v.regex == current) r found own in
@@ -96,16 +103,19 @@ by_walk ws k current (Some v) r found own =
 step_of :
     (rs : List Regex) (h : History) (k : ℕ) (found : Option HalfMatch)
     → IsReply rs h (request.StepWalk k) (reply.Half (Ok found))
-    → (v : Begun) × (slice_get h.walks k ≡ Some v) × ((x : Regex) × (slice_get rs v.regex ≡ Some x) × IsStepOf x (Some v) (Ok found))
+    → (v : Begun) × (slice_get h.walks k ≡ Some v)
+    × ((x : Regex) × (slice_get rs v.regex ≡ Some x) × IsStepOf x (Some v) (Ok found))
 step_of [] h k found own = absurd (half_bad own)
 step_of (y ∷ rs) h k found own =
-    let (v, at, current, (x, is, step)) = by_walk h.walks k h.current (slice_get h.walks k) (slice_get (y ∷ rs) h.current) found own in
+    let (v, at, current, (x, is, step)) =
+    by_walk h.walks k h.current (slice_get h.walks k) (slice_get (y ∷ rs) h.current) found own in
     (v, at, (x, ap (slice_get (y ∷ rs)) current ∙ is, subst (λ (o : Option Begun). IsStepOf x o (Ok found)) at step))
 
 -- the walk `w` of the regex `r`: each Ok reply to its steps is a pair of this list, or none after the last
 module _
     (rs : List Regex) (k : ℕ) (w : Begun) (r : Regex) (of : slice_get rs w.regex ≡ Some r) (pairs : List Pair)
-    (names : (reported : ℕ) (found : Option HalfMatch) → IsStep w.way (dfa_of w.way r) w.input reported (Ok found) → found ≡ half_nth pairs reported) where
+    (names : (reported : ℕ) (found : Option HalfMatch) → IsStep w.way (dfa_of w.way r) w.input reported (Ok found)
+    → found ≡ half_nth pairs reported) where
   -- what is reported of a walk from where it stands now, which is the walk `w` at the end
   abbrev Reports : Option Begun → List (Option HalfMatch) → Type 0
   Reports now steps = AreReportedFrom (reported_of now) pairs steps × Becomes now w
@@ -117,7 +127,8 @@ module _
   over_begin new ws steps (Some v) e z h = subst (λ (o : Option Begun). Reports o steps) (push_other ws new k v e) h
 
   same_step :
-      (v : Begun) (x : Regex) (found : Option HalfMatch) → Same v w → slice_get rs v.regex ≡ Some x → IsStepOf x (Some v) (Ok found)
+      (v : Begun) (x : Regex) (found : Option HalfMatch) → Same v w → slice_get rs v.regex ≡ Some x
+      → IsStepOf x (Some v) (Ok found)
       → found ≡ half_nth pairs v.reported
   same_step v x found (regex, way, input) at step =
       let same : x ≡ r = some_inj (sym at ∙ ap (slice_get rs) regex ∙ of) in
@@ -132,15 +143,18 @@ module _
       → Reports (slice_get (step_at k h.walks) k) steps → Reports (slice_get h.walks k) (found ∷ steps)
   over_own_step h found steps own more =
       let (v, at, (x, is, step)) = step_of rs h k found own in
-      let m : Reports (Some (stepped v)) steps = subst (λ (o : Option Begun). Reports o steps) (step_same h.walks k ∙ ap with_step at) more in
+      let m : Reports (Some (stepped v)) steps =
+      subst (λ (o : Option Begun). Reports o steps) (step_same h.walks k ∙ ap with_step at) more in
       let first : found ≡ half_nth pairs v.reported = same_step v x found m.1 is step in
-      let later : AreReportedFrom (suc v.reported) pairs steps = subst (λ n. AreReportedFrom n pairs steps) (add-one v.reported) m.0 in
+      let later : AreReportedFrom (suc v.reported) pairs steps =
+      subst (λ n. AreReportedFrom n pairs steps) (add-one v.reported) m.0 in
       subst (λ (o : Option Begun). Reports o (found ∷ steps)) (sym at) ((first, later), m.1)
 
   over_step :
       (h : History) (j : ℕ) (found : Option HalfMatch) (steps : List (Option HalfMatch)) (b : Bool)
       → (j == k) ≡ b → IsReply rs h (request.StepWalk j) (reply.Half (Ok found))
-      → Reports (slice_get (step_at j h.walks) k) steps → Reports (slice_get h.walks k) (if b then found ∷ steps else steps)
+      → Reports (slice_get (step_at j h.walks) k) steps
+      → Reports (slice_get h.walks k) (if b then found ∷ steps else steps)
   over_step h j found steps true e own more =
       let same : j ≡ k = eqb-true j k e in
       over_own_step h found steps (subst (λ n. IsReply rs h (request.StepWalk n) (reply.Half (Ok found))) same own)
@@ -151,8 +165,10 @@ module _
   -- back over one request
   over_begins :
       (h : History) (way : Direction) (input : Input) (a : Reply) (steps : List (Option HalfMatch))
-      → Reports (slice_get (after h (request.BeginWalk way input) a).walks k) steps → Reports (slice_get h.walks k) steps
-  over_begins h way input (reply.Begun (Ok n)) steps more = over_begin _ h.walks steps (slice_get h.walks k) refl refl more
+      → Reports (slice_get (after h (request.BeginWalk way input) a).walks k) steps
+      → Reports (slice_get h.walks k) steps
+  over_begins h way input (reply.Begun (Ok n)) steps more =
+      over_begin _ h.walks steps (slice_get h.walks k) refl refl more
   over_begins h way input (reply.Begun (Err e)) steps more = more
   over_begins h way input (reply.Half x) steps more = more
   over_begins h way input (reply.Span x) steps more = more
@@ -165,7 +181,8 @@ module _
 
   over_steps :
       (h : History) (j : ℕ) (a : Reply) (steps : List (Option HalfMatch)) → IsReply rs h (request.StepWalk j) a
-      → Reports (slice_get (after h (request.StepWalk j) a).walks k) steps → Reports (slice_get h.walks k) (report k (request.StepWalk j) a steps)
+      → Reports (slice_get (after h (request.StepWalk j) a).walks k) steps
+      → Reports (slice_get h.walks k) (report k (request.StepWalk j) a steps)
   over_steps h j (reply.Half (Ok found)) steps own more = over_step h j found steps (j == k) refl own more
   over_steps h j (reply.Half (Err e)) steps own more = more
   over_steps h j (reply.Begun x) steps own more = more
@@ -208,16 +225,24 @@ module _
   -- and over a script
   reports :
       (h : History) (qs : List Request) (answers : List Reply)
-      → AreRepliesAfter rs h qs answers → slice_get (history h qs answers).walks k ≡ Some w → Reports (slice_get h.walks k) (reported_to k qs answers)
+      → AreRepliesAfter rs h qs answers → slice_get (history h qs answers).walks k ≡ Some w
+      → Reports (slice_get h.walks k) (reported_to k qs answers)
   reports h [] [] all e = (tt, becomes_itself (slice_get h.walks k) w e)
   reports h [] (a ∷ answers) all e = absurd all
   reports h (q ∷ qs) [] all e = absurd all
-  reports h (q ∷ qs) (a ∷ answers) all e = over_request h q a (reported_to k qs answers) all.0 (reports (after h q a) qs answers all.1 e)
+  reports h (q ∷ qs) (a ∷ answers) all e =
+      over_request h q a (reported_to k qs answers) all.0 (reports (after h q a) qs answers all.1 e)
 
-pub report_walks : (rs : List Regex) (script : List Request) (answers : List Reply) → AreReplies rs script answers → ReportWalks rs script answers
+pub report_walks :
+    (rs : List Regex) (script : List Request) (answers : List Reply) → AreReplies rs script answers
+    → ReportWalks rs script answers
 report_walks rs script answers all = λ k w r e of. record {
-  reported = λ pairs list. (reports rs k w r of pairs (λ reported found step. step.pair pairs list) start script answers all e).0;
-  paths = λ cycles pairs list. (reports rs k w r of pairs (λ reported found step. step.paths cycles pairs list) start script answers all e).0;
+  reported =
+      λ pairs list.
+      (reports rs k w r of pairs (λ reported found step. step.pair pairs list) start script answers all e).0;
+  paths =
+      λ cycles pairs list.
+      (reports rs k w r of pairs (λ reported found step. step.paths cycles pairs list) start script answers all e).0;
 }
 
 pub all_report :

@@ -32,19 +32,22 @@ module _ (agree : AnswersAgree) (p other : Regex) (alike : AreAlike p other) (in
   same_engine : forward_engine other ≡ forward_engine p
   same_engine = ap₂ (λ (a : Automaton) (k : MatchKind). engine_of a k) (sym alike.forward) (sym alike.forward_kind)
 
-  same_start : (half : Half) (a b : ℕ) → IsStartFound p input half (Some a) → IsStartFound other input half (Some b) → a ≡ b
+  same_start :
+      (half : Half) (a b : ℕ) → IsStartFound p input half (Some a) → IsStartFound other input half (Some b) → a ≡ b
   same_start half a b f g =
       go f (subst (λ (d : Engine). FindsStartBy (IsFound Backward other.reverse) d input half (Some b)) same_engine g)
     where
       go :
-          IsStartFound p input half (Some a) → FindsStartBy (IsFound Backward other.reverse) (forward_engine p) input half (Some b)
+          IsStartFound p input half (Some a)
+          → FindsStartBy (IsFound Backward other.reverse) (forward_engine p) input half (Some b)
           → a ≡ b
       go (StartIsBase short s) (StartIsBase short' t) = s ∙ sym t
       go (StartIsBase short s) (StartIsFound long h found t) = absurd (long short)
       go (StartIsFound long h found s) (StartIsBase short t) = absurd (long short)
       go (StartIsFound long g found s) (StartIsFound long' h found' t) =
           let same : ◌≡◌ {A = Option Half} (Some g) (Some h) =
-          agree Backward p.reverse other.reverse (back input half) (Some g) (Some h) alike.reverse alike.reverse_kind found found' in
+          agree Backward p.reverse other.reverse (back input half) (Some g) (Some h) alike.reverse alike.reverse_kind
+          found found' in
           s ∙ ap (λ (h : Half). h.offset) (some_inj same) ∙ sym t
 
   same_match : (a b : Option Match) → FindsMatch p input a → FindsMatch other input b → a ≡ b
@@ -66,12 +69,14 @@ matches_agree agree p other input a b alike f g = same_match agree p other alike
 module _ (one : ReportedIsOne) where
   pub truths_agree : TruthsAgree
   truths_agree m other input a b nfa kind f g =
-      f.2 ∙ ap (λ (o : Option Half). is_some o) (one Forward m.nfa (match_kind_of m.config) (in_full input) f.0 g.0 f.1 reported) ∙ sym g.2
+      f.2 ∙ ap (λ (o : Option Half). is_some o)
+      (one Forward m.nfa (match_kind_of m.config) (in_full input) f.0 g.0 f.1 reported) ∙ sym g.2
     where
       reported : IsReported Forward m.nfa (match_kind_of m.config) (in_full input) g.0
       reported =
           subst (λ (k : MatchKind). IsReported Forward m.nfa k (in_full input) g.0) (sym kind)
-          (subst (λ (a : Automaton). IsReported Forward a (match_kind_of other.config) (in_full input) g.0) (sym nfa) g.1)
+          (subst (λ (a : Automaton). IsReported Forward a (match_kind_of other.config) (in_full input) g.0) (sym nfa)
+          g.1)
 
   -- by what the forward search found it is known whether there is a match
   front_truth :
@@ -89,8 +94,12 @@ module _ (one : ReportedIsOne) where
 
     part : input.earliest ≡ true → (Skips m → ⊥) → truth ≡ is_some o
     part e whole =
-        let w = match_reported m input whole o (subst (λ b. IsReported Forward m.nfa (match_kind_of m.config) (record input { earliest = b }) o) e here) in
-        reported.2 ∙ ap (λ (v : Option Half). is_some v) (one Forward m.nfa (match_kind_of m.config) (in_full input) reported.0 w.0 reported.1 w.1) ∙ sym w.2
+        let w =
+        match_reported m input whole o
+        (subst (λ b. IsReported Forward m.nfa (match_kind_of m.config) (record input { earliest = b }) o) e here) in
+        reported.2
+        ∙ ap (λ (v : Option Half). is_some v)
+        (one Forward m.nfa (match_kind_of m.config) (in_full input) reported.0 w.0 reported.1 w.1) ∙ sym w.2
 
     go : (input.earliest ≡ false) ⊎ (Skips m → ⊥) → (b : Bool) → input.earliest ≡ b → truth ≡ is_some o
     go (inl e) b is = full e
@@ -99,4 +108,5 @@ module _ (one : ReportedIsOne) where
 
   pub truth_is_found : TruthIffFound
   truth_is_found p input truth None may reported f = front_truth p.forward input truth None may reported f
-  truth_is_found p input truth (Some m) may reported f = front_truth p.forward input truth (Some f.half) may reported f.front
+  truth_is_found p input truth (Some m) may reported f =
+      front_truth p.forward input truth (Some f.half) may reported f.front

@@ -20,7 +20,9 @@ use Rattle.regex_automata.specs.declared.hybrid.regex.caches.Cache.{Cache}
 use Rattle.automata_base.proofs.Paths.Orders.{none_some, some_inj}
 
 -- the progress of searches does not matter
-still_back : (p : Regex) (a b : Known) (input : Input) (half : Half) → IsStill a b → KnowsBack p a input half → KnowsBack p b input half
+still_back :
+    (p : Regex) (a b : Known) (input : Input) (half : Half) → IsStill a b → KnowsBack p a input half
+    → KnowsBack p b input half
 still_back p a b input half s knows = subst (λ (c : Known). KnowsBack p c input half) (sym s) knows
 
 pub still_both : (p : Regex) (a b : Cache) (input : Input) → AreStill a b → KnowsBoth p a input → KnowsBoth p b input
@@ -59,12 +61,15 @@ pub both_stays :
 both_stays p front rear a b input grown nothing knows = (
   front Forward input (known_of a.forward) (known_of b.forward) grown.0 nothing.0 knows.0,
   λ half found long.
-      rear Backward (back input half) (known_of a.reverse) (known_of b.reverse) grown.1 nothing.1 (knows.1 half found long),
+      rear Backward (back input half) (known_of a.reverse) (known_of b.reverse) grown.1 nothing.1
+      (knows.1 half found long),
 )
 
 -- a search that finds no empty match at the last end is the only one
 module _ (agree : MatchesAgree) (p : Regex) (input : Input) (last : Option ℕ) where
-  stands : (o : Option Match) → FindsMatch p input o → ((m : Match) → o ≡ Some m → IsEmptyAt last m → ⊥) → FindsEmptyAt p input last → ⊥
+  stands :
+      (o : Option Match) → FindsMatch p input o → ((m : Match) → o ≡ Some m → IsEmptyAt last m → ⊥)
+      → FindsEmptyAt p input last → ⊥
   stands o found full (m, other, empty) = full m (agree p p input o (Some m) same found other) empty where
     same : AreAlike p p
     same = record { forward = refl; forward_kind = refl; reverse = refl; reverse_kind = refl }
@@ -73,7 +78,8 @@ module _ (agree : MatchesAgree) (p : Regex) (input : Input) (last : Option ℕ) 
   stands_none found = stands None found (λ m e empty. none_some e)
 
   pub stands_some : (m : Match) → FindsMatch p input (Some m) → (IsEmptyAt last m → ⊥) → FindsEmptyAt p input last → ⊥
-  stands_some m found full = stands (Some m) found (λ n e empty. full (subst (λ (v : Match). IsEmptyAt last v) (sym (some_inj e)) empty))
+  stands_some m found full =
+      stands (Some m) found (λ n e empty. full (subst (λ (v : Match). IsEmptyAt last v) (sym (some_inj e)) empty))
 
 -- what it left cached
 pub alone :

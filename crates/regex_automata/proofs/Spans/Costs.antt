@@ -24,17 +24,20 @@ use Rattle.automata_base.proofs.Paths.Orders.{none_some, some_inj, some_none}
 pub back_reach :
     (m : Machine) (input : Input) (half : Half) → input.start ≤ half.base → half.offset ≤ input.end
     → NoQuitInReach m input → NoQuitInReach m (back input half)
-back_reach m input half from within reach = λ at byte s e n. reach at byte (omega (arith, from, s)) (omega (arith, within, e)) n
+back_reach m input half from within reach =
+    λ at byte s e n. reach at byte (omega (arith, from, s)) (omega (arith, within, e)) n
 
 -- what the search back found, as a half match with its base
 pub back_some :
-    (m : Machine) (rest : Input) (o : Option HalfMatch) (found : HalfMatch) → WithoutBase (IsFound Backward m rest) o → o ≡ Some found
+    (m : Machine) (rest : Input) (o : Option HalfMatch) (found : HalfMatch) → WithoutBase (IsFound Backward m rest) o
+    → o ≡ Some found
     → (half : Half) × IsFound Backward m rest (Some half) × (found.offset ≡ half.offset)
 back_some m rest o found (None, f, e) is = absurd (some_none (sym is ∙ e))
 back_some m rest o found (Some half, f, e) is = (half, f, ap (λ (h : HalfMatch). h.offset) (some_inj (sym is ∙ e)))
 
 pub back_none :
-    (m : Machine) (rest : Input) (o : Option HalfMatch) → WithoutBase (IsFound Backward m rest) o → o ≡ None → IsFound Backward m rest None
+    (m : Machine) (rest : Input) (o : Option HalfMatch) → WithoutBase (IsFound Backward m rest) o → o ≡ None
+    → IsFound Backward m rest None
 back_none m rest o (None, f, e) is = f
 back_none m rest o (Some half, f, e) is = absurd (none_some (sym is ∙ e))
 
@@ -47,20 +50,25 @@ back_within m input half found within few f =
 
 -- A forward search has one answer.
 module _ (agree : AnswersAgree) (p : Regex) (input : Input) where
-  pub same_half : (a b : Half) → IsFound Forward p.forward input (Some a) → IsFound Forward p.forward input (Some b) → a ≡ b
+  pub same_half :
+      (a b : Half) → IsFound Forward p.forward input (Some a) → IsFound Forward p.forward input (Some b) → a ≡ b
   same_half a b f g = some_inj (agree Forward p.forward p.forward input (Some a) (Some b) refl refl f g)
 
   -- all that both searches use is cached
   pub knows_both :
-      (c : Cache) (half : Half) → Knows Forward p.forward (known_of c.forward) input → IsFound Forward p.forward input (Some half)
+      (c : Cache) (half : Half) → Knows Forward p.forward (known_of c.forward) input
+      → IsFound Forward p.forward input (Some half)
       → KnowsBack p (known_of c.reverse) input half → KnowsBoth p c input
   knows_both c half knows found rest =
-      (knows, λ other f. subst (λ (h : Half). KnowsBack p (known_of c.reverse) input h) (same_half half other found f) rest)
+      (knows, λ other f. subst (λ (h : Half). KnowsBack p (known_of c.reverse) input h) (same_half half other found f)
+      rest)
 
   pub knows_front :
-      (c : Cache) → Knows Forward p.forward (known_of c.forward) input → IsFound Forward p.forward input None → KnowsBoth p c input
+      (c : Cache) → Knows Forward p.forward (known_of c.forward) input → IsFound Forward p.forward input None
+      → KnowsBoth p c input
   knows_front c knows found =
-      (knows, λ other f. absurd (none_some (agree Forward p.forward p.forward input None (Some other) refl refl found f)))
+      (knows, λ other f. absurd
+      (none_some (agree Forward p.forward p.forward input None (Some other) refl refl found f)))
 
 -- what the forward search found, with the start of the span that gave it
 pub front_some :
@@ -68,17 +76,21 @@ pub front_some :
     → IsFound Forward m input (option_map (λ (p : HalfMatch × ℕ). with_base p.0 p.1) o) → o ≡ Some (half, base)
     → IsFound Forward m input (Some (with_base half base))
 front_some m input o half base f is =
-    subst (λ (v : Option (HalfMatch × ℕ)). IsFound Forward m input (option_map (λ (p : HalfMatch × ℕ). with_base p.0 p.1) v)) is f
+    subst (λ (v : Option (HalfMatch × ℕ)). IsFound Forward m input
+    (option_map (λ (p : HalfMatch × ℕ). with_base p.0 p.1) v)) is f
 
 pub front_none :
     (m : Machine) (input : Input) (o : Option (HalfMatch × ℕ))
-    → IsFound Forward m input (option_map (λ (p : HalfMatch × ℕ). with_base p.0 p.1) o) → o ≡ None → IsFound Forward m input None
+    → IsFound Forward m input (option_map (λ (p : HalfMatch × ℕ). with_base p.0 p.1) o) → o ≡ None
+    → IsFound Forward m input None
 front_none m input o f is =
-    subst (λ (v : Option (HalfMatch × ℕ)). IsFound Forward m input (option_map (λ (p : HalfMatch × ℕ). with_base p.0 p.1) v)) is f
+    subst (λ (v : Option (HalfMatch × ℕ)). IsFound Forward m input
+    (option_map (λ (p : HalfMatch × ℕ). with_base p.0 p.1) v)) is f
 
 -- a start that was found lies between the two
 pub start_within :
-    (base end : ℕ) (o : Option ℕ) (start : ℕ) → IfSome o (λ s. (base ≤ s) × (s ≤ end)) → o ≡ Some start → (base ≤ start) × (start ≤ end)
+    (base end : ℕ) (o : Option ℕ) (start : ℕ) → IfSome o (λ s. (base ≤ s) × (s ≤ end)) → o ≡ Some start → (base ≤ start)
+    × (start ≤ end)
 start_within base end None start w is = absurd (none_some is)
 start_within base end (Some s) start w is = subst (λ n. (base ≤ n) × (n ≤ end)) (some_inj is) w
 

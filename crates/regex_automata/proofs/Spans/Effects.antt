@@ -18,7 +18,8 @@ use Rattle.regex_automata.specs.declared.tokens.token.Token.{Token}
 
 -- what an item makes of the caches, by the regex that the loop was given
 pub run_turn :
-    (p q : Regex) (now : Input) (last : Option ℕ) (ended : Bool) (at next : Cache) (item : Option (Result Match SearchError))
+    (p q : Regex) (now : Input) (last : Option ℕ) (ended : Bool) (at next : Cache)
+    (item : Option (Result Match SearchError))
     → p ≡ q → ended ≡ false → IsItemRun p now last ended at next item → IsNextRun q now last at next (item_error item)
 run_turn p q now last ended at next item regex going run =
     subst (λ (r : Regex). IsItemRun r now last false at next item) regex
@@ -32,7 +33,8 @@ Searches p first input found at now last =
     → AreSearched p at new now last ms error → AreSearched p first new input None (found ++ ms) error
 
 pub searches_turn :
-    (p : Regex) (first at next : Cache) (input now rest : Input) (last last' : Option ℕ) (found more : List Match) (m : Match)
+    (p : Regex) (first at next : Cache) (input now rest : Input) (last last' : Option ℕ) (found more : List Match)
+    (m : Match)
     → Searches p first input found at now last → IsNextRun p now last at next None
     → rest ≡ from m.end now → last' ≡ Some m.end → more ≡ found ++ m ∷ []
     → Searches p first input more next rest last'
@@ -48,12 +50,14 @@ searches_turn p first at next input now rest last last' found more m all effect 
     )))
 
 pub searches_end :
-    (p : Regex) (first at new final : Cache) (input now : Input) (last : Option ℕ) (found list : List Match) (error : Option SearchError)
+    (p : Regex) (first at new final : Cache) (input now : Input) (last : Option ℕ) (found list : List Match)
+    (error : Option SearchError)
     → Searches p first input found at now last → AreSearchedLast p at new now last error → list ≡ found → new ≡ final
     → AreSearched p first final input None list error
 searches_end p first at new final input now last found list error all ends items same =
     subst (λ (c : Cache). AreSearched p first c input None list error) same
-    (subst (λ (xs : List Match). AreSearched p first new input None xs error) (append-nil found ∙ sym items) (all new [] error ends))
+    (subst (λ (xs : List Match). AreSearched p first new input None xs error) (append-nil found ∙ sym items)
+    (all new [] error ends))
 
 -- the same of tokens
 abbrev pub TokensSearch :
@@ -72,7 +76,8 @@ token_made_turn p q h h' end end' place at next item regex haystack last effect 
     (subst (λ n. IsTokenMade p.forward h n place at next item) last effect))
 
 pub tokens_turn :
-    (m : Machine) (h : List ℕ) (end start : ℕ) (first at next : Cache) (found more : List Match) (place place' : ℕ) (token : Token)
+    (m : Machine) (h : List ℕ) (end start : ℕ) (first at next : Cache) (found more : List Match) (place place' : ℕ)
+    (token : Token)
     → TokensSearch m h end start first found at place → IsTokenMade m h end place at next (Some (Ok token))
     → more ≡ found ++ match_of token ∷ [] → place' ≡ (match_of token).end
     → TokensSearch m h end start first more next place'
@@ -80,16 +85,20 @@ tokens_turn m h end start first at next found more place place' token all effect
     λ new ts error searched.
     let t = match_of token in
     subst (λ (xs : List Match). AreTokensSearched m h end start first new (xs ++ ts) error) (sym items)
-    (subst (λ (xs : List Match). AreTokensSearched m h end start first new xs error) (sym (append_assoc found (t ∷ []) ts))
+    (subst (λ (xs : List Match). AreTokensSearched m h end start first new xs error)
+    (sym (append_assoc found (t ∷ []) ts))
     (all new (t ∷ ts) error
-    (next, record { token = token; is = refl; made = effect }, subst (λ n. AreTokensSearched m h end n next new ts error) behind searched)))
+    (next, record { token = token; is = refl; made = effect }, subst
+    (λ n. AreTokensSearched m h end n next new ts error) behind searched)))
 
 pub tokens_end :
-    (m : Machine) (h : List ℕ) (end start : ℕ) (first at new : Cache) (found list : List Match) (place : ℕ) (error : Option TokenError)
+    (m : Machine) (h : List ℕ) (end start : ℕ) (first at new : Cache) (found list : List Match) (place : ℕ)
+    (error : Option TokenError)
     → TokensSearch m h end start first found at place → IsTokenSearchedLast m h end place at new error → list ≡ found
     → AreTokensSearched m h end start first new list error
 tokens_end m h end start first at new found list place error all ends items =
-    subst (λ (xs : List Match). AreTokensSearched m h end start first new xs error) (append-nil found ∙ sym items) (all new [] error ends)
+    subst (λ (xs : List Match). AreTokensSearched m h end start first new xs error) (append-nil found ∙ sym items)
+    (all new [] error ends)
 
 -- over the caches as they are left
 pub tokens_left :

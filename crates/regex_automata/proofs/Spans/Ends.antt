@@ -19,7 +19,8 @@ module _ (p : Regex) where
   abbrev Lies : Input → Match → Type 0
   Lies input m = (input.start ≤ m.start) × (m.start ≤ m.end) × (m.end ≤ input.end)
 
-  pub find_lies : (input : Input) (m : Match) → input.end ≤ length input.haystack → FindsMatch p input (Some m) → Lies input m
+  pub find_lies :
+      (input : Input) (m : Match) → input.end ≤ length input.haystack → FindsMatch p input (Some m) → Lies input m
   find_lies input m few f = go f.start where
     low : (input.start ≤ f.half.base) × (f.half.base ≤ f.half.offset)
     low = let w = found_within Forward p.forward input f.half few f.front in (w.1, w.2)

@@ -1,5 +1,6 @@
 -- What follows of the runs of searches over two lazy DFAs.
-use Rattle.std.proofs.Common.{ℕ, suc, ◌≡◌, ◌∙◌, ◌+◌, ◌≤◌, ◌<◌, ◌⊎◌, inl, inr, Option, Some, None, refl, sym, ap, subst, arith}
+use Rattle.std.proofs.Common.{ℕ, suc, ◌≡◌, ◌∙◌, ◌+◌, ◌≤◌, ◌<◌, ◌⊎◌, inl, inr, Option, Some, None, refl, sym, ap, subst}
+use Rattle.std.proofs.Common.{arith}
 use Rattle.std.specs.Prelude.{IfSome}
 use Rattle.automata_base.specs.Answers.Answers.{Half, IsInput}
 use Rattle.automata_base.specs.Haystacks.Input.{Input}
@@ -22,29 +23,35 @@ use Rattle.automata_hybrid.specs.Searches.Cached.{IsOfInput}
 use Rattle.automata_hybrid.specs.Searches.Passes.{IsFound}
 use Rattle.automata_hybrid.proofs.Known.Growth.{grown_same}
 use Rattle.regex_automata.specs.Regexes.Caches.{AreKnown, KnowsBack}
-use Rattle.regex_automata.specs.Spans.Errors.{BackFails, FailsHere, FailsLater, FrontFails, HasReason, IsBackError, IsNextError}
+use Rattle.regex_automata.specs.Spans.Errors.{BackFails, FailsHere, FailsLater, FrontFails, HasReason, IsBackError}
+use Rattle.regex_automata.specs.Spans.Errors.{IsNextError}
 use Rattle.regex_automata.specs.Spans.Errors.{IsOfGiven, IsRegexError}
 use Rattle.regex_automata.specs.Spans.Errors.{NoStart}
-use Rattle.regex_automata.specs.Spans.Follows.{ErrorsFollow, IsCostBack, NextFollows, NextsFollow, NoPass, OnePass, SpanFollows}
+use Rattle.regex_automata.specs.Spans.Follows.{ErrorsFollow, IsCostBack, NextFollows, NextsFollow, NoPass, OnePass}
+use Rattle.regex_automata.specs.Spans.Follows.{SpanFollows}
 use Rattle.regex_automata.specs.Spans.Follows.{OfOne, OfTwo, SpansFollow}
 use Rattle.regex_automata.specs.Spans.Outcomes.{IsStartFound}
-use Rattle.regex_automata.specs.Spans.Runs.{IsBackRun, IsBothRun, IsErrorOfBoth, IsFrontRun, IsNextRun, IsSpanRun, Made, NotMade}
+use Rattle.regex_automata.specs.Spans.Runs.{IsBackRun, IsBothRun, IsErrorOfBoth, IsFrontRun, IsNextRun, IsSpanRun, Made}
+use Rattle.regex_automata.specs.Spans.Runs.{NotMade}
 use Rattle.regex_automata.specs.Spans.Iteration.{FindsEmptyAt}
 use Rattle.regex_automata.specs.declared.hybrid.regex.Regex.{Regex}
 use Rattle.regex_automata.specs.declared.hybrid.regex.caches.Cache.{Cache}
-use Rattle.regex_automata.proofs.Spans.Cached.{alone, both_stays, cleared_first, cleared_second, still_both, still_twice}
+use Rattle.regex_automata.proofs.Spans.Cached.{alone, both_stays, cleared_first, cleared_second, still_both}
+use Rattle.regex_automata.proofs.Spans.Cached.{still_twice}
 use Rattle.regex_automata.proofs.Spans.Costs.{knows_both, knows_front}
 use Rattle.regex_automata.proofs.Spans.ByPaths.{refusals}
 use Rattle.regex_automata.proofs.Spans.NextMatches.{grown_twice}
 
 -- another property of an error that may be there
 weaker :
-    {P Q : SearchError → Type 0} (error : Option SearchError) → ((e : SearchError) → P e → Q e) → IfSome error P → IfSome error Q
+    {P Q : SearchError → Type 0} (error : Option SearchError) → ((e : SearchError) → P e → Q e) → IfSome error P
+    → IfSome error Q
 weaker None f h = tt
 weaker (Some e) f h = f e h
 
 -- what follows of the search back from a forward answer
-record BackFollows (p : Regex) (input : Input) (half : Half) (old new : CacheView) (error : Option SearchError) : Type 0 where
+record BackFollows (p : Regex) (input : Input) (half : Half) (old new : CacheView) (error : Option SearchError) : Type
+    0 where
   -- it is one pass from the answer's end to its base
   pub cost : IsCostBack p input old new
   pub grown : IsGrown p.reverse (known_of old) (known_of new)
@@ -53,8 +60,10 @@ record BackFollows (p : Regex) (input : Input) (half : Half) (old new : CacheVie
   pub known : KnowsBack p (known_of old) input half → IsStill (known_of old) (known_of new) × IfSome error IsOfInput
 
 back_follows :
-    (p : Regex) → SearchesFollow p.reverse → (input : Input) (half : Half) (old new : CacheView) (error : Option SearchError)
-    → IsKnown p.reverse (known_of old) → IsFound Forward p.forward input (Some half) → IsBackRun p input half old new error
+    (p : Regex) → SearchesFollow p.reverse
+    → (input : Input) (half : Half) (old new : CacheView) (error : Option SearchError)
+    → IsKnown p.reverse (known_of old) → IsFound Forward p.forward input (Some half)
+    → IsBackRun p input half old new error
     → BackFollows p input half old new error
 back_follows p law input half old new error is found (NotMade short same none) = record {
   cost = NoPass same;
@@ -88,7 +97,8 @@ back_refused p input half old new (Some e) (Made long run) = (long, run)
 -- the error after a search back
 of_both :
     (p : Regex) (input : Input) (half : Half) (failed error : Option SearchError) (P : SearchError → Type 0)
-    → (IsStartFound p input half None → P search.NotAPair) → IfSome failed P → IsErrorOfBoth p input half failed error → IfSome error P
+    → (IsStartFound p input half None → P search.NotAPair) → IfSome failed P → IsErrorOfBoth p input half failed error
+    → IfSome error P
 of_both p input half failed error P apart why (inl same) = subst (λ (e : Option SearchError). IfSome e P) (sym same) why
 of_both p input half failed error P apart why (inr none) =
     subst (λ (e : Option SearchError). IfSome e P) (sym none.2) (apart none.1)
@@ -100,7 +110,8 @@ ends_both p input half failed error (inl same) ok = sym same ∙ ok
 ends_both p input half failed error (inr none) ok = none.0
 
 -- in a span that is done nothing is found
-none_past : (m : Machine) (input : Input) (half : Half) → IsFound Forward m input (Some half) → input.end < input.start → ⊥
+none_past :
+    (m : Machine) (input : Input) (half : Half) → IsFound Forward m input (Some half) → input.end < input.start → ⊥
 none_past m input half found past =
     let within : input.start + found.0 ≤ input.end = found.2.within in
     omega (arith, within, past)
@@ -135,7 +146,8 @@ module _ (agree : AnswersAgree) (p : Regex) (front : SearchesFollow p.forward) (
     learned = λ nothing ok. knows_front agree p input new (f.learned nothing.0 ok) (none ok);
     known = λ knows. (
         let still = f.known knows.0 in (
-          (still.0, (grown_same p.reverse (known_of old.reverse) (known_of new.reverse) (ap known_of same)).idle (ap (λ (v : CacheView). v.count) same)),
+          (still.0, (grown_same p.reverse (known_of old.reverse) (known_of new.reverse) (ap known_of same)).idle
+          (ap (λ (v : CacheView). v.count) same)),
           weaker error (λ e h. inl h) still.1,
         ));
     done = λ past. (f.done past, same);
@@ -151,7 +163,8 @@ module _ (agree : AnswersAgree) (p : Regex) (front : SearchesFollow p.forward) (
     known = λ knows. (
         let second = b.known (knows.1 both.half both.found) in (
           ((f.known knows.0).0, second.0),
-          of_both p input both.half both.failed error IsOfGiven (λ none. inr refl) (weaker both.failed (λ e h. inl h) second.1) both.told,
+          of_both p input both.half both.failed error IsOfGiven (λ none. inr refl)
+          (weaker both.failed (λ e h. inl h) second.1) both.told,
         ));
     done = λ past. absurd (none_past p.forward input both.half both.found past);
   } where
@@ -169,7 +182,8 @@ module _ (agree : AnswersAgree) (p : Regex) (front : SearchesFollow p.forward) (
     go :
         (IsSpanRun p input old new error × (error ≡ None → FindsEmptyAt p input last → ⊥))
         ⊎ (FindsEmptyAt p input last
-        × ((between : Cache) × IsSpanRun p input old between None × IsSpanRun p (from (suc input.start) input) between new error))
+        × ((between : Cache) × IsSpanRun p input old between None
+        × IsSpanRun p (from (suc input.start) input) between new error))
         → NextFollows p input last old new error
     go (inl (one, only)) = record {
       cost = OfOne f.cost;
@@ -192,7 +206,8 @@ module _ (agree : AnswersAgree) (p : Regex) (front : SearchesFollow p.forward) (
           ));
       known = λ knows. (
           let still = (f.known knows.0).0 in
-          let later = s.known (still_both p old between (from (suc input.start) input) still (knows.1 empty.0 empty.1 empty.2)) in
+          let later =
+          s.known (still_both p old between (from (suc input.start) input) still (knows.1 empty.0 empty.1 empty.2)) in
           (still_twice old between new still later.0, later.1));
     } where
       f : SpanFollows p input old between None
@@ -219,7 +234,8 @@ errors_follow p front rear ends starts law = record { spans = spans; nexts = nex
     go :
         (IsSpanRun p input old new error × (error ≡ None → FindsEmptyAt p input last → ⊥))
         ⊎ (FindsEmptyAt p input last
-        × ((between : Cache) × IsSpanRun p input old between None × IsSpanRun p (from (suc input.start) input) between new error))
+        × ((between : Cache) × IsSpanRun p input old between None
+        × IsSpanRun p (from (suc input.start) input) between new error))
         → IfSome error (IsNextError p old new input last)
     go (inl (one, only)) = weaker error (λ e h. FailsHere h) (spans input old new error given one)
     go (inr (empty, (between, first, second))) =

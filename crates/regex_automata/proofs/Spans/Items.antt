@@ -21,7 +21,8 @@ use Rattle.automata_hybrid.proofs.Searches.PassState.{false_true}
 -- a match is returned
 pub gives_match :
     (p : Regex) (input input' : Input) (last : Option ℕ) (ended : Bool) (m : Match) (start end : ℕ)
-    → ended ≡ false → IsNextMatch p input last (Some m) → MatchLiesIn p input m → input' ≡ from start input → start ≡ m.end
+    → ended ≡ false → IsNextMatch p input last (Some m) → MatchLiesIn p input m → input' ≡ from start input
+    → start ≡ m.end
     → end ≡ m.end → GivesItem p (Some (Ok m)) input input' last (Some end) ended ended
 gives_match p input input' last true m start end still next lies same begins ends = absurd (false_true (sym still))
 gives_match p input input' last false m start end still next lies same begins ends =
@@ -55,8 +56,10 @@ gives_error p input last false e still = record { rest = refl; place = refl; ove
 
 -- what an item of an iteration that goes on makes of the caches
 pub item_run :
-    (p : Regex) (asked input : Input) (last : Option ℕ) (ended : Bool) (old new : Cache) (item : Option (Result Match SearchError))
-    → ended ≡ false → asked ≡ input → IsNextRun p asked last old new (item_error item) → IsItemRun p input last ended old new item
+    (p : Regex) (asked input : Input) (last : Option ℕ) (ended : Bool) (old new : Cache)
+    (item : Option (Result Match SearchError))
+    → ended ≡ false → asked ≡ input → IsNextRun p asked last old new (item_error item)
+    → IsItemRun p input last ended old new item
 item_run p asked input last true old new item going same run = absurd (false_true (sym going))
 item_run p asked input last false old new item going same run =
     subst (λ (i : Input). IsNextRun p i last old new (item_error item)) same run
@@ -78,17 +81,22 @@ pub reports_error :
     → ◌≡◌ {A = Result (Option Match) SearchError} (Err e) (Err (unsupported_error asked)))
     → ReportsUnsupported p input ended (Some (Err e))
 reports_error p asked input ended e same reports = λ on u. reported (same_err (for_input u)) where
-  for_input : IsUnsupported Forward p.forward input → ◌≡◌ {A = Result (Option Match) SearchError} (Err e) (Err (unsupported_error input))
+  for_input :
+      IsUnsupported Forward p.forward input
+      → ◌≡◌ {A = Result (Option Match) SearchError} (Err e) (Err (unsupported_error input))
   for_input =
       subst
-      (λ (i : Input). IsUnsupported Forward p.forward i → ◌≡◌ {A = Result (Option Match) SearchError} (Err e) (Err (unsupported_error i)))
+      (λ (i : Input). IsUnsupported Forward p.forward i
+      → ◌≡◌ {A = Result (Option Match) SearchError} (Err e) (Err (unsupported_error i)))
       same reports
 
   reported : {v : SearchError} → e ≡ v → ◌≡◌ {A = Option (Result Match SearchError)} (Some (Err e)) (Some (Err v))
   reported is = cc
 
 -- after a match fewer items may come
-most_after : (input input' : Input) (end : ℕ) → input' ≡ from end input → most_items false input' (Some end) ≡ input.end + 1 - end
+most_after :
+    (input input' : Input) (end : ℕ) → input' ≡ from end input
+    → most_items false input' (Some end) ≡ input.end + 1 - end
 most_after input input' end same =
     subst (λ (i : Input). most_items false i (Some end) ≡ input.end + 1 - end) (sym same)
     (ap (λ b. cond b (input.end + 1 - end) (input.end + 2 - end)) (eq-eqb end end refl))
@@ -102,7 +110,9 @@ most_before p input None m goes =
     let d : m.end ≤ input.end = goes.0.2 in
     omega (arith, a, b, d)
 most_before p input (Some at) m goes = go (eqb at input.start) refl where
-  go : (same : Bool) → eqb at input.start ≡ same → input.end + 1 - m.end < cond same (input.end + 1 - input.start) (input.end + 2 - input.start)
+  go :
+      (same : Bool) → eqb at input.start ≡ same
+      → input.end + 1 - m.end < cond same (input.end + 1 - input.start) (input.end + 2 - input.start)
   go true e =
       let past : input.start < m.end = goes.1 (ap (λ (n : ℕ). Some n) (eqb-true at input.start e)) in
       let d : m.end ≤ input.end = goes.0.2 in
@@ -119,12 +129,15 @@ pub fewer_left :
     → most_items ended input' (Some end) < most_items ended input last
 fewer_left p input input' last true m start end still same begins ends goes = absurd (false_true (sym still))
 fewer_left p input input' last false m start end still same begins ends goes =
-    let behind : most_items false input' (Some end) ≡ input.end + 1 - end = most_after input input' end (same ∙ ap (λ n. from n input) (begins ∙ sym ends)) in
+    let behind : most_items false input' (Some end) ≡ input.end + 1 - end =
+    most_after input input' end (same ∙ ap (λ n. from n input) (begins ∙ sym ends)) in
     subst (λ n. n < most_items false input last) (sym behind)
     (subst (λ n. input.end + 1 - n < most_items false input last) (sym ends) (most_before p input last m goes))
 
 -- and after an error none
-pub some_left : (input : Input) (last : Option ℕ) (ended : Bool) → ended ≡ false → input.start ≤ input.end → 0 < most_items ended input last
+pub some_left :
+    (input : Input) (last : Option ℕ) (ended : Bool) → ended ≡ false → input.start ≤ input.end
+    → 0 < most_items ended input last
 some_left input last true still ahead = absurd (false_true (sym still))
 some_left input None false still ahead = omega (arith, ahead)
 some_left input (Some at) false still ahead = go (eqb at input.start) where

@@ -19,15 +19,18 @@ module _ (Finds : Input → Option Match → Type 0) (input : Input) where
       → ComesTo Finds input start last ms at before → IsNextItem Finds input at before (Some m)
       → ComesTo Finds input start last (ms ++ m ∷ []) m.end (Some m.end)
   comes_on start last [] at before m c next =
-      (subst (λ l. IsNextItem Finds input start l (Some m)) (sym c.1) (subst (λ s. IsNextItem Finds input s before (Some m)) (sym c.0) next), (refl, refl))
+      (subst (λ l. IsNextItem Finds input start l (Some m)) (sym c.1)
+      (subst (λ s. IsNextItem Finds input s before (Some m)) (sym c.0) next), (refl, refl))
   comes_on start last (n ∷ ms) at before m c next = (c.0, comes_on n.end (Some n.end) ms at before m c.1 next)
 
   -- the last turn
   pub comes_all :
       (start : ℕ) (last : Option ℕ) (ms : List Match) (at : ℕ) (before : Option ℕ)
-      → ComesTo Finds input start last ms at before → IsNextItem Finds input at before None → AreMatches Finds input start last ms
+      → ComesTo Finds input start last ms at before → IsNextItem Finds input at before None
+      → AreMatches Finds input start last ms
   comes_all start last [] at before c next =
-      subst (λ l. IsNextItem Finds input start l None) (sym c.1) (subst (λ s. IsNextItem Finds input s before None) (sym c.0) next)
+      subst (λ l. IsNextItem Finds input start l None) (sym c.1)
+      (subst (λ s. IsNextItem Finds input s before None) (sym c.0) next)
   comes_all start last (n ∷ ms) at before c next = (c.0, comes_all n.end (Some n.end) ms at before c.1 next)
 
   pub comes_first :
@@ -38,7 +41,8 @@ module _ (Finds : Input → Option Match → Type 0) (input : Input) where
 
   pub collected :
       (ms : List Match) (error : Option SearchError) (at : ℕ) (before : Option ℕ)
-      → ComesTo Finds input input.start None ms at before → (error ≡ None → IsNextItem Finds input at before None) → AreCollected Finds input ms error
+      → ComesTo Finds input input.start None ms at before → (error ≡ None → IsNextItem Finds input at before None)
+      → AreCollected Finds input ms error
   collected ms None at before c next = comes_all input.start None ms at before c (next refl)
   collected ms (Some e) at before c next = comes_first input.start None ms at before c
 
@@ -61,7 +65,8 @@ item_of_rest F input at start last o (FindsLater m h empty later) = FindsLater m
 pub item_match :
     (p : Regex) (input input' : Input) (last last' : Option ℕ) (ended ended' : Bool) (m : Match)
     → GivesItem p (Some (Ok m)) input input' last last' ended ended'
-    → IsNextMatch p input last (Some m) × (input' ≡ from m.end input) × (last' ≡ Some m.end) × (ended ≡ false) × (ended' ≡ false)
+    → IsNextMatch p input last (Some m) × (input' ≡ from m.end input) × (last' ≡ Some m.end) × (ended ≡ false)
+    × (ended' ≡ false)
 item_match p input input' last last' true ended' m g = let e = g.0 in cc
 item_match p input input' last last' false ended' m g = (g.next, g.rest, g.place, refl, g.going)
 
@@ -81,15 +86,19 @@ turn p q input now last o e same f =
     (subst (λ (r : Regex). IsNextItem (FindsMatch r) now now.start last o) e f))
 
 pub comes_turn :
-    (F : Input → Option Match → Type 0) (input : Input) (start : ℕ) (last : Option ℕ) (ms more : List Match) (at at' : ℕ) (before before' : Option ℕ) (m : Match)
-    → ComesTo F input start last ms at before → IsNextItem F input at before (Some m) → more ≡ ms ++ m ∷ [] → at' ≡ m.end → before' ≡ Some m.end
+    (F : Input → Option Match → Type 0) (input : Input) (start : ℕ) (last : Option ℕ) (ms more : List Match)
+    (at at' : ℕ) (before before' : Option ℕ) (m : Match)
+    → ComesTo F input start last ms at before → IsNextItem F input at before (Some m) → more ≡ ms ++ m ∷ []
+    → at' ≡ m.end → before' ≡ Some m.end
     → ComesTo F input start last more at' before'
 comes_turn F input start last ms more at at' before before' m c next items place past =
     subst (λ (l : Option ℕ). ComesTo F input start last more at' l) (sym past)
     (subst (λ n. ComesTo F input start last more n (Some m.end)) (sym place)
-    (subst (λ (l : List Match). ComesTo F input start last l m.end (Some m.end)) (sym items) (comes_on F input start last ms at before m c next)))
+    (subst (λ (l : List Match). ComesTo F input start last l m.end (Some m.end)) (sym items)
+    (comes_on F input start last ms at before m c next)))
 
-pub input_turn : (input now next : Input) (k : ℕ) → now ≡ from now.start input → next ≡ from k now → next ≡ from next.start input
+pub input_turn :
+    (input now next : Input) (k : ℕ) → now ≡ from now.start input → next ≡ from k now → next ≡ from next.start input
 input_turn input now next k same e =
     let f : next ≡ from k input = e ∙ ap (λ (i : Input). from k i) same in
     f ∙ ap (λ n. from n input) (sym (ap (λ (i : Input). i.start) f))
@@ -103,11 +112,14 @@ module _ (F : Input → Option Match → Type 0) (one : FindsOnce F) (input : In
   first_begins start last (m ∷ ms) [] f g = absurd (next_none F input start last m one g f.0)
   first_begins start last (m ∷ ms) (n ∷ all) f g =
       let e : m ≡ n = next_some F input start last m n one f.0 g.0 in
-      let rest = first_begins m.end (Some m.end) ms all f.1 (subst (λ (v : Match). AreMatches F input v.end (Some v.end) all) (sym e) g.1) in
+      let rest =
+      first_begins m.end (Some m.end) ms all f.1
+      (subst (λ (v : Match). AreMatches F input v.end (Some v.end) all) (sym e) g.1) in
       (rest.0, ap (λ (l : List Match). n ∷ l) rest.1 ∙ ap (λ (v : Match). v ∷ (ms ++ rest.0)) (sym e))
 
   pub collected_begins :
-      (ms all : List Match) (error : Option SearchError) → AreCollected F input ms error → AreMatches F input input.start None all
+      (ms all : List Match) (error : Option SearchError) → AreCollected F input ms error
+      → AreMatches F input input.start None all
       → IsBeginning ms all
   collected_begins ms all None f g = first_begins input.start None ms all (all_first F input input.start None ms f) g
   collected_begins ms all (Some e) f g = first_begins input.start None ms all f g

@@ -50,14 +50,18 @@ pub goes_first :
 goes_first p input last m lies full = (lies, past_last input last m lies.0 lies.1 full)
 
 -- an empty match at the last end is replaced by what is found from one place later
-module _ (p : Regex) (input : Input) (last : Option ℕ) (m : Match) (found : FindsMatch p input (Some m)) (empty : IsEmptyAt last m) where
-  pub next_later : (r : Result (Option Match) SearchError) → IfOk r (FindsMatch p (from (suc input.start) input)) → IfOk r (IsNextMatch p input last)
+module _ (p : Regex) (input : Input) (last : Option ℕ) (m : Match) (found : FindsMatch p input (Some m))
+    (empty : IsEmptyAt last m) where
+  pub next_later :
+      (r : Result (Option Match) SearchError) → IfOk r (FindsMatch p (from (suc input.start) input))
+      → IfOk r (IsNextMatch p input last)
   next_later (Ok o) h = FindsLater m found empty h
   next_later (Err e) h = tt
 
 pub goes_later :
     (p : Regex) (input : Input) (last : Option ℕ) (r : Result (Option Match) SearchError)
-    → IfOk r (λ o. IfSome o (MatchLiesIn p (from (suc input.start) input))) → IfOk r (λ o. IfSome o (GoesPast p input last))
+    → IfOk r (λ o. IfSome o (MatchLiesIn p (from (suc input.start) input)))
+    → IfOk r (λ o. IfSome o (GoesPast p input last))
 goes_later p input last (Ok None) h = tt
 goes_later p input last (Ok (Some n)) h =
     let a : suc input.start ≤ n.start = h.0 in

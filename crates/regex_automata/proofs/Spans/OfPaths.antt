@@ -14,7 +14,8 @@ use Rattle.regex_automata.specs.Spans.OfPaths.{IsItemOfPaths, LoopsCollect, Matc
 use Rattle.regex_automata.specs.Spans.Outcomes.{FindsMatch}
 use Rattle.regex_automata.specs.declared.hybrid.regex.Regex.{Regex}
 use Rattle.regex_automata.proofs.Spans.ByPaths.{match_right}
-use Rattle.regex_automata.proofs.Spans.Lists.{collected_right, comes_all, comes_first, comes_on, item_match, item_none, item_of_rest}
+use Rattle.regex_automata.proofs.Spans.Lists.{collected_right, comes_all, comes_first, comes_on, item_match, item_none}
+use Rattle.regex_automata.proofs.Spans.Lists.{item_of_rest}
 
 -- if what searches find is right, the next match is right
 next_right :
@@ -25,7 +26,8 @@ next_right F G input right start last None h = matches_right F G input right sta
 next_right F G input right start last (Some m) h = (first_right F G input right start last (m ∷ []) (h, tt)).0
 
 pub spans_of_paths :
-    (p : Regex) → ReportedIsRight p.forward.nfa → ReportedEndsAreRight p.reverse.nfa → StartsAreRight → MatchesAreSpans p
+    (p : Regex) → ReportedIsRight p.forward.nfa → ReportedEndsAreRight p.reverse.nfa → StartsAreRight
+    → MatchesAreSpans p
 spans_of_paths p front ends starts sound input given =
     record {
       found = λ answer f. right input.start answer f;
@@ -33,7 +35,9 @@ spans_of_paths p front ends starts sound input given =
       item = item;
       list = λ ms error f. collected_right (FindsMatch p) (IsSpan (forward_engine p)) input right ms error f;
     } where
-      right : (start : ℕ) (o : Option Match) → FindsMatch p (from start input) o → IsSpan (forward_engine p) (from start input) o
+      right :
+          (start : ℕ) (o : Option Match) → FindsMatch p (from start input) o
+          → IsSpan (forward_engine p) (from start input) o
       right start o f = match_right p front ends starts sound (from start input) given o f
 
       next :
@@ -43,7 +47,8 @@ spans_of_paths p front ends starts sound input given =
 
       item :
           (input' : Input) (last last' : Option ℕ) (ended ended' : Bool) (item : Option (Result Match SearchError))
-          → GivesItem p item input input' last last' ended ended' → IsItemOfPaths (forward_engine p) input last ended item
+          → GivesItem p item input input' last last' ended ended'
+          → IsItemOfPaths (forward_engine p) input last ended item
       item input' last last' true ended' o g = g.0
       item input' last last' false ended' None g = next last None g.0
       item input' last last' false ended' (Some (Ok m)) g = next last (Some m) g.next
@@ -55,9 +60,11 @@ loops_collect p input =
       begin = (refl, refl);
       turn = λ ms at last m input' last' ended ended' come g.
           comes_on (FindsMatch p) input input.start None ms at last m come
-          (item_of_rest (FindsMatch p) input at at last (Some m) (item_match p (from at input) input' last last' ended ended' m g).0);
+          (item_of_rest (FindsMatch p) input at at last (Some m)
+          (item_match p (from at input) input' last last' ended ended' m g).0);
       all = λ ms at last input' last' ended' come g.
           comes_all (FindsMatch p) input input.start None ms at last come
-          (item_of_rest (FindsMatch p) input at at last None (item_none p (from at input) input' last last' false ended' g refl));
+          (item_of_rest (FindsMatch p) input at at last None
+          (item_none p (from at input) input' last last' false ended' g refl));
       first = λ ms at last e come. comes_first (FindsMatch p) input input.start None ms at last come;
     }

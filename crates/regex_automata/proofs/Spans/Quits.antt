@@ -27,9 +27,11 @@ use Rattle.automata_hybrid.proofs.Searches.PassState.{false_true}
 use Rattle.automata_base.proofs.Answers.Starts.{yes_no}
 
 -- a look-behind byte that is no quit byte, and one that is
-free_behind : (m : Machine) (o : Option ℕ) (byte : ℕ) → quit_behind m o ≡ None → o ≡ Some byte → is_quit m.quits byte ≡ false
+free_behind :
+    (m : Machine) (o : Option ℕ) (byte : ℕ) → quit_behind m o ≡ None → o ≡ Some byte → is_quit m.quits byte ≡ false
 free_behind m None byte n e = absurd (none_some e)
-free_behind m (Some b) byte n e = subst (λ v. is_quit m.quits v ≡ false) (some_inj e) (go (is_quit m.quits b) refl n) where
+free_behind m (Some b) byte n e =
+    subst (λ v. is_quit m.quits v ≡ false) (some_inj e) (go (is_quit m.quits b) refl n) where
   go : (v : Bool) → is_quit m.quits b ≡ v → ◌≡◌ {A = Option ℕ} (cond v (Some b) None) None → is_quit m.quits b ≡ false
   go true q h = absurd (some_none h)
   go false q h = q
@@ -41,11 +43,13 @@ front_clean :
 front_clean m input half f v (ReadsByteBefore e) =
     free_behind m (tape_in Forward (later Forward f.0 input)).before v f.2.reported.1.0 (sym e)
 front_clean m input half f v (ReadsUnitAt j few e) =
-    f.2.reported.1.1 j v (reported_reads Forward m (later Forward f.0 input) f.2.pair (sym f.2.reported.0) j few) (sym e)
+    f.2.reported.1.1 j v (reported_reads Forward m (later Forward f.0 input) f.2.pair (sym f.2.reported.0) j few)
+    (sym e)
 
 -- so neither does one that goes back from there
 rest_clean :
-    (law : BackMeetsNone) (m : Machine) (input : Input) (half : Half) → input.end ≤ length input.haystack → half.offset ≤ input.end
+    (law : BackMeetsNone) (m : Machine) (input : Input) (half : Half) → input.end ≤ length input.haystack
+    → half.offset ≤ input.end
     → IsFound Forward m input (Some half)
     → MeetsNone (is_quit m.quits) (reverse_tape input.haystack half.base half.offset) (half.offset - half.base)
 rest_clean law m input half few within f =
@@ -53,11 +57,13 @@ rest_clean law m input half few within f =
     let end : input.start + f.0 + f.2.pair.place ≡ half.offset = sym f.2.offset in
     let place : f.2.pair.place ≡ half.offset - half.base = omega (arith, base, end) in
     let clean =
-    law (is_quit m.quits) input.haystack (input.start + f.0) input.end f.2.pair.place f.2.pair.place (omega (arith, end, within)) few (omega arith)
+    law (is_quit m.quits) input.haystack (input.start + f.0) input.end f.2.pair.place f.2.pair.place
+    (omega (arith, end, within)) few (omega arith)
     (front_clean m input half f) in
     subst (λ n. MeetsNone (is_quit m.quits) (reverse_tape input.haystack half.base half.offset) n) place
     (subst (λ n. MeetsNone (is_quit m.quits) (reverse_tape input.haystack half.base n) f.2.pair.place) end
-    (subst (λ n. MeetsNone (is_quit m.quits) (reverse_tape input.haystack n (input.start + f.0 + f.2.pair.place)) f.2.pair.place) base clean))
+    (subst (λ n. MeetsNone (is_quit m.quits) (reverse_tape input.haystack n (input.start + f.0 + f.2.pair.place))
+    f.2.pair.place) base clean))
 
 -- no event fails by a quit byte
 event_clean :
@@ -70,7 +76,8 @@ event_clean m e place old new byte at f = go f.why where
 
 -- a pass over bytes that are no quit bytes does not fail by one
 pass_free :
-    (m : Machine) (input : Input) (old new : Known) (byte at : ℕ) → input.start ≤ input.end → input.end ≤ length input.haystack
+    (m : Machine) (input : Input) (old new : Known) (byte at : ℕ) → input.start ≤ input.end
+    → input.end ≤ length input.haystack
     → MeetsNone (is_quit m.quits) (tape_in Backward input) (input.end - input.start)
     → known.PassFails Backward m input old new (search.Match (QuitAt byte at)) → ⊥
 pass_free m input old new byte at ahead few clean (known.QuitsBehind b quits is same) =
@@ -89,18 +96,22 @@ pass_free m input old new byte at ahead few clean (known.FailsLater may begun st
 pub back_free :
     (law : BackMeetsNone) (m rev : Machine) (old new : Known) (input : Input) (half : Half) (byte at : ℕ)
     → m.quits ≡ rev.quits → input.end ≤ length input.haystack → half.base ≤ half.offset → half.offset ≤ input.end
-    → IsFound Forward m input (Some half) → known.SearchFails Backward rev (back input half) old new (search.Match (QuitAt byte at)) → ⊥
-back_free law m rev old new input half byte at same few ahead within found f = go (f.tried f.passes (omega arith)).0.comes where
+    → IsFound Forward m input (Some half)
+    → known.SearchFails Backward rev (back input half) old new (search.Match (QuitAt byte at)) → ⊥
+back_free law m rev old new input half byte at same few ahead within found f =
+    go (f.tried f.passes (omega arith)).0.comes where
   clean : MeetsNone (is_quit rev.quits) (reverse_tape input.haystack half.base half.offset) (half.offset - half.base)
   clean =
-      subst (λ (q : List Bool). MeetsNone (is_quit q) (reverse_tape input.haystack half.base half.offset) (half.offset - half.base)) same
+      subst (λ (q : List Bool). MeetsNone (is_quit q) (reverse_tape input.haystack half.base half.offset)
+      (half.offset - half.base)) same
       (rest_clean law m input half few within found)
 
   go : (f.passes ≡ 0) ⊎ (Skips rev × (◌≡◌ {A = Anchored} Yes No)) → ⊥
   go (inl z) =
       let end : half.offset - f.passes ≡ half.offset = omega (arith, z) in
       pass_free rev (back input half) f.mid new byte at ahead (omega (arith, few, within)) clean
-      (subst (λ n. known.PassFails Backward rev (record (back input half) { end = n }) f.mid new (search.Match (QuitAt byte at))) end f.fails)
+      (subst (λ n. known.PassFails Backward rev (record (back input half) { end = n }) f.mid new
+      (search.Match (QuitAt byte at))) end f.fails)
   go (inr s) = yes_no s.1
 
 -- no event fails with the error of a regex whose two searches disagree
@@ -111,7 +122,9 @@ event_pair m e at old new f = go f.why where
   go (known.LacksMemory is) = absurd (cc)
 
 -- nor does a search alone
-pub never_pair : (way : Direction) (m : Machine) (input : Input) (old new : Known) → known.SearchFails way m input old new search.NotAPair → ⊥
+pub never_pair :
+    (way : Direction) (m : Machine) (input : Input) (old new : Known)
+    → known.SearchFails way m input old new search.NotAPair → ⊥
 never_pair way m input old new f = pass f.fails where
   pass : known.PassFails way m (later way f.passes input) f.mid new search.NotAPair → ⊥
   pass (known.QuitsBehind byte quits is same) = absurd (cc)

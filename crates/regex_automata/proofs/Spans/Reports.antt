@@ -25,7 +25,8 @@ first_holds :
 unfolding first_reported
 first_holds kind a mode t pair k n l e = first_stays (reported_at a kind mode t) pair k n l e
 
-module _ (way : Direction) (m : Machine) (input : Input) (pair : Pair) (reported : reported_over way m.nfa (match_kind_of m.config) input ≡ Some pair) where
+module _ (way : Direction) (m : Machine) (input : Input) (pair : Pair)
+    (reported : reported_over way m.nfa (match_kind_of m.config) input ≡ Some pair) where
   abbrev Last : ℕ
   Last = length (tape_in way input).bytes
 
@@ -38,17 +39,26 @@ module _ (way : Direction) (m : Machine) (input : Input) (pair : Pair) (reported
 
   alive : (j : ℕ) → j ≤ pair.place → state_in way m input j ≡ dead → ⊥
   alive j l e =
-      subst (In pair.pattern) (ap (λ (q : Powerset). q.patterns) (dead_more way m input j (suc pair.place) (omega (arith, l)) e)) below.1
+      subst (In pair.pattern)
+      (ap (λ (q : Powerset). q.patterns) (dead_more way m input j (suc pair.place) (omega (arith, l)) e)) below.1
 
-  unreported : (j : ℕ) → j ≤ pair.place → (e : Bool) → reported_upto (match_kind_of m.config) e m.nfa input.anchored (tape_in way input) (suc Last) ≡ Some pair → e ≡ true → reported_upto (match_kind_of m.config) e m.nfa input.anchored (tape_in way input) j ≡ None
+  unreported :
+      (j : ℕ) → j ≤ pair.place → (e : Bool)
+      → reported_upto (match_kind_of m.config) e m.nfa input.anchored (tape_in way input) (suc Last) ≡ Some pair
+      → e ≡ true → reported_upto (match_kind_of m.config) e m.nfa input.anchored (tape_in way input) j ≡ None
   unreported j l false t e = absurd (false_true e)
-  unreported j l true t e = go (first_reported m.nfa (match_kind_of m.config) input.anchored (tape_in way input) j) refl where
-    go : (o : Option Pair) → first_reported m.nfa (match_kind_of m.config) input.anchored (tape_in way input) j ≡ o → first_reported m.nfa (match_kind_of m.config) input.anchored (tape_in way input) j ≡ None
+  unreported j l true t e =
+      go (first_reported m.nfa (match_kind_of m.config) input.anchored (tape_in way input) j) refl where
+    go :
+        (o : Option Pair) → first_reported m.nfa (match_kind_of m.config) input.anchored (tape_in way input) j ≡ o
+        → first_reported m.nfa (match_kind_of m.config) input.anchored (tape_in way input) j ≡ None
     go None f = f
     go (Some sooner) f =
         let w = reported_within in
-        let stays : first_reported m.nfa (match_kind_of m.config) input.anchored (tape_in way input) (suc Last) ≡ Some sooner =
-        first_holds (match_kind_of m.config) m.nfa input.anchored (tape_in way input) sooner j (suc Last) (omega (arith, l, w)) f in
+        let stays : first_reported m.nfa (match_kind_of m.config) input.anchored (tape_in way input) (suc Last)
+        ≡ Some sooner =
+        first_holds (match_kind_of m.config) m.nfa input.anchored (tape_in way input) sooner j (suc Last)
+        (omega (arith, l, w)) f in
         let same : pair ≡ sooner = some_inj (sym t ∙ stays) in
         let b = first_below (match_kind_of m.config) m.nfa input.anchored (tape_in way input) sooner j f in
         let p : pair.place ≡ sooner.place = ap (λ (v : Pair). v.place) same in
@@ -56,4 +66,5 @@ module _ (way : Direction) (m : Machine) (input : Input) (pair : Pair) (reported
 
   -- and reads each unit up to that place
   pub reported_reads : (j : ℕ) → j ≤ pair.place → Reads way m input j
-  reported_reads j l = let w = reported_within in (omega (arith, l, w), alive j l, λ e. unreported j l input.earliest reported e)
+  reported_reads j l =
+      let w = reported_within in (omega (arith, l, w), alive j l, λ e. unreported j l input.earliest reported e)

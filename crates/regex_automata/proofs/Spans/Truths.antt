@@ -3,7 +3,8 @@ use Rattle.std.proofs.Common.{ℕ, zero, suc, ◌≡◌, ◌∙◌, ◌<◌, ◌
 use Rattle.std.proofs.Common.{Option, Some, None, refl, sym, ap, subst, arith}
 use Rattle.std.specs.Prelude.{is_some}
 use Rattle.std.specs.Option.{option_map}
-use Rattle.automata_base.specs.Answers.Answers.{Half, HasNoAnswerAt, IsInput, SpanIsDone, SpanReportsNone, StopsAtSplit, Tries, later, offset_in}
+use Rattle.automata_base.specs.Answers.Answers.{Half, HasNoAnswerAt, IsInput, SpanIsDone, SpanReportsNone, StopsAtSplit}
+use Rattle.automata_base.specs.Answers.Answers.{Tries, later, offset_in}
 use Rattle.automata_base.specs.Haystacks.Input.{Input}
 use Rattle.automata_base.specs.Haystacks.Matches.{HalfMatch}
 use Rattle.automata_base.specs.Nfas.Nodes.{Automaton, nfa_of}
@@ -13,7 +14,8 @@ use Rattle.automata_base.specs.Answers.Spans.{IsMatch, in_full}
 use Rattle.automata_base.specs.Haystacks.Tapes.{forward_tape}
 use Rattle.automata_base.specs.declared.util.search.Direction.TheVariants.{Forward}
 use Rattle.automata_base.specs.Retraced.Passes.{first_reported, last_reported, reported_at, earlier_or, pair_at}
-use Rattle.automata_base.specs.Answers.OfPasses.{IsNearestAnswer, IsReported, ReportsOver, ReportedIsRight, reported_over}
+use Rattle.automata_base.specs.Answers.OfPasses.{IsNearestAnswer, IsReported, ReportsOver, ReportedIsRight}
+use Rattle.automata_base.specs.Answers.OfPasses.{reported_over}
 use Rattle.automata_base.specs.declared.util.search.Anchored.{Anchored}
 use Rattle.automata_base.specs.declared.util.search.Anchored.TheVariants.{No}
 use Rattle.automata_base.specs.declared.util.search.MatchKind.{MatchKind}
@@ -25,41 +27,55 @@ use Rattle.automata_config.specs.Options.{match_kind_of}
 use Rattle.std.proofs.lemmas.Bool.{cases_lt}
 
 -- the first match is there if the last one is
-some_same : (ps : List ℕ) (i : ℕ) (f l : Option Pair) → is_some f ≡ is_some l → is_some (earlier_or f (pair_at ps i None)) ≡ is_some (pair_at ps i l)
+some_same :
+    (ps : List ℕ) (i : ℕ) (f l : Option Pair) → is_some f ≡ is_some l
+    → is_some (earlier_or f (pair_at ps i None)) ≡ is_some (pair_at ps i l)
 some_same [] i None l e = e
 some_same [] i (Some pair) l e = e
 some_same (p ∷ ps) i None l e = refl
 some_same (p ∷ ps) i (Some pair) l e = refl
 
-both_reported : (kind : MatchKind) (a : Automaton) (mode : Anchored) (t : Tape) (k : ℕ) → is_some (first_reported a kind mode t k) ≡ is_some (last_reported a kind mode t k)
+both_reported :
+    (kind : MatchKind) (a : Automaton) (mode : Anchored) (t : Tape) (k : ℕ)
+    → is_some (first_reported a kind mode t k) ≡ is_some (last_reported a kind mode t k)
 unfolding first_reported last_reported
 both_reported kind a mode t zero = refl
-both_reported kind a mode t (suc i) = some_same (reported_at a kind mode t i) i (first_reported a kind mode t i) (last_reported a kind mode t i) (both_reported kind a mode t i)
+both_reported kind a mode t (suc i) =
+    some_same (reported_at a kind mode t i) i (first_reported a kind mode t i) (last_reported a kind mode t i)
+    (both_reported kind a mode t i)
 
 -- so either decides it for a search that skips nothing
 module _ (m : Machine) (input : Input) (whole : Skips m → ⊥) where
   same_reported :
       (k : ℕ)
-      → is_some (reported_over Forward m.nfa (match_kind_of m.config) (later Forward k (in_part input))) ≡ is_some (reported_over Forward m.nfa (match_kind_of m.config) (later Forward k (in_full input)))
+      → is_some (reported_over Forward m.nfa (match_kind_of m.config) (later Forward k (in_part input)))
+      ≡ is_some (reported_over Forward m.nfa (match_kind_of m.config) (later Forward k (in_full input)))
   same_reported k =
-      both_reported (match_kind_of m.config) m.nfa input.anchored (forward_tape input.haystack (input.start + k) input.end)
+      both_reported (match_kind_of m.config) m.nfa input.anchored
+      (forward_tape input.haystack (input.start + k) input.end)
       (suc (length (forward_tape input.haystack (input.start + k) input.end).bytes))
 
-  first_try : (k : ℕ) → Tries (ReportsOver Forward m.nfa (match_kind_of m.config)) (Skips m) Forward (in_part input) k → k ≡ 0
+  first_try :
+      (k : ℕ) → Tries (ReportsOver Forward m.nfa (match_kind_of m.config)) (Skips m) Forward (in_part input) k → k ≡ 0
   first_try k tries = go tries.comes where
     go : (k ≡ 0) ⊎ (Skips m × (input.anchored ≡ No)) → k ≡ 0
     go (inl z) = z
     go (inr s) = absurd (whole s.0)
 
-  only_try : (k : ℕ) → k ≡ 0 → Tries (ReportsOver Forward m.nfa (match_kind_of m.config)) (Skips m) Forward (in_full input) k
+  only_try :
+      (k : ℕ) → k ≡ 0 → Tries (ReportsOver Forward m.nfa (match_kind_of m.config)) (Skips m) Forward (in_full input) k
   only_try k z = record { comes = inl z; before = λ j l. absurd (omega (arith, l, z)) }
 
   whole_reported :
-      (k : ℕ) (o : Option Pair) → k ≡ 0 → input.start + k ≤ input.end → reported_over Forward m.nfa (match_kind_of m.config) (later Forward k (in_full input)) ≡ o
-      → (answer : Option Half) × IsReported Forward m.nfa (match_kind_of m.config) (in_full input) answer × (is_some o ≡ is_some answer)
+      (k : ℕ) (o : Option Pair) → k ≡ 0 → input.start + k ≤ input.end
+      → reported_over Forward m.nfa (match_kind_of m.config) (later Forward k (in_full input)) ≡ o
+      → (answer : Option Half) × IsReported Forward m.nfa (match_kind_of m.config) (in_full input) answer
+      × (is_some o ≡ is_some answer)
   whole_reported k None z l e = (None, (k, only_try k z, SpanReportsNone (sym e)), refl)
   whole_reported k (Some pair) z l e = (
-    Some (record { pattern = pair.pattern; offset = offset_in Forward (later Forward k (in_full input)) pair.place; base = input.start + k }),
+    Some (record
+    { pattern = pair.pattern; offset = offset_in Forward (later Forward k (in_full input)) pair.place;
+    base = input.start + k }),
     (
       k,
       only_try k z,
@@ -78,26 +94,33 @@ module _ (m : Machine) (input : Input) (whole : Skips m → ⊥) where
 
   pub match_reported :
       (o : Option Half) → IsReported Forward m.nfa (match_kind_of m.config) (in_part input) o
-      → (answer : Option Half) × IsReported Forward m.nfa (match_kind_of m.config) (in_full input) answer × (is_some o ≡ is_some answer)
+      → (answer : Option Half) × IsReported Forward m.nfa (match_kind_of m.config) (in_full input) answer
+      × (is_some o ≡ is_some answer)
   match_reported None f = go f.2 where
     z : f.0 ≡ 0
     z = first_try f.0 f.1
 
     go :
         HasNoAnswerAt (ReportsOver Forward m.nfa (match_kind_of m.config)) (Skips m) Forward (in_part input) f.0
-        → (answer : Option Half) × IsReported Forward m.nfa (match_kind_of m.config) (in_full input) answer × (is_some {T = Half} None ≡ is_some answer)
+        → (answer : Option Half) × IsReported Forward m.nfa (match_kind_of m.config) (in_full input) answer
+        × (is_some {T = Half} None ≡ is_some answer)
     go (SpanIsDone past) = (None, (f.0, only_try f.0 z, SpanIsDone past), refl)
     go (SpanReportsNone none) = ahead (cases_lt input.end (input.start + f.0)) where
       ahead :
           (input.end < input.start + f.0) ⊎ (input.start + f.0 ≤ input.end)
-          → (answer : Option Half) × IsReported Forward m.nfa (match_kind_of m.config) (in_full input) answer × (is_some {T = Half} None ≡ is_some answer)
+          → (answer : Option Half) × IsReported Forward m.nfa (match_kind_of m.config) (in_full input) answer
+          × (is_some {T = Half} None ≡ is_some answer)
       ahead (inl past) = (None, (f.0, only_try f.0 z, SpanIsDone past), refl)
       ahead (inr l) =
-          let w = whole_reported f.0 (reported_over Forward m.nfa (match_kind_of m.config) (later Forward f.0 (in_full input))) z l refl in
+          let w =
+          whole_reported f.0 (reported_over Forward m.nfa (match_kind_of m.config) (later Forward f.0 (in_full input)))
+          z l refl in
           (w.0, w.1, ap (λ (v : Option Pair). is_some v) none ∙ same_reported f.0 ∙ w.2)
     go (StopsAtSplit skips anchored s) = absurd (whole skips)
   match_reported (Some half) f =
-      let w = whole_reported f.0 (reported_over Forward m.nfa (match_kind_of m.config) (later Forward f.0 (in_full input))) (first_try f.0 f.1) f.2.within refl in
+      let w =
+      whole_reported f.0 (reported_over Forward m.nfa (match_kind_of m.config) (later Forward f.0 (in_full input)))
+      (first_try f.0 f.1) f.2.within refl in
       (w.0, w.1, ap (λ (v : Option Pair). is_some v) f.2.reported ∙ same_reported f.0 ∙ w.2)
 
 -- what is searched differs from the input in one part
@@ -108,11 +131,13 @@ asked_to P m input asked (inl a) f g h = f (subst P a.1 h)
 asked_to P m input asked (inr a) f g h = g (subst P a.1 h)
 
 pub asked_from :
-    (P : Input → Type 0) (m : Machine) (input asked : Input) → IsAsked m input asked → P (in_full input) → P (in_part input) → P asked
+    (P : Input → Type 0) (m : Machine) (input asked : Input) → IsAsked m input asked → P (in_full input)
+    → P (in_part input) → P asked
 asked_from P m input asked (inl a) f g = subst P (sym a.1) f
 asked_from P m input asked (inr a) f g = subst P (sym a.1) g
 
-same_some : (o : Option HalfMatch) (answer : Option Half) → o ≡ option_map without_base answer → is_some o ≡ is_some answer
+same_some :
+    (o : Option HalfMatch) (answer : Option Half) → o ≡ option_map without_base answer → is_some o ≡ is_some answer
 same_some o None e = ap (λ (v : Option HalfMatch). is_some v) e
 same_some o (Some half) e = ap (λ (v : Option HalfMatch). is_some v) e
 
@@ -128,15 +153,20 @@ pub truth_reported :
     (m : Machine) (input asked : Input) → IsAsked m input asked → (found : Option HalfMatch) (truth : Bool)
     → WithoutBase (IsFound Forward m asked) found → truth ≡ is_some found → IsMatchReported m input truth
 truth_reported m input asked (inl a) found truth f e =
-    (f.0, subst (λ (i : Input). IsReported Forward m.nfa (match_kind_of m.config) i f.0) a.1 (found_reported Forward m asked f.0 f.1), e ∙ same_some found f.0 f.2)
+    (f.0, subst (λ (i : Input). IsReported Forward m.nfa (match_kind_of m.config) i f.0) a.1
+    (found_reported Forward m asked f.0 f.1), e ∙ same_some found f.0 f.2)
 truth_reported m input asked (inr a) found truth f e =
-    let w = match_reported m input a.0 f.0 (subst (λ (i : Input). IsReported Forward m.nfa (match_kind_of m.config) i f.0) a.1 (found_reported Forward m asked f.0 f.1)) in
+    let w =
+    match_reported m input a.0 f.0
+    (subst (λ (i : Input). IsReported Forward m.nfa (match_kind_of m.config) i f.0) a.1
+    (found_reported Forward m asked f.0 f.1)) in
     (w.0, w.1, e ∙ same_some found f.0 f.2 ∙ w.2)
 
 pub match_right :
     (m : Machine) → ReportedIsRight m.nfa → (input : Input) (truth : Bool) → KeepsCycles (nfa_of m.nfa) → IsInput input
     → IsMatchReported m input truth → IsMatch (engine m) input truth
-match_right m law input truth cycles given f = (f.0, law Forward (match_kind_of m.config) (in_full input) f.0 cycles given f.1, f.2)
+match_right m law input truth cycles given f =
+    (f.0, law Forward (match_kind_of m.config) (in_full input) f.0 cycles given f.1, f.2)
 
 -- if nothing is skipped the nearest end is searched for
 pub truth_nearest :

@@ -46,9 +46,12 @@ item_turn p q h h' end end' offset item regex haystack last is =
 pub match_is :
     (m n : Match) (pattern start end : ℕ) → m ≡ record { pattern = pattern; start = start; end = end }
     → pattern ≡ n.pattern → start ≡ n.start → end ≡ n.end → m ≡ n
-match_is m n pattern start end is p s e = is ∙ same_parts (record { pattern = pattern; start = start; end = end }) n p s e
+match_is m n pattern start end is p s e =
+    is ∙ same_parts (record { pattern = pattern; start = start; end = end }) n p s e
 
 -- there is no item at the span's end
-pub at_end : (failed : Bool) (end end' offset : ℕ) → (failed ≡ true) ⊎ (end ≤ offset) → failed ≡ false → end ≡ end' → end' ≤ offset
+pub at_end :
+    (failed : Bool) (end end' offset : ℕ) → (failed ≡ true) ⊎ (end ≤ offset) → failed ≡ false → end ≡ end'
+    → end' ≤ offset
 at_end failed end end' offset (inl reported) going same = absurd (false_true (sym going ∙ reported))
 at_end failed end end' offset (inr past) going same = omega (arith, past, same)

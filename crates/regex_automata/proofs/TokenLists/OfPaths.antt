@@ -1,5 +1,6 @@
 -- Tokens are the spans of anchored searches by the ordered paths.
-use Rattle.std.proofs.Common.{ℕ, ◌≡◌, ◌+◌, ◌⊎◌, inl, inr, List, [], ◌∷◌, Option, Some, None, option_map, refl, ap, arith, ⊎_elim}
+use Rattle.std.proofs.Common.{ℕ, ◌≡◌, ◌+◌, ◌⊎◌, inl, inr, List, [], ◌∷◌, Option, Some, None, option_map, refl, ap}
+use Rattle.std.proofs.Common.{arith, ⊎_elim}
 use Rattle.std.specs.Prelude.{Ok}
 use Rattle.automata_base.specs.Answers.Answers.{Half, IsAnswer}
 use Rattle.automata_base.specs.Answers.Spans.{IsSpan}
@@ -10,7 +11,8 @@ use Rattle.automata_base.specs.declared.util.search.Direction.TheVariants.{Forwa
 use Rattle.automata_base.proofs.Answers.Starts.{answered, yes_no}
 use Rattle.automata_base.proofs.Paths.Orders.{none_some, some_inj, some_none}
 use Rattle.automata_hybrid.specs.Searches.Passes.{WithoutBase, without_base}
-use Rattle.regex_automata.specs.Tokens.{AreGiven, AreTokenSpans, HasNoSpanPast, IsItemAt, IsNoTokenAt, IsTokenAt, SearchReturns}
+use Rattle.regex_automata.specs.Tokens.{AreGiven, AreTokenSpans, HasNoSpanPast, IsItemAt, IsNoTokenAt, IsTokenAt}
+use Rattle.regex_automata.specs.Tokens.{SearchReturns}
 use Rattle.regex_automata.specs.Tokens.{TokensAreSpans, asked, match_of}
 use Rattle.regex_automata.specs.declared.tokens.error.TokenError.{TokenError}
 use Rattle.regex_automata.specs.declared.tokens.token.Token.{Token}
@@ -19,11 +21,13 @@ use Rattle.automata_hybrid.specs.Machines.Machine.{engine}
 
 -- an anchored answer ends a path that begins where the search did
 span_at :
-    (d : Engine) (h : List ℕ) (end offset : ℕ) (half : Half) (m : Match) → IsAnswer Forward d (asked h end offset) (Some half)
+    (d : Engine) (h : List ℕ) (end offset : ℕ) (half : Half) (m : Match)
+    → IsAnswer Forward d (asked h end offset) (Some half)
     → m.pattern ≡ half.pattern → m.start ≡ offset → m.end ≡ half.offset → IsSpan d (asked h end offset) (Some m)
 span_at d h end offset half m a same begins ends =
     let n = answered d (asked h end offset) half a in
-    let first : a.0 ≡ 0 = ⊎_elim (λ (z : a.0 ≡ 0). z) (λ (z : IsSkipping d × (Yes ≡ No)). absurd (yes_no z.1)) a.1.comes in
+    let first : a.0 ≡ 0 =
+    ⊎_elim (λ (z : a.0 ≡ 0). z) (λ (z : IsSkipping d × (Yes ≡ No)). absurd (yes_no z.1)) a.1.comes in
     let base : half.base ≡ offset + a.0 = a.2.base in
     record {
       half = half;
@@ -49,9 +53,12 @@ answer_span :
 answer_span d h end offset m None a is begins = absurd (some_none is)
 answer_span d h end offset m (Some half) a is begins =
     let same = some_inj is in
-    span_at d h end offset half m a (ap (λ (v : HalfMatch). v.pattern) same) begins (ap (λ (v : HalfMatch). v.offset) same)
+    span_at d h end offset half m a (ap (λ (v : HalfMatch). v.pattern) same) begins
+    (ap (λ (v : HalfMatch). v.offset) same)
 
-no_span : (d : Engine) (h : List ℕ) (end offset : ℕ) → WithoutBase (IsAnswer Forward d (asked h end offset)) None → IsSpan d (asked h end offset) None
+no_span :
+    (d : Engine) (h : List ℕ) (end offset : ℕ) → WithoutBase (IsAnswer Forward d (asked h end offset)) None
+    → IsSpan d (asked h end offset) None
 no_span d h end offset (None, a, is) = a
 no_span d h end offset (Some half, a, is) = absurd (none_some is)
 
@@ -61,7 +68,8 @@ spans_of_paths m h end cycles = record { token = token; none = none; list = list
   d = engine m
 
   reported :
-      (offset : ℕ) (t : Match) → SearchReturns m h end offset (Ok (Some (record { pattern = t.pattern; offset = t.end })))
+      (offset : ℕ) (t : Match)
+      → SearchReturns m h end offset (Ok (Some (record { pattern = t.pattern; offset = t.end })))
       → t.start ≡ offset → IsSpan d (asked h end offset) (Some t)
   reported offset t returned begins =
       let a = returned.0.answer cycles in answer_span d h end offset t a.0 a.1 a.2 begins

@@ -20,7 +20,11 @@ pub answer_is_no_refusal :
     → ◌≡◌ {A = Result Match TokenError} (Err (Search e)) (item_of offset (Ok o)) → ⊥
 answer_is_no_refusal offset None e is = no_search offset e (sym (same_err is))
 answer_is_no_refusal offset (Some half) e is = go (nat_lt offset half.offset) is where
-  go : (past : Bool) → ◌≡◌ {A = Result Match TokenError} (Err (Search e)) (if past then Ok (record { pattern = half.pattern; start = offset; end = half.offset }) else Err (NoToken offset)) → ⊥
+  go :
+      (past : Bool)
+      → ◌≡◌ {A = Result Match TokenError} (Err (Search e))
+      (if past then Ok (record { pattern = half.pattern; start = offset; end = half.offset }) else Err (NoToken offset))
+      → ⊥
   go true h = absurd (err_ok h)
   go false h = no_search offset e (sym (same_err h))
 

@@ -11,7 +11,8 @@ use Rattle.automata_config.specs.declared.error.SearchError.{SearchError}
 use Rattle.automata_hybrid.specs.Machines.Machine.{Machine}
 use Rattle.automata_hybrid.specs.Searches.Contracts.{IsUnhindered}
 use Rattle.automata_hybrid.specs.Searches.Bounds.{LiesIn}
-use Rattle.regex_automata.specs.Tokens.{AreFoundBy, AreGiven, EmptyMatch, FindsNoToken, IsBeginningOf, IsGivenAt, IsItemAt}
+use Rattle.regex_automata.specs.Tokens.{AreFoundBy, AreGiven, EmptyMatch, FindsNoToken, IsBeginningOf, IsGivenAt}
+use Rattle.regex_automata.specs.Tokens.{IsItemAt}
 use Rattle.regex_automata.specs.Tokens.{IsNoTokenOrMemory, NoMatch}
 use Rattle.regex_automata.specs.Tokens.{IsTokenAt, SearchReturns, asked, match_bytes, item_of, joined, match_of}
 use Rattle.regex_automata.specs.declared.tokens.error.TokenError.{TokenError}
@@ -24,7 +25,9 @@ same_place : (a b : ℕ) → NoToken a ≡ NoToken b → a ≡ b
 same_place a b h = cc
 
 module _ (m : Machine) (h : List ℕ) (end : ℕ) where
-  half_in : (offset : ℕ) (half : HalfMatch) → SearchReturns m h end offset (Ok (Some half)) → LiesIn m (asked h end offset) half
+  half_in :
+      (offset : ℕ) (half : HalfMatch) → SearchReturns m h end offset (Ok (Some half))
+      → LiesIn m (asked h end offset) half
   half_in offset half returned = returned.0.within
 
   -- a token is an answer past its offset
@@ -44,21 +47,29 @@ module _ (m : Machine) (h : List ℕ) (end : ℕ) where
     go : (past : Bool) → nat_lt offset half.offset ≡ past → Reports offset t
     go true e =
         past_place offset half t (ltb-true offset half.offset e) returned
-        (same_ok (is ∙ ap (λ (b : Bool). if b then Ok (record { pattern = half.pattern; start = offset; end = half.offset }) else Err (NoToken offset)) e))
+        (same_ok
+        (is ∙ ap
+        (λ (b : Bool). if b then Ok (record { pattern = half.pattern; start = offset; end = half.offset }) else Err
+        (NoToken offset)) e))
     go false e =
-        absurd (ok_err (is ∙ ap (λ (b : Bool). if b then Ok (record { pattern = half.pattern; start = offset; end = half.offset }) else Err (NoToken offset)) e))
+        absurd (ok_err
+        (is ∙ ap
+        (λ (b : Bool). if b then Ok (record { pattern = half.pattern; start = offset; end = half.offset }) else Err
+        (NoToken offset)) e))
   token_is offset t (ahead, (Ok None, returned, is)) = absurd (ok_err is)
   token_is offset t (ahead, (Err e, returned, is)) = absurd (ok_err is)
 
   -- with its bytes it is returned
   pub token_is_given :
-      (offset : ℕ) (t : Token) (answer : Result (Option HalfMatch) SearchError) → offset < end → SearchReturns m h end offset answer
+      (offset : ℕ) (t : Token) (answer : Result (Option HalfMatch) SearchError) → offset < end
+      → SearchReturns m h end offset answer
       → ◌≡◌ {A = Result Match TokenError} (Ok (match_of t)) (item_of offset answer)
       → t.bytes.now ≡ match_bytes h (match_of t) → IsTokenAt m h end offset t
   token_is_given offset t answer ahead returned is bytes =
       let item : IsItemAt m h end offset (Ok (match_of t)) = (ahead, (answer, returned, is)) in
       let reports = token_is offset (match_of t) item in
-      record { item = item; bytes = bytes; start = reports.1; past = reports.2; within = reports.3; pattern = reports.0.0.within.pattern }
+      record { item = item; bytes = bytes; start = reports.1; past = reports.2; within = reports.3;
+          pattern = reports.0.0.within.pattern }
 
   -- no token is no answer, or one at its offset
   abbrev pub ReportsNone : ℕ → Type 0
@@ -66,20 +77,30 @@ module _ (m : Machine) (h : List ℕ) (end : ℕ) where
       SearchReturns m h end offset (Ok None)
       ⊎ ((pattern : ℕ) × SearchReturns m h end offset (Ok (Some (record { pattern = pattern; offset = offset }))))
 
-  at_place : (offset : ℕ) (half : HalfMatch) → half.offset ≤ offset → SearchReturns m h end offset (Ok (Some half)) → ReportsNone offset
+  at_place :
+      (offset : ℕ) (half : HalfMatch) → half.offset ≤ offset → SearchReturns m h end offset (Ok (Some half))
+      → ReportsNone offset
   at_place offset half upto returned =
       let low = (half_in offset half returned).from in
       let same : half.offset ≡ offset = omega (arith, low, upto) in
-      inr (half.pattern, subst (λ n. SearchReturns m h end offset (Ok (Some (record { pattern = half.pattern; offset = n })))) same returned)
+      inr (half.pattern, subst
+      (λ n. SearchReturns m h end offset (Ok (Some (record { pattern = half.pattern; offset = n })))) same returned)
 
   no_token_is :
       (offset at : ℕ) → IsItemAt m h end offset (Err (NoToken at)) → (at ≡ offset) × (offset < end) × ReportsNone offset
   no_token_is offset at (ahead, (Ok (Some half), returned, is)) = go (nat_lt offset half.offset) refl where
     go : (past : Bool) → nat_lt offset half.offset ≡ past → (at ≡ offset) × (offset < end) × ReportsNone offset
     go true e =
-        absurd (err_ok (is ∙ ap (λ (b : Bool). if b then Ok (record { pattern = half.pattern; start = offset; end = half.offset }) else Err (NoToken offset)) e))
+        absurd (err_ok
+        (is ∙ ap
+        (λ (b : Bool). if b then Ok (record { pattern = half.pattern; start = offset; end = half.offset }) else Err
+        (NoToken offset)) e))
     go false e = (
-      same_place at offset (same_err (is ∙ ap (λ (b : Bool). if b then Ok (record { pattern = half.pattern; start = offset; end = half.offset }) else Err (NoToken offset)) e)),
+      same_place at offset
+      (same_err
+      (is ∙ ap
+      (λ (b : Bool). if b then Ok (record { pattern = half.pattern; start = offset; end = half.offset }) else Err
+      (NoToken offset)) e)),
       ahead,
       at_place offset half (ltb-false offset half.offset e) returned,
     )
@@ -98,20 +119,29 @@ module _ (m : Machine) (h : List ℕ) (end : ℕ) where
   error_is_given offset answer (Search e) ahead returned is = ((ahead, (answer, returned, is)), tt)
 
   -- and an error is the search's own
-  refused_is : (offset : ℕ) (e : SearchError) → IsItemAt m h end offset (Err (Search e)) → SearchReturns m h end offset (Err e)
+  refused_is :
+      (offset : ℕ) (e : SearchError) → IsItemAt m h end offset (Err (Search e)) → SearchReturns m h end offset (Err e)
   refused_is offset e (ahead, (Ok (Some half), returned, is)) = go (nat_lt offset half.offset) refl where
     go : (past : Bool) → nat_lt offset half.offset ≡ past → SearchReturns m h end offset (Err e)
     go true k =
-        absurd (err_ok (is ∙ ap (λ (b : Bool). if b then Ok (record { pattern = half.pattern; start = offset; end = half.offset }) else Err (NoToken offset)) k))
+        absurd (err_ok
+        (is ∙ ap
+        (λ (b : Bool). if b then Ok (record { pattern = half.pattern; start = offset; end = half.offset }) else Err
+        (NoToken offset)) k))
     go false k =
-        absurd (no_search offset e (sym (same_err (is ∙ ap (λ (b : Bool). if b then Ok (record { pattern = half.pattern; start = offset; end = half.offset }) else Err (NoToken offset)) k))))
+        absurd (no_search offset e
+        (sym (same_err
+        (is ∙ ap
+        (λ (b : Bool). if b then Ok (record { pattern = half.pattern; start = offset; end = half.offset }) else Err
+        (NoToken offset)) k))))
   refused_is offset e (ahead, (Ok None, returned, is)) = absurd (no_search offset e (sym (same_err is)))
   refused_is offset e (ahead, (Err d, returned, is)) =
       subst (λ (x : SearchError). SearchReturns m h end offset (Err x)) (sym (same_search e d (same_err is))) returned
 
   -- so the tokens are those that searches find, by whatever such an answer is
   module _ (P : Input → Option HalfMatch → Type 0)
-      (right : (offset : ℕ) (o : Option HalfMatch) → SearchReturns m h end offset (Ok o) → P (asked h end offset) o) where
+      (right : (offset : ℕ) (o : Option HalfMatch) → SearchReturns m h end offset (Ok o)
+      → P (asked h end offset) o) where
     none_by :
         (offset : ℕ) → ReportsNone offset → FindsNoToken P h end offset
     none_by offset (inl returned) = NoMatch (right offset None returned)
@@ -158,7 +188,8 @@ module _ (m : Machine) (h : List ℕ) (end : ℕ) where
       let n = token_is offset t g.0 in
       let rest = begins t.end ts error g.1 in (
         rest.0,
-        sym (append_assoc (match_bytes h t) (joined h ts) rest.0 ∙ token_then offset t (joined h ts ++ rest.0) n (sym rest.1)),
+        sym (append_assoc (match_bytes h t) (joined h ts) rest.0
+        ∙ token_then offset t (joined h ts ++ rest.0) n (sym rest.1)),
       )
 
   -- and without an error are all of them

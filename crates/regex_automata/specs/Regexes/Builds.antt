@@ -89,7 +89,8 @@ PassesAll forward = PassesTwo forward × BeginsAlike forward
 -- the regex is made of the NFA, which then keeps unions if it has a look cycle, and of the reversed one
 abbrev pub BuildsOne : Options → Automaton → Regex → Type 0
 BuildsOne o forward p =
-    (kept reverse : Automaton) × IsKeepingUnions forward kept × IsReversalOf forward reverse × BuildsPair o kept reverse p
+    (kept reverse : Automaton) × IsKeepingUnions forward kept × IsReversalOf forward reverse
+    × BuildsPair o kept reverse p
 
 -- why no pair of DFAs can be built of an NFA and of its reverse
 pub record IsUnpaired (o : Options) (forward : Automaton) (error : BuildError) : Type 0 where

@@ -1,4 +1,5 @@
--- That what searches for spans find over a sound pair is what the ordered paths define: one match, the next one, an item
+-- That what searches for spans find over a sound pair is what the ordered paths define: one match, the next one, an
+-- item
 -- of an iteration, and a list.
 use Rattle.std.specs.Prelude.{ℕ, ◌≡◌, Bool, true, false, List, [], ◌∷◌, ◌++◌, Option, None, Some, Result, Ok, Err}
 use Rattle.automata_base.specs.Answers.Answers.{IsInput}

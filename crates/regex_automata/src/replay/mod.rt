@@ -13,6 +13,7 @@ mod tokens;
 mod walks;
 
 use crate::hybrid::regex::Regex;
+use crate::laws::regex_caches_are_known;
 use players::Player;
 pub use requests::{Fault, Reply, Request};
 use std::alloc::{AllocError, Global};
@@ -58,9 +59,7 @@ fn answer_all<'h>(
     let mut replies = Vec::new(alloc);
     for request in script {
         let reply = player.answer(request);
-        let (forward, reverse) = player.cache.as_parts();
-        forward.see_bounds();
-        reverse.see_bounds();
+        regex_caches_are_known(player.regex, &player.cache);
         replies.push(reply)?;
     }
     Ok(replies)

@@ -15,7 +15,9 @@ same_shape x y e = cc
 
 module _ (items : List Added) (at : ℕ) (a : Added) (within : at < length items) (read : a ≡ get_or items at a) where
   shape_read : slice_get (map shape_added items) at ≡ Some (shape_added a)
-  shape_read = slice_get-map shape_added items at ∙ ap (λ o. shaped o) (slice_get_read items (length items) at a refl within read)
+  shape_read =
+      slice_get-map shape_added items at
+      ∙ ap (λ o. shaped o) (slice_get_read items (length items) at a refl within read)
     where
       shaped : Option Added → Option Shape
       shaped None = None
@@ -60,7 +62,8 @@ module _
     draft_read old e = read_is items at a within read old (here old e)
 
     pub draft_patched :
-        {A B : Type 0} (r : Result A B) (b : Added) (to : ℕ) → OnOk r (patched (shape_added a) to ≡ Some (shape_added b))
+        {A B : Type 0} (r : Result A B) (b : Added) (to : ℕ)
+        → OnOk r (patched (shape_added a) to ≡ Some (shape_added b))
         → OnOk r ((old shape : Shape) → slice_get now.states from ≡ Some old → patched old to ≡ Some shape
         → drafted (map shape_added (set items at b)) pattern starts flags ≡ with_states now (set now.states from shape))
     draft_patched r b to =

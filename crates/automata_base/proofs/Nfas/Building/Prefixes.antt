@@ -45,25 +45,32 @@ node_shaped (is.Match pattern) = refl
 
 nodes_shaped : (xs : List State) → nodes_of xs ≡ map shape_node (map shape_of xs)
 nodes_shaped [] = refl
-nodes_shaped (x ∷ xs) = ap (λ z. z ∷ nodes_of xs) (node_shaped x) ∙ ap (λ z. shape_node (shape_of x) ∷ z) (nodes_shaped xs)
+nodes_shaped (x ∷ xs) =
+    ap (λ z. z ∷ nodes_of xs) (node_shaped x) ∙ ap (λ z. shape_node (shape_of x) ∷ z) (nodes_shaped xs)
 
-nth_front : (xs ys : List Shape) (q : ℕ) → q < length xs → slice_get (map shape_node (xs ++ ys)) q ≡ slice_get (map shape_node xs) q
+nth_front :
+    (xs ys : List Shape) (q : ℕ) → q < length xs
+    → slice_get (map shape_node (xs ++ ys)) q ≡ slice_get (map shape_node xs) q
 nth_front [] ys q l = absurd (omega (arith, l))
 nth_front (x ∷ xs) ys zero l = refl
 nth_front (x ∷ xs) ys (suc q) l = nth_front xs ys q (omega (arith, l))
 
-nth_after : (xs ys : List Shape) (y : Shape) → slice_get (map shape_node (xs ++ y ∷ ys)) (length xs) ≡ Some (shape_node y)
+nth_after :
+    (xs ys : List Shape) (y : Shape) → slice_get (map shape_node (xs ++ y ∷ ys)) (length xs) ≡ Some (shape_node y)
 nth_after [] ys y = refl
 nth_after (x ∷ xs) ys y = nth_after xs ys y
 
-nth_last : (xs : List Shape) (y z : Shape) → slice_get (map shape_node (xs ++ y ∷ z ∷ [])) (suc (length xs)) ≡ Some (shape_node z)
+nth_last :
+    (xs : List Shape) (y z : Shape)
+    → slice_get (map shape_node (xs ++ y ∷ z ∷ [])) (suc (length xs)) ≡ Some (shape_node z)
 nth_last [] y z = refl
 nth_last (x ∷ xs) y z = nth_last xs y z
 
 module _
     (shapes : List Shape) (start : ℕ) (before after : Automaton) (checked : IsChecked before)
     (was : map shape_of before.states ≡ shapes) (within : start < length shapes)
-    (now : map shape_of after.states ≡ shapes ++ BinaryUnionShape start (length shapes + 1) ∷ RangeShape 0 255 (length shapes) ∷ [])
+    (now : map shape_of after.states ≡ shapes ++ BinaryUnionShape start (length shapes + 1)
+    ∷ RangeShape 0 255 (length shapes) ∷ [])
   where
     abbrev last : List Shape
     last = BinaryUnionShape start (length shapes + 1) ∷ RangeShape 0 255 (length shapes) ∷ []
@@ -80,14 +87,16 @@ module _
     union_is : node (nfa_of after) (length shapes) ≡ Split (start ∷ (length shapes + 1) ∷ [])
     union_is =
         ap (λ z. node_or_fail (slice_get z (length shapes))) nodes_now
-        ∙ ap node_or_fail (nth_after shapes (RangeShape 0 255 (length shapes) ∷ []) (BinaryUnionShape start (length shapes + 1)))
+        ∙ ap node_or_fail
+        (nth_after shapes (RangeShape 0 255 (length shapes) ∷ []) (BinaryUnionShape start (length shapes + 1)))
 
     skip_is : node (nfa_of after) (length shapes + 1) ≡ any_byte (length shapes)
     skip_is =
         let behind : length shapes + 1 ≡ suc (length shapes) = omega arith in
         ap (λ z. node_or_fail (slice_get z (length shapes + 1))) nodes_now
         ∙ (ap (λ k. node_or_fail (slice_get (map shape_node (shapes ++ last)) k)) behind
-        ∙ ap node_or_fail (nth_last shapes (BinaryUnionShape start (length shapes + 1)) (RangeShape 0 255 (length shapes))))
+        ∙ ap node_or_fail
+        (nth_last shapes (BinaryUnionShape start (length shapes + 1)) (RangeShape 0 255 (length shapes))))
 
     node_same : (q : ℕ) → q < length shapes → node (nfa_of after) q ≡ node (nfa_of before) q
     node_same q l =
@@ -108,18 +117,22 @@ module _
     road_below q (r ∷ way) z l w = road_below r way z (edge_below q r l w.0) w.1
 
     apart : Reaches (nfa_of after) start (length shapes) → ⊥
-    apart h = let l : length shapes < length shapes = road_below start h.0 (length shapes) within h.1 in omega (arith, l)
+    apart h =
+        let l : length shapes < length shapes = road_below start h.0 (length shapes) within h.1 in omega (arith, l)
 
     pub loops_lazily : after.start_anchored ≡ start → after.start_unanchored ≡ length shapes → SkipsLazily after
     loops_lazily anchored unanchored = LazyLoop (length shapes + 1) (
       ap (node (nfa_of after)) unanchored ∙ (union_is ∙ ap (λ z. Split (z ∷ (length shapes + 1) ∷ [])) (sym anchored)),
       skip_is ∙ ap any_byte (sym unanchored),
-      λ h. apart (subst (λ z. Reaches (nfa_of after) z (length shapes)) anchored (subst (Reaches (nfa_of after) after.start_anchored) unanchored h)),
+      λ h. apart
+      (subst (λ z. Reaches (nfa_of after) z (length shapes)) anchored
+      (subst (Reaches (nfa_of after) after.start_anchored) unanchored h)),
     )
 
 pub prefixed : PrefixesSkipLazily
 prefixed draft start before after checked was within e =
-    loops_lazily (map built_of draft.states) start before after checked was (subst (λ z. start < z) (sym count) within) states
+    loops_lazily (map built_of draft.states) start before after checked was (subst (λ z. start < z) (sym count) within)
+    states
     (ap (λ (o : Outline). o.start_anchored) e)
     (ap (λ (o : Outline). o.start_unanchored) e ∙ sym count)
   where
@@ -128,7 +141,8 @@ prefixed draft start before after checked was within e =
 
     states :
         map shape_of after.states
-        ≡ map built_of draft.states ++ BinaryUnionShape start (length (map built_of draft.states) + 1) ∷ RangeShape 0 255 (length (map built_of draft.states)) ∷ []
+        ≡ map built_of draft.states ++ BinaryUnionShape start (length (map built_of draft.states) + 1)
+        ∷ RangeShape 0 255 (length (map built_of draft.states)) ∷ []
     states =
         ap (λ (o : Outline). o.states) e
         ∙ (map-append built_of draft.states (prefix_of draft start)

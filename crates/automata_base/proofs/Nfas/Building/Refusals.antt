@@ -28,27 +28,32 @@ error_is nfa_error.OutOfMemory = inr refl
 
 pub states_built :
     (none new : List State) (added slice : List Added) (shapes : List Shape) → none ≡ []
-    → map shape_of new ≡ map shape_of none ++ map built_of (map shape_added slice) → slice ≡ added → map shape_added added ≡ shapes
+    → map shape_of new ≡ map shape_of none ++ map built_of (map shape_added slice) → slice ≡ added
+    → map shape_added added ≡ shapes
     → map shape_of new ≡ map built_of shapes
 states_built none new added slice shapes e h s v =
-    h ∙ (ap (λ z. map shape_of z ++ map built_of (map shape_added slice)) e ∙ ap (map built_of) (ap (map shape_added) s ∙ v))
+    h ∙ (ap (λ z. map shape_of z ++ map built_of (map shape_added slice)) e
+    ∙ ap (map built_of) (ap (map shape_added) s ∙ v))
 
 module _
-    (shapes : List Shape) (bs : List State) (a u : ℕ) (starts own : List ℕ) (built : map shape_of bs ≡ map built_of shapes)
+    (shapes : List Shape) (bs : List State) (a u : ℕ) (starts own : List ℕ)
+    (built : map shape_of bs ≡ map built_of shapes)
     (same : starts ≡ own)
   where
     alike : states_error bs a u starts ≡ shapes_error (map built_of shapes) a u own
     alike = ap (λ z. shapes_error z a u starts) built ∙ ap (shapes_error (map built_of shapes) a u) same
 
     pub ok_unrefused :
-        {A : Type 0} (r : Result A NfaError) (nfa : A) → r ≡ Ok nfa → ((e : NfaError) → states_error bs a u starts ≡ Some e → r ≡ Err e)
+        {A : Type 0} (r : Result A NfaError) (nfa : A) → r ≡ Ok nfa
+        → ((e : NfaError) → states_error bs a u starts ≡ Some e → r ≡ Err e)
         → (e : NfaError) → shapes_error (map built_of shapes) a u own ≡ Some e → ⊥
     ok_unrefused r nfa is refused e f = apart nfa e (sym is ∙ refused e (alike ∙ f))
 
     pub err_refused :
         {A : Type 0} (r : Result A NfaError) (x : NfaError) (answer : BuildError) → answer ≡ build_error x → r ≡ Err x
         → ((e : NfaError) → states_error bs a u starts ≡ Some e → r ≡ Err e)
-        → (e : NfaError) → shapes_error (map built_of shapes) a u own ≡ Some e → (answer ≡ NFA e) ⊎ (answer ≡ OutOfMemory)
+        → (e : NfaError) → shapes_error (map built_of shapes) a u own ≡ Some e → (answer ≡ NFA e)
+        ⊎ (answer ≡ OutOfMemory)
     err_refused {A} r x answer t is refused e f =
         go (error_is x)
       where
@@ -68,6 +73,7 @@ module _
 
 pub err_either :
     {A : Type 0} (answer : BuildError) (e : NfaError) → (answer ≡ NFA e) ⊎ (answer ≡ OutOfMemory)
-    → ◌≡◌ {A = Result A BuildError} (Err answer) (Err (NFA e)) ⊎ ◌≡◌ {A = Result A BuildError} (Err answer) (Err OutOfMemory)
+    → ◌≡◌ {A = Result A BuildError} (Err answer) (Err (NFA e))
+    ⊎ ◌≡◌ {A = Result A BuildError} (Err answer) (Err OutOfMemory)
 err_either answer e (inl h) = inl (ap (λ z. Err z) h)
 err_either answer e (inr h) = inr (ap (λ z. Err z) h)

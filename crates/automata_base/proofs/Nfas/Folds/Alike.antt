@@ -35,12 +35,16 @@ reversed_true a b kind checked r alike lazy = record {
     pair : IsTruePair (engine_of a kind) (engine_of r.mirror All)
     pair = mirror_true a r.mirror kind checked r.reversed alike lazy
 
-    forth : (h : List ℕ) (i j p : ℕ) → Joins Backward (engine_of r.mirror All) h i j p → Joins Backward (engine_of b All) h i j p
+    forth :
+        (h : List ℕ) (i j p : ℕ) → Joins Backward (engine_of r.mirror All) h i j p
+        → Joins Backward (engine_of b All) h i j p
     forth h i j p s =
         subst (λ v. Reaches b (reverse_tape h i j) v (j - i) p) (sym r.alike.anchored)
         ((r.alike.accepts r.mirror.start_anchored (inl refl) (reverse_tape h i j) (j - i) p).0 s)
 
-    back : (h : List ℕ) (i j p : ℕ) → Joins Backward (engine_of b All) h i j p → Joins Backward (engine_of r.mirror All) h i j p
+    back :
+        (h : List ℕ) (i j p : ℕ) → Joins Backward (engine_of b All) h i j p
+        → Joins Backward (engine_of r.mirror All) h i j p
     back h i j p s =
         (r.alike.accepts r.mirror.start_anchored (inl refl) (reverse_tape h i j) (j - i) p).1
         (subst (λ v. Reaches b (reverse_tape h i j) v (j - i) p) r.alike.anchored s)
@@ -59,8 +63,12 @@ patterns_turned a b checked r k entry at h i j pattern l w = (
         ↔ ((pattern ≡ k) × Reaches a (forward_tape h i j) a.start_anchored (j - i) pattern)
     turned = mirror_patterns a r.mirror checked r.reversed k entry mirrored h i j pattern l w
 
-    reads : Reaches r.mirror (reverse_tape h i j) entry (j - i) pattern ↔ Reaches b (reverse_tape h i j) entry (j - i) pattern
-    reads = r.alike.accepts entry (inr (inr (nth_in r.mirror.start_pattern k entry mirrored))) (reverse_tape h i j) (j - i) pattern
+    reads :
+        Reaches r.mirror (reverse_tape h i j) entry (j - i) pattern
+        ↔ Reaches b (reverse_tape h i j) entry (j - i) pattern
+    reads =
+        r.alike.accepts entry (inr (inr (nth_in r.mirror.start_pattern k entry mirrored))) (reverse_tape h i j) (j - i)
+        pattern
 
 -- The NFA itself reads like it.
 pub itself_alike : (a : Automaton) → ReadsAlike a a
@@ -75,7 +83,8 @@ itself_alike a = record {
 
 -- And so does the folded one.
 module _ (states folded : List State) (root : ℕ) (entries : List ℕ) (flags : Flags) (free : List ℕ) (made : List Node)
-    (f : IsFolded (nfa_of (automaton states root root entries flags)) (nfa_of (automaton folded root root entries flags))
+    (f : IsFolded (nfa_of (automaton states root root entries flags))
+    (nfa_of (automaton folded root root entries flags))
     free made)
     (low : IsKept free root) (entered : (e : ℕ) → In e entries → IsKept free e) where
   abbrev Plain : Automaton
@@ -89,7 +98,8 @@ module _ (states folded : List State) (root : ℕ) (entries : List ℕ) (flags :
   below start (inr (inl e)) = subst (λ v. IsKept free v) (sym e) low
   below start (inr (inr k)) = entered start k
 
-  reach : (start : ℕ) → IsKept free start → (t : Tape) (i p : ℕ) → Reaches Plain t start i p → Reaches Folded t start i p
+  reach :
+      (start : ℕ) → IsKept free start → (t : Tape) (i p : ℕ) → Reaches Plain t start i p → Reaches Folded t start i p
   reach start l t i p s =
       let there =
       forth_there (nfa_of Plain) (nfa_of Folded) free made f (truth (nfa_of Plain) t) (slice_get t.bytes) 0 start i p l
@@ -97,7 +107,8 @@ module _ (states folded : List State) (root : ℕ) (entries : List ℕ) (flags :
       let path = way_path (nfa_of Folded) t 0 start there.1.0 i there.0 there.1.1 in
       (path.0, (there.0, path.1, there.2))
 
-  reach_back : (start : ℕ) → IsKept free start → (t : Tape) (i p : ℕ) → Reaches Folded t start i p → Reaches Plain t start i p
+  reach_back :
+      (start : ℕ) → IsKept free start → (t : Tape) (i p : ℕ) → Reaches Folded t start i p → Reaches Plain t start i p
   reach_back start l t i p s =
       let there =
       back_there (nfa_of Plain) (nfa_of Folded) free made f (truth (nfa_of Plain) t) (slice_get t.bytes) 0 start i p l

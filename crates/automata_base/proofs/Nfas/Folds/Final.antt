@@ -1,5 +1,6 @@
 -- The states of which unions were folded are those of a folded NFA.
-use Rattle.std.proofs.Common.{ℕ, zero, suc, ◌≡◌, ◌≤◌, leb, Bool, true, false, cond, List, [], ◌∷◌, ◌⊎◌, Option, Some, None, inl, inr, refl}
+use Rattle.std.proofs.Common.{ℕ, zero, suc, ◌≡◌, ◌≤◌, leb, Bool, true, false, cond, List, [], ◌∷◌, ◌⊎◌, Option, Some}
+use Rattle.std.proofs.Common.{None, inl, inr, refl}
 use Rattle.std.proofs.Common.{sym, ap, ◌∙◌, subst}
 use Rattle.std.specs.Prelude.{slice_get}
 use Rattle.std.proofs.lemmas.Bool.{leb-true, and_parts}
@@ -11,12 +12,15 @@ use Rattle.automata_base.specs.declared.nfa.thompson.reach.Edges.TheVariants.{Ev
 use Rattle.automata_base.specs.Haystacks.Looks.{within}
 use Rattle.automata_base.specs.Lists.{In}
 use Rattle.automata_base.specs.Nfas.Automata.{automaton}
-use Rattle.automata_base.specs.Nfas.Nfa.{Nfa, Node, Range, Split, Assert, Read, Accept, Truth, node, hop_at, takes_at, takes_in}
+use Rattle.automata_base.specs.Nfas.Nfa.{Nfa, Node, Range, Split, Assert, Read, Accept, Truth, node, hop_at, takes_at}
+use Rattle.automata_base.specs.Nfas.Nfa.{takes_in}
 use Rattle.automata_base.specs.Nfas.Nodes.{nfa_of, node_of, nodes_of, range_of}
 use Rattle.automata_base.specs.Paths.Paths.{all_true}
 use Rattle.automata_base.specs.Powersets.Closure.{children_at}
-use Rattle.automata_base.specs.Retraced.Folds.{AreFolded, IsFolded, IsFoldedFrom, IsFoldedNode, IsFoldedState, IsFoldedUnion, IsFoldOf}
-use Rattle.automata_base.specs.Retraced.Folds.{IsKept, ReadsRange, SomeReads, SomeTakes, is_large, is_large_state, range_read}
+use Rattle.automata_base.specs.Retraced.Folds.{AreFolded, IsFolded, IsFoldedFrom, IsFoldedNode, IsFoldedState}
+use Rattle.automata_base.specs.Retraced.Folds.{IsFoldedUnion, IsFoldOf}
+use Rattle.automata_base.specs.Retraced.Folds.{IsKept, ReadsRange, SomeReads, SomeTakes, is_large, is_large_state}
+use Rattle.automata_base.specs.Retraced.Folds.{range_read}
 use Rattle.automata_base.specs.Retraced.Once.{once_from}
 use Rattle.automata_base.specs.Retraced.Reach.{node_in, nexts, byte_targets, targets_at, targets_of}
 use Rattle.automata_base.proofs.Nfas.Folds.Ranges.{within_is}
@@ -56,13 +60,16 @@ range_node (is.Capture next pattern index slot) range e = absurd (none_some e)
 range_node is.Fail range e = absurd (none_some e)
 range_node (is.Match pattern) range e = absurd (none_some e)
 
-read_node : (states : List State) (x : ℕ) (range : Transition) → ReadsRange states x range → node_in states x ≡ Read (range_of range ∷ [])
+read_node :
+    (states : List State) (x : ℕ) (range : Transition) → ReadsRange states x range
+    → node_in states x ≡ Read (range_of range ∷ [])
 read_node states x range r = node_some states x r.0 r.1 ∙ range_node r.0 range r.2
 
 -- Where a state that reads a range leads.
 pub range_kept :
     (states : List State) (free : List ℕ)
-    → ((q t : ℕ) → is_large (node_in states q) ≡ false → In t (targets_of Every states q) → IsKept free t) → (q : ℕ) (range : Transition)
+    → ((q t : ℕ) → is_large (node_in states q) ≡ false → In t (targets_of Every states q) → IsKept free t)
+    → (q : ℕ) (range : Transition)
     → ReadsRange states q range → IsKept free range.next
 range_kept states free led q range r =
     let e = read_node states q range r in
@@ -83,7 +90,9 @@ taken_next : (ranges : List Range) (u y : ℕ) → takes_in ranges u ≡ Some y 
 taken_next [] u y h = absurd (none_some h)
 taken_next (r ∷ ranges) u y h = go (within r.lo r.hi u) h (λ g. taken_next ranges u y g)
   where
-    go : (b : Bool) → cond b (Some r.next) (takes_in ranges u) ≡ Some y → (takes_in ranges u ≡ Some y → In y (nexts ranges)) → In y (nexts (r ∷ ranges))
+    go :
+        (b : Bool) → cond b (Some r.next) (takes_in ranges u) ≡ Some y
+        → (takes_in ranges u ≡ Some y → In y (nexts ranges)) → In y (nexts (r ∷ ranges))
     go true g f = inl (sym (some_inj g))
     go false g f = inr (f g)
 
@@ -94,11 +103,15 @@ take_child (Read ranges) u y h = (refl, taken_next ranges u y h)
 take_child (Accept p) u y h = absurd (none_some h)
 
 -- What a single range takes.
-one_takes : (range : Transition) (u t : ℕ) → range.next ≡ t → range.lo ≤ u → u ≤ range.hi → takes_in (range_of range ∷ []) u ≡ Some t
+one_takes :
+    (range : Transition) (u t : ℕ) → range.next ≡ t → range.lo ≤ u → u ≤ range.hi
+    → takes_in (range_of range ∷ []) u ≡ Some t
 one_takes range u t e a b =
     ap (λ w. cond w (Some range.next) None) (within_is range.lo range.hi u a b) ∙ ap (λ (v : ℕ). Some v) e
 
-one_taken : (range : Transition) (u t : ℕ) → takes_in (range_of range ∷ []) u ≡ Some t → (range.next ≡ t) × (range.lo ≤ u) × (u ≤ range.hi)
+one_taken :
+    (range : Transition) (u t : ℕ) → takes_in (range_of range ∷ []) u ≡ Some t → (range.next ≡ t) × (range.lo ≤ u)
+    × (u ≤ range.hi)
 one_taken range u t h = go (within range.lo range.hi u) refl h
   where
     go :
@@ -140,7 +153,8 @@ module _ (old new : List State) (root : ℕ) (entries : List ℕ) (flags : Flags
       all :
           (y : ℕ) → In y xs → In y o.stay ⊎ ((range : Transition) × ReadsRange old y range)
           → In y o.stay
-          ⊎ ((own : List Range) × (node Plain y ≡ Read own) × ((u t : ℕ) → takes_in own u ≡ Some t → In t (o.stands u).0))
+          ⊎ ((own : List Range) × (node Plain y ≡ Read own)
+          × ((u t : ℕ) → takes_in own u ≡ Some t → In t (o.stands u).0))
       all y i (inl k) = inl k
       all y i (inr k) = inr (
         range_of k.0 ∷ [],
@@ -148,12 +162,15 @@ module _ (old new : List State) (root : ℕ) (entries : List ℕ) (flags : Flags
         λ u t h. let g = one_taken k.0 u t h in ((o.stands u).2 t).1 (y, k.0, i, k.1, g.0, g.1, g.2),
       )
 
-  each_of : (x : ℕ) → IsFoldedState old free made (slice_get old x) (slice_get new x) → IsFoldedNode Plain free made (node Plain x) (node Folded x)
+  each_of :
+      (x : ℕ) → IsFoldedState old free made (slice_get old x) (slice_get new x)
+      → IsFoldedNode Plain free made (node Plain x) (node Folded x)
   each_of x (inl k) = inl (
     node_is new x ∙ (ap option_node k.0 ∙ sym (node_is old x)),
     λ A e y h.
         a.led x y (ap (λ v. is_large v) (node_is old x) ∙ (sym (large_is (slice_get old x)) ∙ k.1))
-        (in_left y (children_at (node Plain x) all_true) (byte_targets (node Plain x)) (hop_child (node Plain x) A e y h)),
+        (in_left y (children_at (node Plain x) all_true) (byte_targets (node Plain x))
+        (hop_child (node Plain x) A e y h)),
   )
   each_of x (inr k) = inr (
     k.0.items,
@@ -169,7 +186,8 @@ module _ (old new : List State) (root : ℕ) (entries : List ℕ) (flags : Flags
   }
 
 nodes_get :
-    (xs : List State) (k : ℕ) (n : Node) → slice_get (nodes_of xs) k ≡ Some n → (s : State) × (slice_get xs k ≡ Some s) × (node_of s ≡ n)
+    (xs : List State) (k : ℕ) (n : Node) → slice_get (nodes_of xs) k ≡ Some n → (s : State) × (slice_get xs k ≡ Some s)
+    × (node_of s ≡ n)
 nodes_get [] k n e = absurd (none_some e)
 nodes_get (x ∷ xs) zero n e = (x, refl, some_inj e)
 nodes_get (x ∷ xs) (suc k) n e = nodes_get xs k n e
@@ -194,7 +212,8 @@ folded_from old mid new made led0 led1 led2 free entries root led e f reads fres
     led = λ q t l i k. fresh t k (keep t (led q t l i));
     reads = reads;
   },
-  (λ k. fresh root k (keep1 root (subst (λ (v : List ℕ). In root v) (sym e) (once_has root led0 (root ∷ []) (inl refl))))),
+  (λ k. fresh root k
+  (keep1 root (subst (λ (v : List ℕ). In root v) (sym e) (once_has root led0 (root ∷ []) (inl refl))))),
   λ x i k. fresh x k (subst (λ (v : List ℕ). In x v) (sym f) (once_has x led1 entries i)),
 )
   where

@@ -1,5 +1,6 @@
 -- The heads of the nodes of a tree, and the states that stand for others.
-use Rattle.std.proofs.Common.{ℕ, zero, suc, ◌≡◌, ◌<◌, ◌≤◌, ◌+◌, ◌/◌, ◌↔◌, List, [], ◌∷◌, ◌++◌, ◌⊎◌, Option, Some, None, inl, inr, refl}
+use Rattle.std.proofs.Common.{ℕ, zero, suc, ◌≡◌, ◌<◌, ◌≤◌, ◌+◌, ◌/◌, ◌↔◌, List, [], ◌∷◌, ◌++◌, ◌⊎◌, Option, Some, None}
+use Rattle.std.proofs.Common.{inl, inr, refl}
 use Rattle.std.proofs.Common.{sym, ap, ◌∙◌, subst, arith, length, append_assoc, get_or, length-append}
 use Rattle.std.specs.Prelude.{slice_get}
 use Rattle.std.proofs.lemmas.Bool.{cases_lt}
@@ -35,7 +36,8 @@ stands_more free made more (suc d) z ts (inl h) = inl h
 stands_more free made more (suc d) z ts (inr h) = inr (
   h.0,
   made_more free made more z (Split h.0) h.1,
-  targets_more (StandsFor free made d) (StandsFor free (made ++ more) d) h.0 ts (λ x own k. stands_more free made more d x own k) h.2,
+  targets_more (StandsFor free made d) (StandsFor free (made ++ more) d) h.0 ts
+  (λ x own k. stands_more free made more d x own k) h.2,
 )
 
 pub any_more :
@@ -136,7 +138,8 @@ above_root free made lists = record {
 
 pub above_node :
     (free : List ℕ) (made : List Node) (lists : List (List ℕ)) (heads : List (Option ℕ)) (node : ℕ)
-    → AreHeads free made lists heads node → 0 < node → IsAbove free made lists (head_or_none (slice_get heads (node / 2))) node
+    → AreHeads free made lists heads node → 0 < node
+    → IsAbove free made lists (head_or_none (slice_get heads (node / 2))) node
 above_node free made lists heads node h l =
     let k = h (node / 2) (omega (arith, l)) in
     record {
@@ -196,7 +199,8 @@ heads_next free made new more lists heads after node o head list count is grows 
     go (inl b) =
         let r = h k b in (
           r.0,
-          subst (λ v. StandsIfAny free new (head_or_none v) r.0) (sym (nth_front heads head k (omega (arith, b, count))))
+          subst (λ v. StandsIfAny free new (head_or_none v) r.0)
+          (sym (nth_front heads head k (omega (arith, b, count))))
               (subst (λ v. StandsIfAny free v (head_or_none (slice_get heads k)) r.0) (sym grows)
               (any_more free made more (head_or_none (slice_get heads k)) r.0 r.1)),
           r.2,
@@ -205,7 +209,8 @@ heads_next free made new more lists heads after node o head list count is grows 
       list ++ up.targets,
       subst (λ v. StandsIfAny free new (head_or_none v) (list ++ up.targets))
           (sym (ap (λ v. slice_get (heads ++ head ∷ []) v) same ∙ nth_last heads head)) (stands up.targets up.stands),
-      λ t. ((λ i. forth t (in_either t list up.targets i)), λ w. back t (up.all t (subst (λ v. IsOnWay lists v t) here w))),
+      λ t. ((λ i. forth t (in_either t list up.targets i)), λ w. back t
+      (up.all t (subst (λ v. IsOnWay lists v t) here w))),
     )
       where
         same : k ≡ length heads
@@ -216,7 +221,8 @@ heads_next free made new more lists heads after node o head list count is grows 
 
         forth : (t : ℕ) → In t list ⊎ In t up.targets → IsOnWay lists k t
         forth t (inl i) =
-            subst (λ v. IsOnWay lists v t) (sym here) (way_joins lists node t (inl (subst (λ (v : List ℕ). In t v) is i)))
+            subst (λ v. IsOnWay lists v t) (sym here)
+            (way_joins lists node t (inl (subst (λ (v : List ℕ). In t v) is i)))
         forth t (inr i) = subst (λ v. IsOnWay lists v t) (sym here) (up.sound t i)
 
         back : (t : ℕ) → In t (list_at lists node) ⊎ In t up.targets → In t (list ++ up.targets)

@@ -1,5 +1,6 @@
 -- Which states are led to, and which are free.
-use Rattle.std.proofs.Common.{ℕ, ◌≡◌, ◌<◌, ◌≤◌, ◌+◌, true, false, List, [], ◌∷◌, ◌++◌, ◌⊎◌, Option, Some, inl, inr, refl, sym}
+use Rattle.std.proofs.Common.{ℕ, ◌≡◌, ◌<◌, ◌≤◌, ◌+◌, true, false, List, [], ◌∷◌, ◌++◌, ◌⊎◌, Option, Some, inl, inr}
+use Rattle.std.proofs.Common.{refl, sym}
 use Rattle.std.proofs.Common.{ap, ◌∙◌, subst, arith, length, get_or}
 use Rattle.std.specs.Prelude.{IfSome}
 use Rattle.std.proofs.lemmas.Bool.{cases_lt}
@@ -85,7 +86,8 @@ free_none states led free e = subst (λ (z : List ℕ). AreFree states led z 0) 
   distinct = tt;
 }
 
-pub free_skip : (states : List State) (led free : List ℕ) (i : ℕ) → AreFree states led free i → AreFree states led free (i + 1)
+pub free_skip :
+    (states : List State) (led free : List ℕ) (i : ℕ) → AreFree states led free i → AreFree states led free (i + 1)
 free_skip states led free i f = record {
   reads = f.reads;
   new = f.new;

@@ -1,5 +1,6 @@
 -- The alternates of a union that read a range, and the others.
-use Rattle.std.proofs.Common.{ℕ, zero, suc, ◌≡◌, ◌<◌, ◌≤◌, ◌+◌, ◌↔◌, List, [], ◌∷◌, ◌++◌, ◌⊎◌, Option, Some, None, inl, inr, refl, sym, ap, ◌∙◌, subst, arith}
+use Rattle.std.proofs.Common.{ℕ, zero, suc, ◌≡◌, ◌<◌, ◌≤◌, ◌+◌, ◌↔◌, List, [], ◌∷◌, ◌++◌, ◌⊎◌, Option, Some, None, inl}
+use Rattle.std.proofs.Common.{inr, refl, sym, ap, ◌∙◌, subst, arith}
 use Rattle.std.proofs.Common.{length, take, get_or, add-one, Bool, true, false, not}
 use Rattle.std.specs.Option.{is_some}
 use Rattle.std.proofs.Math.Seq.{take-suc}
@@ -31,7 +32,8 @@ pub take_next : (xs : List ℕ) (i x : ℕ) → i < length xs → x ≡ get_or x
 take_next xs i x l e = rw add-one (take-suc xs i x l ∙ ap (λ v. take i xs ++ v ∷ []) (sym e))
 
 pub state_at :
-    (states : List State) (x y : ℕ) (s : State) → y < length states → s ≡ get_or states y s → y ≡ x → slice_get states x ≡ Some s
+    (states : List State) (x y : ℕ) (s : State) → y < length states → s ≡ get_or states y s → y ≡ x
+    → slice_get states x ≡ Some s
 state_at states x y s l e i = ap (λ v. slice_get states v) (sym i) ∙ slice_get_read states (length states) y s refl l e
 
 reads_one :
@@ -42,14 +44,16 @@ reads_one states x s o range at e r =
 
 -- A state more, which reads a range.
 pub read_more :
-    (states : List State) (ids after : List ℕ) (lists new : List (List ℕ)) (x nodes : ℕ) (s : State) (range : Transition)
+    (states : List State) (ids after : List ℕ) (lists new : List (List ℕ)) (x nodes : ℕ) (s : State)
+    (range : Transition)
     → after ≡ ids ++ x ∷ [] → slice_get states x ≡ Some s → Some range ≡ range_read s → nodes ≡ 512
     → ((u t : ℕ) → u < 256
     → IsOnWay new (u + 256) t ↔ (IsOnWay lists (u + 256) t ⊎ ((t ≡ range.next) × (range.lo ≤ u) × (u ≤ range.hi))))
     → range.hi < 256 → (old : ℕ) → AreRead states ids lists old → AreRead states after new nodes
 read_more states ids after lists new x nodes s range e at is few put low old r =
     subst (λ (z : List ℕ). AreRead states z new nodes) (sym e) record {
-      reads = λ u t l. ((λ w. forth u t ((put u t l).0 w) (λ v. (r.reads u t l).0 v)), λ w. (put u t l).1 (back u t l w));
+      reads =
+          λ u t l. ((λ w. forth u t ((put u t l).0 w) (λ v. (r.reads u t l).0 v)), λ w. (put u t l).1 (back u t l w));
       low = λ u t w. lower u t w;
       few = few;
     }
@@ -95,7 +99,8 @@ read_more states ids after lists new x nodes s range e at is few put low old r =
 -- A state more, which reads none.
 pub read_none :
     (states : List State) (ids after : List ℕ) (lists : List (List ℕ)) (x nodes : ℕ) → after ≡ ids ++ x ∷ []
-    → ((range : Transition) → ReadsRange states x range → ⊥) → AreRead states ids lists nodes → AreRead states after lists nodes
+    → ((range : Transition) → ReadsRange states x range → ⊥) → AreRead states ids lists nodes
+    → AreRead states after lists nodes
 read_none states ids after lists x nodes e none r =
     subst (λ (z : List ℕ). AreRead states z lists nodes) (sym e) record {
       reads = λ u t l. ((λ w. forth u t ((r.reads u t l).0 w)), λ w. (r.reads u t l).1 (back u t w));
@@ -115,11 +120,14 @@ read_none states ids after lists x nodes e none r =
         go (inr (inr i)) = absurd i
 
 pub reads_none :
-    (states : List State) (x : ℕ) (s : State) (o : Option Transition) → slice_get states x ≡ Some s → o ≡ range_read s → o ≡ None
+    (states : List State) (x : ℕ) (s : State) (o : Option Transition) → slice_get states x ≡ Some s → o ≡ range_read s
+    → o ≡ None
     → (range : Transition) → ReadsRange states x range → ⊥
 reads_none states x s o at e n range r = let k = sym n ∙ reads_one states x s o range at e r in none_some k
 
-pub read_begin : (states : List State) (lists : List (List ℕ)) (nodes : ℕ) → lists ≡ no_lists 512 → nodes ≡ 512 → AreRead states [] lists nodes
+pub read_begin :
+    (states : List State) (lists : List (List ℕ)) (nodes : ℕ) → lists ≡ no_lists 512 → nodes ≡ 512
+    → AreRead states [] lists nodes
 read_begin states lists nodes e few = record {
   reads = λ u t l. ((λ w. absurd (empty u t w)), λ w. absurd w.2);
   low = λ u t w. absurd w.2;
@@ -128,26 +136,31 @@ read_begin states lists nodes e few = record {
   where
     empty : (u t : ℕ) → IsOnWay lists (u + 256) t → ⊥
     empty u t w =
-        subst (λ v. In t v) (ap (λ (z : List (List ℕ)). list_at z (above w.0 (u + 256))) e ∙ none_at 512 (above w.0 (u + 256))) w.1
+        subst (λ v. In t v)
+        (ap (λ (z : List (List ℕ)). list_at z (above w.0 (u + 256))) e ∙ none_at 512 (above w.0 (u + 256))) w.1
 
 -- Others: a state more.
 pub other_more :
     (states : List State) (ids after others new : List ℕ) (x : ℕ) → after ≡ ids ++ x ∷ [] → new ≡ others ++ x ∷ []
     → ((range : Transition) → ReadsRange states x range → ⊥) → AreOthers states ids others → AreOthers states after new
 other_more states ids after others new x e f none r =
-    subst (λ (z : List ℕ). AreOthers states z new) (sym e) (subst (λ (z : List ℕ). AreOthers states (ids ++ x ∷ []) z) (sym f) record {
+    subst (λ (z : List ℕ). AreOthers states z new) (sym e)
+    (subst (λ (z : List ℕ). AreOthers states (ids ++ x ∷ []) z) (sym f) record {
       sound = λ y i. sound y (in_either y others (x ∷ []) i);
       all = λ y i. all y (in_either y ids (x ∷ []) i);
     })
   where
     sound :
-        (y : ℕ) → In y others ⊎ In y (x ∷ []) → In y (ids ++ x ∷ []) × ((range : Transition) → ReadsRange states y range → ⊥)
+        (y : ℕ) → In y others ⊎ In y (x ∷ []) → In y (ids ++ x ∷ [])
+        × ((range : Transition) → ReadsRange states y range → ⊥)
     sound y (inl i) = let k = r.sound y i in (in_left y ids (x ∷ []) k.0, k.1)
     sound y (inr (inl i)) =
         (in_right y ids (x ∷ []) (inl i), λ range k. none range (subst (λ v. ReadsRange states v range) i k))
     sound y (inr (inr i)) = absurd i
 
-    all : (y : ℕ) → In y ids ⊎ In y (x ∷ []) → In y (others ++ x ∷ []) ⊎ ((range : Transition) × ReadsRange states y range)
+    all :
+        (y : ℕ) → In y ids ⊎ In y (x ∷ []) → In y (others ++ x ∷ [])
+        ⊎ ((range : Transition) × ReadsRange states y range)
     all y (inl i) = go (r.all y i)
       where
         go :
@@ -160,7 +173,8 @@ other_more states ids after others new x e f none r =
 
 pub other_less :
     (states : List State) (ids after others : List ℕ) (x : ℕ) (s : State) (range : Transition) → after ≡ ids ++ x ∷ []
-    → slice_get states x ≡ Some s → range_read s ≡ Some range → AreOthers states ids others → AreOthers states after others
+    → slice_get states x ≡ Some s → range_read s ≡ Some range → AreOthers states ids others
+    → AreOthers states after others
 other_less states ids after others x s range e at is r =
     subst (λ (z : List ℕ). AreOthers states z others) (sym e) record {
       sound = λ y i. let k = r.sound y i in (in_left y ids (x ∷ []) k.0, k.1);

@@ -1,5 +1,6 @@
 -- What is made is put in the place of the free states.
-use Rattle.std.proofs.Common.{ℕ, zero, suc, ◌≡◌, ◌<◌, ◌≤◌, ◌+◌, List, [], ◌∷◌, ◌++◌, ◌⊎◌, Some, inl, inr, refl, sym, ap, ◌∙◌, subst}
+use Rattle.std.proofs.Common.{ℕ, zero, suc, ◌≡◌, ◌<◌, ◌≤◌, ◌+◌, List, [], ◌∷◌, ◌++◌, ◌⊎◌, Some, inl, inr, refl, sym, ap}
+use Rattle.std.proofs.Common.{◌∙◌, subst}
 use Rattle.std.proofs.Common.{arith, length, length-append, append_assoc}
 use Rattle.std.specs.Prelude.{slice_get}
 use Rattle.std.proofs.Math.ListN.{set}
@@ -49,7 +50,8 @@ pub record Placing (free : List ℕ) (old now : List State) (all rest : List Sta
   pub whole : all ≡ rest ++ more
   pub kept : (x : ℕ) → IsKept free x → slice_get now x ≡ slice_get old x
   pub done :
-      (k x : ℕ) (s : State) → length rest ≤ k → slice_get free k ≡ Some x → slice_get all k ≡ Some s → slice_get now x ≡ Some s
+      (k x : ℕ) (s : State) → length rest ≤ k → slice_get free k ≡ Some x → slice_get all k ≡ Some s
+      → slice_get now x ≡ Some s
   pub same : length now ≡ length old
   pub few : length rest ≤ length free
 
@@ -71,7 +73,8 @@ place_step free old now new all rest left state k x popped e at here low distinc
     subst (λ (z : List State). Placing free old z all left) (sym e) record {
       more = state ∷ p.more;
       whole = whole;
-      kept = λ y f. set_other now x y state (λ g. f (subst (λ v. In v free) (sym g) (nth_in free k x here))) ∙ p.kept y f;
+      kept =
+          λ y f. set_other now x y state (λ g. f (subst (λ v. In v free) (sym g) (nth_in free k x here))) ∙ p.kept y f;
       done = λ j y s l a b. go j y s l a b (cases_eq j k);
       same = set_length now x state ∙ p.same;
       few = let f = p.few in omega (arith, f, longer);
@@ -85,7 +88,8 @@ place_step free old now new all rest left state k x popped e at here low distinc
         p.whole ∙ (ap (λ (z : List State). z ++ p.more) popped ∙ append_assoc left (state ∷ []) p.more)
 
     go :
-        (j y : ℕ) (s : State) → length left ≤ j → slice_get free j ≡ Some y → slice_get all j ≡ Some s → (j ≡ k) ⊎ (j ≡ k → ⊥)
+        (j y : ℕ) (s : State) → length left ≤ j → slice_get free j ≡ Some y → slice_get all j ≡ Some s → (j ≡ k)
+        ⊎ (j ≡ k → ⊥)
         → slice_get (set now x state) y ≡ Some s
     go j y s l a b (inl f) =
         let y-is : y ≡ x = some_inj (sym a ∙ (ap (λ v. slice_get free v) f ∙ here)) in
@@ -94,7 +98,8 @@ place_step free old now new all rest left state k x popped e at here low distinc
         (sym b
         ∙ (ap (λ (z : List State). slice_get z j) whole
         ∙ (ap (λ v. slice_get (left ++ (state ∷ p.more)) v) (f ∙ at) ∙ nth_mid left p.more state))) in
-        ap (λ v. slice_get (set now x state) v) y-is ∙ (set_here now x state low ∙ ap (λ (v : State). Some v) (sym s-is))
+        ap (λ v. slice_get (set now x state) v) y-is
+        ∙ (set_here now x state low ∙ ap (λ (v : State). Some v) (sym s-is))
     go j y s l a b (inr f) =
         set_other now x y state (λ g. f (once free j k y distinct a (here ∙ ap (λ v. Some v) (sym g))))
         ∙ p.done j y s (omega (arith, l, f, at, longer)) a b

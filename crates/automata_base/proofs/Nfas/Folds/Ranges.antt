@@ -1,5 +1,6 @@
 -- The ranges of a state that leads on each byte to the head of its leaf.
-use Rattle.std.proofs.Common.{ℕ, ◌≡◌, ◌<◌, ◌≤◌, ◌+◌, true, false, cond, Bool, List, [], ◌∷◌, ◌++◌, ◌⊎◌, Option, Some, None, inl, inr}
+use Rattle.std.proofs.Common.{ℕ, ◌≡◌, ◌<◌, ◌≤◌, ◌+◌, true, false, cond, Bool, List, [], ◌∷◌, ◌++◌, ◌⊎◌, Option, Some}
+use Rattle.std.proofs.Common.{None, inl, inr}
 use Rattle.std.proofs.Common.{refl, sym, ap, ◌∙◌, arith, length, get_or}
 use Rattle.std.proofs.lemmas.Bool.Decides.{nat_tests}
 use Rattle.std.proofs.lemmas.Bool.{cases_lt}
@@ -52,8 +53,10 @@ ranges_none heads ts e = record {
 
 -- Bytes without a head.
 pub ranges_skip :
-    (heads : List (Option ℕ)) (ts : List Transition) (byte end : ℕ) → leaf_head heads byte ≡ None → end ≤ 256 → byte < end
-    → ((u : ℕ) → byte ≤ u → u < end → leaf_head heads u ≡ leaf_head heads byte) → AreRanges heads ts byte → AreRanges heads ts end
+    (heads : List (Option ℕ)) (ts : List Transition) (byte end : ℕ) → leaf_head heads byte ≡ None → end ≤ 256
+    → byte < end
+    → ((u : ℕ) → byte ≤ u → u < end → leaf_head heads u ≡ leaf_head heads byte) → AreRanges heads ts byte
+    → AreRanges heads ts end
 ranges_skip heads ts byte end none few l same r = record {
   before = λ u b. go u b (cases_lt u byte);
   after = λ u b. r.after u (omega (arith, b, l));
@@ -66,9 +69,11 @@ ranges_skip heads ts byte end none few l same r = record {
 
 -- Bytes with a head.
 pub ranges_push :
-    (heads : List (Option ℕ)) (ts new : List Transition) (t : Transition) (byte end : ℕ) → new ≡ ts ++ t ∷ [] → t.lo ≡ byte
+    (heads : List (Option ℕ)) (ts new : List Transition) (t : Transition) (byte end : ℕ) → new ≡ ts ++ t ∷ []
+    → t.lo ≡ byte
     → t.hi + 1 ≡ end → leaf_head heads byte ≡ Some t.next → end ≤ 256 → byte < end
-    → ((u : ℕ) → byte ≤ u → u < end → leaf_head heads u ≡ leaf_head heads byte) → AreRanges heads ts byte → AreRanges heads new end
+    → ((u : ℕ) → byte ≤ u → u < end → leaf_head heads u ≡ leaf_head heads byte) → AreRanges heads ts byte
+    → AreRanges heads new end
 ranges_push heads ts new t byte end e lo hi some few l same r = record {
   before = λ u b. at u ∙ before u b (cases_lt u byte);
   after = λ u b.
@@ -78,14 +83,17 @@ ranges_push heads ts new t byte end e lo hi some few l same r = record {
   few = few;
 }
   where
-    at : (u : ℕ) → takes_in (ranges_of new) u ≡ first_some (takes_in (ranges_of ts) u) (cond (within t.lo t.hi u) (Some t.next) None)
+    at :
+        (u : ℕ) → takes_in (ranges_of new) u
+        ≡ first_some (takes_in (ranges_of ts) u) (cond (within t.lo t.hi u) (Some t.next) None)
     at u = ap (λ (z : List Transition). takes_in (ranges_of z) u) e ∙ takes_pushed ts t u
 
     before :
         (u : ℕ) → u < end → (u < byte) ⊎ (byte ≤ u)
         → first_some (takes_in (ranges_of ts) u) (cond (within t.lo t.hi u) (Some t.next) None) ≡ leaf_head heads u
     before u b (inl a) =
-        ap (λ w. first_some (takes_in (ranges_of ts) u) (cond w (Some t.next) None)) (within_not t.lo t.hi u (inl (omega (arith, a, lo))))
+        ap (λ w. first_some (takes_in (ranges_of ts) u) (cond w (Some t.next) None))
+        (within_not t.lo t.hi u (inl (omega (arith, a, lo))))
         ∙ (first_none (takes_in (ranges_of ts) u) ∙ r.before u a)
       where
         first_none : (o : Option ℕ) → first_some o None ≡ o
@@ -97,7 +105,8 @@ ranges_push heads ts new t byte end e lo hi some few l same r = record {
         ∙ sym (same u a b ∙ some))
 
 pub ranges_done :
-    (heads : List (Option ℕ)) (ts : List Transition) (byte : ℕ) → length heads ≡ 512 → 256 ≤ byte → AreRanges heads ts byte → (u : ℕ)
+    (heads : List (Option ℕ)) (ts : List Transition) (byte : ℕ) → length heads ≡ 512 → 256 ≤ byte
+    → AreRanges heads ts byte → (u : ℕ)
     → takes_in (ranges_of ts) u ≡ leaf_head heads u
 ranges_done heads ts byte nodes all r u = go (cases_lt u byte)
   where
@@ -107,6 +116,7 @@ ranges_done heads ts byte nodes all r u = go (cases_lt u byte)
 
 -- The head of a leaf.
 pub leaf_is :
-    (heads : List (Option ℕ)) (byte : ℕ) (d o : Option ℕ) → length heads ≡ 512 → byte < 256 → get_or heads (byte + 256) d ≡ o
+    (heads : List (Option ℕ)) (byte : ℕ) (d o : Option ℕ) → length heads ≡ 512 → byte < 256
+    → get_or heads (byte + 256) d ≡ o
     → leaf_head heads byte ≡ o
 leaf_is heads byte d o nodes l e = ap head_or_none (slice_get-get_or heads (byte + 256) d (omega (arith, nodes, l))) ∙ e

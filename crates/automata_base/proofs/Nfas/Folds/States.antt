@@ -41,7 +41,8 @@ module _ (A B : List State) (free : List ℕ) (made more new : List Node) (grows
       all x (inr k) = inr (k.0, forth x k.0 k.1)
 
       some :
-          (C D : List State) → ((x : ℕ) (range : Transition) → ReadsRange C x range → ReadsRange D x range) → (u t : ℕ) (xs : List ℕ)
+          (C D : List State) → ((x : ℕ) (range : Transition) → ReadsRange C x range → ReadsRange D x range)
+          → (u t : ℕ) (xs : List ℕ)
           → SomeReads C xs u t → SomeReads D xs u t
       some C D f u t xs k = (k.0, k.1, k.2, f k.0 k.1 k.3, k.4, k.5, k.6)
 
@@ -62,7 +63,8 @@ folding_begin old free made = record {
   same = refl;
 }
 
-module _ (old now : List State) (free : List ℕ) (made : List Node) (count : ℕ) (f : Folding old now free made count) where
+module _ (old now : List State) (free : List ℕ) (made : List Node) (count : ℕ)
+    (f : Folding old now free made count) where
   pub reads_back : (x : ℕ) (range : Transition) → ReadsRange now x range → ReadsRange old x range
   reads_back x range r = go (cases_lt x count)
     where
@@ -97,15 +99,19 @@ module _ (old now : List State) (free : List ℕ) (made : List Node) (count : �
     same = same ∙ f.same;
   }
     where
-      each : (x : ℕ) → (x < count) ⊎ (count ≤ x) → x < count + 1 → IsFoldedState old free new (slice_get old x) (slice_get after x)
+      each :
+          (x : ℕ) → (x < count) ⊎ (count ≤ x) → x < count + 1
+          → IsFoldedState old free new (slice_get old x) (slice_get after x)
       each x (inl a) l =
           subst (λ v. IsFoldedState old free new (slice_get old x) v) (sym (others x (λ e. omega (arith, a, e))))
-          (state_later old old free made more new grows (λ x range r. r) (λ x range r. r) (slice_get old x) (slice_get now x) (f.each x a))
+          (state_later old old free made more new grows (λ x range r. r) (λ x range r. r) (slice_get old x)
+          (slice_get now x) (f.each x a))
       each x (inr a) l =
           let here : count ≡ x = omega (arith, a, l) in
           subst (λ v. IsFoldedState old free new (slice_get old v) (slice_get after v)) here
           (subst (λ v. IsFoldedState old free new v (slice_get after count)) (f.rest count (omega arith))
-          (state_later now old free new [] new (nodes_nil new) reads_back reads_forth (slice_get now count) (slice_get after count) folded))
+          (state_later now old free new [] new (nodes_nil new) reads_back reads_forth (slice_get now count)
+          (slice_get after count) folded))
 
   pub folding_done : length old ≤ count → (x : ℕ) → IsFoldedState old free made (slice_get old x) (slice_get now x)
   folding_done all x = go (cases_lt x count)
@@ -117,7 +123,8 @@ module _ (old now : List State) (free : List ℕ) (made : List Node) (count : �
 -- The state of a number that is a large union, and its fold.
 pub folded_here :
     (states new : List State) (free : List ℕ) (made : List Node) (x : ℕ) (s folded : State) (list : List ℕ)
-    → slice_get states x ≡ Some s → slice_get new x ≡ Some folded → IsUnionOf s list → IsFoldOf states free made list (node_of folded)
+    → slice_get states x ≡ Some s → slice_get new x ≡ Some folded → IsUnionOf s list
+    → IsFoldOf states free made list (node_of folded)
     → range_read folded ≡ None → IsFoldedState states free made (slice_get states x) (slice_get new x)
 folded_here states new free made x s folded list at to u o none =
     inr (

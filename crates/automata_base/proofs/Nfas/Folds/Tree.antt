@@ -1,5 +1,6 @@
 -- What is added to a segment tree.
-use Rattle.std.proofs.Common.{ℕ, zero, suc, ◌≡◌, ◌<◌, ◌≤◌, ◌+◌, ◌/◌, ◌%◌, ◌↔◌, List, [], ◌∷◌, ◌⊎◌, inl, inr, refl, sym, ap, ◌∙◌}
+use Rattle.std.proofs.Common.{ℕ, zero, suc, ◌≡◌, ◌<◌, ◌≤◌, ◌+◌, ◌/◌, ◌%◌, ◌↔◌, List, [], ◌∷◌, ◌⊎◌, inl, inr, refl, sym}
+use Rattle.std.proofs.Common.{ap, ◌∙◌}
 use Rattle.std.proofs.Common.{subst, arith, length}
 use Rattle.std.proofs.lemmas.Bool.{cases_eq, cases_lt}
 use Rattle.automata_base.specs.Lists.{In}
@@ -20,7 +21,8 @@ falls s (suc j) leaf l = go (cases_eq s j) (λ g. falls s j leaf g)
 
 -- The nodes of a level are from `width` on, as many.
 abbrev pub IsLevel : (steps width : ℕ) → Type 0
-IsLevel steps width = (leaf : ℕ) → 256 ≤ leaf → leaf < 512 → (width ≤ above steps leaf) × (above steps leaf < width + width)
+IsLevel steps width =
+    (leaf : ℕ) → 256 ≤ leaf → leaf < 512 → (width ≤ above steps leaf) × (above steps leaf < width + width)
 
 -- A number that is halved so often until it is 1.
 abbrev pub Halves : (times width : ℕ) → Type 0
@@ -66,7 +68,8 @@ same_level steps width s node leaf l low high a b e = go (cases_eq s steps)
 
 -- A state more in the list of a node.
 pushed :
-    (lists : List (List ℕ)) (steps width node next leaf t : ℕ) → IsLevel steps width → width ≤ node → node < width + width
+    (lists : List (List ℕ)) (steps width node next leaf t : ℕ) → IsLevel steps width → width ≤ node
+    → node < width + width
     → node < length lists → 256 ≤ leaf → leaf < 512
     → IsOnWay (push_at lists node next) leaf t ↔ (IsOnWay lists leaf t ⊎ ((t ≡ next) × (above steps leaf ≡ node)))
 pushed lists steps width node next leaf t l low high few a b = (forth, back)
@@ -74,13 +77,18 @@ pushed lists steps width node next leaf t l low high few a b = (forth, back)
     forth : IsOnWay (push_at lists node next) leaf t → IsOnWay lists leaf t ⊎ ((t ≡ next) × (above steps leaf ≡ node))
     forth w = go (cases_eq node (above w.0 leaf))
       where
-        go : (node ≡ above w.0 leaf) ⊎ (node ≡ above w.0 leaf → ⊥) → IsOnWay lists leaf t ⊎ ((t ≡ next) × (above steps leaf ≡ node))
+        go :
+            (node ≡ above w.0 leaf) ⊎ (node ≡ above w.0 leaf → ⊥) → IsOnWay lists leaf t
+            ⊎ ((t ≡ next) × (above steps leaf ≡ node))
         go (inl e) =
             at
             (in_either t (list_at lists node) (next ∷ [])
-            (subst (λ v. In t v) (push_same lists node next few) (subst (λ v. In t (list_at (push_at lists node next) v)) (sym e) w.1)))
+            (subst (λ v. In t v) (push_same lists node next few)
+            (subst (λ v. In t (list_at (push_at lists node next) v)) (sym e) w.1)))
           where
-            at : In t (list_at lists node) ⊎ In t (next ∷ []) → IsOnWay lists leaf t ⊎ ((t ≡ next) × (above steps leaf ≡ node))
+            at :
+                In t (list_at lists node) ⊎ In t (next ∷ []) → IsOnWay lists leaf t
+                ⊎ ((t ≡ next) × (above steps leaf ≡ node))
             at (inl i) = inl (w.0, subst (λ v. In t (list_at lists v)) e i)
             at (inr (inl i)) = inr (i, same_level steps width w.0 node leaf l low high a b (sym e))
             at (inr (inr i)) = absurd i
@@ -100,7 +108,8 @@ pushed lists steps width node next leaf t l low high few a b = (forth, back)
     back (inr w) = (
       steps,
       subst (λ v. In t (list_at (push_at lists node next) v)) (sym w.1)
-          (subst (λ v. In t v) (sym (push_same lists node next few)) (in_right t (list_at lists node) (next ∷ []) (inl w.0))),
+          (subst (λ v. In t v) (sym (push_same lists node next few))
+          (in_right t (list_at lists node) (next ∷ []) (inl w.0))),
     )
 
 -- What is put already, and the row of nodes on a level that is still to be put, are the old ones and the range.
@@ -137,8 +146,10 @@ covers_first old now lo hi next steps left end width l low high few some c u t v
     ((λ w. (c u t v).0 (forth p.0 w)), λ w. back p.1 ((c u t v).1 w))
   where
     forth :
-        (IsOnWay (push_at now left next) (u + 256) t → IsOnWay now (u + 256) t ⊎ ((t ≡ next) × (above steps (u + 256) ≡ left)))
-        → IsOnWay (push_at now left next) (u + 256) t ⊎ ((t ≡ next) × (left + 1 ≤ above steps (u + 256)) × (above steps (u + 256) < end))
+        (IsOnWay (push_at now left next) (u + 256) t → IsOnWay now (u + 256) t
+        ⊎ ((t ≡ next) × (above steps (u + 256) ≡ left)))
+        → IsOnWay (push_at now left next) (u + 256) t
+        ⊎ ((t ≡ next) × (left + 1 ≤ above steps (u + 256)) × (above steps (u + 256) < end))
         → IsOnWay now (u + 256) t ⊎ ((t ≡ next) × (left ≤ above steps (u + 256)) × (above steps (u + 256) < end))
     forth p (inl w) = go (p w)
       where
@@ -150,15 +161,18 @@ covers_first old now lo hi next steps left end width l low high few some c u t v
     forth p (inr w) = let e = w.1 in inr (w.0, omega (arith, e), w.2)
 
     back :
-        (IsOnWay now (u + 256) t ⊎ ((t ≡ next) × (above steps (u + 256) ≡ left)) → IsOnWay (push_at now left next) (u + 256) t)
+        (IsOnWay now (u + 256) t ⊎ ((t ≡ next) × (above steps (u + 256) ≡ left))
+        → IsOnWay (push_at now left next) (u + 256) t)
         → IsOnWay now (u + 256) t ⊎ ((t ≡ next) × (left ≤ above steps (u + 256)) × (above steps (u + 256) < end))
-        → IsOnWay (push_at now left next) (u + 256) t ⊎ ((t ≡ next) × (left + 1 ≤ above steps (u + 256)) × (above steps (u + 256) < end))
+        → IsOnWay (push_at now left next) (u + 256) t
+        ⊎ ((t ≡ next) × (left + 1 ≤ above steps (u + 256)) × (above steps (u + 256) < end))
     back p (inl w) = inl (p (inl w))
     back p (inr w) = go (cases_eq (above steps (u + 256)) left)
       where
         go :
             (above steps (u + 256) ≡ left) ⊎ (above steps (u + 256) ≡ left → ⊥)
-            → IsOnWay (push_at now left next) (u + 256) t ⊎ ((t ≡ next) × (left + 1 ≤ above steps (u + 256)) × (above steps (u + 256) < end))
+            → IsOnWay (push_at now left next) (u + 256) t
+            ⊎ ((t ≡ next) × (left + 1 ≤ above steps (u + 256)) × (above steps (u + 256) < end))
         go (inl e) = inl (p (inr (w.0, e)))
         go (inr f) = let e = w.1 in inr (w.0, omega (arith, e, f), w.2)
 
@@ -173,8 +187,10 @@ covers_last old now lo hi next steps left last end width l low high few some is 
     ((λ w. (c u t v).0 (forth p.0 w)), λ w. back p.1 ((c u t v).1 w))
   where
     forth :
-        (IsOnWay (push_at now last next) (u + 256) t → IsOnWay now (u + 256) t ⊎ ((t ≡ next) × (above steps (u + 256) ≡ last)))
-        → IsOnWay (push_at now last next) (u + 256) t ⊎ ((t ≡ next) × (left ≤ above steps (u + 256)) × (above steps (u + 256) < last))
+        (IsOnWay (push_at now last next) (u + 256) t → IsOnWay now (u + 256) t
+        ⊎ ((t ≡ next) × (above steps (u + 256) ≡ last)))
+        → IsOnWay (push_at now last next) (u + 256) t
+        ⊎ ((t ≡ next) × (left ≤ above steps (u + 256)) × (above steps (u + 256) < last))
         → IsOnWay now (u + 256) t ⊎ ((t ≡ next) × (left ≤ above steps (u + 256)) × (above steps (u + 256) < end))
     forth p (inl w) = go (p w)
       where
@@ -186,15 +202,18 @@ covers_last old now lo hi next steps left last end width l low high few some is 
     forth p (inr w) = let e = w.2 in inr (w.0, w.1, omega (arith, e, is))
 
     back :
-        (IsOnWay now (u + 256) t ⊎ ((t ≡ next) × (above steps (u + 256) ≡ last)) → IsOnWay (push_at now last next) (u + 256) t)
+        (IsOnWay now (u + 256) t ⊎ ((t ≡ next) × (above steps (u + 256) ≡ last))
+        → IsOnWay (push_at now last next) (u + 256) t)
         → IsOnWay now (u + 256) t ⊎ ((t ≡ next) × (left ≤ above steps (u + 256)) × (above steps (u + 256) < end))
-        → IsOnWay (push_at now last next) (u + 256) t ⊎ ((t ≡ next) × (left ≤ above steps (u + 256)) × (above steps (u + 256) < last))
+        → IsOnWay (push_at now last next) (u + 256) t
+        ⊎ ((t ≡ next) × (left ≤ above steps (u + 256)) × (above steps (u + 256) < last))
     back p (inl w) = inl (p (inl w))
     back p (inr w) = go (cases_eq (above steps (u + 256)) last)
       where
         go :
             (above steps (u + 256) ≡ last) ⊎ (above steps (u + 256) ≡ last → ⊥)
-            → IsOnWay (push_at now last next) (u + 256) t ⊎ ((t ≡ next) × (left ≤ above steps (u + 256)) × (above steps (u + 256) < last))
+            → IsOnWay (push_at now last next) (u + 256) t
+            ⊎ ((t ≡ next) × (left ≤ above steps (u + 256)) × (above steps (u + 256) < last))
         go (inl e) = inl (p (inr (w.0, e)))
         go (inr f) = let e = w.2 in inr (w.0, w.1, omega (arith, e, f, is))
 
@@ -205,14 +224,16 @@ covers_up :
 covers_up old now lo hi next steps left end a b c u t v = ((λ w. (c u t v).0 (forth w)), λ w. back ((c u t v).1 w))
   where
     forth :
-        IsOnWay now (u + 256) t ⊎ ((t ≡ next) × (left / 2 ≤ above steps (u + 256) / 2) × (above steps (u + 256) / 2 < end / 2))
+        IsOnWay now (u + 256) t
+        ⊎ ((t ≡ next) × (left / 2 ≤ above steps (u + 256) / 2) × (above steps (u + 256) / 2 < end / 2))
         → IsOnWay now (u + 256) t ⊎ ((t ≡ next) × (left ≤ above steps (u + 256)) × (above steps (u + 256) < end))
     forth (inl w) = inl w
     forth (inr w) = let e = w.1 in let f = w.2 in inr (w.0, omega (arith, a, e), omega (arith, b, f))
 
     back :
         IsOnWay now (u + 256) t ⊎ ((t ≡ next) × (left ≤ above steps (u + 256)) × (above steps (u + 256) < end))
-        → IsOnWay now (u + 256) t ⊎ ((t ≡ next) × (left / 2 ≤ above steps (u + 256) / 2) × (above steps (u + 256) / 2 < end / 2))
+        → IsOnWay now (u + 256) t
+        ⊎ ((t ≡ next) × (left / 2 ≤ above steps (u + 256) / 2) × (above steps (u + 256) / 2 < end / 2))
     back (inl w) = inl w
     back (inr w) = let e = w.1 in let f = w.2 in inr (w.0, omega (arith, e), omega (arith, b, f))
 
@@ -245,7 +266,8 @@ put_begin old lo hi next l = record {
     back u t (inl w) = inl w
     back u t (inr w) = let e = w.1 in let f = w.2 in inr (w.0, omega (arith, e), omega (arith, f))
 
-module _ (old now mid new : List (List ℕ)) (lo hi next left end first last : ℕ) (some : left < end) (few : length now ≡ 512)
+module _ (old now mid new : List (List ℕ)) (lo hi next left end first last : ℕ) (some : left < end)
+    (few : length now ≡ 512)
     (f : IsPutFirst now mid left next first) (g : IsPutLast mid new end next last) where
   first_even : first % 2 ≡ 0
   first_even = go f
@@ -351,9 +373,11 @@ module _ (old now mid new : List (List ℕ)) (lo hi next left end first last : �
       }
 
 pub put_done :
-    (old now : List (List ℕ)) (lo hi next left end : ℕ) → Putting old now lo hi next left end → end ≤ left → (u t : ℕ) → u < 256
+    (old now : List (List ℕ)) (lo hi next left end : ℕ) → Putting old now lo hi next left end → end ≤ left → (u t : ℕ)
+    → u < 256
     → IsOnWay now (u + 256) t ↔ (IsOnWay old (u + 256) t ⊎ ((t ≡ next) × (lo ≤ u) × (u ≤ hi)))
-put_done old now lo hi next left end p none u t l = ((λ w. (p.covers u t l).0 (inl w)), λ w. back ((p.covers u t l).1 w))
+put_done old now lo hi next left end p none u t l =
+    ((λ w. (p.covers u t l).0 (inl w)), λ w. back ((p.covers u t l).1 w))
   where
     back :
         IsOnWay now (u + 256) t ⊎ ((t ≡ next) × (left ≤ above p.steps (u + 256)) × (above p.steps (u + 256) < end))

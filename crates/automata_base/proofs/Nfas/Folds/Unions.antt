@@ -1,5 +1,6 @@
 -- What is made of a union.
-use Rattle.std.proofs.Common.{ℕ, zero, suc, ◌≡◌, ◌<◌, ◌≤◌, ◌+◌, ◌-◌, ◌/◌, ◌↔◌, List, [], ◌∷◌, ◌++◌, ◌⊎◌, Option, inl, inr, refl, sym}
+use Rattle.std.proofs.Common.{ℕ, zero, suc, ◌≡◌, ◌<◌, ◌≤◌, ◌+◌, ◌-◌, ◌/◌, ◌↔◌, List, [], ◌∷◌, ◌++◌, ◌⊎◌, Option, inl}
+use Rattle.std.proofs.Common.{inr, refl, sym}
 use Rattle.std.proofs.Common.{ap, ◌∙◌, subst, arith, length}
 use Rattle.std.proofs.lemmas.Bool.{cases_lt}
 use Rattle.std.proofs.lemmas.Option.{slice_get_past}
@@ -70,7 +71,8 @@ pub fold_of :
     → ((x : ℕ) → In x xs → In x others ⊎ ((range : Transition) × ReadsRange states x range))
     → m2 ≡ m1 ++ Read (ranges_of ts) ∷ [] → IsMade free m2 reader (Read (ranges_of ts)) → stay ≡ others ++ reader ∷ []
     → IsFoldOf states free m2 xs (Split stay)
-fold_of states free m1 m2 xs others stay lists heads ts reader h nodes takes reads low sound all grows made is = record {
+fold_of states free m1 m2 xs others stay lists heads ts reader h nodes takes reads low sound all grows made is =
+    record {
   stay = others;
   reader = reader;
   ranges = ranges_of ts;

@@ -2,8 +2,10 @@
 use Rattle.std.proofs.Common.{ℕ, zero, suc, ◌≡◌, ◌≤◌, List, [], ◌∷◌, ◌++◌, ◌⊎◌, Option, Some, None, inl, inr, refl, sym}
 use Rattle.std.proofs.Common.{ap, ◌∙◌, subst, arith, length}
 use Rattle.automata_base.specs.Lists.{In}
-use Rattle.automata_base.specs.Nfas.Nfa.{Nfa, Node, Range, Split, Read, Truth, node, hop, hop_at, takes, takes_at, takes_in, accepts, accepts_at}
-use Rattle.automata_base.specs.Retraced.Folds.{IsKept, AreTargetsOf, StandsFor, StandsIfAny, IsFoldedUnion, IsFoldedNode, IsFolded}
+use Rattle.automata_base.specs.Nfas.Nfa.{Nfa, Node, Range, Split, Read, Truth, node, hop, hop_at, takes, takes_at}
+use Rattle.automata_base.specs.Nfas.Nfa.{takes_in, accepts, accepts_at}
+use Rattle.automata_base.specs.Retraced.Folds.{IsKept, AreTargetsOf, StandsFor, StandsIfAny, IsFoldedUnion}
+use Rattle.automata_base.specs.Retraced.Folds.{IsFoldedNode, IsFolded}
 use Rattle.automata_base.proofs.Nfas.Mirrors.Ways.{Bytes, IsWay, HasWay, join, hop_way, move_way}
 use Rattle.automata_base.proofs.Paths.Orders.{none_some}
 use Rattle.automata_base.proofs.Paths.Sets.{nth_in, in_nth}
@@ -15,7 +17,8 @@ pub target_state :
     (S : ℕ → List ℕ → Type 0) (xs ts : List ℕ) (t : ℕ) → AreTargetsOf S xs ts → In t ts
     → (x : ℕ) × (own : List ℕ) × In x xs × S x own × In t own
 target_state S [] ts t h k = absurd (subst (λ v. In t v) h k)
-target_state S (x ∷ xs) ts t h k = go (in_either t h.0 h.1 (subst (λ v. In t v) h.4 k)) (λ a. target_state S xs h.1 t h.3 a)
+target_state S (x ∷ xs) ts t h k =
+    go (in_either t h.0 h.1 (subst (λ v. In t v) h.4 k)) (λ a. target_state S xs h.1 t h.3 a)
   where
     go :
         In t h.0 ⊎ In t h.1 → (In t h.1 → (y : ℕ) × (own : List ℕ) × In y xs × S y own × In t own)
@@ -70,7 +73,8 @@ module _ (n m : Nfa) (free : List ℕ) (made : List Node) (f : IsFolded n m free
   stands_past zero z i ts path j q p h w a = itself_past z i ts path j q h.1 w
   stands_past (suc d) z i ts path j q p (inl h) w a = itself_past z i ts path j q h.1 w
   stands_past (suc d) z i ts [] j q p (inr h) w a =
-      absurd (none_some (sym (ap (λ (v : Node). accepts_at v) (f.more z (Split h.0) h.1)) ∙ (ap (λ v. accepts m v) w.1 ∙ a)))
+      absurd (none_some
+      (sym (ap (λ (v : Node). accepts_at v) (f.more z (Split h.0) h.1)) ∙ (ap (λ v. accepts m v) w.1 ∙ a)))
   stands_past (suc d) z i ts (e ∷ path) j q p (inr h) (inr w) a =
       absurd (none_some (sym (ap (λ (v : Node). takes_at v w.1) (f.more z (Split h.0) h.1)) ∙ w.3))
   stands_past (suc d) z i ts (e ∷ path) j q p (inr h) (inl w) a =
@@ -110,10 +114,12 @@ module _ (n m : Nfa) (free : List ℕ) (made : List Node) (f : IsFolded n m free
 
   -- Ways of the NFA, one edge after another.
   module _ (k j q p : ℕ) (a : accepts n q ≡ Some p)
-      (on : (rest : List ℕ) (i y : ℕ) → length rest ≤ k → IsKept free y → IsWay n A b i y rest j q → There m i y j p) where
+      (on : (rest : List ℕ) (i y : ℕ) → length rest ≤ k → IsKept free y → IsWay n A b i y rest j q
+      → There m i y j p) where
     forth_same :
         (path : List ℕ) (i x e : ℕ) → length path ≤ k → node m x ≡ node n x
-        → ((A : Truth) (e y : ℕ) → hop n A x e ≡ Some y → IsKept free y) → IsWay n A b i x (e ∷ path) j q → There m i x j p
+        → ((A : Truth) (e y : ℕ) → hop n A x e ≡ Some y → IsKept free y) → IsWay n A b i x (e ∷ path) j q
+        → There m i x j p
     forth_same path i x e few same leads (inl w) =
         before m i x i w.0 j p (hop_way m A b i x e w.0 (ap (λ (v : Node). hop_at v (A i) e) same ∙ w.1))
         (on path i w.0 few (leads (A i) e w.0 w.1) w.2)
@@ -149,10 +155,12 @@ module _ (n m : Nfa) (free : List ℕ) (made : List Node) (f : IsFolded n m free
       where
         go :
             In w.0 u.stay
-            ⊎ ((own : List Range) × (node n w.0 ≡ Read own) × ((v t : ℕ) → takes_in own v ≡ Some t → In t (u.targets v)))
+            ⊎ ((own : List Range) × (node n w.0 ≡ Read own)
+            × ((v t : ℕ) → takes_in own v ≡ Some t → In t (u.targets v)))
             → There m i x j p
         go (inl h) =
-            before m i x i w.0 j p (union_hop xs x w.0 i u (in_left w.0 u.stay (u.reader ∷ []) h)) (on path i w.0 few (u.kept w.0 h).1 w.2)
+            before m i x i w.0 j p (union_hop xs x w.0 i u (in_left w.0 u.stay (u.reader ∷ []) h))
+            (on path i w.0 few (u.kept w.0 h).1 w.2)
         go (inr h) = forth_read path i x w.0 xs h.0 few u h.1 h.2 w.2
 
   here_forth :
@@ -183,10 +191,12 @@ module _ (n m : Nfa) (free : List ℕ) (made : List Node) (f : IsFolded n m free
 
   -- Ways of the folded one.
   module _ (k j q p : ℕ) (a : accepts m q ≡ Some p)
-      (on : (rest : List ℕ) (i y : ℕ) → length rest ≤ k → IsKept free y → IsWay m A b i y rest j q → There n i y j p) where
+      (on : (rest : List ℕ) (i y : ℕ) → length rest ≤ k → IsKept free y → IsWay m A b i y rest j q
+      → There n i y j p) where
     back_same :
         (path : List ℕ) (i x e : ℕ) → length path ≤ k → node m x ≡ node n x
-        → ((A : Truth) (e y : ℕ) → hop n A x e ≡ Some y → IsKept free y) → IsWay m A b i x (e ∷ path) j q → There n i x j p
+        → ((A : Truth) (e y : ℕ) → hop n A x e ≡ Some y → IsKept free y) → IsWay m A b i x (e ∷ path) j q
+        → There n i x j p
     back_same path i x e few same leads (inl w) =
         let h = sym (ap (λ (v : Node). hop_at v (A i) e) same) ∙ w.1 in
         before n i x i w.0 j p (hop_way n A b i x e w.0 h) (on path i w.0 few (leads (A i) e w.0 h) w.2)
@@ -222,7 +232,8 @@ module _ (n m : Nfa) (free : List ℕ) (made : List Node) (f : IsFolded n m free
         go (Some z) h c =
             let z-is : z ≡ w.0 = cc in
             let past =
-            stands_past h.0 z (suc i) (u.targets w.1) path j q p h.1 (subst (λ v. IsWay m A b (suc i) v path j q) (sym z-is) w.4) a in
+            stands_past h.0 z (suc i) (u.targets w.1) path j q p h.1
+            (subst (λ v. IsWay m A b (suc i) v path j q) (sym z-is) w.4) a in
             let few' = past.4 in
             let taken = u.sound w.1 past.0 past.2 in
             back_taken i x taken.0 w.1 past.0 xs s w.2 taken.1 taken.2 past.1 (omega (arith, few, few')) past.3

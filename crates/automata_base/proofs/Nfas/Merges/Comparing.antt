@@ -2,7 +2,8 @@
 use Rattle.std.proofs.Common.{ℕ, ◌≡◌, ◌<◌, List, [], ◌∷◌, ◌++◌, ◌⊎◌, ◌↔◌, inl, inr, refl, sym, ap₂, subst, arith}
 use Rattle.automata_base.specs.Paths.Order.{Before, Begins}
 
--- What holds of two lists: `E` if they are equal, `B` if the first is a proper beginning of the second, and `U` if it is
+-- What holds of two lists: `E` if they are equal, `B` if the first is a proper beginning of the second, and `U` if it
+-- is
 -- less at the first difference.
 abbrev pub Compares : (E B U : Type 0) → List ℕ → List ℕ → Type 0
 Compares E B U [] [] = E

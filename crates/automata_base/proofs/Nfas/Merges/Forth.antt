@@ -1,5 +1,6 @@
 -- Each path of the first NFA has one of the merged NFA that corresponds to it.
-use Rattle.std.proofs.Common.{ℕ, zero, suc, ◌≡◌, ◌<◌, ◌≤◌, List, [], ◌∷◌, ◌⊎◌, length, Option, Some, None, inl, inr, refl, sym, ap}
+use Rattle.std.proofs.Common.{ℕ, zero, suc, ◌≡◌, ◌<◌, ◌≤◌, List, [], ◌∷◌, ◌⊎◌, length, Option, Some, None, inl, inr}
+use Rattle.std.proofs.Common.{refl, sym, ap}
 use Rattle.std.proofs.Common.{◌∙◌, subst}
 use Rattle.std.proofs.lemmas.Bool.{cases_lt}
 use Rattle.std.specs.Prelude.{slice_get}
@@ -7,7 +8,8 @@ use Rattle.automata_base.specs.Haystacks.Tapes.{IsHaystack}
 use Rattle.automata_base.specs.Lists.{In, pick}
 use Rattle.automata_base.specs.Nfas.Accepted.{IsInRange}
 use Rattle.automata_base.specs.Nfas.Merges.{stood_for, target_for, Shows, ReadsFor, IsMerged}
-use Rattle.automata_base.specs.Nfas.Nfa.{Nfa, Node, Split, Assert, Read, Accept, Range, node, hop_at, takes, takes_at, takes_in}
+use Rattle.automata_base.specs.Nfas.Nfa.{Nfa, Node, Split, Assert, Read, Accept, Range, node, hop_at, takes, takes_at}
+use Rattle.automata_base.specs.Nfas.Nfa.{takes_in}
 use Rattle.automata_base.specs.Paths.Paths.{Tape, IsPathFrom, truth}
 use Rattle.automata_base.proofs.Paths.Orders.{none_some}
 use Rattle.automata_base.proofs.Nfas.Merges.Parts.{IsPart, IsPicked, part_of, picked_at}
@@ -85,9 +87,11 @@ module _ (n m : Nfa) (anchored : ℕ) (lists : List (List ℕ)) (t : Tape)
       go p (takes_in ranges h.2.0) refl
     where
       go :
-          (o : ℕ) × (slice_get (pick (λ b. takes n b h.2.0) list) o ≡ Some h.0) × IsPicked (λ b. takes n b h.2.0) list k o h.0
+          (o : ℕ) × (slice_get (pick (λ b. takes n b h.2.0) list) o ≡ Some h.0)
+          × IsPicked (λ b. takes n b h.2.0) list k o h.0
           → (y : Option ℕ) → takes_in ranges h.2.0 ≡ y
-          → (d : ℕ) × (other : List ℕ) × Turns n m lists t (Corresponds n m lists t other) i (Read ranges) list k (e ∷ rest) d
+          → (d : ℕ) × (other : List ℕ)
+          × Turns n m lists t (Corresponds n m lists t other) i (Read ranges) list k (e ∷ rest) d
           × IsPathFrom m t i met z (d ∷ other) j w
       go p None f =
           absurd (none_some (subst (λ v. slice_get v p.0 ≡ Some h.0)
@@ -104,7 +108,8 @@ module _ (n m : Nfa) (anchored : ℕ) (lists : List (List ℕ)) (t : Tape)
           )
 
   old_forth_at :
-      (e : ℕ) (rest : List ℕ) (old : HasOld rest) (shown : HasShown rest) (i z : ℕ) (x : Node) (seen met : List ℕ) (j w : ℕ)
+      (e : ℕ) (rest : List ℕ) (old : HasOld rest) (shown : HasShown rest) (i z : ℕ) (x : Node) (seen met : List ℕ)
+      (j w : ℕ)
       → z < length n.nodes → node n z ≡ x → MayEnd n anchored w → ReadsNone n seen
       → ReadsNone m met → HaveSame (length n.nodes) seen met → IsPathFrom n t i seen z (e ∷ rest) j w
       → (d : ℕ) × (other : List ℕ) × Keeps n m lists t (Corresponds n m lists t other) i (node m z) x (e ∷ rest) d
@@ -134,7 +139,8 @@ module _ (n m : Nfa) (anchored : ℕ) (lists : List (List ℕ)) (t : Tape)
       go (suc b) f = absurd (none_some f)
       go zero f =
           let next : h.0 ≡ r = cond_one (truth n t i look) r h.0 f in
-          let l2 : h.0 < length n.nodes = subst (λ v. v < length n.nodes) (sym next) (assert_old n m anchored lists merged ranged z look r is) in
+          let l2 : h.0 < length n.nodes =
+          subst (λ v. v < length n.nodes) (sym next) (assert_old n m anchored lists merged ranged z look r is) in
           let c =
           old i h.0 (z ∷ seen) (z ∷ met) j w l2 ends (reads_none_assert n seen z look r is none)
           (reads_none_assert m met z look r (own ∙ is) nor)
@@ -144,7 +150,8 @@ module _ (n m : Nfa) (anchored : ℕ) (lists : List (List ℕ)) (t : Tape)
             (rest, refl, refl, subst (λ v. Corresponds n m lists t c.0 i v 0 rest) next c.1),
             inl (
               h.0,
-              subst (λ v. hop_at v (truth m t i) 0 ≡ Some h.0) (sym (own ∙ is)) (hops_alike n m anchored lists merged (Assert look r) t i 0 ∙ f),
+              subst (λ v. hop_at v (truth m t i) 0 ≡ Some h.0) (sym (own ∙ is))
+              (hops_alike n m anchored lists merged (Assert look r) t i 0 ∙ f),
               (λ i. h.2 ((same_cons (length n.nodes) seen met z same h.0 l2).1 i)),
               c.2,
             ),
@@ -153,7 +160,8 @@ module _ (n m : Nfa) (anchored : ℕ) (lists : List (List ℕ)) (t : Tape)
       absurd (none_some (subst (λ v. hop_at v (truth n t i) e ≡ Some h.0) is h.1))
   old_forth_at e rest old shown i z (Read ranges) seen met j w l is ends none nor same (inr h) =
       let l2 : h.0 < length n.nodes = ranged.1 z h.2.0 h.0 h.2.2 in
-      let c = old (suc i) h.0 [] [] j w l2 ends (λ q r i. absurd i) (λ q r i. absurd i) (λ q l. ((λ i. i), (λ i. i))) h.3 in (
+      let c =
+      old (suc i) h.0 [] [] j w l2 ends (λ q r i. absurd i) (λ q r i. absurd i) (λ q l. ((λ i. i), (λ i. i))) h.3 in (
         0,
         c.0,
         (h.2.0, h.0, rest, refl, ap (λ v. v ∷ rest) h.1, h.2.1, subst (λ v. takes_at v h.2.0 ≡ Some h.0) is h.2.2, c.1),
@@ -174,7 +182,8 @@ module _ (n m : Nfa) (anchored : ℕ) (lists : List (List ℕ)) (t : Tape)
       (c.0 ∷ c.1, inl (l, refl, c.2), c.3)
 
   shown_forth : (path : List ℕ) → HasOld path → HasRead path → HasShown path
-  shown_forth path old read i z k s (Assert look r) list seen met j w is shows ends none nor same at new h = absurd shows
+  shown_forth path old read i z k s (Assert look r) list seen met j w is shows ends none nor same at new h =
+      absurd shows
   shown_forth path old read i z k s (Accept p) list seen met j w is shows ends none nor same at new h = absurd shows
   shown_forth path old read i z k s (Read ranges) list seen met j w is shows ends none nor same at new h =
       read i z k s ranges list seen met j w is shows ends at h
@@ -185,7 +194,8 @@ module _ (n m : Nfa) (anchored : ℕ) (lists : List (List ℕ)) (t : Tape)
       go :
           (e o y : ℕ) → slice_get alternates e ≡ Some y → slice_get (stood_for (length n.nodes) lists y) o ≡ Some s
           → IsPart (stood_for (length n.nodes) lists) alternates e o k → (y < length n.nodes) ⊎ (length n.nodes ≤ y)
-          → (d : ℕ) × (other : List ℕ) × Turns n m lists t (Corresponds n m lists t other) i (Split alternates) list k path d
+          → (d : ℕ) × (other : List ℕ)
+          × Turns n m lists t (Corresponds n m lists t other) i (Split alternates) list k path d
           × IsPathFrom m t i met z (d ∷ other) j w
       go e o y edge of part (inl l) =
           let one = old_one (length n.nodes) lists y o s l of in
@@ -207,10 +217,14 @@ module _ (n m : Nfa) (anchored : ℕ) (lists : List (List ℕ)) (t : Tape)
           let for_list =
           subst (λ v. Shows n m anchored lists v (stood_for (length n.nodes) lists y)) reads.1
           (further_shows n m anchored lists merged y far) in
-          let c = read i y o s reads.0 (stood_for (length n.nodes) lists y) seen (z ∷ met) j w reads.1 for_list ends of h in (
+          let c =
+          read i y o s reads.0 (stood_for (length n.nodes) lists y) seen (z ∷ met) j w reads.1 for_list ends of h in (
             e,
             c.0 ∷ c.1,
-            (y, o, edge, part, inr (far, subst (λ v. Turns n m lists t (Corresponds n m lists t c.1) i v (stood_for (length n.nodes) lists y) o path c.0) (sym reads.1) c.2)),
+            (y, o, edge, part, inr
+            (far, subst
+            (λ v. Turns n m lists t (Corresponds n m lists t c.1) i v (stood_for (length n.nodes) lists y) o path c.0)
+            (sym reads.1) c.2)),
             inl (
               y,
               subst (λ v. hop_at v (truth m t i) e ≡ Some y) (sym is) edge,

@@ -1,5 +1,6 @@
 -- Where the elements of a joined list, and those of a picked list, come from, in order.
-use Rattle.std.proofs.Common.{ℕ, zero, suc, ◌≡◌, ◌<◌, ◌+◌, List, [], ◌∷◌, ◌++◌, ◌⊎◌, ◌↔◌, length, Option, Some, None, inl, inr, refl}
+use Rattle.std.proofs.Common.{ℕ, zero, suc, ◌≡◌, ◌<◌, ◌+◌, List, [], ◌∷◌, ◌++◌, ◌⊎◌, ◌↔◌, length, Option, Some, None}
+use Rattle.std.proofs.Common.{inl, inr, refl}
 use Rattle.std.proofs.Common.{sym, ap, ◌∙◌, arith}
 use Rattle.std.proofs.Common.{subst}
 use Rattle.std.specs.Prelude.{slice_get}
@@ -65,7 +66,8 @@ module _ (count : ℕ) (lists : List (List ℕ)) where
     where
       go :
           (slice_get (stood_for count lists z) k ≡ Some s)
-          ⊎ ((r : ℕ) × (k ≡ length (stood_for count lists z) + r) × (slice_get (all_stood_for count lists zs) r ≡ Some s))
+          ⊎ ((r : ℕ) × (k ≡ length (stood_for count lists z) + r)
+          × (slice_get (all_stood_for count lists zs) r ≡ Some s))
           → ((r : ℕ) → slice_get (all_stood_for count lists zs) r ≡ Some s
           → (j o y : ℕ) × (slice_get zs j ≡ Some y) × (slice_get (stood_for count lists y) o ≡ Some s)
           × IsPart (stood_for count lists) zs j o r)
@@ -81,7 +83,8 @@ module _ (count : ℕ) (lists : List (List ℕ)) where
       → (k : ℕ) × (slice_get (all_stood_for count lists zs) k ≡ Some s) × IsPart (stood_for count lists) zs j o k
   part_at [] j o z s e h = absurd (none_some e)
   part_at (y ∷ zs) zero o z s e h =
-      let h2 : slice_get (stood_for count lists y) o ≡ Some s = subst (λ v. slice_get (stood_for count lists v) o ≡ Some s) (sym (some_inj e)) h in (
+      let h2 : slice_get (stood_for count lists y) o ≡ Some s =
+      subst (λ v. slice_get (stood_for count lists v) o ≡ Some s) (sym (some_inj e)) h in (
         o,
         get_left (stood_for count lists y) (all_stood_for count lists zs) o s h2,
         (refl, get_below (stood_for count lists y) o s h2),
@@ -89,7 +92,8 @@ module _ (count : ℕ) (lists : List (List ℕ)) where
   part_at (y ∷ zs) (suc j) o z s e h =
       let c = part_at zs j o z s e h in (
         length (stood_for count lists y) + c.0,
-        get_right (stood_for count lists y) (all_stood_for count lists zs) c.0 (length (stood_for count lists y) + c.0) s refl c.1,
+        get_right (stood_for count lists y) (all_stood_for count lists zs) c.0 (length (stood_for count lists y) + c.0)
+        s refl c.1,
         (c.0, refl, c.2),
       )
 

@@ -1,13 +1,15 @@
 -- What holds of each state of a merged NFA, and of what paths have met.
 use Rattle.std.proofs.Common.{ℕ, zero, suc, ◌≡◌, ◌<◌, ◌≤◌, ◌-◌, Bool, true, false, cond, List, [], ◌∷◌, ◌++◌, ◌⊎◌, ◌↔◌}
-use Rattle.std.proofs.Common.{length, Option, Some, None, inl, inr, refl, sym, ap, ap₂, ◌∙◌, subst, arith, lt-ltb, le-ltb}
+use Rattle.std.proofs.Common.{length, Option, Some, None, inl, inr, refl, sym, ap, ap₂, ◌∙◌, subst, arith, lt-ltb}
+use Rattle.std.proofs.Common.{le-ltb}
 use Rattle.std.proofs.lemmas.Bool.{cases_lt}
 use Rattle.std.specs.Prelude.{slice_get}
 use Rattle.automata_base.specs.Haystacks.Looks.{Look, holds}
 use Rattle.automata_base.specs.Lists.{In}
 use Rattle.automata_base.specs.Nfas.Accepted.{IsInRange}
 use Rattle.automata_base.specs.Nfas.Merges.{stood_for, all_stood_for, list_or_none, Shows, IsMerged}
-use Rattle.automata_base.specs.Nfas.Nfa.{Nfa, Node, Split, Assert, Read, Accept, Range, node, node_or_fail, hop_at, accepts}
+use Rattle.automata_base.specs.Nfas.Nfa.{Nfa, Node, Split, Assert, Read, Accept, Range, node, node_or_fail, hop_at}
+use Rattle.automata_base.specs.Nfas.Nfa.{accepts}
 use Rattle.automata_base.specs.Nfas.Nfa.{accepts_at}
 use Rattle.automata_base.specs.Paths.Paths.{Tape, truth, prev, next}
 use Rattle.automata_base.specs.Powersets.Closure.{children_at}
@@ -152,12 +154,14 @@ module _ (n m : Nfa) (anchored : ℕ) (lists : List (List ℕ)) (merged : IsMerg
       go (inl k) = merged.further z l k
       go (inr k) =
           subst (λ v. Shows n m anchored lists v (stood_for (length n.nodes) lists z)) (sym (node_past m z k)) (
-            sym (further_means (length n.nodes) lists z l ∙ past_lists lists (z - length n.nodes) (omega (arith, k, l, merged.count))),
+            sym (further_means (length n.nodes) lists z l
+            ∙ past_lists lists (z - length n.nodes) (omega (arith, k, l, merged.count))),
             (λ q i. absurd i),
           )
 
   module _ (ranged : IsInRange n) where
-    pub alternate_old : (z : ℕ) (alternates : List ℕ) → node n z ≡ Split alternates → (q : ℕ) → In q alternates → q < length n.nodes
+    pub alternate_old :
+        (z : ℕ) (alternates : List ℕ) → node n z ≡ Split alternates → (q : ℕ) → In q alternates → q < length n.nodes
     alternate_old z alternates e q i =
         ranged.0 z q (λ look. true) (subst (λ v. In q (children_at v (λ look. true))) (sym e) i)
 

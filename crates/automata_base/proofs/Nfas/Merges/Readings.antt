@@ -6,7 +6,8 @@ use Rattle.std.specs.Prelude.{slice_get}
 use Rattle.automata_base.specs.Lists.{In, pick}
 use Rattle.automata_base.specs.Nfas.Accepted.{IsInRange}
 use Rattle.automata_base.specs.Nfas.Merges.{stood_for, target_for, ReadsFor, Shows, IsMerged}
-use Rattle.automata_base.specs.Nfas.Nfa.{Nfa, Node, Split, Assert, Read, Accept, Range, node, hop, hop_at, takes, takes_at, takes_in, accepts, accepts_at}
+use Rattle.automata_base.specs.Nfas.Nfa.{Nfa, Node, Split, Assert, Read, Accept, Range, node, hop, hop_at, takes}
+use Rattle.automata_base.specs.Nfas.Nfa.{takes_at, takes_in, accepts, accepts_at}
 use Rattle.automata_base.specs.Nfas.Utf8.{ReadsTo, ends, goes, reads}
 use Rattle.automata_base.specs.Paths.Paths.{all_true}
 use Rattle.automata_base.proofs.Nfas.Merges.Parts.{part_of, part_at, picked_of, picked_at}
@@ -16,7 +17,8 @@ use Rattle.automata_base.proofs.Nfas.Merges.Runs.{hop_old}
 use Rattle.automata_base.proofs.Paths.Orders.{none_some}
 use Rattle.automata_base.proofs.Paths.Sets.{nth_in, in_nth}
 
-module _ (n m : Nfa) (anchored : ℕ) (lists : List (List ℕ)) (merged : IsMerged n m anchored lists) (ranged : IsInRange n) where
+module _ (n m : Nfa) (anchored : ℕ) (lists : List (List ℕ)) (merged : IsMerged n m anchored lists)
+    (ranged : IsInRange n) where
   -- What is read from a state of the first NFA is read from one of those for which a state stands.
   abbrev HasSource : ℕ → List ℕ → ℕ → Type 0
   HasSource y bytes z =
@@ -56,14 +58,16 @@ module _ (n m : Nfa) (anchored : ℕ) (lists : List (List ℕ)) (merged : IsMerg
   read_source (Read ranges) list u r bytes z l s h c =
       let p =
       picked_of (λ b. takes n b u) list c.0 c.1
-      (subst (λ v. slice_get v c.0 ≡ Some c.1) (ap (λ v. target_for (length n.nodes) lists v) (sym h) ∙ s.same u l) c.2) in
+      (subst (λ v. slice_get v c.0 ≡ Some c.1) (ap (λ v. target_for (length n.nodes) lists v) (sym h) ∙ s.same u l)
+      c.2) in
       (p.0, p.1, p.2, reads l p.3 c.3)
 
   hop_step :
       (q e r : ℕ) (bytes : List ℕ) (z : ℕ) → hop m all_true q e ≡ Some r → HasSource r bytes z
       → (q < length n.nodes) ⊎ (length n.nodes ≤ q) → HasSource q bytes z
   hop_step q e r bytes z h c (inr far) =
-      hop_source (node m q) (stood_for (length n.nodes) lists q) e r bytes z (further_shows n m anchored lists merged q far) h c
+      hop_source (node m q) (stood_for (length n.nodes) lists q) e r bytes z
+      (further_shows n m anchored lists merged q far) h c
   hop_step q e r bytes z h c (inl l) = go (merged.old q l)
     where
       go : IsAsWas q → HasSource q bytes z
@@ -78,7 +82,8 @@ module _ (n m : Nfa) (anchored : ℕ) (lists : List (List ℕ)) (merged : IsMerg
       (q u r : ℕ) (bytes : List ℕ) (z : ℕ) → u < 256 → takes m q u ≡ Some r → HasSource r bytes z
       → (q < length n.nodes) ⊎ (length n.nodes ≤ q) → HasSource q (u ∷ bytes) z
   read_step q u r bytes z b h c (inr far) =
-      read_source (node m q) (stood_for (length n.nodes) lists q) u r bytes z b (further_shows n m anchored lists merged q far)
+      read_source (node m q) (stood_for (length n.nodes) lists q) u r bytes z b
+      (further_shows n m anchored lists merged q far)
       h c
   read_step q u r bytes z b h c (inl l) = go (merged.old q l)
     where
@@ -99,7 +104,8 @@ module _ (n m : Nfa) (anchored : ℕ) (lists : List (List ℕ)) (merged : IsMerg
       read_step q u r more z l h (reads_back r more z k rest) (cases_lt q (length n.nodes))
 
   pub reads_back_old :
-      (q : ℕ) (bytes : List ℕ) (z : ℕ) → q < length n.nodes → z < length n.nodes → ReadsTo m q bytes z → ReadsTo n q bytes z
+      (q : ℕ) (bytes : List ℕ) (z : ℕ) → q < length n.nodes → z < length n.nodes → ReadsTo m q bytes z
+      → ReadsTo n q bytes z
   reads_back_old q bytes z l k g = to_old q bytes z l (reads_back q bytes z k g)
 
   -- What is read from a state of the first NFA is read from it in the merged one,
@@ -126,7 +132,8 @@ module _ (n m : Nfa) (anchored : ℕ) (lists : List (List ℕ)) (merged : IsMerg
       go (Read ranges) is f = read y ranges list is f i
       go (Split alternates) is f =
           let k = in_nth list s i in
-          let c = part_of (length n.nodes) lists alternates k.0 s (subst (λ v. slice_get v k.0 ≡ Some s) (sym f.0) k.1) in
+          let c =
+          part_of (length n.nodes) lists alternates k.0 s (subst (λ v. slice_get v k.0 ≡ Some s) (sym f.0) k.1) in
           side c.0 c.1 c.2 c.3 c.4 (cases_lt c.2 (length n.nodes))
         where
           side :
@@ -142,7 +149,8 @@ module _ (n m : Nfa) (anchored : ℕ) (lists : List (List ℕ)) (merged : IsMerg
               subst (λ v. Shows n m anchored lists v (stood_for (length n.nodes) lists w)) g.1
               (further_shows n m anchored lists merged w far) in
               goes j (subst (λ v. hop_at v all_true j ≡ Some w) (sym is) at)
-              (read w g.0 (stood_for (length n.nodes) lists w) g.1 for_list (nth_in (stood_for (length n.nodes) lists w) o s of))
+              (read w g.0 (stood_for (length n.nodes) lists w) g.1 for_list
+              (nth_in (stood_for (length n.nodes) lists w) o s of))
 
   goes_forth :
       (s e r : ℕ) (bytes : List ℕ) (z : ℕ) → hop n all_true s e ≡ Some r → FromOld r bytes z → FromRead r bytes z
@@ -160,7 +168,8 @@ module _ (n m : Nfa) (anchored : ℕ) (lists : List (List ℕ)) (merged : IsMerg
       go (Assert look q) is f l =
           goes e
           (subst (λ v. hop_at v all_true e ≡ Some r)
-          (sym (others_same n m anchored lists merged s l (λ alternates g. split_assert alternates look q (sym g ∙ is)))) f)
+          (sym (others_same n m anchored lists merged s l
+          (λ alternates g. split_assert alternates look q (sym g ∙ is)))) f)
           (old (hop_old n m anchored lists merged ranged s e r f))
       go (Read ranges) is f l = absurd (none_some (subst (λ v. hop_at v all_true e ≡ Some r) is f))
       go (Accept p) is f l = absurd (none_some (subst (λ v. hop_at v all_true e ≡ Some r) is f))
@@ -177,7 +186,8 @@ module _ (n m : Nfa) (anchored : ℕ) (lists : List (List ℕ)) (merged : IsMerg
       go (Read ranges) is f l =
           reads b
           (subst (λ v. takes_at v u ≡ Some x)
-          (sym (others_same n m anchored lists merged s l (λ alternates g. split_read alternates ranges (sym g ∙ is)))) f)
+          (sym (others_same n m anchored lists merged s l (λ alternates g. split_read alternates ranges (sym g ∙ is))))
+          f)
           (old (ranged.1 s u x f))
 
       for_list : FromRead s (u ∷ bytes) z
@@ -189,7 +199,8 @@ module _ (n m : Nfa) (anchored : ℕ) (lists : List (List ℕ)) (merged : IsMerg
           all : (o : ℕ) → slice_get (pick (λ b. takes n b u) list) o ≡ Some x → (w : Option ℕ) → takes_in ranges u ≡ w
               → slice_get (target_for (length n.nodes) lists w) o ≡ Some x
           all o at w f =
-              subst (λ v. slice_get v o ≡ Some x) (sym (ap (λ v. target_for (length n.nodes) lists v) (sym f) ∙ for.same u b)) at
+              subst (λ v. slice_get v o ≡ Some x)
+              (sym (ap (λ v. target_for (length n.nodes) lists v) (sym f) ∙ for.same u b)) at
 
           side :
               (r o : ℕ) → slice_get (stood_for (length n.nodes) lists r) o ≡ Some x
@@ -198,7 +209,8 @@ module _ (n m : Nfa) (anchored : ℕ) (lists : List (List ℕ)) (merged : IsMerg
               let one = (old_one (length n.nodes) lists r o x l at).1 in
               subst (λ v. ReadsTo m v bytes z) one (old (subst (λ v. v < length n.nodes) (sym one) l))
           side r o at (inr far) =
-              from_list x bytes z old read r (stood_for (length n.nodes) lists r) (further_shows n m anchored lists merged r far)
+              from_list x bytes z old read r (stood_for (length n.nodes) lists r)
+              (further_shows n m anchored lists merged r far)
               (nth_in (stood_for (length n.nodes) lists r) o x at)
 
           target :

@@ -8,10 +8,12 @@ use Rattle.automata_base.specs.Lists.{In}
 use Rattle.automata_base.specs.Nfas.Accepted.{IsInRange}
 use Rattle.automata_base.specs.Nfas.Engines.{MatchesEmpty}
 use Rattle.automata_base.specs.Nfas.Merges.{stood_for, Shows, IsMerged}
-use Rattle.automata_base.specs.Nfas.Nfa.{Nfa, Node, Split, Assert, Read, Accept, Range, node, hop, hop_at, accepts, accepts_at}
+use Rattle.automata_base.specs.Nfas.Nfa.{Nfa, Node, Split, Assert, Read, Accept, Range, node, hop, hop_at, accepts}
+use Rattle.automata_base.specs.Nfas.Nfa.{accepts_at}
 use Rattle.automata_base.specs.Paths.Paths.{all_true, Run, HasEpsilonPath, IsLookAcyclic}
 use Rattle.automata_base.proofs.Nfas.Merges.Parts.{part_of, part_at}
-use Rattle.automata_base.proofs.Nfas.Merges.Places.{further_shows, alternate_old, assert_old, union_shows, others_same, old_means}
+use Rattle.automata_base.proofs.Nfas.Merges.Places.{further_shows, alternate_old, assert_old, union_shows, others_same}
+use Rattle.automata_base.proofs.Nfas.Merges.Places.{old_means}
 use Rattle.automata_base.proofs.Nfas.Merges.Places.{old_one, split_assert, match_may_end}
 use Rattle.automata_base.proofs.Paths.Orders.{some_inj, none_some}
 use Rattle.automata_base.proofs.Paths.Sets.{nth_in}
@@ -72,7 +74,8 @@ module _ (n m : Nfa) (anchored : ℕ) (lists : List (List ℕ)) (merged : IsMerg
       go : (w < length n.nodes) ⊎ (length n.nodes ≤ w) → accepts n w ≡ Some p
       go (inl l) = old (merged.old w l)
       go (inr far) =
-          absurd (shows_match (node m w) (stood_for (length n.nodes) lists w) p (further_shows n m anchored lists merged w far) h)
+          absurd (shows_match (node m w) (stood_for (length n.nodes) lists w) p
+          (further_shows n m anchored lists merged w far) h)
 
   module _ (ranged : IsInRange n) where
     -- An edge between states of the first NFA that the merged one has is one of the first.
@@ -165,7 +168,8 @@ module _ (n m : Nfa) (anchored : ℕ) (lists : List (List ℕ)) (merged : IsMerg
         by_edge d f c = (d ∷ c.0, (u.0, f, c.1))
 
         union :
-            (x : Node) (alternates : List ℕ) → node m q ≡ x → node n q ≡ Split alternates → Shows n m anchored lists x alternates
+            (x : Node) (alternates : List ℕ) → node m q ≡ x → node n q ≡ Split alternates
+            → Shows n m anchored lists x alternates
             → slice_get alternates e ≡ Some u.0 → (u.0 < length n.nodes → HasEpsilonPath m u.0 z) → HasEpsilonPath m q z
         union (Split others) alternates is was s f ih =
             let c = part_of (length n.nodes) lists others e u.0 (subst (λ v. slice_get v e ≡ Some u.0) (sym s.0) f) in
@@ -197,7 +201,8 @@ module _ (n m : Nfa) (anchored : ℕ) (lists : List (List ℕ)) (merged : IsMerg
         go (Assert look r) is f ih =
             by_edge e
             (subst (λ v. hop_at v all_true e ≡ Some u.0)
-            (sym (others_same n m anchored lists merged q l (λ alternates g. split_assert alternates look r (sym g ∙ is)))) f)
+            (sym (others_same n m anchored lists merged q l
+            (λ alternates g. split_assert alternates look r (sym g ∙ is)))) f)
             (ih (subst (λ v. v < length n.nodes)
             (sym (assert_hop look r e u.0 (subst (λ v. hop_at v all_true e ≡ Some u.0) is f)))
             (assert_old n m anchored lists merged ranged q look r is)))
@@ -206,12 +211,14 @@ module _ (n m : Nfa) (anchored : ℕ) (lists : List (List ℕ)) (merged : IsMerg
 
     -- Both have the empty match, or none has it.
     pub empty_forth :
-        (starts : List ℕ) → ((start : ℕ) → In start starts → start < length n.nodes) → MatchesEmpty n starts → MatchesEmpty m starts
+        (starts : List ℕ) → ((start : ℕ) → In start starts → start < length n.nodes) → MatchesEmpty n starts
+        → MatchesEmpty m starts
     empty_forth starts within (start, q, p, i, run, h) =
         (start, q, p, i, run_forth run.0 start q p (within start i) run.1 h, match_forth q p h)
 
     pub empty_back :
-        (starts : List ℕ) → ((start : ℕ) → In start starts → start < length n.nodes) → MatchesEmpty m starts → MatchesEmpty n starts
+        (starts : List ℕ) → ((start : ℕ) → In start starts → start < length n.nodes) → MatchesEmpty m starts
+        → MatchesEmpty n starts
     empty_back starts within (start, q, p, i, run, h) =
         let h2 = match_back q p h in
         (start, q, p, i, run_back run.0 start q (within start i) (match_may_end n anchored q p h2).0 run.1, h2)

@@ -35,11 +35,14 @@ at_default (y ∷ ys) (suc k) l = at_default ys k (omega (arith, l))
 module _ (targets : List ℕ) (lo byte x : ℕ) (inside : byte < length targets) (is_x : x ≡ get_or targets byte x) where
   front : (b : Bool) → b ≡ starts_with (get_or targets byte 0) (drop (byte + 1) targets)
       → runs_from lo byte (drop byte targets)
-      ≡ cond b (runs_from lo (byte + 1) (drop (byte + 1) targets)) (run_of lo byte x ++ runs_from (byte + 1) (byte + 1) (drop (byte + 1) targets))
+      ≡ cond b (runs_from lo (byte + 1) (drop (byte + 1) targets))
+      (run_of lo byte x ++ runs_from (byte + 1) (byte + 1) (drop (byte + 1) targets))
   front b e =
       ap (runs_from lo byte) (drop_more targets byte x inside ∙ ap (λ z. z ∷ drop (byte + 1) targets) (sym is_x))
-      ∙ (ap (λ s. cond s (runs_from lo (suc byte) (drop (byte + 1) targets)) (run_of lo byte x ++ runs_from (suc byte) (suc byte) (drop (byte + 1) targets))) (sym same)
-      ∙ ap (λ n. cond b (runs_from lo n (drop (byte + 1) targets)) (run_of lo byte x ++ runs_from n n (drop (byte + 1) targets))) (sym next))
+      ∙ (ap (λ s. cond s (runs_from lo (suc byte) (drop (byte + 1) targets))
+      (run_of lo byte x ++ runs_from (suc byte) (suc byte) (drop (byte + 1) targets))) (sym same)
+      ∙ ap (λ n. cond b (runs_from lo n (drop (byte + 1) targets))
+      (run_of lo byte x ++ runs_from n n (drop (byte + 1) targets))) (sym next))
     where
       next : byte + 1 ≡ suc byte
       next = omega arith
@@ -54,26 +57,33 @@ module _ (targets : List ℕ) (lo byte x : ℕ) (inside : byte < length targets)
 
   pub run_stays :
       (t : Turns) (from : ℕ) (b : Bool) → b ≡ starts_with (get_or targets byte 0) (drop (byte + 1) targets) → b ≡ true
-      → turn_ranges t from (runs_from lo (byte + 1) (drop (byte + 1) targets)) ≡ turn_ranges t from (runs_from lo byte (drop byte targets))
+      → turn_ranges t from (runs_from lo (byte + 1) (drop (byte + 1) targets))
+      ≡ turn_ranges t from (runs_from lo byte (drop byte targets))
   run_stays t from b e s =
       sym (ap (turn_ranges t from) (front b e
-      ∙ ap (λ z. cond z (runs_from lo (byte + 1) (drop (byte + 1) targets)) (run_of lo byte x ++ runs_from (byte + 1) (byte + 1) (drop (byte + 1) targets))) s))
+      ∙ ap (λ z. cond z (runs_from lo (byte + 1) (drop (byte + 1) targets))
+      (run_of lo byte x ++ runs_from (byte + 1) (byte + 1) (drop (byte + 1) targets))) s))
 
   ends :
       (t : Turns) (from : ℕ) (b : Bool) → b ≡ starts_with (get_or targets byte 0) (drop (byte + 1) targets) → b ≡ false
       → turn_ranges t from (runs_from lo byte (drop byte targets))
-      ≡ turn_ranges (turn_ranges t from (run_of lo byte x)) from (runs_from (byte + 1) (byte + 1) (drop (byte + 1) targets))
+      ≡ turn_ranges (turn_ranges t from (run_of lo byte x)) from
+      (runs_from (byte + 1) (byte + 1) (drop (byte + 1) targets))
   ends t from b e s =
       ap (turn_ranges t from) (front b e
-      ∙ ap (λ z. cond z (runs_from lo (byte + 1) (drop (byte + 1) targets)) (run_of lo byte x ++ runs_from (byte + 1) (byte + 1) (drop (byte + 1) targets))) s)
+      ∙ ap (λ z. cond z (runs_from lo (byte + 1) (drop (byte + 1) targets))
+      (run_of lo byte x ++ runs_from (byte + 1) (byte + 1) (drop (byte + 1) targets))) s)
       ∙ ranges_append t from (run_of lo byte x) (runs_from (byte + 1) (byte + 1) (drop (byte + 1) targets))
 
   pub run_next :
-      (t new : Turns) (from : ℕ) (b : Bool) → b ≡ starts_with (get_or targets byte 0) (drop (byte + 1) targets) → b ≡ false
+      (t new : Turns) (from : ℕ) (b : Bool) → b ≡ starts_with (get_or targets byte 0) (drop (byte + 1) targets)
+      → b ≡ false
       → new ≡ turn_ranges t from (run_of lo byte x)
-      → turn_ranges new from (runs_from (byte + 1) (byte + 1) (drop (byte + 1) targets)) ≡ turn_ranges t from (runs_from lo byte (drop byte targets))
+      → turn_ranges new from (runs_from (byte + 1) (byte + 1) (drop (byte + 1) targets))
+      ≡ turn_ranges t from (runs_from lo byte (drop byte targets))
   run_next t new from b e s n =
-      ap (λ z. turn_ranges z from (runs_from (byte + 1) (byte + 1) (drop (byte + 1) targets))) n ∙ sym (ends t from b e s)
+      ap (λ z. turn_ranges z from (runs_from (byte + 1) (byte + 1) (drop (byte + 1) targets))) n
+      ∙ sym (ends t from b e s)
 
   pub run_large :
       (t : Turns) (from : ℕ) (b : Bool) → b ≡ starts_with (get_or targets byte 0) (drop (byte + 1) targets) → b ≡ false
@@ -81,5 +91,6 @@ module _ (targets : List ℕ) (lo byte x : ℕ) (inside : byte < length targets)
       → 2 ^ 27 < size (turn_ranges t from (runs_from lo byte (drop byte targets)))
   run_large t from b e s l =
       subst (λ (z : Turns). 2 ^ 27 < size z) (sym (ends t from b e s))
-      (let a = size_ranges (turn_ranges t from (run_of lo byte x)) from (runs_from (byte + 1) (byte + 1) (drop (byte + 1) targets)) in
+      (let a = size_ranges (turn_ranges t from (run_of lo byte x)) from
+      (runs_from (byte + 1) (byte + 1) (drop (byte + 1) targets)) in
       omega (arith, a, l))

@@ -1,6 +1,7 @@
 -- Copies of turned states, and their numbers.
 use Rattle.std.proofs.Common.{ℕ, zero, suc, ◌≡◌, ◌<◌, ◌≤◌, ◌+◌, ◌⊎◌, ◌↔◌, ◌&&◌, ltb, Bool, true, false, cond, List}
-use Rattle.std.proofs.Common.{[], ◌∷◌, ◌++◌, length, length-append, get_or, drop, map, Vec, Option, Some, None, inl, inr, refl, sym}
+use Rattle.std.proofs.Common.{[], ◌∷◌, ◌++◌, length, length-append, get_or, drop, map, Vec, Option, Some, None, inl}
+use Rattle.std.proofs.Common.{inr, refl, sym}
 use Rattle.std.proofs.Common.{ap, ◌∙◌, subst, arith, append_assoc, append-nil}
 use Rattle.std.proofs.lemmas.List.{get_or_default, drop_more, drop_all}
 use Rattle.automata_base.specs.declared.nfa.thompson.State.{State}
@@ -55,7 +56,8 @@ pub copies_next :
     → i < length xs → id ≡ get_or xs i id → at < length turned → at ≡ id → s ≡ get_or turned at s → y ≡ copied f p s
     → new ≡ out ++ y ∷ [] → out ++ copies f p turned (drop i xs) ≡ w → new ++ copies f p turned (drop (i + 1) xs) ≡ w
 copies_next f p turned xs out new w i id at s y l e k a g c n h =
-    ap (λ z. z ++ copies f p turned (drop (i + 1) xs)) (n ∙ ap (λ z. out ++ z ∷ []) (c ∙ ap (copied f p) (state_same turned at id s k a g)))
+    ap (λ z. z ++ copies f p turned (drop (i + 1) xs))
+    (n ∙ ap (λ z. out ++ z ∷ []) (c ∙ ap (copied f p) (state_same turned at id s k a g)))
     ∙ (append_assoc out (copied f p (get_or turned id is.Fail) ∷ []) (copies f p turned (drop (i + 1) xs))
     ∙ (sym (ap (λ z. out ++ copies f p turned z) (drop_more xs i id l ∙ ap (λ z. z ∷ drop (i + 1) xs) (sym e))) ∙ h))
 
@@ -74,8 +76,10 @@ matches_next states p xs out new w i id at s b l e k a g c n h =
     ap (λ z. z ++ matches_in states p (drop (i + 1) xs)) n
     ∙ (append_assoc out (cond b (id ∷ []) []) (matches_in states p (drop (i + 1) xs))
     ∙ (ap (λ z. out ++ z) (pulled b)
-    ∙ (ap (λ z. out ++ cond z (id ∷ matches_in states p (drop (i + 1) xs)) (matches_in states p (drop (i + 1) xs))) (c ∙ ap (λ z. is_of (accepts_at (node_of z)) p) (state_same states at id s k a g))
-    ∙ (sym (ap (λ z. out ++ matches_in states p z) (drop_more xs i id l ∙ ap (λ z. z ∷ drop (i + 1) xs) (sym e))) ∙ h))))
+    ∙ (ap (λ z. out ++ cond z (id ∷ matches_in states p (drop (i + 1) xs)) (matches_in states p (drop (i + 1) xs)))
+    (c ∙ ap (λ z. is_of (accepts_at (node_of z)) p) (state_same states at id s k a g))
+    ∙ (sym (ap (λ z. out ++ matches_in states p z) (drop_more xs i id l ∙ ap (λ z. z ∷ drop (i + 1) xs) (sym e)))
+    ∙ h))))
   where
     pulled :
         (b : Bool)
@@ -85,7 +89,8 @@ matches_next states p xs out new w i id at s b l e k a g c n h =
     pulled false = refl
 
 pub matches_done :
-    (states : List State) (p : ℕ) (xs out w : List ℕ) (i : ℕ) → length xs ≤ i → out ++ matches_in states p (drop i xs) ≡ w → out ≡ w
+    (states : List State) (p : ℕ) (xs out w : List ℕ) (i : ℕ) → length xs ≤ i
+    → out ++ matches_in states p (drop i xs) ≡ w → out ≡ w
 matches_done states p xs out w i l h =
     sym (append-nil out) ∙ (sym (ap (λ z. out ++ matches_in states p z) (drop_all i xs l)) ∙ h)
 
@@ -93,7 +98,8 @@ matches_done states p xs out w i l h =
 pub roots_are :
     (vs : List (Vec ℕ Global)) (states : List State) (reached roots : List ℕ) (v : Vec ℕ Global) (patterns p q : ℕ)
     → roots ≡ v.items → p < patterns → length vs ≡ patterns → v ≡ get_or vs p v
-    → ((p : ℕ) → p < patterns → list_at (lists_of vs) p ≡ matches_in states p reached) → q ≡ p → roots ≡ matches_in states q reached
+    → ((p : ℕ) → p < patterns → list_at (lists_of vs) p ≡ matches_in states p reached) → q ≡ p
+    → roots ≡ matches_in states q reached
 roots_are vs states reached roots v patterns p q r l few e m same =
     r
     ∙ (sym (list_item vs p v (omega (arith, l, few)) e)
@@ -107,7 +113,9 @@ nth_more [] ys j a e = absurd (none_of e)
 nth_more (x ∷ xs) ys zero a e = e
 nth_more (x ∷ xs) ys (suc j) a e = nth_more xs ys j a e
 
-nth_after : {A : Type 0} (xs ys : List A) (j : ℕ) (a : A) → slice_get ys j ≡ Some a → slice_get (xs ++ ys) (length xs + j) ≡ Some a
+nth_after :
+    {A : Type 0} (xs ys : List A) (j : ℕ) (a : A) → slice_get ys j ≡ Some a
+    → slice_get (xs ++ ys) (length xs + j) ≡ Some a
 nth_after [] ys j a e = ap (λ n. slice_get ys n) (zero_add j) ∙ e
   where
     zero_add : (j : ℕ) → 0 + j ≡ j
@@ -143,7 +151,8 @@ part_made old mid new turned roots items alternates p base entry reached distinc
       ∙ nth_more mid (Split alternates ∷ []) (base + k) (copied (copy_of base items) p (get_or turned q is.Fail))
       (ap (λ z. slice_get z (base + k)) m
       ∙ (ap (λ z. slice_get (old ++ copies (copy_of base items) p turned items) (z + k)) b
-      ∙ nth_after old (copies (copy_of base items) p turned items) k (copied (copy_of base items) p (get_or turned q is.Fail))
+      ∙ nth_after old (copies (copy_of base items) p turned items) k
+      (copied (copy_of base items) p (get_or turned q is.Fail))
       (nth_copies (copy_of base items) p turned items k q i)));
   enters =
       ap (λ z. slice_get z entry) n
@@ -155,7 +164,8 @@ part_made old mid new turned roots items alternates p base entry reached distinc
 -- What was made stays.
 pub copied_more :
     (nodes new more : List Node) (turned : List State) (roots : List ℕ) (p entry base : ℕ) (items : List ℕ)
-    → new ≡ nodes ++ more → IsCopied nodes turned roots p entry base items → IsCopied new turned roots p entry base items
+    → new ≡ nodes ++ more → IsCopied nodes turned roots p entry base items
+    → IsCopied new turned roots p entry base items
 copied_more nodes new more turned roots p entry base items n h = record {
   reached = h.reached;
   distinct = h.distinct;
@@ -167,13 +177,16 @@ copied_more nodes new more turned roots p entry base items n h = record {
 }
 
 nth_either :
-    (xs : List ℕ) (a k x : ℕ) → slice_get (xs ++ a ∷ []) k ≡ Some x → (slice_get xs k ≡ Some x) ⊎ ((k ≡ length xs) × (x ≡ a))
+    (xs : List ℕ) (a k x : ℕ) → slice_get (xs ++ a ∷ []) k ≡ Some x → (slice_get xs k ≡ Some x)
+    ⊎ ((k ≡ length xs) × (x ≡ a))
 nth_either [] a zero x e = inr (refl, sym (some_inj e))
 nth_either [] a (suc k) x e = absurd (none_some e)
 nth_either (y ∷ ys) a zero x e = inl e
 nth_either (y ∷ ys) a (suc k) x e = go (nth_either ys a k x e)
   where
-    go : (slice_get ys k ≡ Some x) ⊎ ((k ≡ length ys) × (x ≡ a)) → (slice_get ys k ≡ Some x) ⊎ ((suc k ≡ suc (length ys)) × (x ≡ a))
+    go :
+        (slice_get ys k ≡ Some x) ⊎ ((k ≡ length ys) × (x ≡ a)) → (slice_get ys k ≡ Some x)
+        ⊎ ((suc k ≡ suc (length ys)) × (x ≡ a))
     go (inl h) = inl h
     go (inr h) = inr (ap suc h.0, h.1)
 
@@ -187,7 +200,8 @@ distinct_last (x ∷ xs) y d f = ((λ i. go (in_either x xs (y ∷ []) i)), dist
     go (inr (inl e)) = f (inl (sym e))
     go (inr (inr b)) = b
 
-part_left : (parts : List Copied) (c : Copied) (p : ℕ) → p < length parts → part_at (parts ++ c ∷ []) p ≡ part_at parts p
+part_left :
+    (parts : List Copied) (c : Copied) (p : ℕ) → p < length parts → part_at (parts ++ c ∷ []) p ≡ part_at parts p
 part_left [] c p l = absurd (omega (arith, l))
 part_left (x ∷ xs) c zero l = refl
 part_left (x ∷ xs) c (suc p) l = part_left xs c p (omega (arith, l))
@@ -218,9 +232,12 @@ IsIn entries parts x =
 
 -- The copies for one pattern more.
 pub have_more :
-    (nodes new more : List Node) (states turned : List State) (reached entries entries' : List ℕ) (p entry base : ℕ) (items : List ℕ)
-    → new ≡ nodes ++ more → p ≡ length entries → entries' ≡ entries ++ entry ∷ [] → base ≡ length nodes → length new ≡ suc entry
-    → IsCopied new turned (matches_in states p reached) p entry base items → HaveCopies nodes states turned reached entries
+    (nodes new more : List Node) (states turned : List State) (reached entries entries' : List ℕ) (p entry base : ℕ)
+    (items : List ℕ)
+    → new ≡ nodes ++ more → p ≡ length entries → entries' ≡ entries ++ entry ∷ [] → base ≡ length nodes
+    → length new ≡ suc entry
+    → IsCopied new turned (matches_in states p reached) p entry base items
+    → HaveCopies nodes states turned reached entries
     → HaveCopies new states turned reached entries'
 have_more nodes new more states turned reached entries entries' p entry base items n l e begins long made had =
     subst (λ z. HaveCopies new states turned reached z) (sym e) (record {
@@ -231,7 +248,9 @@ have_more nodes new more states turned reached entries entries' p entry base ite
       each = λ q x i. each q x (nth_either entries entry q x i);
       only = λ x k. only x (ltb x (length nodes)) refl k;
       inside = λ x i. inside x (in_either x entries (entry ∷ []) i);
-      distinct = distinct_last entries entry had.distinct (λ i. let k = had.inside entry i in omega (arith, k, begins, made.ends));
+      distinct =
+          distinct_last entries entry had.distinct
+          (λ i. let k = had.inside entry i in omega (arith, k, begins, made.ends));
     })
   where
     c : Copied
@@ -247,12 +266,15 @@ have_more nodes new more states turned reached entries entries' p entry base ite
     each q x (inl h) =
         subst (λ (d : Copied). IsCopied new turned (matches_in states q reached) q x d.base d.items)
         (sym (part_left had.parts c q (let k = nth_inside entries q x h in omega (arith, k, count))))
-        (copied_more nodes new more turned (matches_in states q reached) q x (part_at had.parts q).base (part_at had.parts q).items n
+        (copied_more nodes new more turned (matches_in states q reached) q x (part_at had.parts q).base
+        (part_at had.parts q).items n
         (had.each q x h))
     each q x (inr h) =
-        subst (λ v. IsCopied new turned (matches_in states v reached) v x (part_at (had.parts ++ c ∷ []) v).base (part_at (had.parts ++ c ∷ []) v).items)
+        subst (λ v. IsCopied new turned (matches_in states v reached) v x (part_at (had.parts ++ c ∷ []) v).base
+        (part_at (had.parts ++ c ∷ []) v).items)
         (count ∙ sym h.0)
-        (subst (λ (d : Copied). IsCopied new turned (matches_in states (length had.parts) reached) (length had.parts) x d.base d.items)
+        (subst (λ (d : Copied). IsCopied new turned (matches_in states (length had.parts) reached) (length had.parts) x
+        d.base d.items)
         (sym (part_last had.parts c))
         (subst (λ v. IsCopied new turned (matches_in states v reached) v x base items) (l ∙ sym count)
         (subst (λ v. IsCopied new turned (matches_in states p reached) p v base items) (sym h.1) made)))
@@ -262,11 +284,14 @@ have_more nodes new more states turned reached entries entries' p entry base ite
       q,
       y,
       nth_more entries (entry ∷ []) q y i,
-      subst (λ (d : Copied). d.base ≤ x) (sym (part_left had.parts c q (let k = nth_inside entries q y i in omega (arith, k, count)))) b,
+      subst (λ (d : Copied). d.base ≤ x)
+      (sym (part_left had.parts c q (let k = nth_inside entries q y i in omega (arith, k, count)))) b,
       f,
     )
 
-    only : (x : ℕ) (b : Bool) → ltb x (length nodes) ≡ b → x < length new → IsIn (entries ++ entry ∷ []) (had.parts ++ c ∷ []) x
+    only :
+        (x : ℕ) (b : Bool) → ltb x (length nodes) ≡ b → x < length new
+        → IsIn (entries ++ entry ∷ []) (had.parts ++ c ∷ []) x
     only x true t k = before x (had.only x (ltb-true x (length nodes) t))
     only x false t k = (
       length entries,
@@ -298,7 +323,8 @@ pub matches_below :
     (n m : ℕ) (states : List State) (p : ℕ) (ids : List ℕ) → n ≤ m → all_below n ids ≡ true
     → all_below m (matches_in states p ids) ≡ true
 matches_below n m states p [] l b = refl
-matches_below n m states p (q ∷ qs) l b = go (is_of (accepts_at (node_of (get_or states q is.Fail))) p) (matches_below n m states p qs l c.1)
+matches_below n m states p (q ∷ qs) l b =
+    go (is_of (accepts_at (node_of (get_or states q is.Fail))) p) (matches_below n m states p qs l c.1)
   where
     c : (ltb q n ≡ true) × (all_below n qs ≡ true)
     c = and_parts (ltb q n) (all_below n qs) b
@@ -307,12 +333,14 @@ matches_below n m states p (q ∷ qs) l b = go (is_of (accepts_at (node_of (get_
         (t : Bool) → all_below m (matches_in states p qs) ≡ true
         → all_below m (cond t (q ∷ matches_in states p qs) (matches_in states p qs)) ≡ true
     go true h =
-        ap (λ v. v && all_below m (matches_in states p qs)) (lt-ltb q m (let k = ltb-true q n c.0 in omega (arith, k, l)))
+        ap (λ v. v && all_below m (matches_in states p qs))
+        (lt-ltb q m (let k = ltb-true q n c.0 in omega (arith, k, l)))
         ∙ h
     go false h = h
 
 pub reached_closed :
-    (edges : Edges) (states : List State) (roots items : List ℕ) → ((q : ℕ) → In q items ↔ IsReached edges states roots q)
+    (edges : Edges) (states : List State) (roots items : List ℕ)
+    → ((q : ℕ) → In q items ↔ IsReached edges states roots q)
     → (x q : ℕ) → In x items → In q (targets_of edges states x) → In q items
 reached_closed edges states roots items r x q i t =
     let h = (r x).0 i in
@@ -320,7 +348,8 @@ reached_closed edges states roots items r x q i t =
     (r q).1 (h.0, m.0, h.2, m.1)
 
 pub reached_roots :
-    (edges : Edges) (states : List State) (roots items : List ℕ) → ((q : ℕ) → In q items ↔ IsReached edges states roots q)
+    (edges : Edges) (states : List State) (roots items : List ℕ)
+    → ((q : ℕ) → In q items ↔ IsReached edges states roots q)
     → (q : ℕ) → In q roots → In q items
 reached_roots edges states roots items r q i = (r q).1 (q, [], i, refl)
 

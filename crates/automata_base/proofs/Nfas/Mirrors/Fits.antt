@@ -33,7 +33,8 @@ use Rattle.automata_base.proofs.Nfas.Mirrors.Sums.{sum_some}
 use Rattle.automata_base.proofs.Nfas.Reach.Refused.{refusal_is, goes_on}
 use Rattle.automata_base.proofs.Powersets.Belows.{all_below_from}
 
-copies_length : (f : ℕ → ℕ) (p : ℕ) (turned : List State) (items : List ℕ) → length (copies f p turned items) ≡ length items
+copies_length :
+    (f : ℕ → ℕ) (p : ℕ) (turned : List State) (items : List ℕ) → length (copies f p turned items) ≡ length items
 copies_length f p turned [] = refl
 copies_length f p turned (q ∷ qs) = ap suc (copies_length f p turned qs)
 
@@ -51,7 +52,8 @@ copied_length old out f p turned items e =
 -- A part that is made.
 pub part_added :
     (old mid new : List Node) (turned : List State) (roots items alternates : List ℕ) (p base entry : ℕ)
-    → ((q : ℕ) → In q items ↔ IsReached Every turned roots q) → Distinct items → ((q : ℕ) → In q items → q < length turned)
+    → ((q : ℕ) → In q items ↔ IsReached Every turned roots q) → Distinct items
+    → ((q : ℕ) → In q items → q < length turned)
     → length items ≤ length turned
     → base ≡ length old → mid ≡ old ++ copies (copy_of base items) p turned items
     → entry ≡ length mid → alternates ≡ map (copy_of base items) roots → new ≡ mid ++ Split alternates ∷ []
@@ -76,7 +78,8 @@ pub added_copies :
     (old new : List Node) (turned : List State) (roots : List ℕ) (p entry : ℕ) (items : List ℕ)
     → IsAdded old new turned roots p entry items → IsCopied new turned roots p entry (length old) items
 added_copies old new turned roots p entry items w =
-    part_made old (old ++ copies (copy_of (length old) items) p turned items) new turned roots items (map (copy_of (length old) items) roots) p
+    part_made old (old ++ copies (copy_of (length old) items) p turned items) new turned roots items
+    (map (copy_of (length old) items) roots) p
     (length old) entry w.reached w.distinct refl refl
     (w.enters
     ∙ sym (length-append old (copies (copy_of (length old) items) p turned items)
@@ -89,14 +92,16 @@ pub added_length :
 added_length old new turned roots p entry items w =
     let a : length new ≡ length (old ++ copies (copy_of (length old) items) p turned items) + 1 =
     ap (λ z. length z) w.nodes
-    ∙ length-append (old ++ copies (copy_of (length old) items) p turned items) (Split (map (copy_of (length old) items) roots) ∷ []) in
+    ∙ length-append (old ++ copies (copy_of (length old) items) p turned items)
+    (Split (map (copy_of (length old) items) roots) ∷ []) in
     let b = length-append old (copies (copy_of (length old) items) p turned items) in
     let c = copies_length (copy_of (length old) items) p turned items in
     let d = w.enters in
     omega (arith, a, b, c, d)
 
 -- The nodes that are added.
-abbrev pub added_nodes : (old : List Node) → (turned : List State) → (roots : List ℕ) → (p : ℕ) → (items : List ℕ) → List Node
+abbrev pub added_nodes : (old : List Node) → (turned : List State) → (roots : List ℕ) → (p : ℕ) → (items : List ℕ)
+    → List Node
 added_nodes old turned roots p items =
     copies (copy_of (length old) items) p turned items ++ Split (map (copy_of (length old) items) roots) ∷ []
 
@@ -109,7 +114,8 @@ pub added_more :
     → IsAdded old new turned roots p entry items → new ≡ old ++ added_nodes old turned roots p items
 added_more old new turned roots p entry items w =
     w.nodes
-    ∙ append_two old (copies (copy_of (length old) items) p turned items) (Split (map (copy_of (length old) items) roots) ∷ [])
+    ∙ append_two old (copies (copy_of (length old) items) p turned items)
+    (Split (map (copy_of (length old) items) roots) ∷ [])
 
 -- Plain nodes.
 node_more : (n m P : ℕ) (x : Node) → n ≤ m → IsPlain n P x → IsPlain m P x
@@ -185,9 +191,11 @@ copies_width :
     → sum_by width (copies f p turned qs) ≤ sum_at alternates_of turned qs
 copies_width f p turned [] = omega arith
 copies_width f p turned (q ∷ qs) =
-    let a : sum_by width (copies f p turned (q ∷ qs)) ≡ width (copied f p (get_or turned q is.Fail)) + sum_by width (copies f p turned qs) =
+    let a : sum_by width (copies f p turned (q ∷ qs)) ≡ width (copied f p (get_or turned q is.Fail))
+    + sum_by width (copies f p turned qs) =
     sum_by-cons width (copied f p (get_or turned q is.Fail)) (copies f p turned qs) in
-    let b : sum_at alternates_of turned (q ∷ qs) ≡ alternates_of (get_or turned q is.Fail) + sum_at alternates_of turned qs =
+    let b : sum_at alternates_of turned (q ∷ qs) ≡ alternates_of (get_or turned q is.Fail)
+    + sum_at alternates_of turned qs =
     sum_by-cons (λ q. alternates_of (get_or turned q is.Fail)) q qs in
     let c = copied_width f p (get_or turned q is.Fail) in
     let d = copies_width f p turned qs in
@@ -203,17 +211,21 @@ more_mul p m = ap (λ z. z * m) (one p) ∙ suc-mul p m
 pub part_fits :
     (turned : List State) (most P p : ℕ) (old new : List Node) (entries entries' roots : List ℕ) (entry : ℕ)
     → states_ordered turned ≡ true → p < P → length roots ≤ most → IsPartAdded old new turned roots p entry
-    → entries' ≡ entries ++ entry ∷ [] → AreParts turned most P p old entries → AreParts turned most P (p + 1) new entries'
+    → entries' ≡ entries ++ entry ∷ [] → AreParts turned most P p old entries
+    → AreParts turned most P (p + 1) new entries'
 part_fits turned most P p old new entries entries' roots entry ordered less short (items, w) e had = record {
   plain =
       subst (λ z. ArePlain (length new) P z) (sym w.nodes)
-      (plain_append (length new) P (old ++ copies (copy_of (length old) items) p turned items) (Split (map (copy_of (length old) items) roots) ∷ [])
+      (plain_append (length new) P (old ++ copies (copy_of (length old) items) p turned items)
+      (Split (map (copy_of (length old) items) roots) ∷ [])
       (plain_append (length new) P old (copies (copy_of (length old) items) p turned items)
       (plain_more (length old) (length new) P old (omega (arith, long)) had.plain)
       (copies_plain turned items (length old) (length new) P p (omega (arith, long)) less items
-      (λ q r i j. reached_closed Every turned roots items w.reached q r i (subst (λ v. In r (targets_at Every v)) (sym (node_is turned q)) j))
+      (λ q r i j. reached_closed Every turned roots items w.reached q r i
+      (subst (λ v. In r (targets_at Every v)) (sym (node_is turned q)) j))
       ordered))
-      (map_below turned items (length old) (length new) P p (omega (arith, long)) less roots (reached_roots Every turned roots items w.reached), tt));
+      (map_below turned items (length old) (length new) P p (omega (arith, long)) less roots
+      (reached_roots Every turned roots items w.reached), tt));
   few =
       let a = had.few in
       let b = more_mul p (length turned + 1) in
@@ -230,20 +242,25 @@ part_fits turned most P p old new entries entries' roots entry ordered less shor
     long =
         let a : length new ≡ length (old ++ copies (copy_of (length old) items) p turned items) + 1 =
         ap (λ z. length z) w.nodes
-        ∙ length-append (old ++ copies (copy_of (length old) items) p turned items) (Split (map (copy_of (length old) items) roots) ∷ []) in
+        ∙ length-append (old ++ copies (copy_of (length old) items) p turned items)
+        (Split (map (copy_of (length old) items) roots) ∷ []) in
         let b = length-append old (copies (copy_of (length old) items) p turned items) in
         let c = copies_length (copy_of (length old) items) p turned items in
         omega (arith, a, b, c)
 
     wide : sum_by width new ≤ sum_by width old + (sum_by alternates_of turned + most)
     wide =
-        let a : sum_by width new ≡ sum_by width (old ++ copies (copy_of (length old) items) p turned items) + sum_by width (Split (map (copy_of (length old) items) roots) ∷ []) =
+        let a : sum_by width new ≡ sum_by width (old ++ copies (copy_of (length old) items) p turned items)
+        + sum_by width (Split (map (copy_of (length old) items) roots) ∷ []) =
         ap (sum_by width) w.nodes
-        ∙ sum_by-append width (old ++ copies (copy_of (length old) items) p turned items) (Split (map (copy_of (length old) items) roots) ∷ []) in
+        ∙ sum_by-append width (old ++ copies (copy_of (length old) items) p turned items)
+        (Split (map (copy_of (length old) items) roots) ∷ []) in
         let b = sum_by-append width old (copies (copy_of (length old) items) p turned items) in
         let c = copies_width (copy_of (length old) items) p turned items in
-        let d : sum_at alternates_of turned items ≤ sum_by alternates_of turned = sum_some alternates_of is.Fail turned items w.distinct w.below in
-        let f : sum_by width (Split (map (copy_of (length old) items) roots) ∷ []) ≡ length (map (copy_of (length old) items) roots) + sum_by width [] =
+        let d : sum_at alternates_of turned items ≤ sum_by alternates_of turned =
+        sum_some alternates_of is.Fail turned items w.distinct w.below in
+        let f : sum_by width (Split (map (copy_of (length old) items) roots) ∷ [])
+        ≡ length (map (copy_of (length old) items) roots) + sum_by width [] =
         sum_by-cons width (Split (map (copy_of (length old) items) roots)) [] in
         let g = length-map roots (copy_of (length old) items) in
         omega (arith, a, b, c, d, f, g, short)
@@ -270,7 +287,8 @@ pub part_large :
 part_large turned most P p old entries len less had e l =
     let a = had.few in
     let b = more_mul p (length turned + 1) in
-    let c : (p + 1) * (length turned + 1) ≤ P * (length turned + 1) = mul-le-mul_right (length turned + 1) (omega (arith, less)) in
+    let c : (p + 1) * (length turned + 1) ≤ P * (length turned + 1) =
+    mul-le-mul_right (length turned + 1) (omega (arith, less)) in
     omega (arith, a, b, c, e, l)
 
 -- The states of plain nodes pass the tests.
@@ -346,25 +364,30 @@ state_width (is.Match pattern) = omega arith
 states_width : (xs : List State) → sum_by alternates_of xs ≤ sum_by width (nodes_of xs)
 states_width [] = omega arith
 states_width (x ∷ xs) =
-    let a : sum_by alternates_of (x ∷ xs) ≡ alternates_of x + sum_by alternates_of xs = sum_by-cons alternates_of x xs in
-    let b : sum_by width (nodes_of (x ∷ xs)) ≡ width (node_of x) + sum_by width (nodes_of xs) = sum_by-cons width (node_of x) (nodes_of xs) in
+    let a : sum_by alternates_of (x ∷ xs) ≡ alternates_of x + sum_by alternates_of xs =
+    sum_by-cons alternates_of x xs in
+    let b : sum_by width (nodes_of (x ∷ xs)) ≡ width (node_of x) + sum_by width (nodes_of xs) =
+    sum_by-cons width (node_of x) (nodes_of xs) in
     let c = state_width x in
     let d = states_width xs in
     omega (arith, a, b, c, d)
 
 -- The parts and the root.
 pub made_fits :
-    (states turned made : List State) (reached : List ℕ) (P : ℕ) (nodes : List Node) (entries entries' : List ℕ) (root len : ℕ)
+    (states turned made : List State) (reached : List ℕ) (P : ℕ) (nodes : List Node) (entries entries' : List ℕ)
+    (root len : ℕ)
     → AreParts turned (length reached) P P nodes entries → nodes_of made ≡ nodes ++ Split entries ∷ []
     → root ≡ len → len ≡ length nodes → length made ≤ 2 ^ 27 → entries' ≡ entries → length entries ≡ P
     → length reached ≤ length states → length turned ≤ length states + sum_by asking_edges states + 1
     → sum_by alternates_of turned ≤ sum_by asking_edges states + sum_by free_edges states + 1
     → IsFit states P made entries' root
-made_fits states turned made reached P nodes entries entries' root len parts n r q small e count few long wide = record {
+made_fits states turned made reached P nodes entries entries' root len parts n r q small e count few long wide =
+    record {
   plain =
       subst (λ z. ArePlain (length made) z (nodes_of made)) (sym (ap (λ z. length z) e ∙ count))
       (subst (λ z. ArePlain (length made) P z) (sym n)
-      (plain_append (length made) P nodes (Split entries ∷ []) (plain_more (length nodes) (length made) P nodes (omega (arith, size)) parts.plain)
+      (plain_append (length made) P nodes (Split entries ∷ [])
+      (plain_more (length nodes) (length made) P nodes (omega (arith, size)) parts.plain)
       ((λ x i. let k = parts.entered x i in omega (arith, k, size)), tt)));
   small = small;
   entered = λ x i. let k = parts.entered x (subst (λ z. In x z) e i) in omega (arith, k, size);
@@ -372,19 +395,23 @@ made_fits states turned made reached P nodes entries entries' root len parts n r
   few =
       let a = parts.few in
       let b = more_mul P (length states + sum_by asking_edges states + 2) in
-      let c : P * (length turned + 1) ≤ P * (length states + sum_by asking_edges states + 2) = mul-le-mul_left P (omega (arith, long)) in
+      let c : P * (length turned + 1) ≤ P * (length states + sum_by asking_edges states + 2) =
+      mul-le-mul_left P (omega (arith, long)) in
       omega (arith, a, b, c, size);
   narrow =
       let a = parts.narrow in
       let b = more_mul P (length states + sum_by asking_edges states + sum_by free_edges states + 2) in
-      let c : P * (sum_by alternates_of turned + length reached + 1) ≤ P * (length states + sum_by asking_edges states + sum_by free_edges states + 2) =
+      let c : P * (sum_by alternates_of turned + length reached + 1)
+      ≤ P * (length states + sum_by asking_edges states + sum_by free_edges states + 2) =
       mul-le-mul_left P (omega (arith, wide, few)) in
-      let d : P * (sum_by alternates_of turned + length reached + 1) ≡ P * (sum_by alternates_of turned + length reached) + P =
+      let d : P * (sum_by alternates_of turned + length reached + 1)
+      ≡ P * (sum_by alternates_of turned + length reached) + P =
       mul_more P (sum_by alternates_of turned + length reached) in
       let f = states_width made in
       let g : sum_by width (nodes_of made) ≡ sum_by width nodes + sum_by width (Split entries ∷ []) =
       ap (sum_by width) n ∙ sum_by-append width nodes (Split entries ∷ []) in
-      let h : sum_by width (Split entries ∷ []) ≡ length entries + sum_by width [] = sum_by-cons width (Split entries) [] in
+      let h : sum_by width (Split entries ∷ []) ≡ length entries + sum_by width [] =
+      sum_by-cons width (Split entries) [] in
       omega (arith, a, b, c, d, f, g, h, count);
 }
   where
@@ -403,7 +430,8 @@ pub parts_large :
     → 2 ^ 27 < P * (length turned + 1) → 2 ^ 27 < (P + 1) * (length states + sum_by asking_edges states + 2)
 parts_large states turned P long l =
     let b = more_mul P (length states + sum_by asking_edges states + 2) in
-    let c : P * (length turned + 1) ≤ P * (length states + sum_by asking_edges states + 2) = mul-le-mul_left P (omega (arith, long)) in
+    let c : P * (length turned + 1) ≤ P * (length states + sum_by asking_edges states + 2) =
+    mul-le-mul_left P (omega (arith, long)) in
     omega (arith, b, c, l)
 
 pub root_large :
@@ -414,7 +442,8 @@ pub root_large :
 root_large states turned reached P nodes entries len parts e long l =
     let a = parts.few in
     let b = more_mul P (length states + sum_by asking_edges states + 2) in
-    let c : P * (length turned + 1) ≤ P * (length states + sum_by asking_edges states + 2) = mul-le-mul_left P (omega (arith, long)) in
+    let c : P * (length turned + 1) ≤ P * (length states + sum_by asking_edges states + 2) =
+    mul-le-mul_left P (omega (arith, long)) in
     omega (arith, a, b, c, e, l)
 
 pub turned_large :
@@ -430,11 +459,14 @@ pub fit_passes :
     → length entries ≤ 2 ^ 27 → is_narrow made ≡ true → states_error made root root entries ≡ None
 fit_passes states made P entries root fit few narrow =
     refusal_is made root root entries
-    ∙ (goes_on (is_small made entries) (is_narrow made) (starts_below (length made) root root entries) (states_below (length made) made)
+    ∙ (goes_on (is_small made entries) (is_narrow made) (starts_below (length made) root root entries)
+    (states_below (length made) made)
     (states_ordered made) (matches_below (length entries) made) small narrow starts tests.0 tests.1
     ∙ ap (λ z. unless z PatternRange None) tests.2)
   where
-    tests : (states_below (length made) made ≡ true) × (states_ordered made ≡ true) × (matches_below (length entries) made ≡ true)
+    tests :
+        (states_below (length made) made ≡ true) × (states_ordered made ≡ true)
+        × (matches_below (length entries) made ≡ true)
     tests = plain_tests (length made) (length entries) made (let k = fit.starts in omega (arith, k)) fit.plain
 
     small : is_small made entries ≡ true

@@ -21,7 +21,8 @@ swap_differ false true = refl
 swap_differ false false = refl
 
 pub flip_holds :
-    (t : ℕ) (r : Bool) (look : Look) (prev next : Option ℕ) → holds t (not r) (flip look) next prev ≡ holds t r look prev next
+    (t : ℕ) (r : Bool) (look : Look) (prev next : Option ℕ)
+    → holds t (not r) (flip look) next prev ≡ holds t r look prev next
 flip_holds t r Start prev next = refl
 flip_holds t r End prev next = refl
 flip_holds t r StartLF prev next = refl

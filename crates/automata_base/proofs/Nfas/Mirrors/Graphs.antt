@@ -185,7 +185,8 @@ step_free P M size t from to small i = record {
   arcs = on;
   reported = λ k m.
       let w = i.reported k m in
-      (w.0, put_old t.lists to from k w.0 w.1, (w.2.0, w.2.1 ∙ ap (λ n. n + w.2.0) (sym (put_length t.lists to from)), w.2.2));
+      (w.0, put_old t.lists to from k w.0 w.1,
+      (w.2.0, w.2.1 ∙ ap (λ n. n + w.2.0) (sym (put_length t.lists to from)), w.2.2));
 }
   where
     old :
@@ -209,7 +210,8 @@ step_free P M size t from to small i = record {
         let w = i.arcs s k l p in (w.0, put_old t.lists to from k w.0 w.1, stand_free t from to w.0 s l w.2)
     on s k l (inr e) = (
       from,
-      subst (λ v. InAt (put_at t.lists to from) v from) (sym e.2) (put_new t.lists to from (subst (λ v. to < v) (sym i.whole) small)),
+      subst (λ v. InAt (put_at t.lists to from) v from) (sym e.2)
+      (put_new t.lists to from (subst (λ v. to < v) (sym i.whole) small)),
       subst (λ v. Stand (turn_free t from to) from v s) (sym e.1) (sym e.0),
     )
 
@@ -221,7 +223,9 @@ step_by P M size t from to label g small stands i = record {
   whole = push_length t.lists to (next_of t) ∙ i.whole;
   sound = λ k x m. go k x (in_push t.lists to (next_of t) k x m);
   arcs = on;
-  reported = λ k m. let w = i.reported k m in (w.0, push_old t.lists to (next_of t) k w.0 w.1, helper_by t g to w.0 (is.Match 0) w.2);
+  reported =
+      λ k m. let w =
+          i.reported k m in (w.0, push_old t.lists to (next_of t) k w.0 w.1, helper_by t g to w.0 (is.Match 0) w.2);
 }
   where
     old :
@@ -237,7 +241,8 @@ step_by P M size t from to label g small stands i = record {
         ⊎ (M k × IsHelper (turn_by t g to) x (is.Match 0))
     go k x (inl m) = old k x (i.sound k x m)
     go k x (inr e) =
-        inl (from, label, inr (refl, refl, e.0), stands (turn_by t g to) x (subst (λ v. IsHelper (turn_by t g to) v g) (sym e.1) (helper_new t g to)))
+        inl (from, label, inr (refl, refl, e.0), stands (turn_by t g to) x
+        (subst (λ v. IsHelper (turn_by t g to) v g) (sym e.1) (helper_new t g to)))
 
     on :
         (s k : ℕ) (l : Label) → And P from label to s l k
@@ -246,9 +251,11 @@ step_by P M size t from to label g small stands i = record {
         let w = i.arcs s k l p in (w.0, push_old t.lists to (next_of t) k w.0 w.1, stand_by t g to w.0 s l w.2)
     on s k l (inr e) = (
       (next_of t),
-      subst (λ v. InAt (push_at t.lists to (next_of t)) v (next_of t)) (sym e.2) (push_new t.lists to (next_of t) (subst (λ v. to < v) (sym i.whole) small)),
+      subst (λ v. InAt (push_at t.lists to (next_of t)) v (next_of t)) (sym e.2)
+      (push_new t.lists to (next_of t) (subst (λ v. to < v) (sym i.whole) small)),
       subst (λ v. Stand (turn_by t g to) (next_of t) v s) (sym e.1)
-          (subst (λ v. Stand (turn_by t g to) (next_of t) label v) (sym e.0) (stands (turn_by t g to) (next_of t) (helper_new t g to))),
+          (subst (λ v. Stand (turn_by t g to) (next_of t) label v) (sym e.0)
+          (stands (turn_by t g to) (next_of t) (helper_new t g to))),
     )
 
 -- The edges of a node more.
@@ -270,7 +277,8 @@ module _ (M : ℕ → Type 0) (size from : ℕ) where
       → ((l : Label) (k : ℕ) → HasArcAt x l k → HasArcAt y l k)
       → HasArcAt y label to
       → IsGraph (From (And P from label to) from x) M size t → IsGraph (From P from y) M size t
-  one_more P t x y label to f g h i = graph_same (From (And P from label to) from x) (From P from y) M size t there back i
+  one_more P t x y label to f g h i =
+      graph_same (From (And P from label to) from x) (From P from y) M size t there back i
     where
       there : (s k : ℕ) (l : Label) → From (And P from label to) from x s l k → From P from y s l k
       there s k l (inl (inl p)) = inl p
@@ -278,7 +286,9 @@ module _ (M : ℕ → Type 0) (size from : ℕ) where
           inr (e.0, subst (λ v. HasArcAt y v k) (sym e.1) (subst (λ v. HasArcAt y label v) (sym e.2) h))
       there s k l (inr a) = inr (a.0, g l k a.1)
 
-      split : (s k : ℕ) (l : Label) → s ≡ from → HasArcAt x l k ⊎ ((l ≡ label) × (k ≡ to)) → From (And P from label to) from x s l k
+      split :
+          (s k : ℕ) (l : Label) → s ≡ from → HasArcAt x l k ⊎ ((l ≡ label) × (k ≡ to))
+          → From (And P from label to) from x s l k
       split s k l e (inl a) = inr (e, a)
       split s k l e (inr a) = inl (inr (e, a.0, a.1))
 
@@ -354,7 +364,8 @@ module _ (M : ℕ → Type 0) (size from : ℕ) where
   step_read P t lo hi to l i = step_by P M size t from to (Reads lo hi) (is.ByteRange lo hi from) l (λ t x h. h) i
 
   graph_ranges :
-      (ts : List Transition) (P : ℕ → Label → ℕ → Type 0) (t : Turns) → transitions_below size ts ≡ true → IsGraph P M size t
+      (ts : List Transition) (P : ℕ → Label → ℕ → Type 0) (t : Turns) → transitions_below size ts ≡ true
+      → IsGraph P M size t
       → IsGraph (From P from (Read (ranges_of ts))) M size (turn_ranges t from ts)
   graph_ranges [] P t b i = none_more P t (Read []) no_read i
   graph_ranges (r ∷ rs) P t b i =
@@ -383,7 +394,8 @@ module _ (M : ℕ → Type 0) (size from : ℕ) where
       (state : State) (P : ℕ → Label → ℕ → Type 0) (t : Turns) → state_below size state ≡ true → IsGraph P M size t
       → IsGraph (From P from (ranged state)) M size (turn_state t from state)
   graph_state (is.ByteRange lo hi next) P t b i =
-      only P (turn_by t (is.ByteRange lo hi from) next) (Read (record { lo = lo; hi = hi; next = next } ∷ [])) (Reads lo hi) next
+      only P (turn_by t (is.ByteRange lo hi from) next) (Read (record { lo = lo; hi = hi; next = next } ∷ []))
+      (Reads lo hi) next
       (λ l k a. ⊎_elim (λ (h : HasArcAt (Read []) l k). absurd (no_read l k h))
       (λ (h : (l ≡ Reads lo hi) × (k ≡ next)). h) (read_apart lo hi next [] l k a))
       (inl (refl, refl, refl)) (step_read P t lo hi next (ltb-true next size b) i)
@@ -391,7 +403,8 @@ module _ (M : ℕ → Type 0) (size from : ℕ) where
   graph_state (is.Dense targets) P t b i =
       graph_ranges (runs_from 0 0 targets.value) P t (runs_below size targets.value 0 0 b) i
   graph_state (is.Look look next) P t b i =
-      only P (turn_by t (is.Look (flip look) from) next) (Assert look next) (Asks look) next (look_only look next) (refl, refl)
+      only P (turn_by t (is.Look (flip look) from) next) (Assert look next) (Asks look) next (look_only look next)
+      (refl, refl)
       (step_by P M size t from next (Asks look) (is.Look (flip look) from) (ltb-true next size b) (λ t x h. h) i)
   graph_state (is.Union alternates) P t b i = graph_all alternates.items P t b i
   graph_state (is.BinaryUnion alt1 alt2) P t b i =
@@ -430,7 +443,9 @@ graph_states M size states (q ∷ qs) P t b i =
         inr (inl a.0, subst (λ v. HasArcAt (ranged (slice_index_or states v is.Fail)) l k) (sym a.0) a.1)
     there s k l (inr a) = inr (inr a.0, a.1)
 
-    on : (s k : ℕ) (l : Label) → In s (q ∷ qs) → HasArcAt (ranged (slice_index_or states s is.Fail)) l k → Of P' states qs s l k
+    on :
+        (s k : ℕ) (l : Label) → In s (q ∷ qs) → HasArcAt (ranged (slice_index_or states s is.Fail)) l k
+        → Of P' states qs s l k
     on s k l (inl e) a = inl (inr (e, subst (λ v. HasArcAt (ranged (slice_index_or states v is.Fail)) l k) e a))
     on s k l (inr j) a = inr (j, a)
 
@@ -487,4 +502,5 @@ graph_report P size t first small i = record {
         ⊎ ((k ≡ first) × IsHelper (turn_by t (is.Match 0) first) x (is.Match 0))
     go k x (inl m) = old k x (i.sound k x m)
     go k x (inr e) =
-        inr (e.0, subst (λ v. IsHelper (turn_by t (is.Match 0) first) v (is.Match 0)) (sym e.1) (helper_new t (is.Match 0) first))
+        inr (e.0, subst (λ v. IsHelper (turn_by t (is.Match 0) first) v (is.Match 0)) (sym e.1)
+        (helper_new t (is.Match 0) first))

@@ -62,13 +62,18 @@ module _ (f : ℕ → ℕ) (p : ℕ) (items : List ℕ) where
       → ((r : ℕ) → In r (targets_at Every (node_of g)) → In r items)
       → ((r : ℕ) → In r (targets_at Every (node_of h)) → In r items)
       → copied f p g ≡ copied f p h → g ≡ h
-  copied_same (is.ByteRange a b x) (is.ByteRange c d y) gp hp s i j e = ranges_same a b x c d y (i x (inl refl)) (j y (inl refl)) s e
-  copied_same (is.ByteRange a b x) (is.Look l y) gp hp s i j e = let k : Read (record { lo = a; hi = b; next = f x } ∷ []) ≡ Assert l (f y) = e in cc
-  copied_same (is.ByteRange a b x) (is.Match q) gp hp s i j e = let k : Read (record { lo = a; hi = b; next = f x } ∷ []) ≡ Accept p = e in cc
-  copied_same (is.Look l x) (is.ByteRange c d y) gp hp s i j e = let k : Assert l (f x) ≡ Read (record { lo = c; hi = d; next = f y } ∷ []) = e in cc
+  copied_same (is.ByteRange a b x) (is.ByteRange c d y) gp hp s i j e =
+      ranges_same a b x c d y (i x (inl refl)) (j y (inl refl)) s e
+  copied_same (is.ByteRange a b x) (is.Look l y) gp hp s i j e =
+      let k : Read (record { lo = a; hi = b; next = f x } ∷ []) ≡ Assert l (f y) = e in cc
+  copied_same (is.ByteRange a b x) (is.Match q) gp hp s i j e =
+      let k : Read (record { lo = a; hi = b; next = f x } ∷ []) ≡ Accept p = e in cc
+  copied_same (is.Look l x) (is.ByteRange c d y) gp hp s i j e =
+      let k : Assert l (f x) ≡ Read (record { lo = c; hi = d; next = f y } ∷ []) = e in cc
   copied_same (is.Look k x) (is.Look l y) gp hp s i j e = looks_same k l x y (i x (inl refl)) (j y (inl refl)) s e
   copied_same (is.Look l x) (is.Match q) gp hp s i j e = let k : Assert l (f x) ≡ Accept p = e in cc
-  copied_same (is.Match q) (is.ByteRange c d y) gp hp s i j e = let k : Accept p ≡ Read (record { lo = c; hi = d; next = f y } ∷ []) = e in cc
+  copied_same (is.Match q) (is.ByteRange c d y) gp hp s i j e =
+      let k : Accept p ≡ Read (record { lo = c; hi = d; next = f y } ∷ []) = e in cc
   copied_same (is.Match q) (is.Look l y) gp hp s i j e = let k : Accept p ≡ Assert l (f y) = e in cc
   copied_same (is.Match q) (is.Match r) gp hp s i j e = ap is.Match (gp ∙ sym hp)
   copied_same (is.Sparse ts) h gp hp s i j e = absurd gp

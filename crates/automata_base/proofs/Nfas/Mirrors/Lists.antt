@@ -41,8 +41,10 @@ pub lists_push :
     (vs : List (Vec ℕ Global)) (k : ℕ) (old new d : Vec ℕ Global) (x : ℕ) → k < length vs → old ≡ get_or vs k d
     → new.items ≡ old.items ++ x ∷ [] → lists_of (set vs k new) ≡ push_at (lists_of vs) k x
 lists_push [] k old new d x l e f = absurd (omega (arith, l))
-lists_push (v ∷ vs) zero old new d x l e f = ap (λ z. z ∷ lists_of vs) (f ∙ ap (λ (z : Vec ℕ Global). z.items ++ x ∷ []) e)
-lists_push (v ∷ vs) (suc k) old new d x l e f = ap (λ z. v.items ∷ z) (lists_push vs k old new d x (omega (arith, l)) e f)
+lists_push (v ∷ vs) zero old new d x l e f =
+    ap (λ z. z ∷ lists_of vs) (f ∙ ap (λ (z : Vec ℕ Global). z.items ++ x ∷ []) e)
+lists_push (v ∷ vs) (suc k) old new d x l e f =
+    ap (λ z. v.items ∷ z) (lists_push vs k old new d x (omega (arith, l)) e f)
 
 pub push_length : (xs : List (List ℕ)) (k x : ℕ) → length (push_at xs k x) ≡ length xs
 push_length [] k x = refl
@@ -86,7 +88,8 @@ ends_member xs x e = go (slice_get xs (length xs - 1)) refl e
 
 -- The list of a number.
 pub list_item :
-    (vs : List (Vec ℕ Global)) (k : ℕ) (v : Vec ℕ Global) → k < length vs → v ≡ get_or vs k v → list_at (lists_of vs) k ≡ v.items
+    (vs : List (Vec ℕ Global)) (k : ℕ) (v : Vec ℕ Global) → k < length vs → v ≡ get_or vs k v
+    → list_at (lists_of vs) k ≡ v.items
 list_item [] k v l e = absurd (omega (arith, l))
 list_item (w ∷ ws) zero v l e = ap (λ (z : Vec ℕ Global). z.items) (sym e)
 list_item (w ∷ ws) (suc k) v l e = list_item ws k v (omega (arith, l)) e
@@ -161,7 +164,8 @@ states_next t new states ids i id at s w l e k a f g h =
 
 -- An error that is passed on is the error.
 pub err_is :
-    {A B E : Type 0} → (r : Result A E) (x z : E) → IsErrAnd r (λ y. y ≡ x) → r ≡ Err z → ◌≡◌ {A = Result B E} (Err x) (Err z)
+    {A B E : Type 0} → (r : Result A E) (x z : E) → IsErrAnd r (λ y. y ≡ x) → r ≡ Err z
+    → ◌≡◌ {A = Result B E} (Err x) (Err z)
 err_is (Ok a) x z h e = absurd h
 err_is (Err y) x z h e = ap (λ v. Err v) (sym h ∙ one e)
   where
@@ -178,7 +182,8 @@ heads_more n hs (ys ∷ rest) [] xs s a h = absurd a
 heads_more n hs (ys ∷ rest) (x ∷ ss) xs s a h = (a.0, heads_more n hs rest ss xs s a.1 h)
 
 pub heads_step :
-    (n : ℕ) (hs hs' : List State) (yielded : List (Vec ℕ Global)) (v : Vec ℕ Global) (states new : List State) (s : State)
+    (n : ℕ) (hs hs' : List State) (yielded : List (Vec ℕ Global)) (v : Vec ℕ Global) (states new : List State)
+    (s : State)
     → AreHeads n hs (lists_of yielded) states → IsHead n hs' v.items s → hs' ≡ hs → new ≡ states ++ s ∷ []
     → AreHeads n hs (lists_of (yielded ++ v ∷ [])) new
 heads_step n hs hs' yielded v states new s a h e f =
@@ -199,7 +204,8 @@ made_is n len hs lists yielded heads states a e l m f = (
 
 -- A list in the place of one with the same items changes nothing.
 pub lists_same :
-    (vs : List (Vec ℕ Global)) (k : ℕ) (old new : Vec ℕ Global) → k < length vs → old ≡ get_or vs k old → new.items ≡ old.items
+    (vs : List (Vec ℕ Global)) (k : ℕ) (old new : Vec ℕ Global) → k < length vs → old ≡ get_or vs k old
+    → new.items ≡ old.items
     → lists_of (set vs k new) ≡ lists_of vs
 lists_same [] k old new l e f = absurd (omega (arith, l))
 lists_same (v ∷ vs) zero old new l e f = ap (λ z. z ∷ lists_of vs) (f ∙ ap (λ (z : Vec ℕ Global). z.items) e)

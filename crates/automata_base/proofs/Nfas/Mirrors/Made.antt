@@ -12,10 +12,12 @@ use Rattle.automata_base.proofs.Nfas.Mirrors.Parts.{made_reversed}
 pub whole_made :
     (a b : Automaton) (states : List State) (first patterns root : ℕ) (made : List State) (entries : List ℕ)
     → IsChecked a → states ≡ a.states → first ≡ a.start_anchored → patterns ≡ length a.start_pattern
-    → AreReversed states first patterns made entries root → b ≡ automaton made root root entries (reversed_flags a.flags) → IsReversed a b
+    → AreReversed states first patterns made entries root
+    → b ≡ automaton made root root entries (reversed_flags a.flags) → IsReversed a b
 whole_made a b states first patterns root made entries checked s f p m e =
     subst (λ (z : Automaton). IsReversed a z) (sym e)
-    (made_reversed a (automaton made root root entries (reversed_flags a.flags)) checked (checked_below a checked) w refl refl refl refl)
+    (made_reversed a (automaton made root root entries (reversed_flags a.flags)) checked (checked_below a checked) w
+    refl refl refl refl)
   where
     w : AreReversed a.states a.start_anchored (length a.start_pattern) made entries root
     w =

@@ -41,7 +41,8 @@ arc_target (Accept p) (Asks look) r h = absurd h
 arc_target (Accept p) (Reads lo hi) r h = absurd h
 
 -- A state with its edges as ranges has the same targets, and matches the same pattern.
-pub ranged_is : (states : List State) (q : ℕ) → node_or_fail (slice_get (ranged_nodes states) q) ≡ ranged (get_or states q is.Fail)
+pub ranged_is :
+    (states : List State) (q : ℕ) → node_or_fail (slice_get (ranged_nodes states) q) ≡ ranged (get_or states q is.Fail)
 ranged_is [] q = refl
 ranged_is (x ∷ xs) zero = refl
 ranged_is (x ∷ xs) (suc q) = ranged_is xs q
@@ -67,7 +68,8 @@ pub arc_is_target :
 arc_is_target states s l r h =
     subst (λ v. In r (targets_at Every v)) (sym (node_is states s))
     (target_same (get_or states s is.Fail) r
-    (subst (λ v. In r (targets_at Every v)) (ranged_is states s) (arc_target (node_or_fail (slice_get (ranged_nodes states) s)) l r h)))
+    (subst (λ v. In r (targets_at Every v)) (ranged_is states s)
+    (arc_target (node_or_fail (slice_get (ranged_nodes states) s)) l r h)))
 
 pub accept_same : (s : State) → accepts_at (ranged s) ≡ accepts_at (node_of s)
 accept_same (is.ByteRange lo hi next) = refl
@@ -109,7 +111,8 @@ place_same items q r i j e =
 pub place_nth : (items : List ℕ) (k q : ℕ) → Distinct items → slice_get items k ≡ Some q → place_in items q ≡ k
 place_nth items k q d e = one items k (place_in items q) q d e (nth_place items q (nth_in items k q e))
   where
-    one : (items : List ℕ) (k l q : ℕ) → Distinct items → slice_get items k ≡ Some q → slice_get items l ≡ Some q → l ≡ k
+    one :
+        (items : List ℕ) (k l q : ℕ) → Distinct items → slice_get items k ≡ Some q → slice_get items l ≡ Some q → l ≡ k
     one [] k l q d e f = absurd (none_some e)
     one (x ∷ xs) zero zero q d e f = refl
     one (x ∷ xs) zero (suc l) q d e f =
@@ -147,7 +150,8 @@ next_free xs r i = (Free, go (in_either r xs [] i))
 target_arc : (s : State) (r : ℕ) → In r (targets_at Every (node_of s)) → (l : Label) × HasArcAt (ranged s) l r
 target_arc (is.ByteRange lo hi next) r i = next_read (record { lo = lo; hi = hi; next = next } ∷ []) r i
 target_arc (is.Sparse ts) r i = next_read (ranges_of ts.items) r i
-target_arc (is.Dense targets) r i = next_read (ranges_of (runs_from 0 0 targets.value)) r (next_runs targets.value 0 0 r i)
+target_arc (is.Dense targets) r i =
+    next_read (ranges_of (runs_from 0 0 targets.value)) r (next_runs targets.value 0 0 r i)
 target_arc (is.Look look next) r (inl e) = (Asks look, (refl, sym e))
 target_arc (is.Look look next) r (inr b) = absurd b
 target_arc (is.Union alternates) r i = next_free alternates.items r i
@@ -198,20 +202,25 @@ module _ (states : List State) (p : ℕ) where
           → (In q (matches_in states p xs) → In q xs × (accepts_at (node_of (get_or states q is.Fail)) ≡ Some p))
           → In q (x ∷ xs) × (accepts_at (node_of (get_or states q is.Fail)) ≡ Some p)
       go true t (inl e) ih =
-          (inl e, ap (λ v. accepts_at (node_of (get_or states v is.Fail))) e ∙ one_is (accepts_at (node_of (get_or states x is.Fail))) t)
+          (inl e, ap (λ v. accepts_at (node_of (get_or states v is.Fail))) e
+          ∙ one_is (accepts_at (node_of (get_or states x is.Fail))) t)
       go true t (inr j) ih = let w = ih j in (inr w.0, w.1)
       go false t j ih = let w = ih j in (inr w.0, w.1)
 
   pub are_matches :
-      (ids : List ℕ) (q : ℕ) → In q ids → accepts_at (node_of (get_or states q is.Fail)) ≡ Some p → In q (matches_in states p ids)
+      (ids : List ℕ) (q : ℕ) → In q ids → accepts_at (node_of (get_or states q is.Fail)) ≡ Some p
+      → In q (matches_in states p ids)
   are_matches [] q i a = i
   are_matches (x ∷ xs) q (inl e) a =
       subst (λ b. In q (cond b (x ∷ matches_in states p xs) (matches_in states p xs)))
-      (sym (is_one (accepts_at (node_of (get_or states x is.Fail))) (ap (λ v. accepts_at (node_of (get_or states v is.Fail))) (sym e) ∙ a)))
+      (sym (is_one (accepts_at (node_of (get_or states x is.Fail)))
+      (ap (λ v. accepts_at (node_of (get_or states v is.Fail))) (sym e) ∙ a)))
       (inl e)
   are_matches (x ∷ xs) q (inr i) a = go (reported_by x) (are_matches xs q i a)
     where
-      go : (b : Bool) → In q (matches_in states p xs) → In q (cond b (x ∷ matches_in states p xs) (matches_in states p xs))
+      go :
+          (b : Bool) → In q (matches_in states p xs)
+          → In q (cond b (x ∷ matches_in states p xs) (matches_in states p xs))
       go true h = inr h
       go false h = h
 
@@ -219,7 +228,9 @@ module _ (states : List State) (p : ℕ) where
   matches_distinct [] d = tt
   matches_distinct (x ∷ xs) d = go (reported_by x) (matches_distinct xs d.1)
     where
-      go : (b : Bool) → Distinct (matches_in states p xs) → Distinct (cond b (x ∷ matches_in states p xs) (matches_in states p xs))
+      go :
+          (b : Bool) → Distinct (matches_in states p xs)
+          → Distinct (cond b (x ∷ matches_in states p xs) (matches_in states p xs))
       go true ih = ((λ i. d.0 (matches_are xs x i).0), ih)
       go false ih = ih
 

@@ -104,7 +104,8 @@ state_apart is.Fail o = tt
 state_apart (is.Match pattern) o = tt
 
 node_apart :
-    (states : List State) (q : ℕ) → states_ordered states ≡ true → IsApartAt (node_or_fail (slice_get (ranged_nodes states) q))
+    (states : List State) (q : ℕ) → states_ordered states ≡ true
+    → IsApartAt (node_or_fail (slice_get (ranged_nodes states) q))
 node_apart [] q o = tt
 node_apart (x ∷ xs) zero o = state_apart x (and_parts (state_ordered x) (states_ordered xs) o).0
 node_apart (x ∷ xs) (suc q) o = node_apart xs q (and_parts (state_ordered x) (states_ordered xs) o).1
@@ -148,7 +149,8 @@ still_turns : IsTurn always always no_bytes no_bytes 0
 still_turns = record { looks = λ a b look e. refl; bytes = λ a b e. refl }
 
 -- An accepting way of the one from its first state, and of the other from a state.
-module _ (a b : Automaton) (checked : IsChecked a) (reversed : IsReversed a b) (A B : ℕ → Truth) (bytes back : Bytes) (J : ℕ)
+module _ (a b : Automaton) (checked : IsChecked a) (reversed : IsReversed a b) (A B : ℕ → Truth) (bytes back : Bytes)
+    (J : ℕ)
     (turn : IsTurn A B bytes back J) where
   abbrev ForthOf : ℕ → Type 0
   ForthOf p = (q : ℕ) × HasWay (nfa_of a) A bytes 0 a.start_anchored J q × (accepts (nfa_of a) q ≡ Some p)
@@ -156,10 +158,14 @@ module _ (a b : Automaton) (checked : IsChecked a) (reversed : IsReversed a b) (
   abbrev BackOf : ℕ → ℕ → Type 0
   BackOf x p = (z : ℕ) × HasWay (nfa_of b) B back 0 x J z × (accepts (nfa_of b) z ≡ Some p)
 
-  there : (p : ℕ) → ForthOf p → (q : ℕ) × HasWay (ranged_nfa a) A bytes 0 a.start_anchored J q × (accepts (ranged_nfa a) q ≡ Some p)
+  there :
+      (p : ℕ) → ForthOf p → (q : ℕ) × HasWay (ranged_nfa a) A bytes 0 a.start_anchored J q
+      × (accepts (ranged_nfa a) q ≡ Some p)
   there p w = (w.0, (w.1.0, way_ranged a A bytes 0 a.start_anchored w.1.0 J w.0 w.1.1), accepts_ranged a w.0 ∙ w.2)
 
-  here : (p : ℕ) → (q : ℕ) × HasWay (ranged_nfa a) A bytes 0 a.start_anchored J q × (accepts (ranged_nfa a) q ≡ Some p) → ForthOf p
+  here :
+      (p : ℕ) → (q : ℕ) × HasWay (ranged_nfa a) A bytes 0 a.start_anchored J q × (accepts (ranged_nfa a) q ≡ Some p)
+      → ForthOf p
   here p w = (w.0, (w.1.0, ranged_way a A bytes 0 a.start_anchored w.1.0 J w.0 w.1.1), sym (accepts_ranged a w.0) ∙ w.2)
 
   back_entry_of : (p entry : ℕ) → slice_get b.start_pattern p ≡ Some entry → ForthOf p → BackOf entry p
@@ -173,7 +179,8 @@ module _ (a b : Automaton) (checked : IsChecked a) (reversed : IsReversed a b) (
       (checked_apart a checked.ordered) reversed.mirror turn p entry e (there p w)
 
   forth_part_of :
-      (path : List ℕ) (k entry p z : ℕ) → slice_get b.start_pattern k ≡ Some entry → IsWay (nfa_of b) B back 0 entry path J z
+      (path : List ℕ) (k entry p z : ℕ) → slice_get b.start_pattern k ≡ Some entry
+      → IsWay (nfa_of b) B back 0 entry path J z
       → accepts (nfa_of b) z ≡ Some p → (p ≡ k) × ForthOf p
   forth_part_of path k entry p z e w m =
       let f =
@@ -190,7 +197,8 @@ module _ (a b : Automaton) (checked : IsChecked a) (reversed : IsReversed a b) (
       (checked_apart a checked.ordered) reversed.mirror turn path entry p z i w m)
 
   forth_root_of :
-      (path : List ℕ) (p z : ℕ) → IsWay (nfa_of b) B back 0 b.start_anchored path J z → accepts (nfa_of b) z ≡ Some p → ForthOf p
+      (path : List ℕ) (p z : ℕ) → IsWay (nfa_of b) B back 0 b.start_anchored path J z → accepts (nfa_of b) z ≡ Some p
+      → ForthOf p
   forth_root_of path p z w m =
       here p
       (forth_root (ranged_nfa a) (nfa_of b) a.start_anchored b.start_anchored b.start_pattern A B bytes back J
@@ -204,7 +212,8 @@ module _ (a b : Automaton) (kind : MatchKind) (checked : IsChecked a) (reversed 
   -- A span of a haystack.
   module _ (h : List ℕ) (i j p : ℕ) (l : i ≤ j) (w : j ≤ length h) where
     turn :
-        IsTurn (truth (nfa_of a) (forward_tape h i j)) (truth (nfa_of b) (reverse_tape h i j)) (slice_get (forward_tape h i j).bytes)
+        IsTurn (truth (nfa_of a) (forward_tape h i j)) (truth (nfa_of b) (reverse_tape h i j))
+        (slice_get (forward_tape h i j).bytes)
         (slice_get (reverse_tape h i j).bytes) (j - i)
     turn = tapes_turn (nfa_of a) (nfa_of b) h i j reversed.mirror.terminator reversed.mirror.reverse l w
 
@@ -213,14 +222,16 @@ module _ (a b : Automaton) (kind : MatchKind) (checked : IsChecked a) (reversed 
       where
         back :
             (z : ℕ)
-            × HasWay (nfa_of b) (truth (nfa_of b) (reverse_tape h i j)) (slice_get (reverse_tape h i j).bytes) 0 b.start_anchored (j - i) z
+            × HasWay (nfa_of b) (truth (nfa_of b) (reverse_tape h i j)) (slice_get (reverse_tape h i j).bytes) 0
+            b.start_anchored (j - i) z
             × (accepts (nfa_of b) z ≡ Some p)
         back =
             back_root_of a b checked reversed
             (truth (nfa_of a) (forward_tape h i j)) (truth (nfa_of b) (reverse_tape h i j))
             (slice_get (forward_tape h i j).bytes) (slice_get (reverse_tape h i j).bytes) (j - i)
             turn p (entry s.1.0 p s.1.2).0 (entry s.1.0 p s.1.2).1
-            (s.1.0, (s.0, path_way (nfa_of a) (forward_tape h i j) 0 [] a.start_anchored s.0 (j - i) s.1.0 s.1.1), s.1.2)
+            (s.1.0, (s.0, path_way (nfa_of a) (forward_tape h i j) 0 [] a.start_anchored s.0 (j - i) s.1.0 s.1.1),
+            s.1.2)
 
         path : HasPath (nfa_of b) (reverse_tape h i j) 0 b.start_anchored (j - i) back.0
         path = way_path (nfa_of b) (reverse_tape h i j) 0 b.start_anchored back.1.0 (j - i) back.0 back.1.1
@@ -230,7 +241,8 @@ module _ (a b : Automaton) (kind : MatchKind) (checked : IsChecked a) (reversed 
       where
         forth :
             (q : ℕ)
-            × HasWay (nfa_of a) (truth (nfa_of a) (forward_tape h i j)) (slice_get (forward_tape h i j).bytes) 0 a.start_anchored (j - i) q
+            × HasWay (nfa_of a) (truth (nfa_of a) (forward_tape h i j)) (slice_get (forward_tape h i j).bytes) 0
+            a.start_anchored (j - i) q
             × (accepts (nfa_of a) q ≡ Some p)
         forth =
             forth_root_of a b checked reversed
@@ -307,22 +319,26 @@ mirror_true a b kind checked reversed alike lazy = record {
 }
 
 -- A pattern's start.
-module _ (a b : Automaton) (checked : IsChecked a) (reversed : IsReversed a b) (k entry : ℕ) (at : slice_get b.start_pattern k ≡ Some entry)
+module _ (a b : Automaton) (checked : IsChecked a) (reversed : IsReversed a b) (k entry : ℕ)
+    (at : slice_get b.start_pattern k ≡ Some entry)
     (h : List ℕ) (i j pattern : ℕ) (l : i ≤ j) (w : j ≤ length h) where
   pattern_turn :
-      IsTurn (truth (nfa_of a) (forward_tape h i j)) (truth (nfa_of b) (reverse_tape h i j)) (slice_get (forward_tape h i j).bytes)
+      IsTurn (truth (nfa_of a) (forward_tape h i j)) (truth (nfa_of b) (reverse_tape h i j))
+      (slice_get (forward_tape h i j).bytes)
       (slice_get (reverse_tape h i j).bytes) (j - i)
   pattern_turn = tapes_turn (nfa_of a) (nfa_of b) h i j reversed.mirror.terminator reversed.mirror.reverse l w
 
   pattern_forth :
       ((path : List ℕ) × Accepts (nfa_of b) (reverse_tape h i j) entry (j - i) pattern path)
-      → (pattern ≡ k) × ((path : List ℕ) × Accepts (nfa_of a) (forward_tape h i j) a.start_anchored (j - i) pattern path)
+      → (pattern ≡ k)
+      × ((path : List ℕ) × Accepts (nfa_of a) (forward_tape h i j) a.start_anchored (j - i) pattern path)
   pattern_forth s = (forth.0, (path.0, (forth.1.0, path.1, forth.1.2)))
     where
       forth :
           (pattern ≡ k)
           × ((q : ℕ)
-          × HasWay (nfa_of a) (truth (nfa_of a) (forward_tape h i j)) (slice_get (forward_tape h i j).bytes) 0 a.start_anchored (j - i) q
+          × HasWay (nfa_of a) (truth (nfa_of a) (forward_tape h i j)) (slice_get (forward_tape h i j).bytes) 0
+          a.start_anchored (j - i) q
           × (accepts (nfa_of a) q ≡ Some pattern))
       forth =
           forth_part_of a b checked reversed
@@ -341,18 +357,22 @@ module _ (a b : Automaton) (checked : IsChecked a) (reversed : IsReversed a b) (
     where
       back :
           (z : ℕ)
-          × HasWay (nfa_of b) (truth (nfa_of b) (reverse_tape h i j)) (slice_get (reverse_tape h i j).bytes) 0 entry (j - i) z
+          × HasWay (nfa_of b) (truth (nfa_of b) (reverse_tape h i j)) (slice_get (reverse_tape h i j).bytes) 0 entry
+          (j - i) z
           × (accepts (nfa_of b) z ≡ Some pattern)
       back =
           back_entry_of a b checked reversed
           (truth (nfa_of a) (forward_tape h i j)) (truth (nfa_of b) (reverse_tape h i j))
           (slice_get (forward_tape h i j).bytes) (slice_get (reverse_tape h i j).bytes) (j - i)
           pattern_turn pattern entry (ap (λ v. slice_get b.start_pattern v) s.0 ∙ at)
-          (s.1.1.0, (s.1.0, path_way (nfa_of a) (forward_tape h i j) 0 [] a.start_anchored s.1.0 (j - i) s.1.1.0 s.1.1.1), s.1.1.2)
+          (s.1.1.0,
+          (s.1.0, path_way (nfa_of a) (forward_tape h i j) 0 [] a.start_anchored s.1.0 (j - i) s.1.1.0 s.1.1.1),
+          s.1.1.2)
 
       path : HasPath (nfa_of b) (reverse_tape h i j) 0 entry (j - i) back.0
       path = way_path (nfa_of b) (reverse_tape h i j) 0 entry back.1.0 (j - i) back.0 back.1.1
 
 pub mirror_patterns : (a b : Automaton) → IsChecked a → IsReversed a b → IsReversedByPattern a b
 mirror_patterns a b checked reversed k entry at h i j pattern l w =
-    (pattern_forth a b checked reversed k entry at h i j pattern l w, pattern_back a b checked reversed k entry at h i j pattern l w)
+    (pattern_forth a b checked reversed k entry at h i j pattern l w, pattern_back a b checked reversed k entry at h i j
+    pattern l w)

@@ -28,7 +28,8 @@ use Rattle.automata_base.proofs.Nfas.Mirrors.Graphs.{InAt, Stand, IsGraph, IsHel
 use Rattle.automata_base.proofs.Nfas.Mirrors.Graphs.{graph_states, graph_report}
 use Rattle.automata_base.proofs.Nfas.Mirrors.Helpers.{IsHelperState, copied_same}
 use Rattle.automata_base.proofs.Nfas.Mirrors.Leads.{kept_back, kept_match, leads_here, leads_on}
-use Rattle.automata_base.proofs.Nfas.Mirrors.Members.{ranged_is, ranged_length, arc_is_target, accept_same, in_map, of_map}
+use Rattle.automata_base.proofs.Nfas.Mirrors.Members.{ranged_is, ranged_length, arc_is_target, accept_same, in_map}
+use Rattle.automata_base.proofs.Nfas.Mirrors.Members.{of_map}
 use Rattle.automata_base.proofs.Nfas.Mirrors.Members.{nth_place, place_same, place_nth, map_distinct, target_has_arc}
 use Rattle.automata_base.proofs.Nfas.Mirrors.Members.{matches_are, are_matches, matches_distinct, head_at, heads_length}
 use Rattle.automata_base.proofs.Nfas.Mirrors.Members.{helper_at, same_helper}
@@ -85,7 +86,8 @@ module _ (a : Automaton) (turned : List State) (reached : List ℕ) (m : Nfa)
       (reached_roots Every a.states (a.start_anchored ∷ []) reached reach a.start_anchored (inl refl)) w.1
 
   route_leads :
-      (q : ℕ) (way : List ℕ) (z : ℕ) → LeadsTo (ranged_nfa a) a.start_anchored q → Route (targets_of Every a.states) q way z
+      (q : ℕ) (way : List ℕ) (z : ℕ) → LeadsTo (ranged_nfa a) a.start_anchored q
+      → Route (targets_of Every a.states) q way z
       → LeadsTo (ranged_nfa a) a.start_anchored z
   route_leads q [] z k w = subst (λ v. LeadsTo (ranged_nfa a) a.start_anchored v) w k
   route_leads q (r ∷ way) z k w =
@@ -96,7 +98,8 @@ module _ (a : Automaton) (turned : List State) (reached : List ℕ) (m : Nfa)
   leads q i =
       let h = (reach q).0 i in
       route_leads h.0 h.1 q
-      (subst (λ v. LeadsTo (ranged_nfa a) a.start_anchored v) (sym (root h.0 h.2)) (leads_here (ranged_nfa a) a.start_anchored)) h.3
+      (subst (λ v. LeadsTo (ranged_nfa a) a.start_anchored v) (sym (root h.0 h.2))
+      (leads_here (ranged_nfa a) a.start_anchored)) h.3
     where
       root : (r : ℕ) → In r (a.start_anchored ∷ []) → r ≡ a.start_anchored
       root r (inl e) = e
@@ -105,12 +108,16 @@ module _ (a : Automaton) (turned : List State) (reached : List ℕ) (m : Nfa)
   -- The part of one pattern.
   module _ (p entry base : ℕ) (items : List ℕ)
       (made : IsCopied m.nodes turned (matches_in a.states p reached) p entry base items) where
-    closed : (x q : ℕ) (s : State) → In x items → get_or turned x is.Fail ≡ s → In q (targets_at Every (node_of s)) → In q items
+    closed :
+        (x q : ℕ) (s : State) → In x items → get_or turned x is.Fail ≡ s → In q (targets_at Every (node_of s))
+        → In q items
     closed x q s i e k =
         reached_closed Every turned (matches_in a.states p reached) items made.reached x q i
         (subst (λ v. In q (targets_at Every v)) (sym (node_is turned x ∙ ap node_of e)) k)
 
-    copy_is : (x : ℕ) (s : State) → In x items → get_or turned x is.Fail ≡ s → node m (copy_of base items x) ≡ copied (copy_of base items) p s
+    copy_is :
+        (x : ℕ) (s : State) → In x items → get_or turned x is.Fail ≡ s
+        → node m (copy_of base items x) ≡ copied (copy_of base items) p s
     copy_is x s i e =
         ap node_or_fail (made.each (place_in items x) x (nth_place items x i)) ∙ ap (copied (copy_of base items) p) e
 
@@ -118,7 +125,8 @@ module _ (a : Automaton) (turned : List State) (reached : List ℕ) (m : Nfa)
     helper_is x h k =
         ap (λ z. get_or z x is.Fail) is_turned
         ∙ (ap (λ z. get_or (heads ++ t.helpers) z is.Fail) k.1
-        ∙ helper_at heads t.helpers (length t.lists) k.0 h (heads_length (length t.lists) t.helpers t.lists heads are) k.2)
+        ∙ helper_at heads t.helpers (length t.lists) k.0 h (heads_length (length t.lists) t.helpers t.lists heads are)
+        k.2)
 
     copy_same : (q r : ℕ) → In q items → In r items → copy_of base items q ≡ copy_of base items r → q ≡ r
     copy_same q r i j e = place_same items q r i j (cancel (place_in items q) (place_in items r) e)
@@ -206,13 +214,15 @@ module _ (a : Automaton) (turned : List State) (reached : List ℕ) (m : Nfa)
         absurd (subst (λ v. In r (targets_at Every (node_of v))) (helper_same x j g (is.Match 0) e i h.1) m)
 
     -- What a kept state's turned state is made of.
-    head_of : (k : ℕ) → k < length a.states → IsHead (length t.lists) t.helpers (list_at t.lists k) (get_or turned k is.Fail)
+    head_of :
+        (k : ℕ) → k < length a.states → IsHead (length t.lists) t.helpers (list_at t.lists k) (get_or turned k is.Fail)
     head_of k l =
         subst (IsHead (length t.lists) t.helpers (list_at t.lists k)) (sym (ap (λ z. get_or z k is.Fail) is_turned))
         (head_at (length t.lists) t.helpers t.lists heads t.helpers k are (omega (arith, l, whole)))
 
     sole : (k j : ℕ) → list_at t.lists k ≡ (length t.lists + j) ∷ [] → InAt t.lists k (length t.lists + j)
-    sole k j same = list_in t.lists k (length t.lists + j) (subst (λ z. In (length t.lists + j) z) (sym same) (inl refl))
+    sole k j same =
+        list_in t.lists k (length t.lists + j) (subst (λ z. In (length t.lists + j) z) (sym same) (inl refl))
 
     -- A member is a kept state, or a helper that is an alternate of one.
     abbrev Helps : ℕ → Type 0
@@ -234,7 +244,9 @@ module _ (a : Automaton) (turned : List State) (reached : List ℕ) (m : Nfa)
             from (inl j) = j
             from (inr b) = absurd b
 
-        by : (v : Vec ℕ Global) → get_or turned x is.Fail ≡ is.Union v → In r v.items → InAt t.lists x r → Turned x r → Good r
+        by :
+            (v : Vec ℕ Global) → get_or turned x is.Fail ≡ is.Union v → In r v.items → InAt t.lists x r → Turned x r
+            → Good r
         by v e j w (inl (s, Free, b, h)) = inl (subst Kept (sym h) (source_kept s Free x b kx))
         by v e j w (inl (s, Asks look, b, h)) = inr (x, kx, i, w, (v, e, j), (is.Look (flip look) s, h))
         by v e j w (inl (s, Reads lo hi, b, h)) = inr (x, kx, i, w, (v, e, j), (is.ByteRange lo hi s, h))
@@ -246,7 +258,8 @@ module _ (a : Automaton) (turned : List State) (reached : List ℕ) (m : Nfa)
             let w = list_in t.lists x r (subst (λ z. In r z) f j) in
             by v e j w (graph.sound x r w)
         go (inr (j, e, f)) =
-            inl (helper_goes x (length t.lists + j) j (get_or turned x is.Fail) kx (graph.sound x (length t.lists + j) (sole x j e)) refl f r m)
+            inl (helper_goes x (length t.lists + j) j (get_or turned x is.Fail) kx
+            (graph.sound x (length t.lists + j) (sole x j e)) refl f r m)
     good_step x r i (inr (k, kk, ik, w, v, (h, is_h))) m =
         inl (helper_goes k x is_h.0 h kk (graph.sound k x w) is_h.1 is_h.2 r
         (subst (λ z. In r (targets_at Every (node_of z))) (helper_is x h is_h) m))
@@ -278,13 +291,17 @@ module _ (a : Automaton) (turned : List State) (reached : List ℕ) (m : Nfa)
             first (inl e) = e
             first (inr b) = absurd b
 
-        by : (l : Label) (j : ℕ) → s < length a.states → x.0 ≡ length t.lists + j → slice_get t.helpers j ≡ Some (get_or turned k is.Fail)
+        by :
+            (l : Label) (j : ℕ) → s < length a.states → x.0 ≡ length t.lists + j
+            → slice_get t.helpers j ≡ Some (get_or turned k is.Fail)
             → Stand t x.0 l s → In s items
         by Free j small e f w = absurd (omega (arith, small, e, w, whole))
         by (Asks look) j small e f w =
-            closed k s (is.Look (flip look) s) ik (helper_same x.0 j (get_or turned k is.Fail) (is.Look (flip look) s) e f w) (inl refl)
+            closed k s (is.Look (flip look) s) ik
+            (helper_same x.0 j (get_or turned k is.Fail) (is.Look (flip look) s) e f w) (inl refl)
         by (Reads lo hi) j small e f w =
-            closed k s (is.ByteRange lo hi s) ik (helper_same x.0 j (get_or turned k is.Fail) (is.ByteRange lo hi s) e f w) (inl refl)
+            closed k s (is.ByteRange lo hi s) ik
+            (helper_same x.0 j (get_or turned k is.Fail) (is.ByteRange lo hi s) e f w) (inl refl)
 
         go : IsHead (length t.lists) t.helpers (list_at t.lists k) (get_or turned k is.Fail) → In s items
         go (inl (v, e, f)) =
@@ -320,12 +337,15 @@ module _ (a : Automaton) (turned : List State) (reached : List ℕ) (m : Nfa)
     abbrev Form : ℕ → Type 0
     Form y =
         ((v : Vec ℕ Global) × (get_or turned y is.Fail ≡ is.Union v))
-        ⊎ ((j : ℕ) × (h : State) × (slice_get t.helpers j ≡ Some h) × (get_or turned y is.Fail ≡ h) × IsHelperState h × Sole y j)
+        ⊎ ((j : ℕ) × (h : State) × (slice_get t.helpers j ≡ Some h) × (get_or turned y is.Fail ≡ h) × IsHelperState h
+        × Sole y j)
 
     form : (k y : ℕ) → InAt t.lists k y → Form y
     form k y w = go (graph.sound k y w)
       where
-        by : y < length a.states → IsHead (length t.lists) t.helpers (list_at t.lists y) (get_or turned y is.Fail) → Form y
+        by :
+            y < length a.states → IsHead (length t.lists) t.helpers (list_at t.lists y) (get_or turned y is.Fail)
+            → Form y
         by l (inl (v, e, f)) = inl (v, e)
         by l (inr (j, e, f)) =
             inr (
@@ -333,7 +353,8 @@ module _ (a : Automaton) (turned : List State) (reached : List ℕ) (m : Nfa)
               get_or turned y is.Fail,
               f,
               refl,
-              helper_plain y (length t.lists + j) j (get_or turned y is.Fail) (graph.sound y (length t.lists + j) (sole y j e)) refl f,
+              helper_plain y (length t.lists + j) j (get_or turned y is.Fail)
+              (graph.sound y (length t.lists + j) (sole y j e)) refl f,
               inr (l, e),
             )
 
@@ -357,7 +378,8 @@ module _ (a : Automaton) (turned : List State) (reached : List ℕ) (m : Nfa)
         one (subst (λ z. In y z) f (at_list t.lists y y (subst (λ v. InAt t.lists v y) same iy)))
       where
         same : k ≡ y
-        same = once.owned k y (length t.lists + j) (omega (arith, whole)) (subst (λ v. InAt t.lists k v) e ix) (sole y j f)
+        same =
+            once.owned k y (length t.lists + j) (omega (arith, whole)) (subst (λ v. InAt t.lists k v) e ix) (sole y j f)
 
         one : In y ((length t.lists + j) ∷ []) → ⊥
         one (inl g) = omega (arith, g, small, whole)
@@ -373,10 +395,13 @@ module _ (a : Automaton) (turned : List State) (reached : List ℕ) (m : Nfa)
     -- Alternates that do the same are one.
     one_alternate :
         (k x y : ℕ) → InAt t.lists k x → InAt t.lists k y → In x items → In y items
-        → node m (copy_of base items x) ≡ node m (copy_of base items y) → IsUnion (node m (copy_of base items x)) ⊎ (x ≡ y)
+        → node m (copy_of base items x) ≡ node m (copy_of base items y) → IsUnion (node m (copy_of base items x))
+        ⊎ (x ≡ y)
     one_alternate k x y ix iy mx my same = go (form k x ix) (form k y iy)
       where
-        union : (z : ℕ) → In z items → (v : Vec ℕ Global) → get_or turned z is.Fail ≡ is.Union v → IsUnion (node m (copy_of base items z))
+        union :
+            (z : ℕ) → In z items → (v : Vec ℕ Global) → get_or turned z is.Fail ≡ is.Union v
+            → IsUnion (node m (copy_of base items z))
         union z i v e = subst IsUnion (sym (copy_is z (is.Union v) i e)) tt
 
         go : Form x → Form y → IsUnion (node m (copy_of base items x)) ⊎ (x ≡ y)
@@ -384,13 +409,15 @@ module _ (a : Automaton) (turned : List State) (reached : List ℕ) (m : Nfa)
         go (inr e) (inl (v, f)) = inl (subst IsUnion (sym same) (union y my v f))
         go (inr (i, g, gi, gx, gp, gs)) (inr (j, h, hj, hy, hp, hs)) =
             let alike =
-            copied_same (copy_of base items) p items g h gp hp copy_same (λ r n. closed x r g mx gx n) (λ r n. closed y r h my hy n)
+            copied_same (copy_of base items) p items g h gp hp copy_same (λ r n. closed x r g mx gx n)
+            (λ r n. closed y r h my hy n)
             (sym (copy_is x g mx gx) ∙ (same ∙ copy_is y h my hy)) in
             let k' : i ≡ j = once.helpers i j h (gi ∙ ap Some alike) hj in
             inr (one_place k x y j ix iy (subst (λ v. Sole x v) k' gs) hs)
 
     -- A state whose alternates are a union.
-    union_at : (k : ℕ) → Kept k → (v : Vec ℕ Global) → get_or turned k is.Fail ≡ is.Union v → v.items ≡ list_at t.lists k
+    union_at :
+        (k : ℕ) → Kept k → (v : Vec ℕ Global) → get_or turned k is.Fail ≡ is.Union v → v.items ≡ list_at t.lists k
         → At k (map (copy_of base items) v.items)
     union_at k kk v union same = record {
       stands = inl (copy_is k (is.Union v) kept union);
@@ -400,7 +427,8 @@ module _ (a : Automaton) (turned : List State) (reached : List ℕ) (m : Nfa)
       distinct =
           map_distinct (copy_of base items) v.items (λ x y i j. copy_same x y (member x i) (member y j))
           (subst (λ z. Distinct z) (sym same) (once.lists k));
-      once = λ x y i j e. alike x y (of_map (copy_of base items) v.items x i) (of_map (copy_of base items) v.items y j) e;
+      once =
+          λ x y i j e. alike x y (of_map (copy_of base items) v.items x i) (of_map (copy_of base items) v.items y j) e;
     }
       where
         kept : In k items
@@ -449,7 +477,8 @@ module _ (a : Automaton) (turned : List State) (reached : List ℕ) (m : Nfa)
             )
 
         alike :
-            (x y : ℕ) → (z : ℕ) × In z v.items × (x ≡ copy_of base items z) → (z : ℕ) × In z v.items × (y ≡ copy_of base items z)
+            (x y : ℕ) → (z : ℕ) × In z v.items × (x ≡ copy_of base items z) → (z : ℕ) × In z v.items
+            × (y ≡ copy_of base items z)
             → node m x ≡ node m y → IsUnion (node m x) ⊎ (x ≡ y)
         alike x y w u e =
             from
@@ -519,7 +548,8 @@ module _ (a : Automaton) (turned : List State) (reached : List ℕ) (m : Nfa)
               l,
               source_kept s l k (inr b) kk,
               is_arc s l k b.1,
-              subst (λ v. IsReversedArc m v l (copy_of base items s)) (sym e) (edge s l (source_inside s l k (inr b)) h).1,
+              subst (λ v. IsReversedArc m v l (copy_of base items s)) (sym e)
+              (edge s l (source_inside s l k (inr b)) h).1,
             )
         sound x e (inr h) = inr (h.0, ap (λ v. node m v) e ∙ copy_is k (is.Match 0) kept (is_helper (is.Match 0) h.1))
 
@@ -536,7 +566,8 @@ module _ (a : Automaton) (turned : List State) (reached : List ℕ) (m : Nfa)
         reported w = (
           copy_of base items k,
           inl refl,
-          copy_is k (is.Match 0) kept (is_helper (is.Match 0) (subst (λ v. IsHelper t v (is.Match 0)) (only w.0 w.1) w.2)),
+          copy_is k (is.Match 0) kept
+          (is_helper (is.Match 0) (subst (λ v. IsHelper t v (is.Match 0)) (only w.0 w.1) w.2)),
         )
 
     turned_at : (k : ℕ) → Kept k → (xs : List ℕ) × At k xs
@@ -614,18 +645,23 @@ module _ (a : Automaton) (turned : List State) (reached : List ℕ) (m : Nfa)
     terminator = terminator;
     reverse = reverse;
     roots =
-        ap node_or_fail (ap (λ z. slice_get z root) n ∙ (ap (λ z. slice_get (nodes ++ Split entries ∷ []) z) r ∙ nth_last nodes (Split entries)));
+        ap node_or_fail
+        (ap (λ z. slice_get z root) n
+        ∙ (ap (λ z. slice_get (nodes ++ Split entries ∷ []) z) r ∙ nth_last nodes (Split entries)));
     distinct = copies.distinct;
     place = λ p q. copy_of (part_at copies.parts p).base (part_at copies.parts p).items q;
-    parts = λ p entry e. part_is p entry (part_at copies.parts p).base (part_at copies.parts p).items (copied_at p entry e);
+    parts =
+        λ p entry e. part_is p entry (part_at copies.parts p).base (part_at copies.parts p).items (copied_at p entry e);
     only = λ x l. only x (ltb x (length nodes)) refl l;
   }
     where
       copied_at :
           (p entry : ℕ) → slice_get entries p ≡ Some entry
-          → IsCopied m.nodes turned (matches_in a.states p reached) p entry (part_at copies.parts p).base (part_at copies.parts p).items
+          → IsCopied m.nodes turned (matches_in a.states p reached) p entry (part_at copies.parts p).base
+          (part_at copies.parts p).items
       copied_at p entry e =
-          copied_more nodes m.nodes (Split entries ∷ []) turned (matches_in a.states p reached) p entry (part_at copies.parts p).base
+          copied_more nodes m.nodes (Split entries ∷ []) turned (matches_in a.states p reached) p entry
+          (part_at copies.parts p).base
           (part_at copies.parts p).items n (copies.each p entry e)
 
       long : length m.nodes ≡ length nodes + 1
@@ -643,12 +679,15 @@ module _ (a : Automaton) (turned : List State) (reached : List ℕ) (m : Nfa)
             w.0,
             w.1,
             w.2,
-            part_only w.0 w.1 (part_at copies.parts w.0).base (part_at copies.parts w.0).items (copied_at w.0 w.1 w.2) x w.3 w.4,
+            part_only w.0 w.1 (part_at copies.parts w.0).base (part_at copies.parts w.0).items (copied_at w.0 w.1 w.2) x
+            w.3 w.4,
           )
       only x false f l = let more = ltb-false x (length nodes) f in inl (omega (arith, more, l, long, r))
 
 -- The states that `NFA::from_states` accepts are in range, whatever the number.
-all_in_range : (n : ℕ) (states : List State) (q : ℕ) → states_below n states ≡ true → state_below n (get_or states q is.Fail) ≡ true
+all_in_range :
+    (n : ℕ) (states : List State) (q : ℕ) → states_below n states ≡ true
+    → state_below n (get_or states q is.Fail) ≡ true
 all_in_range n [] q b = refl
 all_in_range n (x ∷ xs) zero b = (and_parts (state_below n x) (states_below n xs) b).0
 all_in_range n (x ∷ xs) (suc q) b = all_in_range n xs q (and_parts (state_below n x) (states_below n xs) b).1
@@ -656,13 +695,15 @@ all_in_range n (x ∷ xs) (suc q) b = all_in_range n xs q (and_parts (state_belo
 pub turned_graph :
     (a : Automaton) (reached : List ℕ) (t : Turns)
     → states_below (length a.states) a.states ≡ true → a.start_anchored < length a.states
-    → t ≡ turn_by (turn_states (record { lists = no_lists (length a.states); helpers = [] }) a.states reached) (is.Match 0) a.start_anchored
+    → t ≡ turn_by (turn_states (record { lists = no_lists (length a.states); helpers = [] }) a.states reached)
+    (is.Match 0) a.start_anchored
     → IsGraph (Of (λ s l k. ⊥) a.states reached) (λ k. k ≡ a.start_anchored) (length a.states) t
 turned_graph a reached t below first e =
     subst (λ t. IsGraph (Of (λ s l k. ⊥) a.states reached) (λ k. k ≡ a.start_anchored) (length a.states) t) (sym e)
     (graph_report (Of (λ s l k. ⊥) a.states reached) (length a.states)
     (turn_states (record { lists = no_lists (length a.states); helpers = [] }) a.states reached) a.start_anchored first
-    (graph_states (λ k. ⊥) (length a.states) a.states reached (λ s l k. ⊥) (record { lists = no_lists (length a.states); helpers = [] })
+    (graph_states (λ k. ⊥) (length a.states) a.states reached (λ s l k. ⊥)
+    (record { lists = no_lists (length a.states); helpers = [] })
     (λ q. all_in_range (length a.states) a.states q below) (graph_none (length a.states))))
 
 pub made_reversed :
@@ -676,9 +717,11 @@ made_reversed a b checked below made utf8 reverse terminator one = record {
   utf8 = utf8;
   one_start = one;
   mirror =
-      mirror_is a made.turned made.reached (nfa_of b) checked made.reach made.distinct made.turns.0 made.turns.1.0 made.turns.1.1 made.turns.1.2
+      mirror_is a made.turned made.reached (nfa_of b) checked made.reach made.distinct made.turns.0 made.turns.1.0
+      made.turns.1.1 made.turns.1.2
       (turned_graph a made.reached made.turns.0 below checked.anchored made.turns.2)
-      (turned_once a.states made.reached a.start_anchored made.turns.0 (λ q. ordered_at a.states q checked.ordered) made.distinct
+      (turned_once a.states made.reached a.start_anchored made.turns.0 (λ q. ordered_at a.states q checked.ordered)
+      made.distinct
       made.below made.turns.2)
       b.start_pattern b.start_anchored made.nodes terminator reverse made.whole made.starts made.copies;
 }

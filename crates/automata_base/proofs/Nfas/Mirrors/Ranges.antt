@@ -21,25 +21,34 @@ use Rattle.std.proofs.lemmas.Bool.{and_parts}
 use Rattle.automata_base.proofs.Powersets.Belows.{all_below_from}
 
 -- The helpers lead to states.
-states_last : (n : ℕ) (xs : List State) (x : State) → states_below n xs ≡ true → state_below n x ≡ true → states_below n (xs ++ x ∷ []) ≡ true
+states_last :
+    (n : ℕ) (xs : List State) (x : State) → states_below n xs ≡ true → state_below n x ≡ true
+    → states_below n (xs ++ x ∷ []) ≡ true
 states_last n [] x b c = ap (λ v. v && true) c
 states_last n (y ∷ ys) x b c =
     let w = and_parts (state_below n y) (states_below n ys) b in
     ap (λ v. v && states_below n (ys ++ x ∷ [])) w.0 ∙ states_last n ys x w.1 c
 
 module _ (n from : ℕ) (l : from < n) where
-  helpers_all : (xs : List ℕ) (t : Turns) → states_below n t.helpers ≡ true → states_below n (turn_all t from xs).helpers ≡ true
+  helpers_all :
+      (xs : List ℕ) (t : Turns) → states_below n t.helpers ≡ true → states_below n (turn_all t from xs).helpers ≡ true
   helpers_all [] t b = b
   helpers_all (x ∷ xs) t b = helpers_all xs (record { lists = _; helpers = t.helpers }) b
 
-  range_on : (t : Turns) (lo hi to : ℕ) → states_below n t.helpers ≡ true → states_below n (turn_by t (is.ByteRange lo hi from) to).helpers ≡ true
+  range_on :
+      (t : Turns) (lo hi to : ℕ) → states_below n t.helpers ≡ true
+      → states_below n (turn_by t (is.ByteRange lo hi from) to).helpers ≡ true
   range_on t lo hi to b = states_last n t.helpers (is.ByteRange lo hi from) b (lt-ltb from n l)
 
-  helpers_ranges : (ts : List Transition) (t : Turns) → states_below n t.helpers ≡ true → states_below n (turn_ranges t from ts).helpers ≡ true
+  helpers_ranges :
+      (ts : List Transition) (t : Turns) → states_below n t.helpers ≡ true
+      → states_below n (turn_ranges t from ts).helpers ≡ true
   helpers_ranges [] t b = b
-  helpers_ranges (r ∷ rs) t b = helpers_ranges rs (turn_by t (is.ByteRange r.lo r.hi from) r.next) (range_on t r.lo r.hi r.next b)
+  helpers_ranges (r ∷ rs) t b =
+      helpers_ranges rs (turn_by t (is.ByteRange r.lo r.hi from) r.next) (range_on t r.lo r.hi r.next b)
 
-  helpers_state : (s : State) (t : Turns) → states_below n t.helpers ≡ true → states_below n (turn_state t from s).helpers ≡ true
+  helpers_state :
+      (s : State) (t : Turns) → states_below n t.helpers ≡ true → states_below n (turn_state t from s).helpers ≡ true
   helpers_state (is.ByteRange lo hi next) t b = range_on t lo hi next b
   helpers_state (is.Sparse ts) t b = helpers_ranges ts.items t b
   helpers_state (is.Dense targets) t b = helpers_ranges (runs_from 0 0 targets.value) t b
@@ -51,19 +60,23 @@ module _ (n from : ℕ) (l : from < n) where
   helpers_state (is.Match pattern) t b = b
 
 helpers_states :
-    (n : ℕ) (states : List State) (ids : List ℕ) (t : Turns) → ((q : ℕ) → In q ids → q < n) → states_below n t.helpers ≡ true
+    (n : ℕ) (states : List State) (ids : List ℕ) (t : Turns) → ((q : ℕ) → In q ids → q < n)
+    → states_below n t.helpers ≡ true
     → states_below n (turn_states t states ids).helpers ≡ true
 helpers_states n states [] t f b = b
 helpers_states n states (q ∷ qs) t f b =
     helpers_states n states qs (turn_state t q (get_or states q is.Fail)) (λ r i. f r (inr i))
     (helpers_state n q (f q (inl refl)) (get_or states q is.Fail) t b)
 
-nth_below : (n : ℕ) (hs : List State) (j : ℕ) (h : State) → states_below n hs ≡ true → slice_get hs j ≡ Some h → state_below n h ≡ true
+nth_below :
+    (n : ℕ) (hs : List State) (j : ℕ) (h : State) → states_below n hs ≡ true → slice_get hs j ≡ Some h
+    → state_below n h ≡ true
 nth_below n [] j h b e = absurd (no e)
   where
     no : ◌≡◌ {A = Option State} None (Some h) → ⊥
     no e = cc
-nth_below n (x ∷ xs) zero h b e = ap (state_below n) (sym (one e)) ∙ (and_parts (state_below n x) (states_below n xs) b).0
+nth_below n (x ∷ xs) zero h b e =
+    ap (state_below n) (sym (one e)) ∙ (and_parts (state_below n x) (states_below n xs) b).0
   where
     one : ◌≡◌ {A = Option State} (Some x) (Some h) → x ≡ h
     one e = cc
@@ -77,7 +90,8 @@ heads_below n m hs more [] [] a f b c = c
 heads_below n m hs more [] (s ∷ ss) a f b c = absurd a
 heads_below n m hs more (xs ∷ rest) [] a f b c = absurd a
 heads_below n m hs more (xs ∷ rest) (s ∷ ss) a f b c =
-    ap (λ v. v && states_below n (ss ++ more)) (one a.0) ∙ heads_below n m hs more rest ss a.1 (λ k x i. f (suc k) x i) b c
+    ap (λ v. v && states_below n (ss ++ more)) (one a.0)
+    ∙ heads_below n m hs more rest ss a.1 (λ k x i. f (suc k) x i) b c
   where
     one : IsHead m hs xs s → state_below n s ≡ true
     one (inl (v, e, g)) =
@@ -93,7 +107,8 @@ nth_inside (x ∷ xs) zero a e = omega arith
 nth_inside (x ∷ xs) (suc j) a e = let k = nth_inside xs j a e in omega (arith, k)
 
 -- What is turned is in range, and has no fewer states.
-module _ (a : Automaton) (turned : List State) (reached : List ℕ) (below : states_below (length a.states) a.states ≡ true)
+module _ (a : Automaton) (turned : List State) (reached : List ℕ)
+    (below : states_below (length a.states) a.states ≡ true)
     (first : a.start_anchored < length a.states) (small : all_below (length a.states) reached ≡ true)
     (are : AreTurned a.states reached a.start_anchored turned) where
   graph : IsGraph (Of (λ s l k. ⊥) a.states reached) (λ k. k ≡ a.start_anchored) (length a.states) are.0
@@ -106,7 +121,8 @@ module _ (a : Automaton) (turned : List State) (reached : List ℕ) (below : sta
   long =
       ap (λ xs. length xs) are.1.1
       ∙ (length-append are.1.0 are.0.helpers
-      ∙ ap (λ n. n + length are.0.helpers) (heads_length (length are.0.lists) are.0.helpers are.0.lists are.1.0 heads_are))
+      ∙ ap (λ n. n + length are.0.helpers)
+      (heads_length (length are.0.lists) are.0.helpers are.0.lists are.1.0 heads_are))
 
   pub turned_whole : length a.states ≤ length turned
   turned_whole = let w = graph.whole in omega (arith, long, w)
@@ -136,16 +152,20 @@ module _ (a : Automaton) (turned : List State) (reached : List ℕ) (below : sta
   helpers_are : states_below (length turned) are.0.helpers ≡ true
   helpers_are =
       ap (λ (t : Turns). states_below (length turned) t.helpers) are.2
-      ∙ states_last (length turned) (turn_states (record { lists = no_lists (length a.states); helpers = [] }) a.states reached).helpers (is.Match 0)
-      (helpers_states (length turned) a.states reached (record { lists = no_lists (length a.states); helpers = [] }) id_in refl) refl
+      ∙ states_last (length turned)
+      (turn_states (record { lists = no_lists (length a.states); helpers = [] }) a.states reached).helpers (is.Match 0)
+      (helpers_states (length turned) a.states reached (record { lists = no_lists (length a.states); helpers = [] })
+      id_in refl) refl
 
   pub turned_below : states_below (length turned) turned ≡ true
   turned_below =
       ap (states_below (length turned)) are.1.1
-      ∙ heads_below (length turned) (length are.0.lists) are.0.helpers are.0.helpers are.0.lists are.1.0 heads_are inside helpers_are helpers_are
+      ∙ heads_below (length turned) (length are.0.lists) are.0.helpers are.0.helpers are.0.lists are.1.0 heads_are
+      inside helpers_are helpers_are
 
 -- The same of states alone.
-module _ (states turned : List State) (reached : List ℕ) (first : ℕ) (below : states_below (length states) states ≡ true)
+module _ (states turned : List State) (reached : List ℕ) (first : ℕ)
+    (below : states_below (length states) states ≡ true)
     (inside : first < length states) (small : all_below (length states) reached ≡ true)
     (are : AreTurned states reached first turned) where
   pub states_whole : length states ≤ length turned

@@ -56,7 +56,8 @@ runs_take :
     ≡ cond (leb lo u && ltb u byte) (led xs) (takes_in (dense_from byte xs) u)
 runs_take [] lo byte u l = sym (none_or (leb lo u && ltb u byte) None (λ e. refl))
 runs_take (x ∷ xs) lo byte u l =
-    go (starts_with x xs) refl (runs_take xs lo (suc byte) u (omega (arith, l))) (runs_take xs (suc byte) (suc byte) u (omega arith))
+    go (starts_with x xs) refl (runs_take xs lo (suc byte) u (omega (arith, l)))
+    (runs_take xs (suc byte) (suc byte) u (omega arith))
   where
     d : Option ℕ
     d = takes_in (dense_from (suc byte) xs) u
@@ -91,7 +92,8 @@ runs_take (x ∷ xs) lo byte u l =
         ≡ cond (leb lo u && ltb u (suc byte)) (led xs) (takes_in (dense_from (suc byte) xs) u)
         → takes_in (ranges_of (runs_from (suc byte) (suc byte) xs)) u
         ≡ cond (leb (suc byte) u && ltb u (suc byte)) (led xs) (takes_in (dense_from (suc byte) xs) u)
-        → takes_in (ranges_of (cond b (runs_from lo (suc byte) xs) (run_of lo byte x ++ runs_from (suc byte) (suc byte) xs))) u
+        → takes_in
+        (ranges_of (cond b (runs_from lo (suc byte) xs) (run_of lo byte x ++ runs_from (suc byte) (suc byte) xs))) u
         ≡ cond (leb lo u && ltb u byte) (led (x ∷ xs)) (takes_in (dense_from byte (x ∷ xs)) u)
     go true s ih ih' =
         let h = head_is x xs s in
@@ -107,7 +109,8 @@ dense_takes xs u = runs_take xs 0 0 u (omega arith) ∙ ap (λ b. cond b (led xs
 
 -- The ranges are in order.
 run_ordered :
-    (low lo hi x : ℕ) (ts : List Transition) → low ≤ lo → lo ≤ hi → ordered_from (hi + 1) ts ≡ true → ordered_from low ts ≡ true
+    (low lo hi x : ℕ) (ts : List Transition) → low ≤ lo → lo ≤ hi → ordered_from (hi + 1) ts ≡ true
+    → ordered_from low ts ≡ true
     → ordered_from low (run_of lo hi x ++ ts) ≡ true
 run_ordered low lo hi zero ts a b o p = p
 run_ordered low lo hi (suc k) ts a b o p =
@@ -126,7 +129,8 @@ runs_ordered (x ∷ xs) low lo byte a b =
         (s : Bool) → ordered_from low (runs_from lo (suc byte) xs) ≡ true
         → ordered_from (byte + 1) (runs_from (suc byte) (suc byte) xs) ≡ true
         → ordered_from low (runs_from (suc byte) (suc byte) xs) ≡ true
-        → ordered_from low (cond s (runs_from lo (suc byte) xs) (run_of lo byte x ++ runs_from (suc byte) (suc byte) xs)) ≡ true
+        → ordered_from low
+        (cond s (runs_from lo (suc byte) xs) (run_of lo byte x ++ runs_from (suc byte) (suc byte) xs)) ≡ true
     go true p q r = p
     go false p q r = run_ordered low lo byte x (runs_from (suc byte) (suc byte) xs) a b q r
 
@@ -149,7 +153,8 @@ runs_below n (x ∷ xs) lo byte h =
     go :
         (s : Bool) → transitions_below n (runs_from lo (suc byte) xs) ≡ true
         → transitions_below n (run_of lo byte x ++ runs_from (suc byte) (suc byte) xs) ≡ true
-        → transitions_below n (cond s (runs_from lo (suc byte) xs) (run_of lo byte x ++ runs_from (suc byte) (suc byte) xs)) ≡ true
+        → transitions_below n
+        (cond s (runs_from lo (suc byte) xs) (run_of lo byte x ++ runs_from (suc byte) (suc byte) xs)) ≡ true
     go true p q = p
     go false p q = q
 
@@ -164,8 +169,10 @@ runs_next (x ∷ xs) lo byte r i =
     later (suc k) j = inr j
 
     one :
-        (x : ℕ) → (In r (nexts (ranges_of (runs_from (suc byte) (suc byte) xs))) → In r (nexts (dense_from (suc byte) xs)))
-        → In r (nexts (ranges_of (run_of lo byte x ++ runs_from (suc byte) (suc byte) xs))) → In r (nexts (dense_from byte (x ∷ xs)))
+        (x : ℕ) → (In r (nexts (ranges_of (runs_from (suc byte) (suc byte) xs)))
+        → In r (nexts (dense_from (suc byte) xs)))
+        → In r (nexts (ranges_of (run_of lo byte x ++ runs_from (suc byte) (suc byte) xs)))
+        → In r (nexts (dense_from byte (x ∷ xs)))
     one zero ih j = ih j
     one (suc k) ih (inl e) = inl e
     one (suc k) ih (inr j) = inr (ih j)
@@ -173,7 +180,8 @@ runs_next (x ∷ xs) lo byte r i =
     go :
         (s : Bool) → (In r (nexts (ranges_of (runs_from lo (suc byte) xs))) → In r (nexts (dense_from (suc byte) xs)))
         → (In r (nexts (ranges_of (runs_from (suc byte) (suc byte) xs))) → In r (nexts (dense_from (suc byte) xs)))
-        → In r (nexts (ranges_of (cond s (runs_from lo (suc byte) xs) (run_of lo byte x ++ runs_from (suc byte) (suc byte) xs))))
+        → In r (nexts
+        (ranges_of (cond s (runs_from lo (suc byte) xs) (run_of lo byte x ++ runs_from (suc byte) (suc byte) xs))))
         → In r (nexts (dense_from byte (x ∷ xs)))
     go true f g i = later x (f i)
     go false f g i = one x g i
@@ -185,7 +193,9 @@ next_runs [] lo byte r i = i
 next_runs (x ∷ xs) lo byte r i =
     go (starts_with x xs) refl (next_runs xs lo (suc byte) r) (next_runs xs (suc byte) (suc byte) r)
   where
-    later : (x : ℕ) → starts_with x xs ≡ true → In r (nexts (dense_from byte (x ∷ xs))) → In r (nexts (dense_from (suc byte) xs))
+    later :
+        (x : ℕ) → starts_with x xs ≡ true → In r (nexts (dense_from byte (x ∷ xs)))
+        → In r (nexts (dense_from (suc byte) xs))
     later zero s j = j
     later (suc k) s (inl e) =
         let h = head_is (suc k) xs s in
@@ -193,8 +203,10 @@ next_runs (x ∷ xs) lo byte r i =
     later (suc k) s (inr j) = j
 
     one :
-        (x : ℕ) → (In r (nexts (dense_from (suc byte) xs)) → In r (nexts (ranges_of (runs_from (suc byte) (suc byte) xs))))
-        → In r (nexts (dense_from byte (x ∷ xs))) → In r (nexts (ranges_of (run_of lo byte x ++ runs_from (suc byte) (suc byte) xs)))
+        (x : ℕ) → (In r (nexts (dense_from (suc byte) xs))
+        → In r (nexts (ranges_of (runs_from (suc byte) (suc byte) xs))))
+        → In r (nexts (dense_from byte (x ∷ xs)))
+        → In r (nexts (ranges_of (run_of lo byte x ++ runs_from (suc byte) (suc byte) xs)))
     one zero ih j = ih j
     one (suc k) ih (inl e) = inl e
     one (suc k) ih (inr j) = inr (ih j)
@@ -203,6 +215,7 @@ next_runs (x ∷ xs) lo byte r i =
         (s : Bool) → starts_with x xs ≡ s
         → (In r (nexts (dense_from (suc byte) xs)) → In r (nexts (ranges_of (runs_from lo (suc byte) xs))))
         → (In r (nexts (dense_from (suc byte) xs)) → In r (nexts (ranges_of (runs_from (suc byte) (suc byte) xs))))
-        → In r (nexts (ranges_of (cond s (runs_from lo (suc byte) xs) (run_of lo byte x ++ runs_from (suc byte) (suc byte) xs))))
+        → In r (nexts
+        (ranges_of (cond s (runs_from lo (suc byte) xs) (run_of lo byte x ++ runs_from (suc byte) (suc byte) xs))))
     go true e f g = f (later x e i)
     go false e f g = one x g i

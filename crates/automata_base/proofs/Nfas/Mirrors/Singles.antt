@@ -1,6 +1,7 @@
 -- Each edge is turned once: no alternate and no helper repeats.
 use Rattle.std.proofs.Common.{ℕ, zero, suc, ◌≡◌, ◌<◌, ◌≤◌, ◌+◌, ◌⊎◌, Bool, true, false, cond, leb, List, [], ◌∷◌}
-use Rattle.std.proofs.Common.{◌++◌, ◌&&◌, length, length-append, get_or, Option, Some, None, inl, inr, refl, sym, ap, ◌∙◌, subst, arith}
+use Rattle.std.proofs.Common.{◌++◌, ◌&&◌, length, length-append, get_or, Option, Some, None, inl, inr, refl, sym, ap}
+use Rattle.std.proofs.Common.{◌∙◌, subst, arith}
 use Rattle.std.proofs.lemmas.Bool.{and_parts, leb-true}
 use Rattle.std.specs.Prelude.{slice_get}
 use Rattle.automata_base.specs.declared.nfa.thompson.State.{State}
@@ -10,7 +11,8 @@ use Rattle.automata_base.specs.Lists.{In, Distinct}
 use Rattle.automata_base.specs.Nfas.Mirrors.{flip}
 use Rattle.automata_base.specs.Nfas.Errors.{ordered_from, state_ordered}
 use Rattle.automata_base.specs.Retraced.DenseRuns.{runs_from}
-use Rattle.automata_base.specs.Retraced.ReversedEdges.{Turns, no_lists, list_at, ends_in, push_at, put_at, turn_free, turn_by}
+use Rattle.automata_base.specs.Retraced.ReversedEdges.{Turns, no_lists, list_at, ends_in, push_at, put_at, turn_free}
+use Rattle.automata_base.specs.Retraced.ReversedEdges.{turn_by}
 use Rattle.automata_base.specs.Retraced.ReversedEdges.{turn_all, turn_ranges, turn_state, turn_states}
 use Rattle.automata_base.proofs.Nfas.Mirrors.Copies.{distinct_last}
 use Rattle.automata_base.proofs.Nfas.Mirrors.Graphs.{InAt, in_push, in_put}
@@ -69,7 +71,9 @@ state_either [] a (suc k) x e = absurd (no e)
 state_either (y ∷ ys) a zero x e = inl e
 state_either (y ∷ ys) a (suc k) x e = go (state_either ys a k x e)
   where
-    go : (slice_get ys k ≡ Some x) ⊎ ((k ≡ length ys) × (a ≡ x)) → (slice_get ys k ≡ Some x) ⊎ ((suc k ≡ suc (length ys)) × (a ≡ x))
+    go :
+        (slice_get ys k ≡ Some x) ⊎ ((k ≡ length ys) × (a ≡ x)) → (slice_get ys k ≡ Some x)
+        ⊎ ((suc k ≡ suc (length ys)) × (a ≡ x))
     go (inl h) = inl h
     go (inr h) = inr (ap suc h.0, h.1)
 
@@ -108,14 +112,18 @@ step_once n t g to absent w = record {
   owned = λ k l x b i j.
       owned k l x b (in_push t.lists to (length t.lists + length t.helpers) k x i)
       (in_push t.lists to (length t.lists + length t.helpers) l x j);
-  lists = λ k. push_distinct t.lists to (length t.lists + length t.helpers) k w.lists (λ i. fresh to (length t.lists + length t.helpers) i refl);
+  lists =
+      λ k. push_distinct t.lists to (length t.lists + length t.helpers) k w.lists
+      (λ i. fresh to (length t.lists + length t.helpers) i refl);
   helpers = λ i j h e f. helpers i j h (state_either t.helpers g i h e) (state_either t.helpers g j h f);
 }
   where
     long : length (t.helpers ++ g ∷ []) ≡ length t.helpers + 1
     long = length-append t.helpers (g ∷ [])
 
-    below : (k x : ℕ) → InAt t.lists k x ⊎ ((k ≡ to) × (x ≡ length t.lists + length t.helpers)) → x < n + length (t.helpers ++ g ∷ [])
+    below :
+        (k x : ℕ) → InAt t.lists k x ⊎ ((k ≡ to) × (x ≡ length t.lists + length t.helpers))
+        → x < n + length (t.helpers ++ g ∷ [])
     below k x (inl i) = let l = w.below k x i in omega (arith, l, long)
     below k x (inr e) = let l = w.whole in omega (arith, e.1, l, long)
 
@@ -177,7 +185,8 @@ module _ (new : ℕ → Type 0) (n from : ℕ) (known : new from → ⊥) (small
       below k x (inr e) = omega (arith, e.1, small)
 
       owned :
-          (k l x : ℕ) → n ≤ x → InAt t.lists k x ⊎ ((k ≡ to) × (x ≡ from)) → InAt t.lists l x ⊎ ((l ≡ to) × (x ≡ from)) → k ≡ l
+          (k l x : ℕ) → n ≤ x → InAt t.lists k x ⊎ ((k ≡ to) × (x ≡ from)) → InAt t.lists l x ⊎ ((l ≡ to) × (x ≡ from))
+          → k ≡ l
       owned k l x b (inl i) (inl j) = w.once.owned k l x b i j
       owned k l x b (inl i) (inr f) = absurd (omega (arith, b, f.1, small))
       owned k l x b (inr e) j = absurd (omega (arith, b, e.1, small))
@@ -245,7 +254,8 @@ module _ (new : ℕ → Type 0) (n from : ℕ) (known : new from → ⊥) (small
   state_once (is.Match pattern) t o none free w = w
 
 states_once :
-    (n : ℕ) (states : List State) (ids : List ℕ) (t : Turns) → ((q : ℕ) → state_ordered (get_or states q is.Fail) ≡ true)
+    (n : ℕ) (states : List State) (ids : List ℕ) (t : Turns)
+    → ((q : ℕ) → state_ordered (get_or states q is.Fail) ≡ true)
     → Distinct ids → ((q : ℕ) → In q ids → q < n) → IsNew (λ q. In q ids) n t
     → IsNew (λ q. ⊥) n (turn_states t states ids)
 states_once n states [] t o d l w = w
@@ -265,12 +275,15 @@ states_once n states (q ∷ qs) t o d l w =
 
 pub turned_once :
     (states : List State) (reached : List ℕ) (first : ℕ) (t : Turns)
-    → ((q : ℕ) → state_ordered (get_or states q is.Fail) ≡ true) → Distinct reached → ((q : ℕ) → In q reached → q < length states)
-    → t ≡ turn_by (turn_states (record { lists = no_lists (length states); helpers = [] }) states reached) (is.Match 0) first
+    → ((q : ℕ) → state_ordered (get_or states q is.Fail) ≡ true) → Distinct reached
+    → ((q : ℕ) → In q reached → q < length states)
+    → t ≡ turn_by (turn_states (record { lists = no_lists (length states); helpers = [] }) states reached) (is.Match 0)
+    first
     → IsOnce (length states) t
 turned_once states reached first t o d l e =
     subst (λ (t : Turns). IsOnce (length states) t) (sym e)
-    (step_once (length states) (turn_states (record { lists = no_lists (length states); helpers = [] }) states reached) (is.Match 0) first
+    (step_once (length states) (turn_states (record { lists = no_lists (length states); helpers = [] }) states reached)
+    (is.Match 0) first
     (λ j f. absurd (none_some (was.helpers j (is.Match 0) f).1)) was.once)
   where
     long : (n : ℕ) → length (no_lists n) ≡ n
@@ -290,9 +303,12 @@ turned_once states reached first t o d l e =
     absent : (j : ℕ) (h : State) → ◌≡◌ {A = Option State} None (Some h) → ⊥
     absent j h e = cc
 
-    was : IsNew (λ q. ⊥) (length states) (turn_states (record { lists = no_lists (length states); helpers = [] }) states reached)
+    was :
+        IsNew (λ q. ⊥) (length states)
+        (turn_states (record { lists = no_lists (length states); helpers = [] }) states reached)
     was =
-        states_once (length states) states reached (record { lists = no_lists (length states); helpers = [] }) o d l (record {
+        states_once (length states) states reached (record { lists = no_lists (length states); helpers = [] }) o d l
+        (record {
           once = record {
             whole = long (length states);
             below = λ k x i. absurd (none (length states) k x i);

@@ -1,5 +1,6 @@
 -- How many states and alternates what is turned has.
-use Rattle.std.proofs.Common.{ℕ, zero, suc, ◌≡◌, ◌<◌, ◌≤◌, ◌+◌, ◌^◌, ◌&&◌, Bool, true, false, cond, leb, List, [], ◌∷◌, ◌++◌, drop, length}
+use Rattle.std.proofs.Common.{ℕ, zero, suc, ◌≡◌, ◌<◌, ◌≤◌, ◌+◌, ◌^◌, ◌&&◌, Bool, true, false, cond, leb, List, [], ◌∷◌}
+use Rattle.std.proofs.Common.{◌++◌, drop, length}
 use Rattle.std.proofs.Common.{length-append, get_or, Option, Some, None, inl, inr, refl, sym, ap, ◌∙◌, subst, arith}
 use Rattle.std.specs.Prelude.{sum_by, slice_get}
 use Rattle.std.proofs.lemmas.List.Sums.{sum_by-cons, sum_by-append}
@@ -84,7 +85,8 @@ size_states t states [] = omega arith
 size_states t states (q ∷ qs) =
     let a = size_states (turn_state t q (get_or states q is.Fail)) states qs in
     let b = size_state t q (get_or states q is.Fail) in
-    let c : sum_at asking_edges states (q ∷ qs) ≡ asking_edges (get_or states q is.Fail) + sum_at asking_edges states qs =
+    let c : sum_at asking_edges states (q ∷ qs) ≡ asking_edges (get_or states q is.Fail)
+    + sum_at asking_edges states qs =
     sum_by-cons (λ q. asking_edges (get_or states q is.Fail)) q qs in
     omega (arith, a, b, c)
 
@@ -98,14 +100,17 @@ total_all t from (x ∷ xs) =
 total_by : (t : Turns) (h : State) (to : ℕ) → total (turn_by t h to).lists ≤ suc (total t.lists)
 total_by t h to = total_push t.lists to (length t.lists + length t.helpers)
 
-total_ranges : (t : Turns) (from : ℕ) (rs : List Transition) → total (turn_ranges t from rs).lists ≤ total t.lists + length rs
+total_ranges :
+    (t : Turns) (from : ℕ) (rs : List Transition) → total (turn_ranges t from rs).lists ≤ total t.lists + length rs
 total_ranges t from [] = omega arith
 total_ranges t from (r ∷ rs) =
     let a = total_ranges (turn_by t (is.ByteRange r.lo r.hi from) r.next) from rs in
     let b = total_by t (is.ByteRange r.lo r.hi from) r.next in
     omega (arith, a, b)
 
-total_state : (t : Turns) (from : ℕ) (s : State) → total (turn_state t from s).lists ≤ total t.lists + (asking_edges s + free_edges s)
+total_state :
+    (t : Turns) (from : ℕ) (s : State)
+    → total (turn_state t from s).lists ≤ total t.lists + (asking_edges s + free_edges s)
 total_state t from (is.ByteRange lo hi next) = let a = total_by t (is.ByteRange lo hi from) next in omega (arith, a)
 total_state t from (is.Sparse ts) = let a = total_ranges t from ts.items in omega (arith, a)
 total_state t from (is.Dense targets) = let a = total_ranges t from (runs_from 0 0 targets.value) in omega (arith, a)
@@ -118,12 +123,14 @@ total_state t from (is.Match pattern) = omega arith
 
 total_states :
     (t : Turns) (states : List State) (ids : List ℕ)
-    → total (turn_states t states ids).lists ≤ total t.lists + (sum_at asking_edges states ids + sum_at free_edges states ids)
+    → total (turn_states t states ids).lists ≤ total t.lists
+    + (sum_at asking_edges states ids + sum_at free_edges states ids)
 total_states t states [] = omega arith
 total_states t states (q ∷ qs) =
     let a = total_states (turn_state t q (get_or states q is.Fail)) states qs in
     let b = total_state t q (get_or states q is.Fail) in
-    let c : sum_at asking_edges states (q ∷ qs) ≡ asking_edges (get_or states q is.Fail) + sum_at asking_edges states qs =
+    let c : sum_at asking_edges states (q ∷ qs) ≡ asking_edges (get_or states q is.Fail)
+    + sum_at asking_edges states qs =
     sum_by-cons (λ q. asking_edges (get_or states q is.Fail)) q qs in
     let d : sum_at free_edges states (q ∷ qs) ≡ free_edges (get_or states q is.Fail) + sum_at free_edges states qs =
     sum_by-cons (λ q. free_edges (get_or states q is.Fail)) q qs in
@@ -163,7 +170,8 @@ module _ (from : ℕ) where
       helpers_ranges rs (r.hi + 1) (turn_by t (is.ByteRange r.lo r.hi from) r.next) k.1
       (helpers_more t.helpers (is.ByteRange r.lo r.hi from) a (refl, (and_parts (leb low r.lo) (leb r.lo r.hi) k.0).1))
 
-  helpers_state : (s : State) (t : Turns) → state_ordered s ≡ true → AreHelpers t.helpers → AreHelpers (turn_state t from s).helpers
+  helpers_state :
+      (s : State) (t : Turns) → state_ordered s ≡ true → AreHelpers t.helpers → AreHelpers (turn_state t from s).helpers
   helpers_state (is.ByteRange lo hi next) t o a = helpers_more t.helpers (is.ByteRange lo hi from) a (refl, o)
   helpers_state (is.Sparse ts) t o a = helpers_ranges ts.items 0 t o a
   helpers_state (is.Dense targets) t o a =
@@ -175,7 +183,8 @@ module _ (from : ℕ) where
   helpers_state is.Fail t o a = a
   helpers_state (is.Match pattern) t o a = a
 
-pub ordered_at : (states : List State) (q : ℕ) → states_ordered states ≡ true → state_ordered (get_or states q is.Fail) ≡ true
+pub ordered_at :
+    (states : List State) (q : ℕ) → states_ordered states ≡ true → state_ordered (get_or states q is.Fail) ≡ true
 ordered_at [] q o = refl
 ordered_at (x ∷ xs) zero o = (and_parts (state_ordered x) (states_ordered xs) o).0
 ordered_at (x ∷ xs) (suc q) o = ordered_at xs q (and_parts (state_ordered x) (states_ordered xs) o).1
@@ -191,7 +200,8 @@ helpers_states states (q ∷ qs) t o a =
 helpers_none : (hs : List State) → AreHelpers hs → sum_by alternates_of hs ≡ 0
 helpers_none [] a = refl
 helpers_none (h ∷ hs) a =
-    let c : sum_by alternates_of (h ∷ hs) ≡ alternates_of h + sum_by alternates_of hs = sum_by-cons alternates_of h hs in
+    let c : sum_by alternates_of (h ∷ hs) ≡ alternates_of h + sum_by alternates_of hs =
+    sum_by-cons alternates_of h hs in
     let d = helpers_none hs a.1 in
     omega (arith, c, d, a.0.0)
 
@@ -213,7 +223,8 @@ heads_sum m hs [] [] a h = omega arith
 heads_sum m hs [] (s ∷ ss) a h = absurd a
 heads_sum m hs (xs ∷ rest) [] a h = absurd a
 heads_sum m hs (xs ∷ rest) (s ∷ ss) a h =
-    let c : sum_by alternates_of (s ∷ ss) ≡ alternates_of s + sum_by alternates_of ss = sum_by-cons alternates_of s ss in
+    let c : sum_by alternates_of (s ∷ ss) ≡ alternates_of s + sum_by alternates_of ss =
+    sum_by-cons alternates_of s ss in
     let d = heads_sum m hs rest ss a.1 h in
     let e = one a.0 in
     omega (arith, c, d, e)
@@ -230,7 +241,8 @@ helpers_ordered [] a = refl
 helpers_ordered (h ∷ hs) a = ap (λ b. b && states_ordered hs) a.0.1 ∙ helpers_ordered hs a.1
 
 heads_ordered :
-    (m : ℕ) (hs more : List State) (lists : List (List ℕ)) (heads : List State) → AreHeads m hs lists heads → AreHelpers hs
+    (m : ℕ) (hs more : List State) (lists : List (List ℕ)) (heads : List State) → AreHeads m hs lists heads
+    → AreHelpers hs
     → states_ordered more ≡ true → states_ordered (heads ++ more) ≡ true
 heads_ordered m hs more [] [] a h o = o
 heads_ordered m hs more [] (s ∷ ss) a h o = absurd a
@@ -256,7 +268,8 @@ module _ (states turned : List State) (reached : List ℕ) (first : ℕ) (distin
       let a : length turned ≡ length are.1.0 + length are.0.helpers =
       ap (λ xs. length xs) are.1.1 ∙ length-append are.1.0 are.0.helpers in
       let b = heads_length (length are.0.lists) are.0.helpers are.0.lists are.1.0 are.1.2 in
-      let d : length are.0.lists + length are.0.helpers ≡ size (turn_by (turn_states none states reached) (is.Match 0) first) =
+      let d : length are.0.lists + length are.0.helpers
+      ≡ size (turn_by (turn_states none states reached) (is.Match 0) first) =
       ap (λ (t : Turns). size t) are.2 in
       let e = size_by (turn_states none states reached) (is.Match 0) first in
       let f = size_states none states reached in
@@ -274,7 +287,8 @@ module _ (states turned : List State) (reached : List ℕ) (first : ℕ) (distin
     pub turned_ordered : states_ordered turned ≡ true
     turned_ordered =
         ap states_ordered are.1.1
-        ∙ heads_ordered (length are.0.lists) are.0.helpers are.0.helpers are.0.lists are.1.0 are.1.2 helpers (helpers_ordered are.0.helpers helpers)
+        ∙ heads_ordered (length are.0.lists) are.0.helpers are.0.helpers are.0.lists are.1.0 are.1.2 helpers
+        (helpers_ordered are.0.helpers helpers)
 
     pub turned_alternates : sum_by alternates_of turned ≤ sum_by asking_edges states + sum_by free_edges states + 1
     turned_alternates =

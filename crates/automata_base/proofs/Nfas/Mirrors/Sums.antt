@@ -17,7 +17,8 @@ sum_rest f n [] seen d b a =
     omega (arith, e)
 sum_rest f n (q ∷ ids) seen d b a =
     let one : sum_by f (q ∷ ids) ≡ f q + sum_by f ids = sum_by-cons f q ids in
-    let took : unvisited f (seen ++ q ∷ []) n + f q ≡ unvisited f seen n = unvisited_push f seen q n (b q (inl refl)) (a q (inl refl)) in
+    let took : unvisited f (seen ++ q ∷ []) n + f q ≡ unvisited f seen n =
+    unvisited_push f seen q n (b q (inl refl)) (a q (inl refl)) in
     let rest : sum_by f ids + unvisited f ((seen ++ q ∷ []) ++ ids) n ≡ unvisited f (seen ++ q ∷ []) n =
     sum_rest f n ids (seen ++ q ∷ []) d.1 (λ r i. b r (inr i)) apart in
     let same : unvisited f ((seen ++ q ∷ []) ++ ids) n ≡ unvisited f (seen ++ q ∷ ids) n =
@@ -38,8 +39,10 @@ unvisited_all :
 unfolding unvisited among
 unvisited_all f d xs zero l = refl
 unvisited_all f d xs (suc n) l =
-    let rest : unvisited (λ q. f (get_or xs q d)) [] n ≡ sum_by f (take n xs) = unvisited_all f d xs n (omega (arith, l)) in
-    let more : sum_by f (take (n + 1) xs) ≡ sum_by f (take n xs) + f (get_or xs n d) = sum_by_more f xs n d (omega (arith, l)) in
+    let rest : unvisited (λ q. f (get_or xs q d)) [] n ≡ sum_by f (take n xs) =
+    unvisited_all f d xs n (omega (arith, l)) in
+    let more : sum_by f (take (n + 1) xs) ≡ sum_by f (take n xs) + f (get_or xs n d) =
+    sum_by_more f xs n d (omega (arith, l)) in
     let one : n + 1 ≡ suc n = omega arith in
     let more' : sum_by f (take (suc n) xs) ≡ sum_by f (take n xs) + f (get_or xs n d) =
     subst (λ z. sum_by f (take z xs) ≡ sum_by f (take n xs) + f (get_or xs n d)) one more in
@@ -47,7 +50,8 @@ unvisited_all f d xs (suc n) l =
 
 -- What some of the elements have is at most what all have.
 pub sum_some :
-    {A : Type 0} → (f : A → ℕ) (d : A) (xs : List A) (ids : List ℕ) → Distinct ids → ((q : ℕ) → In q ids → q < length xs)
+    {A : Type 0} → (f : A → ℕ) (d : A) (xs : List A) (ids : List ℕ) → Distinct ids
+    → ((q : ℕ) → In q ids → q < length xs)
     → sum_by (λ q. f (get_or xs q d)) ids ≤ sum_by f xs
 sum_some f d xs ids e b =
     let part : sum_by (λ q. f (get_or xs q d)) ids + unvisited (λ q. f (get_or xs q d)) ([] ++ ids) (length xs)

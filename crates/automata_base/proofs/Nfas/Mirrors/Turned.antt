@@ -111,7 +111,9 @@ accept_inside n q p h = go n.nodes q h
     go (x ∷ xs) (suc q) h = let k = go xs q h in omega (arith, k)
 
 -- The node of a state in terms of what it is.
-split_hop : (m : Nfa) (A : Truth) (q : ℕ) (xs : List ℕ) (x : ℕ) → node m q ≡ Split xs → In x xs → (e : ℕ) × (hop m A q e ≡ Some x)
+split_hop :
+    (m : Nfa) (A : Truth) (q : ℕ) (xs : List ℕ) (x : ℕ) → node m q ≡ Split xs → In x xs → (e : ℕ)
+    × (hop m A q e ≡ Some x)
 split_hop m A q xs x s i = let k = in_nth xs x i in (k.0, ap (λ v. hop_at v A k.0) s ∙ k.1)
 
 hop_split : (m : Nfa) (A : Truth) (q : ℕ) (xs : List ℕ) (e x : ℕ) → node m q ≡ Split xs → hop m A q e ≡ Some x → In x xs
@@ -204,7 +206,8 @@ module _ (n m : Nfa) (first root : ℕ) (entries : List ℕ)
             kq : IsKept n first p q
             kq = kept_back n first p q h.0 l.0 rq l.1 g.0
     turned_back i q (e ∷ path) j z i' j' rq kz d f (inr h) =
-        go i' d (λ k g. turned_back (suc i) h.0 path j z k j' (leads_on n first q h.0 (Reads arc.0 arc.1) rq arc.2) kz g f h.4)
+        go i' d (λ k g. turned_back (suc i) h.0 path j z k j' (leads_on n first q h.0 (Reads arc.0 arc.1) rq arc.2) kz g
+        f h.4)
       where
         arc : (lo hi : ℕ) × HasArc n q (Reads lo hi) h.0 × (within lo hi h.1 ≡ true)
         arc = takes_arc_at (node n q) h.1 h.0 h.3
@@ -335,7 +338,8 @@ module _ (n m : Nfa) (first root : ℕ) (entries : List ℕ)
       ([], (omega (arith, d, f, same), sym begins)),
     )
 
-    stop_asking : (l : Label) (x z y p' : ℕ) (C : Type 0) → IsAsking l → IsReversedArc m x l y → x ≡ z → accepts m z ≡ Some p' → C
+    stop_asking :
+        (l : Label) (x z y p' : ℕ) (C : Type 0) → IsAsking l → IsReversedArc m x l y → x ≡ z → accepts m z ≡ Some p' → C
     stop_asking Free x z y p' C asks turned same a = absurd asks
     stop_asking (Asks look) x z y p' C asks turned same a =
         absurd (none_some (sym (ap accepts_at (ap (λ v. node m v) (sym same) ∙ turned)) ∙ a))
@@ -343,7 +347,8 @@ module _ (n m : Nfa) (first root : ℕ) (entries : List ℕ)
         absurd (none_some (sym (ap accepts_at (ap (λ v. node m v) (sym same) ∙ turned)) ∙ a))
 
     stop_place :
-        (i j z i' j' t p' : ℕ) → IsKept n first p t → i + i' ≡ J → j + j' ≡ J → i ≡ j → place t ≡ z → accepts m z ≡ Some p'
+        (i j z i' j' t p' : ℕ) → IsKept n first p t → i + i' ≡ J → j + j' ≡ J → i ≡ j → place t ≡ z
+        → accepts m z ≡ Some p'
         → Comes p' j' i' t
     stop_place i j z i' j' t p' kt d f same here a = go at.1.stands
       where
@@ -419,12 +424,14 @@ module _ (n m : Nfa) (first root : ℕ) (entries : List ℕ)
         way : HasWay m B c 0 entry J reported.0
         way =
             join m B c 0 entry 0 (place q) J reported.0 (hop_way m B c 0 entry start.0 (place q) start.1)
-            (join m B c 0 (place q) J (place first) J reported.0 goes.1 (enters first J reported.0 at.0 at.1 reported.1))
+            (join m B c 0 (place q) J (place first) J reported.0 goes.1
+            (enters first J reported.0 at.0 at.1 reported.1))
 
     entry_forth :
         (path : List ℕ) (p' z : ℕ) → IsWay m B c 0 entry path J z → accepts m z ≡ Some p'
         → (p' ≡ p) × ((q : ℕ) × HasWay n A b 0 first J q × (accepts n q ≡ Some p'))
-    entry_forth [] p' z w a = absurd (not_split z part.enters.0 p' (ap (λ v. node m v) (sym w.1) ∙ part.enters.1.union) a)
+    entry_forth [] p' z w a =
+        absurd (not_split z part.enters.0 p' (ap (λ v. node m v) (sym w.1) ∙ part.enters.1.union) a)
     entry_forth (e ∷ path) p' z (inl h) a = (g.0, (q.0, g.1, q.2 ∙ ap Some (sym g.0)))
       where
         q : (q : ℕ) × IsKept n first p q × (accepts n q ≡ Some p) × (h.0 ≡ place q)
@@ -456,7 +463,8 @@ module _ (n m : Nfa) (first root : ℕ) (entries : List ℕ)
       start = split_hop m (B 0) root entries entry mirror.roots (nth_in entries p entry e)
 
   pub forth_part :
-      (path : List ℕ) (k entry p z : ℕ) → slice_get entries k ≡ Some entry → IsWay m B c 0 entry path J z → accepts m z ≡ Some p
+      (path : List ℕ) (k entry p z : ℕ) → slice_get entries k ≡ Some entry → IsWay m B c 0 entry path J z
+      → accepts m z ≡ Some p
       → (p ≡ k) × Forth p
   forth_part path k entry p z i w a =
       entry_forth k entry (mirror.place k) (mirror.parts k entry i) path p z w a

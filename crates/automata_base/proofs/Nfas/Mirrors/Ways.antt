@@ -43,7 +43,8 @@ pub hop_way :
 hop_way n A b i q e r h = (e ∷ [], inl (r, h, (refl, refl)))
 
 pub move_way :
-    (n : Nfa) (A : ℕ → Truth) (b : Bytes) (i q u r : ℕ) → b i ≡ Some u → takes n q u ≡ Some r → HasWay n A b i q (suc i) r
+    (n : Nfa) (A : ℕ → Truth) (b : Bytes) (i q u r : ℕ) → b i ≡ Some u → takes n q u ≡ Some r
+    → HasWay n A b i q (suc i) r
 move_way n A b i q u r h k = (0 ∷ [], inr (r, u, h, k, (refl, refl)))
 
 pub way_grows :
@@ -111,7 +112,8 @@ meets n t i seen q r (e ∷ p) j z (inr h) = ⊎_elim
     (λ (f : r ≡ q → ⊥). inr (inr h, f)) (cases_eq r q)
 
 hop_path :
-    (n : Nfa) (t : Tape) (i q e r j z : ℕ) → hop n (truth n t i) q e ≡ Some r → HasPath n t i r j z → HasPath n t i q j z
+    (n : Nfa) (t : Tape) (i q e r j z : ℕ) → hop n (truth n t i) q e ≡ Some r → HasPath n t i r j z
+    → HasPath n t i q j z
 hop_path n t i q e r j z h w = go (meets n t i [] q r w.0 j z w.1)
   where
     go : Meets n t i [] q r w.0 j z → HasPath n t i q j z

@@ -47,7 +47,8 @@ inserted old new id false fresh added had kept =
 
 -- The insertion of a state that is no member puts it last.
 pub inserted_new :
-    (old new : List ℕ) (id : ℕ) (b : Bool) → (In id old → ⊥) → (IsTrue b → new ≡ old ++ id ∷ []) → (IsFalse b → In id old)
+    (old new : List ℕ) (id : ℕ) (b : Bool) → (In id old → ⊥) → (IsTrue b → new ≡ old ++ id ∷ [])
+    → (IsFalse b → In id old)
     → new ≡ old ++ id ∷ []
 inserted_new old new id true fresh added had = added refl
 inserted_new old new id false fresh added had = absurd (fresh (had refl))
@@ -66,9 +67,12 @@ pub once_has : (q : ℕ) (ys xs : List ℕ) → In q xs → In q (once_from ys x
 once_has q ys [] i = absurd i
 once_has q ys (x ∷ xs) (inl e) = once_keeps q (ys ++ cond (is_in x ys) [] (x ∷ [])) xs (go (is_in_cases x ys))
   where
-    go : ((is_in x ys ≡ true) × In x ys) ⊎ ((is_in x ys ≡ false) × (In x ys → ⊥)) → In q (ys ++ cond (is_in x ys) [] (x ∷ []))
+    go :
+        ((is_in x ys ≡ true) × In x ys) ⊎ ((is_in x ys ≡ false) × (In x ys → ⊥))
+        → In q (ys ++ cond (is_in x ys) [] (x ∷ []))
     go (inl h) = in_left q ys (cond (is_in x ys) [] (x ∷ [])) (subst (λ z. In z ys) (sym e) h.1)
-    go (inr h) = in_right q ys (cond (is_in x ys) [] (x ∷ [])) (subst (λ b. In q (cond b [] (x ∷ []))) (sym h.0) (inl e))
+    go (inr h) =
+        in_right q ys (cond (is_in x ys) [] (x ∷ [])) (subst (λ b. In q (cond b [] (x ∷ []))) (sym h.0) (inl e))
 once_has q ys (x ∷ xs) (inr i) = once_has q (ys ++ cond (is_in x ys) [] (x ∷ [])) xs i
 
 pub once_only : (q : ℕ) (ys xs : List ℕ) → In q (once_from ys xs) → In q ys ⊎ In q xs
@@ -98,12 +102,14 @@ nexts_alike j k (suc m ∷ xs) = ap (λ z. suc m ∷ z) (nexts_alike (suc j) (su
 
 dense_first :
     (ys : List ℕ) (x : ℕ) (rest : List ℕ)
-    → once_from ys (nexts (dense_from 0 (x ∷ rest))) ≡ once_from (once_from ys (nexts (dense_from 0 (x ∷ [])))) (nexts (dense_from 0 rest))
+    → once_from ys (nexts (dense_from 0 (x ∷ rest)))
+    ≡ once_from (once_from ys (nexts (dense_from 0 (x ∷ [])))) (nexts (dense_from 0 rest))
 dense_first ys zero rest = ap (once_from ys) (nexts_alike 1 0 rest)
 dense_first ys (suc m) rest = ap (once_from (ys ++ cond (is_in (suc m) ys) [] (suc m ∷ []))) (nexts_alike 1 0 rest)
 
 pub dense_next :
-    (ys xs new w : List ℕ) (i x : ℕ) → i < length xs → x ≡ get_or xs i x → new ≡ once_from ys (nexts (dense_from 0 (x ∷ [])))
+    (ys xs new w : List ℕ) (i x : ℕ) → i < length xs → x ≡ get_or xs i x
+    → new ≡ once_from ys (nexts (dense_from 0 (x ∷ [])))
     → once_from ys (nexts (dense_from 0 (drop i xs))) ≡ w → once_from new (nexts (dense_from 0 (drop (i + 1) xs))) ≡ w
 dense_next ys xs new w i x l e s h =
     ap (λ z. once_from z (nexts (dense_from 0 (drop (i + 1) xs)))) s
@@ -115,15 +121,18 @@ pub id_below : (n : ℕ) (xs : List ℕ) (i x : ℕ) → all_below n xs ≡ true
 id_below n xs i x h l e = below_in n xs x h (subst (λ z. In z xs) (sym e) (In-get_or xs i x l))
 
 pub next_below :
-    (n : ℕ) (xs : List Transition) (i : ℕ) (x : Transition) → transitions_below n xs ≡ true → i < length xs → x ≡ get_or xs i x → x.next < n
+    (n : ℕ) (xs : List Transition) (i : ℕ) (x : Transition) → transitions_below n xs ≡ true → i < length xs
+    → x ≡ get_or xs i x → x.next < n
 next_below n [] i x h l e = absurd (omega (arith, l))
 next_below n (y ∷ ys) zero x h l e =
-    subst (λ (z : Transition). z.next < n) (sym e) (ltb-true y.next n (and_parts (ltb y.next n) (transitions_below n ys) h).0)
+    subst (λ (z : Transition). z.next < n) (sym e)
+    (ltb-true y.next n (and_parts (ltb y.next n) (transitions_below n ys) h).0)
 next_below n (y ∷ ys) (suc i) x h l e =
     next_below n ys i x (and_parts (ltb y.next n) (transitions_below n ys) h).1 (omega (arith, l)) e
 
 pub state_at_below :
-    (n : ℕ) (xs : List State) (i : ℕ) (x : State) → states_below n xs ≡ true → i < length xs → x ≡ get_or xs i x → state_below n x ≡ true
+    (n : ℕ) (xs : List State) (i : ℕ) (x : State) → states_below n xs ≡ true → i < length xs → x ≡ get_or xs i x
+    → state_below n x ≡ true
 state_at_below n [] i x h l e = absurd (omega (arith, l))
 state_at_below n (y ∷ ys) zero x h l e =
     subst (λ z. state_below n z ≡ true) (sym e) (and_parts (state_below n y) (states_below n ys) h).0

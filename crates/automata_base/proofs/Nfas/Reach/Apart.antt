@@ -1,6 +1,7 @@
 -- What is apart from two states does not reach them.
 use Rattle.std.proofs.Common.{ℕ, zero, suc, ◌≡◌, ◌<◌, ◌≤◌, ◌⊎◌, ◌||◌, ◌&&◌, Bool, true, false, not, eqb}
-use Rattle.std.proofs.Common.{List, [], ◌∷◌, ◌++◌, length, get_or, inl, inr, refl, sym, ap, ◌∙◌, subst, true≢false, arith}
+use Rattle.std.proofs.Common.{List, [], ◌∷◌, ◌++◌, length, get_or, inl, inr, refl, sym, ap, ◌∙◌, subst, true≢false}
+use Rattle.std.proofs.Common.{arith}
 use Rattle.std.proofs.Math.Bool.{or-true}
 use Rattle.std.proofs.lemmas.Bool.{and_parts, cases_lt, eq-eqb}
 use Rattle.automata_base.specs.declared.nfa.thompson.State.{State}
@@ -29,7 +30,8 @@ others_in one two (q ∷ qs) r h (inr i) =
     others_in one two qs r (and_parts (not (is_either one two q)) (are_others one two qs) h).1 i
 
 edges_in :
-    (one two : ℕ) (ts : List Transition) (r : ℕ) → lead_elsewhere one two ts ≡ true → In r (nexts (ranges_of ts)) → is_either one two r ≡ false
+    (one two : ℕ) (ts : List Transition) (r : ℕ) → lead_elsewhere one two ts ≡ true → In r (nexts (ranges_of ts))
+    → is_either one two r ≡ false
 edges_in one two [] r h i = absurd i
 edges_in one two (t ∷ ts) r h (inl e) =
     other_one one two t.next r (and_parts (not (is_either one two t.next)) (lead_elsewhere one two ts) h).0 (inl e)
@@ -37,7 +39,8 @@ edges_in one two (t ∷ ts) r h (inr i) =
     edges_in one two ts r (and_parts (not (is_either one two t.next)) (lead_elsewhere one two ts) h).1 i
 
 pair_in :
-    (one two a b r : ℕ) → (not (is_either one two a) && not (is_either one two b)) ≡ true → In r (a ∷ b ∷ []) → is_either one two r ≡ false
+    (one two a b r : ℕ) → (not (is_either one two a) && not (is_either one two b)) ≡ true → In r (a ∷ b ∷ [])
+    → is_either one two r ≡ false
 pair_in one two a b r h i =
     others_in one two (a ∷ b ∷ []) r
     (let w = and_parts (not (is_either one two a)) (not (is_either one two b)) h in rw (w.0, w.1) refl) i
@@ -48,12 +51,14 @@ unappended r (x ∷ xs) (inl e) = inl e
 unappended r (x ∷ xs) (inr i) = inr (unappended r xs i)
 
 targets_in :
-    (one two : ℕ) (s : State) (r : ℕ) → leads_elsewhere one two s ≡ true → In r (targets_at Every (node_of s)) → is_either one two r ≡ false
+    (one two : ℕ) (s : State) (r : ℕ) → leads_elsewhere one two s ≡ true → In r (targets_at Every (node_of s))
+    → is_either one two r ≡ false
 targets_in one two (is.ByteRange lo hi next) r h i = other_one one two next r h i
 targets_in one two (is.Sparse ts) r h i = edges_in one two ts.items r h i
 targets_in one two (is.Dense targets) r h i = absurd (true≢false (sym h))
 targets_in one two (is.Look look next) r h i = other_one one two next r h i
-targets_in one two (is.Union alternates) r h i = others_in one two alternates.items r h (unappended r alternates.items i)
+targets_in one two (is.Union alternates) r h i =
+    others_in one two alternates.items r h (unappended r alternates.items i)
 targets_in one two (is.BinaryUnion alt1 alt2) r h i = pair_in one two alt1 alt2 r h i
 targets_in one two (is.Capture next pattern index slot) r h i = other_one one two next r h i
 targets_in one two is.Fail r h i = absurd i
@@ -61,7 +66,8 @@ targets_in one two (is.Match pattern) r h i = absurd i
 
 -- A state that was read leads to neither of the two, or is one of them.
 pub apart_here :
-    (states : List State) (one two at : ℕ) (s : State) → at < length states → s ≡ get_or states at s → leads_elsewhere one two s ≡ true
+    (states : List State) (one two at : ℕ) (s : State) → at < length states → s ≡ get_or states at s
+    → leads_elsewhere one two s ≡ true
     → (r : ℕ) → is_either one two at ≡ false → In r (targets_of Every states at) → is_either one two r ≡ false
 apart_here states one two at s l e h r o i =
     targets_in one two s r h (subst (λ x. In r (targets_at Every x)) (node_at states at s s l e) i)
@@ -73,7 +79,8 @@ past_all (x ∷ xs) (suc q) r l i = past_all xs q r (omega (arith, l)) i
 
 pub apart_all :
     (states : List State) (one two n : ℕ) → length states ≤ n
-    → ((q : ℕ) → q < n → (r : ℕ) → is_either one two q ≡ false → In r (targets_of Every states q) → is_either one two r ≡ false)
+    → ((q : ℕ) → q < n → (r : ℕ) → is_either one two q ≡ false → In r (targets_of Every states q)
+    → is_either one two r ≡ false)
     → (q r : ℕ) → is_either one two q ≡ false → In r (targets_of Every states q) → is_either one two r ≡ false
 apart_all states one two n l below q r o i = go (cases_lt q n)
   where
@@ -83,7 +90,8 @@ apart_all states one two n l below q r o i = go (cases_lt q n)
 
 routed :
     (targets : ℕ → List ℕ) (one two : ℕ)
-    → ((q r : ℕ) → is_either one two q ≡ false → In r (targets q) → is_either one two r ≡ false) → (q : ℕ) (way : List ℕ) (z : ℕ)
+    → ((q r : ℕ) → is_either one two q ≡ false → In r (targets q) → is_either one two r ≡ false)
+    → (q : ℕ) (way : List ℕ) (z : ℕ)
     → is_either one two q ≡ false → Route targets q way z → is_either one two z ≡ false
 routed targets one two apart q [] z o same = subst (λ s. is_either one two s ≡ false) same o
 routed targets one two apart q (r ∷ rs) z o route =

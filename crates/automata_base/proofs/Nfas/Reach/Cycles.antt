@@ -48,11 +48,13 @@ module _ (states : List State) (q : ℕ) (s : State) (within : q < length states
 
   -- The target of a state in range is in range.
   pub target_below :
-      (next : ℕ) → states_below (length states) states ≡ true → look_target (node_of s) ≡ Some next → next < length states
+      (next : ℕ) → states_below (length states) states ≡ true → look_target (node_of s) ≡ Some next
+      → next < length states
   target_below next range e =
       let w = look_is (node_of s) next e in
       ltb-true next (length states)
-      (ap (λ z. node_below (length states) z) (sym w.1) ∙ node_fits (length states) s (state_at_below (length states) states q s range within read))
+      (ap (λ z. node_below (length states) z) (sym w.1)
+      ∙ node_fits (length states) s (state_at_below (length states) states q s range within read))
 
 pub look_here :
     (states : List State) (at q : ℕ) (s : State) → q < length states → at ≡ q → s ≡ get_or states at s
@@ -88,7 +90,8 @@ module _ (states : List State) (q : ℕ) (old : List ℕ) where
       split : (p : ℕ) → In p old ⊎ In p (next ∷ []) → In p roots
       split p (inl i) = in_left p old (option_to_list (look_target (node_in states q))) i
       split p (inr i) =
-          in_right p old (option_to_list (look_target (node_in states q))) (subst (λ v. In p (option_to_list v)) (sym some) i)
+          in_right p old (option_to_list (look_target (node_in states q)))
+          (subst (λ v. In p (option_to_list v)) (sym some) i)
 
       from : (p : ℕ) → In p added → In p roots
       from p i = split p (once_only p old (next ∷ []) (subst (λ v. In p v) once i))
@@ -127,7 +130,9 @@ added_walked G old added next done e once closed p r i j =
   where
     front : take done added ≡ old
     front =
-        ap (λ z. take z added) e ∙ (ap (take (length old)) once ∙ (once_take (length old) old (next ∷ []) (omega arith) ∙ take_all (length old) old (omega arith)))
+        ap (λ z. take z added) e
+        ∙ (ap (take (length old)) once
+        ∙ (once_take (length old) old (next ∷ []) (omega arith) ∙ take_all (length old) old (omega arith)))
 
 nth_read : (xs : List ℕ) (i q : ℕ) → i < length xs → q ≡ get_or xs i q → slice_get xs i ≡ Some q
 nth_read [] i q l e = absurd (omega (arith, l))
@@ -145,11 +150,15 @@ module _ (states : List State) where
   leads_by : (r z : ℕ) → LooksTo states r z → LeadsBy (targets_of Epsilon states) r z
   leads_by r z h = (h.0, h.2.1, subst (λ v. In h.0 v) (sym (only_target r h.0 h.1)) (inl refl), from h.2.2 h.2.3)
     where
-      from : In h.2.0 (h.0 ∷ []) → Route (targets_of Epsilon states) h.2.0 h.2.1 z → Route (targets_of Epsilon states) h.0 h.2.1 z
+      from :
+          In h.2.0 (h.0 ∷ []) → Route (targets_of Epsilon states) h.2.0 h.2.1 z
+          → Route (targets_of Epsilon states) h.0 h.2.1 z
       from (inl e) m = subst (λ v. Route (targets_of Epsilon states) v h.2.1 z) e m
       from (inr i) m = absurd i
 
-  looks_to : (r next z : ℕ) → look_target (node_in states r) ≡ Some next → LeadsBy (targets_of Epsilon states) r z → LooksTo states r z
+  looks_to :
+      (r next z : ℕ) → look_target (node_in states r) ≡ Some next → LeadsBy (targets_of Epsilon states) r z
+      → LooksTo states r z
   looks_to r next z e h = (next, e, (h.0, h.1, subst (λ v. In h.0 v) (only_target r next e) h.2, h.3))
 
 -- The first `i` looks of an order do not lead back, each member is led to by one of them, and members lead to members.
@@ -166,7 +175,8 @@ none_tried states order items e = subst (IsTried states order 0) (sym e) (record
 })
 
 module _
-    (states : List State) (order : List ℕ) (i q : ℕ) (old new : List ℕ) (b : Bool) (l : i < length order) (read : q ≡ get_or order i q)
+    (states : List State) (order : List ℕ) (i q : ℕ) (old new : List ℕ) (b : Bool) (l : i < length order)
+    (read : q ≡ get_or order i q)
     (whole : IsWholeOrder (length states) (targets_of Epsilon states) order) (tried : IsTried states order i old)
     (found : IsTrue b ↔ ((next : ℕ) × (look_target (node_in states q) ≡ Some next) × In q new))
     (reached : (z : ℕ) → In z new ↔ IsReached Epsilon states (old ++ option_to_list (look_target (node_in states q))) z)
@@ -226,7 +236,8 @@ module _
         root : (next : ℕ) → look_target (node_in states q) ≡ Some next → (r : ℕ) → In r (next ∷ [])
             → In r (old ++ option_to_list (look_target (node_in states q)))
         root next e r k =
-            in_right r old (option_to_list (look_target (node_in states q))) (subst (λ v. In r (option_to_list v)) (sym e) k)
+            in_right r old (option_to_list (look_target (node_in states q)))
+            (subst (λ v. In r (option_to_list v)) (sym e) k)
 
     pub one_tried : b ≡ false → IsTried states order (i + 1) new
     one_tried e = record {
@@ -253,7 +264,8 @@ module _
 
 pub all_tried :
     (states : List State) (order : List ℕ) (i : ℕ) (items : List ℕ) → length order ≤ i
-    → IsWholeOrder (length states) (targets_of Epsilon states) order → IsTried states order i items → IsTrue true ↔ AreLooksAcyclic states
+    → IsWholeOrder (length states) (targets_of Epsilon states) order → IsTried states order i items
+    → IsTrue true ↔ AreLooksAcyclic states
 all_tried states order i items l whole tried = (λ _ q back. go q back (cases_lt q (length states)), λ _. refl)
   where
     go : (q : ℕ) → LeadsBack states q → (q < length states) ⊎ (length states ≤ q) → ⊥

@@ -19,7 +19,9 @@ use Rattle.automata_base.proofs.Paths.FirstVisits.{in_right}
 use Rattle.automata_base.proofs.Paths.Walks.{in_either}
 use Rattle.automata_base.proofs.Paths.Sets.{nth_in}
 
-route_then : (G : ℕ → List ℕ) (q : ℕ) (way : List ℕ) (r : ℕ) (more : List ℕ) (z : ℕ) → Route G q way r → Route G r more z → Route G q (way ++ more) z
+route_then :
+    (G : ℕ → List ℕ) (q : ℕ) (way : List ℕ) (r : ℕ) (more : List ℕ) (z : ℕ) → Route G q way r → Route G r more z
+    → Route G q (way ++ more) z
 route_then G q [] r more z w m = subst (λ v. Route G v more z) (sym w) m
 route_then G q (s ∷ way) r more z w m = (w.0, route_then G s way r more z w.1 m)
 
@@ -40,7 +42,8 @@ take_suc (y ∷ ys) (suc k) x r e (inr i) = go (take_suc ys k x r e i)
     go (inl j) = inl (inr j)
     go (inr j) = inr j
 
-pub take_next : (xs : List ℕ) (k x r : ℕ) → slice_get xs k ≡ Some x → In r (take (k + 1) xs) → In r (take k xs) ⊎ (r ≡ x)
+pub take_next :
+    (xs : List ℕ) (k x r : ℕ) → slice_get xs k ≡ Some x → In r (take (k + 1) xs) → In r (take k xs) ⊎ (r ≡ x)
 take_next xs k x r e i = let m : k + 1 ≡ suc k = omega arith in take_suc xs k x r e (subst (λ z. In r (take z xs)) m i)
 
 pub nth_none : (xs : List ℕ) (k : ℕ) → slice_get xs k ≡ None → take k xs ≡ xs
@@ -77,7 +80,8 @@ nth_last (x ∷ xs) p (suc i) q e = go (nth_last xs p i q e)
   where
     go :
         ((slice_get xs i ≡ Some q) × (take i (xs ++ p ∷ []) ≡ take i xs)) ⊎ ((q ≡ p) × (take i (xs ++ p ∷ []) ≡ xs))
-        → ((slice_get xs i ≡ Some q) × (x ∷ take i (xs ++ p ∷ []) ≡ x ∷ take i xs)) ⊎ ((q ≡ p) × (x ∷ take i (xs ++ p ∷ []) ≡ x ∷ xs))
+        → ((slice_get xs i ≡ Some q) × (x ∷ take i (xs ++ p ∷ []) ≡ x ∷ take i xs))
+        ⊎ ((q ≡ p) × (x ∷ take i (xs ++ p ∷ []) ≡ x ∷ xs))
     go (inl h) = inl (h.0, ap (λ z. x ∷ z) h.1)
     go (inr h) = inr (h.0, ap (λ z. x ∷ z) h.1)
 
@@ -122,8 +126,10 @@ module _ (n : ℕ) (G : ℕ → List ℕ) (visited finished : List ℕ) where
   module _ (frame : Frame) (below : List Frame) (w : IsUnderSearch n G visited finished (frame ∷ below)) where
     -- An edge leads to a state that was not visited: it is put on the stack.
     pub search_enters :
-        (again next : Frame) (edge id : ℕ) → again.state ≡ frame.state → again.edge ≡ edge + 1 → next.state ≡ id → next.edge ≡ 0
-        → id < n → slice_get (G frame.state) edge ≡ Some id → ((r : ℕ) → In r (take edge (G frame.state)) → In r visited)
+        (again next : Frame) (edge id : ℕ) → again.state ≡ frame.state → again.edge ≡ edge + 1 → next.state ≡ id
+        → next.edge ≡ 0
+        → id < n → slice_get (G frame.state) edge ≡ Some id
+        → ((r : ℕ) → In r (take edge (G frame.state)) → In r visited)
         → IsUnderSearch n G (visited ++ id ∷ []) finished (next ∷ again ∷ below)
     search_enters again next edge id same more to first small at before = record {
       visits = λ q i. visits q (in_either q visited (id ∷ []) i);
@@ -132,7 +138,8 @@ module _ (n : ℕ) (G : ℕ → List ℕ) (visited finished : List ℕ) where
         λ r i. absurd (subst (λ k. In r (take k (G next.state))) first i),
         (
           subst (λ z. z < n) (sym same) w.follows.0,
-          λ r i. follows r (subst (λ z. In r (take z (G frame.state))) more (subst (λ z. In r (take again.edge (G z))) same i)),
+          λ r i. follows r
+          (subst (λ z. In r (take z (G frame.state))) more (subst (λ z. In r (take again.edge (G z))) same i)),
           followed_more n G visited (id ∷ []) below w.follows.2,
         ),
       );
@@ -142,12 +149,15 @@ module _ (n : ℕ) (G : ℕ → List ℕ) (visited finished : List ℕ) where
       order = w.order;
     }
       where
-        deeper : (r : ℕ) → In r finished ⊎ In r (frame.state ∷ states_in below) → In r finished ⊎ In r (next.state ∷ again.state ∷ states_in below)
+        deeper :
+            (r : ℕ) → In r finished ⊎ In r (frame.state ∷ states_in below) → In r finished
+            ⊎ In r (next.state ∷ again.state ∷ states_in below)
         deeper r (inl i) = inl i
         deeper r (inr (inl e)) = inr (inr (inl (e ∙ sym same)))
         deeper r (inr (inr i)) = inr (inr (inr i))
 
-        visits : (q : ℕ) → In q visited ⊎ In q (id ∷ []) → In q finished ⊎ In q (next.state ∷ again.state ∷ states_in below)
+        visits :
+            (q : ℕ) → In q visited ⊎ In q (id ∷ []) → In q finished ⊎ In q (next.state ∷ again.state ∷ states_in below)
         visits q (inl i) = deeper q (w.visits q i)
         visits q (inr (inl e)) = inr (inl (e ∙ sym to))
         visits q (inr (inr i)) = absurd i
@@ -188,17 +198,21 @@ module _ (n : ℕ) (G : ℕ → List ℕ) (visited finished : List ℕ) where
         leaves q (inr (inl f)) = inl (in_right q finished (frame.state ∷ []) (inl f))
         leaves q (inr (inr i)) = inr i
 
-        shut : (p r : ℕ) → In p finished ⊎ In p (frame.state ∷ []) → In r (G p) → In r finished ⊎ In r (frame.state ∷ states_in below)
+        shut :
+            (p r : ℕ) → In p finished ⊎ In p (frame.state ∷ []) → In r (G p) → In r finished
+            ⊎ In r (frame.state ∷ states_in below)
         shut p r (inl i) j = w.closed p r i j
         shut p r (inr (inl f)) j = w.visits r (all r (subst (λ z. In r (G z)) f j))
         shut p r (inr (inr i)) j = absurd i
 
         back :
-            (c : ℕ) (way : List ℕ) (q : ℕ) → LeadsBy G frame.state c → In c finished ⊎ In c (frame.state ∷ states_in below)
+            (c : ℕ) (way : List ℕ) (q : ℕ) → LeadsBy G frame.state c → In c finished
+            ⊎ In c (frame.state ∷ states_in below)
             → Route G c way q → (In q done → ⊥) → LeadsBy G frame.state frame.state
         back c way q h (inr (inl f)) m out = subst (LeadsBy G frame.state) f h
         back c way q h (inr (inr i)) m out = leads_then G frame.state c frame.state h (w.chain.0 c i)
-        back c [] q h (inl i) m out = absurd (out (in_left q finished (frame.state ∷ []) (subst (λ z. In z finished) m i)))
+        back c [] q h (inl i) m out =
+            absurd (out (in_left q finished (frame.state ∷ []) (subst (λ z. In z finished) m i)))
         back c (d ∷ way) q h (inl i) m out =
             back d way q (leads_then G frame.state c d h (leads_edge G c d m.0)) (w.closed c d i m.0) m.1 out
 
@@ -212,7 +226,8 @@ module _ (n : ℕ) (G : ℕ → List ℕ) (visited finished : List ℕ) where
         cyclic p q (inr (inr i)) out h = absurd i
 
         order :
-            (i q p : ℕ) → ((slice_get finished i ≡ Some q) × (take i done ≡ take i finished)) ⊎ ((q ≡ frame.state) × (take i done ≡ finished))
+            (i q p : ℕ) → ((slice_get finished i ≡ Some q) × (take i done ≡ take i finished))
+            ⊎ ((q ≡ frame.state) × (take i done ≡ finished))
             → In p (take i done) → (p ≡ q → ⊥) × (LeadsBy G p q → LeadsBy G p p)
         order i q p (inl h) j = w.order i q p h.0 (subst (λ z. In p z) h.1 j)
         order i q p (inr h) j =

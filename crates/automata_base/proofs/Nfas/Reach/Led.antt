@@ -31,19 +31,23 @@ use Rattle.automata_base.proofs.Paths.Sets.{nth_in}
 
 module _ (a : Automaton) where
   hop_from : (q r : ℕ) → In r (children (nfa_of a) all_true q) → (e : ℕ) × (hop (nfa_of a) all_true q e ≡ Some r)
-  hop_from q r i = let w = in_nth (children (nfa_of a) all_true q) r i in (w.0, hop_children (nfa_of a) all_true q w.0 ∙ w.1)
+  hop_from q r i =
+      let w = in_nth (children (nfa_of a) all_true q) r i in (w.0, hop_children (nfa_of a) all_true q w.0 ∙ w.1)
 
   hop_to : (q e r : ℕ) → hop (nfa_of a) all_true q e ≡ Some r → In r (children (nfa_of a) all_true q)
   hop_to q e r h = nth_in (children (nfa_of a) all_true q) e r (sym (hop_children (nfa_of a) all_true q e) ∙ h)
 
-  run_from : (q : ℕ) (way : List ℕ) (z : ℕ) → Route (targets_of Epsilon a.states) q way z → HasEpsilonPath (nfa_of a) q z
+  run_from :
+      (q : ℕ) (way : List ℕ) (z : ℕ) → Route (targets_of Epsilon a.states) q way z → HasEpsilonPath (nfa_of a) q z
   run_from q [] z w = ([], w)
   run_from q (r ∷ way) z w =
       let e = hop_from q r w.0 in
       let h = run_from r way z w.1 in
       (e.0 ∷ h.0, (r, e.1, h.1))
 
-  run_to : (q : ℕ) (path : List ℕ) (z : ℕ) → Run (nfa_of a) q path z → (way : List ℕ) × Route (targets_of Epsilon a.states) q way z
+  run_to :
+      (q : ℕ) (path : List ℕ) (z : ℕ) → Run (nfa_of a) q path z → (way : List ℕ)
+      × Route (targets_of Epsilon a.states) q way z
   run_to q [] z w = ([], w)
   run_to q (e ∷ path) z w = let h = run_to w.0 path z w.2 in (w.0 ∷ h.0, (hop_to q e w.0 w.1, h.1))
 
@@ -55,7 +59,9 @@ module _ (a : Automaton) where
   )
 
 module _ (a : Automaton) where
-  goes_back : (q : ℕ) (look : Look) (next : ℕ) → node (nfa_of a) q ≡ Assert look next → LeadsOn (nfa_of a) q q → LeadsBack a.states q
+  goes_back :
+      (q : ℕ) (look : Look) (next : ℕ) → node (nfa_of a) q ≡ Assert look next → LeadsOn (nfa_of a) q q
+      → LeadsBack a.states q
   goes_back q look next e h = go h.0 (ap (λ x. hop_at x all_true h.0) (sym e) ∙ h.2)
     where
       go : (k : ℕ) → hop_at (Assert look next) all_true k ≡ Some h.1 → LeadsBack a.states q
@@ -64,11 +70,15 @@ module _ (a : Automaton) where
           (next, ap look_target e, (h.1, w.0, inl (sym (some_inj f)), w.1))
       go (suc k) f = absurd (none_some f)
 
-  comes_back : (q : ℕ) (look : Look) (next : ℕ) → node (nfa_of a) q ≡ Assert look next → IsReached Epsilon a.states (next ∷ []) q → LeadsOn (nfa_of a) q q
+  comes_back :
+      (q : ℕ) (look : Look) (next : ℕ) → node (nfa_of a) q ≡ Assert look next → IsReached Epsilon a.states (next ∷ []) q
+      → LeadsOn (nfa_of a) q q
   comes_back q look next e h = go h.2
     where
       go : In h.0 (next ∷ []) → LeadsOn (nfa_of a) q q
-      go (inl f) = (0, next, ap (λ x. hop_at x all_true 0) e, subst (λ v. HasEpsilonPath (nfa_of a) v q) f (run_from a h.0 h.1 q h.3))
+      go (inl f) =
+          (0, next, ap (λ x. hop_at x all_true 0) e, subst (λ v. HasEpsilonPath (nfa_of a) v q) f
+          (run_from a h.0 h.1 q h.3))
       go (inr i) = absurd i
 
   -- No look leads back to itself exactly if no cycle passes one.
@@ -85,7 +95,9 @@ takes_next : (ranges : List Range) (u r : ℕ) → takes_in ranges u ≡ Some r 
 takes_next [] u r e = absurd (none_some e)
 takes_next (x ∷ xs) u r e = go (within x.lo x.hi u) e (takes_next xs u r)
   where
-    go : (b : Bool) → cond b (Some x.next) (takes_in xs u) ≡ Some r → (takes_in xs u ≡ Some r → In r (nexts xs)) → In r (x.next ∷ nexts xs)
+    go :
+        (b : Bool) → cond b (Some x.next) (takes_in xs u) ≡ Some r → (takes_in xs u ≡ Some r → In r (nexts xs))
+        → In r (x.next ∷ nexts xs)
     go true e ih = inl (sym (some_inj e))
     go false e ih = inr (ih e)
 
@@ -111,7 +123,8 @@ next_takes low (t ∷ ts) r o (inl e) =
     let inner = and_parts (leb low t.lo) (leb t.lo t.hi) outer.0 in (
       t.lo,
       leb-true low t.lo inner.0,
-      ap (λ b. cond b (Some t.next) (takes_in (ranges_of ts) t.lo)) (within_low t.lo t.hi inner.1) ∙ ap (λ z. Some z) (sym e),
+      ap (λ b. cond b (Some t.next) (takes_in (ranges_of ts) t.lo)) (within_low t.lo t.hi inner.1)
+      ∙ ap (λ z. Some z) (sym e),
     )
 next_takes low (t ∷ ts) r o (inr i) =
     let outer = and_parts (leb low t.lo && leb t.lo t.hi) (ordered_from (t.hi + 1) ts) o in
@@ -129,7 +142,8 @@ within_other : (k u : ℕ) → k + 1 ≤ u → within k k u ≡ false
 within_other k u l = within_past k k u l
 
 dense_takes_next :
-    (k : ℕ) (xs : List ℕ) (r : ℕ) → In r (nexts (dense_from k xs)) → (u : ℕ) × (k ≤ u) × (takes_in (dense_from k xs) u ≡ Some r)
+    (k : ℕ) (xs : List ℕ) (r : ℕ) → In r (nexts (dense_from k xs)) → (u : ℕ) × (k ≤ u)
+    × (takes_in (dense_from k xs) u ≡ Some r)
 dense_takes_next k [] r i = absurd i
 dense_takes_next k (zero ∷ xs) r i =
     let w = dense_takes_next (suc k) xs r i in
@@ -138,7 +152,8 @@ dense_takes_next k (zero ∷ xs) r i =
 dense_takes_next k (suc m ∷ xs) r (inl e) = (
   k,
   omega arith,
-  ap (λ b. cond b (Some (suc m)) (takes_in (dense_from (suc k) xs) k)) (within_low k k (le-leb k k (omega arith))) ∙ ap (λ z. Some z) (sym e),
+  ap (λ b. cond b (Some (suc m)) (takes_in (dense_from (suc k) xs) k)) (within_low k k (le-leb k k (omega arith)))
+  ∙ ap (λ z. Some z) (sym e),
 )
 dense_takes_next k (suc m ∷ xs) r (inr i) =
     let w = dense_takes_next (suc k) xs r i in
@@ -149,7 +164,8 @@ dense_takes_next k (suc m ∷ xs) r (inr i) =
     )
 
 state_takes :
-    (s : State) (r : ℕ) → state_ordered s ≡ true → In r (byte_targets (node_of s)) → (u : ℕ) × (takes_at (node_of s) u ≡ Some r)
+    (s : State) (r : ℕ) → state_ordered s ≡ true → In r (byte_targets (node_of s)) → (u : ℕ)
+    × (takes_at (node_of s) u ≡ Some r)
 state_takes (is.ByteRange lo hi next) r o (inl e) =
     (lo, ap (λ b. cond b (Some next) None) (within_low lo hi o) ∙ ap (λ z. Some z) (sym e))
 state_takes (is.ByteRange lo hi next) r o (inr i) = absurd i
@@ -178,9 +194,11 @@ module _ (a : Automaton) (ordered : states_ordered a.states ≡ true) where
       go (inr j) = let h = node_takes a.states q r ordered j in ByteEdge h.0 h.1
 
   edge_to : (q r : ℕ) → HasEdge (nfa_of a) q r → In r (targets_of Every a.states q)
-  edge_to q r (FreeEdge e h) = in_left r (children (nfa_of a) all_true q) (byte_targets (node_in a.states q)) (hop_to a q e r h)
+  edge_to q r (FreeEdge e h) =
+      in_left r (children (nfa_of a) all_true q) (byte_targets (node_in a.states q)) (hop_to a q e r h)
   edge_to q r (ByteEdge u h) =
-      in_right r (children (nfa_of a) all_true q) (byte_targets (node_in a.states q)) (takes_target (node_in a.states q) u r h)
+      in_right r (children (nfa_of a) all_true q) (byte_targets (node_in a.states q))
+      (takes_target (node_in a.states q) u r h)
 
   road_from : (q : ℕ) (way : List ℕ) (z : ℕ) → Route (targets_of Every a.states) q way z → Road (nfa_of a) q way z
   road_from q [] z w = w

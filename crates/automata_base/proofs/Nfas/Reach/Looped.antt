@@ -46,7 +46,8 @@ second_has x first skip e =
 -- The second alternate of a state in range is in range.
 pub second_below :
     (states : List State) (at : ℕ) (s : State) (first skip : ℕ)
-    → states_below (length states) states ≡ true → at < length states → s ≡ get_or states at s → second_at (node_of s) first ≡ Some skip → skip < length states
+    → states_below (length states) states ≡ true → at < length states → s ≡ get_or states at s
+    → second_at (node_of s) first ≡ Some skip → skip < length states
 second_below states at s first skip h l e t =
     below_in (length states) (first ∷ skip ∷ []) skip
     (subst (λ z. node_below (length states) z ≡ true) (second_is (node_of s) first skip t)
@@ -54,7 +55,8 @@ second_below states at s first skip h l e t =
     (inr (inl refl))
 
 -- One range of a sparse state, and other numbers of them.
-pub one_range : (ts : List Transition) (t : Transition) → length ts ≡ 1 → t ≡ get_or ts 0 t → ranges_of ts ≡ range_of t ∷ []
+pub one_range :
+    (ts : List Transition) (t : Transition) → length ts ≡ 1 → t ≡ get_or ts 0 t → ranges_of ts ≡ range_of t ∷ []
 one_range [] t l e = absurd (omega (arith, l))
 one_range (x ∷ []) t l e = ap (λ z. range_of z ∷ []) (sym e)
 one_range (x ∷ y ∷ rest) t l e = absurd (omega (arith, l))
@@ -83,7 +85,8 @@ dense_partial xs target e = let k : ◌≡◌ {A = ℕ} 0 255 = dense_single 0 x
     ranges e = cc
 
 -- What the unanchored start and its second alternate are, and what the tests of them mean.
-module _ (a : Automaton) (at : ℕ) (s : State) (other : a.start_unanchored ≡ a.start_anchored → ⊥) (same : at ≡ a.start_unanchored)
+module _ (a : Automaton) (at : ℕ) (s : State) (other : a.start_unanchored ≡ a.start_anchored → ⊥)
+    (same : at ≡ a.start_unanchored)
     (within : at < length a.states) (read : s ≡ get_or a.states at s) where
   start_is : node (nfa_of a) a.start_unanchored ≡ node_of s
   start_is = ap (node (nfa_of a)) (sym same) ∙ node_at a.states at s s within read
@@ -93,9 +96,11 @@ module _ (a : Automaton) (at : ℕ) (s : State) (other : a.start_unanchored ≡ 
     where
       from : SkipsLazily a → IsTrue false
       from (SharedStart e) = absurd (other e)
-      from (LazyLoop z h) = absurd (none_some (sym none ∙ second_has (node_of s) a.start_anchored z (sym start_is ∙ h.0)))
+      from (LazyLoop z h) =
+          absurd (none_some (sym none ∙ second_has (node_of s) a.start_anchored z (sym start_is ∙ h.0)))
 
-  module _ (skip spot : ℕ) (r : State) (second : second_at (node_of s) a.start_anchored ≡ Some skip) (here : spot ≡ skip) (inside : spot < length a.states) (next : r ≡ get_or a.states spot r) where
+  module _ (skip spot : ℕ) (r : State) (second : second_at (node_of s) a.start_anchored ≡ Some skip)
+      (here : spot ≡ skip) (inside : spot < length a.states) (next : r ≡ get_or a.states spot r) where
     second_one : (skip' : ℕ) → node (nfa_of a) a.start_unanchored ≡ Split (a.start_anchored ∷ skip' ∷ []) → skip ≡ skip'
     second_one skip' e = some_inj (sym second ∙ second_has (node_of s) a.start_anchored skip' (sym start_is ∙ e))
 
@@ -111,7 +116,8 @@ module _ (a : Automaton) (at : ℕ) (s : State) (other : a.start_unanchored ≡ 
 
     pub skips_unless :
         (leads : Bool) → states_ordered a.states ≡ true → node_of r ≡ any_byte a.start_unanchored
-        → IsTrue leads ↔ IsReached Every a.states (a.start_anchored ∷ []) a.start_unanchored → IsTrue (not leads) ↔ SkipsLazily a
+        → IsTrue leads ↔ IsReached Every a.states (a.start_anchored ∷ []) a.start_unanchored
+        → IsTrue (not leads) ↔ SkipsLazily a
     skips_unless true ordered passes found = (λ t. absurd (true≢false (sym t)), from)
       where
         from : SkipsLazily a → IsTrue false

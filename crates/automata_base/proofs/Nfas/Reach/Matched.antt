@@ -14,7 +14,8 @@ use Rattle.automata_base.proofs.Paths.Walks.{in_either}
 
 pub match_here :
     (states : List State) (ids : List ℕ) (i id at : ℕ) (s : State)
-    → i < length ids → id ≡ get_or ids i id → at ≡ id → at < length states → s ≡ get_or states at s → IsMatchAt (node_of s)
+    → i < length ids → id ≡ get_or ids i id → at ≡ id → at < length states → s ≡ get_or states at s
+    → IsMatchAt (node_of s)
     → IsTrue true ↔ ((q : ℕ) × In q ids × IsMatchAt (node_in states q))
 match_here states ids i id at s l e a m t h =
     (λ _. (id, subst (λ z. In z ids) (sym e) (In-get_or ids i id l), subst IsMatchAt (sym here) h), λ _. refl)
@@ -24,10 +25,13 @@ match_here states ids i id at s l e a m t h =
 
 pub match_next :
     (states : List State) (ids : List ℕ) (i id at : ℕ) (s : State)
-    → i < length ids → id ≡ get_or ids i id → at ≡ id → at < length states → s ≡ get_or states at s → (IsMatchAt (node_of s) → ⊥)
-    → ((q : ℕ) → In q (take i ids) → IsMatchAt (node_in states q) → ⊥) → (q : ℕ) → In q (take (i + 1) ids) → IsMatchAt (node_in states q) → ⊥
+    → i < length ids → id ≡ get_or ids i id → at ≡ id → at < length states → s ≡ get_or states at s
+    → (IsMatchAt (node_of s) → ⊥)
+    → ((q : ℕ) → In q (take i ids) → IsMatchAt (node_in states q) → ⊥) → (q : ℕ) → In q (take (i + 1) ids)
+    → IsMatchAt (node_in states q) → ⊥
 match_next states ids i id at s l e a m t h before q j k =
-    go (in_either q (take i ids) (id ∷ []) (subst (λ z. In q z) (take_more ids i id l ∙ ap (λ z. take i ids ++ z ∷ []) (sym e)) j))
+    go (in_either q (take i ids) (id ∷ [])
+    (subst (λ z. In q z) (take_more ids i id l ∙ ap (λ z. take i ids ++ z ∷ []) (sym e)) j))
   where
     here : node_in states id ≡ node_of s
     here = ap (node_in states) (sym a) ∙ node_at states at s s m t
@@ -38,14 +42,16 @@ match_next states ids i id at s l e a m t h before q j k =
     go (inr (inr p)) = p
 
 pub match_none :
-    (states : List State) (ids : List ℕ) (i : ℕ) → length ids ≤ i → ((q : ℕ) → In q (take i ids) → IsMatchAt (node_in states q) → ⊥)
+    (states : List State) (ids : List ℕ) (i : ℕ) → length ids ≤ i
+    → ((q : ℕ) → In q (take i ids) → IsMatchAt (node_in states q) → ⊥)
     → IsTrue false ↔ ((q : ℕ) × In q ids × IsMatchAt (node_in states q))
 match_none states ids i l none =
     (λ e. absurd (true≢false (sym e)), λ h. absurd (none h.0 (subst (λ z. In h.0 z) (sym (take_all i ids l)) h.1) h.2))
 
 pub match_found :
     (states : List State) (roots slice items : List ℕ) (b : Bool) → slice ≡ items
-    → IsTrue b ↔ ((q : ℕ) × In q slice × IsMatchAt (node_in states q)) → ((q : ℕ) → In q items ↔ IsReached Epsilon states roots q)
+    → IsTrue b ↔ ((q : ℕ) × In q slice × IsMatchAt (node_in states q))
+    → ((q : ℕ) → In q items ↔ IsReached Epsilon states roots q)
     → IsTrue b ↔ ReachesMatch states roots
 match_found states roots slice items b e found reached = (
   λ t. let h = found.0 t in (h.0, (reached h.0).0 (subst (λ z. In h.0 z) e h.1), h.2),
@@ -53,7 +59,8 @@ match_found states roots slice items b e found reached = (
 )
 
 pub target_found :
-    (P : Type 0) (items : List ℕ) (target : ℕ) (b : Bool) → (IsTrue b → In target items) → (IsFalse b → In target items → ⊥)
+    (P : Type 0) (items : List ℕ) (target : ℕ) (b : Bool) → (IsTrue b → In target items)
+    → (IsFalse b → In target items → ⊥)
     → In target items ↔ P → IsTrue b ↔ P
 target_found P items target true had new reached = (λ t. reached.0 (had refl), λ _. refl)
 target_found P items target false had new reached =

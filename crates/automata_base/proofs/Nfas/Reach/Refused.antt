@@ -1,5 +1,6 @@
 -- What the tests of `NFA::from_states` mean.
-use Rattle.std.proofs.Common.{ℕ, ◌≡◌, ◌<◌, ◌≤◌, ◌+◌, ◌-◌, ◌^◌, ◌&&◌, Bool, true, false, leb, ltb, List, [], ◌∷◌, length, map}
+use Rattle.std.proofs.Common.{ℕ, ◌≡◌, ◌<◌, ◌≤◌, ◌+◌, ◌-◌, ◌^◌, ◌&&◌, Bool, true, false, leb, ltb, List, [], ◌∷◌, length}
+use Rattle.std.proofs.Common.{map}
 use Rattle.std.proofs.Common.{Option, Some, None, Result, Ok, Err, refl, sym, ap, ◌∙◌, arith}
 use Rattle.std.specs.Prelude.{sum_by, IsOk}
 use Rattle.std.proofs.lemmas.Bool.{leb-true, ltb-true}
@@ -21,7 +22,9 @@ use Rattle.std.proofs.lemmas.Bool.{and_parts}
 
 abbrev pub chain : (small narrow starts targets ranges patterns : Bool) → Option NfaError
 chain small narrow starts targets ranges patterns =
-    unless small TooLarge (unless narrow TooLarge (unless starts StartRange (unless targets StateRange (unless ranges Ranges (unless patterns PatternRange None)))))
+    unless small TooLarge
+    (unless narrow TooLarge
+    (unless starts StartRange (unless targets StateRange (unless ranges Ranges (unless patterns PatternRange None)))))
 
 -- The tests of states are those of their shapes.
 all_below_is : (n : ℕ) (xs : List State) → every (shape_below n) (map shape_of xs) ≡ states_below n xs
@@ -44,11 +47,15 @@ all_alternates_is (x ∷ xs) =
 
 pub refusal_is :
     (states : List State) (a u : ℕ) (starts : List ℕ)
-    → states_error states a u starts ≡ chain (is_small states starts) (is_narrow states) (starts_below (length states) a u starts) (states_below (length states) states) (states_ordered states) (matches_below (length starts) states)
+    → states_error states a u starts
+    ≡ chain (is_small states starts) (is_narrow states) (starts_below (length states) a u starts)
+    (states_below (length states) states) (states_ordered states) (matches_below (length starts) states)
 unfolding shapes_error
 refusal_is states a u starts =
-    ap (λ n. chain (leb n (2 ^ 27) && leb (length starts) (2 ^ 27)) (leb (sum_by shape_alternates (map shape_of states)) (2 ^ 31))
-    (starts_below n a u starts) (every (shape_below n) (map shape_of states)) (every shape_ordered (map shape_of states))
+    ap (λ n. chain (leb n (2 ^ 27) && leb (length starts) (2 ^ 27))
+    (leb (sum_by shape_alternates (map shape_of states)) (2 ^ 31))
+    (starts_below n a u starts) (every (shape_below n) (map shape_of states))
+    (every shape_ordered (map shape_of states))
     (every (shape_matches_below (length starts)) (map shape_of states))) (length-map states shape_of)
     ∙ (ap (λ k. chain (is_small states starts) (leb k (2 ^ 31)) (starts_below (length states) a u starts)
     (every (shape_below (length states)) (map shape_of states)) (every shape_ordered (map shape_of states))
@@ -69,21 +76,32 @@ pub stops_narrow : (a b c d e f : Bool) → a ≡ true → b ≡ false → chain
 stops_narrow a b c d e f h i = ap (λ z. chain z b c d e f) h ∙ ap (λ z. chain true z c d e f) i
 
 pub stops_starts : (a b c d e f : Bool) → a ≡ true → b ≡ true → c ≡ false → chain a b c d e f ≡ Some StartRange
-stops_starts a b c d e f h i j = ap (λ z. chain z b c d e f) h ∙ (ap (λ z. chain true z c d e f) i ∙ ap (λ z. chain true true z d e f) j)
+stops_starts a b c d e f h i j =
+    ap (λ z. chain z b c d e f) h ∙ (ap (λ z. chain true z c d e f) i ∙ ap (λ z. chain true true z d e f) j)
 
-pub stops_targets : (a b c d e f : Bool) → a ≡ true → b ≡ true → c ≡ true → d ≡ false → chain a b c d e f ≡ Some StateRange
+pub stops_targets :
+    (a b c d e f : Bool) → a ≡ true → b ≡ true → c ≡ true → d ≡ false → chain a b c d e f ≡ Some StateRange
 stops_targets a b c d e f h i j k =
-    ap (λ z. chain z b c d e f) h ∙ (ap (λ z. chain true z c d e f) i ∙ (ap (λ z. chain true true z d e f) j ∙ ap (λ z. chain true true true z e f) k))
+    ap (λ z. chain z b c d e f) h
+    ∙ (ap (λ z. chain true z c d e f) i
+    ∙ (ap (λ z. chain true true z d e f) j ∙ ap (λ z. chain true true true z e f) k))
 
-pub stops_ranges : (a b c d e f : Bool) → a ≡ true → b ≡ true → c ≡ true → d ≡ true → e ≡ false → chain a b c d e f ≡ Some Ranges
+pub stops_ranges :
+    (a b c d e f : Bool) → a ≡ true → b ≡ true → c ≡ true → d ≡ true → e ≡ false → chain a b c d e f ≡ Some Ranges
 stops_ranges a b c d e f h i j k l =
     ap (λ z. chain z b c d e f) h
-    ∙ (ap (λ z. chain true z c d e f) i ∙ (ap (λ z. chain true true z d e f) j ∙ (ap (λ z. chain true true true z e f) k ∙ ap (λ z. chain true true true true z f) l)))
+    ∙ (ap (λ z. chain true z c d e f) i
+    ∙ (ap (λ z. chain true true z d e f) j
+    ∙ (ap (λ z. chain true true true z e f) k ∙ ap (λ z. chain true true true true z f) l)))
 
-pub goes_on : (a b c d e f : Bool) → a ≡ true → b ≡ true → c ≡ true → d ≡ true → e ≡ true → chain a b c d e f ≡ unless f PatternRange None
+pub goes_on :
+    (a b c d e f : Bool) → a ≡ true → b ≡ true → c ≡ true → d ≡ true → e ≡ true
+    → chain a b c d e f ≡ unless f PatternRange None
 goes_on a b c d e f h i j k l =
     ap (λ z. chain z b c d e f) h
-    ∙ (ap (λ z. chain true z c d e f) i ∙ (ap (λ z. chain true true z d e f) j ∙ (ap (λ z. chain true true true z e f) k ∙ ap (λ z. chain true true true true z f) l)))
+    ∙ (ap (λ z. chain true z c d e f) i
+    ∙ (ap (λ z. chain true true z d e f) j
+    ∙ (ap (λ z. chain true true true z e f) k ∙ ap (λ z. chain true true true true z f) l)))
 
 some_apart : {x : NfaError} → ◌≡◌ {A = Option NfaError} (Some x) None → ⊥
 some_apart e = cc
@@ -118,7 +136,8 @@ extras_most (x ∷ xs) =
     let e : extra_of x ≡ alternates_of x - 1 = extra_is x in
     let ih : sum_by extra_of xs ≤ sum_by alternates_of xs = extras_most xs in
     let left : sum_by extra_of (x ∷ xs) ≡ extra_of x + sum_by extra_of xs = sum_by-cons extra_of x xs in
-    let right : sum_by alternates_of (x ∷ xs) ≡ alternates_of x + sum_by alternates_of xs = sum_by-cons alternates_of x xs in
+    let right : sum_by alternates_of (x ∷ xs) ≡ alternates_of x + sum_by alternates_of xs =
+    sum_by-cons alternates_of x xs in
     omega arith
 
 -- Few alternates make a small room.
@@ -135,52 +154,64 @@ module _ (s : List State) (a u : ℕ) (t : List ℕ) where
   refused_small h =
       reported (states_error s a u t) TooLarge
       (refusal_is s a u t
-      ∙ stops_small (is_small s t) (is_narrow s) (starts_below (length s) a u t) (states_below (length s) s) (states_ordered s) (matches_below (length t) s) h)
+      ∙ stops_small (is_small s t) (is_narrow s) (starts_below (length s) a u t) (states_below (length s) s)
+      (states_ordered s) (matches_below (length t) s) h)
 
   pub refused_wide : is_small s t ≡ true → is_narrow s ≡ false → IsReported (states_error s a u t) (Err TooLarge)
   refused_wide h i =
       reported (states_error s a u t) TooLarge
       (refusal_is s a u t
-      ∙ stops_narrow (is_small s t) (is_narrow s) (starts_below (length s) a u t) (states_below (length s) s) (states_ordered s) (matches_below (length t) s) h i)
+      ∙ stops_narrow (is_small s t) (is_narrow s) (starts_below (length s) a u t) (states_below (length s) s)
+      (states_ordered s) (matches_below (length t) s) h i)
 
   pub refused_starts :
-      is_small s t ≡ true → is_narrow s ≡ true → starts_below (length s) a u t ≡ false → IsReported (states_error s a u t) (Err StartRange)
+      is_small s t ≡ true → is_narrow s ≡ true → starts_below (length s) a u t ≡ false
+      → IsReported (states_error s a u t) (Err StartRange)
   refused_starts h i j =
       reported (states_error s a u t) StartRange
       (refusal_is s a u t
-      ∙ stops_starts (is_small s t) (is_narrow s) (starts_below (length s) a u t) (states_below (length s) s) (states_ordered s) (matches_below (length t) s) h i j)
+      ∙ stops_starts (is_small s t) (is_narrow s) (starts_below (length s) a u t) (states_below (length s) s)
+      (states_ordered s) (matches_below (length t) s) h i j)
 
   pub refused_targets :
-      is_small s t ≡ true → is_narrow s ≡ true → starts_below (length s) a u t ≡ true → states_below (length s) s ≡ false
+      is_small s t ≡ true → is_narrow s ≡ true → starts_below (length s) a u t ≡ true
+      → states_below (length s) s ≡ false
       → IsReported (states_error s a u t) (Err StateRange)
   refused_targets h i j k =
       reported (states_error s a u t) StateRange
       (refusal_is s a u t
-      ∙ stops_targets (is_small s t) (is_narrow s) (starts_below (length s) a u t) (states_below (length s) s) (states_ordered s) (matches_below (length t) s) h i j k)
+      ∙ stops_targets (is_small s t) (is_narrow s) (starts_below (length s) a u t) (states_below (length s) s)
+      (states_ordered s) (matches_below (length t) s) h i j k)
 
   pub refused_ranges :
-      is_small s t ≡ true → is_narrow s ≡ true → starts_below (length s) a u t ≡ true → states_below (length s) s ≡ true → states_ordered s ≡ false
+      is_small s t ≡ true → is_narrow s ≡ true → starts_below (length s) a u t ≡ true → states_below (length s) s ≡ true
+      → states_ordered s ≡ false
       → IsReported (states_error s a u t) (Err Ranges)
   refused_ranges h i j k l =
       reported (states_error s a u t) Ranges
       (refusal_is s a u t
-      ∙ stops_ranges (is_small s t) (is_narrow s) (starts_below (length s) a u t) (states_below (length s) s) (states_ordered s) (matches_below (length t) s) h i j k l)
+      ∙ stops_ranges (is_small s t) (is_narrow s) (starts_below (length s) a u t) (states_below (length s) s)
+      (states_ordered s) (matches_below (length t) s) h i j k l)
 
   last_test :
-      is_small s t ≡ true → is_narrow s ≡ true → starts_below (length s) a u t ≡ true → states_below (length s) s ≡ true → states_ordered s ≡ true
+      is_small s t ≡ true → is_narrow s ≡ true → starts_below (length s) a u t ≡ true → states_below (length s) s ≡ true
+      → states_ordered s ≡ true
       → states_error s a u t ≡ unless (matches_below (length t) s) PatternRange None
   last_test h i j k l =
       refusal_is s a u t
-      ∙ goes_on (is_small s t) (is_narrow s) (starts_below (length s) a u t) (states_below (length s) s) (states_ordered s) (matches_below (length t) s) h i j k l
+      ∙ goes_on (is_small s t) (is_narrow s) (starts_below (length s) a u t) (states_below (length s) s)
+      (states_ordered s) (matches_below (length t) s) h i j k l
 
   pub refused_patterns :
-      is_small s t ≡ true → is_narrow s ≡ true → starts_below (length s) a u t ≡ true → states_below (length s) s ≡ true → states_ordered s ≡ true
+      is_small s t ≡ true → is_narrow s ≡ true → starts_below (length s) a u t ≡ true → states_below (length s) s ≡ true
+      → states_ordered s ≡ true
       → matches_below (length t) s ≡ false → IsReported (states_error s a u t) (Err PatternRange)
   refused_patterns h i j k l m =
       reported (states_error s a u t) PatternRange (last_test h i j k l ∙ ap (λ z. unless z PatternRange None) m)
 
   pub refused_none :
-      (totals : Totals) → is_small s t ≡ true → is_narrow s ≡ true → starts_below (length s) a u t ≡ true → states_below (length s) s ≡ true → states_ordered s ≡ true
+      (totals : Totals) → is_small s t ≡ true → is_narrow s ≡ true → starts_below (length s) a u t ≡ true
+      → states_below (length s) s ≡ true → states_ordered s ≡ true
       → matches_below (length t) s ≡ true → IsReported (states_error s a u t) (Ok totals)
   refused_none totals h i j k l m =
       reported_none (states_error s a u t) totals (last_test h i j k l ∙ ap (λ z. unless z PatternRange None) m)
@@ -201,7 +232,8 @@ pub passing : (s : List State) (a u : ℕ) (t : List ℕ) → states_error s a u
 passing s a u t none =
     let n = length s in
     let tests =
-    all_passed (is_small s t) (is_narrow s) (starts_below n a u t) (states_below n s) (states_ordered s) (matches_below (length t) s)
+    all_passed (is_small s t) (is_narrow s) (starts_below n a u t) (states_below n s) (states_ordered s)
+    (matches_below (length t) s)
     (sym (refusal_is s a u t) ∙ none) in
     let sizes = and_parts (leb n 134217728) (leb (length t) 134217728) tests.0 in
     let starts = and_parts (ltb a n && ltb u n) (all_below n t) tests.2 in

@@ -10,7 +10,8 @@ use Rattle.automata_base.proofs.Nfas.Reach.Adding.{once_keeps, once_has, once_on
 use Rattle.automata_base.proofs.Paths.Walks.{in_either}
 
 pub way_more :
-    (G : ℕ → List ℕ) (q : ℕ) (way : List ℕ) (z r : ℕ) → Route G q way z → In r (G z) → (way' : List ℕ) × Route G q way' r
+    (G : ℕ → List ℕ) (q : ℕ) (way : List ℕ) (z r : ℕ) → Route G q way z → In r (G z) → (way' : List ℕ)
+    × Route G q way' r
 way_more G q [] z r w i = (r ∷ [], (subst (λ v. In r (G v)) (sym w) i, refl))
 way_more G q (s ∷ way) z r w i = let h = way_more G s way z r w.1 i in (s ∷ h.0, (w.0, h.1))
 
@@ -52,7 +53,8 @@ roots_once G none items roots z e s = (
 
 pub walk_steps :
     (G : ℕ → List ℕ) (roots : List ℕ) (at : ℕ) (items new : List ℕ) (q : ℕ)
-    → at < length items → q ≡ get_or items at q → new ≡ once_from items (G q) → IsWalked G roots at items → IsWalked G roots (at + 1) new
+    → at < length items → q ≡ get_or items at q → new ≡ once_from items (G q) → IsWalked G roots at items
+    → IsWalked G roots (at + 1) new
 walk_steps G roots at items new q l e s w =
     subst (λ z. IsWalked G roots (at + 1) z) (sym s) (record {
       has = λ r i. once_keeps r items (G q) (w.has r i);
@@ -61,7 +63,9 @@ walk_steps G roots at items new q l e s w =
     })
   where
     front : take (at + 1) (once_from items (G q)) ≡ take at items ++ q ∷ []
-    front = once_take (at + 1) items (G q) (omega (arith, l)) ∙ (take_more items at q l ∙ ap (λ z. take at items ++ z ∷ []) (sym e))
+    front =
+        once_take (at + 1) items (G q) (omega (arith, l))
+        ∙ (take_more items at q l ∙ ap (λ z. take at items ++ z ∷ []) (sym e))
 
     here : IsReachedBy G roots q
     here = w.sound q (subst (λ z. In z items) (sym e) (In-get_or items at q l))

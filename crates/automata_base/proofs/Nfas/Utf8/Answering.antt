@@ -33,19 +33,25 @@ module _ (way : Direction) (a : Automaton) where
   pub answer_keeps : (b : Bool) → IsAnswer way a b → IsTrue b → (kind : MatchKind) → KeepsUtf8 way (engine_of a kind)
   answer_keeps b h t kind = keeps_from way a (h.0 t) kind
 
-  pub answer_exact : (b : Bool) → IsAnswer way a b → HasNoLook a → (kind : MatchKind) → IsTrue b ↔ KeepsUtf8 way (engine_of a kind)
+  pub answer_exact :
+      (b : Bool) → IsAnswer way a b → HasNoLook a → (kind : MatchKind) → IsTrue b ↔ KeepsUtf8 way (engine_of a kind)
   answer_exact b h lookless kind = (λ t. keeps_from way a (h.0 t) kind, λ k. h.1 (keeps_back way a kind lookless k))
 
   -- In UTF-8 mode, by a walk.
   walked :
       (cs : List Class) → chained 0 cs ≡ true → classes_below cs ≡ true
-      → ((us : List ℕ) → AreBytes us → decode cs 0 us ≡ 0 ↔ IsUtf8 (in_order way us)) → IsChecked a → a.flags.utf8 ≡ true
+      → ((us : List ℕ) → AreBytes us → decode cs 0 us ≡ 0 ↔ IsUtf8 (in_order way us)) → IsChecked a
+      → a.flags.utf8 ≡ true
       → (b : Bool) → IsTrue b ↔ EndsAtBoundaries cs a.states (a.start_anchored ∷ a.start_pattern) → IsAnswer way a b
   walked cs chain small right checked utf8 b h =
-      let w = ends_reads a cs chain small (λ us. IsUtf8 (in_order way us)) (a.start_anchored ∷ a.start_pattern) checked.ordered right in
+      let w =
+      ends_reads a cs chain small (λ us. IsUtf8 (in_order way us)) (a.start_anchored ∷ a.start_pattern) checked.ordered
+      right in
       (λ t _. w.0 (h.0 t), λ f. h.1 (w.1 (f utf8)))
 
 pub walked_forward :
     (a : Automaton) → IsChecked a → a.flags.utf8 ≡ true
-    → (b : Bool) → IsTrue b ↔ EndsAtBoundaries forward a.states (a.start_anchored ∷ a.start_pattern) → IsAnswer Forward a b
-walked_forward a checked utf8 = walked Forward a forward forward_chained (below forward forward_decodes) forward_right checked utf8
+    → (b : Bool) → IsTrue b ↔ EndsAtBoundaries forward a.states (a.start_anchored ∷ a.start_pattern)
+    → IsAnswer Forward a b
+walked_forward a checked utf8 =
+    walked Forward a forward forward_chained (below forward forward_decodes) forward_right checked utf8

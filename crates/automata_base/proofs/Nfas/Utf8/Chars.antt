@@ -1,5 +1,6 @@
 -- The first character of UTF-8, by its first byte.
-use Rattle.std.proofs.Common.{ℕ, ◌≡◌, ◌+◌, ◌-◌, ◌*◌, ◌/◌, ◌<◌, ◌≤◌, ◌⊎◌, true, List, [], ◌∷◌, ◌++◌, IsUtf8, inl, inr, refl, sym, ap, ◌∙◌, subst, arith, ⊎_elim, lt-ltb, le-ltb, le-leb}
+use Rattle.std.proofs.Common.{ℕ, ◌≡◌, ◌+◌, ◌-◌, ◌*◌, ◌/◌, ◌<◌, ◌≤◌, ◌⊎◌, true, List, [], ◌∷◌, ◌++◌, IsUtf8, inl, inr}
+use Rattle.std.proofs.Common.{refl, sym, ap, ◌∙◌, subst, arith, ⊎_elim, lt-ltb, le-ltb, le-leb}
 use Rattle.std.proofs.lemmas.Bool.{cases_lt, and_parts}
 use Rattle.std.proofs.lemmas.Str.{encode_ascii}
 use lib.Utf8.{scalar, scalars, encode, encodes, next, low_scalar, scalar_cases}
@@ -36,7 +37,9 @@ Fits4 u y = ((240 < u) ⊎ (144 ≤ y)) × ((u < 244) ⊎ (y < 144))
 pub data Lead (u : ℕ) (us : List ℕ) : Type 0 where
   of1 : u < 128 → IsUtf8 us → Lead u us
   of2 : (y : ℕ) (rest : List ℕ) → 194 ≤ u → u < 224 → IsNext y → us ≡ y ∷ rest → IsUtf8 rest → Lead u us
-  of3 : (y z : ℕ) (rest : List ℕ) → 224 ≤ u → u < 240 → IsNext y → IsNext z → Fits3 u y → us ≡ y ∷ z ∷ rest → IsUtf8 rest → Lead u us
+  of3 :
+      (y z : ℕ) (rest : List ℕ) → 224 ≤ u → u < 240 → IsNext y → IsNext z → Fits3 u y → us ≡ y ∷ z ∷ rest → IsUtf8 rest
+      → Lead u us
   of4 : (y z w : ℕ) (rest : List ℕ) → 240 ≤ u → u < 245 → IsNext y → IsNext z → IsNext w → Fits4 u y
       → us ≡ y ∷ z ∷ w ∷ rest → IsUtf8 rest → Lead u us
 
@@ -66,30 +69,38 @@ module _ (c u : ℕ) (rest us : List ℕ) (utf8 : IsUtf8 rest) (e : encode c ++ 
 
   lead3 : 2048 ≤ c → c < 65536 → (c < 55296) ⊎ ((57344 ≤ c) × (c < 1114112)) → Lead u us
   lead3 l h s =
-      let all : (224 + c / 4096) ∷ next (c / 64) ∷ next c ∷ rest ≡ u ∷ us = ap (λ p. p ++ rest) (sym (three c l h)) ∙ e in
+      let all : (224 + c / 4096) ∷ next (c / 64) ∷ next c ∷ rest ≡ u ∷ us =
+      ap (λ p. p ++ rest) (sym (three c l h)) ∙ e in
       let x : 224 + c / 4096 ≡ u = ap head all in
-      of3 (next (c / 64)) (next c) rest (omega arith) (omega arith) (follows (c / 64)) (follows c) (least x, most x s) (sym (ap tail all)) utf8
+      of3 (next (c / 64)) (next c) rest (omega arith) (omega arith) (follows (c / 64)) (follows c) (least x, most x s)
+      (sym (ap tail all)) utf8
     where
       least : 224 + c / 4096 ≡ u → (224 < u) ⊎ (160 ≤ next (c / 64))
       least x = ⊎_elim (λ (k : c < 4096). inr (omega arith)) (λ (k : 4096 ≤ c). inl (omega arith)) (cases_lt c 4096)
 
-      most : 224 + c / 4096 ≡ u → (c < 55296) ⊎ ((57344 ≤ c) × (c < 1114112)) → (u < 237) ⊎ ((237 < u) ⊎ (next (c / 64) < 160))
+      most :
+          224 + c / 4096 ≡ u → (c < 55296) ⊎ ((57344 ≤ c) × (c < 1114112)) → (u < 237)
+          ⊎ ((237 < u) ⊎ (next (c / 64) < 160))
       most x (inr k) = inr (inl (omega (arith, x, k.0)))
-      most x (inl k) = ⊎_elim (λ (m : c < 53248). inl (omega arith)) (λ (m : 53248 ≤ c). inr (inr (omega arith))) (cases_lt c 53248)
+      most x (inl k) =
+          ⊎_elim (λ (m : c < 53248). inl (omega arith)) (λ (m : 53248 ≤ c). inr (inr (omega arith))) (cases_lt c 53248)
 
   lead4 : 65536 ≤ c → c < 1114112 → Lead u us
   lead4 l h =
       let all : (240 + c / 262144) ∷ next (c / 4096) ∷ next (c / 64) ∷ next c ∷ rest ≡ u ∷ us =
       ap (λ p. p ++ rest) (sym (four c l)) ∙ e in
       let x : 240 + c / 262144 ≡ u = ap head all in
-      of4 (next (c / 4096)) (next (c / 64)) (next c) rest (omega arith) (omega arith) (follows (c / 4096)) (follows (c / 64)) (follows c)
+      of4 (next (c / 4096)) (next (c / 64)) (next c) rest (omega arith) (omega arith) (follows (c / 4096))
+      (follows (c / 64)) (follows c)
       (least x, most x) (sym (ap tail all)) utf8
     where
       least : 240 + c / 262144 ≡ u → (240 < u) ⊎ (144 ≤ next (c / 4096))
-      least x = ⊎_elim (λ (k : c < 262144). inr (omega arith)) (λ (k : 262144 ≤ c). inl (omega arith)) (cases_lt c 262144)
+      least x =
+          ⊎_elim (λ (k : c < 262144). inr (omega arith)) (λ (k : 262144 ≤ c). inl (omega arith)) (cases_lt c 262144)
 
       most : 240 + c / 262144 ≡ u → (u < 244) ⊎ (next (c / 4096) < 144)
-      most x = ⊎_elim (λ (m : c < 1048576). inl (omega arith)) (λ (m : 1048576 ≤ c). inr (omega arith)) (cases_lt c 1048576)
+      most x =
+          ⊎_elim (λ (m : c < 1048576). inl (omega arith)) (λ (m : 1048576 ≤ c). inr (omega arith)) (cases_lt c 1048576)
 
   lead_of : (c < 55296) ⊎ ((57344 ≤ c) × (c < 1114112)) → Lead u us
   lead_of s = go (cases_lt c 128) (cases_lt c 2048) (cases_lt c 65536)
@@ -138,11 +149,13 @@ four_bytes : (x y z w : ℕ) → 240 ≤ x → IsNext y → IsNext z → IsNext 
     → let c = (x - 240) * 262144 + (y - 128) * 4096 + (z - 128) * 64 + (w - 128) in
     (240 + c / 262144 ≡ x) × (next (c / 4096) ≡ y) × (next (c / 64) ≡ z) × (next c ≡ w)
 four_bytes x y z w h f g j =
-    let e : ((x - 240) * 262144 + (y - 128) * 4096 + (z - 128) * 64 + (w - 128)) / 64 ≡ (x - 240) * 4096 + (y - 128) * 64 + (z - 128) = omega arith in
+    let e : ((x - 240) * 262144 + (y - 128) * 4096 + (z - 128) * 64 + (w - 128)) / 64 ≡ (x - 240) * 4096
+    + (y - 128) * 64 + (z - 128) = omega arith in
     (omega arith, omega arith, rw e (omega arith), omega arith)
 
 pub cons_three :
-    (x y z : ℕ) (bs : List ℕ) → 224 ≤ x → x < 240 → IsNext y → IsNext z → Fits3 x y → IsUtf8 bs → IsUtf8 (x ∷ y ∷ z ∷ bs)
+    (x y z : ℕ) (bs : List ℕ) → 224 ≤ x → x < 240 → IsNext y → IsNext z → Fits3 x y → IsUtf8 bs
+    → IsUtf8 (x ∷ y ∷ z ∷ bs)
 cons_three x y z bs l h f g n =
     let c = (x - 224) * 4096 + (y - 128) * 64 + (z - 128) in
     let bytes = three_bytes x y z l f g in
@@ -150,7 +163,8 @@ cons_three x y z bs l h f g n =
     let q = bytes.1 in
     let r = bytes.2 in
     let ok : scalar c ≡ true =
-    ⊎_elim (λ (a : c < 55296). low_scalar c a) (λ (a : 55296 ≤ c). high_scalar c (omega arith) (omega arith)) (cases_lt c 55296) in
+    ⊎_elim (λ (a : c < 55296). low_scalar c a) (λ (a : 55296 ≤ c). high_scalar c (omega arith) (omega arith))
+    (cases_lt c 55296) in
     cons c (x ∷ y ∷ z ∷ []) bs ok (three c (omega arith) (omega arith) ∙ (λ k. p k ∷ q k ∷ r k ∷ []))
 
 pub cons_four :

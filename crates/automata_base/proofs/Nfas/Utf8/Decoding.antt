@@ -49,7 +49,8 @@ rows_step s low (c ∷ cs) u us rows l h = go (leb u c.last) refl (λ k. rows_st
     go true e ih = rows.0 u us l (leb-true u c.last e)
     go false e ih = ih (let k : c.last < u = leb-false u c.last e in omega arith)
 
--- The tests of a class that begins at `low`: inside or outside the bounds of a state; of a state that has failed; of the
+-- The tests of a class that begins at `low`: inside or outside the bounds of a state; of a state that has failed; of
+-- the
 -- bytes that begin a character.
 abbrev fits : (lo hi target s low : ℕ) → Class → Bool
 fits lo hi target s low c =
@@ -73,8 +74,10 @@ record Kind : Type 0 where
 abbrev kinds : List Kind
 kinds =
     record { lo = 0; hi = 127; to = 0 } ∷ record { lo = 128; hi = 193; to = 1 } ∷ record { lo = 194; hi = 223; to = 2 }
-    ∷ record { lo = 224; hi = 224; to = 5 } ∷ record { lo = 225; hi = 236; to = 3 } ∷ record { lo = 237; hi = 237; to = 6 }
-    ∷ record { lo = 238; hi = 239; to = 3 } ∷ record { lo = 240; hi = 240; to = 7 } ∷ record { lo = 241; hi = 243; to = 4 }
+    ∷ record { lo = 224; hi = 224; to = 5 } ∷ record { lo = 225; hi = 236; to = 3 }
+    ∷ record { lo = 237; hi = 237; to = 6 }
+    ∷ record { lo = 238; hi = 239; to = 3 } ∷ record { lo = 240; hi = 240; to = 7 }
+    ∷ record { lo = 241; hi = 243; to = 4 }
     ∷ record { lo = 244; hi = 244; to = 8 } ∷ record { lo = 245; hi = 255; to = 1 } ∷ []
 
 abbrev is_kind : (low last to : ℕ) → List Kind → Bool
@@ -92,7 +95,8 @@ decodes_utf8 cs =
     && (all_fit 128 143 3 8 0 cs && (all_fail 9 0 cs && all_fail 10 0 cs))))))))))
 
 -- What the tests show.
-rows_fail : (s low : ℕ) (cs : List Class) → ((us : List ℕ) → Completes s us → ⊥) → all_fail s low cs ≡ true → Rows s low cs
+rows_fail :
+    (s low : ℕ) (cs : List Class) → ((us : List ℕ) → Completes s us → ⊥) → all_fail s low cs ≡ true → Rows s low cs
 rows_fail s low [] none e = leb-true 256 low e
 rows_fail s low (c ∷ cs) none e =
     let p = and_parts (eqb (get_or c.to s 0) 1) (all_fail s (c.last + 1) cs) e in
@@ -104,12 +108,14 @@ rows_fail s low (c ∷ cs) none e =
     row t u us l h =
         (λ k. absurd (none (u ∷ us) k), λ k. absurd (subst (λ z. Completes z us) (eqb-true (get_or c.to s 0) 1 t) k))
 
-module _ (lo hi target s : ℕ) (is : (u : ℕ) (us : List ℕ) → Completes s (u ∷ us) ↔ Next lo hi (Completes target) (u ∷ us)) where
+module _ (lo hi target s : ℕ)
+    (is : (u : ℕ) (us : List ℕ) → Completes s (u ∷ us) ↔ Next lo hi (Completes target) (u ∷ us)) where
   row_fits :
       (low : ℕ) (c : Class) → fits lo hi target s low c ≡ true → (u : ℕ) (us : List ℕ) → low ≤ u → u ≤ c.last
       → Completes s (u ∷ us) ↔ Completes (get_or c.to s 0) us
   row_fits low c e u us l h =
-      go (or_cases (leb lo low && (leb c.last hi && eqb (get_or c.to s 0) target)) ((ltb c.last lo || ltb hi low) && eqb (get_or c.to s 0) 1) e)
+      go (or_cases (leb lo low && (leb c.last hi && eqb (get_or c.to s 0) target))
+      ((ltb c.last lo || ltb hi low) && eqb (get_or c.to s 0) 1) e)
     where
       inside : leb lo low ≡ true → leb c.last hi ≡ true → eqb (get_or c.to s 0) target ≡ true
           → Completes s (u ∷ us) ↔ Completes (get_or c.to s 0) us
@@ -207,7 +213,8 @@ three lo hi u l h low high inside outside us = (λ k. go (lead u us k), back us)
     back [] k = absurd k
     back (y ∷ []) k = absurd k.2
     back (y ∷ z ∷ us) k =
-        cons_three u y z us l h (omega (arith, k.0, low), omega (arith, k.1, high)) (k.2.0, omega (arith, k.2.1)) (outside y k.0 k.1) k.2.2
+        cons_three u y z us l h (omega (arith, k.0, low), omega (arith, k.1, high)) (k.2.0, omega (arith, k.2.1))
+        (outside y k.0 k.1) k.2.2
 
 -- A first byte of four.
 four : (lo hi u : ℕ) → 240 ≤ u → u < 245 → 128 ≤ lo → hi ≤ 191
@@ -237,41 +244,61 @@ right_none : IsRight (record { lo = 128; hi = 193; to = 1 })
 right_none u us l h = (λ k. absurd (none u us l (inl (omega (arith, h))) k), λ k. absurd k)
 
 right_e0 : IsRight (record { lo = 224; hi = 224; to = 5 })
-right_e0 u us l h = three 160 191 u l (omega (arith, h)) (omega arith) (omega arith) (λ y f n. (omega (arith, h, n.0), omega (arith, f.1))) (λ y a b. (inr a, inl (omega (arith, h)))) us
+right_e0 u us l h =
+    three 160 191 u l (omega (arith, h)) (omega arith) (omega arith)
+    (λ y f n. (omega (arith, h, n.0), omega (arith, f.1))) (λ y a b. (inr a, inl (omega (arith, h)))) us
 
 right_three : IsRight (record { lo = 225; hi = 236; to = 3 })
-right_three u us l h = three 128 191 u (omega (arith, l)) (omega (arith, h)) (omega arith) (omega arith) (λ y f n. (f.0, omega (arith, f.1))) (λ y a b. (inl (omega (arith, l)), inl (omega (arith, h)))) us
+right_three u us l h =
+    three 128 191 u (omega (arith, l)) (omega (arith, h)) (omega arith) (omega arith)
+    (λ y f n. (f.0, omega (arith, f.1))) (λ y a b. (inl (omega (arith, l)), inl (omega (arith, h)))) us
 
 right_ed : IsRight (record { lo = 237; hi = 237; to = 6 })
-right_ed u us l h = three 128 159 u (omega (arith, l)) (omega (arith, h)) (omega arith) (omega arith) (λ y f n. (f.0, omega (arith, l, h, n.1))) (λ y a b. (inl (omega (arith, l)), inr (inr (omega (arith, b))))) us
+right_ed u us l h =
+    three 128 159 u (omega (arith, l)) (omega (arith, h)) (omega arith) (omega arith)
+    (λ y f n. (f.0, omega (arith, l, h, n.1))) (λ y a b. (inl (omega (arith, l)), inr (inr (omega (arith, b))))) us
 
 right_last3 : IsRight (record { lo = 238; hi = 239; to = 3 })
-right_last3 u us l h = three 128 191 u (omega (arith, l)) (omega (arith, h)) (omega arith) (omega arith) (λ y f n. (f.0, omega (arith, f.1))) (λ y a b. (inl (omega (arith, l)), inr (inl (omega (arith, l))))) us
+right_last3 u us l h =
+    three 128 191 u (omega (arith, l)) (omega (arith, h)) (omega arith) (omega arith)
+    (λ y f n. (f.0, omega (arith, f.1))) (λ y a b. (inl (omega (arith, l)), inr (inl (omega (arith, l))))) us
 
 right_f0 : IsRight (record { lo = 240; hi = 240; to = 7 })
-right_f0 u us l h = four 144 191 u l (omega (arith, h)) (omega arith) (omega arith) (λ y f n. (omega (arith, h, n.0), omega (arith, f.1))) (λ y a b. (inr a, inl (omega (arith, h)))) us
+right_f0 u us l h =
+    four 144 191 u l (omega (arith, h)) (omega arith) (omega arith)
+    (λ y f n. (omega (arith, h, n.0), omega (arith, f.1))) (λ y a b. (inr a, inl (omega (arith, h)))) us
 
 right_four : IsRight (record { lo = 241; hi = 243; to = 4 })
-right_four u us l h = four 128 191 u (omega (arith, l)) (omega (arith, h)) (omega arith) (omega arith) (λ y f n. (f.0, omega (arith, f.1))) (λ y a b. (inl (omega (arith, l)), inl (omega (arith, h)))) us
+right_four u us l h =
+    four 128 191 u (omega (arith, l)) (omega (arith, h)) (omega arith) (omega arith)
+    (λ y f n. (f.0, omega (arith, f.1))) (λ y a b. (inl (omega (arith, l)), inl (omega (arith, h)))) us
 
 right_f4 : IsRight (record { lo = 244; hi = 244; to = 8 })
-right_f4 u us l h = four 128 143 u (omega (arith, l)) (omega (arith, h)) (omega arith) (omega arith) (λ y f n. (f.0, omega (arith, l, n.1))) (λ y a b. (inl (omega (arith, l)), inr (omega (arith, b)))) us
+right_f4 u us l h =
+    four 128 143 u (omega (arith, l)) (omega (arith, h)) (omega arith) (omega arith)
+    (λ y f n. (f.0, omega (arith, l, n.1))) (λ y a b. (inl (omega (arith, l)), inr (omega (arith, b)))) us
 
 right_past : IsRight (record { lo = 245; hi = 255; to = 1 })
 right_past u us l h = (λ k. absurd (none u us (omega (arith, l)) (inr l) k), λ k. absurd k)
 
 are_right : AreRight kinds
-are_right = (ascii, (right_none, (two, (right_e0, (right_three, (right_ed, (right_last3, (right_f0, (right_four, (right_f4, (right_past, tt)))))))))))
+are_right =
+    (ascii, (right_none,
+    (two, (right_e0,
+    (right_three, (right_ed, (right_last3, (right_f0, (right_four, (right_f4, (right_past, tt)))))))))))
 
 row_kind :
     (ks : List Kind) (low : ℕ) (c : Class) → AreRight ks → is_kind low c.last (get_or c.to 0 0) ks ≡ true
     → (u : ℕ) (us : List ℕ) → low ≤ u → u ≤ c.last → IsUtf8 (u ∷ us) ↔ Completes (get_or c.to 0 0) us
 row_kind [] low c right e u us l h = absurd (true≢false (sym e))
 row_kind (k ∷ ks) low c right e u us l h =
-    go (or_cases (leb k.lo low && (leb c.last k.hi && eqb (get_or c.to 0 0) k.to)) (is_kind low c.last (get_or c.to 0 0) ks) e)
+    go (or_cases (leb k.lo low && (leb c.last k.hi && eqb (get_or c.to 0 0) k.to))
+    (is_kind low c.last (get_or c.to 0 0) ks) e)
     (λ t. row_kind ks low c right.1 t u us l h)
   where
-    go : ((leb k.lo low && (leb c.last k.hi && eqb (get_or c.to 0 0) k.to)) ≡ true) ⊎ (is_kind low c.last (get_or c.to 0 0) ks ≡ true)
+    go :
+        ((leb k.lo low && (leb c.last k.hi && eqb (get_or c.to 0 0) k.to)) ≡ true)
+        ⊎ (is_kind low c.last (get_or c.to 0 0) ks ≡ true)
         → (is_kind low c.last (get_or c.to 0 0) ks ≡ true → IsUtf8 (u ∷ us) ↔ Completes (get_or c.to 0 0) us)
         → IsUtf8 (u ∷ us) ↔ Completes (get_or c.to 0 0) us
     go (inr t) ih = ih t
@@ -308,14 +335,18 @@ module _ (cs : List Class) (test : decodes_utf8 cs ≡ true) where
       let t10 = and_parts (all_fail 9 0 cs) (all_fail 10 0 cs) t9.1 in
       go s l
       (rows_kinds 0 cs t1.0) (rows_fail 1 0 cs (λ us k. k) t2.0)
-      (rows_fit 128 191 0 2 (λ u us. (λ k. k, λ k. k)) 0 cs t3.0) (rows_fit 128 191 2 3 (λ u us. (λ k. k, λ k. k)) 0 cs t4.0)
-      (rows_fit 128 191 3 4 (λ u us. (λ k. k, λ k. k)) 0 cs t5.0) (rows_fit 160 191 2 5 (λ u us. (λ k. k, λ k. k)) 0 cs t6.0)
-      (rows_fit 128 159 2 6 (λ u us. (λ k. k, λ k. k)) 0 cs t7.0) (rows_fit 144 191 3 7 (λ u us. (λ k. k, λ k. k)) 0 cs t8.0)
+      (rows_fit 128 191 0 2 (λ u us. (λ k. k, λ k. k)) 0 cs t3.0)
+      (rows_fit 128 191 2 3 (λ u us. (λ k. k, λ k. k)) 0 cs t4.0)
+      (rows_fit 128 191 3 4 (λ u us. (λ k. k, λ k. k)) 0 cs t5.0)
+      (rows_fit 160 191 2 5 (λ u us. (λ k. k, λ k. k)) 0 cs t6.0)
+      (rows_fit 128 159 2 6 (λ u us. (λ k. k, λ k. k)) 0 cs t7.0)
+      (rows_fit 144 191 3 7 (λ u us. (λ k. k, λ k. k)) 0 cs t8.0)
       (rows_fit 128 143 3 8 (λ u us. (λ k. k, λ k. k)) 0 cs t9.0)
       (rows_fail 9 0 cs (λ us k. k) t10.0) (rows_fail 10 0 cs (λ us k. k) t10.1)
     where
       go :
-          (s : ℕ) → s < 11 → Rows 0 0 cs → Rows 1 0 cs → Rows 2 0 cs → Rows 3 0 cs → Rows 4 0 cs → Rows 5 0 cs → Rows 6 0 cs
+          (s : ℕ) → s < 11 → Rows 0 0 cs → Rows 1 0 cs → Rows 2 0 cs → Rows 3 0 cs → Rows 4 0 cs → Rows 5 0 cs
+          → Rows 6 0 cs
           → Rows 7 0 cs → Rows 8 0 cs → Rows 9 0 cs → Rows 10 0 cs → Rows s 0 cs
       go zero l a b c d e f g h i j k = a
       go (suc zero) l a b c d e f g h i j k = b
@@ -328,7 +359,8 @@ module _ (cs : List Class) (test : decodes_utf8 cs ≡ true) where
       go (suc (suc (suc (suc (suc (suc (suc (suc zero)))))))) l a b c d e f g h i j k = i
       go (suc (suc (suc (suc (suc (suc (suc (suc (suc zero))))))))) l a b c d e f g h i j k = j
       go (suc (suc (suc (suc (suc (suc (suc (suc (suc (suc zero)))))))))) l a b c d e f g h i j k = k
-      go (suc (suc (suc (suc (suc (suc (suc (suc (suc (suc (suc n))))))))))) l a b c d e f g h i j k = absurd (omega (arith, l))
+      go (suc (suc (suc (suc (suc (suc (suc (suc (suc (suc (suc n))))))))))) l a b c d e f g h i j k =
+          absurd (omega (arith, l))
 
 pub step_below : (cs : List Class) (s u : ℕ) → classes_below cs ≡ true → step cs s u < 11
 step_below [] s u e = omega arith
@@ -363,7 +395,8 @@ ends_is (suc (suc (suc (suc (suc (suc (suc (suc zero)))))))) = (λ e. absurd (om
 ends_is (suc (suc (suc (suc (suc (suc (suc (suc (suc n))))))))) = (λ e. absurd (omega (arith, e)), λ k. absurd k)
 
 decode_is :
-    (cs : List Class) → decodes_utf8 cs ≡ true → (us : List ℕ) (s : ℕ) → s < 11 → AreBytes us → decode cs s us ≡ 0 ↔ Completes s us
+    (cs : List Class) → decodes_utf8 cs ≡ true → (us : List ℕ) (s : ℕ) → s < 11 → AreBytes us
+    → decode cs s us ≡ 0 ↔ Completes s us
 decode_is cs test [] s l bytes = ends_is s
 decode_is cs test (u ∷ us) s l bytes =
     let r = rows_step s 0 cs u us (rows cs test s l) (omega arith) bytes.0 in
@@ -371,5 +404,6 @@ decode_is cs test (u ∷ us) s l bytes =
     (λ k. r.1 (h.0 k), λ k. h.1 (r.0 k))
 
 -- Between two characters again exactly after UTF-8.
-pub decode_utf8 : (cs : List Class) → decodes_utf8 cs ≡ true → (us : List ℕ) → AreBytes us → decode cs 0 us ≡ 0 ↔ IsUtf8 us
+pub decode_utf8 :
+    (cs : List Class) → decodes_utf8 cs ≡ true → (us : List ℕ) → AreBytes us → decode cs 0 us ≡ 0 ↔ IsUtf8 us
 decode_utf8 cs test us bytes = decode_is cs test us 0 (omega arith) bytes

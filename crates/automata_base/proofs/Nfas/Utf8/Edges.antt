@@ -56,9 +56,11 @@ Hits cs s low y r =
     (u : ℕ) × (low ≤ u) × (u < 256) × (r.lo ≤ u) × (u ≤ r.hi) × (y ≡ pair r.next (step cs s u))
 
 range_from :
-    (s y low : ℕ) (r : Range) (cs : List Class) → r.lo ≤ r.hi → chained low cs ≡ true → In y (range_pairs cs s r) → Hits cs s low y r
+    (s y low : ℕ) (r : Range) (cs : List Class) → r.lo ≤ r.hi → chained low cs ≡ true → In y (range_pairs cs s r)
+    → Hits cs s low y r
 range_from s y low r [] o e i = absurd i
-range_from s y low r (c ∷ cs) o e i = go (in_either y (pairs_in s r c) (range_pairs cs s r) i) (range_from s y (c.last + 1) r cs o q.1)
+range_from s y low r (c ∷ cs) o e i =
+    go (in_either y (pairs_in s r c) (range_pairs cs s r) i) (range_from s y (c.last + 1) r cs o q.1)
   where
     p : (eqb c.first low ≡ true) × ((leb low c.last && chained (c.last + 1) cs) ≡ true)
     p = and_parts (eqb c.first low) (leb low c.last && chained (c.last + 1) cs) e
@@ -75,10 +77,14 @@ range_from s y low r (c ∷ cs) o e i = go (in_either y (pairs_in s r c) (range_
     top : c.last + 1 ≤ 256
     top = chain_ends (c.last + 1) cs q.1
 
-    at : (u : ℕ) → low ≤ u → u ≤ c.last → r.lo ≤ u → u ≤ r.hi → y ≡ pair r.next (get_or c.to s 0) → Hits (c ∷ cs) s low y r
+    at :
+        (u : ℕ) → low ≤ u → u ≤ c.last → r.lo ≤ u → u ≤ r.hi → y ≡ pair r.next (get_or c.to s 0)
+        → Hits (c ∷ cs) s low y r
     at u a b l h f = (u, a, omega (arith, b, top), l, h, f ∙ ap (pair r.next) (sym (step_here c cs s u b)))
 
-    met : c.first ≤ r.hi → r.lo ≤ c.last → y ≡ pair r.next (get_or c.to s 0) → (r.lo < low) ⊎ (low ≤ r.lo) → Hits (c ∷ cs) s low y r
+    met :
+        c.first ≤ r.hi → r.lo ≤ c.last → y ≡ pair r.next (get_or c.to s 0) → (r.lo < low) ⊎ (low ≤ r.lo)
+        → Hits (c ∷ cs) s low y r
     met a b f (inl l) = at low (omega arith) last (omega (arith, l)) (omega (arith, a, first)) f
     met a b f (inr l) = at r.lo l b (omega arith) o f
 
@@ -93,7 +99,9 @@ range_from s y low r (c ∷ cs) o e i = go (in_either y (pairs_in s r c) (range_
     later (u, a, b, l, h, f) =
         (u, omega (arith, a, last), b, l, h, f ∙ ap (pair r.next) (sym (step_later c cs s u (omega (arith, a)))))
 
-    go : In y (pairs_in s r c) ⊎ In y (range_pairs cs s r) → (In y (range_pairs cs s r) → Hits cs s (c.last + 1) y r) → Hits (c ∷ cs) s low y r
+    go :
+        In y (pairs_in s r c) ⊎ In y (range_pairs cs s r) → (In y (range_pairs cs s r) → Hits cs s (c.last + 1) y r)
+        → Hits (c ∷ cs) s low y r
     go (inl j) ih = here (meets c r) refl j
     go (inr j) ih = later (ih j)
 
@@ -103,7 +111,9 @@ Led cs s low y ranges =
     (u r : ℕ) × (low ≤ u) × (u < 256) × (takes_in ranges u ≡ Some r) × (y ≡ pair r (step cs s u))
 
 module _ (cs : List Class) (chain : chained 0 cs ≡ true) (s y : ℕ) where
-  led_first : (low : ℕ) (r : Range) (rs : List Range) → low ≤ r.lo → r.lo ≤ r.hi → In y (range_pairs cs s r) → Led cs s low y (r ∷ rs)
+  led_first :
+      (low : ℕ) (r : Range) (rs : List Range) → low ≤ r.lo → r.lo ≤ r.hi → In y (range_pairs cs s r)
+      → Led cs s low y (r ∷ rs)
   led_first low r rs l o i = go (range_from s y 0 r cs o chain i)
     where
       go : Hits cs s 0 y r → Led cs s low y (r ∷ rs)
@@ -116,7 +126,9 @@ module _ (cs : List Class) (chain : chained 0 cs ≡ true) (s y : ℕ) where
         f,
       )
 
-  led_later : (low past : ℕ) (r : Range) (rs : List Range) → low ≤ past → r.hi < past → Led cs s past y rs → Led cs s low y (r ∷ rs)
+  led_later :
+      (low past : ℕ) (r : Range) (rs : List Range) → low ≤ past → r.hi < past → Led cs s past y rs
+      → Led cs s low y (r ∷ rs)
   led_later low past r rs l h (u, q, a, b, t, f) = (
     u,
     q,
@@ -126,10 +138,13 @@ module _ (cs : List Class) (chain : chained 0 cs ≡ true) (s y : ℕ) where
     f,
   )
 
-  sparse_led : (low : ℕ) (ts : List Transition) → ordered_from low ts ≡ true → In y (ranges_pairs cs s (ranges_of ts)) → Led cs s low y (ranges_of ts)
+  sparse_led :
+      (low : ℕ) (ts : List Transition) → ordered_from low ts ≡ true → In y (ranges_pairs cs s (ranges_of ts))
+      → Led cs s low y (ranges_of ts)
   sparse_led low [] e i = absurd i
   sparse_led low (t ∷ ts) e i =
-      go (in_either y (range_pairs cs s (range_of t)) (ranges_pairs cs s (ranges_of ts)) i) (sparse_led (t.hi + 1) ts p.1)
+      go (in_either y (range_pairs cs s (range_of t)) (ranges_pairs cs s (ranges_of ts)) i)
+      (sparse_led (t.hi + 1) ts p.1)
     where
       p : ((leb low t.lo && leb t.lo t.hi) ≡ true) × (ordered_from (t.hi + 1) ts ≡ true)
       p = and_parts (leb low t.lo && leb t.lo t.hi) (ordered_from (t.hi + 1) ts) e
@@ -144,7 +159,8 @@ module _ (cs : List Class) (chain : chained 0 cs ≡ true) (s y : ℕ) where
       b = leb-true t.lo t.hi q.1
 
       go : In y (range_pairs cs s (range_of t)) ⊎ In y (ranges_pairs cs s (ranges_of ts))
-          → (In y (ranges_pairs cs s (ranges_of ts)) → Led cs s (t.hi + 1) y (ranges_of ts)) → Led cs s low y (ranges_of (t ∷ ts))
+          → (In y (ranges_pairs cs s (ranges_of ts)) → Led cs s (t.hi + 1) y (ranges_of ts))
+          → Led cs s low y (ranges_of (t ∷ ts))
       go (inl j) ih = led_first low (range_of t) (ranges_of ts) a b j
       go (inr j) ih = led_later low (t.hi + 1) (range_of t) (ranges_of ts) (omega (arith, a, b)) (omega arith) (ih j)
 
@@ -155,15 +171,20 @@ module _ (cs : List Class) (chain : chained 0 cs ≡ true) (s y : ℕ) where
   dense_led k [] i = absurd i
   dense_led k (zero ∷ xs) i = led_more k (suc k) (dense_from (suc k) xs) (omega arith) (dense_led (suc k) xs i)
   dense_led k (suc m ∷ xs) i =
-      go (in_either y (range_pairs cs s (record { lo = k; hi = k; next = suc m })) (ranges_pairs cs s (dense_from (suc k) xs)) i)
+      go (in_either y (range_pairs cs s (record { lo = k; hi = k; next = suc m }))
+      (ranges_pairs cs s (dense_from (suc k) xs)) i)
       (dense_led (suc k) xs)
     where
-      go : In y (range_pairs cs s (record { lo = k; hi = k; next = suc m })) ⊎ In y (ranges_pairs cs s (dense_from (suc k) xs))
+      go :
+          In y (range_pairs cs s (record { lo = k; hi = k; next = suc m }))
+          ⊎ In y (ranges_pairs cs s (dense_from (suc k) xs))
           → (In y (ranges_pairs cs s (dense_from (suc k) xs)) → Led cs s (suc k) y (dense_from (suc k) xs))
           → Led cs s k y (dense_from k (suc m ∷ xs))
-      go (inl j) ih = led_first k (record { lo = k; hi = k; next = suc m }) (dense_from (suc k) xs) (omega arith) (omega arith) j
+      go (inl j) ih =
+          led_first k (record { lo = k; hi = k; next = suc m }) (dense_from (suc k) xs) (omega arith) (omega arith) j
       go (inr j) ih =
-          led_later k (suc k) (record { lo = k; hi = k; next = suc m }) (dense_from (suc k) xs) (omega arith) (omega arith) (ih j)
+          led_later k (suc k) (record { lo = k; hi = k; next = suc m }) (dense_from (suc k) xs) (omega arith)
+          (omega arith) (ih j)
 
   -- Of a state.
   abbrev Byte : Node → Type 0
@@ -176,7 +197,9 @@ module _ (cs : List Class) (chain : chained 0 cs ≡ true) (s y : ℕ) where
   state_led (is.ByteRange lo hi next) o i =
       go (in_either y (range_pairs cs s (record { lo = lo; hi = hi; next = next })) [] i)
     where
-      go : In y (range_pairs cs s (record { lo = lo; hi = hi; next = next })) ⊎ In y [] → Byte (node_of (is.ByteRange lo hi next))
+      go :
+          In y (range_pairs cs s (record { lo = lo; hi = hi; next = next })) ⊎ In y []
+          → Byte (node_of (is.ByteRange lo hi next))
       go (inl j) =
           of_led (record { lo = lo; hi = hi; next = next } ∷ [])
           (led_first 0 (record { lo = lo; hi = hi; next = next }) [] (omega arith) (leb-true lo hi o) j)
@@ -190,7 +213,9 @@ module _ (cs : List Class) (chain : chained 0 cs ≡ true) (s y : ℕ) where
   state_led is.Fail o i = absurd i
   state_led (is.Match pattern) o i = absurd i
 
-  node_led : (states : List State) (q : ℕ) → states_ordered states ≡ true → In y (byte_pairs cs s (node_in states q)) → Byte (node_in states q)
+  node_led :
+      (states : List State) (q : ℕ) → states_ordered states ≡ true → In y (byte_pairs cs s (node_in states q))
+      → Byte (node_in states q)
   node_led [] q o i = absurd i
   node_led (x ∷ xs) zero o i = state_led x (and_parts (state_ordered x) (states_ordered xs) o).0 i
   node_led (x ∷ xs) (suc q) o i = node_led xs q (and_parts (state_ordered x) (states_ordered xs) o).1 i
@@ -212,14 +237,16 @@ module _ (s u : ℕ) (byte : u < 256) where
       met : u ≤ c.last → meets c r ≡ true
       met h =
           let f : c.first ≡ low = eqb-true c.first low p.0 in
-          ap (λ v. v && leb r.lo c.last) (le-leb c.first r.hi (omega (arith, f, l, b))) ∙ le-leb r.lo c.last (omega (arith, a, h))
+          ap (λ v. v && leb r.lo c.last) (le-leb c.first r.hi (omega (arith, f, l, b)))
+          ∙ le-leb r.lo c.last (omega (arith, a, h))
 
       go :
           (v : Bool) → leb u c.last ≡ v → (c.last + 1 ≤ u → In (pair r.next (step cs s u)) (range_pairs cs s r))
           → In (pair r.next (cond v (get_or c.to s 0) (step cs s u))) (pairs_in s r c ++ range_pairs cs s r)
       go true h ih =
           in_left (pair r.next (get_or c.to s 0)) (pairs_in s r c) (range_pairs cs s r)
-          (subst (λ v. In (pair r.next (get_or c.to s 0)) (cond v (pair r.next (get_or c.to s 0) ∷ []) [])) (sym (met (leb-true u c.last h))) (inl refl))
+          (subst (λ v. In (pair r.next (get_or c.to s 0)) (cond v (pair r.next (get_or c.to s 0) ∷ []) []))
+          (sym (met (leb-true u c.last h))) (inl refl))
       go false h ih =
           let k : c.last < u = leb-false u c.last h in
           in_right (pair r.next (step cs s u)) (pairs_in s r c) (range_pairs cs s r) (ih (omega arith))
@@ -240,7 +267,9 @@ module _ (s u : ℕ) (byte : u < 256) where
           (range_hit 0 x cs e (omega arith) (leb-true x.lo u w.0) (leb-true u x.hi w.1)))
       go false h f ih = in_right (pair r (step cs s u)) (range_pairs cs s x) (ranges_pairs cs s xs) (ih f)
 
-  node_hit : (cs : List Class) (x : Node) (r : ℕ) → chained 0 cs ≡ true → takes_at x u ≡ Some r → In (pair r (step cs s u)) (byte_pairs cs s x)
+  node_hit :
+      (cs : List Class) (x : Node) (r : ℕ) → chained 0 cs ≡ true → takes_at x u ≡ Some r
+      → In (pair r (step cs s u)) (byte_pairs cs s x)
   node_hit cs (Split alternates) r e t = absurd (none_some t)
   node_hit cs (Assert look next) r e t = absurd (none_some t)
   node_hit cs (Read ranges) r e t = ranges_hit cs ranges r e t
@@ -267,14 +296,19 @@ module _ (a : Automaton) (cs : List Class) (chain : chained 0 cs ≡ true) where
   pub edge_from :
       (x y : ℕ) → states_ordered a.states ≡ true → In y (pairs_of cs a.states x) → Edge a cs (x / 11) (x % 11) y
   edge_from x y ordered i =
-      go (in_either y (pairs_at (x % 11) (children (nfa_of a) all_true (x / 11))) (byte_pairs cs (x % 11) (node_in a.states (x / 11))) i)
+      go (in_either y (pairs_at (x % 11) (children (nfa_of a) all_true (x / 11)))
+      (byte_pairs cs (x % 11) (node_in a.states (x / 11))) i)
     where
-      free : ((r : ℕ) × In r (children (nfa_of a) all_true (x / 11)) × (y ≡ pair r (x % 11))) → Edge a cs (x / 11) (x % 11) y
+      free :
+          ((r : ℕ) × In r (children (nfa_of a) all_true (x / 11)) × (y ≡ pair r (x % 11)))
+          → Edge a cs (x / 11) (x % 11) y
       free w =
           let k = in_nth (children (nfa_of a) all_true (x / 11)) w.0 w.1 in
           inl (k.0, w.0, hop_children (nfa_of a) all_true (x / 11) k.0 ∙ k.1, w.2)
 
-      go : In y (pairs_at (x % 11) (children (nfa_of a) all_true (x / 11))) ⊎ In y (byte_pairs cs (x % 11) (node_in a.states (x / 11)))
+      go :
+          In y (pairs_at (x % 11) (children (nfa_of a) all_true (x / 11)))
+          ⊎ In y (byte_pairs cs (x % 11) (node_in a.states (x / 11)))
           → Edge a cs (x / 11) (x % 11) y
       go (inl j) = free (of_pairs (x % 11) y (children (nfa_of a) all_true (x / 11)) j)
       go (inr j) = inr (node_led cs chain (x % 11) y a.states (x / 11) ordered j)
@@ -285,15 +319,19 @@ module _ (a : Automaton) (cs : List Class) (chain : chained 0 cs ≡ true) where
       let m : pair q s % 11 ≡ s = omega (arith, l) in
       ap (λ z. node_pairs cs z (node_in a.states (pair q s / 11))) m ∙ ap (λ z. node_pairs cs s (node_in a.states z)) d
 
-  pub edge_free : (q s e r : ℕ) → s < 11 → hop (nfa_of a) all_true q e ≡ Some r → In (pair r s) (pairs_of cs a.states (pair q s))
+  pub edge_free :
+      (q s e r : ℕ) → s < 11 → hop (nfa_of a) all_true q e ≡ Some r → In (pair r s) (pairs_of cs a.states (pair q s))
   edge_free q s e r l h =
       subst (λ z. In (pair r s) z) (sym (beside q s l))
       (in_left (pair r s) (pairs_at s (children (nfa_of a) all_true q)) (byte_pairs cs s (node_in a.states q))
-      (in_pairs s r (children (nfa_of a) all_true q) (nth_in (children (nfa_of a) all_true q) e r (sym (hop_children (nfa_of a) all_true q e) ∙ h))))
+      (in_pairs s r (children (nfa_of a) all_true q)
+      (nth_in (children (nfa_of a) all_true q) e r (sym (hop_children (nfa_of a) all_true q e) ∙ h))))
 
   pub edge_byte :
-      (q s u r : ℕ) → s < 11 → u < 256 → takes (nfa_of a) q u ≡ Some r → In (pair r (step cs s u)) (pairs_of cs a.states (pair q s))
+      (q s u r : ℕ) → s < 11 → u < 256 → takes (nfa_of a) q u ≡ Some r
+      → In (pair r (step cs s u)) (pairs_of cs a.states (pair q s))
   edge_byte q s u r l b t =
       subst (λ z. In (pair r (step cs s u)) z) (sym (beside q s l))
-      (in_right (pair r (step cs s u)) (pairs_at s (children (nfa_of a) all_true q)) (byte_pairs cs s (node_in a.states q))
+      (in_right (pair r (step cs s u)) (pairs_at s (children (nfa_of a) all_true q))
+      (byte_pairs cs s (node_in a.states q))
       (node_hit s u b cs (node_in a.states q) r chain t))

@@ -49,7 +49,8 @@ bytes_end (v ∷ us) u b l = (b.0, bytes_end us u b.1 l)
 
 pub bytes_reverse : (us : List ℕ) → AreBytes us → AreBytes (reverse us)
 bytes_reverse [] b = tt
-bytes_reverse (u ∷ us) b = subst AreBytes (sym (reverse-cons u us)) (bytes_end (reverse us) u (bytes_reverse us b.1) b.0)
+bytes_reverse (u ∷ us) b =
+    subst AreBytes (sym (reverse-cons u us)) (bytes_end (reverse us) u (bytes_reverse us b.1) b.0)
 
 bytes_between : (h : List ℕ) (i j : ℕ) → IsHaystack h → AreBytes (between h i j)
 bytes_between h i j f = bytes_take (j - i) (drop i h) (bytes_drop i h (bytes_of h f))
@@ -96,13 +97,16 @@ order_tape Backward h i j = reverse-reverse (between h i j)
 
 -- A search of an anchored mode begins at the anchored start or at a pattern's.
 starts_in :
-    (a : Automaton) (kind : MatchKind) (mode : Anchored) (start : ℕ) → (mode ≡ No → ⊥) → first_state (engine_of a kind) mode ≡ Some start
+    (a : Automaton) (kind : MatchKind) (mode : Anchored) (start : ℕ) → (mode ≡ No → ⊥)
+    → first_state (engine_of a kind) mode ≡ Some start
     → In start (a.start_anchored ∷ a.start_pattern)
 starts_in a kind No start f e = absurd (f refl)
 starts_in a kind Yes start f e = inl (sym (some_inj e))
 starts_in a kind (Pattern k) start f e = inr (nth_in a.start_pattern k start e)
 
-pub keeps_from : (way : Direction) (a : Automaton) → (a.flags.utf8 ≡ true → ReadsUtf8 way a) → (kind : MatchKind) → KeepsUtf8 way (engine_of a kind)
+pub keeps_from :
+    (way : Direction) (a : Automaton) → (a.flags.utf8 ≡ true → ReadsUtf8 way a) → (kind : MatchKind)
+    → KeepsUtf8 way (engine_of a kind)
 keeps_from way a f kind h i j pattern mode start path utf8 hay l w anchored first acc =
     subst IsUtf8 (order_tape way h i j)
     (f utf8 start acc.0 pattern (tape_of way h i j).bytes (starts_in a kind mode start anchored first)
@@ -110,11 +114,14 @@ keeps_from way a f kind h i j pattern mode start path utf8 hay l w anchored firs
     (path_reads (nfa_of a) (tape_of way h i j) (bytes_tape way h i j hay) 0 [] start path (j - i) acc.0 acc.1)) acc.2)
   where
     whole : take (j - i - 0) (drop 0 (tape_of way h i j).bytes) ≡ (tape_of way h i j).bytes
-    whole = take_all (j - i - 0) (tape_of way h i j).bytes (let k = tape_whole way h i j (omega (arith, l)) w in omega (arith, k))
+    whole =
+        take_all (j - i - 0) (tape_of way h i j).bytes
+        (let k = tape_whole way h i j (omega (arith, l)) w in omega (arith, k))
 
 -- Without looks, what is read is the way of a path.
 hop_same_at :
-    (x : Node) (A : Truth) (e r : ℕ) → ((look : Look) (next : ℕ) → x ≡ Assert look next → ⊥) → hop_at x all_true e ≡ Some r → hop_at x A e ≡ Some r
+    (x : Node) (A : Truth) (e r : ℕ) → ((look : Look) (next : ℕ) → x ≡ Assert look next → ⊥)
+    → hop_at x all_true e ≡ Some r → hop_at x A e ≡ Some r
 hop_same_at (Split alternates) A e r f h = h
 hop_same_at (Assert look next) A e r f h = absurd (f look next refl)
 hop_same_at (Read ranges) A e r f h = h
@@ -140,11 +147,13 @@ drop_next (x ∷ xs) us (suc i) u e = drop_next xs us i u e
 
 module _ (a : Automaton) (t : Tape) (lookless : HasNoLook a) where
   hop_same : (i q e r : ℕ) → hop (nfa_of a) all_true q e ≡ Some r → hop (nfa_of a) (truth (nfa_of a) t i) q e ≡ Some r
-  hop_same i q e r h = hop_same_at (node (nfa_of a) q) (truth (nfa_of a) t i) e r (λ look next f. lookless look (q, next, f)) h
+  hop_same i q e r h =
+      hop_same_at (node (nfa_of a) q) (truth (nfa_of a) t i) e r (λ look next f. lookless look (q, next, f)) h
 
   reads_path :
       (i q : ℕ) (us : List ℕ) (z : ℕ) → ReadsTo (nfa_of a) q us z → (first : ℕ) → drop i t.bytes ≡ us
-      → HasWalk (nfa_of a) (truth (nfa_of a) t i) first q → (path : List ℕ) × IsPathFrom (nfa_of a) t i [] first path (i + length us) z
+      → HasWalk (nfa_of a) (truth (nfa_of a) t i) first q → (path : List ℕ)
+      × IsPathFrom (nfa_of a) t i [] first path (i + length us) z
   reads_path i q us z ends first d w =
       let e : i ≡ i + 0 = omega arith in
       (w.0, subst (λ v. IsPathFrom (nfa_of a) t i [] first w.0 v z) e (walk_path (nfa_of a) t i [] first w.0 z w.1))
@@ -158,7 +167,8 @@ module _ (a : Automaton) (t : Tape) (lookless : HasNoLook a) where
       let e : suc i + length vs ≡ i + length (u ∷ vs) = omega arith in (
         w.0 ++ (0 ∷ p.0),
         subst (λ v. IsPathFrom (nfa_of a) t i [] first (w.0 ++ (0 ∷ p.0)) v z) e
-            (path_extend (nfa_of a) t i [] first w.0 i q r p.0 (suc i + length vs) z (walk_path (nfa_of a) t i [] first w.0 q w.1) (u, f.0, m) p.1),
+            (path_extend (nfa_of a) t i [] first w.0 i q r p.0 (suc i + length vs) z
+            (walk_path (nfa_of a) t i [] first w.0 q w.1) (u, f.0, m) p.1),
       )
 
 order_length : (way : Direction) (us : List ℕ) → length (in_order way us) ≡ length us
@@ -185,7 +195,9 @@ starts_mode a kind start (inr i) = let k = in_nth a.start_pattern start i in (Pa
     apart : (k : ℕ) → Pattern k ≡ No → ⊥
     apart k f = cc
 
-pub keeps_back : (way : Direction) (a : Automaton) (kind : MatchKind) → HasNoLook a → KeepsUtf8 way (engine_of a kind) → a.flags.utf8 ≡ true → ReadsUtf8 way a
+pub keeps_back :
+    (way : Direction) (a : Automaton) (kind : MatchKind) → HasNoLook a → KeepsUtf8 way (engine_of a kind)
+    → a.flags.utf8 ≡ true → ReadsUtf8 way a
 keeps_back Forward a kind lookless keeps utf8 start q p [] i w m = IsUtf8-nil
 keeps_back Backward a kind lookless keeps utf8 start q p [] i w m = IsUtf8-nil
 keeps_back way a kind lookless keeps utf8 start q p (u ∷ us) i w m =
@@ -198,5 +210,6 @@ keeps_back way a kind lookless keeps utf8 start q p (u ∷ us) i w m =
     let fits : length all ≤ length h = omega (arith, order_length way all) in
     let e : 0 + length all ≡ length all - 0 = omega arith in
     subst IsUtf8 (order_whole way all)
-    (keeps h 0 (length all) p mode.0 start k.0 utf8 (haystack_of h (bytes_order way all (reads_bytes a start all q w))) long fits mode.1 mode.2
+    (keeps h 0 (length all) p mode.0 start k.0 utf8 (haystack_of h (bytes_order way all (reads_bytes a start all q w)))
+    long fits mode.1 mode.2
     (q, subst (λ v. IsPathFrom (nfa_of a) t 0 [] start k.0 v q) e k.1, m))

@@ -22,23 +22,27 @@ walk_from G items = record {
 
 -- A test of each member.
 module _ (P : ℕ → Type 0) (ids : List ℕ) where
-  pub each_fails : (i id : ℕ) → i < length ids → id ≡ get_or ids i id → (P id → ⊥) → IsTrue false ↔ ((x : ℕ) → In x ids → P x)
+  pub each_fails :
+      (i id : ℕ) → i < length ids → id ≡ get_or ids i id → (P id → ⊥) → IsTrue false ↔ ((x : ℕ) → In x ids → P x)
   each_fails i id l e f = (
     λ t. absurd (true≢false (sym t)),
     λ h. absurd (f (h id (subst (λ z. In z ids) (sym e) (In-get_or ids i id l)))),
   )
 
   pub each_next :
-      (i id : ℕ) → i < length ids → id ≡ get_or ids i id → P id → ((x : ℕ) → In x (take i ids) → P x) → (x : ℕ) → In x (take (i + 1) ids) → P x
+      (i id : ℕ) → i < length ids → id ≡ get_or ids i id → P id → ((x : ℕ) → In x (take i ids) → P x) → (x : ℕ)
+      → In x (take (i + 1) ids) → P x
   each_next i id l e p before x j =
-      go (in_either x (take i ids) (id ∷ []) (subst (λ z. In x z) (take_more ids i id l ∙ ap (λ z. take i ids ++ z ∷ []) (sym e)) j))
+      go (in_either x (take i ids) (id ∷ [])
+      (subst (λ z. In x z) (take_more ids i id l ∙ ap (λ z. take i ids ++ z ∷ []) (sym e)) j))
     where
       go : In x (take i ids) ⊎ In x (id ∷ []) → P x
       go (inl k) = before x k
       go (inr (inl k)) = subst P (sym k) p
       go (inr (inr k)) = absurd k
 
-  pub each_done : (i : ℕ) → length ids ≤ i → ((x : ℕ) → In x (take i ids) → P x) → IsTrue true ↔ ((x : ℕ) → In x ids → P x)
+  pub each_done :
+      (i : ℕ) → length ids ≤ i → ((x : ℕ) → In x (take i ids) → P x) → IsTrue true ↔ ((x : ℕ) → In x ids → P x)
   each_done i l all = (λ _ x j. all x (subst (λ z. In x z) (sym (take_all i ids l)) j), λ _. refl)
 
 -- A test of what would have to be.
@@ -48,7 +52,8 @@ test_not P Q false test never = (λ _ p. absurd (false≢true (test.1 p)), λ _.
 
 -- What holds of each member holds of each pair that is reached.
 pub test_reached :
-    (G : ℕ → List ℕ) (P : ℕ → Type 0) (roots old items slice : List ℕ) (b : Bool) → old ≡ once_from [] roots → slice ≡ items
+    (G : ℕ → List ℕ) (P : ℕ → Type 0) (roots old items slice : List ℕ) (b : Bool) → old ≡ once_from [] roots
+    → slice ≡ items
     → ((x : ℕ) → In x items ↔ IsReachedBy G old x) → IsTrue b ↔ ((x : ℕ) → In x slice → P x)
     → IsTrue b ↔ ((x : ℕ) → IsReachedBy G roots x → P x)
 test_reached G P roots old items slice b begun same reached test = (

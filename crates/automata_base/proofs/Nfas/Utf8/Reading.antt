@@ -34,7 +34,8 @@ module _ (a : Automaton) (cs : List Class) (chain : chained 0 cs ≡ true) (belo
   abbrev Read : (x z : ℕ) → Type 0
   Read x z = (us : List ℕ) × ReadsTo (nfa_of a) (x / 11) us (z / 11) × (z % 11 ≡ decode cs (x % 11) us)
 
-  route_reads : states_ordered a.states ≡ true → (x : ℕ) (way : List ℕ) (z : ℕ) → Route (pairs_of cs a.states) x way z → Read x z
+  route_reads :
+      states_ordered a.states ≡ true → (x : ℕ) (way : List ℕ) (z : ℕ) → Route (pairs_of cs a.states) x way z → Read x z
   route_reads ordered x [] z w =
       ([], subst (λ v. ReadsTo (nfa_of a) (x / 11) [] (v / 11)) w ends, ap (λ v. v % 11) (sym w))
   route_reads ordered x (y ∷ way) z w = go (edge_from a cs chain x y ordered w.0) (route_reads ordered y way z w.1)
@@ -55,12 +56,16 @@ module _ (a : Automaton) (cs : List Class) (chain : chained 0 cs ≡ true) (belo
 
   -- The walk's test is one of what is read.
   pub ends_reads :
-      (P : List ℕ → Type 0) (starts : List ℕ) → states_ordered a.states ≡ true → ((us : List ℕ) → AreBytes us → decode cs 0 us ≡ 0 ↔ P us)
+      (P : List ℕ → Type 0) (starts : List ℕ) → states_ordered a.states ≡ true
+      → ((us : List ℕ) → AreBytes us → decode cs 0 us ≡ 0 ↔ P us)
       → EndsAtBoundaries cs a.states starts
-      ↔ ((start q p : ℕ) (us : List ℕ) → In start starts → ReadsTo (nfa_of a) start us q → accepts (nfa_of a) q ≡ Some p → P us)
+      ↔ ((start q p : ℕ) (us : List ℕ) → In start starts → ReadsTo (nfa_of a) start us q → accepts (nfa_of a) q ≡ Some p
+      → P us)
   ends_reads P starts ordered right = (there, back)
     where
-      there : EndsAtBoundaries cs a.states starts → (start q p : ℕ) (us : List ℕ) → In start starts → ReadsTo (nfa_of a) start us q
+      there :
+          EndsAtBoundaries cs a.states starts → (start q p : ℕ) (us : List ℕ) → In start starts
+          → ReadsTo (nfa_of a) start us q
           → accepts (nfa_of a) q ≡ Some p → P us
       there h start q p us i w m =
           let k = reads_route start us q w 0 (omega arith) in
@@ -69,9 +74,12 @@ module _ (a : Automaton) (cs : List Class) (chain : chained 0 cs ≡ true) (belo
           let d : pair q s / 11 ≡ q = omega arith in
           let n : pair q s % 11 ≡ s = omega arith in
           (right us (reads_bytes a start us q w)).0
-          (sym n ∙ h (pair q s) (pair start 0, k.0, in_pairs 0 start starts i, k.1) (subst (λ v. IsMatchAt (node_in a.states v)) (sym d) (p, m)))
+          (sym n ∙ h (pair q s) (pair start 0, k.0, in_pairs 0 start starts i, k.1)
+          (subst (λ v. IsMatchAt (node_in a.states v)) (sym d) (p, m)))
 
-      back : ((start q p : ℕ) (us : List ℕ) → In start starts → ReadsTo (nfa_of a) start us q → accepts (nfa_of a) q ≡ Some p → P us)
+      back :
+          ((start q p : ℕ) (us : List ℕ) → In start starts → ReadsTo (nfa_of a) start us q
+          → accepts (nfa_of a) q ≡ Some p → P us)
           → EndsAtBoundaries cs a.states starts
       back h x (root, way, i, w) m = go (of_pairs 0 root starts i) (route_reads ordered root way x w)
         where
@@ -81,4 +89,5 @@ module _ (a : Automaton) (cs : List Class) (chain : chained 0 cs ≡ true) (belo
               let q : root / 11 ≡ start = omega arith in
               let s : root % 11 ≡ 0 = omega arith in
               let v : ReadsTo (nfa_of a) start us (x / 11) = subst (λ v. ReadsTo (nfa_of a) v us (x / 11)) q k in
-              d ∙ (ap (λ v. decode cs v us) s ∙ (right us (reads_bytes a start us (x / 11) v)).1 (h start (x / 11) m.0 us j v m.1))
+              d ∙ (ap (λ v. decode cs v us) s
+              ∙ (right us (reads_bytes a start us (x / 11) v)).1 (h start (x / 11) m.0 us j v m.1))

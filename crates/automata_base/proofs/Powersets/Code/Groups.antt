@@ -22,7 +22,8 @@ pub numbers-groups : (k n : ℕ) (rest : List ℕ) → FitsGroups k n → number
 unfolding groups numbers
 numbers-groups zero n rest h = cond-true (nat_lt n 128) _ _ (lt-ltb n 128 h)
 numbers-groups (suc k) n rest h =
-    cond_both (nat_lt n 128) (n ∷ []) ((128 + n % 128) ∷ groups k (n / 128)) (λ x. numbers (x ++ rest) ≡ n ∷ numbers rest)
+    cond_both (nat_lt n 128) (n ∷ []) ((128 + n % 128) ∷ groups k (n / 128))
+    (λ x. numbers (x ++ rest) ≡ n ∷ numbers rest)
     (λ e. cond-true (nat_lt n 128) _ _ e)
     (λ e. cond-false (nat_lt (128 + n % 128) 128) _ _ (le-ltb (128 + n % 128) 128 (omega arith))
     ∙ ap (with_low (128 + n % 128 - 128)) (numbers-groups k (n / 128) rest h)
@@ -37,18 +38,25 @@ id_at-difference before id = grind (arith, nat_tests)
 pub difference-bound : (before id : ℕ) → IsId before → IsId id → difference before id < 2 ^ 35
 difference-bound before id p q = grind (arith, nat_tests)
 
-pub ids_of-ids_code : (before : ℕ) (ids : List ℕ) → IsId before → AllByRecursion IsId ids → ids_of before (numbers (ids_code before ids)) ≡ ids
+pub ids_of-ids_code :
+    (before : ℕ) (ids : List ℕ) → IsId before → AllByRecursion IsId ids
+    → ids_of before (numbers (ids_code before ids)) ≡ ids
 unfolding ids_code ids_of numbers
 ids_of-ids_code before [] p h = refl
 ids_of-ids_code before (id ∷ ids) p h =
-    ap (ids_of before) (numbers-groups 4 (difference before id) (ids_code id ids) (fits_five _ (difference-bound before id p h.0)))
+    ap (ids_of before)
+    (numbers-groups 4 (difference before id) (ids_code id ids) (fits_five _ (difference-bound before id p h.0)))
     ∙ ap (λ x. x ∷ ids_of x (numbers (ids_code id ids))) (id_at-difference before id)
     ∙ ap (λ x. id ∷ x) (ids_of-ids_code id ids h.0 h.1)
 
-pub numbers_at-four_bytes : (ps rest : List ℕ) → AllByRecursion (λ p. p < 2 ^ 32) ps → numbers_at (length ps) (flat_map four_bytes ps ++ rest) ≡ ps
+pub numbers_at-four_bytes :
+    (ps rest : List ℕ) → AllByRecursion (λ p. p < 2 ^ 32) ps
+    → numbers_at (length ps) (flat_map four_bytes ps ++ rest) ≡ ps
 unfolding numbers_at
 numbers_at-four_bytes [] rest h = refl
-numbers_at-four_bytes (p ∷ ps) rest h = ap (λ x. x ∷ numbers_at (length ps) (flat_map four_bytes ps ++ rest)) (from_le_bytes-to_le_bytes_4 p h.0) ∙ ap (λ x. p ∷ x) (numbers_at-four_bytes ps rest h.1)
+numbers_at-four_bytes (p ∷ ps) rest h =
+    ap (λ x. x ∷ numbers_at (length ps) (flat_map four_bytes ps ++ rest)) (from_le_bytes-to_le_bytes_4 p h.0)
+    ∙ ap (λ x. p ∷ x) (numbers_at-four_bytes ps rest h.1)
 
 pub length-four_bytes : (ps : List ℕ) → length (flat_map four_bytes ps) ≡ 4 * length ps
 length-four_bytes [] = refl
@@ -62,13 +70,22 @@ varint-last n h = cond-true (nat_lt n 128) _ _ (lt-ltb n 128 h)
 
 pub varint-step : (n : ℕ) → n < 2 ^ 35 → 128 ≤ n → varint n ≡ (128 + n % 128) ∷ varint (n / 128)
 unfolding groups
-varint-step n f h = cond-false (nat_lt n 128) _ _ (le-ltb n 128 h) ∙ ap (λ x. (128 + n % 128) ∷ x) (groups-more 3 (n / 128) (fits_five n f))
+varint-step n f h =
+    cond-false (nat_lt n 128) _ _ (le-ltb n 128 h)
+    ∙ ap (λ x. (128 + n % 128) ∷ x) (groups-more 3 (n / 128) (fits_five n f))
 
-pub pushed-step : (out front bytes : List ℕ) (n b : ℕ) → n < 2 ^ 35 → 128 ≤ n → b ≡ 128 + n % 128 → out ++ varint n ≡ front → (out ++ b ∷ []) ++ varint (n / 128) ≡ front
-pushed-step out front bytes n b f h e p = append_assoc out (b ∷ []) (varint (n / 128)) ∙ ap (λ x. out ++ x ∷ varint (n / 128)) e ∙ ap (λ x. out ++ x) (sym (varint-step n f h)) ∙ p
+pub pushed-step :
+    (out front bytes : List ℕ) (n b : ℕ) → n < 2 ^ 35 → 128 ≤ n → b ≡ 128 + n % 128 → out ++ varint n ≡ front
+    → (out ++ b ∷ []) ++ varint (n / 128) ≡ front
+pushed-step out front bytes n b f h e p =
+    append_assoc out (b ∷ []) (varint (n / 128)) ∙ ap (λ x. out ++ x ∷ varint (n / 128)) e
+    ∙ ap (λ x. out ++ x) (sym (varint-step n f h)) ∙ p
 
 -- the NFA states from an index on
-pub ids-step : (out front ids : List ℕ) (before i z : ℕ) → i < length ids → z ≡ difference before (get_or ids i 0) → out ++ ids_code before (drop i ids) ≡ front → (out ++ varint z) ++ ids_code (get_or ids i 0) (drop (i + 1) ids) ≡ front
+pub ids-step :
+    (out front ids : List ℕ) (before i z : ℕ) → i < length ids → z ≡ difference before (get_or ids i 0)
+    → out ++ ids_code before (drop i ids) ≡ front
+    → (out ++ varint z) ++ ids_code (get_or ids i 0) (drop (i + 1) ids) ≡ front
 unfolding ids_code
 ids-step out front ids before i z l e p =
     let id = get_or ids i 0 in
@@ -78,21 +95,27 @@ ids-step out front ids before i z l e p =
     ∙ ap (λ x. out ++ ids_code before x) (sym (drop-cons ids i 0 l))
     ∙ p
 
-pub ids-end : (out front ids : List ℕ) (before i : ℕ) → length ids ≤ i → out ++ ids_code before (drop i ids) ≡ front → out ≡ front
+pub ids-end :
+    (out front ids : List ℕ) (before i : ℕ) → length ids ≤ i → out ++ ids_code before (drop i ids) ≡ front → out ≡ front
 unfolding ids_code
-ids-end out front ids before i l p = sym (append-nil out) ∙ ap (λ x. out ++ ids_code before x) (sym (drop_all i ids l)) ∙ p
+ids-end out front ids before i l p =
+    sym (append-nil out) ∙ ap (λ x. out ++ ids_code before x) (sym (drop_all i ids l)) ∙ p
 
 -- ---- lengths
 
 pub length-groups : (k n : ℕ) → length (groups k n) ≤ k + 1
 unfolding groups
 length-groups zero n = omega arith
-length-groups (suc k) n = cond_both (nat_lt n 128) (n ∷ []) ((128 + n % 128) ∷ groups k (n / 128)) (λ x. length x ≤ suc k + 1) (λ e. omega arith) (λ e. omega (arith, length-groups k (n / 128)))
+length-groups (suc k) n =
+    cond_both (nat_lt n 128) (n ∷ []) ((128 + n % 128) ∷ groups k (n / 128)) (λ x. length x ≤ suc k + 1)
+    (λ e. omega arith) (λ e. omega (arith, length-groups k (n / 128)))
 
 pub length-ids_code : (before : ℕ) (ids : List ℕ) → length (ids_code before ids) ≤ 5 * length ids
 unfolding ids_code
 length-ids_code before [] = omega arith
-length-ids_code before (id ∷ ids) = omega (arith, length-append (varint (difference before id)) (ids_code id ids), length-groups 4 (difference before id), length-ids_code id ids)
+length-ids_code before (id ∷ ids) =
+    omega (arith, length-append (varint (difference before id)) (ids_code id ids), length-groups 4
+    (difference before id), length-ids_code id ids)
 
 length-with_low : (low : ℕ) (ns : List ℕ) → length (with_low low ns) ≡ length ns
 length-with_low low [] = refl
@@ -101,20 +124,25 @@ length-with_low low (n ∷ ns) = refl
 length-numbers : (b : ℕ) (bytes : List ℕ) → length (numbers (b ∷ bytes)) ≡ bit (nat_lt b 128) + length (numbers bytes)
 unfolding numbers
 length-numbers b bytes =
-    cond_both (nat_lt b 128) (b ∷ numbers bytes) (with_low (b - 128) (numbers bytes)) (λ x. length x ≡ bit (nat_lt b 128) + length (numbers bytes))
+    cond_both (nat_lt b 128) (b ∷ numbers bytes) (with_low (b - 128) (numbers bytes))
+    (λ x. length x ≡ bit (nat_lt b 128) + length (numbers bytes))
     (λ e. let one : bit (nat_lt b 128) ≡ 1 = ap bit e in omega (arith, one))
-    (λ e. let none : bit (nat_lt b 128) ≡ 0 = ap bit e in omega (arith, none, length-with_low (b - 128) (numbers bytes)))
+    (λ e. let none : bit (nat_lt b 128) ≡ 0 = ap bit e in
+    omega (arith, none, length-with_low (b - 128) (numbers bytes)))
 
 -- the numbers from an index on, where those before it are counted
 pub counted-next : (bytes : List ℕ) (i count one all : ℕ) → i < length bytes → one ≡ bit (nat_lt (get_or bytes i 0) 128)
     → count + length (numbers (drop i bytes)) ≡ all → (count + one) + length (numbers (drop (i + 1) bytes)) ≡ all
 counted-next bytes i count one all l e p =
-    let step : length (numbers (drop i bytes)) ≡ bit (nat_lt (get_or bytes i 0) 128) + length (numbers (drop (suc i) bytes)) =
+    let step : length (numbers (drop i bytes)) ≡ bit (nat_lt (get_or bytes i 0) 128)
+    + length (numbers (drop (suc i) bytes)) =
     ap (λ x. length (numbers x)) (drop-cons bytes i 0 l) ∙ length-numbers (get_or bytes i 0) (drop (suc i) bytes) in
-    let next : length (numbers (drop (i + 1) bytes)) ≡ length (numbers (drop (suc i) bytes)) = ap (λ n. length (numbers (drop n bytes))) (add-one i) in
+    let next : length (numbers (drop (i + 1) bytes)) ≡ length (numbers (drop (suc i) bytes)) =
+    ap (λ n. length (numbers (drop n bytes))) (add-one i) in
     omega (arith, e, p, step, next)
 
-pub counted-all : (bytes : List ℕ) (i count all : ℕ) → length bytes ≤ i → count + length (numbers (drop i bytes)) ≡ all → count ≡ all
+pub counted-all :
+    (bytes : List ℕ) (i count all : ℕ) → length bytes ≤ i → count + length (numbers (drop i bytes)) ≡ all → count ≡ all
 unfolding numbers
 counted-all bytes i count all l p =
     let none : length (numbers (drop i bytes)) ≡ 0 = ap (λ x. length (numbers x)) (drop_all i bytes l) in
@@ -125,7 +153,8 @@ unfolding numbers
 length-numbers_most [] = omega arith
 length-numbers_most (b ∷ bytes) =
     let rest = length-numbers_most bytes in
-    cond_both (nat_lt b 128) (b ∷ numbers bytes) (with_low (b - 128) (numbers bytes)) (λ x. length x ≤ suc (length bytes))
+    cond_both (nat_lt b 128) (b ∷ numbers bytes) (with_low (b - 128) (numbers bytes))
+    (λ x. length x ≤ suc (length bytes))
     (λ e. omega (arith, rest)) (λ e. omega (arith, rest, length-with_low (b - 128) (numbers bytes)))
 
 pub length-ids_of : (before : ℕ) (zs : List ℕ) → length (ids_of before zs) ≡ length zs
@@ -135,20 +164,26 @@ length-ids_of before (z ∷ zs) = ap suc (length-ids_of (id_at before z) zs)
 
 -- ---- reading
 
-front_last_at : (k b n : ℕ) (bytes tail : List ℕ) → FitsGroups k n → b ∷ bytes ≡ groups k n ++ tail → b < 128 → (b ≡ n) × (bytes ≡ tail)
+front_last_at :
+    (k b n : ℕ) (bytes tail : List ℕ) → FitsGroups k n → b ∷ bytes ≡ groups k n ++ tail → b < 128 → (b ≡ n)
+    × (bytes ≡ tail)
 unfolding groups
 front_last_at zero b n bytes tail room same h = (cc, cc)
 front_last_at (suc k) b n bytes tail room same h =
-    cond_both (nat_lt n 128) (n ∷ []) ((128 + n % 128) ∷ groups k (n / 128)) (λ x. b ∷ bytes ≡ x ++ tail → (b ≡ n) × (bytes ≡ tail))
+    cond_both (nat_lt n 128) (n ∷ []) ((128 + n % 128) ∷ groups k (n / 128))
+    (λ x. b ∷ bytes ≡ x ++ tail → (b ≡ n) × (bytes ≡ tail))
     (λ e p. (cc, cc))
     (λ e p. let q : b ≡ 128 + n % 128 = cc in absurd (omega arith))
     same
 
-front_more_at : (k b n : ℕ) (bytes tail : List ℕ) → n < 2 ^ 35 → FitsGroups k n → b ∷ bytes ≡ groups k n ++ tail → 128 ≤ b → IsFront bytes (n / 128) tail × (b - 128 + 128 * (n / 128) ≡ n)
+front_more_at :
+    (k b n : ℕ) (bytes tail : List ℕ) → n < 2 ^ 35 → FitsGroups k n → b ∷ bytes ≡ groups k n ++ tail → 128 ≤ b
+    → IsFront bytes (n / 128) tail × (b - 128 + 128 * (n / 128) ≡ n)
 unfolding groups
 front_more_at zero b n bytes tail bound room same h = let q : b ≡ n = cc in absurd (omega arith)
 front_more_at (suc k) b n bytes tail bound room same h =
-    cond_both (nat_lt n 128) (n ∷ []) ((128 + n % 128) ∷ groups k (n / 128)) (λ x. b ∷ bytes ≡ x ++ tail → IsFront bytes (n / 128) tail × (b - 128 + 128 * (n / 128) ≡ n))
+    cond_both (nat_lt n 128) (n ∷ []) ((128 + n % 128) ∷ groups k (n / 128))
+    (λ x. b ∷ bytes ≡ x ++ tail → IsFront bytes (n / 128) tail × (b - 128 + 128 * (n / 128) ≡ n))
     (λ e p. let q : b ≡ n = cc in absurd (omega (arith, ltb-true n 128 e)))
     (λ e p. let q : b ≡ 128 + n % 128 = cc in ((k, omega arith, room, cc), omega arith))
     same
@@ -156,12 +191,16 @@ front_more_at (suc k) b n bytes tail bound room same h =
 front_some_at : (k n : ℕ) (tail : List ℕ) → [] ≡ groups k n ++ tail → ⊥
 unfolding groups
 front_some_at zero n tail e = cc
-front_some_at (suc k) n tail e = cond_both (nat_lt n 128) (n ∷ []) ((128 + n % 128) ∷ groups k (n / 128)) (λ x. [] ≡ x ++ tail → ⊥) (λ e p. cc) (λ e p. cc) e
+front_some_at (suc k) n tail e =
+    cond_both (nat_lt n 128) (n ∷ []) ((128 + n % 128) ∷ groups k (n / 128)) (λ x. [] ≡ x ++ tail → ⊥) (λ e p. cc)
+    (λ e p. cc) e
 
 pub front_last : (b n : ℕ) (bytes tail : List ℕ) → IsFront (b ∷ bytes) n tail → b < 128 → (b ≡ n) × (bytes ≡ tail)
 front_last b n bytes tail f h = front_last_at f.0 b n bytes tail f.2 f.3 h
 
-pub front_more : (b n : ℕ) (bytes tail : List ℕ) → IsFront (b ∷ bytes) n tail → 128 ≤ b → IsFront bytes (n / 128) tail × (b - 128 + 128 * (n / 128) ≡ n)
+pub front_more :
+    (b n : ℕ) (bytes tail : List ℕ) → IsFront (b ∷ bytes) n tail → 128 ≤ b → IsFront bytes (n / 128) tail
+    × (b - 128 + 128 * (n / 128) ≡ n)
 front_more b n bytes tail f h = front_more_at f.0 b n bytes tail f.1 f.2 f.3 h
 
 pub front_some : (n : ℕ) (tail : List ℕ) → IsFront [] n tail → ⊥
@@ -176,7 +215,9 @@ pub record Reads (before : ℕ) (bytes : List ℕ) : Type 0 where
   pub items : ids_of before (numbers bytes) ≡ id_at before number ∷ ids_of (id_at before number) (numbers tail)
   pub left : AreIds (id_at before number) tail
 
-reads_at : (before : ℕ) (bytes ids : List ℕ) → IsId before → AllByRecursion IsId ids → ids_code before ids ≡ bytes → 0 < length bytes → Reads before bytes
+reads_at :
+    (before : ℕ) (bytes ids : List ℕ) → IsId before → AllByRecursion IsId ids → ids_code before ids ≡ bytes
+    → 0 < length bytes → Reads before bytes
 unfolding ids_code
 reads_at before bytes [] p h e l = let q : length bytes ≡ 0 = ap length (sym e) in absurd (omega arith)
 reads_at before bytes (id ∷ ids) p h e l =
@@ -190,8 +231,12 @@ reads_at before bytes (id ∷ ids) p h e l =
       tail = tail;
       front = (4, bound, fits_five z bound, sym e);
       is_id = subst IsId (sym at) h.0;
-      items = ap (λ x. ids_of before (numbers x)) (sym e) ∙ ids_of-ids_code before (id ∷ ids) p h ∙ ap (λ x. id ∷ x) (sym back) ∙ ap (λ x. x ∷ ids_of x (numbers tail)) (sym at);
-      left = subst (λ (x : ℕ). AreIds x tail) (sym at) (record { first = h.0; ids = subst (AllByRecursion IsId) (sym back) h.1; same = ap (ids_code id) back });
+      items =
+          ap (λ x. ids_of before (numbers x)) (sym e) ∙ ids_of-ids_code before (id ∷ ids) p h
+          ∙ ap (λ x. id ∷ x) (sym back) ∙ ap (λ x. x ∷ ids_of x (numbers tail)) (sym at);
+      left =
+          subst (λ (x : ℕ). AreIds x tail) (sym at)
+          (record { first = h.0; ids = subst (AllByRecursion IsId) (sym back) h.1; same = ap (ids_code id) back });
     }
 
 pub reads : (before : ℕ) (bytes : List ℕ) → AreIds before bytes → 0 < length bytes → Reads before bytes
@@ -203,14 +248,19 @@ nothing_left before [] e = refl
 nothing_left before (b ∷ bytes) e = absurd (omega arith)
 
 -- the bytes are the first and the others, as a pattern takes them
-pub split_bytes : (bytes : List ℕ) → 1 ≤ length bytes → bytes ≡ get_or bytes 0 0 ∷ take (length bytes - 1) (drop 1 bytes)
+pub split_bytes :
+    (bytes : List ℕ) → 1 ≤ length bytes → bytes ≡ get_or bytes 0 0 ∷ take (length bytes - 1) (drop 1 bytes)
 split_bytes [] h = absurd (omega arith)
 split_bytes (b ∷ bytes) h = ap (λ x. b ∷ x) (sym (ap (λ n. take n bytes) (omega arith) ∙ take-length bytes))
 
-pub front_last_of : (bytes : List ℕ) (b n : ℕ) (rest tail : List ℕ) → bytes ≡ b ∷ rest → IsFront bytes n tail → b < 128 → (b ≡ n) × (rest ≡ tail)
+pub front_last_of :
+    (bytes : List ℕ) (b n : ℕ) (rest tail : List ℕ) → bytes ≡ b ∷ rest → IsFront bytes n tail → b < 128 → (b ≡ n)
+    × (rest ≡ tail)
 front_last_of bytes b n rest tail e f h = front_last b n rest tail (subst (λ (x : List ℕ). IsFront x n tail) e f) h
 
-pub front_more_of : (bytes : List ℕ) (b n : ℕ) (rest tail : List ℕ) → bytes ≡ b ∷ rest → IsFront bytes n tail → 128 ≤ b → IsFront rest (n / 128) tail × (b - 128 + 128 * (n / 128) ≡ n)
+pub front_more_of :
+    (bytes : List ℕ) (b n : ℕ) (rest tail : List ℕ) → bytes ≡ b ∷ rest → IsFront bytes n tail → 128 ≤ b
+    → IsFront rest (n / 128) tail × (b - 128 + 128 * (n / 128) ≡ n)
 front_more_of bytes b n rest tail e f h = front_more b n rest tail (subst (λ (x : List ℕ). IsFront x n tail) e f) h
 
 pub front_none : (bytes : List ℕ) (n : ℕ) (tail : List ℕ) → length bytes < 1 → IsFront bytes n tail → ⊥
@@ -222,5 +272,7 @@ pub fewer : (old new : List ℕ) (x : ℕ) → old ≡ x ∷ new → length new 
 fewer old new x e = omega (arith, ap length e)
 
 -- the same, with the first as an element that was read
-pub split_at_item : (xs : List ℕ) (x : ℕ) → 1 ≤ length xs → x ≡ get_or xs 0 x → xs ≡ x ∷ take (length xs - 1) (drop 1 xs)
-split_at_item xs x h e = split_bytes xs h ∙ ap (λ y. y ∷ take (length xs - 1) (drop 1 xs)) (sym (get_or_read xs 0 x (omega arith) e 0))
+pub split_at_item :
+    (xs : List ℕ) (x : ℕ) → 1 ≤ length xs → x ≡ get_or xs 0 x → xs ≡ x ∷ take (length xs - 1) (drop 1 xs)
+split_at_item xs x h e =
+    split_bytes xs h ∙ ap (λ y. y ∷ take (length xs - 1) (drop 1 xs)) (sym (get_or_read xs 0 x (omega arith) e 0))

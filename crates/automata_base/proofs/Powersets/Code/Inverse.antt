@@ -15,7 +15,10 @@ use Rattle.automata_base.proofs.Powersets.Code.Groups.{ids_of-ids_code, numbers_
 use Rattle.automata_base.proofs.Powersets.Code.Groups.{length-ids_code}
 
 -- the four bits of the first byte
-pub flag_bits : (a b c d : Bool) (rest : List ℕ) → (is_set 1 (flag_byte a b c d ∷ rest) ≡ a) × (is_set 2 (flag_byte a b c d ∷ rest) ≡ b) × (is_set 4 (flag_byte a b c d ∷ rest) ≡ c) × (is_set 8 (flag_byte a b c d ∷ rest) ≡ d)
+pub flag_bits :
+    (a b c d : Bool) (rest : List ℕ) → (is_set 1 (flag_byte a b c d ∷ rest) ≡ a)
+    × (is_set 2 (flag_byte a b c d ∷ rest) ≡ b) × (is_set 4 (flag_byte a b c d ∷ rest) ≡ c)
+    × (is_set 8 (flag_byte a b c d ∷ rest) ≡ d)
 flag_bits true true true true rest = (refl, refl, refl, refl)
 flag_bits true true true false rest = (refl, refl, refl, refl)
 flag_bits true true false true rest = (refl, refl, refl, refl)
@@ -61,7 +64,9 @@ listed_has [] e = e
 listed_has (p ∷ ps) e = refl
 
 pub listed_patterns : (b : Bool) (ps rest : List ℕ) → is_listed ps ≡ b → AllByRecursion IsId ps → length ps < 2 ^ 32
-    → let tail = cond b (four_bytes (length ps) ++ flat_map four_bytes ps) [] ++ rest in cond (has_any ps) (cond b (numbers_at (from_le_bytes w32 tail) (drop 4 tail)) (0 ∷ [])) [] ≡ ps
+    → let tail =
+        cond b (four_bytes (length ps) ++ flat_map four_bytes ps) [] ++ rest in
+        cond (has_any ps) (cond b (numbers_at (from_le_bytes w32 tail) (drop 4 tail)) (0 ∷ [])) [] ≡ ps
 listed_patterns true ps rest e h l =
     cond-true (has_any ps) _ _ (listed_has ps e)
     ∙ ap (λ n. numbers_at n (flat_map four_bytes ps ++ rest)) (from_le_bytes-to_le_bytes_4 (length ps) l)
@@ -69,7 +74,9 @@ listed_patterns true ps rest e h l =
 listed_patterns false ps rest e h l = unlisted_patterns ps e
 
 pub ids_after : (b : Bool) (ps rest : List ℕ) → length ps < 2 ^ 32
-    → let tail = cond b (four_bytes (length ps) ++ flat_map four_bytes ps) [] ++ rest in cond b (drop (4 * from_le_bytes w32 tail) (drop 4 tail)) tail ≡ rest
+    → let tail =
+        cond b (four_bytes (length ps) ++ flat_map four_bytes ps) [] ++ rest in
+        cond b (drop (4 * from_le_bytes w32 tail) (drop 4 tail)) tail ≡ rest
 ids_after true ps rest l =
     ap (λ n. drop (4 * n) (flat_map four_bytes ps ++ rest)) (from_le_bytes-to_le_bytes_4 (length ps) l)
     ∙ drop_at (flat_map four_bytes ps) rest (4 * length ps) (length-four_bytes ps)
@@ -79,8 +86,11 @@ ids_after false ps rest l = refl
 pub ids_bytes-code : (q : Powerset) → IsPowerset q → ids_bytes (code q) ≡ ids_code 0 q.nfa
 ids_bytes-code q h =
     let tail : List ℕ = patterns_code q.patterns ++ ids_code 0 q.nfa in
-    let f = flag_bits (has_any q.patterns) (is_listed q.patterns) q.word q.half (four_bytes q.known ++ (four_bytes q.needed ++ tail)) in
-    ap (λ b. cond b (drop (4 * from_le_bytes w32 tail) (drop 4 tail)) tail) f.1 ∙ ids_after (is_listed q.patterns) q.patterns (ids_code 0 q.nfa) (count_fits q.patterns h.patterns h.distinct)
+    let f =
+    flag_bits (has_any q.patterns) (is_listed q.patterns) q.word q.half
+    (four_bytes q.known ++ (four_bytes q.needed ++ tail)) in
+    ap (λ b. cond b (drop (4 * from_le_bytes w32 tail) (drop 4 tail)) tail) f.1
+    ∙ ids_after (is_listed q.patterns) q.patterns (ids_code 0 q.nfa) (count_fits q.patterns h.patterns h.distinct)
 
 -- the state of the bytes of a state is that state
 pub decoded-code : (q : Powerset) → IsPowerset q → decoded (code q) ≡ q
@@ -104,10 +114,14 @@ pub same_from_code : (a b : Powerset) → IsPowerset a → IsPowerset b → code
 same_from_code a b p q e = sym (decoded-code a p) ∙ ap decoded e ∙ decoded-code b q
 
 pub length-patterns_code : (ps : List ℕ) → length (patterns_code ps) ≤ 4 + 4 * length ps
-length-patterns_code ps = cond_both (is_listed ps) (four_bytes (length ps) ++ flat_map four_bytes ps) [] (λ x. length x ≤ 4 + 4 * length ps) (λ e. omega (arith, length-four_bytes ps)) (λ e. omega arith)
+length-patterns_code ps =
+    cond_both (is_listed ps) (four_bytes (length ps) ++ flat_map four_bytes ps) [] (λ x. length x ≤ 4 + 4 * length ps)
+    (λ e. omega (arith, length-four_bytes ps)) (λ e. omega arith)
 
 pub length-code : (q : Powerset) → length (code q) ≤ cost q
-length-code q = omega (arith, length-append (patterns_code q.patterns) (ids_code 0 q.nfa), length-patterns_code q.patterns, length-ids_code 0 q.nfa)
+length-code q =
+    omega (arith, length-append (patterns_code q.patterns) (ids_code 0 q.nfa), length-patterns_code q.patterns,
+    length-ids_code 0 q.nfa)
 
 pub IsCode-code : (q : Powerset) (bytes : List ℕ) → IsPowerset q → bytes ≡ code q → IsCode bytes
 IsCode-code q bytes h e =

@@ -1,5 +1,6 @@
 -- The theorems are lemmas of `Merged`.
-use Rattle.automata_base.proofs.Answers.Merged.{merged_accepts, merged_acyclic, merged_alike, merged_begins, merged_paired}
+use Rattle.automata_base.proofs.Answers.Merged.{merged_accepts, merged_acyclic, merged_alike, merged_begins}
+use Rattle.automata_base.proofs.Answers.Merged.{merged_paired}
 use Rattle.automata_base.proofs.Answers.Merged.{merged_pairs, merged_reads, merged_utf8}
 use Rattle.automata_base.proofs.laws.merged_answers_alike.Goals as goal
 

@@ -14,4 +14,6 @@ pub returns-clause-farthest : goal.returns-clause-farthest
 returns-clause-farthest c = reported_farthest
 
 pub returns-clause-one : goal.returns-clause-one
-returns-clause-one c = λ way a kind input first second. answers_once (ReportsOver way a kind) _ way input (λ i x y e e'. e ∙ sym e') first second
+returns-clause-one c =
+    λ way a kind input first second. answers_once (ReportsOver way a kind) _ way input (λ i x y e e'. e ∙ sym e') first
+    second

@@ -11,7 +11,8 @@ returns-clause-successors c = successors_are_right c.args.nfa.now c.states-state
 pub returns-clause-starts : goal.returns-clause-starts
 returns-clause-starts c = starts_are_right c.args.nfa.now c.states-states.ensures.checked.range
     (λ mode s e.
-    subst (λ v. s < v) (nodes_length c.args.nfa.now.states) (start_below c.args.nfa.now mode s c.states-states.ensures.checked e))
+    subst (λ v. s < v) (nodes_length c.args.nfa.now.states)
+    (start_below c.args.nfa.now mode s c.states-states.ensures.checked e))
 
 pub returns-clause-own : goal.returns-clause-own
 returns-clause-own c = states_own c.args.nfa.now c.states-states.ensures.checked

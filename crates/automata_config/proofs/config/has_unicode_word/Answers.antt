@@ -8,4 +8,5 @@ pub returns : goal.returns
 unfolding has_unicode_word
 returns c =
     c.contains_any.ensures
-    ∙ list_any-same (truth_of c.look_set_any.result) (occurs c.args.nfa.now) unicode_word_looks c.look_set_any.ensures.same
+    ∙ list_any-same (truth_of c.look_set_any.result) (occurs c.args.nfa.now) unicode_word_looks
+    c.look_set_any.ensures.same

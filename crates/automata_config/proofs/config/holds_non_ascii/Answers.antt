@@ -10,13 +10,17 @@ pub loop-byte-preserved : goal.loop-byte-preserved
 loop-byte-preserved c =
     let q = c.args.quits.now in
     let byte = c.loop-byte.byte in
-    c.loop-byte.invariant ∙ (are_quits-more q byte c.loop-byte-test.true ∙ ap (λ z. z && are_quits q (byte + 1) (256 - (byte + 1))) (sym c.contains.ensures ∙ c.if-not-contains.false))
+    c.loop-byte.invariant
+    ∙ (are_quits-more q byte c.loop-byte-test.true
+    ∙ ap (λ z. z && are_quits q (byte + 1) (256 - (byte + 1))) (sym c.contains.ensures ∙ c.if-not-contains.false))
 
 pub returns-then-not-contains : goal.returns-then-not-contains
 returns-then-not-contains c =
     let q = c.args.quits.now in
     let byte = c.loop-byte.byte in
-    sym (c.loop-byte.invariant ∙ (are_quits-more q byte c.loop-byte-test.true ∙ ap (λ z. z && are_quits q (byte + 1) (256 - (byte + 1))) (sym c.contains.ensures ∙ c.if-not-contains.true)))
+    sym (c.loop-byte.invariant
+    ∙ (are_quits-more q byte c.loop-byte-test.true
+    ∙ ap (λ z. z && are_quits q (byte + 1) (256 - (byte + 1))) (sym c.contains.ensures ∙ c.if-not-contains.true)))
 
 pub returns : goal.returns
 returns c = sym (c.loop-byte.invariant ∙ are_quits-all c.args.quits.now c.loop-byte.byte c.loop-byte-test.false)

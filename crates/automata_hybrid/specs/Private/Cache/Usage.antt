@@ -1,4 +1,5 @@
 -- What private functions and proofs need beside `Cache/Usage`; no contract of a public call reaches it.
+use Rattle.std.specs.Prelude.{sum_by}
 use Rattle.std.specs.Prelude.{◌≡◌, ℕ, ◌+◌, ◌*◌, ◌^◌, ◌<◌, ◌≤◌, length, false, true}
 use Rattle.automata_base.specs.Powersets.Accounting.{minimum_capacity}
 use Rattle.automata_base.specs.Powersets.Powerset.{Powerset, cost}
@@ -9,7 +10,6 @@ use Rattle.automata_hybrid.specs.Private.Cache.Clears.{kept}
 use Rattle.automata_hybrid.specs.Private.Cache.Clears.{KeepsAllStarts}
 use Rattle.automata_hybrid.specs.Cache.Stores.{Stored}
 use Rattle.automata_hybrid.specs.Private.Cache.Stores.{cache_settings}
-use Rattle.automata_hybrid.specs.Cache.Usage.{usage}
 use Rattle.automata_hybrid.specs.Private.Cache.Table.{Lacks}
 use Rattle.std.specs.Prelude.{Bool, cond, Option, None, Some}
 use Rattle.std.specs.Prelude.{sum_by, nat_lt}
@@ -20,11 +20,21 @@ use Rattle.automata_hybrid.specs.Cache.Table.{row_cost}
 use Rattle.automata_hybrid.specs.Cache.Progress.{saturated, total_len, progress_cleared}
 use Rattle.automata_config.specs.Options.{minimum_cache_clear_count_of, minimum_bytes_per_state_of}
 use Rattle.automata_hybrid.specs.Cache.Usage.{row_usage, short_of}
+use Rattle.automata_base.specs.Powersets.Accounting.{cell_size, entry_size, fixed_rows_cost, row_size}
+use Rattle.automata_hybrid.specs.Cache.Table.{row_cost}
+
+-- the accounted bytes: those of the cells and of the slots, of the rows with the three fixed ones, and of their entries
+-- in the map, which has one of these three; the costs of all states, and the room for determinization
+abbrev pub usage_in_store : Stored → ℕ
+usage_in_store c =
+    cell_size * length c.table.cells + cell_size * length c.starts + row_size * (length c.table.rows + 3)
+    + entry_size * (length c.table.rows + 1) + fixed_rows_cost + sum_by row_cost c.table.rows
+    + c.table.of.fixed
 
 -- a new state of this cost fits, and so does its row's offset
 abbrev pub Fits : Stored → ℕ → Type 0
 Fits c extra =
-    (usage c + row_usage c.table.of + extra ≤ c.table.of.capacity) × (length c.table.cells < offset_limit)
+    (usage_in_store c + row_usage c.table.of + extra ≤ c.table.of.capacity) × (length c.table.cells < offset_limit)
 
 -- a clear is allowed up to the limit, and past it only if enough bytes were searched since the last one
 abbrev pub refuses_at : Option ℕ → Stored → Bool
@@ -68,7 +78,7 @@ pub record IsCache (c : Stored) (settings : Settings) : Type 0 where
   -- Each slot has its own start state, or none yet.
   pub named : AllStarts c.table c.starts
   -- The accounted bytes are within the capacity.
-  pub within : usage c ≤ c.table.of.capacity
+  pub within : usage_in_store c ≤ c.table.of.capacity
   -- The capacity is at least the minimum.
   pub enough :
       minimum_capacity c.table.of.stride (length c.starts) c.table.of.greatest c.table.of.fixed

@@ -9,14 +9,12 @@ use Rattle.automata_base.specs.declared.util.search.MatchErrorKind.TheVariants.{
 use Rattle.automata_config.specs.declared.error.SearchError.{SearchError}
 use Rattle.automata_config.specs.declared.error.SearchError.TheVariants as search
 use Rattle.automata_hybrid.specs.Machines.Machine.{Machine}
-use Rattle.automata_hybrid.specs.Searches.Passes.{HasReadNoQuit, Skips, state_in, tape_in, behind_offset}
-use Rattle.automata_hybrid.specs.Searches.Passes.{given_up_offset}
+use Rattle.automata_hybrid.specs.Searches.Passes.{HasReadNoQuit, Skips, state_in, tape_in}
 use Rattle.automata_hybrid.specs.Cache.Table.{Names, Rows}
-use Rattle.automata_hybrid.specs.Walks.State.{Ended, Walk, At, Fresh, Stage}
+use Rattle.automata_hybrid.specs.Walks.State.{Ended, Walk}
 use Rattle.automata_hybrid.specs.Walks.Answers.{IsSilent, WalkMeetsNoQuit, WalkReads}
 use Rattle.automata_hybrid.specs.Cache.Stores.{Stored}
 use Rattle.automata_hybrid.specs.Private.Cache.Usage.{GivesUpInStore}
-use Rattle.automata_hybrid.specs.Private.Steps.Starts.{IsStartErrorAt}
 use Rattle.automata_hybrid.specs.Private.Cache.Table.{IsKnownState}
 
 -- why the state of a walk is not put back, which the cache does not have
@@ -27,19 +25,6 @@ pub data IsPutBackError (c : Stored) (q : Powerset) (given_up_at : ℕ) (e : Sea
       → IsPutBackError c q given_up_at e
   -- there is no room for it, and the cache may not be cleared
   HasNoRoom : GivesUpInStore c q → e ≡ search.Match (GaveUp given_up_at) → IsPutBackError c q given_up_at e
-
--- why a walk cannot go on: it has not begun and its start state fails, or it has and its state is not put back
-abbrev pub IsResumeError : Direction → Machine → Stored → Input → Stage → (units : ℕ) → SearchError → Type 0
-IsResumeError way m c input Fresh units e =
-    IsStartErrorAt m c input.anchored (tape_in way input).before (behind_offset way input) (offset_in way input 0) e
-IsResumeError way m c input (At q) units e = IsPutBackError c q (given_up_offset way input units) e
-IsResumeError way m c input Ended units e = ⊥
-
--- the cache has the state that a walk goes on from
-abbrev pub HasItsState : Rows → Stage → Type 0
-HasItsState t Fresh = Unit {0}
-HasItsState t (At q) = IsKnownState t q
-HasItsState t Ended = Unit {0}
 
 -- from its first `from` units a walk went on, without a quit byte, to a state that reports patterns at a place that is
 -- not skipped, and the ID names it

@@ -1,5 +1,5 @@
 -- Going on with a walk: what the functions under its calls ask, what they answer, and what they make of their cache.
-use Rattle.std.specs.Prelude.{ℕ, suc, ◌≡◌, ◌+◌, ◌-◌, ◌≤◌, false, None, Some, Result, Ok, Err}
+use Rattle.std.specs.Prelude.{ℕ, suc, ◌≡◌, ◌+◌, ◌-◌, ◌≤◌, false, Some, Result, Ok, Err}
 use Rattle.automata_base.specs.ByteClasses.Classes.{is_quit}
 use Rattle.automata_base.specs.Haystacks.Input.{Input}
 use Rattle.automata_base.specs.Paths.Paths.{next as unit_at}
@@ -8,12 +8,14 @@ use Rattle.automata_config.specs.declared.error.SearchError.{SearchError}
 use Rattle.automata_hybrid.specs.declared.search.walk.advance.Arrival.{Arrival}
 use Rattle.automata_hybrid.specs.Cache.Stores.{Stored}
 use Rattle.automata_hybrid.specs.Cache.Caches.{CacheView}
+use Rattle.automata_hybrid.specs.Known.Known.{Known}
+use Rattle.automata_hybrid.specs.Known.Passes.{UnitFails, after_many, after_unit}
+use Rattle.automata_hybrid.specs.Known.Stores.{known_of}
+use Rattle.automata_hybrid.specs.Known.Walks.{EndsCall, IsCallStopped, LeavesCall}
 use Rattle.automata_hybrid.specs.Walks.Cached.{IsToRead}
 use Rattle.automata_hybrid.specs.Machines.Machine.{Machine}
-use Rattle.automata_hybrid.specs.Private.Searches.Progress.{Goes, IsLeftAt, IsUnitRead}
-use Rattle.automata_hybrid.specs.Private.Walks.Progress.{IsCallStoppedInStore, IsWalkRunInStore}
 use Rattle.automata_hybrid.specs.Searches.Passes.{state_in, tape_in}
-use Rattle.automata_hybrid.specs.Private.Searches.Passes.{IsUnitError}
+use Rattle.automata_hybrid.specs.Searches.Traces.{pass_trace}
 use Rattle.automata_hybrid.specs.Steps.Starts.{MayStart}
 use Rattle.automata_hybrid.specs.Cache.Table.{Leads, Names, Rows}
 use Rattle.automata_hybrid.specs.Walks.Answers.{IsWalkOf, ReportsNext, WalkReads}
@@ -62,21 +64,20 @@ pub record IsCallAnswer (way : Direction) (m : Machine) (input : Input) (walk ne
   -- with a match it has read more units or reported one pattern more
   pub goes_on : GoesOn walk next
 
--- a call of a walk has answered, and made this of its cache
-pub record AnswersCall (keeping : Keeping) (way : Direction) (m : Machine) (input : Input) (walk next : Walk)
-    (old new : CacheView) : Type 0 where
+-- a call of a walk has answered, and made this of what its cache knows
+pub record AnswersCall (way : Direction) (m : Machine) (input : Input) (walk next : Walk) (old new : Known) :
+    Type 0 where
   -- this is its answer
   pub answer : IsCallAnswer way m input walk next
-  -- and this is what it makes of its cache
-  pub effect : IsWalkRunInStore keeping way m input walk next old new None
+  -- and this is what it makes of what its cache knows
+  pub effect : EndsCall way m input walk next old new
 
 -- what a call of a walk returns: its answer, or why it fails
 abbrev pub IsCallResult :
-    Keeping → Direction → Machine → Input → (walk next : Walk) → (old new : CacheView)
+    Keeping → Direction → Machine → Input → (walk next : Walk) → (old new : Known)
     → Result (Unit {0}) SearchError → Type 0
-IsCallResult keeping way m input walk next old new (Ok unit) = AnswersCall keeping way m input walk next old new
-IsCallResult keeping way m input walk next old new (Err e) = IsWalkRunInStore keeping way m input walk next old new
-    (Some e)
+IsCallResult keeping way m input walk next old new (Ok unit) = AnswersCall way m input walk next old new
+IsCallResult keeping way m input walk next old new (Err e) = LeavesCall keeping way m input walk old new e
 
 -- the ID that a walk goes on from
 pub record IsResumeAnswer (way : Direction) (m : Machine) (input : Input) (walk : Walk) (new : Stored) (id : ℕ) :
@@ -102,22 +103,14 @@ pub record HasReadUnit (way : Direction) (m : Machine) (input : Input) (place : 
   pub leads : Leads new.store.table id (state_in way m input (suc place))
   -- the unit is no quit byte
   pub clean : (byte : ℕ) → unit_at (tape_in way input) place ≡ Some byte → is_quit m.quits byte ≡ false
-  -- the search steps over it
-  pub read : IsUnitRead way m input place old new
-
--- a walk has not read it, which returns this error
-pub record FailsToReadUnit (way : Direction) (m : Machine) (input : Input) (place : ℕ) (old new : CacheView)
-    (e : SearchError) : Type 0 where
-  -- the step on it fails for this
-  pub error : IsUnitError way m new.store input place e
-  -- the search is left at the unit
-  pub left : IsLeftAt way m input place old new
+  -- the step over it makes this of what the cache knows
+  pub read : after_unit (pass_trace way m input) way m input place (known_of old) ≡ Some (known_of new)
 
 -- what reading the unit at a place returns: the ID after it, or why the step on it fails
 abbrev pub IsUnitResult :
     Direction → Machine → Input → (place : ℕ) → (old new : CacheView) → Result ℕ SearchError → Type 0
 IsUnitResult way m input place old new (Ok id) = HasReadUnit way m input place old new id
-IsUnitResult way m input place old new (Err e) = FailsToReadUnit way m input place old new e
+IsUnitResult way m input place old new (Err e) = UnitFails way m input place (known_of old) (known_of new) e
 
 -- a walk has gone on over units, and comes to where it reports patterns, or to its end
 pub record HasAdvanced (way : Direction) (m : Machine) (input : Input) (units : ℕ) (old new : CacheView)
@@ -130,11 +123,13 @@ pub record HasAdvanced (way : Direction) (m : Machine) (input : Input) (units : 
   pub counted : a.units ≡ suc (units + before)
   -- the walk reads the last one
   pub reads : WalkReads way m input (units + before)
-  -- the search steps over them
-  pub goes : Goes way m input units (suc before) old new
+  -- they make this of what the cache knows
+  pub goes :
+      after_many (pass_trace way m input) way m input units (suc before) (known_of old) ≡ Some (known_of new)
 
 -- what going on over the units of a walk returns: where it comes, or why it fails at one
 abbrev pub IsAdvanceResult :
     Direction → Machine → Input → (units : ℕ) → (old new : CacheView) → Result Arrival SearchError → Type 0
 IsAdvanceResult way m input units old new (Ok a) = HasAdvanced way m input units old new a
-IsAdvanceResult way m input units old new (Err e) = IsCallStoppedInStore Ids way m input units old new e
+IsAdvanceResult way m input units old new (Err e) =
+    IsCallStopped Ids way m input units (known_of old) (known_of new) e

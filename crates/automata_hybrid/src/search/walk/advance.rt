@@ -217,6 +217,7 @@ impl DFA {
         ensures of { IsCacheOf cache.new self.now }
         ensures advanced { IsAdvanceResult way self.now input.now units cache.old cache.new result }
     {
+        self.see_machine();
         let _haystack = input.haystack();
         cache.see_bounds();
         let last = last_place(input);

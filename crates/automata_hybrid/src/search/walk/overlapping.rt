@@ -1,26 +1,22 @@
 //! Overlapping searches: each call reports the next match, with any cache of the DFA.
 ghost use Rattle.std.specs.Prelude.{ℕ, ◌≡◌, ◌+◌, ◌-◌, ◌<◌, ◌≤◌, ◌^◌, IfOk, IfErr, IfNone, IfSome, OnOk, OnErr};
-ghost use Rattle.std.specs.Prelude.{length, slice_index};
+ghost use Rattle.std.specs.Prelude.{Some, length, slice_index};
 ghost use Rattle.std.specs.Result.{result_err};
 ghost use Rattle.automata_base.specs.Powersets.Powerset.{Powerset};
 ghost use Rattle.automata_base.specs.declared.util.search.Direction.TheVariants.{Forward, Backward};
-ghost use Rattle.automata_hybrid.specs.Private.Cache.Growth.{AddFails};
 ghost use Rattle.automata_hybrid.specs.Cache.Caches.{IsCacheOf};
 ghost use Rattle.automata_hybrid.specs.Walks.Contracts.{IsWalkCall};
 ghost use Rattle.automata_hybrid.specs.Private.Walks.Parts.{HoldsOn, IsCallResult, IsHeldWalk, IsKeptWalk};
 ghost use Rattle.automata_hybrid.specs.Private.Walks.Parts.{IsResumeAnswer, ReadsNext};
-ghost use Rattle.automata_hybrid.specs.Private.Walks.Progress.{HasItsRow, IsNotResumedInStore, IsResumed};
-ghost use Rattle.automata_hybrid.specs.Private.Walks.Progress.{IsWalkRunInStore};
 ghost use Rattle.automata_hybrid.specs.Known.Stores.{known_of};
-ghost use Rattle.automata_hybrid.specs.Known.Walks.{IsWalkRun};
+ghost use Rattle.automata_hybrid.specs.Known.Walks.{IsNotBack, IsNotResumed, IsWalkRun, after_resume, with_row_back};
+ghost use Rattle.automata_hybrid.specs.Private.Searches.PassState.{step_error};
 ghost use Rattle.automata_hybrid.specs.Searches.Passes.{tape_in};
 ghost use Rattle.automata_hybrid.specs.Steps.Starts.{MayStart};
 ghost use Rattle.automata_hybrid.specs.Cache.Table.{IsRowState, Names};
-ghost use Rattle.automata_hybrid.specs.Private.Cache.Table.{IsKnownState};
 ghost use Rattle.automata_hybrid.specs.Walks.Answers.{HasReported, HasReportedBy};
 ghost use Rattle.automata_hybrid.specs.Private.Walks.Answers.{Arrives};
 ghost use Rattle.automata_hybrid.specs.Walks.Answers.{IsWalkOf};
-ghost use Rattle.automata_hybrid.specs.Private.Walks.Answers.{IsResumeError};
 ghost use Rattle.automata_hybrid.specs.Walks.Answers.{ReportsNext};
 ghost use Rattle.automata_hybrid.specs.Walks.State.{At, Ended, States, without_match};
 ghost use Rattle.automata_hybrid.specs.Private.Walks.State.{IsHeldAt, keeping_of};
@@ -106,10 +102,12 @@ impl DFA {
         requires state { IsRowState self.now handle.now.state }
         ensures of { IsCacheOf cache.new self.now }
         ensures named { IfOk result (λ id. Names cache.new.store.table id handle.now.state) }
-        ensures row { OnOk result (HasItsRow self.now handle.now.state cache.old cache.new) }
-        ensures refused { IfErr result (AddFails cache.old cache.new handle.now.state) }
-        ensures lacks { OnErr result (IsKnownState cache.old.store.table handle.now.state → ⊥) }
+        ensures row { OnOk result
+            (with_row_back self.now handle.now.state (known_of cache.old) ≡ Some (known_of cache.new)) }
+        ensures refused { IfErr result (λ e. (at : ℕ) → IsNotBack self.now handle.now.state at
+            (known_of cache.old) (known_of cache.new) (step_error e at)) }
     {
+        self.see_machine();
         cache.see_bounds();
         if let Some(id) = cache.find(&handle.key) {
             return Ok(id);
@@ -134,16 +132,13 @@ impl DFA {
         ensures of { IsCacheOf cache.new self.now }
         ensures answer { IfOk result
             (IsResumeAnswer way self.now input.now walk.now cache.new.store) }
-        ensures refusal { IfErr result
-            (IsResumeError way self.now cache.new.store input.now walk.now.stage walk.now.units) }
-        ensures resumed { OnOk result (IsResumed way self.now input.now walk.now.stage cache.old cache.new) }
-        ensures left { OnErr result (IsNotResumedInStore way self.now input.now walk.now.stage cache.old cache.new) }
+        ensures refusal { IfErr result (IsNotResumed way self.now input.now walk.now.stage walk.now.units
+            (known_of cache.old) (known_of cache.new)) }
+        ensures resumed { OnOk result
+            (after_resume way self.now input.now walk.now.stage (known_of cache.old) ≡ Some (known_of cache.new)) }
     {
-        cache.see_bounds();
         if walk.is_fresh() {
-            let start = self.walk_start(cache, input, way);
-            cache.see_bounds();
-            return start;
+            return self.walk_start(cache, input, way);
         }
         match held {
             Held::Row(Some(id)) => Ok(*id),
@@ -172,10 +167,9 @@ impl DFA {
         ensures held { OnOk result (HoldsOn cache.new.store.table walk.new held.old held.new) }
         ensures err { OnErr result ((walk.new ≡ walk.old) × (held.new ≡ held.old)) }
         ensures called { IsCallResult (keeping_of held.old) way self.now input.now walk.old walk.new
-            cache.old cache.new result }
+            (known_of cache.old) (known_of cache.new) result }
     {
         let _skips = self.skips();
-        cache.see_bounds();
         let from = self.resume(cache, input, way, walk, held)?;
         let place = span_offset(input, way, walk.units());
         cache.search_start(place);
@@ -242,8 +236,6 @@ impl DFA {
         ensures effect { IsWalkRun States way self.now input.now walk.old walk.new
             (known_of cache.old) (known_of cache.new) (result_err result) }
     {
-        self.see_machine();
-        let _haystack = input.haystack();
         self.call_held(cache, input, way, &mut walk.cursor, &mut walk.held)
     }
 
@@ -261,8 +253,8 @@ impl DFA {
         ensures of { IsCacheOf cache.new self.now }
         ensures walk { IsKeptWalk way self.now input.now walk.new held.new }
         ensures call { IsWalkCall way self.now input.now walk.old walk.new result }
-        ensures effect { IsWalkRunInStore States way self.now input.now walk.old walk.new
-            cache.old cache.new (result_err result) }
+        ensures effect { IsWalkRun States way self.now input.now walk.old walk.new
+            (known_of cache.old) (known_of cache.new) (result_err result) }
     {
         walk_is_right(self.get_nfa());
         let _haystack = input.haystack();
@@ -291,9 +283,8 @@ impl DFA {
         ensures held { OnOk result (HoldsOn cache.new.store.table walk.new held.old held.new) }
         ensures err { OnErr result ((walk.new ≡ without_match walk.old) × (held.new ≡ held.old)) }
         ensures called { IsCallResult (keeping_of held.old) way self.now input.now walk.old walk.new
-            cache.old cache.new result }
+            (known_of cache.old) (known_of cache.new) result }
     {
-        cache.see_bounds();
         walk.forget_match();
         if walk.has_ended() {
             return Ok(());

@@ -6,7 +6,6 @@ ghost use Rattle.automata_hybrid.specs.Walks.Contracts.{IsWhich, JoinsReported};
 ghost use Rattle.automata_hybrid.specs.Private.Walks.Contracts.{IsSetReported};
 ghost use Rattle.automata_hybrid.specs.Known.Stores.{known_of};
 ghost use Rattle.automata_hybrid.specs.Known.Walks.{IsSetRun};
-ghost use Rattle.automata_hybrid.specs.Private.Walks.Progress.{IsSetRunInStore};
 
 use crate::cache::Cache;
 use crate::dfa::DFA;
@@ -44,8 +43,6 @@ impl DFA {
         ensures effect { IsSetRun self.now input.now patset.old patset.new (known_of cache.old) (known_of cache.new)
             (result_err result) }
     {
-        self.see_machine();
-        let _haystack = input.haystack();
         self.collect(cache, input, patset)
     }
 
@@ -59,13 +56,12 @@ impl DFA {
         requires { IsCacheOf cache.old self.now }
         ensures of { IsCacheOf cache.new self.now }
         ensures reported { IsSetReported self.now input.now patset.old patset.new result }
-        ensures effect { IsSetRunInStore self.now input.now patset.old patset.new cache.old cache.new
+        ensures effect { IsSetRun self.now input.now patset.old patset.new (known_of cache.old) (known_of cache.new)
             (result_err result) }
         ensures inside { input.now.end ≤ length input.now.haystack }
     {
         walk_is_right(self.get_nfa());
         let _haystack = input.haystack();
-        cache.see_bounds();
         let mut walk = Cursor::start();
         let mut held = Held::Row(None);
         'walk: loop {

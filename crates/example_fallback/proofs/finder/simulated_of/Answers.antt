@@ -9,5 +9,6 @@ pub returns : goal.returns
 returns c =
     let hir = c.in-Ok.parsed.hir in
     let names = map (option_map string_bytes) c.in-Ok.parsed.names.items in
-    let read = subst (λ (config : Config). Reads config c.args.text.now hir names) c.syntax.ensures c.in-Ok.ensures.ok in
+    let read =
+    subst (λ (config : Config). Reads config c.args.text.now hir names) c.syntax.ensures c.in-Ok.ensures.ok in
     (meaning hir, (hir, names, read, refl), c.in-Ok-compile.ensures.matches)

@@ -12,7 +12,8 @@ use Rattle.example_grep.proofs.Listing.{if_ok}
 use Rattle.example_grep.proofs.build.set_searcher.Goals as goal
 
 -- a DFA of that NFA, which reports all matches
-is_dfa : (o : Options) (res : List Re) (nfa : Automaton) (m : Machine) → m.nfa ≡ nfa → match_kind_of m.config ≡ KindAll →
+is_dfa :
+    (o : Options) (res : List Re) (nfa : Automaton) (m : Machine) → m.nfa ≡ nfa → match_kind_of m.config ≡ KindAll →
     KeepsUtf8 Forward (engine_of nfa KindAll) → IsJoinedNfa o res nfa → IsDfaOf o res m
 is_dfa o res nfa m own kind keeps joined = record {
   kind = kind;
@@ -24,5 +25,6 @@ pub returns : goal.returns
 returns c =
     if_ok c.new.result (λ s same case_insensitive res is.
     subst (λ (v : RegexSet). IsDfaOf (bytewise case_insensitive) res v.dfa) (sym same)
-    (is_dfa (bytewise case_insensitive) res c.args.nfa c.in_ok-dfa.dfa c.in_ok-dfa.ensures.nfa c.in_ok-dfa.ensures.kind c.in_ok-test_utf8.ensures is))
+    (is_dfa (bytewise case_insensitive) res c.args.nfa c.in_ok-dfa.dfa c.in_ok-dfa.ensures.nfa c.in_ok-dfa.ensures.kind
+    c.in_ok-test_utf8.ensures is))
     c.new.ensures

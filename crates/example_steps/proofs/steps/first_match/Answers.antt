@@ -12,7 +12,8 @@ pub units-preserved : goal.units-preserved
 units-preserved c = record {
   of = c.in-Ok-step.ensures.of;
   stands =
-      c.in-Ok-step.ensures.steps.on (λ b. false_true (c.if-is_match.ensures.1 b)) (λ b. false_true (c.if-is_quit.ensures.1 b))
+      c.in-Ok-step.ensures.steps.on (λ b. false_true (c.if-is_match.ensures.1 b))
+      (λ b. false_true (c.if-is_quit.ensures.1 b))
       (omega (arith, c.if-at-end.false, c.end.ensures.end, c.units.invariant.stands.upto));
 }
 

@@ -11,7 +11,8 @@ returns-in_ok-state_id-in-CaptureStart c =
     let next = c.in-CaptureStart.next in let group = c.in-CaptureStart.group in
     let is = state_is next c.in_ok-state_id-in-CaptureStart.field-0 c.in_ok-state_id-in-CaptureStart.ensures in
     let e = c.add_capture_start.ensures in
-    let done = subst (λ (n : ℕ). AddsGroup group (λ p. CaptureShape n p group (2 * group)) b d r) is.1 (e.added, e.large) in
+    let done =
+    subst (λ (n : ℕ). AddsGroup group (λ p. CaptureShape n p group (2 * group)) b d r) is.1 (e.added, e.large) in
     subst (λ (added : Added). AddsTo added b d c.told_state-in-CaptureStart.result) (sym c.in-CaptureStart.is)
     (inl (is.0, (r, done, c.told_state-in-CaptureStart.ensures)))
 

@@ -5,7 +5,8 @@ use Rattle.lazydfa_c.proofs.regex.pair_of.Goals as goal
 
 pub returns-in-Ok-clause-built : goal.returns-in-Ok-clause-built
 returns-in-Ok-clause-built c =
-    subst (λ (o : Options). BuildsPair o c.args.forward c.args.reverse c.in-Ok.regex) c.builder_of.ensures c.in-Ok.ensures.ok
+    subst (λ (o : Options). BuildsPair o c.args.forward c.args.reverse c.in-Ok.regex) c.builder_of.ensures
+    c.in-Ok.ensures.ok
 
 pub returns-in-Err-clause-refused : goal.returns-in-Err-clause-refused
 returns-in-Err-clause-refused c = (

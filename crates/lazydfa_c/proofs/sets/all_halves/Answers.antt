@@ -20,6 +20,7 @@ loop-at-preserved c =
     let written : new ≡ written_over (map found_half halves ++ found_half half ∷ []) out =
     c.write.ensures.written (map found_half halves) out (listed ∙ sym (length-map halves found_half)) v.3.2 in
     let first =
-    subst (λ (hs : List FoundHalf). new ≡ written_over hs out) (sym (map-append found_half halves (half ∷ []))) written in
+    subst (λ (hs : List FoundHalf). new ≡ written_over hs out) (sym (map-append found_half halves (half ∷ [])))
+    written in
     let length = more ∙ sym (length_push halves half ∙ ap (λ n. n + 1) (sym listed ∙ counted)) in
     (c.next_half.ensures.of, c.next_half.ensures.walk, more, (halves ++ half ∷ [], steps, first, length))

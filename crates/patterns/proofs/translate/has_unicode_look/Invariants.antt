@@ -7,4 +7,5 @@ use Rattle.patterns.proofs.translate.has_unicode_look.Given as goal
 
 abbrev pub invariant-loop-state : goal.invariant-loop-state
 invariant-loop-state l =
-    (q r : ℕ) (look : kit_look.Look) → q < l.state-index → state_of l.nfa q ≡ kit.Look look r → is_unicode_look look ≡ false
+    (q r : ℕ) (look : kit_look.Look) → q < l.state-index → state_of l.nfa q ≡ kit.Look look r
+    → is_unicode_look look ≡ false

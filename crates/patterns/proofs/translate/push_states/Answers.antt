@@ -14,7 +14,10 @@ loop-state-preserved c =
     let p = c.args.origin.now.pattern in
     let ts = c.args.nfa.now.transitions.items in
     ap nodes.nodes_of c.in_ok-push.ensures.items
-    ∙ nodes_push b p ts (nodes.nodes_of c.args.states.now.items) c.loop-state.states.items c.in_ok-own.own c.args.nfa.now.states.items
-    c.loop-state.state-index d (subst (λ (v : List State). c.loop-state.state-index < length v) same c.loop-state-test.true)
+    ∙ nodes_push b p ts (nodes.nodes_of c.args.states.now.items) c.loop-state.states.items c.in_ok-own.own
+    c.args.nfa.now.states.items
+    c.loop-state.state-index d
+    (subst (λ (v : List State). c.loop-state.state-index < length v) same c.loop-state-test.true)
     c.loop-state.invariant
-    (c.in_ok-own.ensures.node ∙ ap (λ (v : List State). translated.node_of b p ts (get_or v c.loop-state.state-index d)) same)
+    (c.in_ok-own.ensures.node
+    ∙ ap (λ (v : List State). translated.node_of b p ts (get_or v c.loop-state.state-index d)) same)

@@ -7,4 +7,5 @@ abbrev pub invariant-loop-state : goal.invariant-loop-state
 invariant-loop-state l =
     nodes.nodes_of l.states.items
     ≡ nodes.nodes_of l.fn.states.items
-    ++ translated.nodes_of l.origin.base l.origin.pattern l.nfa.transitions.items (take l.state-index l.nfa.states.items)
+    ++ translated.nodes_of l.origin.base l.origin.pattern l.nfa.transitions.items
+    (take l.state-index l.nfa.states.items)

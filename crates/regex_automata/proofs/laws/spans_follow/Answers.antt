@@ -9,7 +9,8 @@ use Rattle.regex_automata.proofs.laws.spans_follow.Goals as goal
 
 pub returns-clause-spans : goal.returns-clause-spans
 returns-clause-spans c =
-    spans_follow c.answers_agree.ensures c.args.regex.now (subst SearchesFollow c.forward.ensures c.searches_follow.ensures.searches)
+    spans_follow c.answers_agree.ensures c.args.regex.now
+    (subst SearchesFollow c.forward.ensures c.searches_follow.ensures.searches)
     (subst SearchesFollow c.reverse.ensures c.searches_follow-2.ensures.searches)
 
 pub returns-clause-refusals : goal.returns-clause-refusals
@@ -24,7 +25,8 @@ returns-clause-refusals c =
 
 pub returns-clause-nexts : goal.returns-clause-nexts
 returns-clause-nexts c =
-    nexts_follow c.answers_agree.ensures c.args.regex.now (subst SearchesFollow c.forward.ensures c.searches_follow.ensures.searches)
+    nexts_follow c.answers_agree.ensures c.args.regex.now
+    (subst SearchesFollow c.forward.ensures c.searches_follow.ensures.searches)
     (subst SearchesFollow c.reverse.ensures c.searches_follow-2.ensures.searches)
     (subst KnownStays c.forward-2.ensures c.known_stays.ensures)
     (subst KnownStays c.reverse-2.ensures c.known_stays-2.ensures)

@@ -1,6 +1,5 @@
 use Rattle.std.proofs.Common.{◌≡◌, List, Some, subst, ◌∙◌}
 use Rattle.std.specs.Prelude.{slice_get}
-use Rattle.automata_hybrid.specs.Cache.Caches.{CacheView, IsStoreOf}
 use Rattle.regex_automata.specs.declared.hybrid.regex.Regex.{Regex}
 use Rattle.regex_automata.specs.Replay.Histories.{after}
 use Rattle.regex_automata.specs.Replay.Caches.{IsRequestEffect}
@@ -8,6 +7,10 @@ use Rattle.regex_automata.specs.Replay.Replies.{IsReply}
 use Rattle.regex_automata.proofs.Replies.Contracts.{of_current}
 use Rattle.regex_automata.proofs.Replies.Lists.{completes_turn, completes_end, continues_turn, continues_end}
 use Rattle.regex_automata.proofs.replay.answer_all.Goals as goal
+
+pub regex_caches_are_known-requires : goal.regex_caches_are_known-requires
+regex_caches_are_known-requires c =
+    let (h, a, all, made) = c.loop-request.invariant.so_far in (c.answer-reply.ensures.at h a).of
 
 pub loop-request-preserved : goal.loop-request-preserved
 loop-request-preserved c =
@@ -25,15 +28,19 @@ loop-request-preserved c =
       so_far = (
         after h q r,
         played,
-        completes_turn regexes c.args.script.now c.loop-request.replies.items c.push.new.self.items h c.loop-request.request-index q r
+        completes_turn regexes c.args.script.now c.loop-request.replies.items c.push.new.self.items h
+        c.loop-request.request-index q r
             c.loop-request-test.true c.request-item.is all
-            (subst (λ (rs : List Regex). IsReply rs h q r) inv.regexes (c.answer-reply.ensures.reply h a)) c.in_ok-push.ensures.items,
-        continues_turn regexes c.args.script.now c.args.player.cache c.loop-request.replies.items c.push.new.self.items h c.loop-request.player.cache c.answer-reply.new.self.cache c.loop-request.request-index q r
+            (subst (λ (rs : List Regex). IsReply rs h q r) inv.regexes (c.answer-reply.ensures.reply h a))
+            c.in_ok-push.ensures.items,
+        continues_turn regexes c.args.script.now c.args.player.cache c.loop-request.replies.items c.push.new.self.items
+        h c.loop-request.player.cache c.answer-reply.new.self.cache c.loop-request.request-index q r
             c.loop-request-test.true c.request-item.is made
-            (of_current regexes (after h q r) next after_it.regex.now (subst (λ (rs : List Regex). slice_get rs (after h q r).current ≡ Some after_it.regex.now) same played.regex) played.of
-            (subst (λ (v : CacheView). IsStoreOf v.store v.store.table.of) c.as_parts.ensures.forward c.see_bounds.ensures.bounds)
-            (subst (λ (v : CacheView). IsStoreOf v.store v.store.table.of) c.as_parts.ensures.reverse c.see_bounds-in-loop-request.ensures.bounds))
-            (subst (λ (rs : List Regex). IsRequestEffect rs h q r c.loop-request.player.cache c.answer-reply.new.self.cache) inv.regexes (c.answer-reply.ensures.made h a)) c.in_ok-push.ensures.items,
+            (of_current regexes (after h q r) next after_it.regex.now
+            (subst (λ (rs : List Regex). slice_get rs (after h q r).current ≡ Some after_it.regex.now) same
+            played.regex) played.of c.regex_caches_are_known.ensures)
+            (subst (λ (rs : List Regex). IsRequestEffect rs h q r c.loop-request.player.cache
+            c.answer-reply.new.self.cache) inv.regexes (c.answer-reply.ensures.made h a)) c.in_ok-push.ensures.items,
       );
     }
 
@@ -44,5 +51,7 @@ returns c =
     let i = c.loop-request.request-index in
     record {
       returned = completes_end regexes c.args.script.now c.loop-request.replies.items h i c.loop-request-test.false all;
-      made = continues_end regexes c.args.script.now c.args.player.cache c.loop-request.replies.items h c.loop-request.player.cache i c.loop-request-test.false made;
+      made =
+          continues_end regexes c.args.script.now c.args.player.cache c.loop-request.replies.items h
+          c.loop-request.player.cache i c.loop-request-test.false made;
     }

@@ -7,6 +7,9 @@ use Rattle.regex_automata.proofs.replay.answer_all.Given as goal
 abbrev pub invariant-loop-request : goal.invariant-loop-request
 invariant-loop-request l = record {
   regexes : l.player.regexes.now ≡ l.initial.player.regexes.now;
-  so_far : (h : History) × HasPlayed h l.player × Completes l.initial.player.regexes.now l.script l.replies.items h (drop l.request-index l.script)
-      × Continues l.initial.player.regexes.now l.script l.initial.player.cache l.replies.items h l.player.cache (drop l.request-index l.script);
+  so_far :
+      (h : History) × HasPlayed h l.player
+      × Completes l.initial.player.regexes.now l.script l.replies.items h (drop l.request-index l.script)
+      × Continues l.initial.player.regexes.now l.script l.initial.player.cache l.replies.items h l.player.cache
+      (drop l.request-index l.script);
 }

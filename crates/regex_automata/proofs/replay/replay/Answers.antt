@@ -16,13 +16,15 @@ use Rattle.regex_automata.proofs.replay.replay.Goals as goal
 pub returns-in_ok-new-in-Some-clause-walks : goal.returns-in_ok-new-in-Some-clause-walks
 returns-in_ok-new-in-Some-clause-walks c =
     all_report c.args.regexes.now c.args.script.now (λ v. v.items) c.answer_all.result
-    (subst (λ (rs : List Regex). IfOk c.answer_all.result (λ v. AreReplies rs c.args.script.now v.items)) c.in_ok-new-in-Some.ensures.regexes c.answer_all.ensures.returned)
+    (subst (λ (rs : List Regex). IfOk c.answer_all.result (λ v. AreReplies rs c.args.script.now v.items))
+    c.in_ok-new-in-Some.ensures.regexes c.answer_all.ensures.returned)
 
 pub returns-in-None-clause-walks : goal.returns-in-None-clause-walks
 returns-in-None-clause-walks c =
     let none : c.args.regexes.now ≡ [] = grind (arith, common_steps) in
     all_report c.args.regexes.now c.args.script.now (λ v. v.items) c.refuse_all.result
-    (subst (λ (rs : List Regex). IfOk c.refuse_all.result (λ v. AreReplies rs c.args.script.now v.items)) (sym none) c.refuse_all.ensures)
+    (subst (λ (rs : List Regex). IfOk c.refuse_all.result (λ v. AreReplies rs c.args.script.now v.items)) (sym none)
+    c.refuse_all.ensures)
 
 -- requests that are answered from fresh caches of the first regex on
 answered :
@@ -38,7 +40,9 @@ pub returns-in_ok-new-in-Some-clause-made : goal.returns-in_ok-new-in-Some-claus
 returns-in_ok-new-in-Some-clause-made c =
     let first : slice_get c.args.regexes.now 0 ≡ Some c.in-Some.regex.now = grind (arith, common_steps) in
     IfOk-weaker c.answer_all.result _ _
-    (λ v made. answered c.args.regexes.now c.in-Some.regex.now c.args.script.now c.in_ok-new-in-Some.field-0.cache v.items first c.in_ok-new-in-Some.ensures.fresh made)
+    (λ v made. answered c.args.regexes.now c.in-Some.regex.now c.args.script.now c.in_ok-new-in-Some.field-0.cache
+    v.items first c.in_ok-new-in-Some.ensures.fresh made)
     (subst
-    (λ (rs : List Regex). IfOk c.answer_all.result (λ v. AreAnsweredAfter rs start c.in_ok-new-in-Some.field-0.cache c.args.script.now v.items))
+    (λ (rs : List Regex). IfOk c.answer_all.result
+    (λ v. AreAnsweredAfter rs start c.in_ok-new-in-Some.field-0.cache c.args.script.now v.items))
     c.in_ok-new-in-Some.ensures.regexes c.answer_all.ensures.made)

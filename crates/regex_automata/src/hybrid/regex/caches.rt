@@ -1,6 +1,8 @@
 ghost use Rattle.std.specs.Prelude.{◌≡◌, ◌+◌, ◌^◌, ◌-◌, ◌≤◌, IfOk, OnOk, OnErr, min};
 ghost use Rattle.std.specs.Borrow.{sem};
-ghost use Rattle.automata_hybrid.specs.Cache.Usage.{usage};
+ghost use Rattle.automata_hybrid.specs.Cache.Caches.{dfa_of};
+ghost use Rattle.automata_hybrid.specs.Known.Events.{usage};
+ghost use Rattle.automata_hybrid.specs.Known.Stores.{known_of};
 ghost use Rattle.regex_automata.specs.Regexes.Caches.{AreFresh};
 ghost use Rattle.regex_automata.specs.Regexes.LentCaches.{LendsBothParts, LendsForward, LendsReverse, StaysSame};
 
@@ -107,7 +109,8 @@ impl Cache {
 
     /// The accounted bytes of both. If the sum is above the greatest `usize`, it is that number.
     pub fn memory_usage(&self) -> usize
-        ensures { result ≡ min (usage self.now.forward.store + usage self.now.reverse.store) (2 ^ 64 - 1) }
+        ensures { result ≡ min (usage (dfa_of self.now.forward) (known_of self.now.forward)
+            + usage (dfa_of self.now.reverse) (known_of self.now.reverse)) (2 ^ 64 - 1) }
     {
         self.forward
             .memory_usage()
@@ -117,8 +120,9 @@ impl Cache {
     /// The bytes that the leaps of both take now, beside the accounted ones: by them a search over a long text reads a few
     /// bytes at a step. Each part keeps its accounted bytes and its leaps within its own capacity.
     pub fn leap_usage(&self) -> usize
-        ensures { usage self.now.forward.store + usage self.now.reverse.store + result
-            ≤ self.now.forward.store.table.of.capacity + self.now.reverse.store.table.of.capacity }
+        ensures { usage (dfa_of self.now.forward) (known_of self.now.forward)
+            + usage (dfa_of self.now.reverse) (known_of self.now.reverse) + result
+            ≤ (dfa_of self.now.forward).capacity + (dfa_of self.now.reverse).capacity }
     {
         self.forward
             .leap_usage()

@@ -12,11 +12,14 @@ returns-then-not-on c = λ byte h.
 
 pub returns : goal.returns
 returns c =
-    let read : Adds (replicate 257 false) c.mark_states.new.marks (states_bound c.args.nfa.now.flags.line_terminator c.args.nfa.now.states) =
-    adds_like (replicate 257 false) c.mark_states.new.marks (states_bound c.flags.result.line_terminator c.states.result.now) _
+    let read : Adds (replicate 257 false) c.mark_states.new.marks
+    (states_bound c.args.nfa.now.flags.line_terminator c.args.nfa.now.states) =
+    adds_like (replicate 257 false) c.mark_states.new.marks
+    (states_bound c.flags.result.line_terminator c.states.result.now) _
     (λ b. ap (λ f. states_bound f.line_terminator c.args.nfa.now.states b) (sym c.flags.ensures)
     ∙ ap (λ s. states_bound c.flags.result.line_terminator s b) (sym c.states.ensures.same))
     c.mark_states.ensures
     in
-    bounded_on c.args.nfa.now c.args.quits.now c.args.on (replicate 257 false) c.mark_states.new.marks c.mark_quits.new.marks
+    bounded_on c.args.nfa.now c.args.quits.now c.args.on (replicate 257 false) c.mark_states.new.marks
+    c.mark_quits.new.marks
     c.if-not-on.false (λ b h. get_or-replicate 257 b false false (omega (arith, h))) read c.mark_quits.ensures

@@ -1,9 +1,11 @@
 use Rattle.std.proofs.Common.{◌+◌, ◌*◌, sym, ◌∙◌, arith, refl, replicate}
 use Rattle.automata_base.specs.Retraced.Boundaries.{is_marked}
-use Rattle.automata_base.proofs.ByteClasses.Boundaries.{counted_next, counted_same, counted_at, count_none, first_counted}
+use Rattle.automata_base.proofs.ByteClasses.Boundaries.{counted_next, counted_same, counted_at, count_none}
+use Rattle.automata_base.proofs.ByteClasses.Boundaries.{first_counted}
 use Rattle.automata_base.proofs.ByteClasses.Boundaries.{from_bool-cond, from_bool-small}
 use Rattle.automata_base.proofs.util.alphabet.counts.Goals as goal
-use Rattle.automata_base.proofs.util.alphabet.counts.Goals.{then-has_mark+else-loop-i-test, else-has_mark+else-loop-i-else-has_mark-test}
+use Rattle.automata_base.proofs.util.alphabet.counts.Goals.{then-has_mark+else-loop-i-test}
+use Rattle.automata_base.proofs.util.alphabet.counts.Goals.{else-has_mark+else-loop-i-else-has_mark-test}
 
 pub loop-byte-init : goal.loop-byte-init
 loop-byte-init c = record {
@@ -21,7 +23,8 @@ overflow_add-class c =
 pub loop-byte-preserved : goal.loop-byte-preserved
 loop-byte-preserved c =
     let f = is_marked c.args.marks.now in
-    counted_next f c.loop-byte.map c.loop-byte.class c.loop-byte.byte c.from-class.result c.loop-byte.auto.byte (omega (arith, c.loop-byte-test.true))
+    counted_next f c.loop-byte.map c.loop-byte.class c.loop-byte.byte c.from-class.result c.loop-byte.auto.byte
+    (omega (arith, c.loop-byte-test.true))
     (c.from-class.ensures ∙ from_bool-cond (f c.loop-byte.byte)) c.loop-byte.invariant
 
 pub loop-block-init : goal.loop-block-init
@@ -31,24 +34,29 @@ loop-block-init c =
 
 pub loop-i-init : goal.loop-i-init
 loop-i-init c =
-    counted_at (is_marked c.args.marks.now) c.loop-block.map c.loop-block.class (16 * c.loop-block.block) _ (omega arith) c.loop-block.invariant
+    counted_at (is_marked c.args.marks.now) c.loop-block.map c.loop-block.class (16 * c.loop-block.block) _
+    (omega arith) c.loop-block.invariant
 
 pub overflow_add-class-in-loop-i : goal.overflow_add-class-in-loop-i
 overflow_add-class-in-loop-i c =
     let seen = from_bool-small (is_marked c.args.marks.now (16 * c.loop-block.block + c.loop-i.i)) in
-    omega (arith, c.loop-i.invariant.small, c.loop-block-test.true, c.loop-i-test.true, c.from-class-in-loop-i.ensures, seen)
+    omega (arith, c.loop-i.invariant.small, c.loop-block-test.true, c.loop-i-test.true, c.from-class-in-loop-i.ensures,
+    seen)
 
 pub loop-i-preserved : goal.loop-i-preserved
 loop-i-preserved c =
     let f = is_marked c.args.marks.now in
     let byte = 16 * c.loop-block.block + c.loop-i.i in
     counted_at f _ (c.loop-i.class + c.from-class-in-loop-i.result) (byte + 1) _ (omega arith)
-    (counted_next f c.loop-i.map c.loop-i.class byte c.from-class-in-loop-i.result (omega (arith, c.loop-block.auto.block))
-    (omega (arith, c.loop-block-test.true, c.loop-i-test.true)) (c.from-class-in-loop-i.ensures ∙ from_bool-cond (f byte)) c.loop-i.invariant)
+    (counted_next f c.loop-i.map c.loop-i.class byte c.from-class-in-loop-i.result
+    (omega (arith, c.loop-block.auto.block))
+    (omega (arith, c.loop-block-test.true, c.loop-i-test.true))
+    (c.from-class-in-loop-i.ensures ∙ from_bool-cond (f byte)) c.loop-i.invariant)
 
 pub loop-i-else-has_mark-init : goal.loop-i-else-has_mark-init
 loop-i-else-has_mark-init c =
-    counted_at (is_marked c.args.marks.now) c.loop-block.map c.loop-block.class (16 * c.loop-block.block) _ (omega arith) c.loop-block.invariant
+    counted_at (is_marked c.args.marks.now) c.loop-block.map c.loop-block.class (16 * c.loop-block.block) _
+    (omega arith) c.loop-block.invariant
 
 pub loop-i-else-has_mark-preserved : goal.loop-i-else-has_mark-preserved
 loop-i-else-has_mark-preserved c =
@@ -57,7 +65,8 @@ loop-i-else-has_mark-preserved c =
     counted_at f _ c.loop-block.class (byte + 1) _ (omega arith)
     (counted_same f c.loop-i-else-has_mark.map c.loop-block.class byte (omega (arith, c.loop-block.auto.block))
     (omega (arith, c.loop-block-test.true, c.loop-i-else-has_mark-test.true))
-    (c.has_mark.ensures c.if-has_mark.false c.loop-i-else-has_mark.i c.loop-i-else-has_mark-test.true) c.loop-i-else-has_mark.invariant)
+    (c.has_mark.ensures c.if-has_mark.false c.loop-i-else-has_mark.i c.loop-i-else-has_mark-test.true)
+    c.loop-i-else-has_mark.invariant)
 
 pub loop-block-preserved : goal.loop-block-preserved
 loop-block-preserved c =
@@ -67,8 +76,12 @@ loop-block-preserved c =
           rw w.map-is (rw w.class-is (counted_at f w.loop-i.map w.loop-i.class (16 * c.loop-block.block + w.loop-i.i) _
           (omega (arith, w.loop-i-test.false, w.loop-i.auto.i-end)) w.loop-i.invariant))
       | else-has_mark+else-loop-i-else-has_mark-test w ↦
-          rw w.map-is (rw w.class-is (counted_at f w.loop-i-else-has_mark.map c.loop-block.class (16 * c.loop-block.block + w.loop-i-else-has_mark.i) _
-          (omega (arith, w.loop-i-else-has_mark-test.false, w.loop-i-else-has_mark.auto.i-end)) w.loop-i-else-has_mark.invariant))
+          rw w.map-is
+          (rw w.class-is
+          (counted_at f w.loop-i-else-has_mark.map c.loop-block.class
+          (16 * c.loop-block.block + w.loop-i-else-has_mark.i) _
+          (omega (arith, w.loop-i-else-has_mark-test.false, w.loop-i-else-has_mark.auto.i-end))
+          w.loop-i-else-has_mark.invariant))
     ]
 
 pub returns-clause-whole : goal.returns-clause-whole

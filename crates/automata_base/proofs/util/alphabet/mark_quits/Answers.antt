@@ -6,7 +6,8 @@ use Rattle.automata_base.proofs.util.alphabet.mark_quits.Goals as goal
 
 pub loop-byte-preserved : goal.loop-byte-preserved
 loop-byte-preserved c =
-    runs_next c.args.marks.now c.loop-byte.marks c.mark_if.new.marks (quits_bound c.args.quits.now) c.loop-byte.byte c.are_quits_apart.result
+    runs_next c.args.marks.now c.loop-byte.marks c.mark_if.new.marks (quits_bound c.args.quits.now) c.loop-byte.byte
+    c.are_quits_apart.result
     c.are_quits_apart.ensures c.loop-byte.invariant c.mark_if.ensures
 
 pub returns-then-is_empty : goal.returns-then-is_empty
@@ -17,5 +18,6 @@ returns c = record {
   marks = λ byte l.
       let inside : byte < c.loop-byte.byte = omega (arith, l, c.loop-byte-test.false) in
       c.loop-byte.invariant.marks byte l
-      ∙ ap (λ b. is_marked c.args.marks.now byte || (b && quits_bound c.args.quits.now byte)) (lt-ltb byte c.loop-byte.byte inside);
+      ∙ ap (λ b. is_marked c.args.marks.now byte || (b && quits_bound c.args.quits.now byte))
+      (lt-ltb byte c.loop-byte.byte inside);
 }

@@ -10,8 +10,10 @@ returns-in-ByteRange c = rw c.in-ByteRange.is c.mark_range.ensures
 pub returns-in-Sparse : goal.returns-in-Sparse
 unfolding state_bounds
 returns-in-Sparse c =
-    adds_like c.args.marks.now c.mark_transitions.new.marks (transitions_bound c.deref.result.now) (state_bounds c.args.terminator c.args.state.now)
-    (λ b. ap (λ s. state_bounds c.args.terminator s b) c.in-Sparse.is ∙ ap (λ ts. transitions_bound ts b) (sym c.deref.ensures.value))
+    adds_like c.args.marks.now c.mark_transitions.new.marks (transitions_bound c.deref.result.now)
+    (state_bounds c.args.terminator c.args.state.now)
+    (λ b. ap (λ s. state_bounds c.args.terminator s b) c.in-Sparse.is
+    ∙ ap (λ ts. transitions_bound ts b) (sym c.deref.ensures.value))
     c.mark_transitions.ensures
 
 pub returns-in-Dense : goal.returns-in-Dense

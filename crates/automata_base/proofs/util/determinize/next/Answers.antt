@@ -4,4 +4,5 @@ use Rattle.automata_base.proofs.util.determinize.next.Goals as goal
 
 pub returns-clause-made : goal.returns-clause-made
 returns-clause-made c =
-    subst (IsStepMade c.args.nfa.now c.args.kind c.args.from.now c.args.unit) (sym c.in_ok-state.ensures) c.in_ok-key.ensures.made
+    subst (IsStepMade c.args.nfa.now c.args.kind c.args.from.now c.args.unit) (sym c.in_ok-state.ensures)
+    c.in_ok-key.ensures.made

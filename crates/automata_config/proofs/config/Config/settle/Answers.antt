@@ -6,7 +6,8 @@ use Rattle.automata_config.specs.declared.error.BuildError.TheVariants.{Unsuppor
 use Rattle.automata_config.proofs.Refusing.{supported, refusal-offset, refusal-none}
 use Rattle.automata_config.proofs.config.Config.settle.Goals as goal
 
-pub returns-then-attempted-gt-GREATEST_OFFSET-clause-refused : goal.returns-then-attempted-gt-GREATEST_OFFSET-clause-refused
+pub returns-then-attempted-gt-GREATEST_OFFSET-clause-refused :
+    goal.returns-then-attempted-gt-GREATEST_OFFSET-clause-refused
 returns-then-attempted-gt-GREATEST_OFFSET-clause-refused c =
     let o = c.args.self.now in
     let a = c.args.nfa.now in

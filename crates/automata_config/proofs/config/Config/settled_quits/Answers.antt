@@ -17,7 +17,8 @@ returns-then-get_unicode_word_boundary-clause-ok c =
     let o = c.args.self.now in
     let a = c.args.nfa.now in
     let word : has_unicode_word a ≡ true = sym c.has_unicode_word.ensures ∙ c.if-not-has_unicode_word.false in
-    let heuristic : unicode_word_boundary_of o ≡ true = sym c.get_unicode_word_boundary.ensures ∙ c.if-get_unicode_word_boundary.true in
+    let heuristic : unicode_word_boundary_of o ≡ true =
+    sym c.get_unicode_word_boundary.ensures ∙ c.if-get_unicode_word_boundary.true in
     settled_with_non_ascii o a c.quit_set-quits.result c.with_non_ascii.result
     c.with_non_ascii.ensures.whole c.quit_set-quits.ensures.set
     (ap (λ z. z && unicode_word_boundary_of o) word ∙ heuristic) c.with_non_ascii.ensures.set
@@ -26,6 +27,7 @@ pub returns-then-holds_non_ascii-clause-ok : goal.returns-then-holds_non_ascii-c
 returns-then-holds_non_ascii-clause-ok c =
     let o = c.args.self.now in
     let a = c.args.nfa.now in
-    let no_heuristic : unicode_word_boundary_of o ≡ false = sym c.get_unicode_word_boundary.ensures ∙ c.if-get_unicode_word_boundary.false in
+    let no_heuristic : unicode_word_boundary_of o ≡ false =
+    sym c.get_unicode_word_boundary.ensures ∙ c.if-get_unicode_word_boundary.false in
     settled_as_set o a c.quit_set-quits.result c.quit_set-quits.ensures.whole c.quit_set-quits.ensures.set
     (ap (λ z. has_unicode_word a && z) no_heuristic ∙ and-false (has_unicode_word a))

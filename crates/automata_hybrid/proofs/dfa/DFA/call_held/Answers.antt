@@ -1,4 +1,4 @@
-use Rattle.std.proofs.Common.{suc, ◌∙◌, None, Some, ap, subst, sym}
+use Rattle.std.proofs.Common.{suc, ◌∙◌, ap, subst, sym}
 use Rattle.std.specs.Prelude.{Err, Ok, Result}
 use Rattle.automata_base.specs.declared.util.search.Direction.{Direction}
 use Rattle.automata_base.specs.Laws.Walks.{OverlappingIsReported, WalksAreReported}
@@ -6,11 +6,13 @@ use Rattle.automata_base.specs.Answers.Within.{WalkLiesWithin}
 use Rattle.automata_config.specs.Options.{match_kind_of}
 use Rattle.automata_config.specs.declared.error.SearchError.{SearchError}
 use Rattle.automata_hybrid.specs.Walks.State.{States, Walk}
-use Rattle.automata_hybrid.specs.Private.Walks.State.{IsHeldItself, keeping_of}
-use Rattle.automata_hybrid.specs.Private.Walks.Progress.{IsWalkRunInStore}
+use Rattle.automata_hybrid.specs.Known.Known.{Known}
+use Rattle.automata_hybrid.specs.Known.Stores.{known_of}
+use Rattle.automata_hybrid.specs.Known.Walks.{LeavesCall}
+use Rattle.automata_hybrid.specs.Private.Walks.State.{IsHeldItself}
 use Rattle.automata_hybrid.specs.declared.search.walk.Held.{Held}
 use Rattle.automata_hybrid.specs.Private.Walks.Answers.{FindsNone, ReadsMore, ReportsOneMore}
-use Rattle.automata_hybrid.proofs.Walks.Parts.{held_itself, itself_held, left_by, supported_call, unsupported_call}
+use Rattle.automata_hybrid.proofs.Walks.Parts.{held_itself, itself_held, supported_call, unsupported_call}
 use Rattle.automata_hybrid.proofs.Walks.Progress.{left_reads}
 use Rattle.automata_hybrid.proofs.Walks.Reach.{call_memory}
 use Rattle.automata_hybrid.proofs.Walks.Calls.{still_walk}
@@ -61,8 +63,7 @@ returns-in-Ok-clause-call c =
 
 pub returns-in-Ok-clause-effect : goal.returns-in-Ok-clause-effect
 returns-in-Ok-clause-effect c =
-    subst (λ k. IsWalkRunInStore k c.args.way c.args.self.now c.args.input.now c.args.walk.now c.go_on.new.walk c.args.cache.now c.go_on.new.cache None)
-    (held_itself c.args.cache.now.store.table c.args.walk.now.stage c.args.held.now c.requires.walk.itself).1 c.in-Ok.ensures.called.effect
+    c.in-Ok.ensures.called.effect
 
 pub returns-in-Err-clause-walk : goal.returns-in-Err-clause-walk
 returns-in-Err-clause-walk c =
@@ -77,17 +78,23 @@ returns-in-Err-clause-walk c =
 
 pub returns-in-Err-clause-effect : goal.returns-in-Err-clause-effect
 returns-in-Err-clause-effect c =
-    subst (λ k. IsWalkRunInStore k c.args.way c.args.self.now c.args.input.now c.args.walk.now c.go_on.new.walk c.args.cache.now c.go_on.new.cache (Some c.in-Err.error))
-    (held_itself c.args.cache.now.store.table c.args.walk.now.stage c.args.held.now c.requires.walk.itself).1 c.in-Err.ensures.called
+    subst
+    (λ k. LeavesCall k c.args.way c.args.self.now c.args.input.now c.args.walk.now (known_of c.args.cache.now)
+    (known_of c.go_on.new.cache) c.in-Err.error)
+    (held_itself c.args.cache.now.store.table c.args.walk.now.stage c.args.held.now c.requires.walk.itself).1
+    c.in-Err.ensures.called
 
 pub returns-in-Err-clause-call : goal.returns-in-Err-clause-call
 returns-in-Err-clause-call c =
     let d : Direction = c.args.way in
     let m = c.args.self.now in
     let input = c.args.input.now in
-    let left =
-    left_by (keeping_of c.args.held.now) States d m input c.args.walk.now c.go_on.new.walk c.args.cache.now c.go_on.new.cache c.in-Err.error
-    (held_itself c.args.cache.now.store.table c.args.walk.now.stage c.args.held.now c.requires.walk.itself).1 c.in-Err.ensures.called in
+    let old : Known = known_of c.args.cache.now in
+    let new : Known = known_of c.go_on.new.cache in
+    let left : LeavesCall States d m input c.args.walk.now old new c.in-Err.error =
+    subst (λ k. LeavesCall k d m input c.args.walk.now old new c.in-Err.error)
+    (held_itself c.args.cache.now.store.table c.args.walk.now.stage c.args.held.now c.requires.walk.itself).1
+    c.in-Err.ensures.called in
     let refused : Result (Unit {0}) SearchError = Err c.in-Err.error in
     let haystack = c.haystack-haystack.ensures in
     record {
@@ -99,10 +106,10 @@ returns-in-Err-clause-call c =
           c.args.walk.now c.go_on.new.walk refused c.requires.walk.reported tt c.in-Err.ensures.err.0;
       ended = λ over. ap (λ (w : Walk). w.found) c.in-Err.ensures.err.0;
       refused = c.in-Err.ensures.err.0;
-      unsupported = λ fresh u. ap Err (unsupported_call States d m input c.args.walk.now c.args.cache.now c.go_on.new.cache c.in-Err.error fresh u left);
+      unsupported = λ fresh u.
+          ap Err (unsupported_call States d m input c.args.walk.now old new c.in-Err.error fresh u left);
       free = λ f.
-          call_memory d m c.go_on.new.cache input haystack.within.1 c.in-Err.ensures.of f.reach f.supported f.clears States c.args.walk.now
-          c.args.cache.now c.in-Err.error left;
-      ready =
-          left_reads States d m input c.args.walk.now c.args.cache.now c.go_on.new.cache c.in-Err.error left;
+          call_memory d m input haystack.within.1 f.reach f.supported f.clears States c.args.walk.now old new
+          c.in-Err.error left;
+      ready = left_reads States d m input c.args.walk.now old new c.in-Err.error left;
     }

@@ -9,18 +9,17 @@ use Rattle.automata_base.specs.Paths.Selections.{Pair}
 use Rattle.automata_base.specs.declared.util.search.Direction.TheVariants.{Forward}
 use Rattle.automata_base.specs.Laws.Walks.{WalkIsRight, WalksAreReported}
 use Rattle.automata_config.specs.declared.error.SearchError.{SearchError}
-use Rattle.automata_hybrid.specs.Cache.Caches.{CacheView}
+use Rattle.automata_hybrid.specs.Known.Known.{Known}
+use Rattle.automata_hybrid.specs.Known.Stores.{known_of}
+use Rattle.automata_hybrid.specs.Known.Walks.{HaveCalled, IsSetRun, LeavesCall, OneMore}
 use Rattle.automata_hybrid.specs.Machines.Machine.{Machine}
 use Rattle.automata_hybrid.specs.Private.Walks.Contracts.{IsSetReported}
 use Rattle.automata_hybrid.specs.Walks.Progress.{HasNoneLeft}
-use Rattle.automata_hybrid.specs.Private.Walks.Progress.{HaveCalledInStore, IsSetRunInStore, OneMoreInStore}
 use Rattle.automata_hybrid.specs.Walks.Answers.{AreWalked}
 use Rattle.automata_hybrid.specs.Walks.State.{Ended, Ids, Walk}
-use Rattle.automata_hybrid.specs.Private.Walks.State.{keeping_of}
-use Rattle.automata_hybrid.proofs.Searches.Contracts.{is_store}
 use Rattle.automata_hybrid.proofs.Walks.CachedSets.{half_none}
 use Rattle.automata_hybrid.proofs.Searches.Reads.{at_err}
-use Rattle.automata_hybrid.proofs.Walks.Parts.{held_there, left_by, supported_call, unsupported_call}
+use Rattle.automata_hybrid.proofs.Walks.Parts.{held_there, supported_call, unsupported_call}
 use Rattle.automata_hybrid.proofs.Walks.Progress.{left_reads}
 use Rattle.automata_hybrid.proofs.Searches.PassState.{false_true}
 use Rattle.automata_hybrid.proofs.Walks.Sets.{IsLacking, Joins, calls_more, closes, joins_all}
@@ -35,39 +34,40 @@ returns-in_err-go_on-clause-reported c =
     let input : Input = c.args.input.now in
     let walk : Walk = c.walk.walk in
     let v = c.walk.invariant in
-    let left = left_by (keeping_of c.walk.held) Ids Forward m input walk c.go_on.new.walk c.walk.cache c.go_on.new.cache c.in_err-go_on.field-0.0 v.keeping c.in_err-go_on.ensures.called in
+    let left : LeavesCall Ids Forward m input walk (known_of c.walk.cache) (known_of c.go_on.new.cache) c.in_err-go_on.field-0.0 =
+    subst (λ k. LeavesCall k Forward m input walk (known_of c.walk.cache) (known_of c.go_on.new.cache) c.in_err-go_on.field-0.0) v.keeping
+    c.in_err-go_on.ensures.called in
     at_err c.from_residual.result _ (λ (x : Result (Unit {0}) SearchError). IsSetReported m input c.args.patset.now c.walk.patset x) c.from_residual.ensures.1
     (record {
       found = tt;
       paths = λ free. tt;
       capacity = v.joins.0.capacity;
-      unsupported = λ u. (ap Err (unsupported_call Ids Forward m input walk c.walk.cache c.go_on.new.cache c.in_err-go_on.field-0.0 (v.begins u).0 u left), (v.begins u).1);
-      done = λ past. absurd (left_reads Ids Forward m input walk c.walk.cache c.go_on.new.cache c.in_err-go_on.field-0.0 left (HasNoneLeft (omega (arith, past))));
+      unsupported = λ u. (ap Err (unsupported_call Ids Forward m input walk (known_of c.walk.cache) (known_of c.go_on.new.cache) c.in_err-go_on.field-0.0 (v.begins u).0 u left), (v.begins u).1);
+      done = λ past. absurd (left_reads Ids Forward m input walk (known_of c.walk.cache) (known_of c.go_on.new.cache) c.in_err-go_on.field-0.0 left (HasNoneLeft (omega (arith, past))));
     })
 
 pub returns-in_err-go_on-clause-effect : goal.returns-in_err-go_on-clause-effect
 returns-in_err-go_on-clause-effect c =
     let m : Machine = c.args.self.now in
     let input : Input = c.args.input.now in
-    let mid : CacheView = c.walk.cache in
-    let new : CacheView = c.go_on.new.cache in
+    let mid : Known = known_of c.walk.cache in
+    let new : Known = known_of c.go_on.new.cache in
     let walk : Walk = c.walk.walk in
     let v = c.walk.invariant in
     let j = v.joins.0 in
-    let left = left_by (keeping_of c.walk.held) Ids Forward m input walk c.go_on.new.walk c.walk.cache c.go_on.new.cache c.in_err-go_on.field-0.0 v.keeping c.in_err-go_on.ensures.called in
-    at_err c.from_residual.result _ (λ (r : Result (Unit {0}) SearchError). IsSetRunInStore m input c.args.patset.now c.walk.patset c.args.cache.now new (result_err r)) c.from_residual.ensures.1
+    let left : LeavesCall Ids Forward m input walk (known_of c.walk.cache) (known_of c.go_on.new.cache) c.in_err-go_on.field-0.0 =
+    subst (λ k. LeavesCall k Forward m input walk (known_of c.walk.cache) (known_of c.go_on.new.cache) c.in_err-go_on.field-0.0) v.keeping
+    c.in_err-go_on.ensures.called in
+    at_err c.from_residual.result _ (λ (r : Result (Unit {0}) SearchError). IsSetRun m input c.args.patset.now c.walk.patset (known_of c.args.cache.now) new (result_err r)) c.from_residual.ensures.1
     (record {
-      of = (is_store c.args.cache.now.store c.args.self.now c.requires c.see_bounds.ensures.bounds);
-      run = record {
-        calls = j.k;
-        walk = walk;
-        mid = mid;
-        called = v.joins.1;
-        still_open = open_after m input walk c.args.patset.now c.walk.patset j;
-        joins = j.joined;
-        there = v.there;
-        left = left;
-      };
+      calls = j.k;
+      walk = walk;
+      mid = mid;
+      called = v.joins.1;
+      still_open = open_after m input walk c.args.patset.now c.walk.patset j;
+      joins = j.joined;
+      there = v.there;
+      left = left;
     })
 
 pub returns-in_default-clause-reported : goal.returns-in_default-clause-reported
@@ -95,8 +95,8 @@ pub returns-in_default-clause-effect : goal.returns-in_default-clause-effect
 returns-in_default-clause-effect c =
     let m : Machine = c.args.self.now in
     let input : Input = c.args.input.now in
-    let mid : CacheView = c.walk.cache in
-    let new : CacheView = c.go_on.new.cache in
+    let mid : Known = known_of c.walk.cache in
+    let new : Known = known_of c.go_on.new.cache in
     let walk : Walk = c.walk.walk in
     let next : Walk = c.go_on.new.walk in
     let v = c.walk.invariant in
@@ -107,15 +107,12 @@ returns-in_default-clause-effect c =
     let after = (a.reports j.k j.reported).1 list.0 list.1 in
     let last : next.stage ≡ Ended = after.1 (half_none list.0 j.k (sym after.0 ∙ (sym c.get_match.ensures ∙ c.in_default.«is»))) in
     record {
-      of = (is_store c.args.cache.now.store c.args.self.now c.requires c.see_bounds.ensures.bounds);
-      run = record {
-        calls = suc j.k;
-        walk = next;
-        called =
-            OneMoreInStore j.k walk next mid new v.joins.1 (open_after m input walk c.args.patset.now c.walk.patset j) v.there a.reports
-            c.in_ok-go_on.ensures.called.effect.run;
-        last = inl last;
-      };
+      calls = suc j.k;
+      walk = next;
+      called =
+          OneMore j.k walk next mid new v.joins.1 (open_after m input walk c.args.patset.now c.walk.patset j) v.there a.reports
+          c.in_ok-go_on.ensures.called.effect;
+      last = inl last;
     }
 
 pub returns-then-is_full-clause-reported : goal.returns-then-is_full-clause-reported
@@ -151,8 +148,8 @@ pub returns-then-is_full-clause-effect : goal.returns-then-is_full-clause-effect
 returns-then-is_full-clause-effect c =
     let m : Machine = c.args.self.now in
     let input : Input = c.args.input.now in
-    let mid : CacheView = c.walk.cache in
-    let new : CacheView = c.go_on.new.cache in
+    let mid : Known = known_of c.walk.cache in
+    let new : Known = known_of c.go_on.new.cache in
     let walk : Walk = c.walk.walk in
     let next : Walk = c.go_on.new.walk in
     let v = c.walk.invariant in
@@ -160,19 +157,16 @@ returns-then-is_full-clause-effect c =
     let a = c.in_ok-go_on.ensures.called.answer in
     let found : next.found ≡ Some c.in-Some.half = sym c.get_match.ensures ∙ c.in-Some.«is» in
     record {
-      of = (is_store c.args.cache.now.store c.args.self.now c.requires c.see_bounds.ensures.bounds);
-      run = record {
-        calls = suc j.k;
-        walk = next;
-        called =
-            OneMoreInStore j.k walk next mid new v.joins.1 (open_after m input walk c.args.patset.now c.walk.patset j) v.there a.reports
-            c.in_ok-go_on.ensures.called.effect.run;
-        last = inr (λ pairs walked.
-            closes input c.args.patset.now (set c.walk.patset c.in-Some.half.pattern true) pairs j.k c.in-Some.half
-            (sym ((a.reports j.k j.reported).1 pairs walked).0 ∙ found) (length-set c.walk.patset c.in-Some.half.pattern true ∙ j.capacity)
-            (joined_more m input c.args.patset.now walk next c.walk.patset j a.reports (pairs, walked) c.in-Some.half found)
-            (inr (subst (λ (s : List Bool). length (members s) ≡ length s) (c.try_insert.ensures.inserted ∙ ap (λ n. set c.walk.patset n true) c.pattern.ensures) (c.is_full.ensures.0 c.if-is_full.true))));
-      };
+      calls = suc j.k;
+      walk = next;
+      called =
+          OneMore j.k walk next mid new v.joins.1 (open_after m input walk c.args.patset.now c.walk.patset j) v.there a.reports
+          c.in_ok-go_on.ensures.called.effect;
+      last = inr (λ pairs walked.
+          closes input c.args.patset.now (set c.walk.patset c.in-Some.half.pattern true) pairs j.k c.in-Some.half
+          (sym ((a.reports j.k j.reported).1 pairs walked).0 ∙ found) (length-set c.walk.patset c.in-Some.half.pattern true ∙ j.capacity)
+          (joined_more m input c.args.patset.now walk next c.walk.patset j a.reports (pairs, walked) c.in-Some.half found)
+          (inr (subst (λ (s : List Bool). length (members s) ≡ length s) (c.try_insert.ensures.inserted ∙ ap (λ n. set c.walk.patset n true) c.pattern.ensures) (c.is_full.ensures.0 c.if-is_full.true))));
     }
 
 pub returns-then-get_earliest-clause-reported : goal.returns-then-get_earliest-clause-reported
@@ -207,8 +201,8 @@ pub returns-then-get_earliest-clause-effect : goal.returns-then-get_earliest-cla
 returns-then-get_earliest-clause-effect c =
     let m : Machine = c.args.self.now in
     let input : Input = c.args.input.now in
-    let mid : CacheView = c.walk.cache in
-    let new : CacheView = c.go_on.new.cache in
+    let mid : Known = known_of c.walk.cache in
+    let new : Known = known_of c.go_on.new.cache in
     let walk : Walk = c.walk.walk in
     let next : Walk = c.go_on.new.walk in
     let v = c.walk.invariant in
@@ -216,19 +210,16 @@ returns-then-get_earliest-clause-effect c =
     let a = c.in_ok-go_on.ensures.called.answer in
     let found : next.found ≡ Some c.in-Some.half = sym c.get_match.ensures ∙ c.in-Some.«is» in
     record {
-      of = (is_store c.args.cache.now.store c.args.self.now c.requires c.see_bounds.ensures.bounds);
-      run = record {
-        calls = suc j.k;
-        walk = next;
-        called =
-            OneMoreInStore j.k walk next mid new v.joins.1 (open_after m input walk c.args.patset.now c.walk.patset j) v.there a.reports
-            c.in_ok-go_on.ensures.called.effect.run;
-        last = inr (λ pairs walked.
-            closes input c.args.patset.now (set c.walk.patset c.in-Some.half.pattern true) pairs j.k c.in-Some.half
-            (sym ((a.reports j.k j.reported).1 pairs walked).0 ∙ found) (length-set c.walk.patset c.in-Some.half.pattern true ∙ j.capacity)
-            (joined_more m input c.args.patset.now walk next c.walk.patset j a.reports (pairs, walked) c.in-Some.half found)
-            (inl (sym c.get_earliest.ensures ∙ c.if-get_earliest.true)));
-      };
+      calls = suc j.k;
+      walk = next;
+      called =
+          OneMore j.k walk next mid new v.joins.1 (open_after m input walk c.args.patset.now c.walk.patset j) v.there a.reports
+          c.in_ok-go_on.ensures.called.effect;
+      last = inr (λ pairs walked.
+          closes input c.args.patset.now (set c.walk.patset c.in-Some.half.pattern true) pairs j.k c.in-Some.half
+          (sym ((a.reports j.k j.reported).1 pairs walked).0 ∙ found) (length-set c.walk.patset c.in-Some.half.pattern true ∙ j.capacity)
+          (joined_more m input c.args.patset.now walk next c.walk.patset j a.reports (pairs, walked) c.in-Some.half found)
+          (inl (sym c.get_earliest.ensures ∙ c.if-get_earliest.true)));
     }
 
 pub walk-smaller : goal.walk-smaller
@@ -249,7 +240,7 @@ walk-init c = record {
   on = search rules;
   holds = search rules;
   keeping = search rules;
-  joins = joins_begin c.args.self.now c.args.input.now c.start-walk.result c.args.patset.now c.args.cache.now c.start-walk.ensures;
+  joins = joins_begin c.args.self.now c.args.input.now c.start-walk.result c.args.patset.now (known_of c.args.cache.now) c.start-walk.ensures;
 }
 
 pub walk-preserved : goal.walk-preserved
@@ -266,7 +257,7 @@ walk-preserved c =
     record {
       of = c.in_ok-go_on.ensures.of;
       there =
-          held_there c.go_on.new.cache.store.table c.go_on.new.walk.stage c.go_on.new.held c.in_ok-go_on.ensures.held.holds
+          held_there c.go_on.new.cache c.go_on.new.walk.stage c.go_on.new.held c.in_ok-go_on.ensures.held.holds
           (c.in_ok-go_on.ensures.held.keeping ∙ c.walk.invariant.keeping);
       on = on.0;
       holds = c.in_ok-go_on.ensures.held.holds;
@@ -276,11 +267,11 @@ walk-preserved c =
           absurd (omega (arith, past, undone)));
       begins = λ u. absurd (supported_call Forward c.args.self.now c.args.input.now c.walk.walk c.go_on.new.walk (j.k, j.reported) c.in_ok-go_on.ensures.called.answer.reports u);
       joins =
-          subst (λ (s : List Bool). (i : Joins c.args.self.now c.args.input.now c.go_on.new.walk c.args.patset.now s) × HaveCalledInStore c.args.self.now c.args.input.now c.args.patset.now c.args.cache.now i.k c.go_on.new.walk c.go_on.new.cache) (sym put) (
+          subst (λ (s : List Bool). (i : Joins c.args.self.now c.args.input.now c.go_on.new.walk c.args.patset.now s) × HaveCalled c.args.self.now c.args.input.now c.args.patset.now (known_of c.args.cache.now) i.k c.go_on.new.walk (known_of c.go_on.new.cache)) (sym put) (
             joins_more c.args.self.now c.args.input.now c.args.patset.now c.walk.walk c.go_on.new.walk c.walk.patset c.walk.invariant.joins.0 c.in_ok-go_on.ensures.called.answer.reports list c.in-Some.half found (sym c.get_earliest.ensures ∙ c.if-get_earliest.false) lacks,
-            calls_more c.args.self.now c.args.input.now c.args.patset.now c.walk.walk c.go_on.new.walk c.walk.patset c.walk.invariant.joins.0 c.in_ok-go_on.ensures.called.answer.reports list c.in-Some.half found (sym c.get_earliest.ensures ∙ c.if-get_earliest.false) lacks c.args.cache.now c.go_on.new.cache
-                (OneMoreInStore j.k c.walk.walk c.go_on.new.walk c.walk.cache c.go_on.new.cache c.walk.invariant.joins.1
+            calls_more c.args.self.now c.args.input.now c.args.patset.now c.walk.walk c.go_on.new.walk c.walk.patset c.walk.invariant.joins.0 c.in_ok-go_on.ensures.called.answer.reports list c.in-Some.half found (sym c.get_earliest.ensures ∙ c.if-get_earliest.false) lacks (known_of c.args.cache.now) (known_of c.go_on.new.cache)
+                (OneMore j.k c.walk.walk c.go_on.new.walk (known_of c.walk.cache) (known_of c.go_on.new.cache) c.walk.invariant.joins.1
                 (open_after c.args.self.now c.args.input.now c.walk.walk c.args.patset.now c.walk.patset j)
-                c.walk.invariant.there c.in_ok-go_on.ensures.called.answer.reports c.in_ok-go_on.ensures.called.effect.run),
+                c.walk.invariant.there c.in_ok-go_on.ensures.called.answer.reports c.in_ok-go_on.ensures.called.effect),
           );
     }

@@ -3,6 +3,8 @@ use Rattle.automata_base.specs.Answers.Answers.{offset_in}
 use Rattle.automata_base.specs.Haystacks.Input.{Input}
 use Rattle.automata_base.specs.Haystacks.Matches.{HalfMatch}
 use Rattle.automata_base.specs.declared.util.search.Direction.{Direction}
+use Rattle.automata_hybrid.specs.Known.Stores.{known_of}
+use Rattle.automata_hybrid.specs.Known.Walks.{ReadsNone}
 use Rattle.automata_hybrid.specs.Machines.Machine.{Machine}
 use Rattle.automata_hybrid.specs.Walks.Progress.{HasEnded, HasMore, HasNoneLeft}
 use Rattle.automata_hybrid.specs.Private.Walks.Parts.{IsCallAnswer, IsCallResult}
@@ -12,8 +14,7 @@ use Rattle.automata_hybrid.specs.Walks.State.{At, Ended, Keeping, Walk}
 use Rattle.automata_hybrid.specs.Private.Walks.State.{ended_walk, keeping_of, with_match}
 use Rattle.automata_hybrid.specs.Walks.State.{without_match}
 use Rattle.automata_hybrid.specs.Private.Walks.Answers.{FindsNone, ReportsOneMore}
-use Rattle.automata_hybrid.proofs.Searches.Contracts.{is_store}
-use Rattle.automata_hybrid.proofs.Walks.Parts.{called_matched, run_none}
+use Rattle.automata_hybrid.proofs.Walks.Parts.{called_matched}
 use Rattle.automata_hybrid.proofs.Walks.Calls.{ended_at, next_done, next_ended, next_read, next_same, undone}
 use Rattle.automata_hybrid.proofs.Searches.Directions.{units_in}
 use Rattle.automata_hybrid.proofs.dfa.DFA.go_on.Goals as goal
@@ -31,10 +32,8 @@ returns-then-has_ended-clause-called c =
             goes_on = FindsNone refl;
           });
       effect =
-          run_none (keeping_of c.args.held.now) c.args.way c.args.self.now c.args.input.now c.args.walk.now c.forget_match.new.self c.args.cache.now
-          (is_store c.args.cache.now.store c.args.self.now c.requires.of c.see_bounds.ensures.bounds)
-          (HasEnded ended)
-          (ap (λ (v : Walk). v.units) c.forget_match.ensures) (λ over. ap (λ (v : Walk). v.found) c.forget_match.ensures);
+          ReadsNone (λ over. ap (λ (v : Walk). v.found) c.forget_match.ensures) (HasEnded ended)
+          (ap (λ (v : Walk). v.units) c.forget_match.ensures) refl;
     }
 
 pub returns-then-is_done-clause-called : goal.returns-then-is_done-clause-called
@@ -53,10 +52,8 @@ returns-then-is_done-clause-called c =
             goes_on = FindsNone refl;
           });
       effect =
-          run_none (keeping_of c.args.held.now) c.args.way c.args.self.now c.args.input.now c.args.walk.now c.end.new.self c.args.cache.now
-          (is_store c.args.cache.now.store c.args.self.now c.requires.of c.see_bounds.ensures.bounds)
-          (HasNoneLeft (omega (arith, done)))
-          (ap (λ (v : Walk). v.units) c.end.ensures ∙ (c.units.ensures ∙ ap (λ (v : Walk). v.units) c.forget_match.ensures)) (λ over. ap (λ (v : Walk). v.found) c.end.ensures);
+          ReadsNone (λ over. ap (λ (v : Walk). v.found) c.end.ensures) (HasNoneLeft (omega (arith, done)))
+          (ap (λ (v : Walk). v.units) c.end.ensures ∙ (c.units.ensures ∙ ap (λ (v : Walk). v.units) c.forget_match.ensures)) refl;
     }
 
 pub returns-in-Some-clause-called : goal.returns-in-Some-clause-called
@@ -80,12 +77,11 @@ returns-in-Some-clause-called c =
             goes_on = ReportsOneMore (λ ended. ended_at left.0 (sym ended ∙ stage)) refl refl;
           });
       effect =
-          run_none (keeping_of c.args.held.now) c.args.way c.args.self.now c.args.input.now c.args.walk.now c.report.new.self c.args.cache.now
-          (is_store c.args.cache.now.store c.args.self.now c.requires.of c.see_bounds.ensures.bounds)
+          ReadsNone
+          (λ over. absurd (ended_at left.0 (sym over ∙ (ap (λ (v : Walk). v.stage) c.report.ensures ∙ left.1))))
           (HasMore left.0 (subst (λ (v : Walk). v.stage ≡ At left.0) c.forget_match.ensures left.1)
           (subst (λ (v : Walk). v.reported < length left.0.patterns) c.forget_match.ensures left.2))
-          (ap (λ (v : Walk). v.units) c.report.ensures ∙ ap (λ (v : Walk). v.units) c.forget_match.ensures)
-          (λ over. absurd (ended_at left.0 (sym over ∙ (ap (λ (v : Walk). v.stage) c.report.ensures ∙ left.1))));
+          (ap (λ (v : Walk). v.units) c.report.ensures ∙ ap (λ (v : Walk). v.units) c.forget_match.ensures) refl;
     }
 
 pub returns-then-units-last_place-clause-called : goal.returns-then-units-last_place-clause-called
@@ -109,17 +105,19 @@ returns-then-units-last_place-clause-called c =
             goes_on = FindsNone refl;
           });
       effect =
-          run_none (keeping_of c.args.held.now) c.args.way c.args.self.now c.args.input.now c.args.walk.now c.end-then-units-last_place.new.self c.args.cache.now
-          (is_store c.args.cache.now.store c.args.self.now c.requires.of c.see_bounds.ensures.bounds)
+          ReadsNone (λ over. ap (λ (v : Walk). v.found) c.end-then-units-last_place.ensures)
           (HasNoneLeft (omega (arith, read, c.last_place.ensures.place, c.if-units-last_place.true)))
           (ap (λ (v : Walk). v.units) c.end-then-units-last_place.ensures ∙ (c.units-then-units-last_place.ensures ∙ ap (λ (v : Walk). v.units) c.forget_match.ensures))
-          (λ over. ap (λ (v : Walk). v.found) c.end-then-units-last_place.ensures);
+          refl;
     }
 
 pub returns-clause-called : goal.returns-clause-called
 returns-clause-called c =
     let keeping : Keeping = keeping_of c.args.held.now in
     let r = c.walk_on in
-    called_matched c.args.way c.args.self.now c.args.input.now c.args.walk.now r.new.walk keeping c.args.cache.now r.new.cache r.result
-    (subst (λ (v : Walk). IsCallResult keeping c.args.way c.args.self.now c.args.input.now v r.new.walk c.args.cache.now r.new.cache r.result) c.forget_match.ensures
-    r.ensures.called)
+    called_matched c.args.way c.args.self.now c.args.input.now c.args.walk.now r.new.walk keeping
+    (known_of c.args.cache.now) (known_of r.new.cache) r.result
+    (subst
+    (λ (v : Walk). IsCallResult keeping c.args.way c.args.self.now c.args.input.now v r.new.walk
+    (known_of c.args.cache.now) (known_of r.new.cache) r.result)
+    c.forget_match.ensures r.ensures.called)

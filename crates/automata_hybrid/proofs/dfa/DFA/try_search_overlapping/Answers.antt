@@ -1,10 +1,10 @@
 use Rattle.std.proofs.Common.{sym, subst}
 use Rattle.std.specs.Result.{result_err}
-use Rattle.automata_hybrid.specs.Walks.Contracts.{IsWalkCall}
-use Rattle.automata_hybrid.specs.Private.Walks.Progress.{IsWalkRunInStore}
+use Rattle.automata_hybrid.specs.Known.Stores.{known_of}
+use Rattle.automata_hybrid.specs.Known.Walks.{IsWalkRun}
 use Rattle.automata_hybrid.specs.Walks.Answers.{IsWalkOf}
+use Rattle.automata_hybrid.specs.Walks.Contracts.{IsWalkCall}
 use Rattle.automata_hybrid.specs.Walks.State.{States, Walk}
-use Rattle.automata_hybrid.proofs.Known.Walks.{walks_by_known}
 use Rattle.automata_hybrid.proofs.dfa.DFA.try_search_overlapping.Goals as goal
 
 pub call_held-requires-clause-walk : goal.call_held-requires-clause-walk
@@ -19,15 +19,13 @@ returns-clause-walk c = c.call_held.ensures.walk.reported
 
 pub returns-clause-call : goal.returns-clause-call
 returns-clause-call c =
-    subst (λ (w : Walk). IsWalkCall c.args.way c.args.self.now c.args.input.now w c.call_held.new.walk c.call_held.result) c.walk.view_is
-    c.call_held.ensures.call
+    subst
+    (λ (w : Walk). IsWalkCall c.args.way c.args.self.now c.args.input.now w c.call_held.new.walk c.call_held.result)
+    c.walk.view_is c.call_held.ensures.call
 
 pub returns-clause-effect : goal.returns-clause-effect
 returns-clause-effect c =
-    (walks_by_known c.args.self.now c.see_machine.ensures.machine c.see_machine.ensures.bytes).calls States c.args.way
-    c.args.input.now c.args.walk.now c.call_held.new.walk c.args.cache.now c.call_held.new.cache
-    (result_err c.call_held.result) (c.haystack-haystack.ensures.bytes, c.haystack-haystack.ensures.within.1)
-    (subst
-    (λ (w : Walk). IsWalkRunInStore States c.args.way c.args.self.now c.args.input.now w c.call_held.new.walk c.args.cache.now
-    c.call_held.new.cache (result_err c.call_held.result))
-    c.walk.view_is c.call_held.ensures.effect)
+    subst
+    (λ (w : Walk). IsWalkRun States c.args.way c.args.self.now c.args.input.now w c.call_held.new.walk
+    (known_of c.args.cache.now) (known_of c.call_held.new.cache) (result_err c.call_held.result))
+    c.walk.view_is c.call_held.ensures.effect

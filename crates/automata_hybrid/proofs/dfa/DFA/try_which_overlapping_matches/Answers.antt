@@ -1,4 +1,4 @@
-use Rattle.automata_hybrid.proofs.Known.Walks.{walks_by_known}
+use Rattle.automata_hybrid.specs.Known.Stores.{known_of}
 use Rattle.automata_hybrid.proofs.Walks.Reach.{set_memory}
 use Rattle.automata_hybrid.proofs.dfa.DFA.try_which_overlapping_matches.Goals as goal
 
@@ -11,15 +11,9 @@ returns-clause-which c =
       unsupported = s.reported.unsupported;
       done = s.reported.done;
       free = λ f.
-          set_memory c.args.self.now c.collect.new.cache c.args.input.now c.args.patset.now c.collect.new.patset c.args.cache.now c.collect.result
-          s.inside s.of f s.effect;
+          set_memory c.args.self.now c.args.input.now c.args.patset.now c.collect.new.patset
+          (known_of c.args.cache.now) (known_of c.collect.new.cache) c.collect.result s.inside f s.effect;
     }
 
 pub returns-clause-found : goal.returns-clause-found
 returns-clause-found c = c.collect.ensures.reported.found
-
-pub returns-clause-effect : goal.returns-clause-effect
-returns-clause-effect c =
-    (walks_by_known c.args.self.now c.see_machine.ensures.machine c.see_machine.ensures.bytes).sets c.args.input.now
-    c.args.patset.now c.collect.new.patset c.args.cache.now c.collect.new.cache _
-    (c.haystack-haystack.ensures.bytes, c.haystack-haystack.ensures.within.1) c.collect.ensures.effect

@@ -8,7 +8,9 @@ pub returns-in-Ok-Some-clause-found : goal.returns-in-Ok-Some-clause-found
 returns-in-Ok-Some-clause-found c = λ text finds.
     let r = finds.regex in
     let one = one_meaning (config_of in_bytes) text r.0 r.1 in
-    let same = c.in-Ok-Some.ensures.found in_bytes r.0 r.2 ((λ no. absurd (true≢false (sym no))), (λ no. absurd (true≢false (sym no)))) in (
+    let same =
+    c.in-Ok-Some.ensures.found in_bytes r.0 r.2
+    ((λ no. absurd (true≢false (sym no))), (λ no. absurd (true≢false (sym no)))) in (
       one.0,
       one.2,
       ap₂ (λ start end. Some (start, end)) c.start.ensures.start c.end.ensures.end
@@ -20,7 +22,9 @@ pub returns-in-Ok-None-clause-found : goal.returns-in-Ok-None-clause-found
 returns-in-Ok-None-clause-found c = λ text finds.
     let r = finds.regex in
     let one = one_meaning (config_of in_bytes) text r.0 r.1 in
-    let same = c.in-Ok-None.ensures.found in_bytes r.0 r.2 ((λ no. absurd (true≢false (sym no))), (λ no. absurd (true≢false (sym no)))) in (
+    let same =
+    c.in-Ok-None.ensures.found in_bytes r.0 r.2
+    ((λ no. absurd (true≢false (sym no))), (λ no. absurd (true≢false (sym no)))) in (
       one.0,
       one.2,
       found_first one.0 r.0 c.args.line.now None one.1

@@ -7,7 +7,8 @@ use Rattle.example_grep.proofs.lines.LineSearcher.is_wanted.Goals as goal
 
 pub returns-clause-found : goal.returns-clause-found
 returns-clause-found c =
-    subst (λ taken. IsTrue taken ↔ IsWanted c.args.invert (HasMatch c.args.self.now.dfa c.args.line.now)) (sym c.is_taken.ensures)
+    subst (λ taken. IsTrue taken ↔ IsWanted c.args.invert (HasMatch c.args.self.now.dfa c.args.line.now))
+    (sym c.is_taken.ensures)
     (wanted c.args.invert c.in_ok-has_match.has_match c.in_ok-has_match.ensures.found)
 
 pub returns-clause-meant : goal.returns-clause-meant

@@ -11,9 +11,12 @@ loop-line-preserved c =
       show = p.same.0 ∙ i.show;
       lines = p.same.1 ∙ i.lines;
       view = view_next c.args.self.now.view c.loop-line.self.view _ i.view p.view;
-      count = count_next c.args.lines.now c.loop-line.line-index c.loop-line-test.true c.args.self.now.count _ _ i.count p.count;
+      count =
+          count_next c.args.lines.now c.loop-line.line-index c.loop-line-test.true c.args.self.now.count _ _ i.count
+          p.count;
       shown = λ case_insensitive res is.
-          line_next c.args.lines.now c.loop-line.line-index _ c.loop-line-test.true c.loop-line.self.show c.args.self.now.show res
+          line_next c.args.lines.now c.loop-line.line-index _ c.loop-line-test.true c.loop-line.self.show
+          c.args.self.now.show res
           c.args.self.now.shown.items _ _ i.show (i.shown case_insensitive res is)
           (p.shown case_insensitive res (grep_kept case_insensitive res c.args.self.now c.loop-line.self
           (ap (λ (s : LineSearcher). s.dfa) i.lines) i.show i.view is));

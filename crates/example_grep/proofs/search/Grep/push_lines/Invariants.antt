@@ -13,5 +13,6 @@ invariant-loop-line l = record {
   count : l.self.count ≡ count_after l.fn.self.count (map found_line (take l.line-index l.lines));
   shown :
       (case_insensitive : Bool) (res : List Re) (is : IsGrepFor case_insensitive res l.fn.self)
-      → l.self.shown.items ≡ l.fn.self.shown.items ++ lines_shown l.fn.self.show res (map found_line (take l.line-index l.lines));
+      → l.self.shown.items ≡ l.fn.self.shown.items
+      ++ lines_shown l.fn.self.show res (map found_line (take l.line-index l.lines));
 }

@@ -1,6 +1,8 @@
-use Rattle.std.proofs.Common.{◌≡◌, ◌∙◌, ◌<◌, ◌⊎◌, arith, ℕ, Bool, false, List, [], length, inl, inr, refl, ap, subst, sym}
+use Rattle.std.proofs.Common.{◌≡◌, ◌∙◌, ◌<◌, ◌⊎◌, arith, ℕ, Bool, false, List, [], length, inl, inr, refl, ap, subst}
+use Rattle.std.proofs.Common.{sym}
 use Rattle.std.proofs.lemmas.List.{length-replicate}
-use Rattle.regex_automata.specs.Promises.{In, Input, IsHaystack, JoinsReported, KindAll, Machine, SetsHaveMatching, match_kind_of, members}
+use Rattle.regex_automata.specs.Promises.{In, Input, IsHaystack, JoinsReported, KindAll, Machine, SetsHaveMatching}
+use Rattle.regex_automata.specs.Promises.{match_kind_of, members}
 use Rattle.example_rules.specs.Rules.{IsNamed, Matches, record_input}
 use Rattle.example_rules.proofs.rules.RuleMatcher.rules_of.Goals as goal
 
@@ -11,8 +13,12 @@ names :
     → length old ≡ length m.nfa.start_pattern → JoinsReported m (record_input bytes) old new → IsNamed m bytes new
 names m bytes old new law kind haystack empty room which = record {
   rules = λ rule. (
-      let said = law.sets (record_input bytes) m.nfa.start_unanchored old new kind refl refl (haystack, omega arith) (omega arith) which rule in
-      (λ h. matches rule (said.0 h), λ h. said.1 (inr (subst (λ n. rule < n) (sym room) (law.own (record_input bytes) m.nfa.start_unanchored rule refl (haystack, omega arith) (omega arith) h), h)))
+      let said =
+      law.sets (record_input bytes) m.nfa.start_unanchored old new kind refl refl (haystack, omega arith) (omega arith)
+      which rule in
+      (λ h. matches rule (said.0 h), λ h. said.1
+      (inr (subst (λ n. rule < n) (sym room)
+      (law.own (record_input bytes) m.nfa.start_unanchored rule refl (haystack, omega arith) (omega arith) h), h)))
       );
 } where
   matches : (rule : ℕ) → In rule (members old) ⊎ ((rule < length old) × Matches m bytes rule) → Matches m bytes rule
@@ -22,8 +28,11 @@ names m bytes old new law kind haystack empty room which = record {
 pub returns-clause-named : goal.returns-clause-named
 returns-clause-named c =
     let same : c.new-input.result ≡ record_input c.args.bytes.now = c.new-input.ensures in
-    names c.args.self.now.dfa c.args.bytes.now c.in_ok-found.found c.try_which_overlapping_matches.new.patset c.sets_have_matching.ensures
-    c.args.self.now.all (subst (λ (i : Input). IsHaystack i.haystack) same c.haystack-haystack.ensures.bytes) c.in_ok-found.ensures.empty
+    names c.args.self.now.dfa c.args.bytes.now c.in_ok-found.found c.try_which_overlapping_matches.new.patset
+    c.sets_have_matching.ensures
+    c.args.self.now.all (subst (λ (i : Input). IsHaystack i.haystack) same c.haystack-haystack.ensures.bytes)
+    c.in_ok-found.ensures.empty
     (ap length c.in_ok-found.ensures.capacity ∙ (length-replicate c.pattern_len.result false ∙ c.pattern_len.ensures))
-    (subst (λ i. JoinsReported c.args.self.now.dfa i c.in_ok-found.found c.try_which_overlapping_matches.new.patset) same
+    (subst (λ i. JoinsReported c.args.self.now.dfa i c.in_ok-found.found c.try_which_overlapping_matches.new.patset)
+    same
     c.in_ok-try_which_overlapping_matches.ensures.found)

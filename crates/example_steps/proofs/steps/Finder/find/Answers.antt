@@ -1,17 +1,21 @@
 use Rattle.std.proofs.Common.{◌≡◌, ◌∙◌, ℕ, true, false, List, Option, arith, ap, subst, sym, refl}
 use Rattle.std.specs.Prelude.{Err, IfOk, Ok, Result, option_map}
 use Rattle.regex_automata.specs.declared.hybrid.SearchError.{SearchError}
-use Rattle.regex_automata.specs.Promises.{AnswersAgree, FirstMatchIsFound, Forward, HalfMatch, Input, IsFirstMatch, IsFound, IsHalf, IsHaystack, IsNearestAnswer, Machine, WithoutBase, engine_of, match_kind_of, without_base}
+use Rattle.regex_automata.specs.Promises.{AnswersAgree, FirstMatchIsFound, Forward, HalfMatch, Input, IsFirstMatch}
+use Rattle.regex_automata.specs.Promises.{IsFound, IsHalf, IsHaystack, IsNearestAnswer, Machine, WithoutBase, engine_of}
+use Rattle.regex_automata.specs.Promises.{match_kind_of, without_base}
 use Rattle.example_steps.specs.Steps.{IsEarliest, earliest}
 use Rattle.example_steps.proofs.steps.Finder.find.Goals as goal
 
 -- what a search answers is the first match
 searched :
-    (m : Machine) (text : List ℕ) (found : Option HalfMatch) → AnswersAgree → IsHalf Forward m (earliest text) (Ok found)
+    (m : Machine) (text : List ℕ) (found : Option HalfMatch) → AnswersAgree
+    → IsHalf Forward m (earliest text) (Ok found)
     → WithoutBase (IsFound Forward m (earliest text)) found → IsEarliest m text found
 searched m text found agree half first = record {
   same = λ answer other.
-      first.2 ∙ (ap (option_map without_base) (agree Forward m m (earliest text) first.0 other.0 refl refl first.1 other.1) ∙ sym other.2);
+      first.2 ∙ (ap (option_map without_base)
+      (agree Forward m m (earliest text) first.0 other.0 refl refl first.1 other.1) ∙ sym other.2);
   nearest = half.nearest refl;
 }
 
@@ -21,13 +25,17 @@ stepped :
     → fast.nfa ≡ sure.nfa → match_kind_of fast.config ≡ match_kind_of sure.config → fast.nfa.flags.utf8 ≡ false
     → IsHaystack text → IsFirstMatch fast (earliest text) found → IsEarliest sure text found
 stepped fast sure text found agree law nfa kind bytes haystack first =
-    let reported = law (earliest text) found (λ skips. false_true (sym bytes ∙ skips.0)) haystack (omega arith) (omega arith) first in
+    let reported =
+    law (earliest text) found (λ skips. false_true (sym bytes ∙ skips.0)) haystack (omega arith) (omega arith) first in
     record {
       same = λ answer other.
-          reported.0.2 ∙ (ap (option_map without_base) (agree Forward fast sure (earliest text) reported.0.0 other.0 nfa kind reported.0.1 other.1) ∙ sym other.2);
+          reported.0.2
+          ∙ (ap (option_map without_base)
+          (agree Forward fast sure (earliest text) reported.0.0 other.0 nfa kind reported.0.1 other.1) ∙ sym other.2);
       nearest =
           subst (λ k. WithoutBase (IsNearestAnswer Forward (engine_of sure.nfa k) (earliest text)) found) kind
-          (subst (λ n. WithoutBase (IsNearestAnswer Forward (engine_of n (match_kind_of fast.config)) (earliest text)) found) nfa (reported.1 refl));
+          (subst (λ n. WithoutBase (IsNearestAnswer Forward (engine_of n (match_kind_of fast.config)) (earliest text))
+          found) nfa (reported.1 refl));
     } where
       false_true : false ≡ true → ⊥
       false_true h = cc
@@ -43,12 +51,17 @@ either m text input (Err e) agree same half first = tt
 
 pub returns-in-Some-clause-found : goal.returns-in-Some-clause-found
 returns-in-Some-clause-found c =
-    let same : c.earliest-input.result ≡ earliest c.args.text.now = c.earliest-input.ensures ∙ ap (λ (i : Input). record i { earliest = true }) c.new.ensures in
-    stepped c.args.self.now.fast c.args.self.now.sure c.args.text.now c.in-Some.found c.answers_agree.ensures c.first_match_is_found.ensures
-    c.args.self.now.nfa c.args.self.now.kind c.args.self.now.bytes (subst (λ (i : Input). IsHaystack i.haystack) same c.haystack-haystack.ensures.bytes)
+    let same : c.earliest-input.result ≡ earliest c.args.text.now =
+    c.earliest-input.ensures ∙ ap (λ (i : Input). record i { earliest = true }) c.new.ensures in
+    stepped c.args.self.now.fast c.args.self.now.sure c.args.text.now c.in-Some.found c.answers_agree.ensures
+    c.first_match_is_found.ensures
+    c.args.self.now.nfa c.args.self.now.kind c.args.self.now.bytes
+    (subst (λ (i : Input). IsHaystack i.haystack) same c.haystack-haystack.ensures.bytes)
     (subst (λ i. IsFirstMatch c.args.self.now.fast i c.in-Some.found) same c.in-Some.ensures.found)
 
 pub returns-in-None-clause-found : goal.returns-in-None-clause-found
 returns-in-None-clause-found c =
-    let same : c.earliest-input.result ≡ earliest c.args.text.now = c.earliest-input.ensures ∙ ap (λ (i : Input). record i { earliest = true }) c.new.ensures in
-    either c.args.self.now.sure c.args.text.now c.earliest-input.result c.try_search_fwd.result c.answers_agree.ensures same c.try_search_fwd.ensures.half c.try_search_fwd.ensures.found
+    let same : c.earliest-input.result ≡ earliest c.args.text.now =
+    c.earliest-input.ensures ∙ ap (λ (i : Input). record i { earliest = true }) c.new.ensures in
+    either c.args.self.now.sure c.args.text.now c.earliest-input.result c.try_search_fwd.result c.answers_agree.ensures
+    same c.try_search_fwd.ensures.half c.try_search_fwd.ensures.found

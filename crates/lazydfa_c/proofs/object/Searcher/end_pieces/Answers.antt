@@ -22,7 +22,8 @@ returns-in-Ok-Some-clause-found c =
           (subst (EndsHere stream.machine p ahead) c.in-Ok-Some.field-0-is c.in-Ok-Some.ensures.answer);
       effect =
           subst (λ (m : Machine). IsAnswerRun m ahead p (known_of old) (known_of new) None) same
-          (subst (λ (v : CacheView). IsAnswerRun stream.machine ahead p (known_of v) (known_of new) None) c.forward_mut.ensures.value
+          (subst (λ (v : CacheView). IsAnswerRun stream.machine ahead p (known_of v) (known_of new) None)
+          c.forward_mut.ensures.value
           c.in-Ok-Some.ensures.effect);
       reverse = search rules;
       same = search rules;
@@ -43,7 +44,8 @@ returns-in-Ok-None-clause-found c =
           (subst (EndsHere stream.machine p ahead) c.in-Ok-None.field-0-is c.in-Ok-None.ensures.answer);
       effect =
           subst (λ (m : Machine). IsAnswerRun m ahead p (known_of old) (known_of new) None) same
-          (subst (λ (v : CacheView). IsAnswerRun stream.machine ahead p (known_of v) (known_of new) None) c.forward_mut.ensures.value
+          (subst (λ (v : CacheView). IsAnswerRun stream.machine ahead p (known_of v) (known_of new) None)
+          c.forward_mut.ensures.value
           c.in-Ok-None.ensures.effect);
       reverse = search rules;
       same = search rules;

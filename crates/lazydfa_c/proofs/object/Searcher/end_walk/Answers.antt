@@ -30,7 +30,8 @@ returns-in-Ok c =
             unchanged = tt;
             effect =
                 subst (λ (m : Machine). IsWalkEndRun m ahead w (known_of old) (known_of new) None) same
-                (subst (λ (v : CacheView). IsWalkEndRun walk.machine ahead w (known_of v) (known_of new) None) c.forward_mut.ensures.value
+                (subst (λ (v : CacheView). IsWalkEndRun walk.machine ahead w (known_of v) (known_of new) None)
+                c.forward_mut.ensures.value
                 c.in-Ok.ensures.effect);
             rest = search rules;
           }),
@@ -53,7 +54,8 @@ returns-in-Err c =
             unchanged = c.in-Err.ensures.unchanged;
             effect =
                 subst (λ (m : Machine). IsWalkEndRun m ahead w (known_of old) (known_of new) (Some e)) same
-                (subst (λ (v : CacheView). IsWalkEndRun walk.machine ahead w (known_of v) (known_of new) (Some e)) c.forward_mut.ensures.value
+                (subst (λ (v : CacheView). IsWalkEndRun walk.machine ahead w (known_of v) (known_of new) (Some e))
+                c.forward_mut.ensures.value
                 c.in-Err.ensures.effect);
             rest = search rules;
           }),

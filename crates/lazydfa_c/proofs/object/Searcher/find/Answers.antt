@@ -9,7 +9,9 @@ returns-in-Ok-Some-clause-found c = record {
   result = Ok (Some c.in-Ok-Some.it);
   told = search rules;
   returned = search rules;
-  effect = subst (λ (r : Regex). IsSpanRun r c.args.input.now c.args.self.now.cache c.find.new.cache None) c.deref.ensures c.in-Ok-Some.ensures.effect;
+  effect =
+      subst (λ (r : Regex). IsSpanRun r c.args.input.now c.args.self.now.cache c.find.new.cache None) c.deref.ensures
+      c.in-Ok-Some.ensures.effect;
   same = search rules;
   pieces = search rules;
 }
@@ -19,7 +21,9 @@ returns-in-Ok-None-clause-found c = record {
   result = Ok None;
   told = search rules;
   returned = search rules;
-  effect = subst (λ (r : Regex). IsSpanRun r c.args.input.now c.args.self.now.cache c.find.new.cache None) c.deref.ensures c.in-Ok-None.ensures.effect;
+  effect =
+      subst (λ (r : Regex). IsSpanRun r c.args.input.now c.args.self.now.cache c.find.new.cache None) c.deref.ensures
+      c.in-Ok-None.ensures.effect;
   same = search rules;
   pieces = search rules;
 }
@@ -29,7 +33,9 @@ returns-in-Err-clause-found c = record {
   result = Err c.in-Err.error;
   told = search rules;
   returned = search rules;
-  effect = subst (λ (r : Regex). IsSpanRun r c.args.input.now c.args.self.now.cache c.find.new.cache (Some c.in-Err.error)) c.deref.ensures c.in-Err.ensures.effect;
+  effect =
+      subst (λ (r : Regex). IsSpanRun r c.args.input.now c.args.self.now.cache c.find.new.cache (Some c.in-Err.error))
+      c.deref.ensures c.in-Err.ensures.effect;
   same = search rules;
   pieces = search rules;
 }

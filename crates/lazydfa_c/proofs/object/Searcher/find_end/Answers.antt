@@ -13,9 +13,13 @@ returns-in-Ok-Some-clause-found c = record {
   result = Ok (Some c.in-Ok-Some.half);
   told = search rules;
   returned = search rules;
-  effect = subst (λ (r : Regex). IsSearchRun Forward r.forward c.args.input.now (known_of c.args.self.now.cache.forward) (known_of c.try_search_fwd.new.cache) None) c.deref.ensures
-      (subst (λ (m : Machine). IsSearchRun Forward m c.args.input.now (known_of c.args.self.now.cache.forward) (known_of c.try_search_fwd.new.cache) None) c.forward-dfa.ensures
-      (subst (λ (v : CacheView). IsSearchRun Forward c.forward-dfa.result.now c.args.input.now (known_of v) (known_of c.try_search_fwd.new.cache) None) c.forward_mut.ensures.value c.in-Ok-Some.ensures.effect));
+  effect =
+      subst (λ (r : Regex). IsSearchRun Forward r.forward c.args.input.now (known_of c.args.self.now.cache.forward)
+      (known_of c.try_search_fwd.new.cache) None) c.deref.ensures
+      (subst (λ (m : Machine). IsSearchRun Forward m c.args.input.now (known_of c.args.self.now.cache.forward)
+      (known_of c.try_search_fwd.new.cache) None) c.forward-dfa.ensures
+      (subst (λ (v : CacheView). IsSearchRun Forward c.forward-dfa.result.now c.args.input.now (known_of v)
+      (known_of c.try_search_fwd.new.cache) None) c.forward_mut.ensures.value c.in-Ok-Some.ensures.effect));
   reverse = search rules;
   same = search rules;
   pieces = search rules;
@@ -26,9 +30,13 @@ returns-in-Ok-None-clause-found c = record {
   result = Ok None;
   told = search rules;
   returned = search rules;
-  effect = subst (λ (r : Regex). IsSearchRun Forward r.forward c.args.input.now (known_of c.args.self.now.cache.forward) (known_of c.try_search_fwd.new.cache) None) c.deref.ensures
-      (subst (λ (m : Machine). IsSearchRun Forward m c.args.input.now (known_of c.args.self.now.cache.forward) (known_of c.try_search_fwd.new.cache) None) c.forward-dfa.ensures
-      (subst (λ (v : CacheView). IsSearchRun Forward c.forward-dfa.result.now c.args.input.now (known_of v) (known_of c.try_search_fwd.new.cache) None) c.forward_mut.ensures.value c.in-Ok-None.ensures.effect));
+  effect =
+      subst (λ (r : Regex). IsSearchRun Forward r.forward c.args.input.now (known_of c.args.self.now.cache.forward)
+      (known_of c.try_search_fwd.new.cache) None) c.deref.ensures
+      (subst (λ (m : Machine). IsSearchRun Forward m c.args.input.now (known_of c.args.self.now.cache.forward)
+      (known_of c.try_search_fwd.new.cache) None) c.forward-dfa.ensures
+      (subst (λ (v : CacheView). IsSearchRun Forward c.forward-dfa.result.now c.args.input.now (known_of v)
+      (known_of c.try_search_fwd.new.cache) None) c.forward_mut.ensures.value c.in-Ok-None.ensures.effect));
   reverse = search rules;
   same = search rules;
   pieces = search rules;
@@ -39,9 +47,14 @@ returns-in-Err-clause-found c = record {
   result = Err c.in-Err.error;
   told = search rules;
   returned = search rules;
-  effect = subst (λ (r : Regex). IsSearchRun Forward r.forward c.args.input.now (known_of c.args.self.now.cache.forward) (known_of c.try_search_fwd.new.cache) (Some c.in-Err.error)) c.deref.ensures
-      (subst (λ (m : Machine). IsSearchRun Forward m c.args.input.now (known_of c.args.self.now.cache.forward) (known_of c.try_search_fwd.new.cache) (Some c.in-Err.error)) c.forward-dfa.ensures
-      (subst (λ (v : CacheView). IsSearchRun Forward c.forward-dfa.result.now c.args.input.now (known_of v) (known_of c.try_search_fwd.new.cache) (Some c.in-Err.error)) c.forward_mut.ensures.value c.in-Err.ensures.effect));
+  effect =
+      subst (λ (r : Regex). IsSearchRun Forward r.forward c.args.input.now (known_of c.args.self.now.cache.forward)
+      (known_of c.try_search_fwd.new.cache) (Some c.in-Err.error)) c.deref.ensures
+      (subst (λ (m : Machine). IsSearchRun Forward m c.args.input.now (known_of c.args.self.now.cache.forward)
+      (known_of c.try_search_fwd.new.cache) (Some c.in-Err.error)) c.forward-dfa.ensures
+      (subst (λ (v : CacheView). IsSearchRun Forward c.forward-dfa.result.now c.args.input.now (known_of v)
+      (known_of c.try_search_fwd.new.cache) (Some c.in-Err.error)) c.forward_mut.ensures.value
+      c.in-Err.ensures.effect));
   reverse = search rules;
   same = search rules;
   pieces = search rules;

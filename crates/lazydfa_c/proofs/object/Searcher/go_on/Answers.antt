@@ -31,10 +31,12 @@ returns-in-Ok-Some-clause-found c =
       next =
           subst (λ (l : Option ℕ). IsNextMatch regex input l (Some c.in-Ok-Some.it)) c.last.ensures
           (subst (λ (r : Regex). IsNextMatch r input c.last.result (Some c.in-Ok-Some.it)) c.deref.ensures
-          (subst (IsNextMatch c.deref.result.now input c.last.result) c.in-Ok-Some.field-0-is c.in-Ok-Some.ensures.next));
+          (subst (IsNextMatch c.deref.result.now input c.last.result) c.in-Ok-Some.field-0-is
+          c.in-Ok-Some.ensures.next));
       effect =
           subst (λ (l : Option ℕ). IsNextRun regex input l old new None) c.last.ensures
-          (subst (λ (r : Regex). IsNextRun r input c.last.result old new None) c.deref.ensures c.in-Ok-Some.ensures.effect);
+          (subst (λ (r : Regex). IsNextRun r input c.last.result old new None) c.deref.ensures
+          c.in-Ok-Some.ensures.effect);
       same = search rules;
       pieces = search rules;
       iterated = search rules;
@@ -49,10 +51,12 @@ returns-in-Ok-None-clause-found c =
       next =
           subst (λ (l : Option ℕ). IsNextMatch regex input l None) c.last.ensures
           (subst (λ (r : Regex). IsNextMatch r input c.last.result None) c.deref.ensures
-          (subst (IsNextMatch c.deref.result.now input c.last.result) c.in-Ok-None.field-0-is c.in-Ok-None.ensures.next));
+          (subst (IsNextMatch c.deref.result.now input c.last.result) c.in-Ok-None.field-0-is
+          c.in-Ok-None.ensures.next));
       effect =
           subst (λ (l : Option ℕ). IsNextRun regex input l old new None) c.last.ensures
-          (subst (λ (r : Regex). IsNextRun r input c.last.result old new None) c.deref.ensures c.in-Ok-None.ensures.effect);
+          (subst (λ (r : Regex). IsNextRun r input c.last.result old new None) c.deref.ensures
+          c.in-Ok-None.ensures.effect);
       same = search rules;
       pieces = search rules;
       iterated = search rules;

@@ -9,7 +9,9 @@ returns-in-Ok-true c = record {
   result = Ok true;
   told = search rules;
   returned = search rules;
-  effect = subst (λ (r : Regex). IsTruthRun r c.args.input.now c.args.self.now.cache c.is_match.new.cache None) c.deref.ensures c.in-Ok-true.ensures.effect;
+  effect =
+      subst (λ (r : Regex). IsTruthRun r c.args.input.now c.args.self.now.cache c.is_match.new.cache None)
+      c.deref.ensures c.in-Ok-true.ensures.effect;
   same = search rules;
   pieces = search rules;
 }
@@ -19,7 +21,9 @@ returns-in-Ok-false c = record {
   result = Ok false;
   told = search rules;
   returned = search rules;
-  effect = subst (λ (r : Regex). IsTruthRun r c.args.input.now c.args.self.now.cache c.is_match.new.cache None) c.deref.ensures c.in-Ok-false.ensures.effect;
+  effect =
+      subst (λ (r : Regex). IsTruthRun r c.args.input.now c.args.self.now.cache c.is_match.new.cache None)
+      c.deref.ensures c.in-Ok-false.ensures.effect;
   same = search rules;
   pieces = search rules;
 }
@@ -29,7 +33,9 @@ returns-in-Err c = record {
   result = Err c.in-Err.error;
   told = search rules;
   returned = search rules;
-  effect = subst (λ (r : Regex). IsTruthRun r c.args.input.now c.args.self.now.cache c.is_match.new.cache (Some c.in-Err.error)) c.deref.ensures c.in-Err.ensures.effect;
+  effect =
+      subst (λ (r : Regex). IsTruthRun r c.args.input.now c.args.self.now.cache c.is_match.new.cache
+      (Some c.in-Err.error)) c.deref.ensures c.in-Err.ensures.effect;
   same = search rules;
   pieces = search rules;
 }

@@ -14,7 +14,8 @@ loop-place-preserved c =
     let done : c.next_token-status.result.code ≡ number_of code.Done = c.is_done.ensures.0 c.if-not-is_done.false in
     one_more (Takes c.args.haystack.now) c.args.out.now l.place-items l.count l.place-index c.saturating_add.result
     c.next_token-status.new.found c.args.left.now l.left c.next_token-status.new.left c.args.self.now l.self
-    c.next_token-status.new.self c.next_token-status.result l.invariant within next done c.next_token-status.ensures.found
+    c.next_token-status.new.self c.next_token-status.result l.invariant within next done
+    c.next_token-status.ensures.found
 
 pub returns-then-not-is_done : goal.returns-then-not-is_done
 returns-then-not-is_done c =
@@ -25,7 +26,8 @@ returns-then-not-is_done c =
     let no : c.is_done.result ≡ false = c.if-not-is_done.true in cc in
     stopped (Takes c.args.haystack.now) c.args.out.now l.place-items l.count l.place-index
     c.next_token-status.new.found _ c.args.left.now l.left c.next_token-status.new.left c.args.self.now l.self
-    c.next_token-status.new.self c.next_token-status.result l.invariant within not (c.next_token-status.ensures.written not)
+    c.next_token-status.new.self c.next_token-status.result l.invariant within not
+    (c.next_token-status.ensures.written not)
     c.next_token-status.ensures.found
 
 pub returns : goal.returns

@@ -19,7 +19,8 @@ returns-in-Ok-clause-effect c =
     let old = c.args.cache.now in let new = c.end_walk.new.cache in
     subst (λ (v : WalkView). IsWalkEndRun v.machine ahead v.walk (known_of old) (known_of new) None) c.self.view_is
     (subst (λ (r : Regex). IsWalkEndRun r.forward ahead w (known_of old) (known_of new) None) c.deref.ensures
-    (subst (λ (m : Machine). IsWalkEndRun m ahead w (known_of old) (known_of new) None) c.forward.ensures c.in-Ok.ensures.effect))
+    (subst (λ (m : Machine). IsWalkEndRun m ahead w (known_of old) (known_of new) None) c.forward.ensures
+    c.in-Ok.ensures.effect))
 
 pub returns-in-Err-clause-effect : goal.returns-in-Err-clause-effect
 returns-in-Err-clause-effect c =
@@ -27,4 +28,5 @@ returns-in-Err-clause-effect c =
     let old = c.args.cache.now in let new = c.end_walk.new.cache in
     subst (λ (v : WalkView). IsWalkEndRun v.machine ahead v.walk (known_of old) (known_of new) (Some e)) c.self.view_is
     (subst (λ (r : Regex). IsWalkEndRun r.forward ahead w (known_of old) (known_of new) (Some e)) c.deref.ensures
-    (subst (λ (m : Machine). IsWalkEndRun m ahead w (known_of old) (known_of new) (Some e)) c.forward.ensures c.in-Err.ensures.effect))
+    (subst (λ (m : Machine). IsWalkEndRun m ahead w (known_of old) (known_of new) (Some e)) c.forward.ensures
+    c.in-Err.ensures.effect))

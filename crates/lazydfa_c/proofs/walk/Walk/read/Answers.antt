@@ -29,14 +29,18 @@ pub returns-in-Ok-clause-effect : goal.returns-in-Ok-clause-effect
 returns-in-Ok-clause-effect c =
     let w = c.self.inside.walk in let next = c.walk_piece.new.walk in let piece = c.args.piece.now in
     let old = c.args.cache.now in let new = c.walk_piece.new.cache in
-    subst (λ (v : WalkView). IsWalkCallRun v.machine piece v.walk next (known_of old) (known_of new) None) c.self.view_is
+    subst (λ (v : WalkView). IsWalkCallRun v.machine piece v.walk next (known_of old) (known_of new) None)
+    c.self.view_is
     (subst (λ (r : Regex). IsWalkCallRun r.forward piece w next (known_of old) (known_of new) None) c.deref.ensures
-    (subst (λ (m : Machine). IsWalkCallRun m piece w next (known_of old) (known_of new) None) c.forward.ensures c.in-Ok.ensures.effect))
+    (subst (λ (m : Machine). IsWalkCallRun m piece w next (known_of old) (known_of new) None) c.forward.ensures
+    c.in-Ok.ensures.effect))
 
 pub returns-in-Err-clause-effect : goal.returns-in-Err-clause-effect
 returns-in-Err-clause-effect c =
     let w = c.self.inside.walk in let next = c.walk_piece.new.walk in let piece = c.args.piece.now in
     let old = c.args.cache.now in let new = c.walk_piece.new.cache in let e = c.in-Err.error in
-    subst (λ (v : WalkView). IsWalkCallRun v.machine piece v.walk next (known_of old) (known_of new) (Some e)) c.self.view_is
+    subst (λ (v : WalkView). IsWalkCallRun v.machine piece v.walk next (known_of old) (known_of new) (Some e))
+    c.self.view_is
     (subst (λ (r : Regex). IsWalkCallRun r.forward piece w next (known_of old) (known_of new) (Some e)) c.deref.ensures
-    (subst (λ (m : Machine). IsWalkCallRun m piece w next (known_of old) (known_of new) (Some e)) c.forward.ensures c.in-Err.ensures.effect))
+    (subst (λ (m : Machine). IsWalkCallRun m piece w next (known_of old) (known_of new) (Some e)) c.forward.ensures
+    c.in-Err.ensures.effect))

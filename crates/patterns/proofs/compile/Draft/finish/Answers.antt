@@ -7,7 +7,8 @@ use Rattle.patterns.proofs.compile.Draft.finish.Goals as goal
 pub returns-in-Ok-clause-joined : goal.returns-in-Ok-clause-joined
 returns-in-Ok-clause-joined c = λ ks has.
     let same = c.in-Ok.ensures.same in
-    let first : c.in_ok-start.start ≡ length c.args.self.now.states.items = omega (arith, c.in_ok-start.ensures.id, c.len.ensures) in
+    let first : c.in_ok-start.start ≡ length c.args.self.now.states.items =
+    omega (arith, c.in_ok-start.ensures.id, c.len.ensures) in
     finished c.args.self.now ks c.in-Ok.nfa c.args.utf8 has
     (ap (λ (a : Automaton). ours.nodes_of a.states) same
     ∙ ap (λ v. ours.nodes_of v.items) c.replace-states.ensures.value

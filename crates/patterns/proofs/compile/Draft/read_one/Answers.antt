@@ -18,10 +18,12 @@ refused (Err e) P Q go h = go e h
 
 pub returns-clause-read : goal.returns-clause-read
 returns-clause-read c =
-    some_nfa c.add.result _ (λ k. table_bytes k ≤ c.args.self.now.room + 24) _ c.in_ok-nfa.nfa c.in_ok-nfa.ensures.compiled
+    some_nfa c.add.result _ (λ k. table_bytes k ≤ c.args.self.now.room + 24) _ c.in_ok-nfa.nfa
+    c.in_ok-nfa.ensures.compiled
     c.in_ok-nfa.ensures.small c.add.ensures.grows
 
 pub returns-clause-refused : goal.returns-clause-refused
 returns-clause-refused c =
-    refused c.add.result _ _ (text_fault c.args.options.now c.args.text.now c.in_ok-nfa.nfa c.in_ok-nfa.ensures.compiled)
+    refused c.add.result _ _
+    (text_fault c.args.options.now c.args.text.now c.in_ok-nfa.nfa c.in_ok-nfa.ensures.compiled)
     c.add.ensures.refused

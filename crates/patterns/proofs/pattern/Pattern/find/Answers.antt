@@ -10,9 +10,11 @@ returns-clause-found c =
     c.haystack-haystack.ensures.bytes c.find.ensures.returned
 
 pub returns-clause-returned : goal.returns-clause-returned
-returns-clause-returned c = subst (λ v. IsSpanOf c.args.self.now.regex v c.find.result) c.rest-input.ensures c.find.ensures.returned
+returns-clause-returned c =
+    subst (λ v. IsSpanOf c.args.self.now.regex v c.find.result) c.rest-input.ensures c.find.ensures.returned
 
 pub returns-clause-effect : goal.returns-clause-effect
 returns-clause-effect c =
-    subst (λ v. IsSpanRun c.args.self.now.regex v c.args.cache.now c.find.new.cache (result_err c.find.result)) c.rest-input.ensures
+    subst (λ v. IsSpanRun c.args.self.now.regex v c.args.cache.now c.find.new.cache (result_err c.find.result))
+    c.rest-input.ensures
     c.find.ensures.effect

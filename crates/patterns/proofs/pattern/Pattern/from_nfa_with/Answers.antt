@@ -15,7 +15,8 @@ same c =
 
 pub returns-clause-meant : goal.returns-clause-meant
 returns-clause-meant c = λ res is.
-    regex_is (overwritten unset c.unicode_word_boundary-config.result) c.args.options.now res c.args.nfa c.in_ok-regex.regex
+    regex_is (overwritten unset c.unicode_word_boundary-config.result) c.args.options.now res c.args.nfa
+    c.in_ok-regex.regex
     (ap match_kind_of (same c)) is c.in_ok-regex.ensures.built c.in_ok-regex.ensures.sound
 
 pub returns-clause-built : goal.returns-clause-built

@@ -10,9 +10,11 @@ returns-clause-found c =
     c.haystack-haystack.ensures.bytes c.is_match.ensures.returned
 
 pub returns-clause-returned : goal.returns-clause-returned
-returns-clause-returned c = subst (λ v. IsTruthOf c.args.self.now.regex v c.is_match.result) c.new-input.ensures c.is_match.ensures.returned
+returns-clause-returned c =
+    subst (λ v. IsTruthOf c.args.self.now.regex v c.is_match.result) c.new-input.ensures c.is_match.ensures.returned
 
 pub returns-clause-effect : goal.returns-clause-effect
 returns-clause-effect c =
-    subst (λ v. IsTruthRun c.args.self.now.regex v c.args.cache.now c.is_match.new.cache (result_err c.is_match.result)) c.new-input.ensures
+    subst (λ v. IsTruthRun c.args.self.now.regex v c.args.cache.now c.is_match.new.cache (result_err c.is_match.result))
+    c.new-input.ensures
     c.is_match.ensures.effect

@@ -8,7 +8,8 @@ use Rattle.patterns.proofs.set.RegexSet.is_match.Goals as goal
 pub returns-in-Ok-clause-returned : goal.returns-in-Ok-clause-returned
 returns-in-Ok-clause-returned c = record {
   reported = λ pairs walked. c.is_some.ensures ∙ ap is_some (c.get_match.ensures
-      ∙ first_match c.args.self.now.dfa c.args.hay.now c.new-input.result c.start-state.result c.try_search_overlapping_fwd.new.state
+      ∙ first_match c.args.self.now.dfa c.args.hay.now c.new-input.result c.start-state.result
+      c.try_search_overlapping_fwd.new.state
       c.new-input.ensures c.start-state.ensures c.in-Ok.ensures.call.reports pairs walked);
   free = λ unhindered. tt;
 }

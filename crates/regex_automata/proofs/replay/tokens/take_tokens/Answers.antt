@@ -16,17 +16,27 @@ loop-item-preserved c =
     let input = c.args.input in
     let p = c.args.regex.now in
     let steps = rw c.in-Ok.is at c.in-Some.ensures.steps in
-    let same : c.new.result ≡ t = match_is c.new.result t c.pattern.result c.span.result.start c.span.result.end c.new.ensures c.pattern.ensures c.span.ensures.start c.span.ensures.end in
-    let items : c.push.new.self.items ≡ c.loop-item.found.items ++ t ∷ [] = c.in-Ok-push.ensures.items ∙ ap (λ (m : Match). c.loop-item.found.items ++ m ∷ []) same in
+    let same : c.new.result ≡ t =
+    match_is c.new.result t c.pattern.result c.span.result.start c.span.result.end c.new.ensures c.pattern.ensures
+    c.span.ensures.start c.span.ensures.end in
+    let items : c.push.new.self.items ≡ c.loop-item.found.items ++ t ∷ [] =
+    c.in-Ok-push.ensures.items ∙ ap (λ (m : Match). c.loop-item.found.items ++ m ∷ []) same in
     record {
-      comes = completes_on p.forward input.haystack input.end input.start c.loop-item.found.items c.push.new.self.items s.offset c.next.new.self.offset t i.comes
-          (item_turn s.regex.now p s.haystack.now input.haystack s.end input.end s.offset (Ok t) i.regex i.haystack i.end steps.0.token.item) items steps.0.place;
+      comes =
+          completes_on p.forward input.haystack input.end input.start c.loop-item.found.items c.push.new.self.items
+          s.offset c.next.new.self.offset t i.comes
+          (item_turn s.regex.now p s.haystack.now input.haystack s.end input.end s.offset (Ok t) i.regex i.haystack
+          i.end steps.0.token.item) items steps.0.place;
       regex = steps.1 ∙ i.regex;
       haystack = steps.3 ∙ i.haystack;
       end = steps.4 ∙ i.end;
       going = steps.0.after;
-      made = tokens_turn p.forward input.haystack input.end input.start c.args.cache.now s.cache.now c.next.new.self.cache.now c.loop-item.found.items c.push.new.self.items s.offset c.next.new.self.offset c.in-Ok.token i.made
-          (token_made_turn s.regex.now p s.haystack.now input.haystack s.end input.end s.offset s.cache.now c.next.new.self.cache.now (Some (Ok c.in-Ok.token)) i.regex i.haystack i.end (steps.5, steps.6))
+      made =
+          tokens_turn p.forward input.haystack input.end input.start c.args.cache.now s.cache.now
+          c.next.new.self.cache.now c.loop-item.found.items c.push.new.self.items s.offset c.next.new.self.offset
+          c.in-Ok.token i.made
+          (token_made_turn s.regex.now p s.haystack.now input.haystack s.end input.end s.offset s.cache.now
+          c.next.new.self.cache.now (Some (Ok c.in-Ok.token)) i.regex i.haystack i.end (steps.5, steps.6))
           items steps.0.place;
       same_cache = steps.2 ∙ i.same_cache;
     }
@@ -35,8 +45,10 @@ pub returns-in_default-clause-given : goal.returns-in_default-clause-given
 returns-in_default-clause-given c =
     let input = c.args.input in
     let m = c.args.regex.now.forward in
-    subst (λ (ts : List Match). AreGiven m input.haystack input.end input.start ts (Some (Search search.OutOfMemory))) (sym {A = List Match} c.in_default.ensures.items)
-    (completes_end m input.haystack input.end input.start c.loop-item.found.items c.loop-item.item-iterator.offset (Some (Search search.OutOfMemory)) c.loop-item.invariant.comes (inl refl))
+    subst (λ (ts : List Match). AreGiven m input.haystack input.end input.start ts (Some (Search search.OutOfMemory)))
+    (sym {A = List Match} c.in_default.ensures.items)
+    (completes_end m input.haystack input.end input.start c.loop-item.found.items c.loop-item.item-iterator.offset
+    (Some (Search search.OutOfMemory)) c.loop-item.invariant.comes (inl refl))
 
 pub returns-in-Err-clause-given : goal.returns-in-Err-clause-given
 returns-in-Err-clause-given c =
@@ -47,51 +59,67 @@ returns-in-Err-clause-given c =
     let e = c.in-Err.error in
     let steps = rw c.in-Err.is at c.in-Some.ensures.steps in
     completes_end p.forward input.haystack input.end input.start c.loop-item.found.items s.offset (Some e) i.comes
-    (inr (item_turn s.regex.now p s.haystack.now input.haystack s.end input.end s.offset (Err e) i.regex i.haystack i.end steps.0.error.0))
+    (inr (item_turn s.regex.now p s.haystack.now input.haystack s.end input.end s.offset (Err e) i.regex i.haystack
+    i.end steps.0.error.0))
 
 pub returns-clause-given : goal.returns-clause-given
 returns-clause-given c =
     let i = c.loop-item.invariant in
     let s = c.loop-item.item-iterator in
     let input = c.args.input in
-    completes_end c.args.regex.now.forward input.haystack input.end input.start c.loop-item.found.items s.offset None i.comes
+    completes_end c.args.regex.now.forward input.haystack input.end input.start c.loop-item.found.items s.offset None
+    i.comes
     (at_end s.failed s.end input.end s.offset c.in-None.ensures.steps.0.why i.going i.end)
 
 pub returns-in_default-clause-made : goal.returns-in_default-clause-made
 returns-in_default-clause-made c =
     let steps = rw c.in-Ok.is at c.in-Some.ensures.steps in
-    let name : c.next.new.self.cache.ghost_name ≡ c.into_iter-item-iterator.result.cache.ghost_name = steps.2 ∙ c.loop-item.invariant.same_cache in
-    tokens_left c.args.regex.now.forward c.args.input.haystack c.args.input.end c.args.input.start c.args.cache.now c.next.new.self.cache.now _ c.push.new.self.items (Some (Search search.OutOfMemory)) (sym (c.cache-in_default-1.given.1 (search rules)))
+    let name : c.next.new.self.cache.ghost_name ≡ c.into_iter-item-iterator.result.cache.ghost_name =
+    steps.2 ∙ c.loop-item.invariant.same_cache in
+    tokens_left c.args.regex.now.forward c.args.input.haystack c.args.input.end c.args.input.start c.args.cache.now
+    c.next.new.self.cache.now _ c.push.new.self.items (Some (Search search.OutOfMemory))
+    (sym (c.cache-in_default-1.given.1 (search rules)))
     (let i = c.loop-item.invariant in
     let s = c.loop-item.item-iterator in
     let input = c.args.input in
     let p = c.args.regex.now in
     let new = c.next.new.self.cache.now in
-    tokens_end p.forward input.haystack input.end input.start c.args.cache.now s.cache.now new c.loop-item.found.items c.push.new.self.items s.offset (Some (Search search.OutOfMemory)) i.made
-    (inr (refl, (c.in-Ok.token, token_made_turn s.regex.now p s.haystack.now input.haystack s.end input.end s.offset s.cache.now new (Some (Ok c.in-Ok.token)) i.regex i.haystack i.end (steps.5, steps.6))))
+    tokens_end p.forward input.haystack input.end input.start c.args.cache.now s.cache.now new c.loop-item.found.items
+    c.push.new.self.items s.offset (Some (Search search.OutOfMemory)) i.made
+    (inr (refl,
+    (c.in-Ok.token, token_made_turn s.regex.now p s.haystack.now input.haystack s.end input.end s.offset s.cache.now new
+    (Some (Ok c.in-Ok.token)) i.regex i.haystack i.end (steps.5, steps.6))))
     c.in_default.ensures.items)
 
 pub returns-in-Err-clause-made : goal.returns-in-Err-clause-made
 returns-in-Err-clause-made c =
     let steps = rw c.in-Err.is at c.in-Some.ensures.steps in
-    let name : c.next.new.self.cache.ghost_name ≡ c.into_iter-item-iterator.result.cache.ghost_name = steps.2 ∙ c.loop-item.invariant.same_cache in
-    tokens_left c.args.regex.now.forward c.args.input.haystack c.args.input.end c.args.input.start c.args.cache.now c.next.new.self.cache.now _ c.loop-item.found.items (Some c.in-Err.error) (sym (c.in-Err.cache-in-Err-item-1-own.given.1 (search rules)))
+    let name : c.next.new.self.cache.ghost_name ≡ c.into_iter-item-iterator.result.cache.ghost_name =
+    steps.2 ∙ c.loop-item.invariant.same_cache in
+    tokens_left c.args.regex.now.forward c.args.input.haystack c.args.input.end c.args.input.start c.args.cache.now
+    c.next.new.self.cache.now _ c.loop-item.found.items (Some c.in-Err.error)
+    (sym (c.in-Err.cache-in-Err-item-1-own.given.1 (search rules)))
     (let i = c.loop-item.invariant in
     let s = c.loop-item.item-iterator in
     let input = c.args.input in
     let p = c.args.regex.now in
     let e = c.in-Err.error in
     let new = c.next.new.self.cache.now in
-    tokens_end p.forward input.haystack input.end input.start c.args.cache.now s.cache.now new c.loop-item.found.items c.loop-item.found.items s.offset (Some e) i.made
-    (inl (token_made_turn s.regex.now p s.haystack.now input.haystack s.end input.end s.offset s.cache.now new (Some (Err e)) i.regex i.haystack i.end (steps.5, steps.6))) refl)
+    tokens_end p.forward input.haystack input.end input.start c.args.cache.now s.cache.now new c.loop-item.found.items
+    c.loop-item.found.items s.offset (Some e) i.made
+    (inl (token_made_turn s.regex.now p s.haystack.now input.haystack s.end input.end s.offset s.cache.now new
+    (Some (Err e)) i.regex i.haystack i.end (steps.5, steps.6))) refl)
 
 pub returns-clause-made : goal.returns-clause-made
 returns-clause-made c =
-    tokens_left c.args.regex.now.forward c.args.input.haystack c.args.input.end c.args.input.start c.args.cache.now c.next.new.self.cache.now _ c.loop-item.found.items None (search rules)
+    tokens_left c.args.regex.now.forward c.args.input.haystack c.args.input.end c.args.input.start c.args.cache.now
+    c.next.new.self.cache.now _ c.loop-item.found.items None (search rules)
     (let i = c.loop-item.invariant in
     let s = c.loop-item.item-iterator in
     let input = c.args.input in
     let p = c.args.regex.now in
     let new = c.next.new.self.cache.now in
-    tokens_end p.forward input.haystack input.end input.start c.args.cache.now s.cache.now new c.loop-item.found.items c.loop-item.found.items s.offset None i.made
-    (token_made_turn s.regex.now p s.haystack.now input.haystack s.end input.end s.offset s.cache.now new None i.regex i.haystack i.end (c.in-None.ensures.steps.5, c.in-None.ensures.steps.6)) refl)
+    tokens_end p.forward input.haystack input.end input.start c.args.cache.now s.cache.now new c.loop-item.found.items
+    c.loop-item.found.items s.offset None i.made
+    (token_made_turn s.regex.now p s.haystack.now input.haystack s.end input.end s.offset s.cache.now new None i.regex
+    i.haystack i.end (c.in-None.ensures.steps.5, c.in-None.ensures.steps.6)) refl)

@@ -33,6 +33,7 @@ returns-clause-found c =
     let input = c.args.input in
     record {
       given = c.take_tokens.ensures.given;
-      found = found_by m input.haystack input.end (λ i. WithoutBase (IsFound Forward m i)) (λ offset o returned. returned.1)
+      found =
+          found_by m input.haystack input.end (λ i. WithoutBase (IsFound Forward m i)) (λ offset o returned. returned.1)
           input.start c.take_tokens.result.0.items c.take_tokens.result.1 c.take_tokens.ensures.given;
     }

@@ -19,4 +19,5 @@ pub returns-clause-made : goal.returns-clause-made
 returns-clause-made c = λ old is.
     let at = get_or c.args.walks.now c.args.number c.index-walks-number.result in
     let e : at ≡ old = get_or_from_slice_get c.args.walks.now c.args.number old c.index-walks-number.result is in
-    subst (λ (x : KeptWalk). MakesWalkStep c.args.regex.now x c.args.cache.now c.step.new.cache c.step.result) e (c.step.ensures.made, c.step.ensures.same)
+    subst (λ (x : KeptWalk). MakesWalkStep c.args.regex.now x c.args.cache.now c.step.new.cache c.step.result) e
+    (c.step.ensures.made, c.step.ensures.same)

@@ -11,7 +11,9 @@ returns-in-Ok-clause-call c =
     let old = c.args.state.now in
     let new = c.try_search_overlapping.new.walk in
     record {
-      step = λ k h. step_answers c.args.way m input old k h new c.get_match.result c.get_match.ensures s.reports s.paths s.within
+      step =
+          λ k h. step_answers c.args.way m input old k h new c.get_match.result c.get_match.ensures s.reports s.paths
+          s.within
           (λ fresh u. ok_err (s.unsupported fresh u));
       reported = λ k h. answered c.args.way m input old k h new s.reports s.ended;
       kept = λ k h. tt;

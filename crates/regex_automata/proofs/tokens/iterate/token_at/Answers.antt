@@ -25,7 +25,8 @@ returns-in_err-token-clause-item c =
     let found = c.try_search_fwd-found.result in
     let returned =
     subst (λ i. IsHalf Forward m i found × IfOk found (WithoutBase (IsFound Forward m i))) c.asked-input.ensures
-    (subst (λ n. IsHalf Forward n c.asked-input.result found × IfOk found (WithoutBase (IsFound Forward n c.asked-input.result))) c.forward-dfa.ensures
+    (subst (λ n. IsHalf Forward n c.asked-input.result found
+    × IfOk found (WithoutBase (IsFound Forward n c.asked-input.result))) c.forward-dfa.ensures
     (c.try_search_fwd-found.ensures.half, c.try_search_fwd-found.ensures.found)) in
     let given =
     error_is_given m h c.args.end offset found c.in_err-token.field-0.0 c.requires.ahead returned
@@ -39,7 +40,8 @@ returns-clause-item c =
     let token = c.in_ok-token.token in
     let returned =
     subst (λ i. IsHalf Forward m i found × IfOk found (WithoutBase (IsFound Forward m i))) c.asked-input.ensures
-    (subst (λ n. IsHalf Forward n c.asked-input.result found × IfOk found (WithoutBase (IsFound Forward n c.asked-input.result))) c.forward-dfa.ensures
+    (subst (λ n. IsHalf Forward n c.asked-input.result found
+    × IfOk found (WithoutBase (IsFound Forward n c.asked-input.result))) c.forward-dfa.ensures
     (c.try_search_fwd-found.ensures.half, c.try_search_fwd-found.ensures.found)) in
     let same : match_of c.new.result ≡ token =
     c.new.ensures.found
@@ -51,22 +53,33 @@ pub returns-in_err-token-clause-effect : goal.returns-in_err-token-clause-effect
 returns-in_err-token-clause-effect c =
     let new = c.try_search_fwd-found.new.cache in
     let found = c.try_search_fwd-found.result in
-    let run : IsSearchRun Forward c.args.regex.now.forward (asked c.args.haystack.now c.args.end c.args.offset) (known_of c.args.cache.now.forward) (known_of new) (result_err found) =
-    subst (λ (m : Machine). IsSearchRun Forward m (asked c.args.haystack.now c.args.end c.args.offset) (known_of c.args.cache.now.forward) (known_of new) (result_err found)) c.forward-dfa.ensures
-    (subst (λ (i : Input). IsSearchRun Forward c.forward-dfa.result.now i (known_of c.args.cache.now.forward) (known_of new) (result_err found)) c.asked-input.ensures
-    (subst (λ (old : CacheView). IsSearchRun Forward c.forward-dfa.result.now c.asked-input.result (known_of old) (known_of new) (result_err found)) c.forward_mut.ensures.value c.try_search_fwd-found.ensures.effect)) in
-    subst (λ r. IsSearchRun Forward c.args.regex.now.forward (asked c.args.haystack.now c.args.end c.args.offset) (known_of c.args.cache.now.forward) (known_of new) (search_error r))
+    let run : IsSearchRun Forward c.args.regex.now.forward (asked c.args.haystack.now c.args.end c.args.offset)
+    (known_of c.args.cache.now.forward) (known_of new) (result_err found) =
+    subst (λ (m : Machine). IsSearchRun Forward m (asked c.args.haystack.now c.args.end c.args.offset)
+    (known_of c.args.cache.now.forward) (known_of new) (result_err found)) c.forward-dfa.ensures
+    (subst (λ (i : Input). IsSearchRun Forward c.forward-dfa.result.now i (known_of c.args.cache.now.forward)
+    (known_of new) (result_err found)) c.asked-input.ensures
+    (subst (λ (old : CacheView). IsSearchRun Forward c.forward-dfa.result.now c.asked-input.result (known_of old)
+    (known_of new) (result_err found)) c.forward_mut.ensures.value c.try_search_fwd-found.ensures.effect)) in
+    subst (λ r. IsSearchRun Forward c.args.regex.now.forward (asked c.args.haystack.now c.args.end c.args.offset)
+    (known_of c.args.cache.now.forward) (known_of new) (search_error r))
     (sym (is_err c.from_residual.result _ c.from_residual.ensures.1))
-    (subst (IsSearchRun Forward c.args.regex.now.forward (asked c.args.haystack.now c.args.end c.args.offset) (known_of c.args.cache.now.forward) (known_of new))
+    (subst (IsSearchRun Forward c.args.regex.now.forward (asked c.args.haystack.now c.args.end c.args.offset)
+    (known_of c.args.cache.now.forward) (known_of new))
     (error_is c.args.offset found c.in_err-token.field-0.0 (sym c.in_err-token.was ∙ c.item.ensures)) run)
 
 pub returns-clause-effect : goal.returns-clause-effect
 returns-clause-effect c =
     let new = c.try_search_fwd-found.new.cache in
     let found = c.try_search_fwd-found.result in
-    let run : IsSearchRun Forward c.args.regex.now.forward (asked c.args.haystack.now c.args.end c.args.offset) (known_of c.args.cache.now.forward) (known_of new) (result_err found) =
-    subst (λ (m : Machine). IsSearchRun Forward m (asked c.args.haystack.now c.args.end c.args.offset) (known_of c.args.cache.now.forward) (known_of new) (result_err found)) c.forward-dfa.ensures
-    (subst (λ (i : Input). IsSearchRun Forward c.forward-dfa.result.now i (known_of c.args.cache.now.forward) (known_of new) (result_err found)) c.asked-input.ensures
-    (subst (λ (old : CacheView). IsSearchRun Forward c.forward-dfa.result.now c.asked-input.result (known_of old) (known_of new) (result_err found)) c.forward_mut.ensures.value c.try_search_fwd-found.ensures.effect)) in
-    subst (IsSearchRun Forward c.args.regex.now.forward (asked c.args.haystack.now c.args.end c.args.offset) (known_of c.args.cache.now.forward) (known_of new))
+    let run : IsSearchRun Forward c.args.regex.now.forward (asked c.args.haystack.now c.args.end c.args.offset)
+    (known_of c.args.cache.now.forward) (known_of new) (result_err found) =
+    subst (λ (m : Machine). IsSearchRun Forward m (asked c.args.haystack.now c.args.end c.args.offset)
+    (known_of c.args.cache.now.forward) (known_of new) (result_err found)) c.forward-dfa.ensures
+    (subst (λ (i : Input). IsSearchRun Forward c.forward-dfa.result.now i (known_of c.args.cache.now.forward)
+    (known_of new) (result_err found)) c.asked-input.ensures
+    (subst (λ (old : CacheView). IsSearchRun Forward c.forward-dfa.result.now c.asked-input.result (known_of old)
+    (known_of new) (result_err found)) c.forward_mut.ensures.value c.try_search_fwd-found.ensures.effect)) in
+    subst (IsSearchRun Forward c.args.regex.now.forward (asked c.args.haystack.now c.args.end c.args.offset)
+    (known_of c.args.cache.now.forward) (known_of new))
     (no_error_is c.args.offset found c.in_ok-token.token (sym c.in_ok-token.was ∙ c.item.ensures)) run

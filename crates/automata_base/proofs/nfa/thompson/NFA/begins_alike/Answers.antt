@@ -16,5 +16,6 @@ pub returns : goal.returns
 returns c =
     alike_is c.args.self.now c.in_ok-begins.begins c.has_empty.result
     (subst (λ z. IsTrue c.in_ok-begins.begins ↔ ReachesMatch c.args.self.now.states (z ∷ [])) c.start_anchored.ensures
-    (subst (λ (z : List State). IsTrue c.in_ok-begins.begins ↔ ReachesMatch z (c.start_anchored.result ∷ [])) c.states.ensures.same
+    (subst (λ (z : List State). IsTrue c.in_ok-begins.begins ↔ ReachesMatch z (c.start_anchored.result ∷ []))
+    c.states.ensures.same
     c.in_ok-begins.ensures)) c.has_empty.ensures

@@ -29,5 +29,6 @@ returns-in-Ok-from_states-clause-alike c =
     let flags = reversed_flags c.flags-given.result in
     let f = subst (λ (z : List ℕ). IsFoldedFrom old new root z) c.as_slice.ensures.value c.in-Ok.ensures.folded in
     subst (λ (z : Flags). ReadsAlike (automaton old root root entries z) nfa) (ap reversed_flags c.flags-given.ensures)
-    (subst (λ (z : Automaton). ReadsAlike (automaton old root root entries flags) z) (sym c.in-Ok-from_states.ensures.same)
+    (subst (λ (z : Automaton). ReadsAlike (automaton old root root entries flags) z)
+    (sym c.in-Ok-from_states.ensures.same)
     (folded_alike old new root entries flags f.0 f.1 (whole_folded old new root entries flags f.0 f.1 f.2) f.3 f.4))

@@ -11,4 +11,5 @@ reverse_states-requires-clause-range c =
 
 pub reverse_states-requires-clause-ordered : goal.reverse_states-requires-clause-ordered
 reverse_states-requires-clause-ordered c =
-    subst (λ (z : List State). states_ordered z ≡ true) (sym c.states-states.ensures.same) c.states-states.ensures.checked.ordered
+    subst (λ (z : List State). states_ordered z ≡ true) (sym c.states-states.ensures.same)
+    c.states-states.ensures.checked.ordered

@@ -15,12 +15,16 @@ use Rattle.automata_base.proofs.nfa.thompson.NFA.plain.Goals as goal
 
 pub set_for-requires : goal.set_for-requires
 set_for-requires c =
-    let tests = passing c.args.states.items c.args.start_anchored c.args.start_unanchored c.args.start_pattern.items c.requires.passed in
+    let tests =
+    passing c.args.states.items c.args.start_anchored c.args.start_unanchored c.args.start_pattern.items
+    c.requires.passed in
     record { few = subst (λ s. length s ≤ 134217728) (sym c.as_slice.ensures.value) tests.small }
 
 pub reaches_match_in-has_empty-requires : goal.reaches_match_in-has_empty-requires
 reaches_match_in-has_empty-requires c =
-    let tests = passing c.args.states.items c.args.start_anchored c.args.start_unanchored c.args.start_pattern.items c.requires.passed in
+    let tests =
+    passing c.args.states.items c.args.start_anchored c.args.start_unanchored c.args.start_pattern.items
+    c.requires.passed in
     record {
       few = subst (λ s. length s ≤ 134217728) (sym c.as_slice-2.ensures.value) tests.small;
       range = subst (λ s. states_below (length s) s ≡ true) (sym c.as_slice-2.ensures.value) tests.range;
@@ -32,23 +36,32 @@ reaches_match_in-has_empty-requires c =
 
 pub skips_lazily-skips_lazily-requires : goal.skips_lazily-skips_lazily-requires
 skips_lazily-skips_lazily-requires c =
-    let tests = passing c.args.states.items c.args.start_anchored c.args.start_unanchored c.args.start_pattern.items c.requires.passed in
+    let tests =
+    passing c.args.states.items c.args.start_anchored c.args.start_unanchored c.args.start_pattern.items
+    c.requires.passed in
     record {
       few = subst (λ s. length s ≤ 134217728) (sym c.as_slice-4.ensures.value) tests.small;
       range = subst (λ s. states_below (length s) s ≡ true) (sym c.as_slice-4.ensures.value) tests.range;
       ordered = subst (λ s. states_ordered s ≡ true) (sym c.as_slice-4.ensures.value) tests.ordered;
       anchored = subst (λ s. c.args.start_anchored < length s) (sym c.as_slice-4.ensures.value) tests.anchored;
-      capacity = c.reaches_match_in-has_empty.ensures.capacity ∙ ap length (c.as_slice-2.ensures.value ∙ sym c.as_slice-4.ensures.value);
+      capacity =
+          c.reaches_match_in-has_empty.ensures.capacity
+          ∙ ap length (c.as_slice-2.ensures.value ∙ sym c.as_slice-4.ensures.value);
       unanchored = subst (λ s. c.args.start_unanchored < length s) (sym c.as_slice-4.ensures.value) tests.unanchored;
     }
 
 pub are_looks_acyclic-requires : goal.are_looks_acyclic-requires
 are_looks_acyclic-requires c =
-    let tests = passing c.args.states.items c.args.start_anchored c.args.start_unanchored c.args.start_pattern.items c.requires.passed in
+    let tests =
+    passing c.args.states.items c.args.start_anchored c.args.start_unanchored c.args.start_pattern.items
+    c.requires.passed in
     record {
       few = subst (λ s. length s ≤ 134217728) (sym c.as_slice-5.ensures.value) tests.small;
       range = subst (λ s. states_below (length s) s ≡ true) (sym c.as_slice-5.ensures.value) tests.range;
-      looks = λ look. c.requires.totals.looks look ∙ ap (λ z. any_node (λ other. eqb (look_index other) (look_index look)) (nodes_of z)) (sym c.as_slice-5.ensures.value);
+      looks =
+          λ look. c.requires.totals.looks look
+          ∙ ap (λ z. any_node (λ other. eqb (look_index other) (look_index look)) (nodes_of z))
+          (sym c.as_slice-5.ensures.value);
     }
 
 pub invariant_of-result : goal.invariant_of-result
@@ -69,9 +82,14 @@ invariant_of-result c =
           (sound d false c.requires.passed
           c.requires.totals.looks
           c.requires.totals.room
-          (subst (λ s. IsTrue c.reaches_match_in-has_empty.result ↔ ReachesMatch s c.args.start_pattern.items) c.as_slice-2.ensures.value
-          (subst (λ t. IsTrue c.reaches_match_in-has_empty.result ↔ ReachesMatch c.as_slice-2.result.now t) c.as_slice-3.ensures.value c.reaches_match_in-has_empty.ensures.found))
-          (subst (λ s. IsTrue c.skips_lazily-skips_lazily.result ↔ SkipsLazily (automaton s c.args.start_anchored c.args.start_unanchored c.args.start_pattern.items c.args.flags)) c.as_slice-4.ensures.value
+          (subst (λ s. IsTrue c.reaches_match_in-has_empty.result ↔ ReachesMatch s c.args.start_pattern.items)
+          c.as_slice-2.ensures.value
+          (subst (λ t. IsTrue c.reaches_match_in-has_empty.result ↔ ReachesMatch c.as_slice-2.result.now t)
+          c.as_slice-3.ensures.value c.reaches_match_in-has_empty.ensures.found))
+          (subst (λ s. IsTrue c.skips_lazily-skips_lazily.result
+          ↔ SkipsLazily
+          (automaton s c.args.start_anchored c.args.start_unanchored c.args.start_pattern.items c.args.flags))
+          c.as_slice-4.ensures.value
           (c.skips_lazily-skips_lazily.ensures c.args.start_pattern.items c.args.flags))
           (subst (λ s. IsTrue c.in_ok-is_look_acyclic.is_look_acyclic ↔ AreLooksAcyclic s) c.as_slice-5.ensures.value
           c.in_ok-is_look_acyclic.ensures)),

@@ -11,7 +11,9 @@ ends_at_boundaries-requires c =
     let checked = c.states.ensures.checked in
     record {
       few = subst (λ s. length s ≤ 134217728) (sym c.states.ensures.same) checked.small;
-      range = subst (λ s. states_below (length s) s ≡ true) (sym c.states.ensures.same) (checked_below c.args.self.now checked);
+      range =
+          subst (λ s. states_below (length s) s ≡ true) (sym c.states.ensures.same)
+          (checked_below c.args.self.now checked);
       anchored =
           subst (λ s. c.start_anchored.result < length s) (sym c.states.ensures.same)
           (subst (λ q. q < length c.args.self.now.states) (sym c.start_anchored.ensures) checked.anchored);
@@ -26,7 +28,8 @@ pub returns-clause-ends : goal.returns-clause-ends
 returns-clause-ends c =
     subst
     (λ s. IfOk c.ends_at_boundaries.result
-    (λ b. IsTrue b ↔ EndsAtBoundaries c.args.classes.now s (c.args.self.now.start_anchored ∷ c.args.self.now.start_pattern)))
+    (λ b. IsTrue b
+    ↔ EndsAtBoundaries c.args.classes.now s (c.args.self.now.start_anchored ∷ c.args.self.now.start_pattern)))
     c.states.ensures.same
     (subst
     (λ q. IfOk c.ends_at_boundaries.result

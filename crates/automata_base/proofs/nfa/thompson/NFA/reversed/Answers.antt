@@ -4,12 +4,14 @@ use Rattle.automata_base.proofs.nfa.thompson.NFA.reversed.Goals as goal
 
 pub returns-clause-pair : goal.returns-clause-pair
 returns-clause-pair c = λ skips kind.
-    reversed_true c.args.self.now c.in_ok-reversed.reversed kind c.in_ok-reversed.ensures.checked c.in_ok-reversed.ensures.turned
+    reversed_true c.args.self.now c.in_ok-reversed.reversed kind c.in_ok-reversed.ensures.checked
+    c.in_ok-reversed.ensures.turned
     c.in_ok-reversed.ensures.alike skips
 
 pub returns-clause-patterns : goal.returns-clause-patterns
 returns-clause-patterns c =
-    patterns_turned c.args.self.now c.in_ok-reversed.reversed c.in_ok-reversed.ensures.checked c.in_ok-reversed.ensures.turned
+    patterns_turned c.args.self.now c.in_ok-reversed.reversed c.in_ok-reversed.ensures.checked
+    c.in_ok-reversed.ensures.turned
 
 pub returns-in_err-reversed-clause-tested : goal.returns-in_err-reversed-clause-tested
 returns-in_err-reversed-clause-tested c = λ e.

@@ -15,7 +15,8 @@ has_wide-requires c =
     let m = c.in_ok-mirror.mirror in
     let some = c.in_ok-mirror.ensures.fit.starts in
     subst (λ (z : List State). states_below (length z) z ≡ true) (sym c.deref.ensures.value)
-    (plain_tests (length m.states.items) (length m.entries.items) m.states.items (omega (arith, some)) c.in_ok-mirror.ensures.fit.plain).0
+    (plain_tests (length m.states.items) (length m.entries.items) m.states.items (omega (arith, some))
+    c.in_ok-mirror.ensures.fit.plain).0
 
 pub returns-in-Some-clause-turned : goal.returns-in-Some-clause-turned
 returns-in-Some-clause-turned c =
@@ -24,10 +25,13 @@ returns-in-Some-clause-turned c =
     record {
       mirror = plain;
       reversed =
-          whole_made c.args.self.now plain c.args.self.now.states c.args.self.now.start_anchored (length c.args.self.now.start_pattern) m.root
-          m.states.items m.entries.items c.in_ok-mirror.ensures.checked refl refl refl c.in_ok-mirror.ensures.reversed refl;
+          whole_made c.args.self.now plain c.args.self.now.states c.args.self.now.start_anchored
+          (length c.args.self.now.start_pattern) m.root
+          m.states.items m.entries.items c.in_ok-mirror.ensures.checked refl refl refl c.in_ok-mirror.ensures.reversed
+          refl;
       alike =
-          some_is (λ (nfa : Automaton). ReadsAlike plain nfa) _ c.in-Some.folded c.in_ok-folded.ensures.alike c.in-Some.is;
+          some_is (λ (nfa : Automaton). ReadsAlike plain nfa) _ c.in-Some.folded c.in_ok-folded.ensures.alike
+          c.in-Some.is;
     }
 
 pub returns-in-Some-clause-alike : goal.returns-in-Some-clause-alike
@@ -40,7 +44,8 @@ returns-then-has_wide-clause-turned c =
       mirror = c.in_ok-unfolded.unfolded;
       reversed =
           whole_made c.args.self.now c.in_ok-unfolded.unfolded c.args.self.now.states c.args.self.now.start_anchored
-          (length c.args.self.now.start_pattern) m.root m.states.items m.entries.items c.in_ok-again.ensures.checked refl refl refl
+          (length c.args.self.now.start_pattern) m.root m.states.items m.entries.items c.in_ok-again.ensures.checked
+          refl refl refl
           c.in_ok-again.ensures.reversed c.in_ok-unfolded.ensures.same;
       alike = itself_alike c.in_ok-unfolded.unfolded;
     }
@@ -55,7 +60,8 @@ returns-clause-turned c =
       mirror = c.in_ok-reversed.reversed;
       reversed =
           whole_made c.args.self.now c.in_ok-reversed.reversed c.args.self.now.states c.args.self.now.start_anchored
-          (length c.args.self.now.start_pattern) m.root m.states.items m.entries.items c.in_ok-mirror.ensures.checked refl refl refl
+          (length c.args.self.now.start_pattern) m.root m.states.items m.entries.items c.in_ok-mirror.ensures.checked
+          refl refl refl
           c.in_ok-mirror.ensures.reversed c.in_ok-reversed.ensures.same;
       alike = itself_alike c.in_ok-reversed.reversed;
     }

@@ -4,4 +4,5 @@ use Rattle.automata_base.specs.Nfas.Nodes.{Automaton}
 use Rattle.automata_base.proofs.nfa.thompson.NFA.start_unanchored.Goals as goal
 
 pub returns : goal.returns
-returns c = ap (λ (d : Data). d.start_unanchored) c.deref.ensures ∙ ap (λ (a : Automaton). a.start_unanchored) c.self.view_is
+returns c =
+    ap (λ (d : Data). d.start_unanchored) c.deref.ensures ∙ ap (λ (a : Automaton). a.start_unanchored) c.self.view_is

@@ -4,4 +4,6 @@ use Rattle.automata_base.specs.Nfas.Nodes.{Automaton}
 use Rattle.automata_base.proofs.nfa.thompson.NFA.states.Goals as goal
 
 pub returns-clause-same : goal.returns-clause-same
-returns-clause-same c = c.as_slice.ensures.value ∙ (ap (λ (d : Data). d.states.items) c.deref.ensures ∙ ap (λ (a : Automaton). a.states) c.self.view_is)
+returns-clause-same c =
+    c.as_slice.ensures.value
+    ∙ (ap (λ (d : Data). d.states.items) c.deref.ensures ∙ ap (λ (a : Automaton). a.states) c.self.view_is)

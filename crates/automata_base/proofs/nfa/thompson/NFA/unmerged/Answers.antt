@@ -5,8 +5,10 @@ use Rattle.automata_base.proofs.nfa.thompson.NFA.unmerged.Goals as goal
 
 pub returns-clause-merged : goal.returns-clause-merged
 returns-clause-merged c =
-    ok_of _ _ _ c.clone.result (λ m e. subst (IsMergedNfa c.args.self.now) (sym e) (merged_self c.args.self.now)) c.clone.ensures.cases
+    ok_of _ _ _ c.clone.result (λ m e. subst (IsMergedNfa c.args.self.now) (sym e) (merged_self c.args.self.now))
+    c.clone.ensures.cases
 
 pub returns-clause-bounds : goal.returns-clause-bounds
 returns-clause-bounds c =
-    ok_of _ _ _ c.clone.result (λ m e. subst (KeepsBounds c.args.self.now) (sym e) (bounds_self c.args.self.now)) c.clone.ensures.cases
+    ok_of _ _ _ c.clone.result (λ m e. subst (KeepsBounds c.args.self.now) (sym e) (bounds_self c.args.self.now))
+    c.clone.ensures.cases

@@ -14,6 +14,8 @@ invariant-loop-i l = record {
   most : l.total ≤ 2147483648;
   small : l.room ≤ 1 + l.total;
   looks :
-      (other : Look) → (truth_of l.looks other || any_node (λ look. eqb (look_index look) (look_index other)) (nodes_of (drop l.i l.states)))
+      (other : Look)
+      → (truth_of l.looks other
+      || any_node (λ look. eqb (look_index look) (look_index other)) (nodes_of (drop l.i l.states)))
       ≡ any_node (λ look. eqb (look_index look) (look_index other)) (nodes_of l.states);
 }

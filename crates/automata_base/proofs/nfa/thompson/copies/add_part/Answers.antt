@@ -16,27 +16,35 @@ copy_ids-requires-clause-members c =
 
 pub overflow_cast-len : goal.overflow_cast-len
 overflow_cast-len c =
-    let long = copied_length c.args.parts.now.states.items c.copy_all.new.out.items _ c.args.pattern c.args.turned.now c.walk.new.set.items c.in_ok-copy_all.ensures in
+    let long =
+    copied_length c.args.parts.now.states.items c.copy_all.new.out.items _ c.args.pattern c.args.turned.now
+    c.walk.new.set.items c.in_ok-copy_all.ensures in
     let base = c.in-Some.ensures.some c.in-Some.base refl in
-    let same : length c.deref.result.now ≡ length c.args.parts.now.states.items = ap (λ z. length z) c.deref.ensures.value in
+    let same : length c.deref.result.now ≡ length c.args.parts.now.states.items =
+    ap (λ z. length z) c.deref.ensures.value in
     omega (arith, long, base.0, base.1, same, c.len.ensures, c.copy_all.new.out.ok.0)
 
 pub new_unchecked-entry-requires : goal.new_unchecked-entry-requires
 new_unchecked-entry-requires c =
-    let long = copied_length c.args.parts.now.states.items c.copy_all.new.out.items _ c.args.pattern c.args.turned.now c.walk.new.set.items c.in_ok-copy_all.ensures in
+    let long =
+    copied_length c.args.parts.now.states.items c.copy_all.new.out.items _ c.args.pattern c.args.turned.now
+    c.walk.new.set.items c.in_ok-copy_all.ensures in
     let base = c.in-Some.ensures.some c.in-Some.base refl in
-    let same : length c.deref.result.now ≡ length c.args.parts.now.states.items = ap (λ z. length z) c.deref.ensures.value in
+    let same : length c.deref.result.now ≡ length c.args.parts.now.states.items =
+    ap (λ z. length z) c.deref.ensures.value in
     omega (arith, long, base.0, base.1, same, c.len.ensures, c.copy_all.new.out.ok.0)
 
 pub returns-clause-part : goal.returns-clause-part
 returns-clause-part c =
     let base = c.in-Some.ensures.some c.in-Some.base refl in
-    let same : length c.deref.result.now ≡ length c.args.parts.now.states.items = ap (λ z. length z) c.deref.ensures.value in (
+    let same : length c.deref.result.now ≡ length c.args.parts.now.states.items =
+    ap (λ z. length z) c.deref.ensures.value in (
       c.new_unchecked-entry.result,
       c.in_ok-push_id.ensures,
       (
         c.walk.new.set.items,
-        part_added (nodes_of c.args.parts.now.states.items) (nodes_of c.copy_all.new.out.items) (nodes_of c.push_state.new.states.items)
+        part_added (nodes_of c.args.parts.now.states.items) (nodes_of c.copy_all.new.out.items)
+        (nodes_of c.push_state.new.states.items)
             c.args.turned.now c.args.roots.now c.walk.new.set.items c.in_ok-alternates.alternates.items c.args.pattern
             c.in-Some.base c.new_unchecked-entry.result c.walk.ensures.reached c.in-Some.ensures.distinct
             (λ q i. subst (λ z. q < z) c.walk.ensures.capacity (c.in-Some.ensures.below q i))

@@ -25,7 +25,8 @@ copy_state-requires-clause-members c = λ q i.
     let inside : c.id-item.result < length c.args.turned.now = omega (arith, below, c.requires.whole) in
     let here : node_in c.args.turned.now c.id-item.result ≡ node_of c.index-turned-as_usize.result =
     node_at c.args.turned.now c.id-item.result c.index-turned-as_usize.result c.index-turned-as_usize.result inside
-    (c.index-turned-as_usize.is ∙ ap (λ z. get_or c.args.turned.now z c.index-turned-as_usize.result) c.as_usize.ensures.value) in
+    (c.index-turned-as_usize.is
+    ∙ ap (λ z. get_or c.args.turned.now z c.index-turned-as_usize.result) c.as_usize.ensures.value) in
     c.requires.closed c.id-item.result q member (subst (λ z. In q (targets_at Every z)) (sym here) i)
 
 pub loop-id-preserved : goal.loop-id-preserved
@@ -34,18 +35,24 @@ loop-id-preserved c =
     subst (λ z. In c.id-item.result z) c.as_slice-members.ensures.items
     (in_slice c.as_slice-members.result.now c.loop-id.id-index c.id-item.result c.loop-id-test.true c.id-item.is) in
     let below = c.as_slice-members.ensures.below c.id-item.result member in
-    copies_next (copy_of c.args.base c.args.set.now.items) c.args.pattern c.args.turned.now c.as_slice-members.result.now
+    copies_next (copy_of c.args.base c.args.set.now.items) c.args.pattern c.args.turned.now
+    c.as_slice-members.result.now
     (nodes_of c.loop-id.out.items) (nodes_of c.push_state.new.states.items)
-    (nodes_of c.args.out.now.items ++ copies (copy_of c.args.base c.args.set.now.items) c.args.pattern c.args.turned.now c.as_slice-members.result.now)
+    (nodes_of c.args.out.now.items
+    ++ copies (copy_of c.args.base c.args.set.now.items) c.args.pattern c.args.turned.now c.as_slice-members.result.now)
     c.loop-id.id-index c.id-item.result c.as_usize.result c.index-turned-as_usize.result (node_of c.in_ok-copy.copy)
-    c.loop-id-test.true c.id-item.is (omega (arith, below, c.requires.whole, c.as_usize.ensures.value)) c.as_usize.ensures.value
+    c.loop-id-test.true c.id-item.is (omega (arith, below, c.requires.whole, c.as_usize.ensures.value))
+    c.as_usize.ensures.value
     c.index-turned-as_usize.is c.in_ok-copy.ensures c.in_ok-push_state.ensures.nodes c.loop-id.invariant
 
 pub returns : goal.returns
 returns c =
-    copies_done (copy_of c.args.base c.args.set.now.items) c.args.pattern c.args.turned.now c.as_slice-members.result.now
+    copies_done (copy_of c.args.base c.args.set.now.items) c.args.pattern c.args.turned.now
+    c.as_slice-members.result.now
     (nodes_of c.loop-id.out.items)
-    (nodes_of c.args.out.now.items ++ copies (copy_of c.args.base c.args.set.now.items) c.args.pattern c.args.turned.now c.as_slice-members.result.now)
+    (nodes_of c.args.out.now.items
+    ++ copies (copy_of c.args.base c.args.set.now.items) c.args.pattern c.args.turned.now c.as_slice-members.result.now)
     c.loop-id.id-index c.loop-id-test.false c.loop-id.invariant
-    ∙ ap (λ z. nodes_of c.args.out.now.items ++ copies (copy_of c.args.base c.args.set.now.items) c.args.pattern c.args.turned.now z)
+    ∙ ap (λ z. nodes_of c.args.out.now.items
+    ++ copies (copy_of c.args.base c.args.set.now.items) c.args.pattern c.args.turned.now z)
     c.as_slice-members.ensures.items

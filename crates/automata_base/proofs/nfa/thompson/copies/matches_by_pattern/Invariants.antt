@@ -6,6 +6,7 @@ abbrev pub invariant-loop-id : goal.invariant-loop-id
 invariant-loop-id l = record {
   matches :
       (p : ℕ) → p < l.patterns
-      → list_at (lists_of l.lists.items) p ++ matches_in l.states p (drop l.id-index l.ids) ≡ matches_in l.states p l.ids;
+      → list_at (lists_of l.lists.items) p ++ matches_in l.states p (drop l.id-index l.ids)
+      ≡ matches_in l.states p l.ids;
   few : length l.lists.items ≡ l.patterns;
 }

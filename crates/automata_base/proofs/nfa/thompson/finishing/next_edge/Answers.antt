@@ -23,9 +23,12 @@ is_few : (found : _) (t k : ℕ) → found ≡ Some t → (found ≡ None) ⊎ (
 is_few found t k e (inl none) = absurd (none_some (sym none ∙ e))
 is_few found t k e (inr l) = l
 
-inside : (n : ℕ) (state : State) (k x : ℕ) → state_below n state ≡ true → slice_get (children_at (node_of state) all_true) k ≡ Some x → x < n
+inside :
+    (n : ℕ) (state : State) (k x : ℕ) → state_below n state ≡ true
+    → slice_get (children_at (node_of state) all_true) k ≡ Some x → x < n
 inside n state k x range e =
-    children_below n (node_of state) all_true x (node_fits n state range) (nth_in (children_at (node_of state) all_true) k x e)
+    children_below n (node_of state) all_true x (node_fits n state range)
+    (nth_in (children_at (node_of state) all_true) k x e)
 
 pub contains-requires : goal.contains-requires
 contains-requires c =
@@ -35,7 +38,8 @@ contains-requires c =
 pub returns-then-not-contains-clause-some : goal.returns-then-not-contains-clause-some
 returns-then-not-contains-clause-some c = λ edge e.
     subst (λ (z : Edge). (slice_get (children_at (node_of c.args.state.now) all_true) z.number ≡ Some z.target)
-    × (In z.target c.args.visited.now.items → ⊥) × (z.number < 9223372036854775808) × (z.target < c.args.visited.now.capacity))
+    × (In z.target c.args.visited.now.items → ⊥) × (z.number < 9223372036854775808)
+    × (z.target < c.args.visited.now.capacity))
     (same_edge (record { number = c.loop-target.number; target = c.in-Some.target }) edge e) (
       sym c.epsilon_target.ensures.same ∙ c.in-Some.is,
       c.if-not-contains.ensures.new refl,
@@ -53,7 +57,8 @@ returns-then-not-contains-clause-followed c = λ edge r e i.
 pub loop-target-smaller : goal.loop-target-smaller
 loop-target-smaller c =
     let within : c.loop-target.number < length (children_at (node_of c.args.state.now) all_true) =
-    nth_inside (children_at (node_of c.args.state.now) all_true) c.loop-target.number c.in-Some.target (sym c.epsilon_target.ensures.same ∙ c.in-Some.is) in
+    nth_inside (children_at (node_of c.args.state.now) all_true) c.loop-target.number c.in-Some.target
+    (sym c.epsilon_target.ensures.same ∙ c.in-Some.is) in
     let less :
     length (children_at (node_of c.args.state.now) all_true) - (c.loop-target.number + 1)
     < length (children_at (node_of c.args.state.now) all_true) - c.loop-target.number = omega arith in
@@ -61,9 +66,12 @@ loop-target-smaller c =
 
 pub loop-target-preserved : goal.loop-target-preserved
 loop-target-preserved c = λ r i.
-    go r (take_next (children_at (node_of c.args.state.now) all_true) c.loop-target.number c.in-Some.target r (sym c.epsilon_target.ensures.same ∙ c.in-Some.is) i)
+    go r (take_next (children_at (node_of c.args.state.now) all_true) c.loop-target.number c.in-Some.target r
+    (sym c.epsilon_target.ensures.same ∙ c.in-Some.is) i)
   where
-    go : (r : ℕ) → In r (take c.loop-target.number (children_at (node_of c.args.state.now) all_true)) ⊎ (r ≡ c.in-Some.target)
+    go :
+        (r : ℕ) → In r (take c.loop-target.number (children_at (node_of c.args.state.now) all_true))
+        ⊎ (r ≡ c.in-Some.target)
         → In r c.args.visited.now.items
     go r (inl j) = c.loop-target.invariant r j
     go r (inr e) =
@@ -74,4 +82,5 @@ pub returns-clause-none : goal.returns-clause-none
 returns-clause-none c = λ r _ i.
     c.loop-target.invariant r
     (subst (λ z. In r z)
-    (sym (nth_none (children_at (node_of c.args.state.now) all_true) c.loop-target.number (sym c.epsilon_target.ensures.same ∙ c.in_default.is))) i)
+    (sym (nth_none (children_at (node_of c.args.state.now) all_true) c.loop-target.number
+    (sym c.epsilon_target.ensures.same ∙ c.in_default.is))) i)

@@ -18,12 +18,16 @@ pub loop-frame-init : goal.loop-frame-init
 loop-frame-init c =
     let frame : Frame = record { state = c.args.root; edge = 0 } in
     let turned : reverse c.push.new.self.items ≡ frame ∷ [] =
-    stack_top c.push.new.self.items c.args.stack.now.items frame c.in_ok-push.ensures.items ∙ ap (λ z. frame ∷ reverse z) c.requires.search.0 in
+    stack_top c.push.new.self.items c.args.stack.now.items frame c.in_ok-push.ensures.items
+    ∙ ap (λ z. frame ∷ reverse z) c.requires.search.0 in
     record {
       search =
-          subst (λ z. IsUnderSearch (length c.args.states.now) (targets_of Epsilon c.args.states.now) c.mark.new.visited.items c.args.finished.now.items z) (sym turned)
-          (subst (λ z. IsUnderSearch (length c.args.states.now) (targets_of Epsilon c.args.states.now) z c.args.finished.now.items (frame ∷ [])) (sym c.mark.ensures.items)
-          (search_starts (length c.args.states.now) (targets_of Epsilon c.args.states.now) c.args.visited.now.items c.args.finished.now.items
+          subst (λ z. IsUnderSearch (length c.args.states.now) (targets_of Epsilon c.args.states.now)
+          c.mark.new.visited.items c.args.finished.now.items z) (sym turned)
+          (subst (λ z. IsUnderSearch (length c.args.states.now) (targets_of Epsilon c.args.states.now) z
+          c.args.finished.now.items (frame ∷ [])) (sym c.mark.ensures.items)
+          (search_starts (length c.args.states.now) (targets_of Epsilon c.args.states.now) c.args.visited.now.items
+          c.args.finished.now.items
           frame c.args.root refl refl c.requires.root c.requires.search.1));
       root = c.mark.ensures.has;
       kept = c.mark.ensures.kept;
@@ -35,8 +39,10 @@ step-requires-clause-rooms c = c.loop-frame.invariant.rooms
 
 pub step-requires-clause-search : goal.step-requires-clause-search
 step-requires-clause-search c =
-    subst (λ z. IsUnderSearch (length c.args.states.now) (targets_of Epsilon c.args.states.now) c.loop-frame.visited.items c.loop-frame.finished.items z)
-    (stack_top c.loop-frame.stack.items c.pop.new.self.items c.in-Some.frame c.in-Some.ensures.items) c.loop-frame.invariant.search
+    subst (λ z. IsUnderSearch (length c.args.states.now) (targets_of Epsilon c.args.states.now)
+    c.loop-frame.visited.items c.loop-frame.finished.items z)
+    (stack_top c.loop-frame.stack.items c.pop.new.self.items c.in-Some.frame c.in-Some.ensures.items)
+    c.loop-frame.invariant.search
 
 pub loop-frame-preserved : goal.loop-frame-preserved
 loop-frame-preserved c = record {
@@ -51,9 +57,13 @@ returns-in_err-step-clause-kept c = λ q i. c.step.ensures.kept q (c.loop-frame.
 
 pub returns-clause-search : goal.returns-clause-search
 returns-clause-search c =
-    let none : c.loop-frame.stack.items ≡ [] = nil_from_length c.loop-frame.stack.items (sym c.loop-frame.stack.ok.0 ∙ c.in_default.ensures.cases.0) in
-    let after : c.pop.new.self.items ≡ [] = nil_from_length c.pop.new.self.items (sym c.pop.new.self.ok.0 ∙ c.in_default.ensures.cases.1) in
-    (after, subst (λ z. IsUnderSearch (length c.args.states.now) (targets_of Epsilon c.args.states.now) c.loop-frame.visited.items c.loop-frame.finished.items z) (ap reverse none) c.loop-frame.invariant.search)
+    let none : c.loop-frame.stack.items ≡ [] =
+    nil_from_length c.loop-frame.stack.items (sym c.loop-frame.stack.ok.0 ∙ c.in_default.ensures.cases.0) in
+    let after : c.pop.new.self.items ≡ [] =
+    nil_from_length c.pop.new.self.items (sym c.pop.new.self.ok.0 ∙ c.in_default.ensures.cases.1) in
+    (after, subst
+    (λ z. IsUnderSearch (length c.args.states.now) (targets_of Epsilon c.args.states.now) c.loop-frame.visited.items
+    c.loop-frame.finished.items z) (ap reverse none) c.loop-frame.invariant.search)
 
 pub returns-clause-root : goal.returns-clause-root
 returns-clause-root c = c.loop-frame.invariant.root

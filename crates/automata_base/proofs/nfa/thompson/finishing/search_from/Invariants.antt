@@ -7,7 +7,9 @@ use Rattle.automata_base.proofs.nfa.thompson.finishing.search_from.Given as goal
 
 abbrev pub invariant-loop-frame : goal.invariant-loop-frame
 invariant-loop-frame l = record {
-  search : IsUnderSearch (length l.states) (targets_of Epsilon l.states) l.visited.items l.finished.items (reverse l.stack.items);
+  search :
+      IsUnderSearch (length l.states) (targets_of Epsilon l.states) l.visited.items l.finished.items
+      (reverse l.stack.items);
   root : In l.fn.root l.visited.items;
   kept : (q : ℕ) → In q l.fn.visited.items → In q l.visited.items;
   rooms : (l.visited.capacity ≡ length l.states) × (l.finished.capacity ≡ length l.states);

@@ -13,11 +13,16 @@ use Rattle.automata_base.proofs.nfa.thompson.finishing.step.Goals as goal
 pub next_edge-requires-clause-range : goal.next_edge-requires-clause-range
 next_edge-requires-clause-range c =
     state_at_below c.args.visited.now.capacity c.args.states.now c.args.frame.state c.index-states-as_usize.result
-    (ap (λ z. states_below z c.args.states.now) c.requires.rooms.0 ∙ c.requires.range) c.requires.search.follows.0 (read_at c.args.states.now c.as_usize.result c.args.frame.state c.index-states-as_usize.result c.as_usize.ensures.value c.index-states-as_usize.is)
+    (ap (λ z. states_below z c.args.states.now) c.requires.rooms.0 ∙ c.requires.range) c.requires.search.follows.0
+    (read_at c.args.states.now c.as_usize.result c.args.frame.state c.index-states-as_usize.result
+    c.as_usize.ensures.value c.index-states-as_usize.is)
 
 pub next_edge-requires-clause-followed : goal.next_edge-requires-clause-followed
 next_edge-requires-clause-followed c = λ r i.
-    c.requires.search.follows.1 r (subst (λ z. In r (take c.args.frame.edge z)) (sym (edges_at c.args.states.now c.as_usize.result c.args.frame.state c.index-states-as_usize.result c.requires.search.follows.0 c.as_usize.ensures.value c.index-states-as_usize.is)) i)
+    c.requires.search.follows.1 r
+    (subst (λ z. In r (take c.args.frame.edge z))
+    (sym (edges_at c.args.states.now c.as_usize.result c.args.frame.state c.index-states-as_usize.result
+    c.requires.search.follows.0 c.as_usize.ensures.value c.index-states-as_usize.is)) i)
 
 pub mark-requires-clause-below : goal.mark-requires-clause-below
 mark-requires-clause-below c = (c.in-Some.ensures.some c.in-Some.edge refl).3
@@ -32,9 +37,13 @@ overflow_add-edge c =
 
 pub returns-in-None-clause-search : goal.returns-in-None-clause-search
 returns-in-None-clause-search c =
-    search_done (length c.args.states.now) (targets_of Epsilon c.args.states.now) c.args.visited.now.items c.args.finished.now.items
+    search_done (length c.args.states.now) (targets_of Epsilon c.args.states.now) c.args.visited.now.items
+    c.args.finished.now.items
     c.args.frame (reverse c.args.stack.now.items) c.requires.search c.insert.new.self.items c.insert.result
-    (λ r i. c.in-None.ensures.none r refl (subst (λ z. In r z) (edges_at c.args.states.now c.as_usize.result c.args.frame.state c.index-states-as_usize.result c.requires.search.follows.0 c.as_usize.ensures.value c.index-states-as_usize.is) i))
+    (λ r i. c.in-None.ensures.none r refl
+    (subst (λ z. In r z)
+    (edges_at c.args.states.now c.as_usize.result c.args.frame.state c.index-states-as_usize.result
+    c.requires.search.follows.0 c.as_usize.ensures.value c.index-states-as_usize.is) i))
     c.insert.ensures.new c.insert.ensures.added c.insert.ensures.had c.insert.ensures.unchanged
 
 pub returns-in_ok-push-in-Some-2-clause-search : goal.returns-in_ok-push-in-Some-2-clause-search
@@ -48,10 +57,18 @@ returns-in_ok-push-in-Some-2-clause-search c =
     let turned : reverse c.push-in-Some.new.self.items ≡ next ∷ again ∷ reverse c.args.stack.now.items =
     stack_two c.args.stack.now.items c.push.new.self.items c.push-in-Some.new.self.items again next
     c.in_ok-push-in-Some.ensures.items c.in_ok-push-in-Some-2.ensures.items in
-    subst (λ z. IsUnderSearch (length c.args.states.now) (targets_of Epsilon c.args.states.now) c.mark.new.visited.items c.args.finished.now.items z) (sym turned)
-    (subst (λ z. IsUnderSearch (length c.args.states.now) (targets_of Epsilon c.args.states.now) z c.args.finished.now.items (next ∷ again ∷ reverse c.args.stack.now.items))
+    subst (λ z. IsUnderSearch (length c.args.states.now) (targets_of Epsilon c.args.states.now) c.mark.new.visited.items
+    c.args.finished.now.items z) (sym turned)
+    (subst (λ z. IsUnderSearch (length c.args.states.now) (targets_of Epsilon c.args.states.now) z
+    c.args.finished.now.items (next ∷ again ∷ reverse c.args.stack.now.items))
     (sym c.mark.ensures.items)
-    (search_enters (length c.args.states.now) (targets_of Epsilon c.args.states.now) c.args.visited.now.items c.args.finished.now.items
+    (search_enters (length c.args.states.now) (targets_of Epsilon c.args.states.now) c.args.visited.now.items
+    c.args.finished.now.items
     c.args.frame (reverse c.args.stack.now.items) c.requires.search again next edge id refl refl refl refl below
-    (ap (λ z. slice_get z edge) (edges_at c.args.states.now c.as_usize.result c.args.frame.state c.index-states-as_usize.result c.requires.search.follows.0 c.as_usize.ensures.value c.index-states-as_usize.is) ∙ some.0)
-    (λ r i. c.in-Some.ensures.followed c.in-Some.edge r refl (subst (λ z. In r (take edge z)) (edges_at c.args.states.now c.as_usize.result c.args.frame.state c.index-states-as_usize.result c.requires.search.follows.0 c.as_usize.ensures.value c.index-states-as_usize.is) i))))
+    (ap (λ z. slice_get z edge)
+    (edges_at c.args.states.now c.as_usize.result c.args.frame.state c.index-states-as_usize.result
+    c.requires.search.follows.0 c.as_usize.ensures.value c.index-states-as_usize.is) ∙ some.0)
+    (λ r i. c.in-Some.ensures.followed c.in-Some.edge r refl
+    (subst (λ z. In r (take edge z))
+    (edges_at c.args.states.now c.as_usize.result c.args.frame.state c.index-states-as_usize.result
+    c.requires.search.follows.0 c.as_usize.ensures.value c.index-states-as_usize.is) i))))

@@ -16,7 +16,8 @@ use Rattle.automata_base.proofs.nfa.thompson.folding.fold.Goals as goal
 pub add_ids-requires : goal.add_ids-requires
 add_ids-requires c =
     let whole =
-    c.add.ensures.capacity ∙ (c.in_ok-led.ensures.capacity ∙ ap (λ (z : List State). length z) c.as_slice.ensures.value) in
+    c.add.ensures.capacity
+    ∙ (c.in_ok-led.ensures.capacity ∙ ap (λ (z : List State). length z) c.as_slice.ensures.value) in
     ap (λ v. all_below v c.args.entries.now) whole
     ∙ all_below_from (length c.args.states.now.items) c.args.entries.now c.requires.entered
 
@@ -24,14 +25,16 @@ pub fold_all-requires-clause-kept : goal.fold_all-requires-clause-kept
 fold_all-requires-clause-kept c = λ q range r i.
     let old = c.args.states.now.items in
     let led =
-    subst (λ (z : List State). (q t : ℕ) → is_large (node_in z q) ≡ false → In t (targets_of Every z q) → In t c.in_ok-led.led.items)
+    subst (λ (z : List State). (q t : ℕ) → is_large (node_in z q) ≡ false → In t (targets_of Every z q)
+    → In t c.in_ok-led.led.items)
     c.as_slice.ensures.value c.in_ok-led.ensures.led in
     range_kept old c.in_ok-free.free.items
     (λ q t l k f.
     c.in_ok-free.ensures.new t f
     (subst (λ (z : List ℕ). In t z) (sym c.add_ids.ensures.items)
     (once_keeps t c.add.new.set.items c.args.entries.now
-    (subst (λ (z : List ℕ). In t z) (sym c.add.ensures.items) (once_keeps t c.in_ok-led.led.items (c.args.root ∷ []) (led q t l k))))))
+    (subst (λ (z : List ℕ). In t z) (sym c.add.ensures.items)
+    (once_keeps t c.in_ok-led.led.items (c.args.root ∷ []) (led q t l k))))))
     q range r (subst (λ (z : List ℕ). In range.next z) c.as_slice-3.ensures.value i)
 
 pub put_made-requires-clause-below : goal.put_made-requires-clause-below
@@ -49,15 +52,21 @@ returns-clause-folded c =
     let new = c.put_made.new.states.items in
     let made = c.fold_all.new.made.items in
     let free = c.in_ok-free.free.items in
-    folded_from old mid new made c.in_ok-led.led.items c.add.new.set.items c.add_ids.new.set.items free c.args.entries.now c.args.root
-    (subst (λ (z : List State). (q t : ℕ) → is_large (node_in z q) ≡ false → In t (targets_of Every z q) → In t c.in_ok-led.led.items)
+    folded_from old mid new made c.in_ok-led.led.items c.add.new.set.items c.add_ids.new.set.items free
+    c.args.entries.now c.args.root
+    (subst (λ (z : List State). (q t : ℕ) → is_large (node_in z q) ≡ false → In t (targets_of Every z q)
+    → In t c.in_ok-led.led.items)
     c.as_slice.ensures.value c.in_ok-led.ensures.led)
     c.add.ensures.items c.add_ids.ensures.items
-    (subst (λ (z : List State). (x : ℕ) → In x free → (range : Transition) × ReadsRange z x range) c.as_slice-2.ensures.value
+    (subst (λ (z : List State). (x : ℕ) → In x free → (range : Transition) × ReadsRange z x range)
+    c.as_slice-2.ensures.value
     c.in_ok-free.ensures.reads)
     c.in_ok-free.ensures.new
-    (subst (λ (z : List ℕ). (x : ℕ) → IsFoldedState old z (nodes_of made) (slice_get old x) (slice_get mid x)) c.as_slice-3.ensures.value
+    (subst (λ (z : List ℕ). (x : ℕ) → IsFoldedState old z (nodes_of made) (slice_get old x) (slice_get mid x))
+    c.as_slice-3.ensures.value
     c.in_ok-fold_all.ensures.folded)
-    (subst (λ (z : List ℕ). (x : ℕ) → IsKept z x → slice_get new x ≡ slice_get mid x) c.as_slice-4.ensures.value c.put_made.ensures.kept)
-    (subst (λ (z : List ℕ). (k x : ℕ) (s : State) → slice_get z k ≡ Some x → slice_get made k ≡ Some s → slice_get new x ≡ Some s)
+    (subst (λ (z : List ℕ). (x : ℕ) → IsKept z x → slice_get new x ≡ slice_get mid x) c.as_slice-4.ensures.value
+    c.put_made.ensures.kept)
+    (subst (λ (z : List ℕ). (k x : ℕ) (s : State) → slice_get z k ≡ Some x → slice_get made k ≡ Some s
+    → slice_get new x ≡ Some s)
     c.as_slice-4.ensures.value c.put_made.ensures.made)

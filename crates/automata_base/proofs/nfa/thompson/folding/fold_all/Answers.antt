@@ -29,15 +29,19 @@ fold_at-requires c =
           u y i);
       few = c.loop-x.invariant.few;
       kept = λ q range k.
-          c.requires.kept q range (reads_back old now c.args.free.now (nodes_of c.loop-x.made.items) c.loop-x.x f q range k);
+          c.requires.kept q range
+          (reads_back old now c.args.free.now (nodes_of c.loop-x.made.items) c.loop-x.x f q range k);
     }
 
 pub loop-x-preserved : goal.loop-x-preserved
 loop-x-preserved c = record {
   folding =
-      folding_next c.args.states.now.items c.loop-x.states.items c.args.free.now (nodes_of c.loop-x.made.items) c.loop-x.x
-      c.loop-x.invariant.folding c.fold_at.new.states.items (nodes_of c.fold_at.new.made.items) c.in_ok-fold_at.ensures.grows.0
-      c.in_ok-fold_at.ensures.grows.1 c.in_ok-fold_at.ensures.folded c.in_ok-fold_at.ensures.others c.in_ok-fold_at.ensures.same;
+      folding_next c.args.states.now.items c.loop-x.states.items c.args.free.now (nodes_of c.loop-x.made.items)
+      c.loop-x.x
+      c.loop-x.invariant.folding c.fold_at.new.states.items (nodes_of c.fold_at.new.made.items)
+      c.in_ok-fold_at.ensures.grows.0
+      c.in_ok-fold_at.ensures.grows.1 c.in_ok-fold_at.ensures.folded c.in_ok-fold_at.ensures.others
+      c.in_ok-fold_at.ensures.same;
   few = c.in_ok-fold_at.ensures.few;
 }
 
@@ -46,7 +50,8 @@ returns c =
     let all : length c.args.states.now.items ≤ c.loop-x.x = omega (arith, c.len-x-end.ensures, c.loop-x-test.false) in
     record {
       folded =
-          folding_done c.args.states.now.items c.loop-x.states.items c.args.free.now (nodes_of c.loop-x.made.items) c.loop-x.x
+          folding_done c.args.states.now.items c.loop-x.states.items c.args.free.now (nodes_of c.loop-x.made.items)
+          c.loop-x.x
           c.loop-x.invariant.folding all;
       same = c.loop-x.invariant.folding.same;
       few = c.loop-x.invariant.few;

@@ -11,7 +11,8 @@ pub fold_union-requires-clause-below : goal.fold_union-requires-clause-below
 fold_union-requires-clause-below c = λ y i.
     subst (λ (z : List State). y < length z) (sym c.as_slice.ensures.value)
     (c.requires.below c.index.result.now c.in-Some.alternates.now
-    (state_at c.args.states.now.items c.args.x c.args.x c.index.result.now c.requires.at c.index.ensures refl) c.in-Some.ensures.some.0 y i)
+    (state_at c.args.states.now.items c.args.x c.args.x c.index.result.now c.requires.at c.index.ensures refl)
+    c.in-Some.ensures.some.0 y i)
 
 pub fold_union-requires-clause-kept : goal.fold_union-requires-clause-kept
 fold_union-requires-clause-kept c = λ u t k.
@@ -21,10 +22,12 @@ fold_union-requires-clause-kept c = λ u t k.
 pub returns-clause-folded : goal.returns-clause-folded
 returns-clause-folded c =
     let states = c.args.states.now.items in
-    folded_here states _ c.args.free.now (nodes_of c.fold_union.new.made.items) c.args.x c.index.result.now c.in_ok-folded.folded
+    folded_here states _ c.args.free.now (nodes_of c.fold_union.new.made.items) c.args.x c.index.result.now
+    c.in_ok-folded.folded
     c.in-Some.alternates.now (state_at states c.args.x c.args.x c.index.result.now c.requires.at c.index.ensures refl)
     (set_here states c.args.x c.in_ok-folded.folded c.requires.at) c.in-Some.ensures.some.0
-    (subst (λ (z : List State). IsFoldOf z c.args.free.now (nodes_of c.fold_union.new.made.items) c.in-Some.alternates.now
+    (subst (λ (z : List State). IsFoldOf z c.args.free.now (nodes_of c.fold_union.new.made.items)
+    c.in-Some.alternates.now
     (node_of c.in_ok-folded.folded)) c.as_slice.ensures.value c.in_ok-folded.ensures.folded)
     c.in_ok-folded.ensures.reads
 

@@ -24,19 +24,24 @@ returns c =
     let ts = c.in_ok-ranges.ranges.items in
     record {
       folded =
-          fold_of c.args.states.now c.args.free.now (nodes_of c.heads_of.new.made.items) (nodes_of c.make.new.made.items)
-          c.args.alternates.now c.in_ok-stay.stay.items c.push_id.new.ids.items (lists_of lists) heads ts c.in_ok-reader.reader
-          (subst (λ z. AreHeads c.args.free.now (nodes_of c.heads_of.new.made.items) (lists_of z) heads 512) c.as_slice.ensures.value
+          fold_of c.args.states.now c.args.free.now (nodes_of c.heads_of.new.made.items)
+          (nodes_of c.make.new.made.items)
+          c.args.alternates.now c.in_ok-stay.stay.items c.push_id.new.ids.items (lists_of lists) heads ts
+          c.in_ok-reader.reader
+          (subst (λ z. AreHeads c.args.free.now (nodes_of c.heads_of.new.made.items) (lists_of z) heads 512)
+          c.as_slice.ensures.value
           c.in_ok-heads.ensures.stands)
           c.in_ok-heads.ensures.nodes
-          (λ u. subst (λ (z : List (Option ℕ)). takes_in (ranges_of ts) u ≡ leaf_head z u) c.as_slice-2.ensures.value (c.in_ok-ranges.ensures u))
+          (λ u. subst (λ (z : List (Option ℕ)). takes_in (ranges_of ts) u ≡ leaf_head z u) c.as_slice-2.ensures.value
+          (c.in_ok-ranges.ensures u))
           c.in_ok-lists.ensures.reads c.in_ok-lists.ensures.low c.in_ok-stay.ensures.sound c.in_ok-stay.ensures.all
           c.in_ok-reader.ensures.more c.in_ok-reader.ensures.made c.in_ok-push_id.ensures;
       reads = refl;
       grows = (
         c.in_ok-heads.ensures.grows.0 ++ Read (ranges_of ts) ∷ [],
         grows_on (nodes_of c.args.made.now.items) (nodes_of c.heads_of.new.made.items) (nodes_of c.make.new.made.items)
-            c.in_ok-heads.ensures.grows.0 (Read (ranges_of ts) ∷ []) c.in_ok-heads.ensures.grows.1 c.in_ok-reader.ensures.more,
+            c.in_ok-heads.ensures.grows.0 (Read (ranges_of ts) ∷ []) c.in_ok-heads.ensures.grows.1
+            c.in_ok-reader.ensures.more,
       );
       few = c.in_ok-reader.ensures.few;
     }

@@ -2,7 +2,8 @@ use Rattle.std.proofs.Common.{◌+◌, Vec, ℕ, refl, sym, subst, ◌∙◌}
 use Rattle.std.specs.declared.alloc.Global.{Global}
 use Rattle.automata_base.proofs.Nfas.Folds.Led.{AreFree, free_none, free_skip, free_more}
 use Rattle.automata_base.proofs.Nfas.Folds.Parts.{is_some_given, state_at}
-use Rattle.automata_base.proofs.nfa.thompson.folding.free_of.Goals.{then-is_some+then-not-contains+in_ok-push_id, else-is_some}
+use Rattle.automata_base.proofs.nfa.thompson.folding.free_of.Goals.{then-is_some+then-not-contains+in_ok-push_id}
+use Rattle.automata_base.proofs.nfa.thompson.folding.free_of.Goals.{else-is_some}
 use Rattle.automata_base.proofs.nfa.thompson.folding.free_of.Goals as goal
 
 pub loop-i-init : goal.loop-i-init

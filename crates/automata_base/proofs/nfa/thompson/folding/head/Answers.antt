@@ -9,4 +9,5 @@ returns-clause-stands c = λ ts h.
     let made = nodes_of c.args.made.now.items in
     let k = joined_targets c.args.free.now made c.args.list.now c.args.above ts c.requires.kept h in
     c.in_ok-head.ensures.stands k.0 (c.args.list.now ++ ts)
-    (subst (λ v. AreTargetsOf (StandsFor c.args.free.now made k.0) v (c.args.list.now ++ ts)) (sym c.in_ok-ids.ensures) k.1)
+    (subst (λ v. AreTargetsOf (StandsFor c.args.free.now made k.0) v (c.args.list.now ++ ts)) (sym c.in_ok-ids.ensures)
+    k.1)

@@ -22,7 +22,8 @@ head-requires c = record {
       c.requires.kept c.loop-node.node t
       (subst (λ (z : List ℕ). In t z)
       (c.as_slice-in-loop-node.ensures.value
-      ∙ sym (list_item c.args.lists.now c.loop-node.node c.index-lists-node.result (omega (arith, c.requires.nodes)) c.index-lists-node.is))
+      ∙ sym (list_item c.args.lists.now c.loop-node.node c.index-lists-node.result (omega (arith, c.requires.nodes))
+      c.index-lists-node.is))
       i);
 }
 
@@ -33,14 +34,19 @@ loop-node-preserved c =
     let lists = lists_of c.args.lists.now in
     let is : c.as_slice-in-loop-node.result.now ≡ list_at lists c.loop-node.node =
     c.as_slice-in-loop-node.ensures.value
-    ∙ sym (list_item c.args.lists.now c.loop-node.node c.index-lists-node.result (omega (arith, c.requires.nodes)) c.index-lists-node.is) in
+    ∙ sym (list_item c.args.lists.now c.loop-node.node c.index-lists-node.result (omega (arith, c.requires.nodes))
+    c.index-lists-node.is) in
     record {
       heads =
-          heads_next c.args.free.now made new c.in_ok-head.ensures.grows.0 lists c.loop-node.heads.items c.push_head.new.heads.items
-          c.loop-node.node c.head_above-above.result c.in_ok-head.head c.as_slice-in-loop-node.result.now c.loop-node.invariant.count is
+          heads_next c.args.free.now made new c.in_ok-head.ensures.grows.0 lists c.loop-node.heads.items
+          c.push_head.new.heads.items
+          c.loop-node.node c.head_above-above.result c.in_ok-head.head c.as_slice-in-loop-node.result.now
+          c.loop-node.invariant.count is
           c.in_ok-head.ensures.grows.1 c.in_ok-push_head.ensures
-          (above_any c.args.free.now made lists c.loop-node.heads.items c.as_slice.result.now c.loop-node.node c.head_above-above.result
-          c.as_slice.ensures.value c.head_above-above.ensures.root c.head_above-above.ensures.other c.loop-node.invariant.heads)
+          (above_any c.args.free.now made lists c.loop-node.heads.items c.as_slice.result.now c.loop-node.node
+          c.head_above-above.result
+          c.as_slice.ensures.value c.head_above-above.ensures.root c.head_above-above.ensures.other
+          c.loop-node.invariant.heads)
           c.in_ok-head.ensures.stands c.loop-node.invariant.heads;
       count =
           ap (λ (z : List (Option ℕ)). length z) c.in_ok-push_head.ensures
@@ -58,7 +64,8 @@ returns c =
     let all : c.loop-node.node ≡ 512 = omega arith in
     record {
       stands =
-          subst (λ v. AreHeads c.args.free.now (nodes_of c.loop-node.made.items) (lists_of c.args.lists.now) c.loop-node.heads.items v) all
+          subst (λ v. AreHeads c.args.free.now (nodes_of c.loop-node.made.items) (lists_of c.args.lists.now)
+          c.loop-node.heads.items v) all
           c.loop-node.invariant.heads;
       nodes = c.loop-node.invariant.count ∙ all;
       grows = c.loop-node.invariant.grows;

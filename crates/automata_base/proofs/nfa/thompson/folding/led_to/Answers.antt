@@ -15,7 +15,8 @@ loop-state-init c = record { led = λ q t l. absurd (omega (arith, l)); capacity
 pub add_targets-requires : goal.add_targets-requires
 add_targets-requires c =
     state_at_below c.loop-state.led.capacity c.args.states.now c.loop-state.state-index c.state-item.result
-    (ap (λ z. states_below z c.args.states.now) c.loop-state.invariant.capacity ∙ c.requires.range) c.loop-state-test.true c.state-item.is
+    (ap (λ z. states_below z c.args.states.now) c.loop-state.invariant.capacity ∙ c.requires.range)
+    c.loop-state-test.true c.state-item.is
 
 pub loop-state-preserved : goal.loop-state-preserved
 loop-state-preserved c =
@@ -26,9 +27,12 @@ loop-state-preserved c =
       | then-is_none w ↦ record {
         led =
             subst (λ (v : Members). Leads states v.items (i + 1)) (sym w.led-is)
-            (leads_next states i s c.loop-state.led.items w.add_targets.new.set.items c.loop-state-test.true c.state-item.is
+            (leads_next states i s c.loop-state.led.items w.add_targets.new.set.items c.loop-state-test.true
+            c.state-item.is
             w.add_targets.ensures.items c.loop-state.invariant.led);
-        capacity = ap (λ (v : Members). v.capacity) w.led-is ∙ (w.add_targets.ensures.capacity ∙ c.loop-state.invariant.capacity);
+        capacity =
+            ap (λ (v : Members). v.capacity) w.led-is
+            ∙ (w.add_targets.ensures.capacity ∙ c.loop-state.invariant.capacity);
       }
       | else-is_none w ↦ (
           let given = is_given c.large.result c.is_none.result c.is_none.ensures w.if-is_none.false in
@@ -36,7 +40,8 @@ loop-state-preserved c =
             led =
                 subst (λ (v : Members). Leads states v.items (i + 1)) (sym w.led-is)
                 (leads_large states i s c.loop-state.led.items c.loop-state-test.true c.state-item.is
-                (some_is (λ (list : Bor (List ℕ)). IsUnionOf s list.now × (is_large (node_of s) ≡ true)) c.large.result given.0
+                (some_is (λ (list : Bor (List ℕ)). IsUnionOf s list.now × (is_large (node_of s) ≡ true)) c.large.result
+                given.0
                 c.large.ensures.some given.1).1 c.loop-state.invariant.led);
             capacity = ap (λ (v : Members). v.capacity) w.led-is ∙ c.loop-state.invariant.capacity;
           })
@@ -45,6 +50,7 @@ loop-state-preserved c =
 pub returns : goal.returns
 returns c = record {
   led =
-      leads_done c.args.states.now c.loop-state.led.items c.loop-state.state-index c.loop-state-test.false c.loop-state.invariant.led;
+      leads_done c.args.states.now c.loop-state.led.items c.loop-state.state-index c.loop-state-test.false
+      c.loop-state.invariant.led;
   capacity = c.loop-state.invariant.capacity;
 }

@@ -6,5 +6,6 @@ use Rattle.automata_base.proofs.nfa.thompson.folding.make.Goals as goal
 pub returns-clause-made : goal.returns-clause-made
 returns-clause-made c =
     let at : c.len-at.result ≡ length c.args.made.now.items = omega (arith, c.len-at.ensures) in
-    made_last c.args.free.now c.args.made.now.items (nodes_of c.push_state.new.states.items) (node_of c.args.state) c.len-at.result
+    made_last c.args.free.now c.args.made.now.items (nodes_of c.push_state.new.states.items) (node_of c.args.state)
+    c.len-at.result
     c.index-free-at.result at (omega arith) c.index-free-at.is c.in_ok-push_state.ensures.nodes

@@ -1,6 +1,7 @@
 use Rattle.std.proofs.Common.{ℕ, ◌<◌, ◌+◌, List, Vec, length, take, sym, ◌∙◌, subst}
 use Rattle.std.specs.declared.alloc.Global.{Global}
-use Rattle.automata_base.proofs.Nfas.Folds.Parts.{AreOthers, other_begin, other_more, other_less, reads_none, state_at, take_next}
+use Rattle.automata_base.proofs.Nfas.Folds.Parts.{AreOthers, other_begin, other_more, other_less, reads_none, state_at}
+use Rattle.automata_base.proofs.Nfas.Folds.Parts.{take_next}
 use Rattle.automata_base.proofs.Nfas.Folds.Parts.{is_none, is_given, taken_all}
 use Rattle.automata_base.proofs.Nfas.Mirrors.Copies.{in_slice}
 use Rattle.automata_base.proofs.nfa.thompson.folding.others_of.Goals.{then-is_none+in_ok-push_id, else-is_none}
@@ -9,7 +10,8 @@ use Rattle.automata_base.proofs.nfa.thompson.folding.others_of.Goals as goal
 pub bounds-states-as_usize : goal.bounds-states-as_usize
 bounds-states-as_usize c =
     subst (λ v. v < length c.args.states.now) (sym c.as_usize.ensures.value)
-    (c.requires c.id-item.result (in_slice c.args.ids.now c.loop-id.id-index c.id-item.result c.loop-id-test.true c.id-item.is))
+    (c.requires c.id-item.result
+    (in_slice c.args.ids.now c.loop-id.id-index c.id-item.result c.loop-id-test.true c.id-item.is))
 
 pub loop-id-init : goal.loop-id-init
 loop-id-init c = other_begin c.args.states.now c.new-others.result.items c.new-others.ensures.items

@@ -12,7 +12,9 @@ pub index_mut-requires : goal.index_mut-requires
 index_mut-requires c =
     let short : c.len.result < length c.args.free.now =
     omega (arith, c.len.ensures, c.in-Some.ensures.cases, c.loop-state.invariant.few) in
-    let low = c.requires.below c.index-free-len.result (in_slice c.args.free.now c.len.result c.index-free-len.result short c.index-free-len.is) in
+    let low =
+    c.requires.below c.index-free-len.result
+    (in_slice c.args.free.now c.len.result c.index-free-len.result short c.index-free-len.is) in
     let same = c.loop-state.invariant.same in
     let id = c.as_usize.ensures.value in
     omega (arith, low, same, id)
@@ -21,14 +23,19 @@ pub loop-state-preserved : goal.loop-state-preserved
 loop-state-preserved c =
     let short : c.len.result < length c.args.free.now =
     omega (arith, c.len.ensures, c.in-Some.ensures.cases, c.loop-state.invariant.few) in
-    let low = c.requires.below c.index-free-len.result (in_slice c.args.free.now c.len.result c.index-free-len.result short c.index-free-len.is) in
+    let low =
+    c.requires.below c.index-free-len.result
+    (in_slice c.args.free.now c.len.result c.index-free-len.result short c.index-free-len.is) in
     let same = c.loop-state.invariant.same in
     let id = c.as_usize.ensures.value in
     let here : slice_get c.args.free.now c.len.result ≡ Some c.as_usize.result =
-    slice_get_read c.args.free.now (length c.args.free.now) c.len.result c.index-free-len.result refl short c.index-free-len.is
+    slice_get_read c.args.free.now (length c.args.free.now) c.len.result c.index-free-len.result refl short
+    c.index-free-len.is
     ∙ ap (λ (v : ℕ). Some v) (sym id) in
-    place_step c.args.free.now c.args.states.now.items c.loop-state.states.items _ c.args.made.items c.loop-state.made.items
-    c.pop.new.self.items c.in-Some.state c.len.result c.as_usize.result c.in-Some.ensures.items refl (omega (arith, c.len.ensures)) here
+    place_step c.args.free.now c.args.states.now.items c.loop-state.states.items _ c.args.made.items
+    c.loop-state.made.items
+    c.pop.new.self.items c.in-Some.state c.len.result c.as_usize.result c.in-Some.ensures.items refl
+    (omega (arith, c.len.ensures)) here
     (omega (arith, low, same, id)) c.requires.distinct c.loop-state.invariant
 
 pub returns : goal.returns

@@ -11,6 +11,7 @@ returns-in_ok-push_ids-in-len1-up c =
     let rest : List ℕ = take (length kept - 1) (drop 1 kept) in
     rest_code kept rest c.push_ids.new.out.items first
     (split_at_item kept first c.in-len1-up.len_at_least c.first-item.is)
-    (c.in_ok-push_ids-in-len1-up.ensures.ok ∙ ap (λ (z : List ℕ). z ++ ids_code c.as_u32.result rest) c.new-code.ensures.items
+    (c.in_ok-push_ids-in-len1-up.ensures.ok
+    ∙ ap (λ (z : List ℕ). z ++ ids_code c.as_u32.result rest) c.new-code.ensures.items
     ∙ ap (λ z. ids_code z rest) c.as_u32.ensures.value)
     c.in_ok-push_ids-in-len1-up.ensures.ids

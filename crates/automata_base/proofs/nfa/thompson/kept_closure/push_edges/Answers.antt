@@ -16,15 +16,20 @@ loop-u-preserved c =
           let same = ap (λ (v : Vec (Vec ℕ Global) Global). v.items) w.rows-is in
           record {
             edges = subst (λ (z : List (Vec ℕ Global)). Added m old z (c.loop-u.u + 1)) (sym same)
-                (added_some m old c.loop-u.rows.items w.push_at.new.lists.items c.loop-u.u c.loop-u.u w.in-Some.next c.target.result
-                c.loop-u.invariant.few low refl c.target.ensures w.in-Some.is w.in_ok-push_at.ensures.pushed c.loop-u.invariant.edges);
-            few = ap (λ (z : List (Vec ℕ Global)). length z) same ∙ (w.in_ok-push_at.ensures.few ∙ c.loop-u.invariant.few);
+                (added_some m old c.loop-u.rows.items w.push_at.new.lists.items c.loop-u.u c.loop-u.u w.in-Some.next
+                c.target.result
+                c.loop-u.invariant.few low refl c.target.ensures w.in-Some.is w.in_ok-push_at.ensures.pushed
+                c.loop-u.invariant.edges);
+            few =
+                ap (λ (z : List (Vec ℕ Global)). length z) same
+                ∙ (w.in_ok-push_at.ensures.few ∙ c.loop-u.invariant.few);
           })
       | in_default w ↦ (
           let same = ap (λ (v : Vec (Vec ℕ Global) Global). v.items) w.rows-is in
           record {
             edges = subst (λ (z : List (Vec ℕ Global)). Added m old z (c.loop-u.u + 1)) (sym same)
-                (added_none m old c.loop-u.rows.items c.loop-u.u c.loop-u.u c.target.result low refl c.target.ensures w.in_default.is c.loop-u.invariant.edges);
+                (added_none m old c.loop-u.rows.items c.loop-u.u c.loop-u.u c.target.result low refl c.target.ensures
+                w.in_default.is c.loop-u.invariant.edges);
             few = ap (λ (z : List (Vec ℕ Global)). length z) same ∙ c.loop-u.invariant.few;
           })
     ]

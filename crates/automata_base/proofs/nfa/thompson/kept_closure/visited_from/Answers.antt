@@ -15,4 +15,5 @@ returns-clause-visited c =
     subst (λ looks. Visits n (truth_of looks) (s ∷ []) [] items) c.empty.ensures
     (under_way_visits n A (s ∷ []) items
     (c.close_from.ensures.way (s ∷ []) []
-    (subst (λ (z : List ℕ). IsUnderWay n A (s ∷ []) (s ∷ []) z) (sym c.in_ok-set.ensures.empty) (under_way_start n A (s ∷ [])))))
+    (subst (λ (z : List ℕ). IsUnderWay n A (s ∷ []) (s ∷ []) z) (sym c.in_ok-set.ensures.empty)
+    (under_way_start n A (s ∷ [])))))

@@ -13,14 +13,16 @@ use Rattle.automata_base.proofs.nfa.thompson.kept_closure.with_kept.Goals as goa
 
 pub keep_states-looks-requires-clause-below : goal.keep_states-looks-requires-clause-below
 keep_states-looks-requires-clause-below c = λ q i.
-    subst (λ (z : ℕ). q < z) c.requires.whole (c.as_slice-2.ensures.below q (subst (λ z. In q z) c.as_slice-2.ensures.items i))
+    subst (λ (z : ℕ). q < z) c.requires.whole
+    (c.as_slice-2.ensures.below q (subst (λ z. In q z) c.as_slice-2.ensures.items i))
 
 pub rows_if_plain-requires : goal.rows_if_plain-requires
 rows_if_plain-requires c = record {
   below = λ q i.
       let kept = subst (λ (z : List ℕ). In q z) (c.as_slice-4.ensures.value ∙ c.keep_states-looks.ensures.kept) i in
       let state = kept_in (nfa_of c.args.nfa.now) c.as_slice-2.result.now q kept in
-      subst (λ (z : ℕ). q < z) c.requires.whole (c.as_slice-2.ensures.below q (subst (λ z. In q z) c.as_slice-2.ensures.items state));
+      subst (λ (z : ℕ). q < z) c.requires.whole
+      (c.as_slice-2.ensures.below q (subst (λ z. In q z) c.as_slice-2.ensures.items state));
 }
 
 pub returns : goal.returns
@@ -42,7 +44,8 @@ returns c =
             (λ other.
             ap (any_state (λ look. eqb (look_index look) (look_index other)) n) (sym same)
             ∙ (sym (any_kept (λ look. eqb (look_index look) (look_index other)) n c.as_slice-2.result.now)
-            ∙ (ap (any_state (λ look. eqb (look_index look) (look_index other)) n) (sym c.keep_states-looks.ensures.kept) ∙ looks other)))
+            ∙ (ap (any_state (λ look. eqb (look_index look) (look_index other)) n)
+            (sym c.keep_states-looks.ensures.kept) ∙ looks other)))
             q i (truth_of 0) A)
             c.requires.visited;
       };
@@ -51,6 +54,8 @@ returns c =
         few = subst (λ (z : List ℕ). length kept ≤ length z) same c.keep_states-looks.ensures.few;
         looks = looks;
       };
-      code = subst (λ (z : List ℕ). IsRestCode z c.in_ok-code.code.items) c.as_slice-3.ensures.value c.in_ok-code.ensures;
-      rows = subst (λ (z : List ℕ). AreRows n z c.in_ok-rows.rows.items) c.as_slice-4.ensures.value c.in_ok-rows.ensures;
+      code =
+          subst (λ (z : List ℕ). IsRestCode z c.in_ok-code.code.items) c.as_slice-3.ensures.value c.in_ok-code.ensures;
+      rows =
+          subst (λ (z : List ℕ). AreRows n z c.in_ok-rows.rows.items) c.as_slice-4.ensures.value c.in_ok-rows.ensures;
     })

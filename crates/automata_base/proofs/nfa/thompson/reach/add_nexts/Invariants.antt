@@ -6,6 +6,8 @@ use Rattle.automata_base.proofs.nfa.thompson.reach.add_nexts.Given as goal
 
 abbrev pub invariant-loop-transition : goal.invariant-loop-transition
 invariant-loop-transition l = record {
-  rest : once_from l.set.items (nexts (ranges_of (drop l.transition-index l.transitions))) ≡ once_from l.fn.set.items (nexts (ranges_of l.transitions));
+  rest :
+      once_from l.set.items (nexts (ranges_of (drop l.transition-index l.transitions)))
+      ≡ once_from l.fn.set.items (nexts (ranges_of l.transitions));
   capacity : l.set.capacity ≡ l.fn.set.capacity;
 }

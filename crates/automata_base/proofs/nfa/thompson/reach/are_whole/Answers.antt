@@ -11,5 +11,6 @@ returns-then-ranges-ne1 c = (
 
 pub returns : goal.returns
 returns c =
-    let one = ap (λ z. Read z) (one_range c.args.ranges.now c.index-ranges-0.result c.if-ranges-ne1.false c.index-ranges-0.is) in
+    let one =
+    ap (λ z. Read z) (one_range c.args.ranges.now c.index-ranges-0.result c.if-ranges-ne1.false c.index-ranges-0.is) in
     (λ t. one ∙ c.is_whole.ensures.0 t, λ e. c.is_whole.ensures.1 (sym one ∙ e))

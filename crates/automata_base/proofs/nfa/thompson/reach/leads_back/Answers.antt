@@ -7,7 +7,8 @@ use Rattle.automata_base.proofs.nfa.thompson.reach.leads_back.Goals as goal
 
 pub returns : goal.returns
 returns c =
-    target_found (IsReached Every c.args.states.now (c.args.root ∷ []) c.args.target) c.walk.new.set.items c.args.target c.contains.result
+    target_found (IsReached Every c.args.states.now (c.args.root ∷ []) c.args.target) c.walk.new.set.items c.args.target
+    c.contains.result
     c.contains.ensures.had c.contains.ensures.new (c.walk.ensures.reached c.args.target)
 
 pub returns-then-are_apart : goal.returns-then-are_apart

@@ -7,9 +7,12 @@ pub returns-clause-some : goal.returns-clause-some
 returns-clause-some c = λ id e.
     let same : c.index-items-at.result ≡ id = some_same c.index-items-at.result id e in
     let within : c.args.at < length c.as_slice-items.result.now = c.if-at-items.false in
-    let inside : c.args.at < length c.args.set.now.items = subst (λ z. c.args.at < length z) c.as_slice-items.ensures.items within in
+    let inside : c.args.at < length c.args.set.now.items =
+    subst (λ z. c.args.at < length z) c.as_slice-items.ensures.items within in
     let here : id ≡ get_or c.args.set.now.items c.args.at id =
     subst (λ z. z ≡ get_or c.args.set.now.items c.args.at z) same
-    (subst (λ z. c.index-items-at.result ≡ get_or z c.args.at c.index-items-at.result) c.as_slice-items.ensures.items c.index-items-at.is) in
+    (subst (λ z. c.index-items-at.result ≡ get_or z c.args.at c.index-items-at.result) c.as_slice-items.ensures.items
+    c.index-items-at.is) in
     let few : length c.args.set.now.items ≤ c.args.set.now.capacity = c.as_slice-items.ensures.few in
-    (inside, here, below_at c.args.set.now.items c.args.set.now.capacity c.args.at id c.as_slice-items.ensures.below inside here, omega arith)
+    (inside, here, below_at c.args.set.now.items c.args.set.now.capacity c.args.at id c.as_slice-items.ensures.below
+    inside here, omega arith)

@@ -52,10 +52,12 @@ loop-id-preserved c =
     let inside : c.in-Some.id < length c.args.states.now = omega arith in
     let here : node_in c.args.states.now c.in-Some.id ≡ node_of c.index-states-as_usize.result =
     node_at c.args.states.now c.in-Some.id c.index-states-as_usize.result c.index-states-as_usize.result inside
-    (c.index-states-as_usize.is ∙ ap (λ z. get_or c.args.states.now z c.index-states-as_usize.result) c.as_usize.ensures.value) in
+    (c.index-states-as_usize.is
+    ∙ ap (λ z. get_or c.args.states.now z c.index-states-as_usize.result) c.as_usize.ensures.value) in
     record {
       walked =
-          walk_steps (targets_of c.args.edges c.args.states.now) c.args.set.now.items c.loop-id.at c.loop-id.set.items c.add_targets.new.set.items c.in-Some.id
+          walk_steps (targets_of c.args.edges c.args.states.now) c.args.set.now.items c.loop-id.at c.loop-id.set.items
+          c.add_targets.new.set.items c.in-Some.id
           some.0 some.1
           (c.add_targets.ensures.items ∙ ap (λ m. once_from c.loop-id.set.items (targets_at c.args.edges m)) (sym here))
           c.loop-id.invariant.walked;

@@ -40,13 +40,16 @@ parts_of-requires-clause-turned c =
     subst (λ (z : List State). AreCopyable c.args.states.now z) (sym c.deref.ensures.value)
     (record {
       range =
-          states_in_range c.args.states.now c.in_ok-turned.turned.items c.as_slice-ids.result.now c.args.first c.requires.range c.requires.first small
+          states_in_range c.args.states.now c.in_ok-turned.turned.items c.as_slice-ids.result.now c.args.first
+          c.requires.range c.requires.first small
           c.in_ok-turned.ensures.turned;
       ordered =
-          turned_ordered c.args.states.now c.in_ok-turned.turned.items c.as_slice-ids.result.now c.args.first distinct small
+          turned_ordered c.args.states.now c.in_ok-turned.turned.items c.as_slice-ids.result.now c.args.first distinct
+          small
           c.in_ok-turned.ensures.turned c.requires.ordered;
       whole =
-          states_whole c.args.states.now c.in_ok-turned.turned.items c.as_slice-ids.result.now c.args.first c.requires.range c.requires.first small
+          states_whole c.args.states.now c.in_ok-turned.turned.items c.as_slice-ids.result.now c.args.first
+          c.requires.range c.requires.first small
           c.in_ok-turned.ensures.turned;
     })
 
@@ -65,8 +68,10 @@ returns-in_err-parts-clause-large c = λ e.
     let distinct : Distinct c.as_slice-ids.result.now =
     subst (λ (z : List ℕ). Distinct z) (sym c.as_slice-ids.ensures.items) c.as_slice-ids.ensures.distinct in
     let long =
-    turned_length c.args.states.now c.in_ok-turned.turned.items c.as_slice-ids.result.now c.args.first distinct small c.in_ok-turned.ensures.turned in
-    let same : length c.deref.result.now ≡ length c.in_ok-turned.turned.items = ap (λ z. length z) c.deref.ensures.value in
+    turned_length c.args.states.now c.in_ok-turned.turned.items c.as_slice-ids.result.now c.args.first distinct small
+    c.in_ok-turned.ensures.turned in
+    let same : length c.deref.result.now ≡ length c.in_ok-turned.turned.items =
+    ap (λ z. length z) c.deref.ensures.value in
     parts_large c.args.states.now c.deref.result.now c.args.patterns (omega (arith, same, long))
     (c.in_err-parts.ensures.large
     (err_is c.from_residual-in_err-parts.result _ _ c.from_residual-in_err-parts.ensures.1 e))
@@ -80,9 +85,12 @@ returns-in_err-mirror-clause-large c = λ e.
     let distinct : Distinct c.as_slice-ids.result.now =
     subst (λ (z : List ℕ). Distinct z) (sym c.as_slice-ids.ensures.items) c.as_slice-ids.ensures.distinct in
     let long =
-    turned_length c.args.states.now c.in_ok-turned.turned.items c.as_slice-ids.result.now c.args.first distinct small c.in_ok-turned.ensures.turned in
-    let same : length c.deref.result.now ≡ length c.in_ok-turned.turned.items = ap (λ z. length z) c.deref.ensures.value in
-    root_large c.args.states.now c.deref.result.now c.as_slice-ids.result.now c.args.patterns (nodes_of c.in_ok-parts.parts.states.items)
+    turned_length c.args.states.now c.in_ok-turned.turned.items c.as_slice-ids.result.now c.args.first distinct small
+    c.in_ok-turned.ensures.turned in
+    let same : length c.deref.result.now ≡ length c.in_ok-turned.turned.items =
+    ap (λ z. length z) c.deref.ensures.value in
+    root_large c.args.states.now c.deref.result.now c.as_slice-ids.result.now c.args.patterns
+    (nodes_of c.in_ok-parts.parts.states.items)
     c.in_ok-parts.parts.entries.items (length c.in_ok-parts.parts.states.items) c.in_ok-parts.ensures.fit
     (sym (nodes_length c.in_ok-parts.parts.states.items)) (omega (arith, same, long))
     (c.in_err-mirror.ensures.large
@@ -97,19 +105,28 @@ returns-clause-fit c =
     let distinct : Distinct c.as_slice-ids.result.now =
     subst (λ (z : List ℕ). Distinct z) (sym c.as_slice-ids.ensures.items) c.as_slice-ids.ensures.distinct in
     let long =
-    turned_length c.args.states.now c.in_ok-turned.turned.items c.as_slice-ids.result.now c.args.first distinct small c.in_ok-turned.ensures.turned in
-    let same : length c.deref.result.now ≡ length c.in_ok-turned.turned.items = ap (λ z. length z) c.deref.ensures.value in
+    turned_length c.args.states.now c.in_ok-turned.turned.items c.as_slice-ids.result.now c.args.first distinct small
+    c.in_ok-turned.ensures.turned in
+    let same : length c.deref.result.now ≡ length c.in_ok-turned.turned.items =
+    ap (λ z. length z) c.deref.ensures.value in
     let wide =
-    turned_alternates c.args.states.now c.in_ok-turned.turned.items c.as_slice-ids.result.now c.args.first distinct small c.in_ok-turned.ensures.turned
+    turned_alternates c.args.states.now c.in_ok-turned.turned.items c.as_slice-ids.result.now c.args.first distinct
+    small c.in_ok-turned.ensures.turned
     c.requires.ordered in
     let alike : sum_by alternates_of c.deref.result.now ≡ sum_by alternates_of c.in_ok-turned.turned.items =
     ap (sum_by alternates_of) c.deref.ensures.value in
-    let few : length c.as_slice-ids.result.now ≡ length c.in_ok-reached.reached.items = ap (λ z. length z) c.as_slice-ids.ensures.items in
-    made_fits c.args.states.now c.deref.result.now c.in_ok-mirror.mirror.states.items c.as_slice-ids.result.now c.args.patterns
-    (nodes_of c.in_ok-parts.parts.states.items) c.in_ok-parts.parts.entries.items c.in_ok-mirror.mirror.entries.items c.in_ok-mirror.mirror.root
-    (length c.in_ok-parts.parts.states.items) c.in_ok-parts.ensures.fit c.in_ok-mirror.ensures.nodes c.in_ok-mirror.ensures.root
-    (sym (nodes_length c.in_ok-parts.parts.states.items)) c.in_ok-mirror.ensures.small c.in_ok-mirror.ensures.entries c.in_ok-parts.ensures.count
-    (omega (arith, few, c.as_slice-ids.ensures.few, c.in_ok-reached.ensures.capacity)) (omega (arith, same, long)) (omega (arith, alike, wide))
+    let few : length c.as_slice-ids.result.now ≡ length c.in_ok-reached.reached.items =
+    ap (λ z. length z) c.as_slice-ids.ensures.items in
+    made_fits c.args.states.now c.deref.result.now c.in_ok-mirror.mirror.states.items c.as_slice-ids.result.now
+    c.args.patterns
+    (nodes_of c.in_ok-parts.parts.states.items) c.in_ok-parts.parts.entries.items c.in_ok-mirror.mirror.entries.items
+    c.in_ok-mirror.mirror.root
+    (length c.in_ok-parts.parts.states.items) c.in_ok-parts.ensures.fit c.in_ok-mirror.ensures.nodes
+    c.in_ok-mirror.ensures.root
+    (sym (nodes_length c.in_ok-parts.parts.states.items)) c.in_ok-mirror.ensures.small c.in_ok-mirror.ensures.entries
+    c.in_ok-parts.ensures.count
+    (omega (arith, few, c.as_slice-ids.ensures.few, c.in_ok-reached.ensures.capacity)) (omega (arith, same, long))
+    (omega (arith, alike, wide))
 
 pub returns-clause-mirrored : goal.returns-clause-mirrored
 returns-clause-mirrored c = record {
@@ -117,7 +134,8 @@ returns-clause-mirrored c = record {
   reached = c.as_slice-ids.result.now;
   nodes = nodes_of c.in_ok-parts.parts.states.items;
   reach =
-      subst (λ z. (q : ℕ) → In q z ↔ IsReached Every c.args.states.now (c.args.first ∷ []) q) (sym c.as_slice-ids.ensures.items)
+      subst (λ z. (q : ℕ) → In q z ↔ IsReached Every c.args.states.now (c.args.first ∷ []) q)
+      (sym c.as_slice-ids.ensures.items)
       c.in_ok-reached.ensures.reached;
   distinct = subst (λ (z : List ℕ). Distinct z) (sym c.as_slice-ids.ensures.items) c.as_slice-ids.ensures.distinct;
   below = λ q i.
@@ -129,9 +147,11 @@ returns-clause-mirrored c = record {
       ∙ ap (λ z. nodes_of c.in_ok-parts.parts.states.items ++ Split z ∷ []) (sym c.in_ok-mirror.ensures.entries);
   starts = c.in_ok-mirror.ensures.root ∙ sym (nodes_length c.in_ok-parts.parts.states.items);
   copies =
-      subst (λ (z : List ℕ). HaveCopies (nodes_of c.in_ok-parts.parts.states.items) c.args.states.now c.in_ok-turned.turned.items c.as_slice-ids.result.now z)
+      subst (λ (z : List ℕ). HaveCopies (nodes_of c.in_ok-parts.parts.states.items) c.args.states.now
+      c.in_ok-turned.turned.items c.as_slice-ids.result.now z)
       (sym c.in_ok-mirror.ensures.entries)
-      (subst (λ (z : List State). HaveCopies (nodes_of c.in_ok-parts.parts.states.items) c.args.states.now z c.as_slice-ids.result.now c.in_ok-parts.parts.entries.items)
+      (subst (λ (z : List State). HaveCopies (nodes_of c.in_ok-parts.parts.states.items) c.args.states.now z
+      c.as_slice-ids.result.now c.in_ok-parts.parts.entries.items)
       c.deref.ensures.value c.in_ok-parts.ensures.copies);
   few = ap (λ z. length z) c.in_ok-mirror.ensures.entries ∙ c.in_ok-parts.ensures.count;
 }

@@ -10,8 +10,10 @@ loop-left-init c =
     let low : c.args.hi < 256 = omega arith in
     record {
       putting =
-          subst (λ v. Putting lists lists c.args.lo c.args.hi c.args.next (v + 256) (c.from.result + 256 + 1)) (sym c.from-left.ensures)
-          (subst (λ v. Putting lists lists c.args.lo c.args.hi c.args.next (c.args.lo + 256) (v + 256 + 1)) (sym c.from.ensures)
+          subst (λ v. Putting lists lists c.args.lo c.args.hi c.args.next (v + 256) (c.from.result + 256 + 1))
+          (sym c.from-left.ensures)
+          (subst (λ v. Putting lists lists c.args.lo c.args.hi c.args.next (c.args.lo + 256) (v + 256 + 1))
+          (sym c.from.ensures)
           (put_begin lists c.args.lo c.args.hi c.args.next low));
       few = c.requires;
     }
@@ -19,8 +21,10 @@ loop-left-init c =
 pub loop-left-preserved : goal.loop-left-preserved
 loop-left-preserved c = record {
   putting =
-      put_step (lists_of c.args.lists.now.items) (lists_of c.loop-left.lists.items) (lists_of c.put_first.new.lists.items)
-      (lists_of c.put_last.new.lists.items) c.args.lo c.args.hi c.args.next c.loop-left.left c.loop-left.end c.in_ok-first.first
+      put_step (lists_of c.args.lists.now.items) (lists_of c.loop-left.lists.items)
+      (lists_of c.put_first.new.lists.items)
+      (lists_of c.put_last.new.lists.items) c.args.lo c.args.hi c.args.next c.loop-left.left c.loop-left.end
+      c.in_ok-first.first
       c.in_ok-last.last c.loop-left-test.true (lists_length c.loop-left.lists.items ∙ c.loop-left.invariant.few)
       c.in_ok-first.ensures.put c.in_ok-last.ensures.put c.loop-left.invariant.putting;
   few = c.in_ok-last.ensures.few ∙ (c.in_ok-first.ensures.few ∙ c.loop-left.invariant.few);
@@ -29,7 +33,8 @@ loop-left-preserved c = record {
 pub returns : goal.returns
 returns c = record {
   put = λ u t l.
-      put_done (lists_of c.args.lists.now.items) (lists_of c.loop-left.lists.items) c.args.lo c.args.hi c.args.next c.loop-left.left
+      put_done (lists_of c.args.lists.now.items) (lists_of c.loop-left.lists.items) c.args.lo c.args.hi c.args.next
+      c.loop-left.left
       c.loop-left.end c.loop-left.invariant.putting c.loop-left-test.false u t l;
   few = c.loop-left.invariant.few;
   low = omega arith;

@@ -9,6 +9,7 @@ returns-then-at-lists c =
     let old = c.if-number-count.false in
     subst (λ (z : List ℕ). IfSome c.after-then-at-lists.result (λ rest. c.args.list.now ≡ z ++ rest.now))
     (c.as_slice.ensures.value
-    ∙ sym (stood_further c.args.count c.args.lists.now (c.as_usize-number.result - c.args.count) c.args.id c.index-lists-at.result
+    ∙ sym (stood_further c.args.count c.args.lists.now (c.as_usize-number.result - c.args.count) c.args.id
+    c.index-lists-at.result
     (omega (arith, is, old)) (ap (λ z. z - c.args.count) (sym is)) c.if-at-lists.true c.index-lists-at.is))
     c.after-then-at-lists.ensures

@@ -5,7 +5,8 @@ use Rattle.automata_base.proofs.nfa.thompson.standing.are_plain.Goals as goal
 pub loop-i-preserved : goal.loop-i-preserved
 loop-i-preserved c =
     let t = c.if-not-is_plain.false in
-    tested_next (IsPlain c.args.nfa.now) c.args.list.now c.loop-i.i c.index-list-i.result c.loop-i-test.true c.index-list-i.is
+    tested_next (IsPlain c.args.nfa.now) c.args.list.now c.loop-i.i c.index-list-i.result c.loop-i-test.true
+    c.index-list-i.is
     (c.is_plain.ensures.below t, (c.is_plain.ensures.other t, c.is_plain.ensures.reads t)) c.loop-i.invariant
 
 pub returns-clause-below : goal.returns-clause-below

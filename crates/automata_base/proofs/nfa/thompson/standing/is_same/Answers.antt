@@ -11,7 +11,8 @@ returns-in-Sparse-Sparse c = λ t.
     ap node_of c.in-Sparse-Sparse.is-1
     ∙ (ap (λ (xs : List Transition). Read (ranges_of xs))
     (sym c.as_slice-in-Sparse-Sparse.ensures.value
-    ∙ (sym ((slice_eq-Decides same_range c.as_slice.result.now c.as_slice-in-Sparse-Sparse.result.now c.eq-in-Sparse-Sparse.result
+    ∙ (sym ((slice_eq-Decides same_range c.as_slice.result.now c.as_slice-in-Sparse-Sparse.result.now
+    c.eq-in-Sparse-Sparse.result
     c.eq-in-Sparse-Sparse.ensures).0 t)
     ∙ c.as_slice.ensures.value))
     ∙ sym (ap node_of c.in-Sparse-Sparse.is-0))
@@ -21,7 +22,8 @@ returns-in-Dense-Dense c = λ t.
     ap node_of c.in-Dense-Dense.is-1
     ∙ (ap (λ (xs : List ℕ). Read (dense_from 0 xs))
     (sym (c.as_slice-in-Dense-Dense-2.ensures ∙ c.deref-in-Dense-Dense.ensures)
-    ∙ (sym ((slice_eq-Decides same_id c.as_slice-in-Dense-Dense.result.now c.as_slice-in-Dense-Dense-2.result.now c.eq-in-Dense-Dense.result
+    ∙ (sym ((slice_eq-Decides same_id c.as_slice-in-Dense-Dense.result.now c.as_slice-in-Dense-Dense-2.result.now
+    c.eq-in-Dense-Dense.result
     c.eq-in-Dense-Dense.ensures).0 t)
     ∙ (c.as_slice-in-Dense-Dense.ensures ∙ c.deref.ensures)))
     ∙ sym (ap node_of c.in-Dense-Dense.is-0))
@@ -31,7 +33,8 @@ returns-in-Union-Union c = λ t.
     ap node_of c.in-Union-Union.is-1
     ∙ (ap (λ (xs : List ℕ). Split xs)
     (sym c.as_slice-in-Union-Union-2.ensures.value
-    ∙ (sym ((slice_eq-Decides same_id c.as_slice-in-Union-Union.result.now c.as_slice-in-Union-Union-2.result.now c.eq-in-Union-Union.result
+    ∙ (sym ((slice_eq-Decides same_id c.as_slice-in-Union-Union.result.now c.as_slice-in-Union-Union-2.result.now
+    c.eq-in-Union-Union.result
     c.eq-in-Union-Union.ensures).0 t)
     ∙ c.as_slice-in-Union-Union.ensures.value))
     ∙ sym (ap node_of c.in-Union-Union.is-0))

@@ -9,4 +9,6 @@ use Rattle.automata_base.proofs.nfa.thompson.standing.leads_for.Given as goal
 
 abbrev pub invariant-loop-u : goal.invariant-loop-u
 invariant-loop-u l =
-    (v : ℕ) → v < l.u → target_for (length l.nfa.states) (lists_of l.lists) (takes_at (node_of l.state) v) ≡ targets (nfa_of l.nfa) (Some v) l.list
+    (v : ℕ) → v < l.u
+    → target_for (length l.nfa.states) (lists_of l.lists) (takes_at (node_of l.state) v)
+    ≡ targets (nfa_of l.nfa) (Some v) l.list

@@ -12,6 +12,7 @@ returns-then-at-lists c = λ t.
     let old = c.if-number-count.false in
     let same = ap length c.states-count.ensures.same in
     ap (target_for (length a.states) (lists_of c.args.lists.now)) (sym c.target.ensures ∙ c.in-Some.is)
-    ∙ (stood_further (length a.states) c.args.lists.now (number - length c.states-count.result.now) c.in-Some.next c.index-lists-at.result
+    ∙ (stood_further (length a.states) c.args.lists.now (number - length c.states-count.result.now) c.in-Some.next
+    c.index-lists-at.result
     (omega (arith, is, old, same)) (omega (arith, is, same)) c.if-at-lists.true c.index-lists-at.is
     ∙ (sym c.as_slice.ensures.value ∙ c.have_targets-then-at-lists.ensures t))

@@ -8,6 +8,7 @@ loop-u-preserved c =
     let many = c.if-rows-lt256.false in
     let small = c.loop-u-test.true in
     below_more _ _ c.loop-u.invariant
-    (row_found c.args.lists.now c.args.rows.now c.args.count (node_of c.args.state.now) c.loop-u.u c.target.result c.as_slice.result.now
+    (row_found c.args.lists.now c.args.rows.now c.args.count (node_of c.args.state.now) c.loop-u.u c.target.result
+    c.as_slice.result.now
     c.index-rows-u.result (omega (arith, many, small)) c.target.ensures c.index-rows-u.is c.as_slice.ensures.value
     (c.leads_to.ensures c.if-not-leads_to.false))

@@ -7,4 +7,5 @@ use Rattle.automata_base.proofs.nfa.thompson.standing.leads_to_rows.Given as goa
 
 abbrev pub invariant-loop-u : goal.invariant-loop-u
 invariant-loop-u l =
-    (v : ℕ) → v < l.u → target_for l.count (lists_of l.lists) (takes_at (node_of l.state) v) ≡ list_at (lists_of l.rows) v
+    (v : ℕ) → v < l.u
+    → target_for l.count (lists_of l.lists) (takes_at (node_of l.state) v) ≡ list_at (lists_of l.rows) v

@@ -10,10 +10,12 @@ rows_of-requires-clause-below c = c.are_plain.ensures.below c.if-not-are_plain.f
 
 pub returns : goal.returns
 returns c = λ t ranges reads.
-    reads_all c.args.nfa.now c.args.lists.now c.as_slice.result.now (length c.states.result.now) (node_of c.args.state.now)
+    reads_all c.args.nfa.now c.args.lists.now c.as_slice.result.now (length c.states.result.now)
+    (node_of c.args.state.now)
     c.args.list.now ranges (ap length c.states.ensures.same) (c.are_plain.ensures.plain c.if-not-are_plain.false)
     (c.leads_to_rows.ensures t)
-    (subst (λ rows. AreRows (nfa_of c.args.nfa.now) c.args.list.now rows) (sym c.as_slice.ensures.value) c.in_ok-rows.ensures) reads
+    (subst (λ rows. AreRows (nfa_of c.args.nfa.now) c.args.list.now rows) (sym c.as_slice.ensures.value)
+    c.in_ok-rows.ensures) reads
 
 pub leads_for-requires : goal.leads_for-requires
 leads_for-requires c = record { below = c.are_plain.ensures.below c.if-not-are_plain.false }

@@ -7,4 +7,5 @@ pub returns-clause-nodes : goal.returns-clause-nodes
 returns-clause-nodes c = ap nodes_of c.in_ok-push.ensures.items ∙ nodes_more c.args.states.now.items c.args.state
 
 pub returns-clause-more : goal.returns-clause-more
-returns-clause-more c = ap (λ z. length z) c.in_ok-push.ensures.items ∙ length-append c.args.states.now.items (c.args.state ∷ [])
+returns-clause-more c =
+    ap (λ z. length z) c.in_ok-push.ensures.items ∙ length-append c.args.states.now.items (c.args.state ∷ [])

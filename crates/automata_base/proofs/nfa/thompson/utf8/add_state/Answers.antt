@@ -10,5 +10,7 @@ use Rattle.automata_base.proofs.nfa.thompson.utf8.add_state.Goals as goal
 pub returns-clause-items : goal.returns-clause-items
 returns-clause-items c =
     c.add_byte.ensures.items
-    ∙ (ap (λ z. once_from z (byte_pairs c.args.classes.now c.args.decoder (node_of c.args.state.now))) c.add_free.ensures.items
-    ∙ sym (once_append c.args.set.now.items (pairs_at c.args.decoder (children_at (node_of c.args.state.now) all_true)) (byte_pairs c.args.classes.now c.args.decoder (node_of c.args.state.now))))
+    ∙ (ap (λ z. once_from z (byte_pairs c.args.classes.now c.args.decoder (node_of c.args.state.now)))
+    c.add_free.ensures.items
+    ∙ sym (once_append c.args.set.now.items (pairs_at c.args.decoder (children_at (node_of c.args.state.now) all_true))
+    (byte_pairs c.args.classes.now c.args.decoder (node_of c.args.state.now))))

@@ -20,8 +20,11 @@ loop-byte-preserved c =
     let next = get_or c.args.targets.now c.loop-byte.byte c.index-targets-byte.result in
     let l : c.loop-byte.byte < length c.args.targets.now = omega (arith, c.type_inv.targets, c.loop-byte-test.true) in
     record {
-      rest = target_next c.args.classes.now c.args.decoder c.args.targets.now c.loop-byte.set.items c.add_target.new.set.items
-          (once_from c.args.set.now.items (ranges_pairs c.args.classes.now c.args.decoder (dense_from 0 c.args.targets.now)))
+      rest =
+          target_next c.args.classes.now c.args.decoder c.args.targets.now c.loop-byte.set.items
+          c.add_target.new.set.items
+          (once_from c.args.set.now.items
+          (ranges_pairs c.args.classes.now c.args.decoder (dense_from 0 c.args.targets.now)))
           c.loop-byte.byte next l (ap (get_or c.args.targets.now c.loop-byte.byte) c.index-targets-byte.is)
           c.add_target.ensures.items c.loop-byte.invariant.rest;
       capacity = c.add_target.ensures.capacity ∙ c.loop-byte.invariant.capacity;

@@ -30,7 +30,8 @@ add_state-requires-clause-below c =
     let same : c.as_usize-number.result ≡ c.in-Some.id = c.as_usize-number.ensures.value in
     let inside : c.as_usize-number.result / 11 < length c.args.states.now = omega arith in
     let room : c.loop-id.set.capacity / 11 ≡ length c.args.states.now = omega arith in
-    state_at_below (c.loop-id.set.capacity / 11) c.args.states.now (c.as_usize-number.result / 11) c.index-states-number.result
+    state_at_below (c.loop-id.set.capacity / 11) c.args.states.now (c.as_usize-number.result / 11)
+    c.index-states-number.result
     (ap (λ z. states_below z c.args.states.now) room ∙ c.requires.range) inside c.index-states-number.is
 
 pub overflow_add-at : goal.overflow_add-at
@@ -44,7 +45,8 @@ pub loop-id-smaller : goal.loop-id-smaller
 loop-id-smaller c =
     let within : c.loop-id.at < c.loop-id.set.capacity = (c.in-Some.ensures.some c.in-Some.id refl).3 in
     let whole : c.loop-id.set.capacity ≡ length c.args.states.now * 11 = c.loop-id.invariant.capacity in
-    let less : length c.args.states.now * 11 - (c.loop-id.at + 1) < length c.args.states.now * 11 - c.loop-id.at = omega arith in
+    let less : length c.args.states.now * 11 - (c.loop-id.at + 1) < length c.args.states.now * 11 - c.loop-id.at =
+    omega arith in
     less
 
 pub loop-id-preserved : goal.loop-id-preserved
@@ -59,10 +61,12 @@ loop-id-preserved c =
     (c.index-states-number.is ∙ ap (λ z. get_or c.args.states.now (z / 11) c.index-states-number.result) same) in
     record {
       walked =
-          walk_steps (pairs_of c.args.classes.now c.args.states.now) c.args.set.now.items c.loop-id.at c.loop-id.set.items c.add_state.new.set.items c.in-Some.id
+          walk_steps (pairs_of c.args.classes.now c.args.states.now) c.args.set.now.items c.loop-id.at
+          c.loop-id.set.items c.add_state.new.set.items c.in-Some.id
           some.0 some.1
           (c.add_state.ensures.items
-          ∙ (ap (λ z. once_from c.loop-id.set.items (node_pairs c.args.classes.now (z % 11) (node_of c.index-states-number.result))) same
+          ∙ (ap (λ z. once_from c.loop-id.set.items
+          (node_pairs c.args.classes.now (z % 11) (node_of c.index-states-number.result))) same
           ∙ ap (λ m. once_from c.loop-id.set.items (node_pairs c.args.classes.now (c.in-Some.id % 11) m)) (sym here)))
           c.loop-id.invariant.walked;
       capacity = c.add_state.ensures.capacity ∙ whole;

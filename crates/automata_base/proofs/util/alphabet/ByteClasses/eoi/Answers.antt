@@ -11,4 +11,5 @@ returns-clause-below c =
 
 pub returns-clause-above : goal.returns-clause-above
 returns-clause-above c = λ byte l.
-    let above : class_in c.args.self.now byte + 1 < c.alphabet_len.result = c.alphabet_len.ensures.above byte l in omega (arith, above)
+    let above : class_in c.args.self.now byte + 1 < c.alphabet_len.result = c.alphabet_len.ensures.above byte l in
+    omega (arith, above)

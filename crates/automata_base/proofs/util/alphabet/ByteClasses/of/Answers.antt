@@ -6,7 +6,8 @@ use Rattle.automata_base.proofs.ByteClasses.Boundaries.{are_classes, count-same}
 use Rattle.automata_base.proofs.util.alphabet.ByteClasses.of.Goals as goal
 
 pub invariant_of-result : goal.invariant_of-result
-invariant_of-result c = are_classes (is_marked c.boundaries.result) c.counts.result c.counts.ensures.whole c.counts.ensures.same
+invariant_of-result c =
+    are_classes (is_marked c.boundaries.result) c.counts.result c.counts.ensures.whole c.counts.ensures.same
 
 pub returns-clause-same : goal.returns-clause-same
 returns-clause-same c = λ byte h.

@@ -15,6 +15,8 @@ returns-then-eq-clause-added c = λ t looks.
     record {
       added = closure.set.items;
       after_before = c.append_apart.ensures.added t;
-      visited = subst (λ q. Visits n (truth_of looks) (q ∷ []) [] closure.set.items) (sym same) (is_kept.closure.visited (truth_of looks));
+      visited =
+          subst (λ q. Visits n (truth_of looks) (q ∷ []) [] closure.set.items) (sym same)
+          (is_kept.closure.visited (truth_of looks));
       apart = c.append_apart.ensures.apart t;
     }

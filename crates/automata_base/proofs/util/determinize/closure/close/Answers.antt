@@ -5,5 +5,6 @@ use Rattle.automata_base.proofs.util.determinize.closure.close.Goals as goal
 
 pub returns-clause-closure : goal.returns-clause-closure
 returns-clause-closure c =
-    way_closure (nfa_of c.args.nfa.now) (truth_of c.args.looks) c.args.roots.now c.clear.new.self.items c.close_all.new.set.items
+    way_closure (nfa_of c.args.nfa.now) (truth_of c.args.looks) c.args.roots.now c.clear.new.self.items
+    c.close_all.new.set.items
     c.clear.ensures.empty c.close_all.ensures.way

@@ -20,7 +20,8 @@ use Rattle.automata_base.proofs.util.determinize.closure.close_by.Goals.{then-di
 
 pub visit-init : goal.visit-init
 visit-init c = (
-  subst (λ s. Walking c.args.nfa.now c.args.looks c.args.set.now.items c.args.start c.args.set.now.items (c.args.start ∷ reverse s))
+  subst (λ s. Walking c.args.nfa.now c.args.looks c.args.set.now.items c.args.start c.args.set.now.items
+  (c.args.start ∷ reverse s))
       (sym c.requires.room.empty)
       (walk_begins c.args.nfa.now c.args.looks c.args.set.now.items c.args.start c.requires.start),
   c.requires.room.whole,
@@ -40,17 +41,23 @@ state_at-requires-clause-id c =
 
 pub expand-requires-clause-below : goal.expand-requires-clause-below
 expand-requires-clause-below c =
-    children_below c.args.nfa.now c.args.looks c.args.set.now.items c.args.start c.visit.set.items c.discover.new.set.items (reverse c.visit.stack.items) c.visit.id c.state_at.result.now
-    c.state_at.ensures.checked (state_read c.args.nfa.now.states c.visit.id c.state_at.result.now c.state_at.ensures.same) (c.if-discover.ensures.new refl) (c.if-discover.ensures.added refl) c.visit.invariant.0
+    children_below c.args.nfa.now c.args.looks c.args.set.now.items c.args.start c.visit.set.items
+    c.discover.new.set.items (reverse c.visit.stack.items) c.visit.id c.state_at.result.now
+    c.state_at.ensures.checked
+    (state_read c.args.nfa.now.states c.visit.id c.state_at.result.now c.state_at.ensures.same)
+    (c.if-discover.ensures.new refl) (c.if-discover.ensures.added refl) c.visit.invariant.0
 
 pub expand-requires-clause-whole : goal.expand-requires-clause-whole
 expand-requires-clause-whole c = c.if-discover.ensures.capacity ∙ c.visit.invariant.1
 
 pub expand-requires-clause-room : goal.expand-requires-clause-room
 expand-requires-clause-room c =
-    let room : length c.visit.stack.items + length (children_at (node_of c.state_at.result.now) (truth_of c.args.looks)) ≤ stack_room c.args.nfa.now.states =
-    step_room c.args.nfa.now c.args.looks c.args.set.now.items c.args.start c.visit.set.items c.visit.stack.items c.visit.id c.state_at.result.now
-    (state_read c.args.nfa.now.states c.visit.id c.state_at.result.now c.state_at.ensures.same) (c.if-discover.ensures.new refl) c.visit.invariant.0 in
+    let room : length c.visit.stack.items + length (children_at (node_of c.state_at.result.now) (truth_of c.args.looks))
+    ≤ stack_room c.args.nfa.now.states =
+    step_room c.args.nfa.now c.args.looks c.args.set.now.items c.args.start c.visit.set.items c.visit.stack.items
+    c.visit.id c.state_at.result.now
+    (state_read c.args.nfa.now.states c.visit.id c.state_at.result.now c.state_at.ensures.same)
+    (c.if-discover.ensures.new refl) c.visit.invariant.0 in
     let len : vec_len c.visit.stack ≡ length c.visit.stack.items = c.visit.stack.ok.0 in
     let kept : vec_capacity c.args.stack.now ≤ vec_capacity c.visit.stack = c.visit.invariant.2 in
     let enough : stack_room c.args.nfa.now.states ≤ vec_capacity c.args.stack.now = c.requires.room.places in
@@ -58,11 +65,17 @@ expand-requires-clause-room c =
 
 -- a new state with a child
 followed : (c : goal.In-Some) →
-    Walking c.args.nfa.now c.args.looks c.args.set.now.items c.args.start c.expand.new.set.items (c.in-Some.next ∷ reverse c.expand.new.stack.items)
-    × (work c.args.nfa.now c.expand.new.set.items (c.in-Some.next ∷ reverse c.expand.new.stack.items) < work c.args.nfa.now c.visit.set.items (c.visit.id ∷ reverse c.visit.stack.items))
+    Walking c.args.nfa.now c.args.looks c.args.set.now.items c.args.start c.expand.new.set.items
+    (c.in-Some.next ∷ reverse c.expand.new.stack.items)
+    × (work c.args.nfa.now c.expand.new.set.items (c.in-Some.next ∷ reverse c.expand.new.stack.items)
+    < work c.args.nfa.now c.visit.set.items (c.visit.id ∷ reverse c.visit.stack.items))
 followed c =
-    expanded_step c.args.nfa.now c.args.looks c.args.set.now.items c.args.start c.visit.set.items c.discover.new.set.items c.expand.new.set.items (reverse c.visit.stack.items) (c.in-Some.next ∷ reverse c.expand.new.stack.items) c.visit.id c.state_at.result.now
-    c.state_at.ensures.checked (state_read c.args.nfa.now.states c.visit.id c.state_at.result.now c.state_at.ensures.same) (c.if-discover.ensures.new refl) (c.if-discover.ensures.added refl) c.in-Some.ensures.expanded c.visit.invariant.0
+    expanded_step c.args.nfa.now c.args.looks c.args.set.now.items c.args.start c.visit.set.items
+    c.discover.new.set.items c.expand.new.set.items (reverse c.visit.stack.items)
+    (c.in-Some.next ∷ reverse c.expand.new.stack.items) c.visit.id c.state_at.result.now
+    c.state_at.ensures.checked
+    (state_read c.args.nfa.now.states c.visit.id c.state_at.result.now c.state_at.ensures.same)
+    (c.if-discover.ensures.new refl) (c.if-discover.ensures.added refl) c.in-Some.ensures.expanded c.visit.invariant.0
 
 pub visit-smaller-in-Some : goal.visit-smaller-in-Some
 visit-smaller-in-Some c = (followed c).1
@@ -86,24 +99,31 @@ next_way : (a : Automaton) (looks : ℕ) (old : List ℕ) (start : ℕ) (before 
     → Walking a looks old start after (top ∷ reverse rest.items)
     × (work a after (top ∷ reverse rest.items) < work a before (id ∷ reverse was.items))
 next_way a looks old start before after id capacity was stack rest top e v =
-    let P : List ℕ → Type 0 = λ s. Walking a looks old start after s × (work a after s < work a before (id ∷ reverse was.items)) in
+    let P : List ℕ → Type 0 =
+    λ s. Walking a looks old start after s × (work a after s < work a before (id ∷ reverse was.items)) in
     subst P (pushed_top stack.items rest.items top e) (v.walking, v.less)
 
 -- it was new, and its children took what room there was
 new_visit : (a : Automaton) (looks : ℕ) (old : List ℕ) (start : ℕ) (before seen after : List ℕ) (id capacity : ℕ)
     (was stack : Vec ℕ Global) (state : State)
     → IsChecked a → state ≡ get_or a.states id state → (In id before → ⊥) → seen ≡ before ++ id ∷ []
-    → IsExpanded (nfa_of a) (truth_of looks) (children_at (node_of state) (truth_of looks)) seen after (reverse was.items) (reverse stack.items)
+    → IsExpanded (nfa_of a) (truth_of looks) (children_at (node_of state) (truth_of looks)) seen after
+    (reverse was.items) (reverse stack.items)
     → Walking a looks old start before (id ∷ reverse was.items)
     → capacity ≤ vec_capacity was → vec_capacity was ≤ vec_capacity stack
     → Visited a looks old start before after id capacity was stack
 new_visit a looks old start before seen after id capacity was stack state checked is new grown put walking kept more =
-    let step = expanded_step a looks old start before seen after (reverse was.items) (reverse stack.items) id state checked is new grown put walking in
+    let step =
+    expanded_step a looks old start before seen after (reverse was.items) (reverse stack.items) id state checked is new
+    grown put walking in
     record { walking = step.0; less = step.1; room = omega arith }
 
 -- nothing is left to visit from it
-passed_visit : (a : Automaton) (looks : ℕ) (old : List ℕ) (start : ℕ) (before after : List ℕ) (id capacity : ℕ) (was : Vec ℕ Global)
-    → ((roots tail : List ℕ) → IsUnderWay (nfa_of a) (truth_of looks) roots (id ∷ tail) before → IsUnderWay (nfa_of a) (truth_of looks) roots tail after)
+passed_visit :
+    (a : Automaton) (looks : ℕ) (old : List ℕ) (start : ℕ) (before after : List ℕ) (id capacity : ℕ)
+    (was : Vec ℕ Global)
+    → ((roots tail : List ℕ) → IsUnderWay (nfa_of a) (truth_of looks) roots (id ∷ tail) before
+    → IsUnderWay (nfa_of a) (truth_of looks) roots tail after)
     → Extends before after → Walking a looks old start before (id ∷ reverse was.items) → capacity ≤ vec_capacity was
     → Visited a looks old start before after id capacity was was
 passed_visit a looks old start before after id capacity was way grown walking kept =
@@ -111,17 +131,31 @@ passed_visit a looks old start before after id capacity was way grown walking ke
     record { walking = step.0; less = step.1; room = kept }
 
 visited : (c : goal.In-Some-pop) →
-    Visited c.args.nfa.now c.args.looks c.args.set.now.items c.args.start c.visit.set.items c.if-discover.set.items c.visit.id
+    Visited c.args.nfa.now c.args.looks c.args.set.now.items c.args.start c.visit.set.items c.if-discover.set.items
+    c.visit.id
     (vec_capacity c.args.stack.now) c.visit.stack c.if-discover.stack
 visited c = elim c.if-discover.branch [
-  | then-discover+in_default w ↦ subst (λ (m : Members). Visited c.args.nfa.now c.args.looks c.args.set.now.items c.args.start c.visit.set.items m.items c.visit.id (vec_capacity c.args.stack.now) c.visit.stack c.if-discover.stack) (sym w.set-is)
-      (subst (Visited c.args.nfa.now c.args.looks c.args.set.now.items c.args.start c.visit.set.items w.expand.new.set.items c.visit.id (vec_capacity c.args.stack.now) c.visit.stack) (sym w.stack-is)
-      (new_visit c.args.nfa.now c.args.looks c.args.set.now.items c.args.start c.visit.set.items c.discover.new.set.items w.expand.new.set.items c.visit.id (vec_capacity c.args.stack.now) c.visit.stack w.expand.new.stack w.state_at.result.now
-      w.state_at.ensures.checked (state_read c.args.nfa.now.states c.visit.id w.state_at.result.now w.state_at.ensures.same) (w.if-discover.ensures.new refl) (w.if-discover.ensures.added refl) w.in_default.ensures.expanded
+  | then-discover+in_default w ↦ subst
+  (λ (m : Members). Visited c.args.nfa.now c.args.looks c.args.set.now.items c.args.start c.visit.set.items m.items
+  c.visit.id (vec_capacity c.args.stack.now) c.visit.stack c.if-discover.stack) (sym w.set-is)
+      (subst (Visited c.args.nfa.now c.args.looks c.args.set.now.items c.args.start c.visit.set.items
+      w.expand.new.set.items c.visit.id (vec_capacity c.args.stack.now) c.visit.stack) (sym w.stack-is)
+      (new_visit c.args.nfa.now c.args.looks c.args.set.now.items c.args.start c.visit.set.items
+      c.discover.new.set.items w.expand.new.set.items c.visit.id (vec_capacity c.args.stack.now) c.visit.stack
+      w.expand.new.stack w.state_at.result.now
+      w.state_at.ensures.checked
+      (state_read c.args.nfa.now.states c.visit.id w.state_at.result.now w.state_at.ensures.same)
+      (w.if-discover.ensures.new refl) (w.if-discover.ensures.added refl) w.in_default.ensures.expanded
       c.visit.invariant.0 c.visit.invariant.2 w.in_default.ensures.capacity))
-  | else-discover w ↦ subst (λ (m : Members). Visited c.args.nfa.now c.args.looks c.args.set.now.items c.args.start c.visit.set.items m.items c.visit.id (vec_capacity c.args.stack.now) c.visit.stack c.if-discover.stack) (sym w.set-is)
-      (subst (Visited c.args.nfa.now c.args.looks c.args.set.now.items c.args.start c.visit.set.items c.discover.new.set.items c.visit.id (vec_capacity c.args.stack.now) c.visit.stack) (sym w.stack-is)
-      (passed_visit c.args.nfa.now c.args.looks c.args.set.now.items c.args.start c.visit.set.items c.discover.new.set.items c.visit.id (vec_capacity c.args.stack.now) c.visit.stack (w.if-discover.ensures.passed refl c.args.looks) w.if-discover.ensures.grown c.visit.invariant.0 c.visit.invariant.2))
+  | else-discover w ↦ subst
+  (λ (m : Members). Visited c.args.nfa.now c.args.looks c.args.set.now.items c.args.start c.visit.set.items m.items
+  c.visit.id (vec_capacity c.args.stack.now) c.visit.stack c.if-discover.stack) (sym w.set-is)
+      (subst (Visited c.args.nfa.now c.args.looks c.args.set.now.items c.args.start c.visit.set.items
+      c.discover.new.set.items c.visit.id (vec_capacity c.args.stack.now) c.visit.stack) (sym w.stack-is)
+      (passed_visit c.args.nfa.now c.args.looks c.args.set.now.items c.args.start c.visit.set.items
+      c.discover.new.set.items c.visit.id (vec_capacity c.args.stack.now) c.visit.stack
+      (w.if-discover.ensures.passed refl c.args.looks) w.if-discover.ensures.grown c.visit.invariant.0
+      c.visit.invariant.2))
 ]
 
 same_set : (c : goal.In-Some-pop) → c.if-discover.set.capacity ≡ c.discover.new.set.capacity
@@ -132,7 +166,8 @@ same_set c = elim c.if-discover.branch [
 
 pub visit-smaller : goal.visit-smaller
 visit-smaller c =
-    (next_way c.args.nfa.now c.args.looks c.args.set.now.items c.args.start c.visit.set.items c.if-discover.set.items c.visit.id (vec_capacity c.args.stack.now) c.visit.stack c.if-discover.stack
+    (next_way c.args.nfa.now c.args.looks c.args.set.now.items c.args.start c.visit.set.items c.if-discover.set.items
+    c.visit.id (vec_capacity c.args.stack.now) c.visit.stack c.if-discover.stack
     c.pop.new.self c.in-Some-pop.top c.in-Some-pop.ensures.items (visited c)).1
 
 pub visit-preserved : goal.visit-preserved
@@ -140,24 +175,39 @@ visit-preserved c =
     let v = visited c in
     let kept : vec_capacity c.args.stack.now ≤ vec_capacity c.if-discover.stack = v.room in
     let same : vec_capacity c.pop.new.self ≡ vec_capacity c.if-discover.stack = c.in-Some-pop.ensures.capacity in (
-      (next_way c.args.nfa.now c.args.looks c.args.set.now.items c.args.start c.visit.set.items c.if-discover.set.items c.visit.id (vec_capacity c.args.stack.now) c.visit.stack c.if-discover.stack
+      (next_way c.args.nfa.now c.args.looks c.args.set.now.items c.args.start c.visit.set.items c.if-discover.set.items
+      c.visit.id (vec_capacity c.args.stack.now) c.visit.stack c.if-discover.stack
           c.pop.new.self c.in-Some-pop.top c.in-Some-pop.ensures.items v).0,
       same_set c ∙ (c.discover.ensures.capacity ∙ c.visit.invariant.1),
       omega arith,
     )
 
 done : (c : goal.In-None) →
-    Visited c.args.nfa.now c.args.looks c.args.set.now.items c.args.start c.visit.set.items c.if-discover.set.items c.visit.id
+    Visited c.args.nfa.now c.args.looks c.args.set.now.items c.args.start c.visit.set.items c.if-discover.set.items
+    c.visit.id
     (vec_capacity c.args.stack.now) c.visit.stack c.if-discover.stack
 done c = elim c.if-discover.branch [
-  | then-discover+in_default w ↦ subst (λ (m : Members). Visited c.args.nfa.now c.args.looks c.args.set.now.items c.args.start c.visit.set.items m.items c.visit.id (vec_capacity c.args.stack.now) c.visit.stack c.if-discover.stack) (sym w.set-is)
-      (subst (Visited c.args.nfa.now c.args.looks c.args.set.now.items c.args.start c.visit.set.items w.expand.new.set.items c.visit.id (vec_capacity c.args.stack.now) c.visit.stack) (sym w.stack-is)
-      (new_visit c.args.nfa.now c.args.looks c.args.set.now.items c.args.start c.visit.set.items c.discover.new.set.items w.expand.new.set.items c.visit.id (vec_capacity c.args.stack.now) c.visit.stack w.expand.new.stack w.state_at.result.now
-      w.state_at.ensures.checked (state_read c.args.nfa.now.states c.visit.id w.state_at.result.now w.state_at.ensures.same) (w.if-discover.ensures.new refl) (w.if-discover.ensures.added refl) w.in_default.ensures.expanded
+  | then-discover+in_default w ↦ subst
+  (λ (m : Members). Visited c.args.nfa.now c.args.looks c.args.set.now.items c.args.start c.visit.set.items m.items
+  c.visit.id (vec_capacity c.args.stack.now) c.visit.stack c.if-discover.stack) (sym w.set-is)
+      (subst (Visited c.args.nfa.now c.args.looks c.args.set.now.items c.args.start c.visit.set.items
+      w.expand.new.set.items c.visit.id (vec_capacity c.args.stack.now) c.visit.stack) (sym w.stack-is)
+      (new_visit c.args.nfa.now c.args.looks c.args.set.now.items c.args.start c.visit.set.items
+      c.discover.new.set.items w.expand.new.set.items c.visit.id (vec_capacity c.args.stack.now) c.visit.stack
+      w.expand.new.stack w.state_at.result.now
+      w.state_at.ensures.checked
+      (state_read c.args.nfa.now.states c.visit.id w.state_at.result.now w.state_at.ensures.same)
+      (w.if-discover.ensures.new refl) (w.if-discover.ensures.added refl) w.in_default.ensures.expanded
       c.visit.invariant.0 c.visit.invariant.2 w.in_default.ensures.capacity))
-  | else-discover w ↦ subst (λ (m : Members). Visited c.args.nfa.now c.args.looks c.args.set.now.items c.args.start c.visit.set.items m.items c.visit.id (vec_capacity c.args.stack.now) c.visit.stack c.if-discover.stack) (sym w.set-is)
-      (subst (Visited c.args.nfa.now c.args.looks c.args.set.now.items c.args.start c.visit.set.items c.discover.new.set.items c.visit.id (vec_capacity c.args.stack.now) c.visit.stack) (sym w.stack-is)
-      (passed_visit c.args.nfa.now c.args.looks c.args.set.now.items c.args.start c.visit.set.items c.discover.new.set.items c.visit.id (vec_capacity c.args.stack.now) c.visit.stack (w.if-discover.ensures.passed refl c.args.looks) w.if-discover.ensures.grown c.visit.invariant.0 c.visit.invariant.2))
+  | else-discover w ↦ subst
+  (λ (m : Members). Visited c.args.nfa.now c.args.looks c.args.set.now.items c.args.start c.visit.set.items m.items
+  c.visit.id (vec_capacity c.args.stack.now) c.visit.stack c.if-discover.stack) (sym w.set-is)
+      (subst (Visited c.args.nfa.now c.args.looks c.args.set.now.items c.args.start c.visit.set.items
+      c.discover.new.set.items c.visit.id (vec_capacity c.args.stack.now) c.visit.stack) (sym w.stack-is)
+      (passed_visit c.args.nfa.now c.args.looks c.args.set.now.items c.args.start c.visit.set.items
+      c.discover.new.set.items c.visit.id (vec_capacity c.args.stack.now) c.visit.stack
+      (w.if-discover.ensures.passed refl c.args.looks) w.if-discover.ensures.grown c.visit.invariant.0
+      c.visit.invariant.2))
 ]
 
 same_set_done : (c : goal.In-None) → c.if-discover.set.capacity ≡ c.discover.new.set.capacity
@@ -168,13 +218,16 @@ same_set_done c = elim c.if-discover.branch [
 
 pub returns-clause-way : goal.returns-clause-way
 returns-clause-way c =
-    let none : c.if-discover.stack.items ≡ [] = nil_from_length c.if-discover.stack.items (sym c.if-discover.stack.ok.0 ∙ c.in-None.ensures.cases.0) in
+    let none : c.if-discover.stack.items ≡ [] =
+    nil_from_length c.if-discover.stack.items (sym c.if-discover.stack.ok.0 ∙ c.in-None.ensures.cases.0) in
     walk_ends c.args.nfa.now c.args.looks c.args.set.now.items c.args.start c.if-discover.set.items
-    (subst (Walking c.args.nfa.now c.args.looks c.args.set.now.items c.args.start c.if-discover.set.items) (ap reverse none) (done c).walking)
+    (subst (Walking c.args.nfa.now c.args.looks c.args.set.now.items c.args.start c.if-discover.set.items)
+    (ap reverse none) (done c).walking)
 
 pub returns-clause-room : goal.returns-clause-room
 returns-clause-room c =
     let kept : vec_capacity c.args.stack.now ≤ vec_capacity c.if-discover.stack = (done c).room in
     let same : vec_capacity c.pop.new.self ≡ vec_capacity c.if-discover.stack = c.in-None.ensures.capacity in
     let enough : stack_room c.args.nfa.now.states ≤ vec_capacity c.args.stack.now = c.requires.room.places in
-    record { whole = same_set_done c ∙ (c.discover.ensures.capacity ∙ c.visit.invariant.1); empty = search rules; places = omega arith }
+    record { whole = same_set_done c
+        ∙ (c.discover.ensures.capacity ∙ c.visit.invariant.1); empty = search rules; places = omega arith }

@@ -8,6 +8,9 @@ use Rattle.automata_base.proofs.util.determinize.construct.close_targets.Given a
 
 abbrev pub invariant-loop-i : goal.invariant-loop-i
 invariant-loop-i l =
-    ((roots tail : List ℕ) → IsUnderWay (nfa_of l.nfa) (truth_of l.known) roots (targets (nfa_of l.nfa) (Some l.u) l.list ++ tail) l.fn.set.items
-    → IsUnderWay (nfa_of l.nfa) (truth_of l.known) roots (targets (nfa_of l.nfa) (Some l.u) (drop l.i l.list) ++ tail) l.set.items)
+    ((roots tail : List ℕ)
+    → IsUnderWay (nfa_of l.nfa) (truth_of l.known) roots (targets (nfa_of l.nfa) (Some l.u) l.list ++ tail)
+    l.fn.set.items
+    → IsUnderWay (nfa_of l.nfa) (truth_of l.known) roots (targets (nfa_of l.nfa) (Some l.u) (drop l.i l.list) ++ tail)
+    l.set.items)
     × IsClosureRoom l.nfa l.stack l.set

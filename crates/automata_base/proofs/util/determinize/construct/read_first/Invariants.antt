@@ -11,11 +11,15 @@ use Rattle.automata_base.proofs.util.determinize.construct.read_first.Given as g
 abbrev pub invariant-loop-i : goal.invariant-loop-i
 invariant-loop-i l = record {
   way : (roots tail : List ℕ)
-      → IsUnderWay (nfa_of l.nfa) (truth_of l.known) roots (targets (nfa_of l.nfa) (Some l.u) (cut (nfa_of l.nfa) l.list) ++ tail) l.fn.set.items
-      → IsUnderWay (nfa_of l.nfa) (truth_of l.known) roots (targets (nfa_of l.nfa) (Some l.u) (cut (nfa_of l.nfa) (drop l.i l.list)) ++ tail) l.set.items;
+      → IsUnderWay (nfa_of l.nfa) (truth_of l.known) roots
+      (targets (nfa_of l.nfa) (Some l.u) (cut (nfa_of l.nfa) l.list) ++ tail) l.fn.set.items
+      → IsUnderWay (nfa_of l.nfa) (truth_of l.known) roots
+      (targets (nfa_of l.nfa) (Some l.u) (cut (nfa_of l.nfa) (drop l.i l.list)) ++ tail) l.set.items;
   matches : has_match (nfa_of l.nfa) l.list ≡ has_match (nfa_of l.nfa) (drop l.i l.list);
   room : IsClosureRoom l.nfa l.stack l.set;
-  picks : pick (accepts (nfa_of l.nfa)) (cut (nfa_of l.nfa) l.list) ≡ pick (accepts (nfa_of l.nfa)) (cut (nfa_of l.nfa) (drop l.i l.list));
+  picks :
+      pick (accepts (nfa_of l.nfa)) (cut (nfa_of l.nfa) l.list)
+      ≡ pick (accepts (nfa_of l.nfa)) (cut (nfa_of l.nfa) (drop l.i l.list));
   none : l.patterns.items ≡ [];
   capacity : vec_capacity l.fn.patterns ≤ vec_capacity l.patterns;
 }

@@ -9,7 +9,9 @@ use Rattle.automata_base.proofs.util.determinize.construct.read_list.Goals as go
 pub returns-in-Some-clause-closure : goal.returns-in-Some-clause-closure
 returns-in-Some-clause-closure c =
     let n = nfa_of c.args.nfa.now in
-    subst (λ z. IsClosure n (truth_of c.args.known) (targets n z (cut_for c.args.kind n c.args.list.now)) c.read_byte.new.set.items)
+    subst (λ z. IsClosure n (truth_of c.args.known) (targets n z (cut_for c.args.kind n c.args.list.now))
+    c.read_byte.new.set.items)
     (sym c.in-Some.is)
-    (way_closure n (truth_of c.args.known) (targets n (Some c.in-Some.u) (cut_for c.args.kind n c.args.list.now)) c.clear.new.self.items c.read_byte.new.set.items
+    (way_closure n (truth_of c.args.known) (targets n (Some c.in-Some.u) (cut_for c.args.kind n c.args.list.now))
+    c.clear.new.self.items c.read_byte.new.set.items
     c.clear.ensures.empty c.read_byte.ensures.way)

@@ -6,7 +6,8 @@ use Rattle.automata_base.proofs.util.determinize.construct.start_into.Goals as g
 pub returns-in-Some-clause-made : goal.returns-in-Some-clause-made
 returns-in-Some-clause-made c =
     start_made c.args.nfa.now c.args.mode c.args.prev c.in-Some.q (powerset_of c.start_at.new.parts)
-    c.requires.checked (sym c.in-Some.is ∙ c.start.ensures.same) (c.start.ensures.below c.in-Some.q c.in-Some.is) c.start_at.ensures.made
+    c.requires.checked (sym c.in-Some.is ∙ c.start.ensures.same) (c.start.ensures.below c.in-Some.q c.in-Some.is)
+    c.start_at.ensures.made
 
 pub returns-in-None-clause-made : goal.returns-in-None-clause-made
 returns-in-None-clause-made c =

@@ -5,5 +5,6 @@ use Rattle.automata_base.proofs.util.determinize.deciding.finds_news.Goals as go
 
 pub loop-index-preserved : goal.loop-index-preserved
 loop-index-preserved c =
-    unnews_next (truth_of c.args.needed) (truth_of c.args.truth) (truth_of c.args.known) c.loop-index.index c.from_index.result
+    unnews_next (truth_of c.args.needed) (truth_of c.args.truth) (truth_of c.args.known) c.loop-index.index
+    c.from_index.result
     c.loop-index-test.true c.from_index.ensures (sym c.is_news.ensures ∙ c.if-is_news.false) c.loop-index.invariant

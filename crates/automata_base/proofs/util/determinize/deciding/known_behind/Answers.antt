@@ -6,5 +6,7 @@ use Rattle.automata_base.proofs.util.determinize.deciding.known_behind.Goals as 
 
 pub loop-index-preserved : goal.loop-index-preserved
 loop-index-preserved c =
-    sofar_next (λ look. false) (known_looks (nfa_of c.args.nfa.now) c.args.prev) c.loop-index.set c.insert_if-set.result c.loop-index.index c.from_index-look.result c.is_known-passes.result
-    c.loop-index-test.true c.from_index-look.ensures c.insert_if-set.ensures c.is_known-passes.ensures c.loop-index.invariant
+    sofar_next (λ look. false) (known_looks (nfa_of c.args.nfa.now) c.args.prev) c.loop-index.set c.insert_if-set.result
+    c.loop-index.index c.from_index-look.result c.is_known-passes.result
+    c.loop-index-test.true c.from_index-look.ensures c.insert_if-set.ensures c.is_known-passes.ensures
+    c.loop-index.invariant

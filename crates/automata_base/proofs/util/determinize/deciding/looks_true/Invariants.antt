@@ -5,4 +5,5 @@ use Rattle.automata_base.proofs.util.determinize.deciding.looks_true.Given as go
 
 abbrev pub invariant-loop-index : goal.invariant-loop-index
 invariant-loop-index l =
-    Sofar (truth_of l.fn.known) (λ look. decided l.nfa.flags.line_terminator l.nfa.flags.reverse l.word l.half look l.unit) l.set l.index
+    Sofar (truth_of l.fn.known)
+    (λ look. decided l.nfa.flags.line_terminator l.nfa.flags.reverse l.word l.half look l.unit) l.set l.index

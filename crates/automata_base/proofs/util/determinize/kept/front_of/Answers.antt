@@ -16,4 +16,5 @@ returns-then-eq c =
     sym (take-append-drop split list)
     ∙ ap (λ z. take split list ++ z)
     (sym (take_rest list split)
-    ∙ (slice_eq-Decides same_id (take (length list - split) (drop split list)) c.args.end.now c.eq.result c.eq.ensures).0 c.if-eq.true)
+    ∙ (slice_eq-Decides same_id (take (length list - split) (drop split list)) c.args.end.now c.eq.result
+    c.eq.ensures).0 c.if-eq.true)

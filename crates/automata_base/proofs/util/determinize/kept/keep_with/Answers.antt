@@ -28,28 +28,33 @@ append_kept-requires-clause-below c = λ q i.
     let part = c.as_slice-part.result.now in
     c.requires.below q
     (subst (λ z. In q z) (sym (part_split states part c.in-Some.start c.in-Some.ensures.0))
-    (in_right q (take c.in-Some.start states) (part ++ after states part c.in-Some.start) (in_right q part (after states part c.in-Some.start) i)))
+    (in_right q (take c.in-Some.start states) (part ++ after states part c.in-Some.start)
+    (in_right q part (after states part c.in-Some.start) i)))
 
-kept : (c : goal.After-append_kept) → c.append_kept.new.kept.items ≡ pick (keep (nfa_of c.args.nfa.now)) c.args.states.now
+kept :
+    (c : goal.After-append_kept) → c.append_kept.new.kept.items ≡ pick (keep (nfa_of c.args.nfa.now)) c.args.states.now
 kept c =
     let n = nfa_of c.args.nfa.now in
     let states = c.args.states.now in
     let part = c.as_slice-part.result.now in
     let back = after states part c.in-Some.start in
     let first = c.keep_states-looks.new.kept.items in
-    kept_of_parts n states (take c.in-Some.start states) part back first c.as_slice.result.now c.append_kept.new.kept.items
+    kept_of_parts n states (take c.in-Some.start states) part back first c.as_slice.result.now
+    c.append_kept.new.kept.items
     (part_split states part c.in-Some.start c.in-Some.ensures.0) c.keep_states-looks.ensures.kept
     (c.as_slice.ensures.value ∙ c.requires.closure.kept.same ∙ ap (pick (keep n)) (sym c.as_slice-part.ensures.items))
     (c.append_kept.ensures.kept
     ∙ ap (λ z. z ++ pick (keep n) back)
-    (appended c.extend_from_slice.result c.unwrap.result c.extend_from_slice.new.self.items first c.as_slice.result.now c.unwrap.ensures c.extend_from_slice.ensures.items))
+    (appended c.extend_from_slice.result c.unwrap.result c.extend_from_slice.new.self.items first c.as_slice.result.now
+    c.unwrap.ensures c.extend_from_slice.ensures.items))
 
 pub returns-in-Some-clause-kept : goal.returns-in-Some-clause-kept
 returns-in-Some-clause-kept c = kept c
 
 pub returns-in-Some-clause-few : goal.returns-in-Some-clause-few
 returns-in-Some-clause-few c =
-    subst (λ (z : List ℕ). length z ≤ length c.args.states.now) (sym (kept c)) (kept_few (nfa_of c.args.nfa.now) c.args.states.now)
+    subst (λ (z : List ℕ). length z ≤ length c.args.states.now) (sym (kept c))
+    (kept_few (nfa_of c.args.nfa.now) c.args.states.now)
 
 pub returns-in-Some-clause-looks : goal.returns-in-Some-clause-looks
 returns-in-Some-clause-looks c = λ other.
@@ -57,7 +62,8 @@ returns-in-Some-clause-looks c = λ other.
     let f : Look → Bool = λ look. eqb (look_index look) (look_index other) in
     let states = c.args.states.now in
     let part = c.as_slice-part.result.now in
-    looks_of_parts f n states (take c.in-Some.start states) part (after states part c.in-Some.start) c.keep_states-looks.new.kept.items
+    looks_of_parts f n states (take c.in-Some.start states) part (after states part c.in-Some.start)
+    c.keep_states-looks.new.kept.items
     c.as_slice.result.now c.append_kept.new.kept.items _ _
     (part_split states part c.in-Some.start c.in-Some.ensures.0) c.keep_states-looks.ensures.kept
     (c.as_slice.ensures.value ∙ c.requires.closure.kept.same ∙ ap (pick (keep n)) (sym c.as_slice-part.ensures.items))

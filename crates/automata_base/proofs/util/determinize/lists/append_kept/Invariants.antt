@@ -10,8 +10,12 @@ use Rattle.automata_base.proofs.util.determinize.lists.append_kept.Given as goal
 
 abbrev pub invariant-loop-i : goal.invariant-loop-i
 invariant-loop-i l =
-    (l.kept.items ++ pick (keep (nfa_of l.nfa)) (drop l.i l.states) ≡ l.fn.kept.items ++ pick (keep (nfa_of l.nfa)) l.states)
+    (l.kept.items ++ pick (keep (nfa_of l.nfa)) (drop l.i l.states) ≡ l.fn.kept.items
+    ++ pick (keep (nfa_of l.nfa)) l.states)
     × (length l.kept.items ≤ length l.fn.kept.items + l.i)
-    × ((other : Look) → (truth_of l.all other || any_state (λ look. eqb (look_index look) (look_index other)) (nfa_of l.nfa) (drop l.i l.states))
-    ≡ (truth_of l.fn.looks other || any_state (λ look. eqb (look_index look) (look_index other)) (nfa_of l.nfa) l.states))
+    × ((other : Look)
+    → (truth_of l.all other
+    || any_state (λ look. eqb (look_index look) (look_index other)) (nfa_of l.nfa) (drop l.i l.states))
+    ≡ (truth_of l.fn.looks other
+    || any_state (λ look. eqb (look_index look) (look_index other)) (nfa_of l.nfa) l.states))
     × (vec_capacity l.fn.kept ≤ vec_capacity l.kept)

@@ -9,15 +9,19 @@ use Rattle.automata_base.proofs.Powersets.Keeping.{any_kept, kept_few}
 use Rattle.automata_base.proofs.Paths.LookSets.{truth_of_none}
 use Rattle.automata_base.proofs.util.determinize.lists.keep_states.Goals as goal
 
-kept : (c : goal.After-append_kept) → c.append_kept.new.kept.items ≡ pick (keep (nfa_of c.args.nfa.now)) c.args.states.now
-kept c = c.append_kept.ensures.kept ∙ ap (λ z. z ++ pick (keep (nfa_of c.args.nfa.now)) c.args.states.now) c.clear.ensures.items
+kept :
+    (c : goal.After-append_kept) → c.append_kept.new.kept.items ≡ pick (keep (nfa_of c.args.nfa.now)) c.args.states.now
+kept c =
+    c.append_kept.ensures.kept
+    ∙ ap (λ z. z ++ pick (keep (nfa_of c.args.nfa.now)) c.args.states.now) c.clear.ensures.items
 
 pub returns-clause-kept : goal.returns-clause-kept
 returns-clause-kept c = kept c
 
 pub returns-clause-few : goal.returns-clause-few
 returns-clause-few c =
-    subst (λ (z : List ℕ). length z ≤ length c.args.states.now) (sym (kept c)) (kept_few (nfa_of c.args.nfa.now) c.args.states.now)
+    subst (λ (z : List ℕ). length z ≤ length c.args.states.now) (sym (kept c))
+    (kept_few (nfa_of c.args.nfa.now) c.args.states.now)
 
 pub returns-clause-looks : goal.returns-clause-looks
 returns-clause-looks c = λ other.

@@ -11,13 +11,17 @@ returns-then-first-lt128 t c = λ n tail f.
 pub groups_in-high-requires : goal.groups_in-high-requires
 groups_in-high-requires t c =
     let e = split_bytes c.args.bytes.now c.in-len1-up.len_at_least in
-    let r = front_more_of c.args.bytes.now (get_or c.args.bytes.now 0 0) c.requires.0 _ c.requires.1 e c.requires.2 c.if-first-lt128.false in
+    let r =
+    front_more_of c.args.bytes.now (get_or c.args.bytes.now 0 0) c.requires.0 _ c.requires.1 e c.requires.2
+    c.if-first-lt128.false in
     (search rules, (c.requires.0 / 128, c.requires.1, r.0))
 
 pub overflow_mul-result : goal.overflow_mul-result
 overflow_mul-result t c =
     let e = split_bytes c.args.bytes.now c.in-len1-up.len_at_least in
-    let r = front_more_of c.args.bytes.now (get_or c.args.bytes.now 0 0) c.requires.0 _ c.requires.1 e c.requires.2 c.if-first-lt128.false in
+    let r =
+    front_more_of c.args.bytes.now (get_or c.args.bytes.now 0 0) c.requires.0 _ c.requires.1 e c.requires.2
+    c.if-first-lt128.false in
     let h = c.groups_in-high.ensures (c.requires.0 / 128) c.requires.1 r.0 in
     let b : c.requires.0 < 2 ^ 35 = c.requires.2.1 in
     omega (arith, h.0)
@@ -25,7 +29,9 @@ overflow_mul-result t c =
 pub overflow_add-result : goal.overflow_add-result
 overflow_add-result t c =
     let e = split_bytes c.args.bytes.now c.in-len1-up.len_at_least in
-    let r = front_more_of c.args.bytes.now (get_or c.args.bytes.now 0 0) c.requires.0 _ c.requires.1 e c.requires.2 c.if-first-lt128.false in
+    let r =
+    front_more_of c.args.bytes.now (get_or c.args.bytes.now 0 0) c.requires.0 _ c.requires.1 e c.requires.2
+    c.if-first-lt128.false in
     let h = c.groups_in-high.ensures (c.requires.0 / 128) c.requires.1 r.0 in
     let b : c.requires.0 < 2 ^ 35 = c.requires.2.1 in
     omega (arith, h.0, c.from-in-len1-up.ensures, r.1)

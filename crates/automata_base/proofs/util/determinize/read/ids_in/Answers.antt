@@ -10,8 +10,11 @@ slice_bounds-result-count c =
 pub slice_bounds-result-start : goal.slice_bounds-result-start
 slice_bounds-result-start c =
     let w = whole c.args.bytes.now c.requires (sym c.lists_patterns.ensures ∙ c.if-lists_patterns.true) in
-    let l : 13 + 4 * c.u32_at-count.result ≤ length c.args.bytes.now = omega (arith, w.room, c.u32_at-count.ensures ∙ w.count) in
+    let l : 13 + 4 * c.u32_at-count.result ≤ length c.args.bytes.now =
+    omega (arith, w.room, c.u32_at-count.ensures ∙ w.count) in
     l
 
 pub returns-then-lists_patterns : goal.returns-then-lists_patterns
-returns-then-lists_patterns c = ids_from c.args.bytes.now c.u32_at-count.result (sym c.lists_patterns.ensures ∙ c.if-lists_patterns.true) c.u32_at-count.ensures
+returns-then-lists_patterns c =
+    ids_from c.args.bytes.now c.u32_at-count.result (sym c.lists_patterns.ensures ∙ c.if-lists_patterns.true)
+    c.u32_at-count.ensures

@@ -23,9 +23,16 @@ u32_at-requires c =
 
 pub new_unchecked-requires : goal.new_unchecked-requires
 new_unchecked-requires c =
-    let e = c.u32_at.ensures ∙ sym (pattern-listed c.args.bytes.now c.args.index c.requires.code (sym c.lists_patterns.ensures ∙ c.if-lists_patterns.true) c.requires.index_in) in
-    subst IsId (sym e) (All-from_recursion IsId (patterns_of c.args.bytes.now) c.requires.code.state.patterns c.args.index 0 c.requires.index_in)
+    let e =
+    c.u32_at.ensures
+    ∙ sym (pattern-listed c.args.bytes.now c.args.index c.requires.code
+    (sym c.lists_patterns.ensures ∙ c.if-lists_patterns.true) c.requires.index_in) in
+    subst IsId (sym e)
+    (All-from_recursion IsId (patterns_of c.args.bytes.now) c.requires.code.state.patterns c.args.index 0
+    c.requires.index_in)
 
 pub returns-then-lists_patterns : goal.returns-then-lists_patterns
 returns-then-lists_patterns c =
-    c.new_unchecked.ensures ∙ c.u32_at.ensures ∙ sym (pattern-listed c.args.bytes.now c.args.index c.requires.code (sym c.lists_patterns.ensures ∙ c.if-lists_patterns.true) c.requires.index_in)
+    c.new_unchecked.ensures ∙ c.u32_at.ensures
+    ∙ sym (pattern-listed c.args.bytes.now c.args.index c.requires.code
+    (sym c.lists_patterns.ensures ∙ c.if-lists_patterns.true) c.requires.index_in)

@@ -4,4 +4,5 @@ use Rattle.automata_base.proofs.util.determinize.scratch.next_key_of.Goals as go
 
 pub returns-clause-made : goal.returns-clause-made
 returns-clause-made c =
-    subst (IsStepMade c.args.nfa.now c.args.kind c.args.from.now c.args.unit) (sym c.in_ok-key.ensures.key) c.next_into.ensures.made
+    subst (IsStepMade c.args.nfa.now c.args.kind c.args.from.now c.args.unit) (sym c.in_ok-key.ensures.key)
+    c.next_into.ensures.made

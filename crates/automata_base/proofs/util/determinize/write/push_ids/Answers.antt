@@ -8,10 +8,19 @@ use Rattle.automata_base.proofs.util.determinize.write.push_ids.Goals as goal
 
 pub loop-id-preserved : goal.loop-id-preserved
 loop-id-preserved c = record {
-  code = rw (c.in_ok-push_in_room.ensures.ok, c.as_u32-id.ensures.value, get_or_read c.args.ids.now _ _ c.loop-id-test.true c.id-item.is 0) (ids-step _ _ c.args.ids.now _ _ _ c.loop-id-test.true (c.difference_of.ensures.value ∙ ap (difference c.loop-id.before) (c.as_u32-id.ensures.value ∙ get_or_read c.args.ids.now _ _ c.loop-id-test.true c.id-item.is 0)) c.loop-id.invariant.code);
+  code =
+      rw (c.in_ok-push_in_room.ensures.ok, c.as_u32-id.ensures.value, get_or_read c.args.ids.now _ _ c.loop-id-test.true
+      c.id-item.is 0)
+      (ids-step _ _ c.args.ids.now _ _ _ c.loop-id-test.true
+      (c.difference_of.ensures.value
+      ∙ ap (difference c.loop-id.before)
+      (c.as_u32-id.ensures.value ∙ get_or_read c.args.ids.now _ _ c.loop-id-test.true c.id-item.is 0))
+      c.loop-id.invariant.code);
   ids = λ k d l.
-      below_more (λ i. (e : ℕ) → IsId (get_or c.args.ids.now i e)) c.loop-id.id-index (λ i j e. c.loop-id.invariant.ids i e j)
-      (λ e. subst IsId (c.as_u32-id.ensures.value ∙ get_or_read c.args.ids.now _ _ c.loop-id-test.true c.id-item.is e) c.as_u32-id.ensures.bound) k l d;
+      below_more (λ i. (e : ℕ) → IsId (get_or c.args.ids.now i e)) c.loop-id.id-index
+      (λ i j e. c.loop-id.invariant.ids i e j)
+      (λ e. subst IsId (c.as_u32-id.ensures.value ∙ get_or_read c.args.ids.now _ _ c.loop-id-test.true c.id-item.is e)
+      c.as_u32-id.ensures.bound) k l d;
   left = omega (arith, c.loop-id.invariant.left, c.loop-id-test.true);
   room = omega (arith, c.loop-id.invariant.left, c.loop-id-test.true, c.in_ok-push_in_room.ensures.room);
 }

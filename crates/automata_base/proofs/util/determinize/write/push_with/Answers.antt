@@ -6,12 +6,14 @@ use Rattle.automata_base.proofs.util.determinize.write.push_with.Goals as goal
 pub returns-in_ok-extend_from_slice-in-Some-clause-ok : goal.returns-in_ok-extend_from_slice-in-Some-clause-ok
 returns-in_ok-extend_from_slice-in-Some-clause-ok c =
     let code = c.args.closure.now.code.items in
-    pushed_parts c.args.ids.now c.as_slice-part.result.now code c.args.out.now.items c.push_ids.new.out.items c.extend_from_slice.new.self.items
+    pushed_parts c.args.ids.now c.as_slice-part.result.now code c.args.out.now.items c.push_ids.new.out.items
+    c.extend_from_slice.new.self.items
     c.push_ids-in-Some.new.out.items c.in-Some.start c.index-ids-end.result c.as_u32.result c.push_ids-in-Some.result
     (subst (λ (z : List ℕ). IsRestCode z code) (sym c.as_slice-part.ensures.value) c.requires)
     c.in-Some.ensures.0 c.in-Some.ensures.1 c.index-ids-end.is c.as_u32.ensures.value
     c.in_ok-push_ids-in-Some.ensures.ok
-    (c.in_ok-extend_from_slice-in-Some.ensures.items ∙ ap (λ (z : List ℕ). c.push_ids.new.out.items ++ z) c.as_slice.ensures.value)
+    (c.in_ok-extend_from_slice-in-Some.ensures.items
+    ∙ ap (λ (z : List ℕ). c.push_ids.new.out.items ++ z) c.as_slice.ensures.value)
     c.push_ids-in-Some.ensures.ok
 
 pub returns-in_ok-extend_from_slice-in-Some-clause-ids : goal.returns-in_ok-extend_from_slice-in-Some-clause-ids

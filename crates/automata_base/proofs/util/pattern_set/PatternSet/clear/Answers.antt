@@ -9,7 +9,9 @@ loop-at-preserved c =
     let within : c.loop-at.at < length c.self.inside.which.items = search rules in
     record {
       within = omega arith;
-      flags = ap (λ ys. set ys c.loop-at.at false) c.loop-at.invariant.flags ∙ taken_out c.self.inside.which.items c.loop-at.at within;
+      flags =
+          ap (λ ys. set ys c.loop-at.at false) c.loop-at.invariant.flags
+          ∙ taken_out c.self.inside.which.items c.loop-at.at within;
     }
 
 pub invariant_of-self : goal.invariant_of-self

@@ -19,4 +19,5 @@ invariant_of-self c =
     let absent : get_or c.self.inside.which.items c.as_usize-index.result false ≡ false =
     sym (get_or_read c.self.inside.which.items _ _ within c.index.ensures false) ∙ c.if-index.false
     in
-    set_counted c.self.inside.which.items c.as_usize-index.result c.self.inside.len c.as_usize-index.ensures.bound within absent c.self.invariant
+    set_counted c.self.inside.which.items c.as_usize-index.result c.self.inside.len c.as_usize-index.ensures.bound
+    within absent c.self.invariant

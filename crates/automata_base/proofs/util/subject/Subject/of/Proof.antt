@@ -37,17 +37,22 @@ pub of_spec : {M : Type 1} → statement M
 of_spec 𝓤 𝓛 𝓜 𝓡 wired Y laws =
     let T = f.ended Y in let c = f.clauses Y 𝓛 𝓜.mem 𝓡.returns in let W = walk_of 𝓛 T (stayed Y) c in
     let v : Val = vstruct (vcons (vstruct vnil) vnil) in
-    proved 𝓛 T (stayed Y) c 𝓜 𝓡 (Goes-dropped 𝓛 2 (RefOf (0 ∷ []) tt (plain (λ _. R Y)) (λ _. tt)) yes (λ κs x f. refl), tt)
+    proved 𝓛 T (stayed Y) c 𝓜 𝓡
+    (Goes-dropped 𝓛 2 (RefOf (0 ∷ []) tt (plain (λ _. R Y)) (λ _. tt)) yes (λ κs x f. refl), tt)
     (f.Key.name (layouts (a_type ∷ []) (Y, tt))) (function Y) (code.unfolded 𝓤 𝓛.H 𝓜 𝓡 wired (Y, tt))
     (λ κs. (shr_vals, tt)) (λ κs. (shr_Tells (named 0) κs.0 (R Y), tt)) (λ κs qs bounds a g are.
     let p : Val = vptr a.0.ref_ptr.0 a.0.ref_ptr.1 in
     let y : W.Ghost = ((κs, qs, bounds, a, (p ∷ [], tt)), g) in
     let r : Res T.signature κs = record { marker = record {}; value = a.0.now } in
     let O : Fml = (type_at T.signature.result κs).own_val r (v ∷ []) in
-    qed 𝓛 ((raw (alive 𝓛 T.signature κs qs) ⊛ ‵ (owns (types_at T.signature.params κs) a (p ∷ [], tt))) ∷ raw ((c κs a).requires g) ∷ []) ∵ split ! $ keep ! (0 ∷ []) $
+    qed 𝓛 ((raw (alive 𝓛 T.signature κs qs) ⊛ ‵ (owns (types_at T.signature.params κs) a (p ∷ [], tt)))
+    ∷ raw ((c κs a).requires g) ∷ []) ∵ split ! $ keep ! (0 ∷ []) $
     enter ! _ _ _ _ _ $ alloc_all ! (λ l. pass_all ! refl ((tt, tt), tt) $
-    sets ! (agg ! (no_more !)) refl (tt, tt) $ sets ! (agg ! (and_then ! (get ! refl) (no_more !))) refl (tt, (tt, tt)) $
+    sets ! (agg ! (no_more !)) refl (tt, tt) $ sets ! (agg ! (and_then ! (get ! refl) (no_more !))) refl (tt, (tt, tt))
+    $
     returns ! (look_at ! 0 refl) $ free_all ! refl $
-    use0 𝓛 (‵ O) (makes_shadow 𝓛 O ((λ vss. (tt, ((λ uss. (tt, tt)), tt))), tt) (((vstruct vnil ∷ [], tt), (refl, ((tt, (refl, tt)), tt))), tt)) $
+    use0 𝓛 (‵ O)
+    (makes_shadow 𝓛 O ((λ vss. (tt, ((λ uss. (tt, tt)), tt))), tt)
+    (((vstruct vnil ∷ [], tt), (refl, ((tt, (refl, tt)), tt))), tt)) $
     suffices ! _ (ends_at 𝓛 T (stayed Y) c y v r (tt, tt) (tt, tt)) $ says ! refl $
     nothing ! $ nothing ! $ fjoin ! $ join ! $ move ! (1 ∷ 0 ∷ []) $ join ! $ done !))

@@ -30,7 +30,8 @@ returns-in_err-found-clause-effect c =
     let error = ap result_err (is_err c.from_residual.result _ c.from_residual.ensures.1) in
     record {
       run = inl (
-        subst (IsSpanRun c.args.self.now c.args.input.now c.args.cache.now c.try_search.new.cache) (sym error) c.in_err-found.ensures.effect,
+        subst (IsSpanRun c.args.self.now c.args.input.now c.args.cache.now c.try_search.new.cache) (sym error)
+        c.in_err-found.ensures.effect,
         λ ok. absurd (some_none (sym error ∙ ok)),
       );
     }
@@ -57,7 +58,8 @@ returns-then-not-is_empty_at-clause-next c =
 pub returns-then-not-is_empty_at-clause-goes_on : goal.returns-then-not-is_empty_at-clause-goes_on
 returns-then-not-is_empty_at-clause-goes_on c =
     goes_first c.args.self.now c.args.input.now c.args.last c.in-Some.found
-    (some_of c.in_ok-found.field-0 c.in-Some.found (MatchLiesIn c.args.self.now c.args.input.now) c.in_ok-found.ensures.returned.within c.in-Some.is) (c.if-not-is_empty_at.ensures.no refl)
+    (some_of c.in_ok-found.field-0 c.in-Some.found (MatchLiesIn c.args.self.now c.args.input.now)
+    c.in_ok-found.ensures.returned.within c.in-Some.is) (c.if-not-is_empty_at.ensures.no refl)
 
 pub returns-then-not-is_empty_at-clause-effect : goal.returns-then-not-is_empty_at-clause-effect
 returns-then-not-is_empty_at-clause-effect c =
@@ -65,19 +67,24 @@ returns-then-not-is_empty_at-clause-effect c =
       run = inl (
         c.in_ok-found.ensures.effect,
         λ ok. stands_some c.matches_agree.ensures c.args.self.now c.args.input.now c.args.last c.in-Some.found
-            (subst (FindsMatch c.args.self.now c.args.input.now) c.in-Some.is c.in_ok-found.ensures.found) (c.if-not-is_empty_at.ensures.no refl),
+            (subst (FindsMatch c.args.self.now c.args.input.now) c.in-Some.is c.in_ok-found.ensures.found)
+            (c.if-not-is_empty_at.ensures.no refl),
       );
     }
 
 pub overflow_add-start : goal.overflow_add-start
 overflow_add-start c =
-    let lies = some_of c.in_ok-found.field-0 c.in-Some.found (MatchLiesIn c.args.self.now c.args.input.now) c.in_ok-found.ensures.returned.within c.in-Some.is in
+    let lies =
+    some_of c.in_ok-found.field-0 c.in-Some.found (MatchLiesIn c.args.self.now c.args.input.now)
+    c.in_ok-found.ensures.returned.within c.in-Some.is in
     let few = c.haystack-haystack.ensures.within.1 in
     omega (arith, lies.0, lies.1, lies.2, few, c.haystack-haystack.ensures.bound, c.start.ensures.start)
 
 pub from-rest-requires : goal.from-rest-requires
 from-rest-requires c =
-    let lies = some_of c.in_ok-found.field-0 c.in-Some.found (MatchLiesIn c.args.self.now c.args.input.now) c.in_ok-found.ensures.returned.within c.in-Some.is in
+    let lies =
+    some_of c.in_ok-found.field-0 c.in-Some.found (MatchLiesIn c.args.self.now c.args.input.now)
+    c.in_ok-found.ensures.returned.within c.in-Some.is in
     let few = c.haystack-haystack.ensures.within.1 in
     (omega (arith, lies.0, lies.1, lies.2, c.start.ensures.start), few)
 
@@ -85,26 +92,33 @@ pub returns-clause-next : goal.returns-clause-next
 returns-clause-next c =
     let found = subst (FindsMatch c.args.self.now c.args.input.now) c.in-Some.is c.in_ok-found.ensures.found in
     let place : c.start.result + 1 ≡ suc c.args.input.now.start = omega (arith, c.start.ensures.start) in
-    let rest : c.from-rest.result ≡ from (suc c.args.input.now.start) c.args.input.now = c.from-rest.ensures ∙ ap (λ n. from n c.args.input.now) place in
-    next_later c.args.self.now c.args.input.now c.args.last c.in-Some.found found (c.if-not-is_empty_at.ensures.yes refl) c.try_search-2.result
+    let rest : c.from-rest.result ≡ from (suc c.args.input.now.start) c.args.input.now =
+    c.from-rest.ensures ∙ ap (λ n. from n c.args.input.now) place in
+    next_later c.args.self.now c.args.input.now c.args.last c.in-Some.found found
+    (c.if-not-is_empty_at.ensures.yes refl) c.try_search-2.result
     (subst (λ (i : Input). IfOk c.try_search-2.result (FindsMatch c.args.self.now i)) rest c.try_search-2.ensures.found)
 
 pub returns-clause-goes_on : goal.returns-clause-goes_on
 returns-clause-goes_on c =
     let place : c.start.result + 1 ≡ suc c.args.input.now.start = omega (arith, c.start.ensures.start) in
-    let rest : c.from-rest.result ≡ from (suc c.args.input.now.start) c.args.input.now = c.from-rest.ensures ∙ ap (λ n. from n c.args.input.now) place in
+    let rest : c.from-rest.result ≡ from (suc c.args.input.now.start) c.args.input.now =
+    c.from-rest.ensures ∙ ap (λ n. from n c.args.input.now) place in
     goes_later c.args.self.now c.args.input.now c.args.last c.try_search-2.result
-    (subst (λ (i : Input). IfOk c.try_search-2.result (λ o. IfSome o (MatchLiesIn c.args.self.now i))) rest c.try_search-2.ensures.returned.within)
+    (subst (λ (i : Input). IfOk c.try_search-2.result (λ o. IfSome o (MatchLiesIn c.args.self.now i))) rest
+    c.try_search-2.ensures.returned.within)
 
 pub returns-clause-ahead : goal.returns-clause-ahead
 returns-clause-ahead c =
-    let lies = some_of c.in_ok-found.field-0 c.in-Some.found (MatchLiesIn c.args.self.now c.args.input.now) c.in_ok-found.ensures.returned.within c.in-Some.is in
+    let lies =
+    some_of c.in_ok-found.field-0 c.in-Some.found (MatchLiesIn c.args.self.now c.args.input.now)
+    c.in_ok-found.ensures.returned.within c.in-Some.is in
     on_err c.try_search-2.result _ (omega (arith, lies.0, lies.1, lies.2))
 
 pub returns-clause-effect : goal.returns-clause-effect
 returns-clause-effect c =
     let place : c.start.result + 1 ≡ suc c.args.input.now.start = omega (arith, c.start.ensures.start) in
-    let rest : c.from-rest.result ≡ from (suc c.args.input.now.start) c.args.input.now = c.from-rest.ensures ∙ ap (λ n. from n c.args.input.now) place in
+    let rest : c.from-rest.result ≡ from (suc c.args.input.now.start) c.args.input.now =
+    c.from-rest.ensures ∙ ap (λ n. from n c.args.input.now) place in
     let found = subst (FindsMatch c.args.self.now c.args.input.now) c.in-Some.is c.in_ok-found.ensures.found in
     record {
       run = inr (
@@ -112,7 +126,8 @@ returns-clause-effect c =
         (
           c.try_search.new.cache,
           c.in_ok-found.ensures.effect,
-          subst (λ (i : Input). IsSpanRun c.args.self.now i c.try_search.new.cache c.try_search-2.new.cache (result_err c.try_search-2.result)) rest c.try_search-2.ensures.effect,
+          subst (λ (i : Input). IsSpanRun c.args.self.now i c.try_search.new.cache c.try_search-2.new.cache
+          (result_err c.try_search-2.result)) rest c.try_search-2.ensures.effect,
         ),
       );
     }

@@ -27,7 +27,9 @@ pub returns-in_err-front-clause-reported : goal.returns-in_err-front-clause-repo
 returns-in_err-front-clause-reported c = record {
   found = if_ok c.from_residual.result _ _ c.from_residual.ensures.1;
   within = if_ok c.from_residual.result _ _ c.from_residual.ensures.1;
-  unsupported = λ u. is_err c.from_residual.result _ c.from_residual.ensures.1 ∙ ap (λ (e : SearchError). Err e) (same_err (c.in_err-front.ensures.based.unsupported u));
+  unsupported =
+      λ u. is_err c.from_residual.result _ c.from_residual.ensures.1
+      ∙ ap (λ (e : SearchError). Err e) (same_err (c.in_err-front.ensures.based.unsupported u));
   done = λ past. absurd (err_ok (c.in_err-front.ensures.based.done past));
 }
 
@@ -36,7 +38,8 @@ returns-in_err-front-clause-effect c =
     let error = ap result_err (is_err c.from_residual.result _ c.from_residual.ensures.1) in
     record {
       run = inl (
-        subst (IsSearchRun Forward c.args.self.now.forward c.args.input.now (known_of c.args.cache.now.forward) (known_of c.try_search_fwd_base.new.cache)) (sym error) c.in_err-front.ensures.effect,
+        subst (IsSearchRun Forward c.args.self.now.forward c.args.input.now (known_of c.args.cache.now.forward)
+        (known_of c.try_search_fwd_base.new.cache)) (sym error) c.in_err-front.ensures.effect,
         refl,
         λ ok. absurd (some_none (sym error ∙ ok)),
       );
@@ -48,7 +51,9 @@ returns-in_default-clause-of c =
 
 pub returns-in_default-clause-reported : goal.returns-in_default-clause-reported
 returns-in_default-clause-reported c = record {
-  found = front_none c.args.self.now.forward c.args.input.now c.in_ok-front.field-0 c.in_ok-front.ensures.found c.in_default.is;
+  found =
+      front_none c.args.self.now.forward c.args.input.now c.in_ok-front.field-0 c.in_ok-front.ensures.found
+      c.in_default.is;
   within = search rules;
   unsupported = λ u. absurd (ok_err (c.in_ok-front.ensures.based.unsupported u));
   done = λ past. refl;
@@ -57,7 +62,9 @@ returns-in_default-clause-reported c = record {
 pub returns-in_default-clause-effect : goal.returns-in_default-clause-effect
 returns-in_default-clause-effect c =
     record {
-      run = inl (c.in_ok-front.ensures.effect, refl, λ ok. front_none c.args.self.now.forward c.args.input.now c.in_ok-front.field-0 c.in_ok-front.ensures.found c.in_default.is);
+      run =
+          inl (c.in_ok-front.ensures.effect, refl, λ ok. front_none c.args.self.now.forward c.args.input.now
+          c.in_ok-front.field-0 c.in_ok-front.ensures.found c.in_default.is);
     }
 
 pub find_start-requires-clause-of : goal.find_start-requires-clause-of
@@ -66,7 +73,8 @@ find_start-requires-clause-of c =
 
 pub find_start-requires-clause-past : goal.find_start-requires-clause-past
 find_start-requires-clause-past c =
-    some_of c.in_ok-front.field-0 c.in-Some.front (λ p. LiesPast c.args.self.now.forward c.args.input.now p.0 p.1) c.in_ok-front.ensures.based.within c.in-Some.is
+    some_of c.in_ok-front.field-0 c.in-Some.front (λ p. LiesPast c.args.self.now.forward c.args.input.now p.0 p.1)
+    c.in_ok-front.ensures.based.within c.in-Some.is
 
 pub returns-in_err-start-clause-of : goal.returns-in_err-start-clause-of
 returns-in_err-start-clause-of c =
@@ -86,10 +94,13 @@ returns-in_err-start-clause-effect c =
       run = inr (record {
         front = c.in_ok-front.ensures.effect;
         half = with_base c.in-Some.front.0 c.in-Some.front.1;
-        found = front_some c.args.self.now.forward c.args.input.now c.in_ok-front.field-0 c.in-Some.front.0 c.in-Some.front.1 c.in_ok-front.ensures.found c.in-Some.is;
+        found =
+            front_some c.args.self.now.forward c.args.input.now c.in_ok-front.field-0 c.in-Some.front.0
+            c.in-Some.front.1 c.in_ok-front.ensures.found c.in-Some.is;
         failed = Some c.in_err-start.field-0.0;
         back = c.in_err-start.ensures.effect;
-        told = inl (ap result_err (is_err c.from_residual-in_err-start.result _ c.from_residual-in_err-start.ensures.1));
+        told =
+            inl (ap result_err (is_err c.from_residual-in_err-start.result _ c.from_residual-in_err-start.ensures.1));
       });
     }
 
@@ -111,16 +122,23 @@ returns-in_default-2-clause-effect c =
       run = inr (record {
         front = c.in_ok-front.ensures.effect;
         half = with_base c.in-Some.front.0 c.in-Some.front.1;
-        found = front_some c.args.self.now.forward c.args.input.now c.in_ok-front.field-0 c.in-Some.front.0 c.in-Some.front.1 c.in_ok-front.ensures.found c.in-Some.is;
+        found =
+            front_some c.args.self.now.forward c.args.input.now c.in_ok-front.field-0 c.in-Some.front.0
+            c.in-Some.front.1 c.in_ok-front.ensures.found c.in-Some.is;
         failed = None;
         back = c.in_ok-start.ensures.effect;
-        told = inr (refl, subst (IsStartFound c.args.self.now c.args.input.now (with_base c.in-Some.front.0 c.in-Some.front.1)) c.in_default-2.is c.in_ok-start.ensures.found, refl);
+        told =
+            inr (refl, subst
+            (IsStartFound c.args.self.now c.args.input.now (with_base c.in-Some.front.0 c.in-Some.front.1))
+            c.in_default-2.is c.in_ok-start.ensures.found, refl);
       });
     }
 
 pub new-requires : goal.new-requires
 new-requires c =
-    subst (λ n. c.in-Some-2.start ≤ n) (sym c.offset.ensures) (start_within (c.in-Some.front.1) (c.in-Some.front.0.offset) c.in_ok-start.field-0 c.in-Some-2.start c.in_ok-start.ensures.within c.in-Some-2.is).1
+    subst (λ n. c.in-Some-2.start ≤ n) (sym c.offset.ensures)
+    (start_within (c.in-Some.front.1) (c.in-Some.front.0.offset) c.in_ok-start.field-0 c.in-Some-2.start
+    c.in_ok-start.ensures.within c.in-Some-2.is).1
 
 pub returns-clause-of : goal.returns-clause-of
 returns-clause-of c =
@@ -128,9 +146,20 @@ returns-clause-of c =
 
 pub returns-clause-reported : goal.returns-clause-reported
 returns-clause-reported c = record {
-  found = match_of c.args.self.now c.args.input.now (with_base c.in-Some.front.0 c.in-Some.front.1) c.in-Some-2.start c.offset.result c.pattern.result c.new.result (front_some c.args.self.now.forward c.args.input.now c.in_ok-front.field-0 c.in-Some.front.0 c.in-Some.front.1 c.in_ok-front.ensures.found c.in-Some.is) (subst (IsStartFound c.args.self.now c.args.input.now (with_base c.in-Some.front.0 c.in-Some.front.1)) c.in-Some-2.is c.in_ok-start.ensures.found) c.pattern.ensures c.offset.ensures c.new.ensures;
-  within = match_within c.args.self.now c.args.input.now c.in-Some.front.0 c.in-Some.front.1 c.in-Some-2.start c.offset.result c.pattern.result c.new.result (some_of c.in_ok-front.field-0 c.in-Some.front (λ p. LiesPast c.args.self.now.forward c.args.input.now p.0 p.1) c.in_ok-front.ensures.based.within c.in-Some.is)
-      (start_within (c.in-Some.front.1) (c.in-Some.front.0.offset) c.in_ok-start.field-0 c.in-Some-2.start c.in_ok-start.ensures.within c.in-Some-2.is) c.pattern.ensures c.offset.ensures c.new.ensures;
+  found =
+      match_of c.args.self.now c.args.input.now (with_base c.in-Some.front.0 c.in-Some.front.1) c.in-Some-2.start
+      c.offset.result c.pattern.result c.new.result
+      (front_some c.args.self.now.forward c.args.input.now c.in_ok-front.field-0 c.in-Some.front.0 c.in-Some.front.1
+      c.in_ok-front.ensures.found c.in-Some.is)
+      (subst (IsStartFound c.args.self.now c.args.input.now (with_base c.in-Some.front.0 c.in-Some.front.1))
+      c.in-Some-2.is c.in_ok-start.ensures.found) c.pattern.ensures c.offset.ensures c.new.ensures;
+  within =
+      match_within c.args.self.now c.args.input.now c.in-Some.front.0 c.in-Some.front.1 c.in-Some-2.start
+      c.offset.result c.pattern.result c.new.result
+      (some_of c.in_ok-front.field-0 c.in-Some.front (λ p. LiesPast c.args.self.now.forward c.args.input.now p.0 p.1)
+      c.in_ok-front.ensures.based.within c.in-Some.is)
+      (start_within (c.in-Some.front.1) (c.in-Some.front.0.offset) c.in_ok-start.field-0 c.in-Some-2.start
+      c.in_ok-start.ensures.within c.in-Some-2.is) c.pattern.ensures c.offset.ensures c.new.ensures;
   unsupported = λ u. absurd (ok_err (c.in_ok-front.ensures.based.unsupported u));
   done = λ past. absurd (some_none (sym c.in-Some.is ∙ same_ok (c.in_ok-front.ensures.based.done past)));
 }
@@ -141,7 +170,9 @@ returns-clause-effect c =
       run = inr (record {
         front = c.in_ok-front.ensures.effect;
         half = with_base c.in-Some.front.0 c.in-Some.front.1;
-        found = front_some c.args.self.now.forward c.args.input.now c.in_ok-front.field-0 c.in-Some.front.0 c.in-Some.front.1 c.in_ok-front.ensures.found c.in-Some.is;
+        found =
+            front_some c.args.self.now.forward c.args.input.now c.in_ok-front.field-0 c.in-Some.front.0
+            c.in-Some.front.1 c.in_ok-front.ensures.found c.in-Some.is;
         failed = None;
         back = c.in_ok-start.ensures.effect;
         told = inl refl;

@@ -17,18 +17,23 @@ returns-clause-returned c =
     let s = c.search.ensures in
     let front = subst (λ (a : Automaton). ReportedIsRight a) c.get_nfa.ensures c.reported_is_right.ensures.answer in
     let rear = subst (λ (a : Automaton). ReportedIsRight a) c.get_nfa-2.ensures c.reported_is_right-2.ensures.answer in
-    let ends = subst (λ (a : Automaton). ReportedEndsAreRight a) c.get_nfa-2.ensures c.reported_is_right-2.ensures.ends in
+    let ends =
+    subst (λ (a : Automaton). ReportedEndsAreRight a) c.get_nfa-2.ensures c.reported_is_right-2.ensures.ends in
     span_returned c.args.self.now c.args.input.now c.search.result c.args.cache.now c.search.new.cache
     s.reported
     (λ cycles. IfOk-weaker c.search.result _ _
-    (λ o found. outcome_right c.args.self.now front rear c.args.input.now (Found o) cycles (c.haystack-haystack.ensures.bytes, c.haystack-haystack.ensures.within.1) found)
+    (λ o found. outcome_right c.args.self.now front rear c.args.input.now (Found o) cycles
+    (c.haystack-haystack.ensures.bytes, c.haystack-haystack.ensures.within.1) found)
     s.reported.found)
     (λ sound. IfOk-weaker c.search.result _ _
-    (match_right c.args.self.now front ends c.start_is_right.ensures.starts sound c.args.input.now (c.haystack-haystack.ensures.bytes, c.haystack-haystack.ensures.within.1))
+    (match_right c.args.self.now front ends c.start_is_right.ensures.starts sound c.args.input.now
+    (c.haystack-haystack.ensures.bytes, c.haystack-haystack.ensures.within.1))
     s.reported.found)
-    (refusals c.args.self.now front rear ends c.start_is_right.ensures.starts c.start_is_right.ensures.quits c.args.cache.now c.search.new.cache c.args.input.now
+    (refusals c.args.self.now front rear ends c.start_is_right.ensures.starts c.start_is_right.ensures.quits
+    c.args.cache.now c.search.new.cache c.args.input.now
     (c.haystack-haystack.ensures.bytes, c.haystack-haystack.ensures.within.1) (result_err c.search.result)
-    (span_refused c.args.self.now c.args.input.now c.args.cache.now c.search.new.cache (result_err c.search.result) s.effect.run))
+    (span_refused c.args.self.now c.args.input.now c.args.cache.now c.search.new.cache (result_err c.search.result)
+    s.effect.run))
 
 pub returns-clause-found : goal.returns-clause-found
 returns-clause-found c = c.search.ensures.reported.found

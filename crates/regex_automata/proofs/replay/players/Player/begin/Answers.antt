@@ -8,13 +8,20 @@ use Rattle.regex_automata.specs.declared.replay.walks.KeptWalk.{KeptWalk}
 use Rattle.regex_automata.proofs.replay.players.Player.begin.Goals as goal
 
 pub returns-clause-reply : goal.returns-clause-reply
-returns-clause-reply c = λ h a. is_own _ h _ _ _ a.regex refl (c.len-number.ensures ∙ c.args.self.now.walks.ok.0 ∙ length-walks _ _ _ a.walks)
+returns-clause-reply c =
+    λ h a. is_own _ h _ _ _ a.regex refl
+    (c.len-number.ensures ∙ c.args.self.now.walks.ok.0 ∙ length-walks _ _ _ a.walks)
 
 pub returns-clause-at : goal.returns-clause-at
 returns-clause-at c = λ h a. record {
   current = a.current;
   regex = a.regex;
   of = a.of;
-  walks = subst (λ (ks : List KeptWalk). AreWalks c.args.self.now.regexes.now (h.walks ++ record { regex = h.current; way = c.args.way; input = c.args.input.now; reported = 0 } ∷ []) ks) (sym c.in-Ok.ensures.items)
-      (walks_push c.args.self.now.regexes.now h.walks c.args.self.now.walks.items _ _ a.walks (record { regex = a.current; way = refl; input = c.copied.ensures; reported = λ r at. fresh_answered c.args.way (dfa_of c.args.way r) c.copied.result c.start.result c.start.ensures }));
+  walks =
+      subst (λ (ks : List KeptWalk). AreWalks c.args.self.now.regexes.now
+      (h.walks ++ record { regex = h.current; way = c.args.way; input = c.args.input.now; reported = 0 } ∷ []) ks)
+      (sym c.in-Ok.ensures.items)
+      (walks_push c.args.self.now.regexes.now h.walks c.args.self.now.walks.items _ _ a.walks
+      (record { regex = a.current; way = refl; input = c.copied.ensures; reported = λ r at. fresh_answered c.args.way
+      (dfa_of c.args.way r) c.copied.result c.start.result c.start.ensures }));
 }

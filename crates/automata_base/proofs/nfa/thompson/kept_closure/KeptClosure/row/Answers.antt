@@ -11,4 +11,5 @@ returns-then-byte-len c =
     let len : c.len.result ≡ length rows = c.len.ensures ∙ c.args.self.now.rows.ok.0 in
     subst (λ (z : List ℕ). AreTargets (nfa_of c.args.nfa.now) kept c.args.u z) (sym c.as_slice.ensures.value)
     (row_read (nfa_of c.args.nfa.now) kept rows c.args.u c.index.result.now c.requires.rows
-    (omega (arith, c.if-byte-len.true, len, c.from-byte.ensures)) (c.index.ensures ∙ ap (λ z. get_or rows z c.index.result.now) c.from-byte.ensures))
+    (omega (arith, c.if-byte-len.true, len, c.from-byte.ensures))
+    (c.index.ensures ∙ ap (λ z. get_or rows z c.index.result.now) c.from-byte.ensures))

@@ -4,6 +4,8 @@ use Rattle.automata_base.proofs.nfa.thompson.turn.EdgesByTarget.turn_all.Given a
 
 abbrev pub invariant-loop-to : goal.invariant-loop-to
 invariant-loop-to l = record {
-  rest : turn_all (turns_of l.self) l.from (drop l.to-index l.alternates) ≡ turn_all (turns_of l.fn.self) l.from l.alternates;
+  rest :
+      turn_all (turns_of l.self) l.from (drop l.to-index l.alternates)
+      ≡ turn_all (turns_of l.fn.self) l.from l.alternates;
   few : length l.self.lists.items ≡ length l.fn.self.lists.items;
 }

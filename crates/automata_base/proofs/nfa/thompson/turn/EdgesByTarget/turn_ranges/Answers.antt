@@ -9,7 +9,8 @@ use Rattle.automata_base.proofs.nfa.thompson.turn.EdgesByTarget.turn_ranges.Goal
 pub turn_range-requires : goal.turn_range-requires
 turn_range-requires c =
     next_below _ c.args.ranges.now c.loop-range.range-index c.range-item.result
-    (ap (λ z. transitions_below z c.args.ranges.now) c.loop-range.invariant.few ∙ c.requires) c.loop-range-test.true c.range-item.is
+    (ap (λ z. transitions_below z c.args.ranges.now) c.loop-range.invariant.few ∙ c.requires) c.loop-range-test.true
+    c.range-item.is
 
 pub returns-in_err-turn_range-clause-large : goal.returns-in_err-turn_range-clause-large
 returns-in_err-turn_range-clause-large c = λ e.

@@ -4,6 +4,8 @@ use Rattle.automata_base.proofs.nfa.thompson.turn.EdgesByTarget.turn_ranges.Give
 
 abbrev pub invariant-loop-range : goal.invariant-loop-range
 invariant-loop-range l = record {
-  rest : turn_ranges (turns_of l.self) l.from (drop l.range-index l.ranges) ≡ turn_ranges (turns_of l.fn.self) l.from l.ranges;
+  rest :
+      turn_ranges (turns_of l.self) l.from (drop l.range-index l.ranges)
+      ≡ turn_ranges (turns_of l.fn.self) l.from l.ranges;
   few : length l.self.lists.items ≡ length l.fn.self.lists.items;
 }

@@ -4,6 +4,7 @@ use Rattle.automata_base.proofs.nfa.thompson.turn.EdgesByTarget.turn_states.Give
 
 abbrev pub invariant-loop-id : goal.invariant-loop-id
 invariant-loop-id l = record {
-  rest : turn_states (turns_of l.self) l.states (drop l.id-index l.ids) ≡ turn_states (turns_of l.fn.self) l.states l.ids;
+  rest :
+      turn_states (turns_of l.self) l.states (drop l.id-index l.ids) ≡ turn_states (turns_of l.fn.self) l.states l.ids;
   few : length l.self.lists.items ≡ length l.states;
 }

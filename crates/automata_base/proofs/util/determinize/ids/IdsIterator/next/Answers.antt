@@ -28,7 +28,8 @@ id_from-id-requires-clause-fits c =
     let l : 0 < length c.self.inside.rest.now = search rules in
     let r = reads c.self.inside.before c.self.inside.rest.now c.self.invariant l in
     let h = c.number_in-difference.ensures r.number r.tail r.front in
-    let i : IsId (id_at c.self.inside.before c.number_in-difference.result.0) = subst (λ (z : ℕ). IsId (id_at c.self.inside.before z)) (sym h.0) r.is_id in
+    let i : IsId (id_at c.self.inside.before c.number_in-difference.result.0) =
+    subst (λ (z : ℕ). IsId (id_at c.self.inside.before z)) (sym h.0) r.is_id in
     omega (arith, i)
 
 pub invariant_of-self : goal.invariant_of-self
@@ -44,9 +45,12 @@ returns-clause-steps c =
     let l : 0 < length c.self.inside.rest.now = search rules in
     let r = reads c.self.inside.before c.self.inside.rest.now c.self.invariant l in
     let h = c.number_in-difference.ensures r.number r.tail r.front in
-    let i : c.id_from-id.result ≡ id_at c.self.inside.before r.number = c.id_from-id.ensures ∙ ap (id_at c.self.inside.before) h.0 in
-    sym c.self.view_is ∙ r.items ∙ ap (λ (x : ℕ). x ∷ ids_of x (numbers r.tail)) (sym i) ∙ ap (λ (x : List ℕ). c.id_from-id.result ∷ ids_of c.id_from-id.result (numbers x)) (sym h.1)
-    ∙ ap (λ (x : ℕ). x ∷ ids_of c.id_from-id.result (numbers c.number_in-difference.result.1.now)) (sym c.new_unchecked.ensures)
+    let i : c.id_from-id.result ≡ id_at c.self.inside.before r.number =
+    c.id_from-id.ensures ∙ ap (id_at c.self.inside.before) h.0 in
+    sym c.self.view_is ∙ r.items ∙ ap (λ (x : ℕ). x ∷ ids_of x (numbers r.tail)) (sym i)
+    ∙ ap (λ (x : List ℕ). c.id_from-id.result ∷ ids_of c.id_from-id.result (numbers x)) (sym h.1)
+    ∙ ap (λ (x : ℕ). x ∷ ids_of c.id_from-id.result (numbers c.number_in-difference.result.1.now))
+    (sym c.new_unchecked.ensures)
 
 pub returns-clause-goes : goal.returns-clause-goes
 returns-clause-goes c = record {

@@ -9,7 +9,8 @@ use Rattle.automata_base.proofs.util.determinize.made.MadeState.list_states.Goal
 pub returns-then-eq : goal.returns-then-eq
 returns-then-eq c =
     let same : c.as_bytes.result.now ≡ c.as_slice.result.now =
-    (slice_eq-Decides unsigned_Decides c.as_bytes.result.now c.as_slice.result.now c.eq.result c.eq.ensures).0 c.if-eq.true in
+    (slice_eq-Decides unsigned_Decides c.as_bytes.result.now c.as_slice.result.now c.eq.result c.eq.ensures).0
+    c.if-eq.true in
     sym c.requires
     ∙ ap (λ bytes. (decoded bytes).nfa) (sym c.as_slice.ensures.value ∙ (sym same ∙ c.as_bytes.ensures.bytes))
     ∙ ap (λ (q : Powerset). q.nfa) (decoded-code c.args.from.now c.as_bytes.ensures.state)

@@ -6,4 +6,5 @@ use Rattle.automata_base.proofs.util.determinize.made.MadeState.room.Goals as go
 pub returns : goal.returns
 unfolding ids_of numbers
 returns c =
-    subst ListsItsStates (sym c.in_ok-made.ensures.ok) (ap (λ bytes. (decoded bytes).nfa) c.in_ok-bytes.ensures.items ∙ sym c.in_ok-nfa.ensures.items)
+    subst ListsItsStates (sym c.in_ok-made.ensures.ok)
+    (ap (λ bytes. (decoded bytes).nfa) c.in_ok-bytes.ensures.items ∙ sym c.in_ok-nfa.ensures.items)

@@ -7,7 +7,8 @@ use Rattle.automata_base.proofs.util.determinize.sparse_set.SparseSet.append.Goa
 pub put_from-requires : goal.put_from-requires
 put_from-requires c =
     let fits : c.self.inside.len + length c.args.list.now ≤ length c.self.inside.dense.items =
-    set_fits c.self.inside c.args.self.now c.args.list.now c.self.invariant c.self.view_is c.requires.below c.requires.distinct c.requires.new in
+    set_fits c.self.inside c.args.self.now c.args.list.now c.self.invariant c.self.view_is c.requires.below
+    c.requires.distinct c.requires.new in
     search (rules, fits)
 
 pub loop-i-init : goal.loop-i-init
@@ -18,15 +19,19 @@ loop-i-init c =
       taken = taken;
       long = long;
       same = c.self.invariant.same ∙ ap (λ (m : Members). m.capacity) c.self.view_is;
-      back = set_init c.self.inside c.args.self.now c.args.list.now c.self.invariant c.self.view_is c.requires.below c.requires.distinct c.requires.new
+      back =
+          set_init c.self.inside c.args.self.now c.args.list.now c.self.invariant c.self.view_is c.requires.below
+          c.requires.distinct c.requires.new
           c.put_from.new.out.items taken long;
     }
 
 pub index_mut-requires : goal.index_mut-requires
 index_mut-requires c =
     let low =
-    set_id c.self.inside c.args.self.now c.args.list.now c.self.invariant c.self.view_is c.requires.below c.requires.distinct c.requires.new
-    c.loop-i.self-inside.dense.items c.loop-i.invariant.taken c.loop-i.invariant.long c.loop-i.i c.index-id.result.now c.loop-i-test.true c.index-id.ensures in
+    set_id c.self.inside c.args.self.now c.args.list.now c.self.invariant c.self.view_is c.requires.below
+    c.requires.distinct c.requires.new
+    c.loop-i.self-inside.dense.items c.loop-i.invariant.taken c.loop-i.invariant.long c.loop-i.i c.index-id.result.now
+    c.loop-i-test.true c.index-id.ensures in
     let long = c.loop-i.self-inside.sparse.ok.0 in
     omega (arith, low, long, c.loop-i.invariant.same, c.as_usize.ensures.value)
 
@@ -39,21 +44,28 @@ loop-i-preserved c =
       long = c.loop-i.invariant.long;
       same = length-set sparse c.as_usize.result c.loop-i.i ∙ c.loop-i.invariant.same;
       back =
-          subst (λ z. (k : ℕ) → k < c.loop-i.i + 1 → get_or (set sparse z c.loop-i.i) (get_or dense k 0) 0 ≡ k) (sym c.as_usize.ensures.value)
-          (set_next c.self.inside c.args.self.now c.args.list.now c.self.invariant c.self.view_is c.requires.below c.requires.distinct c.requires.new
-          dense c.loop-i.invariant.taken c.loop-i.invariant.long sparse c.loop-i.i c.index-id.result.now c.loop-i-test.true c.index-id.ensures
+          subst (λ z. (k : ℕ) → k < c.loop-i.i + 1 → get_or (set sparse z c.loop-i.i) (get_or dense k 0) 0 ≡ k)
+          (sym c.as_usize.ensures.value)
+          (set_next c.self.inside c.args.self.now c.args.list.now c.self.invariant c.self.view_is c.requires.below
+          c.requires.distinct c.requires.new
+          dense c.loop-i.invariant.taken c.loop-i.invariant.long sparse c.loop-i.i c.index-id.result.now
+          c.loop-i-test.true c.index-id.ensures
           c.loop-i.invariant.same c.loop-i.invariant.back);
     }
 
 pub invariant_of-self : goal.invariant_of-self
 invariant_of-self c =
-    let fits = set_fits c.self.inside c.args.self.now c.args.list.now c.self.invariant c.self.view_is c.requires.below c.requires.distinct c.requires.new in
+    let fits =
+    set_fits c.self.inside c.args.self.now c.args.list.now c.self.invariant c.self.view_is c.requires.below
+    c.requires.distinct c.requires.new in
     let view = ap (λ (m : Members). m.capacity) c.self.view_is in
     record {
       within = omega (arith, fits, view, c.loop-i.invariant.long);
       same = c.loop-i.invariant.same ∙ sym c.loop-i.invariant.long;
       small = omega (arith, view, c.loop-i.invariant.long, c.self.invariant.small);
-      below = set_below c.self.inside c.args.self.now c.args.list.now c.self.invariant c.self.view_is c.requires.below c.requires.distinct c.requires.new
+      below =
+          set_below c.self.inside c.args.self.now c.args.list.now c.self.invariant c.self.view_is c.requires.below
+          c.requires.distinct c.requires.new
           c.loop-i.self-inside.dense.items c.loop-i.invariant.taken c.loop-i.invariant.long;
       back = λ k l. c.loop-i.invariant.back k (omega (arith, l, c.loop-i-test.false));
     }

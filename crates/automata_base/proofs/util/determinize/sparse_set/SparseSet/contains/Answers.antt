@@ -8,13 +8,15 @@ use Rattle.automata_base.proofs.util.determinize.sparse_set.SparseSet.contains.G
 pub returns-then-i-self-clause-had : goal.returns-then-i-self-clause-had
 returns-then-i-self-clause-had c = λ t.
     subst (λ (m : Members). In c.args.id m.items) c.self.view_is
-    (is_member c.self.inside c.self.invariant c.args.id c.as_usize.result c.index.result.now c.index-then-i-self.result.now
+    (is_member c.self.inside c.self.invariant c.args.id c.as_usize.result c.index.result.now
+    c.index-then-i-self.result.now
     c.as_usize.ensures.value c.index.ensures c.if-i-self.true c.index-then-i-self.ensures
     (eqb-true c.index-then-i-self.result.now c.args.id (sym c.eq.ensures ∙ t)))
 
 pub returns-then-i-self-clause-new : goal.returns-then-i-self-clause-new
 returns-then-i-self-clause-new c = λ f i.
-    is_other c.self.inside c.self.invariant c.args.id c.as_usize.result c.index.result.now c.index-then-i-self.result.now
+    is_other c.self.inside c.self.invariant c.args.id c.as_usize.result c.index.result.now
+    c.index-then-i-self.result.now
     c.as_usize.ensures.value c.index.ensures c.index-then-i-self.ensures
     (eqb-false c.index-then-i-self.result.now c.args.id (sym c.eq.ensures ∙ f))
     (subst (λ (m : Members). In c.args.id m.items) (sym c.self.view_is) i)

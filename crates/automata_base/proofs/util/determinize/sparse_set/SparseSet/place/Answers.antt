@@ -8,13 +8,17 @@ use Rattle.automata_base.proofs.util.determinize.sparse_set.SparseSet.place.Goal
 
 pub index-requires : goal.index-requires
 index-requires c =
-    let p = sparse_place c.self.inside c.self.invariant c.args.id (subst (λ (m : Members). In c.args.id m.items) (sym c.self.view_is) c.requires) in
+    let p =
+    sparse_place c.self.inside c.self.invariant c.args.id
+    (subst (λ (m : Members). In c.args.id m.items) (sym c.self.view_is) c.requires) in
     let k = c.self.inside.sparse.ok.0 in
     omega (arith, p.0, k, c.as_usize.ensures.value)
 
 pub returns-clause-place : goal.returns-clause-place
 returns-clause-place c =
-    let p = sparse_place c.self.inside c.self.invariant c.args.id (subst (λ (m : Members). In c.args.id m.items) (sym c.self.view_is) c.requires) in
+    let p =
+    sparse_place c.self.inside c.self.invariant c.args.id
+    (subst (λ (m : Members). In c.args.id m.items) (sym c.self.view_is) c.requires) in
     c.index.ensures
     ∙ (ap (λ z. get_or c.self.inside.sparse.items z c.index.result.now) c.as_usize.ensures.value
     ∙ (get_or_default c.self.inside.sparse.items c.args.id c.index.result.now 0 p.0
@@ -22,7 +26,9 @@ returns-clause-place c =
 
 pub returns-clause-few : goal.returns-clause-few
 returns-clause-few c =
-    let p = sparse_place c.self.inside c.self.invariant c.args.id (subst (λ (m : Members). In c.args.id m.items) (sym c.self.view_is) c.requires) in
+    let p =
+    sparse_place c.self.inside c.self.invariant c.args.id
+    (subst (λ (m : Members). In c.args.id m.items) (sym c.self.view_is) c.requires) in
     let here = returns-clause-place c in
     let k = (at_place c.args.self.now.items c.args.id c.requires).0 in
     omega (arith, here, k)

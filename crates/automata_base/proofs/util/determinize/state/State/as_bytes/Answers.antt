@@ -7,4 +7,6 @@ pub returns-clause-bytes : goal.returns-clause-bytes
 returns-clause-bytes c = c.as_slice.ensures.value ∙ (sym c.self.invariant.same ∙ ap code c.self.view_is)
 
 pub returns-clause-cost : goal.returns-clause-cost
-returns-clause-cost c = omega (arith, ap length (c.as_slice.ensures.value ∙ sym c.self.invariant.same ∙ ap code c.self.view_is), length-code c.args.self.now)
+returns-clause-cost c =
+    omega (arith, ap length (c.as_slice.ensures.value ∙ sym c.self.invariant.same ∙ ap code c.self.view_is), length-code
+    c.args.self.now)

@@ -4,4 +4,7 @@ use Rattle.automata_base.specs.Powersets.Code.{patterns_of}
 use Rattle.automata_base.proofs.util.determinize.state.State.match_len.Goals as goal
 
 pub returns : goal.returns
-returns c = c.pattern_count.ensures ∙ (ap (λ (xs : List ℕ). length (patterns_of xs)) c.as_slice.ensures.value ∙ ap (λ (q : Powerset). length q.patterns) c.self.view_is)
+returns c =
+    c.pattern_count.ensures
+    ∙ (ap (λ (xs : List ℕ). length (patterns_of xs)) c.as_slice.ensures.value
+    ∙ ap (λ (q : Powerset). length q.patterns) c.self.view_is)

@@ -10,7 +10,8 @@ use base.Fraction.{full_share}
 use base.Logic.{SProp, ent, emp, sep}
 use base.Fml.{GName, ftrue, flft, fobs, fbor}
 use types.Logic.{Logic, sem}
-use types.Kit.{‵, raw, ◌⊛◌, some, later, ◌$◌, ◌∵◌, !, qed, by, move, keep, drop, use0, use1, split, split3, join, pick, await, fsplit, fsplit3, fjoin, fjoin3, fpack, feq_i, suffices, group, done}
+use types.Kit.{‵, raw, ◌⊛◌, some, later, ◌$◌, ◌∵◌, !, qed, by, move, keep, drop, use0, use1, split, split3, join, pick}
+use types.Kit.{await, fsplit, fsplit3, fjoin, fjoin3, fpack, feq_i, suffices, group, done}
 use types.Part.{agg}
 use types.Run.{enter, addr, fld, stop, and_then, no_more, returns}
 use types.ByLocal.{alloc_all, pass_all, free_all, look_at, through, get, sets}
@@ -66,19 +67,24 @@ module _ {M : Type 1} {𝓤 : Ura M} (𝓛 : Logic 𝓤) (b o : ℕ) where
   parts_out :
       (x : Cache)
       → ent 𝓤 (sem 𝓛 (part_at the_row full_share x b o))
-      (sep 𝓤 (sem 𝓛 (part_at part full_share x.forward b (first_at o))) (sep 𝓤 (sem 𝓛 (part_at part full_share x.reverse b (second_at o))) Back))
+      (sep 𝓤 (sem 𝓛 (part_at part full_share x.forward b (first_at o)))
+      (sep 𝓤 (sem 𝓛 (part_at part full_share x.reverse b (second_at o))) Back))
   parts_out x =
       qed 𝓛 (‵ (part_at the_row full_share x b o) ∷ []) ∵
-      use1 𝓛 (‵ (one_at full_share members 0 (the_type.to x) b o 0) ⊛ ‵ (rest_at full_share members 0 (the_type.to x) b o 0) ⊛ raw Back)
-      (record_field_out 𝓛 full_share struct.name members Cache the_type.to the_type.to_one (the_field_loose.lawful 𝓛, (the_field_loose.lawful 𝓛, tt)) x b o 0) $
+      use1 𝓛 (‵ (one_at full_share members 0 (the_type.to x) b o 0) ⊛ ‵
+      (rest_at full_share members 0 (the_type.to x) b o 0) ⊛ raw Back)
+      (record_field_out 𝓛 full_share struct.name members Cache the_type.to the_type.to_one
+      (the_field_loose.lawful 𝓛, (the_field_loose.lawful 𝓛, tt)) x b o 0) $
       split3 ! $ move ! (1 ∷ []) $ fsplit ! $ keep ! (2 ∷ 0 ∷ 3 ∷ []) $ done !
 
   parts_in :
       (v w : part.Denot)
-      → ent 𝓤 (sep 𝓤 (sem 𝓛 (part_at part full_share v b (first_at o))) (sep 𝓤 (sem 𝓛 (part_at part full_share w b (second_at o))) Back))
+      → ent 𝓤 (sep 𝓤 (sem 𝓛 (part_at part full_share v b (first_at o)))
+      (sep 𝓤 (sem 𝓛 (part_at part full_share w b (second_at o))) Back))
       (sem 𝓛 (part_at the_row full_share (of_parts v w) b o))
   parts_in v w =
-      qed 𝓛 (‵ (part_at part full_share v b (first_at o)) ∷ ‵ (part_at part full_share w b (second_at o)) ∷ raw Back ∷ []) ∵
+      qed 𝓛 (‵ (part_at part full_share v b (first_at o)) ∷ ‵ (part_at part full_share w b (second_at o)) ∷ raw Back
+      ∷ []) ∵
       nothing ! $ move ! (2 ∷ 0 ∷ []) $ fjoin ! $ move ! (1 ∷ 0 ∷ 2 ∷ []) $
       by ! (record_field_back 𝓛 full_share struct.name members Cache the_type.to the_type.to_one (of_parts v w) b o 0)
 
@@ -92,11 +98,14 @@ as_parts_mut_spec 𝓤 𝓛 𝓜 𝓡 wired =
     proved 𝓛 f.ended stayed c 𝓜 𝓡 (Goes-spent_ref 𝓛 1 (0 ∷ []) tt (plain (λ _. the_row)), tt)
     f.Key.name code.function (code.unfolded 𝓤 𝓛.H 𝓜 𝓡 wired)
     (λ κs. (mut_vals, tt)) (λ κs. (mut_Tells (named 0) κs.0 the_row, tt)) (λ κs qs bounds a g are.
-    let b = a.0.ref_ptr.0 in let o = a.0.ref_ptr.1 in let γ = a.0.ghost_name in let x = a.0.now in let vs = mut_vals a.0 in
+    let b = a.0.ref_ptr.0 in
+    let o = a.0.ref_ptr.1 in let γ = a.0.ghost_name in let x = a.0.now in let vs = mut_vals a.0 in
     let κ = κs.0 in let q = qs.0 in
     let y : W.Ghost = ((κs, qs, bounds, a, (vs, tt)), tt) in
-    let one : GName × GName → MutBor part.Denot = λ γs. record { ref_ptr = (b, first_at o); ghost_name = γs.0; now = x.forward } in
-    let two : GName × GName → MutBor part.Denot = λ γs. record { ref_ptr = (b, second_at o); ghost_name = γs.1; now = x.reverse } in
+    let one : GName × GName → MutBor part.Denot =
+    λ γs. record { ref_ptr = (b, first_at o); ghost_name = γs.0; now = x.forward } in
+    let two : GName × GName → MutBor part.Denot =
+    λ γs. record { ref_ptr = (b, second_at o); ghost_name = γs.1; now = x.reverse } in
     let v : Val = vstruct (vcons (vptr b (first_at o)) (vcons (vptr b (second_at o)) vnil)) in
     let Lent : List RattleType = MutRef (named 0) κ part ∷ MutRef (named 0) κ part ∷ [] in
     qed 𝓛 (((‵ (flft κ q) ⊛ ‵ ftrue) ⊛ ‵ ((MutRef (named 0) κ the_row).own_val a.0 vs) ⊛ ‵ ftrue) ∷ ‵ ftrue ∷ []) ∵
@@ -107,19 +116,25 @@ as_parts_mut_spec 𝓤 𝓛 𝓜 𝓡 wired =
     sets ! (agg ! (and_then ! (get ! refl) (and_then ! (get ! refl) (no_more !)))) refl (tt, (tt, (tt, tt))) $
     fsplit3 ! $ drop ! $ open_ref ! tt (mem the_row) {b = b} {o = o} $
     -- [the whole; the open borrow; obs; auth]
-    use1 𝓛 (‵ (part_at part full_share x.forward b (first_at o)) ⊛ ‵ (part_at part full_share x.reverse b (second_at o)) ⊛ raw (Back 𝓛 b o)) (parts_out 𝓛 b o x) $
+    use1 𝓛 (‵ (part_at part full_share x.forward b (first_at o)) ⊛ ‵ (part_at part full_share x.reverse b (second_at o))
+    ⊛ raw (Back 𝓛 b o)) (parts_out 𝓛 b o x) $
     split3 ! $ move ! (3 ∷ 4 ∷ 5 ∷ 0 ∷ 1 ∷ 2 ∷ []) $ group ! 6 $
-    use1 𝓛 (later (some (λ (γs : GName × GName). (‵ (fobs γs.0 (part.coded.code x.forward)) ⊛ ‵ (fbor κ (Body (mem part) b (first_at o) γs.0)))
+    use1 𝓛 (later
+    (some (λ (γs : GName × GName).
+    (‵ (fobs γs.0 (part.coded.code x.forward)) ⊛ ‵ (fbor κ (Body (mem part) b (first_at o) γs.0)))
     ⊛ (‵ (fobs γs.1 (part.coded.code x.reverse)) ⊛ ‵ (fbor κ (Body (mem part) b (second_at o) γs.1)))
     ⊛ ‵ (flft κ q) ⊛ ‵ (after₂ (mem the_row) (mem part) (mem part) γ γs.0 γs.1 of_parts))))
-    (takes_two 𝓛 (mem the_row) (mem part) (mem part) of_parts κ q b o b (first_at o) b (second_at o) γ (Back 𝓛 b o) (parts_in 𝓛 b o) (the_row.coded.code x) (the_row.coded.code x) x.forward x.reverse) $
+    (takes_two 𝓛 (mem the_row) (mem part) (mem part) of_parts κ q b o b (first_at o) b (second_at o) γ (Back 𝓛 b o)
+    (parts_in 𝓛 b o) (the_row.coded.code x) (the_row.coded.code x) x.forward x.reverse) $
     await ! tt $ pick ! (λ γs. split3 ! $
-    split ! $ feq_i ! (List Val) (vptr b (first_at o) ∷ []) (vptr b (first_at o) ∷ []) refl $ fjoin3 ! $ move ! (1 ∷ []) $
+    split ! $ feq_i ! (List Val) (vptr b (first_at o) ∷ []) (vptr b (first_at o) ∷ []) refl $ fjoin3 ! $ move ! (1 ∷ [])
+    $
     split ! $ feq_i ! (List Val) (vptr b (second_at o) ∷ []) (vptr b (second_at o) ∷ []) refl $ fjoin3 ! $
     -- [the second reference; the first; the token and what follows]
     nothing ! $ move ! (1 ∷ 0 ∷ []) $ fjoin ! $ move ! (1 ∷ 0 ∷ []) $ fjoin ! $
     feq_i ! (List Val) (v ∷ []) (v ∷ []) refl $ fjoin ! $
-    fpack ! (Valss Lent) (within (shape (tuple_type Lent)) (one γs, (two γs, tt)) (v ∷ [])) (vptr b (first_at o) ∷ [], (vptr b (second_at o) ∷ [], tt)) $
+    fpack ! (Valss Lent) (within (shape (tuple_type Lent)) (one γs, (two γs, tt)) (v ∷ []))
+    (vptr b (first_at o) ∷ [], (vptr b (second_at o) ∷ [], tt)) $
     move ! (1 ∷ []) $ split ! $
     returns ! (look_at ! 0 refl) $ free_all ! refl $ keep ! (0 ∷ 2 ∷ 1 ∷ []) $
     -- [the token; the result; what follows]

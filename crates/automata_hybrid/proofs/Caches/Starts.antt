@@ -1,0 +1,28 @@
+-- The start states in the slots of a cache.
+use Rattle.std.proofs.Common.{ℕ, ◌<◌, ◌≤◌, ◌⊎◌, inl, inr, length, Option, refl, sym, subst, arith}
+use Rattle.std.proofs.lemmas.Option.{slice_get-get_or}
+use Rattle.automata_base.specs.Powersets.Powerset.{Powerset}
+use Rattle.automata_base.specs.Retraced.Steps.{start_state_of}
+use Rattle.automata_base.specs.declared.util.search.Anchored.{Anchored}
+use Rattle.automata_hybrid.specs.Cache.Clears.{AllStarts, IsSlot}
+use Rattle.automata_hybrid.specs.Cache.Ids.{unknown_id}
+use Rattle.automata_hybrid.specs.Cache.States.{LeadsAsStart}
+use Rattle.automata_hybrid.specs.Cache.Stores.{Stored}
+use Rattle.automata_hybrid.specs.Cache.Table.{Leads}
+use Rattle.automata_hybrid.specs.Machines.StartSlots.{slot_behind}
+use Rattle.automata_hybrid.specs.Steps.Starts.{known_start}
+
+-- the ID in a slot leads to its start state
+pub leads_as_start :
+    (c : Stored) → AllStarts c.table c.starts → (mode : Anchored) (behind : Option ℕ) → LeadsAsStart c mode behind
+leads_as_start c starts mode behind within low =
+    go (starts slot id (slice_get-get_or c.starts slot 0 within)) where
+      slot : ℕ
+      slot = slot_behind c.table.of mode behind
+
+      id : ℕ
+      id = known_start c.table.of c mode behind
+
+      go : IsSlot c.table slot id → Leads c.table id (start_state_of c.table.of.nfa mode behind)
+      go (inl unknown) = absurd (omega (arith, low, unknown))
+      go (inr (q, leads, first)) = subst (Leads c.table id) (first mode behind refl) leads
