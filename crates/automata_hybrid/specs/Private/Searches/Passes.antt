@@ -1,10 +1,7 @@
 -- Why a step of a search from a state on a unit fails.
 use Rattle.std.specs.Prelude.{ℕ, ◌≡◌, true, false, Option, Some}
 use Rattle.automata_base.specs.ByteClasses.Classes.{is_quit}
-use Rattle.automata_base.specs.Haystacks.Input.{Input}
-use Rattle.automata_base.specs.Paths.Paths.{next}
 use Rattle.automata_base.specs.Powersets.Powerset.{Powerset}
-use Rattle.automata_base.specs.declared.util.search.Direction.{Direction}
 use Rattle.automata_base.specs.Retraced.Steps.{successor}
 use Rattle.automata_base.specs.declared.util.search.MatchErrorKind.TheVariants.{Quit as QuitAt, GaveUp}
 use Rattle.automata_config.specs.declared.error.SearchError.{SearchError}
@@ -15,7 +12,6 @@ use Rattle.automata_hybrid.specs.Private.Cache.Usage.{GivesUpInStore}
 use Rattle.automata_hybrid.specs.Machines.Machine.{Machine, quits_on}
 use Rattle.automata_hybrid.specs.Private.Steps.Steps.{KnowsStep}
 use Rattle.automata_hybrid.specs.Cache.Table.{Names}
-use Rattle.automata_hybrid.specs.Searches.Passes.{given_up_offset, state_in, tape_in, unit_offset}
 
 -- the transition from a state on a unit is not cached
 abbrev pub LacksStep : Machine → Stored → Powerset → (unit : Option ℕ) → Type 0
@@ -35,9 +31,3 @@ pub data IsStepError (m : Machine) (c : Stored) (q : Powerset) (unit : Option �
   -- it is none, and the transition is not cached, and memory runs out
   LacksMemoryInStore :
       quits_on m unit ≡ false → LacksStep m c q unit → IsStepError m c q unit quit_at given_up_at search.OutOfMemory
-
--- why the step on the unit at place `k` of a pass fails
-abbrev pub IsUnitError : Direction → Machine → Stored → Input → ℕ → SearchError → Type 0
-IsUnitError way m c input k e =
-    IsStepError m c (state_in way m input k) (next (tape_in way input) k) (unit_offset way input k)
-    (given_up_offset way input k) e

@@ -1,16 +1,15 @@
--- What the passes of a search make of their cache: their events, unit by unit, up to one that fails.
-use Rattle.std.specs.Prelude.{ℕ, zero, suc, ◌≡◌, ◌+◌, ◌-◌}
+-- What a run along a trace makes of its cache, unit by unit, up to one that fails.
+use Rattle.std.specs.Prelude.{ℕ, zero, suc, ◌≡◌, ◌+◌}
 use Rattle.automata_base.specs.Haystacks.Input.{Input}
 use Rattle.automata_base.specs.Paths.Paths.{next}
 use Rattle.automata_base.specs.declared.util.search.Direction.{Direction}
 use Rattle.automata_hybrid.specs.Cache.Caches.{CacheView}
-use Rattle.automata_hybrid.specs.Private.Calls.Events.{Does, Fails, IsStepLeft, begun_in_store, ended_in_store}
+use Rattle.automata_hybrid.specs.Private.Calls.Events.{Does, IsStepLeft, begun_in_store, ended_in_store}
 use Rattle.automata_hybrid.specs.Private.Calls.Events.{moved_in_store}
 use Rattle.automata_hybrid.specs.Machines.Machine.{Machine}
 use Rattle.automata_hybrid.specs.Searches.Passes.{given_up_offset, tape_in}
-use Rattle.automata_hybrid.specs.Searches.Traces.{Trace, pass_trace}
-use Rattle.automata_hybrid.specs.Steps.Starts.{MayStart}
-use Rattle.automata_hybrid.specs.Searches.Progress.{start_event, unit_event}
+use Rattle.automata_hybrid.specs.Searches.Traces.{Trace}
+use Rattle.automata_hybrid.specs.Searches.Progress.{unit_event}
 
 -- with the search begun at the unit at a place
 abbrev pub with_search_begun : Direction → Input → (k : ℕ) → CacheView → CacheView
@@ -29,42 +28,14 @@ abbrev pub IsReadAlong : Trace → Direction → Machine → Input → (k : ℕ)
 IsReadAlong s way m input k old new =
     Does m (unit_event s way input k) old (with_search_moved way input k old) new
 
--- a pass reads it
-abbrev pub IsUnitRead : Direction → Machine → Input → (k : ℕ) → (old new : CacheView) → Type 0
-IsUnitRead way m input k old new = IsReadAlong (pass_trace way m input) way m input k old new
-
 -- a run along a trace reads so many units from a place on, one after another
 abbrev pub GoesAlong : Trace → Direction → Machine → Input → (from units : ℕ) → (old new : CacheView) → Type 0
 GoesAlong s way m input from zero old new = new ≡ old
 GoesAlong s way m input from (suc units) old new =
     (mid : CacheView) × GoesAlong s way m input from units old mid × IsReadAlong s way m input (from + units) mid new
 
--- a pass reads so many units, one after another
-abbrev pub Goes : Direction → Machine → Input → (from units : ℕ) → (old new : CacheView) → Type 0
-Goes way m input from units old new = GoesAlong (pass_trace way m input) way m input from units old new
-
--- a pass reads so many units, and then the search ends: at the last of them, or if there is none, at the place
-abbrev pub GoesToEnd : Direction → Machine → Input → (from units : ℕ) → (old new : CacheView) → Type 0
-GoesToEnd way m input from units old new =
-    (mid : CacheView) × Goes way m input from units old mid
-    × (new ≡ with_search_ended way input (from + (units - 1)) mid)
-
 -- a run along a trace failed at the unit at place `k`, to which the search moved
 abbrev pub IsLeftAlong : Trace → Direction → Machine → Input → (k : ℕ) → (old new : CacheView) → Type 0
 IsLeftAlong s way m input k old new =
     IsStepLeft m (s.state k) (next (tape_in way input) k) (with_search_moved way input k old)
     (with_search_ended way input k old) new
-
--- a pass failed so
-abbrev pub IsLeftAt : Direction → Machine → Input → (k : ℕ) → (old new : CacheView) → Type 0
-IsLeftAt way m input k old new = IsLeftAlong (pass_trace way m input) way m input k old new
-
--- a pass has its start state
-abbrev pub HasItsStart : Direction → Machine → Input → (old new : CacheView) → Type 0
-HasItsStart way m input old new = Does m (start_event way input) old old new
-
--- a pass has no start state: if a search may not start, nothing has changed at all
-abbrev pub HasNoStart : Direction → Machine → Input → (old new : CacheView) → Type 0
-HasNoStart way m input old new =
-    (MayStart m input.anchored (tape_in way input).before → Fails m (start_event way input) old new)
-    × ((MayStart m input.anchored (tape_in way input).before → ⊥) → new ≡ old)
