@@ -7,7 +7,6 @@ pub mod Events
 pub mod Passes
 pub mod Calls
 pub mod Walks
-pub mod Pieces
 pub mod Stores
 pub mod Growth
 pub mod Bounds

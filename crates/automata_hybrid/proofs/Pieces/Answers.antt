@@ -16,21 +16,21 @@ use Rattle.automata_base.proofs.Paths.Orders.{none_some, some_inj, some_none}
 use Rattle.automata_config.specs.Options.{match_kind_of}
 use Rattle.automata_hybrid.specs.Cache.Caches.{CacheView}
 use Rattle.automata_hybrid.specs.Cache.Ids.{HasDeadTag}
-use Rattle.automata_hybrid.specs.Cache.Table.{Leads, Names}
+use Rattle.automata_hybrid.specs.Cache.Table.{Leads, Names, Rows}
+use Rattle.automata_hybrid.specs.Known.Known.{Known}
+use Rattle.automata_hybrid.specs.Known.Pieces.{AnswerStands, DiesThere, FindsThere, ReadsPieceUpto}
 use Rattle.automata_hybrid.specs.Machines.Machine.{Machine}
 use Rattle.automata_hybrid.specs.Pieces.Answers.{BeginsAfter, EndsHere, HasBegun, IsPieceAt, IsWhole, ReadsOn, StandsAfter}
 use Rattle.automata_hybrid.specs.Pieces.Answers.{WasGiven, WasGivenAll, from_first}
-use Rattle.automata_hybrid.specs.Private.Pieces.Progress.{ReadsThroughInStore, ReadsPieceUptoInStore}
 use Rattle.automata_hybrid.specs.Pieces.State.{PiecesView}
 use Rattle.automata_hybrid.specs.Private.Pieces.State.{found_in}
 use Rattle.automata_hybrid.specs.Searches.PassContracts.{IsPassAnswer}
-use Rattle.automata_hybrid.specs.Searches.PassState.{IsAt, half_at, half_of}
+use Rattle.automata_hybrid.specs.Searches.PassState.{IsAt, IsAtAlong, half_at, half_of}
 use Rattle.automata_hybrid.specs.Searches.Passes.{HasReadNoQuit, IsFound, Reads, Skips, WithoutBase, reported_in}
 use Rattle.automata_hybrid.specs.Searches.Passes.{state_in, tape_in}
 use Rattle.automata_hybrid.specs.Searches.PieceRuns.{piece_input, piece_state, piece_trace}
 use Rattle.automata_hybrid.specs.Private.Searches.Units.{IsReadAnswer}
 use Rattle.automata_hybrid.specs.Steps.Starts.{IsStartAnswer, MayStart}
-use Rattle.automata_hybrid.specs.Private.Searches.PieceRuns.{HasFound, IsDeadAfter, IsDecidedAlong}
 use Rattle.automata_hybrid.proofs.Pieces.Runs.{pass_clean, pass_found, pass_next, pass_state}
 use Rattle.automata_hybrid.proofs.Searches.Bounds.{lies_in}
 use Rattle.automata_hybrid.proofs.Searches.Directions.{begins_alive, begins_dead}
@@ -38,6 +38,7 @@ use Rattle.automata_hybrid.proofs.Searches.PassState.{clean_all, clean_last, cle
 use Rattle.automata_hybrid.proofs.Searches.PassState.{found_first, more_last, reported_quiet, reported_stays, starts_at}
 use Rattle.automata_hybrid.proofs.Searches.PassState.{starts_dead}
 use Rattle.automata_hybrid.proofs.Searches.Skips.{found_reported}
+use Rattle.automata_hybrid.proofs.Searches.Traces.{half_none}
 use Rattle.automata_hybrid.proofs.Searches.Units.{forward_unit, forward_units}
 use Rattle.automata_hybrid.proofs.Steps.BySteps.{run_found}
 use Rattle.automata_hybrid.proofs.Steps.Ids.{dead_tagged}
@@ -154,10 +155,12 @@ module _ (m : Machine) (q : Powerset) (piece : List ℕ) (old new : PiecesView) 
 
   -- it stands after it
   pub reads_through :
-      (id : ℕ) (row end : CacheView) (held : Powerset)
+      (t : Rows) (id : ℕ) (held : Powerset)
       → new.state ≡ Some held → held ≡ piece_state m piece q (length piece) → new.read ≡ old.read + length piece
-      → ReadsThroughInStore m piece old q id found row end → ReadsOn m piece old new
-  reads_through id row end held stood state read through input n given here = record {
+      → IsAtAlong (piece_trace m piece old.earliest q) Forward m t (piece_input piece old.earliest) (length piece - 0) id
+      found
+      → ReadsOn m piece old new
+  reads_through t id held stood state read at input n given here = record {
     plain = given.plain;
     undone = given.undone;
     inside = given.inside;
@@ -179,18 +182,19 @@ module _ (m : Machine) (q : Powerset) (piece : List ℕ) (old new : PiecesView) 
       state = sym same ∙ (state ∙ sym (pass_state m input n q piece given.inside here before.state (length piece) (omega arith)));
       found =
           found_on input n (length piece) given here (omega arith)
-          (through.at.reported
+          (at.reported
           ∙ ap (λ k. half_of Forward (piece_input piece old.earliest) ((piece_trace m piece old.earliest q).reported k)) all);
       nothing = λ e.
-          result ∙ (ap (λ o. found_in o old.read old.found) (through.at.nothing (given.early ∙ e)) ∙ before.nothing e);
+          result ∙ (ap (λ o. found_in o old.read old.found) (at.nothing (given.early ∙ e)) ∙ before.nothing e);
       clean =
           pass_clean m input n q piece given.inside here before.state old.earliest (length piece) (omega arith) before.clean
-          (subst (λ k. HasReadNoQuit Forward m (piece_input piece old.earliest) k) all through.at.clean);
+          (subst (λ k. HasReadNoQuit Forward m (piece_input piece old.earliest) k) all at.clean);
     }
 
   -- or its answer stands
-  module _ (k : ℕ) (row end : CacheView) (over : ReadsPieceUptoInStore m piece old q k found row end) (input : Input) (n : ℕ)
-      (given : WasGiven m input n old) (here : IsPieceAt input n piece) where
+  module _ (k : ℕ) (begun end : Known) (over : ReadsPieceUpto m piece old q k begun end)
+      (reported : found ≡ half_of Forward (piece_input piece old.earliest) ((piece_trace m piece old.earliest q).reported (suc k)))
+      (input : Input) (n : ℕ) (given : WasGiven m input n old) (here : IsPieceAt input n piece) where
     before : StandsAfter m input n q old
     before = given.stands q was
 
@@ -207,7 +211,7 @@ module _ (m : Machine) (q : Powerset) (piece : List ℕ) (old new : PiecesView) 
 
     read : from_first input.start new.found ≡ half_of Forward input (reported_in Forward m input (suc (n + k)))
     read =
-        found_on input n (suc k) given here (omega (arith, low)) over.reported
+        found_on input n (suc k) given here (omega (arith, low)) reported
         ∙ ap (λ i. half_of Forward input (reported_in Forward m input i)) more
 
     clean : HasReadNoQuit Forward m input (suc (n + k))
@@ -227,9 +231,9 @@ module _ (m : Machine) (q : Powerset) (piece : List ℕ) (old new : PiecesView) 
         (reported_in Forward m input (suc (n + k))) l first refl (λ f. some_half some (ap (half_of Forward input) f))) ∙ r.2 first))
 
     answer :
-        IsDecidedAlong (piece_trace m piece old.earliest q) (piece_input piece old.earliest) k found
+        AnswerStands (piece_trace m piece old.earliest q) (piece_input piece old.earliest) k
         → IsPassAnswer Forward m input (from_first input.start new.found)
-    answer (IsDeadAfter d) =
+    answer (DiesThere d) =
         let dies : state_in Forward m input (suc (n + k)) ≡ dead =
         pass_next m input n q piece given.inside here before.state k low ∙ d in
         record {
@@ -240,8 +244,11 @@ module _ (m : Machine) (q : Powerset) (piece : List ℕ) (old new : PiecesView) 
           clean = clean_all Forward m input (suc (n + k)) given.may.0 clean (λ j l r. r.1 (dead_more Forward m input (suc (n + k)) j l dies));
           supported = given.may.1;
         }
-    answer (HasFound e some) =
-        let first : input.earliest ≡ true = sym given.early ∙ e in record {
+    answer (FindsThere e reports) =
+        let first : input.earliest ≡ true = sym given.early ∙ e in
+        let some : found ≡ None → ⊥ =
+        λ none. reports (half_none Forward (piece_input piece old.earliest) _ (sym reported ∙ none)) in
+        record {
           found = read ∙ found_first Forward m input (suc (n + k)) (omega (arith, few)) first (some_half some);
           clean = clean_all Forward m input (suc (n + k)) given.may.0 clean (stops first some);
           supported = given.may.1;
@@ -259,8 +266,11 @@ module _ (m : Machine) (q : Powerset) (piece : List ℕ) (old new : PiecesView) 
     }
 
   pub reads_over :
-      (k : ℕ) (row end : CacheView) → new.state ≡ None → ReadsPieceUptoInStore m piece old q k found row end → ReadsOn m piece old new
-  reads_over k row end none over input n given here = over_given k row end over input n given here none
+      (k : ℕ) (begun end : Known) → new.state ≡ None → ReadsPieceUpto m piece old q k begun end
+      → found ≡ half_of Forward (piece_input piece old.earliest) ((piece_trace m piece old.earliest q).reported (suc k))
+      → ReadsOn m piece old new
+  reads_over k begun end none over reported input n given here =
+      over_given k begun end over reported input n given here none
 
 -- what one pass answers is what a search returns for the whole span, where no offset is skipped
 whole :

@@ -16,20 +16,20 @@ use Rattle.automata_config.specs.Options.{match_kind_of}
 use Rattle.automata_hybrid.specs.Cache.Caches.{CacheView}
 use Rattle.automata_hybrid.specs.Cache.Ids.{HasDeadTag}
 use Rattle.automata_hybrid.specs.Cache.Table.{Leads, Names, Rows}
+use Rattle.automata_hybrid.specs.Known.Known.{Known}
+use Rattle.automata_hybrid.specs.Known.Pieces.{AnswerStands, DiesThere, FindsThere, ReadsPieceUpto}
 use Rattle.automata_hybrid.specs.Machines.Machine.{Machine}
 use Rattle.automata_hybrid.specs.Pieces.Answers.{IsPieceAt, from_first}
-use Rattle.automata_hybrid.specs.Private.Pieces.Progress.{ReadsThroughInStore, ReadsPieceUptoInStore}
 use Rattle.automata_hybrid.specs.Pieces.State.{PiecesView}
 use Rattle.automata_hybrid.specs.Private.Pieces.State.{found_in}
 use Rattle.automata_hybrid.specs.Pieces.Walks.{AtMatch, AtPieceEnd, EndsWith, HasBegunWalk, HasWalked, IsAtMatch, HasNoMatch, IsWalked}
 use Rattle.automata_hybrid.specs.Pieces.Walks.{patterns_at, patterns_here}
 use Rattle.automata_hybrid.specs.Private.Pieces.Walks.{StandsInRow}
-use Rattle.automata_hybrid.specs.Searches.PassState.{half_at, half_of}
+use Rattle.automata_hybrid.specs.Searches.PassState.{IsAtAlong, half_at, half_of}
 use Rattle.automata_hybrid.specs.Searches.Passes.{HasReadNoQuit, Skips, state_in, tape_in}
 use Rattle.automata_hybrid.specs.Searches.PieceRuns.{piece_input, piece_state, piece_trace}
 use Rattle.automata_hybrid.specs.Private.Searches.Units.{IsReadAnswer}
 use Rattle.automata_hybrid.specs.Steps.Starts.{IsStartAnswer}
-use Rattle.automata_hybrid.specs.Private.Searches.PieceRuns.{HasFound, IsDeadAfter, IsDecidedAlong}
 use Rattle.automata_hybrid.proofs.Pieces.Answers.{leads_begin, may_begin}
 use Rattle.automata_hybrid.proofs.Pieces.Runs.{pass_clean, pass_next, pass_state}
 use Rattle.automata_hybrid.proofs.Searches.Directions.{begins_alive, begins_dead}
@@ -199,10 +199,12 @@ module _ (m : Machine) (q : Powerset) (piece : List ℕ) (old new : PiecesView) 
 
   -- through the piece it has met no match
   pub walks_through :
-      (t : Rows) (id : ℕ) (found : Option HalfMatch) (row end : CacheView)
-      → StandsInRow t id (old.read + length piece) None old new → Names t id (piece_state m piece q (length piece - 0))
-      → ReadsThroughInStore m piece old q id found row end → IsWalked m piece old new (length piece)
-  walks_through t id found row end stands named through = record {
+      (t : Rows) (id : ℕ) (found : Option HalfMatch)
+      → StandsInRow t id (old.read + length piece) None old new
+      → IsAtAlong (piece_trace m piece old.earliest q) Forward m t (piece_input piece old.earliest) (length piece - 0) id
+      found
+      → IsWalked m piece old new (length piece)
+  walks_through t id found stands at = record {
     few = omega arith;
     all = λ e. refl;
     some = λ s. absurd (s stands.found);
@@ -211,7 +213,7 @@ module _ (m : Machine) (q : Powerset) (piece : List ℕ) (old new : PiecesView) 
         let none : first_among states (length piece) ≡ None =
         sym (reported_is (length piece))
         ∙ (sym (ap (piece_trace m piece old.earliest q).reported all)
-        ∙ half_none Forward (piece_input piece old.earliest) _ (sym through.at.reported ∙ through.at.nothing early)) in (
+        ∙ half_none Forward (piece_input piece old.earliest) _ (sym at.reported ∙ at.nothing early)) in (
           record {
             plain = given.plain;
             within = let h = here.within in omega (arith, h);
@@ -220,13 +222,13 @@ module _ (m : Machine) (q : Powerset) (piece : List ℕ) (old new : PiecesView) 
             stands = λ p e. record {
               read = stands.read ∙ ap (λ r. r + length piece) (given.stands q was).read;
               state =
-                  some_inj (sym e ∙ stands.state _ named)
+                  some_inj (sym e ∙ stands.state _ at.named)
                   ∙ (ap (piece_state m piece q) all
                   ∙ sym (pass_state m input n q piece given.inside here (given.stands q was).state (length piece) (omega arith)));
               clean =
                   pass_clean m input n q piece given.inside here (given.stands q was).state old.earliest (length piece) (omega arith)
                   (given.stands q was).clean
-                  (subst (λ k. HasReadNoQuit Forward m (piece_input piece old.earliest) k) all through.at.clean);
+                  (subst (λ k. HasReadNoQuit Forward m (piece_input piece old.earliest) k) all at.clean);
             };
             over = λ e. absurd (stands.some e);
           },
@@ -235,7 +237,9 @@ module _ (m : Machine) (q : Powerset) (piece : List ℕ) (old new : PiecesView) 
   }
 
   -- up to a byte
-  module _ (i : ℕ) (found : Option HalfMatch) (row end : CacheView) (upto : ReadsPieceUptoInStore m piece old q i found row end) where
+  module _ (i : ℕ) (found : Option HalfMatch) (begun end : Known) (upto : ReadsPieceUpto m piece old q i begun end)
+      (reported : found ≡ half_of Forward (piece_input piece old.earliest) ((piece_trace m piece old.earliest q).reported (suc i)))
+    where
     low : i < length piece
     low = let l = upto.reads.0 in omega (arith, l)
 
@@ -244,7 +248,7 @@ module _ (m : Machine) (q : Powerset) (piece : List ℕ) (old new : PiecesView) 
 
     found_is : found ≡ half_at (states i) (0 + i) None
     found_is =
-        upto.reported
+        reported
         ∙ (ap (half_of Forward (piece_input piece old.earliest)) (reported_is (suc i))
         ∙ first_last (piece_input piece old.earliest) states i before)
 
@@ -252,10 +256,11 @@ module _ (m : Machine) (q : Powerset) (piece : List ℕ) (old new : PiecesView) 
     pub dead_upto : found ≡ None → piece_state m piece q (suc i) ≡ dead
     dead_upto none = go upto.over where
       go :
-          IsDecidedAlong (piece_trace m piece old.earliest q) (piece_input piece old.earliest) i found
+          AnswerStands (piece_trace m piece old.earliest q) (piece_input piece old.earliest) i
           → piece_state m piece q (suc i) ≡ dead
-      go (IsDeadAfter dies) = dies
-      go (HasFound early some) = absurd (some none)
+      go (DiesThere dies) = dies
+      go (FindsThere early some) =
+          absurd (some (half_none Forward (piece_input piece old.earliest) _ (sym reported ∙ none)))
 
     -- else the state has a row
     pub named_upto :

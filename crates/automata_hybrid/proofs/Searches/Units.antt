@@ -1,11 +1,15 @@
 -- The units that a pass reads are bytes of the haystack.
 use Rattle.std.proofs.Common.{ℕ, zero, suc, ◌≡◌, ◌<◌, ◌≤◌, ◌+◌, ◌-◌, List, [], ◌∷◌, length, Some, None, refl, sym, ap}
 use Rattle.std.proofs.Common.{ap₂, ◌∙◌, arith, get_or}
+use Rattle.automata_base.specs.Answers.Answers.{IsInput}
 use Rattle.automata_base.specs.Haystacks.Input.{Input}
 use Rattle.std.specs.Prelude.{slice_get}
 use Rattle.automata_base.specs.Paths.Paths.{next}
+use Rattle.automata_base.specs.Powersets.Passes.{IsUnit}
 use Rattle.automata_base.specs.Haystacks.Tapes.{byte_before}
+use Rattle.automata_base.specs.declared.util.search.Direction.{Direction}
 use Rattle.automata_base.specs.declared.util.search.Direction.TheVariants.{Forward, Backward}
+use Rattle.automata_base.proofs.Answers.Total.{tape_units}
 use Rattle.automata_base.proofs.Answers.Bytes.{forward_next, forward_length, reverse_next, tape_length}
 use Rattle.automata_hybrid.specs.Searches.Passes.{tape_in}
 
@@ -64,3 +68,9 @@ backward_read input xs at i s e l same here =
     ∙ (ap (byte_before input.haystack) (sym here)
     ∙ (nth_read input.haystack i (get_or input.haystack i 0) 0 (omega (arith, e, l, here)) refl
     ∙ ap (λ (h : List ℕ). Some (get_or h i 0)) (sym same)))
+
+-- the units of a span that is not done
+pub units_in :
+    (way : Direction) (input : Input) → IsInput input → input.start ≤ input.end → (j : ℕ)
+    → IsUnit (next (tape_in way input) j)
+units_in way input given ahead = tape_units way input.haystack input.start input.end given.0 ahead given.1

@@ -1,6 +1,6 @@
 //! Overlapping searches: each call reports the next match, with any cache of the DFA.
 ghost use Rattle.std.specs.Prelude.{ℕ, ◌≡◌, ◌+◌, ◌-◌, ◌<◌, ◌≤◌, ◌^◌, IfOk, IfErr, IfNone, IfSome, OnOk, OnErr};
-ghost use Rattle.std.specs.Prelude.{length, slice_index};
+ghost use Rattle.std.specs.Prelude.{Some, length, slice_index};
 ghost use Rattle.std.specs.Result.{result_err};
 ghost use Rattle.automata_base.specs.Powersets.Powerset.{Powerset};
 ghost use Rattle.automata_base.specs.declared.util.search.Direction.TheVariants.{Forward, Backward};
@@ -12,7 +12,8 @@ ghost use Rattle.automata_hybrid.specs.Private.Walks.Parts.{IsResumeAnswer, Read
 ghost use Rattle.automata_hybrid.specs.Private.Walks.Progress.{HasItsRow, IsNotResumedInStore, IsResumed};
 ghost use Rattle.automata_hybrid.specs.Private.Walks.Progress.{IsWalkRunInStore};
 ghost use Rattle.automata_hybrid.specs.Known.Stores.{known_of};
-ghost use Rattle.automata_hybrid.specs.Known.Walks.{IsWalkRun};
+ghost use Rattle.automata_hybrid.specs.Known.Walks.{IsNotBack, IsWalkRun, with_row_back};
+ghost use Rattle.automata_hybrid.specs.Private.Searches.PassState.{step_error};
 ghost use Rattle.automata_hybrid.specs.Searches.Passes.{tape_in};
 ghost use Rattle.automata_hybrid.specs.Steps.Starts.{MayStart};
 ghost use Rattle.automata_hybrid.specs.Cache.Table.{IsRowState, Names};
@@ -106,9 +107,10 @@ impl DFA {
         requires state { IsRowState self.now handle.now.state }
         ensures of { IsCacheOf cache.new self.now }
         ensures named { IfOk result (λ id. Names cache.new.store.table id handle.now.state) }
-        ensures row { OnOk result (HasItsRow self.now handle.now.state cache.old cache.new) }
-        ensures refused { IfErr result (AddFails cache.old cache.new handle.now.state) }
-        ensures lacks { OnErr result (IsKnownState cache.old.store.table handle.now.state → ⊥) }
+        ensures row { OnOk result (with_row_back self.now handle.now.state (known_of cache.old)
+            ≡ Some (known_of cache.new)) }
+        ensures refused { IfErr result (λ e. (at : ℕ)
+            → IsNotBack self.now handle.now.state at (known_of cache.old) (known_of cache.new) (step_error e at)) }
     {
         cache.see_bounds();
         if let Some(id) = cache.find(&handle.key) {
