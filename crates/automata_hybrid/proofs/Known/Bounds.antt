@@ -17,7 +17,7 @@ use Rattle.automata_hybrid.specs.Cache.Caches.{CacheView, IsStoreOf}
 use Rattle.automata_hybrid.specs.Known.Bounds.{CachesAreKnown, IsKnown}
 use Rattle.automata_hybrid.specs.Known.Events.{usage}
 use Rattle.automata_hybrid.specs.Known.Known.{Known, counted, keep_row, keep_start, row_in, rows_of_starts, with_row}
-use Rattle.automata_hybrid.specs.Private.Known.Laws.{asked_state}
+use Rattle.automata_hybrid.proofs.Calls.Events.{asked_state}
 use Rattle.automata_hybrid.specs.Known.Stores.{known_of, start_named}
 use Rattle.automata_hybrid.specs.Machines.Machine.{Machine}
 use Rattle.automata_hybrid.specs.declared.cache.progress.Searched.{Searched}

@@ -1,12 +1,10 @@
 -- What steps and calls for a start state make of what a cache knows.
-use Rattle.std.proofs.Common.{ℕ, ◌≡◌, ◌∙◌, ◌<◌, ◌≤◌, length, Option, None, Some, true, false, cond, refl, sym, ap, arith}
-use Rattle.std.specs.Prelude.{Err}
+use Rattle.std.proofs.Common.{ℕ, ◌≡◌, ◌∙◌, ◌*◌, ◌<◌, ◌≤◌, length, Option, None, Some, true, false, cond, refl, sym, ap, subst, arith}
 use Rattle.automata_base.specs.Powersets.Passes.{IsUnit}
 use Rattle.automata_base.specs.Powersets.Powerset.{Powerset}
 use Rattle.automata_base.specs.Retraced.Steps.{start_state_of, successor}
 use Rattle.automata_base.specs.declared.util.search.Anchored.{Anchored}
 use Rattle.automata_config.specs.Options.{match_kind_of}
-use Rattle.automata_config.specs.declared.error.SearchError.{SearchError}
 use Rattle.automata_config.specs.declared.error.StepError.{StepError}
 use Rattle.automata_config.specs.declared.error.StepError.TheVariants as step
 use Rattle.automata_hybrid.specs.Cache.Caches.{CacheView, IsStoreOf}
@@ -16,20 +14,22 @@ use Rattle.automata_hybrid.specs.Cache.Stores.{IsCacheError}
 use Rattle.automata_hybrid.specs.Cache.Table.{Names, find_id}
 use Rattle.automata_hybrid.specs.Calls.Events.{Event, Start, Step}
 use Rattle.automata_hybrid.specs.Known.Events.{after_event, is_cached, made}
-use Rattle.automata_hybrid.specs.Known.Known.{Known, counted, moved}
-use Rattle.automata_hybrid.specs.Known.Passes.{EventFails, FailsFor, GivesUp, LacksMemory}
+use Rattle.automata_hybrid.specs.Known.Known.{Known, moved}
+use Rattle.automata_hybrid.specs.Known.Passes.{EventFails, GivesUp, LacksMemory}
 use Rattle.automata_hybrid.specs.Known.Steps.{FailsFrom, GivesUpOnStart, IsStartRun, IsStepRun, RunsOutOnStart}
 use Rattle.automata_hybrid.specs.Known.Steps.{StartFails, StepFails, id_in}
 use Rattle.automata_hybrid.specs.Known.Stores.{known_of}
 use Rattle.automata_hybrid.specs.Machines.Machine.{Machine, quits_on, unit_class}
+use Rattle.automata_hybrid.specs.Machines.StartSlots.{slot_behind}
+use Rattle.automata_hybrid.specs.Private.Cache.Stores.{IsKnownStart}
 use Rattle.automata_hybrid.specs.Private.Cache.Usage.{GivesUpInStore}
 use Rattle.automata_hybrid.specs.Private.Machines.Machine.{IsMachine}
 use Rattle.automata_hybrid.specs.Private.Searches.PassState.{step_error}
 use Rattle.automata_hybrid.specs.Private.Searches.Units.{IsStepped}
-use Rattle.automata_hybrid.specs.Private.Steps.Starts.{KnowsStart, start_error}
+use Rattle.automata_hybrid.specs.Private.Steps.Starts.{IsStartSlot, start_error}
 use Rattle.automata_hybrid.specs.Private.Steps.Steps.{KnowsStep}
 use Rattle.automata_hybrid.specs.Steps.Starts.{MayStart}
-use Rattle.automata_hybrid.proofs.Calls.Events.{AsksForUnit, IsCached, Makes, MakesStep, MayAsk}
+use Rattle.automata_hybrid.proofs.Calls.Events.{IsCached, Makes, MakesStep}
 use Rattle.automata_hybrid.proofs.Known.Events.{cached_known, gives_up_known, made_known, uncached_known}
 use Rattle.automata_hybrid.proofs.Searches.PassState.{false_true}
 use Rattle.automata_hybrid.proofs.Steps.Steps.{step_unknown}
@@ -124,6 +124,19 @@ module _ (m : Machine) (id : ℕ) (unit : Option ℕ) (old new : CacheView) (mac
       });
   }
 
+-- a step that a search has come to, by a transition that is not cached
+pub stepped :
+    (m : Machine) (id : ℕ) (q : Powerset) (unit : Option ℕ) (at : ℕ) (old new : CacheView) → IsMachine m → IsUnit unit
+    → IsStoreOf old.store m → quits_on m unit ≡ false → unit_class m unit < m.stride
+    → (KnowsStep m old.store id unit → ⊥) → Names old.store.table id q
+    → IsStepRun m id unit (moved at (known_of old)) (known_of new) → IsStepped m q unit at old new
+stepped m id q unit at old new machine is sound clean below unknown named run =
+    let none : is_cached m (Step q unit) (known_of old) ≡ false =
+    uncached_known m (Step q unit) old machine (clean, below) is sound (step_unknown m id unit old unknown q named) in
+    after_made m (Step q unit) (moved at (known_of old)) (known_of old) (known_of new) none
+    (ap (λ b. cond b (Some (moved at (known_of old))) (made m (Step q unit) (moved at (known_of old)))) (sym none)
+    ∙ run.does clean q (names_in m old q id sound named))
+
 -- a step that fails, as a search reports it
 pub reported_failure :
     (m : Machine) (q : Powerset) (unit : Option ℕ) (at : ℕ) (come new : Known) (e : StepError)
@@ -133,31 +146,49 @@ reported_failure m q unit at come new (step.Cache err) f =
 reported_failure m q unit at come new step.OutOfMemory f =
     record { unknown = f.unknown; unchanged = f.unchanged; why = LacksMemory refl }
 
--- a start state that is cached: that of a pattern past the last is asked for nowhere
+-- a start state whose slot is known
 pub cached_start_run :
+    (m : Machine) (mode : Anchored) (behind : Option ℕ) (slot : ℕ) (c : CacheView) → IsMachine m → IsStoreOf c.store m
+    → IsStartSlot m mode behind slot → IsKnownStart c.store slot → IsStartRun m mode behind (known_of c) (known_of c)
+cached_start_run m mode behind slot c machine sound at known = record {
+  may = at.may;
+  does = after_cached m (Start mode behind) (known_of c) (known_of c)
+      ((cached_known m (Start mode behind) c machine at.may tt sound).0
+      (λ _. subst (IsKnownStart c.store) at.at known));
+}
+
+-- that of a pattern past the last is asked for nowhere
+pub past_start_run :
     (m : Machine) (mode : Anchored) (behind : Option ℕ) (c : CacheView) → IsMachine m → IsStoreOf c.store m
-    → MayStart m mode behind → IsCached m c.store (Start mode behind)
+    → MayStart m mode behind → m.slots ≤ slot_behind m mode behind
     → IsStartRun m mode behind (known_of c) (known_of c)
-cached_start_run m mode behind c machine sound may cached = record {
+past_start_run m mode behind c machine sound may past = record {
   may = may;
   does = after_cached m (Start mode behind) (known_of c) (known_of c)
-      ((cached_known m (Start mode behind) c machine may tt sound).0 cached);
+      ((cached_known m (Start mode behind) c machine may tt sound).0 (λ within. absurd (omega (arith, past, within))));
 }
+
+-- one whose slot is not known
+pub unknown_start :
+    (m : Machine) (mode : Anchored) (behind : Option ℕ) (slot : ℕ) (c : CacheView) → IsMachine m → IsStoreOf c.store m
+    → IsStartSlot m mode behind slot → (IsKnownStart c.store slot → ⊥)
+    → is_cached m (Start mode behind) (known_of c) ≡ false
+unknown_start m mode behind slot c machine sound at unknown =
+    uncached_known m (Start mode behind) c machine at.may tt sound
+    (λ cached. unknown (subst (IsKnownStart c.store) (sym at.at)
+    (cached (omega (arith, at.at, at.within)))))
 
 -- one that is not
 module _ (m : Machine) (mode : Anchored) (behind : Option ℕ) (old new : CacheView) (machine : IsMachine m)
     (sound : IsStoreOf old.store m) (may : MayStart m mode behind)
-    (unknown : IsCached m old.store (Start mode behind) → ⊥) where
-  uncached_start : is_cached m (Start mode behind) (known_of old) ≡ false
-  uncached_start = uncached_known m (Start mode behind) old machine may tt sound unknown
-
+    (unknown : is_cached m (Start mode behind) (known_of old) ≡ false) where
   pub made_start_run :
       IsStoreOf new.store m → Makes m (Start mode behind) old new
       → IsStartRun m mode behind (known_of old) (known_of new)
   made_start_run after makes = record {
     may = may;
     does =
-        after_made m (Start mode behind) (known_of old) (known_of old) (known_of new) uncached_start
+        after_made m (Start mode behind) (known_of old) (known_of old) (known_of new) unknown
         (made_known m (Start mode behind) old new machine sound after may tt makes);
   }
 
@@ -166,7 +197,7 @@ module _ (m : Machine) (mode : Anchored) (behind : Option ℕ) (old new : CacheV
       → (IsCacheError e → GivesUpInStore old.store (start_state_of m.nfa mode behind))
       → StartFails m mode behind (known_of old) (known_of new) (start_error e)
   failed_start_run (step.Cache err) unchanged gives_up =
-      GivesUpOnStart may uncached_start ((gives_up_known m (Start mode behind) old sound).0 (gives_up tt)) err refl
+      GivesUpOnStart may unknown ((gives_up_known m (Start mode behind) old sound).0 (gives_up tt)) err refl
       (ap known_of unchanged)
   failed_start_run step.OutOfMemory unchanged gives_up =
-      RunsOutOnStart may uncached_start refl (ap known_of unchanged)
+      RunsOutOnStart may unknown refl (ap known_of unchanged)

@@ -6,14 +6,6 @@ use Rattle.automata_hybrid.specs.Machines.Machine.{Machine}
 use Rattle.automata_hybrid.specs.Cache.Table.{Rows, IsRowId, Leads, Names}
 use Rattle.automata_hybrid.specs.Cache.Ids.{quit_id}
 use Rattle.automata_hybrid.specs.Cache.Caches.{CacheView, HoldsRow}
-use Rattle.automata_hybrid.specs.Cache.Stores.{Stored, IsCacheError}
-use Rattle.automata_hybrid.specs.Private.Cache.Usage.{GivesUpInStore}
-use Rattle.automata_hybrid.specs.Private.Searches.PassState.{step_error}
-use Rattle.automata_hybrid.specs.Private.Searches.Passes.{IsStepError, LacksStep}
-use Rattle.automata_hybrid.specs.Machines.Machine.{quits_on}
-use Rattle.automata_hybrid.specs.Private.Searches.Passes.{FindsNoRoom, LacksMemoryInStore}
-use Rattle.automata_config.specs.declared.error.StepError.{StepError}
-use Rattle.automata_config.specs.declared.error.StepError.TheVariants.{Cache, OutOfMemory}
 use Rattle.std.specs.Prelude.{IsBitSet, ◌↔◌}
 use Rattle.automata_hybrid.proofs.Caches.Places.{no_patterns, bit_of, zero_one}
 use Rattle.automata_base.specs.ByteClasses.Classes.{is_quit}
@@ -73,16 +65,6 @@ dead_clear c id (inl e) low small b q =
     zero_one ((bit_of 29 c.store.table.of.stride 2 id (omega (arith, small)) n).0 q)
 dead_clear c id (inr (inl e)) low small b q = low_bit 30 id (omega (arith, e, small)) b
 dead_clear c id (inr (inr v)) low small b q = low_bit 29 id (low v.0 v.1) q
-
--- a failed step, reported at an offset
-pub refused :
-    (m : Machine) (c c' : Stored) (q : Powerset) (unit : Option ℕ) (quit_at at : ℕ) (e : StepError)
-    → quits_on m unit ≡ false → LacksStep m c q unit → c' ≡ c → (IsCacheError e → GivesUpInStore c (successor m.nfa (match_kind_of m.config) q unit))
-    → IsStepError m c' q unit quit_at at (step_error e at)
-refused m c c' q unit quit_at at (Cache err) other lacks same gives =
-    FindsNoRoom at other (subst (λ (s : Stored). GivesUpInStore s (successor m.nfa (match_kind_of m.config) q unit)) (sym same) (gives tt)) refl
-refused m c c' q unit quit_at at OutOfMemory other lacks same gives =
-    LacksMemoryInStore other (subst (λ (s : Stored). LacksStep m s q unit) (sym same) lacks)
 
 pub quit_bit : (s : ℕ) → s ≤ 512 → IsBitSet (quit_id s) 29
 quit_bit s l =

@@ -25,7 +25,6 @@ use Rattle.automata_hybrid.specs.Cache.Caches.{CacheView, HoldsRow, IsCacheOf, c
 use Rattle.automata_hybrid.proofs.Calls.Events.{MakesStart}
 use Rattle.automata_hybrid.specs.Steps.Starts.{IsStartAnswer, MayStart, quit_behind}
 use Rattle.automata_hybrid.specs.Steps.Starts.{known_start, start_row}
-use Rattle.automata_hybrid.specs.Private.Steps.Starts.{KnowsStart}
 use Rattle.automata_hybrid.specs.Private.Steps.Starts.{IsStartSlot}
 use Rattle.automata_hybrid.proofs.Searches.PassState.{false_true}
 use Rattle.automata_hybrid.proofs.Machines.StartSlots.{starts_alike}
@@ -45,13 +44,6 @@ slot_leads m mode behind slot t id q at of same leads = (
       same ∙ (starts_alike m mode other behind look slots ∙ ap (λ (d : Machine). start_state_of d.nfa other look) (sym of)),
 )
 
--- the start of a mode's slot is cached
-pub knows_slot :
-    (m : Machine) (c : Stored) (mode : Anchored) (behind : Option ℕ) (slot : ℕ)
-    → IsStartSlot m mode behind slot → length c.starts ≡ m.slots → IsKnownStart c slot → KnowsStart m c mode behind
-knows_slot m c mode behind slot at slots known =
-    (at.may, (omega (arith, at.at, at.within, slots), subst (IsKnownStart c) at.at known))
-
 -- an ID that names a state or the dead one has a row
 pub leads_row : (c : CacheView) (id : ℕ) (q : Powerset) → Leads c.store.table id q → HoldsRow c id
 leads_row c id q (inl dies) = inl dies.0
@@ -60,10 +52,9 @@ leads_row c id q (inr names) = inr (inr (q, names))
 -- a start state that is cached is answered as it stands
 pub known_answer :
     (m : Machine) (mode : Anchored) (behind : Option ℕ) (c : CacheView) (slot id : ℕ)
-    → IsCacheOf c m → IsStartSlot m mode behind slot → KnowsStart m c.store mode behind
-    → id ≡ slice_index c.store.starts slot → id < unknown_id → IsSlot c.store.table slot id
+    → IsCacheOf c m → IsStartSlot m mode behind slot → id ≡ slice_index c.store.starts slot → id < unknown_id → IsSlot c.store.table slot id
     → HasItsMatchTag c.store.table id → IsStartAnswer m mode behind c c id
-known_answer m mode behind c slot id of at knows value low may tag = record {
+known_answer m mode behind c slot id of at value low may tag = record {
   may = at.may;
   row = leads_row c id _ (named may);
   named = named may;

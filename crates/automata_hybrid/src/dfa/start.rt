@@ -9,13 +9,14 @@ ghost use Rattle.automata_base.specs.Retraced.Steps.{start_state_of};
 ghost use Rattle.automata_base.specs.Haystacks.Tapes.{byte_before};
 ghost use Rattle.std.specs.Prelude.{slice_get, false};
 ghost use Rattle.automata_hybrid.specs.Steps.Starts.{quit_behind, start_search_error};
-ghost use Rattle.automata_hybrid.specs.Private.Steps.Starts.{KnowsStart};
 ghost use Rattle.automata_hybrid.specs.Private.Steps.Starts.{start_error};
 ghost use Rattle.automata_hybrid.specs.Private.Steps.Starts.{IsStartSlot};
 ghost use Rattle.automata_hybrid.specs.Steps.Starts.{IsStartAnswer};
 ghost use Rattle.automata_hybrid.specs.Known.Steps.{IsStartRun, StartFails};
 ghost use Rattle.automata_hybrid.specs.Known.Steps.{StartFailsAt};
 ghost use Rattle.automata_hybrid.specs.Known.Stores.{known_of};
+ghost use Rattle.automata_hybrid.specs.Known.Events.{is_cached};
+ghost use Rattle.automata_hybrid.specs.Calls.Events as events;
 ghost use Rattle.automata_hybrid.specs.Machines.StartSlots.{supports, slot_of};
 ghost use Rattle.automata_hybrid.specs.Steps.BySteps.{StartsAt};
 ghost use Rattle.automata_hybrid.specs.Cache.Caches.{IsCacheOf};
@@ -68,7 +69,7 @@ impl Cache {
     ) -> Result<LazyStateID, StepError>
         requires of { IsCacheOf self.old dfa.now }
         requires slot { IsStartSlot dfa.now mode prev slot }
-        requires unknown { KnowsStart dfa.now self.old.store mode prev → ⊥ }
+        requires unknown { is_cached dfa.now (events.Start mode prev) (known_of self.old) ≡ false }
         ensures of { IsCacheOf self.new dfa.now }
         ensures answer { IfOk result (IsStartAnswer dfa.now mode prev self.old self.new) }
         ensures refusal { IfErr result

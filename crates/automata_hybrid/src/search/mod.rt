@@ -99,6 +99,7 @@ impl DFA {
         ensures of { IsCacheOf cache.new self.now }
         ensures step { IsStepResult self.now id unit at cache.old cache.new result }
     {
+        self.see_machine();
         cache.see_bounds();
         let _cell = cache.cell(id, self.unit_class(unit));
         if !cell.is_unknown() {

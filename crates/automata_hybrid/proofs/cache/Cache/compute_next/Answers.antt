@@ -1,4 +1,4 @@
-use Rattle.std.proofs.Common.{◌≡◌, ◌∙◌, ap, inr, sym, subst}
+use Rattle.std.proofs.Common.{◌≡◌, ◌∙◌, ◌<◌, ◌^◌, ap, inr, sym, subst}
 use Rattle.automata_base.specs.Powersets.Powerset.{Powerset}
 use Rattle.automata_hybrid.specs.Cache.Caches.{CacheView, counted}
 use Rattle.automata_hybrid.specs.Private.Cache.LookUps.{IsLookedUp}
@@ -6,9 +6,11 @@ use Rattle.automata_hybrid.specs.Cache.Table.{Leads, Names}
 use Rattle.automata_hybrid.specs.Private.Cache.Table.{IsNewState}
 use Rattle.automata_hybrid.specs.Private.Cache.Usage.{GivesUpInStore}
 use Rattle.automata_hybrid.specs.declared.cache.Found.TheVariants.{Known, New}
+use Rattle.automata_config.specs.declared.error.StepError.TheVariants as step
 use Rattle.automata_hybrid.proofs.Caches.Additions.{looked_up, new_state}
-use Rattle.automata_hybrid.proofs.Steps.Steps.{ComputesStep, computed_answer, computed_run, computes_known}
-use Rattle.automata_hybrid.proofs.Steps.Steps.{computes_new, key_leads, step_unknown}
+use Rattle.automata_hybrid.proofs.Known.Calls.{failed_run, made_run}
+use Rattle.automata_hybrid.proofs.Steps.Steps.{ComputesStep, computed_answer, computed_makes, computes_known}
+use Rattle.automata_hybrid.proofs.Steps.Steps.{computes_new, key_leads}
 use Rattle.automata_hybrid.proofs.Searches.Contracts.{is_store}
 use Rattle.automata_hybrid.proofs.Searches.PassState.{if_err}
 use Rattle.automata_hybrid.proofs.cache.Cache.compute_next.Goals.{After-see_bounds-in-Known, After-see_bounds-in-New}
@@ -65,14 +67,22 @@ add_next-requires-clause-new c =
     let key : IsNewState c.resolve.new.self.store.table c.in_ok-key.key = new_state c.args.dfa.now c.resolve.new.self.store.table c.in_ok-key.key of found.1 c.in_ok-key.ensures.cost c.in_ok-key.ensures.is_of in
     subst (λ (q : Powerset). IsNewState c.resolve.new.self.store.table q) (sym found.0) key
 
--- the call fails
-failed :
-    (c : After-see_bounds) (new : CacheView) (e : StepError) → new ≡ counted c.args.self.now
-    → (IsCacheError e → (q : Powerset) → Names c.args.self.now.store.table c.args.id q
-    → GivesUpInStore c.args.self.now.store
-    (successor c.args.dfa.now.nfa (match_kind_of c.args.dfa.now.config) q c.args.unit))
-    → StepFails c.args.dfa.now c.args.id c.args.unit (known_of c.args.self.now) (known_of new) e
-failed c new e = failed_run c.args.dfa.now c.args.id c.args.unit c.args.self.now new c.see_machine.ensures.machine
+pub returns-in_err-from-in-New-clause-refusal : goal.returns-in_err-from-in-New-clause-refusal
+returns-in_err-from-in-New-clause-refusal c =
+    let same : c.resolve.new.self ≡ counted c.args.self.now = c.resolve.ensures.same ∙ c.determinize.ensures.counted in
+    let found : IsLookedUp c.resolve.new.self.store.table c.in_ok-key.key (New c.in-New.state) =
+    looked_up c.determinize.new.self c.resolve.new.self c.in_ok-key.key _ (New c.in-New.state) c.resolve.ensures.same
+    c.in-New.is c.in_ok-to.ensures.found in
+    if_err c.from_residual-in_err-from-in-New.result _ _ c.from_residual-in_err-from-in-New.ensures.1
+    (failed_run c.args.dfa.now c.args.id c.args.unit c.args.self.now c.add_next.new.self
+    c.see_machine.ensures.machine c.unit_class-class.ensures.unit
+    (is_store c.args.self.now.store c.args.dfa.now c.requires.of c.see_bounds.ensures.bounds)
+    (c.see_bounds.ensures.sound.low c.args.id c.requires.valid.0 c.requires.valid.1) c.requires.clean
+    (subst (λ k. k < c.args.dfa.now.stride) c.unit_class-class.ensures.value c.unit_class-class.ensures.below)
+    c.requires.unknown c.in_err-from-in-New.field-0.0 (c.in_err-from-in-New.ensures.refused.kept ∙ same)
+    (λ cache q named. subst (GivesUpInStore c.args.self.now.store) (found.0 ∙ c.in_ok-key.ensures.value q named)
+    (subst (λ (v : CacheView). GivesUpInStore v.store c.in-New.state) same
+    (c.in_err-from-in-New.ensures.refused.gives_up.0 cache))))
 
 pub returns-in-Known-clause-answer : goal.returns-in-Known-clause-answer
 returns-in-Known-clause-answer c =
@@ -82,9 +92,15 @@ returns-in-Known-clause-answer c =
 
 pub returns-in-Known-clause-run : goal.returns-in-Known-clause-run
 returns-in-Known-clause-run c =
-    computed_run c.args.dfa.now c.args.id c.args.unit c.args.self.now c.set_next.new.self c.unit_class-class.result c.in-Known.to (known c)
-    c.requires.valid (c.see_bounds.ensures.sound.low c.args.id c.requires.valid.0 c.requires.valid.1) c.requires.clean c.requires.unknown c.unit_class-class.ensures.value c.unit_class-class.ensures.below
-    (is_store c.set_next.new.self.store c.args.dfa.now (after_known c) c.see_bounds-in-Known.ensures.bounds)
+    let low : c.args.id < 2 ^ 29 = c.see_bounds.ensures.sound.low c.args.id c.requires.valid.0 c.requires.valid.1 in
+    made_run c.args.dfa.now c.args.id c.args.unit c.args.self.now c.set_next.new.self
+    c.see_machine.ensures.machine c.unit_class-class.ensures.unit
+    (is_store c.args.self.now.store c.args.dfa.now c.requires.of c.see_bounds.ensures.bounds) low c.requires.clean
+    (subst (λ k. k < c.args.dfa.now.stride) c.unit_class-class.ensures.value c.unit_class-class.ensures.below)
+    c.requires.unknown (is_store c.set_next.new.self.store c.args.dfa.now (after_known c) c.see_bounds-in-Known.ensures.bounds)
+    (computed_makes c.args.dfa.now c.args.id c.args.unit c.args.self.now c.set_next.new.self
+    c.unit_class-class.result c.in-Known.to (known c) c.requires.valid low c.requires.clean c.requires.unknown
+    c.unit_class-class.ensures.value c.unit_class-class.ensures.below)
 
 pub returns-in_ok-from-in-New-clause-answer : goal.returns-in_ok-from-in-New-clause-answer
 returns-in_ok-from-in-New-clause-answer c =
@@ -94,6 +110,23 @@ returns-in_ok-from-in-New-clause-answer c =
 
 pub returns-in_ok-from-in-New-clause-run : goal.returns-in_ok-from-in-New-clause-run
 returns-in_ok-from-in-New-clause-run c =
-    computed_run c.args.dfa.now c.args.id c.args.unit c.args.self.now c.set_next-in-New.new.self c.unit_class-class.result c.in_ok-from-in-New.to (new c)
-    c.requires.valid (c.see_bounds.ensures.sound.low c.args.id c.requires.valid.0 c.requires.valid.1) c.requires.clean c.requires.unknown c.unit_class-class.ensures.value c.unit_class-class.ensures.below
-    (is_store c.set_next-in-New.new.self.store c.args.dfa.now (after_new c) c.see_bounds-in-New.ensures.bounds)
+    let low : c.args.id < 2 ^ 29 = c.see_bounds.ensures.sound.low c.args.id c.requires.valid.0 c.requires.valid.1 in
+    made_run c.args.dfa.now c.args.id c.args.unit c.args.self.now c.set_next-in-New.new.self
+    c.see_machine.ensures.machine c.unit_class-class.ensures.unit
+    (is_store c.args.self.now.store c.args.dfa.now c.requires.of c.see_bounds.ensures.bounds) low c.requires.clean
+    (subst (λ k. k < c.args.dfa.now.stride) c.unit_class-class.ensures.value c.unit_class-class.ensures.below)
+    c.requires.unknown (is_store c.set_next-in-New.new.self.store c.args.dfa.now (after_new c) c.see_bounds-in-New.ensures.bounds)
+    (computed_makes c.args.dfa.now c.args.id c.args.unit c.args.self.now c.set_next-in-New.new.self
+    c.unit_class-class.result c.in_ok-from-in-New.to (new c) c.requires.valid low c.requires.clean c.requires.unknown
+    c.unit_class-class.ensures.value c.unit_class-class.ensures.below)
+
+pub returns-in_err-to-clause-refusal : goal.returns-in_err-to-clause-refusal
+returns-in_err-to-clause-refusal c =
+    if_err c.from_residual-in_err-to.result step.OutOfMemory _ c.from_residual-in_err-to.ensures.1
+    (failed_run c.args.dfa.now c.args.id c.args.unit c.args.self.now c.resolve.new.self c.see_machine.ensures.machine
+    c.unit_class-class.ensures.unit
+    (is_store c.args.self.now.store c.args.dfa.now c.requires.of c.see_bounds.ensures.bounds)
+    (c.see_bounds.ensures.sound.low c.args.id c.requires.valid.0 c.requires.valid.1) c.requires.clean
+    (subst (λ k. k < c.args.dfa.now.stride) c.unit_class-class.ensures.value c.unit_class-class.ensures.below)
+    c.requires.unknown step.OutOfMemory (c.resolve.ensures.same ∙ c.determinize.ensures.counted)
+    (λ never. absurd never))

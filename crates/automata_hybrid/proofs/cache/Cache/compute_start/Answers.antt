@@ -1,6 +1,7 @@
 use Rattle.std.proofs.Common.{◌≡◌, ◌∙◌, ◌<◌, ◌^◌, ap, arith, inr, sym, subst}
 use Rattle.automata_base.specs.Powersets.Powerset.{Powerset}
-use Rattle.automata_hybrid.specs.Cache.Caches.{CacheView}
+use Rattle.automata_hybrid.specs.Cache.Caches.{CacheView, counted}
+use Rattle.automata_hybrid.specs.Private.Cache.Usage.{GivesUpInStore}
 use Rattle.automata_hybrid.specs.Private.Cache.LookUps.{IsLookedUp}
 use Rattle.automata_hybrid.specs.Machines.Machine.{Machine}
 use Rattle.automata_hybrid.specs.Cache.Table.{Leads, Names}
@@ -8,9 +9,11 @@ use Rattle.automata_hybrid.specs.Private.Cache.Table.{IsNewState}
 use Rattle.automata_hybrid.specs.declared.cache.Found.TheVariants.{Known, New}
 use Rattle.automata_hybrid.proofs.Caches.Additions.{looked_up, new_state}
 use Rattle.automata_hybrid.proofs.Caches.Usage.{Leads-known}
-use Rattle.automata_hybrid.proofs.Steps.Starts.{ComputesStart, computed_answer, computed_run, computes_known}
+use Rattle.automata_hybrid.proofs.Known.Calls.{failed_start_run, made_start_run}
+use Rattle.automata_hybrid.proofs.Steps.Starts.{ComputesStart, computed_answer, computed_makes, computes_known}
 use Rattle.automata_hybrid.proofs.Steps.Starts.{computes_new, slot_leads}
 use Rattle.automata_hybrid.proofs.Searches.Contracts.{is_store}
+use Rattle.automata_hybrid.proofs.Searches.PassState.{if_err}
 use Rattle.automata_hybrid.proofs.cache.Cache.compute_start.Goals.{After-see_bounds-in-Known, After-see_bounds-in-New}
 use Rattle.automata_config.specs.Options.{Options, specialize_start_states_of}
 use Rattle.automata_hybrid.proofs.cache.Cache.compute_start.Goals as goal
@@ -72,9 +75,12 @@ returns-in-Known-clause-answer c =
 
 pub returns-in-Known-clause-run : goal.returns-in-Known-clause-run
 returns-in-Known-clause-run c =
-    computed_run c.args.dfa.now c.args.mode c.args.prev c.args.self.now c.set_start.new.self c.args.slot c.in-Known.id (known c)
-    c.requires.slot (is_store c.set_start.new.self.store c.args.dfa.now (after_known c) c.see_bounds-in-Known.ensures.bounds)
-    c.requires.unknown (c.see_bounds.ensures.sound.slots ∙ ap (λ (m : Machine). m.slots) c.requires.of)
+    made_start_run c.args.dfa.now c.args.mode c.args.prev c.args.self.now c.set_start.new.self
+    c.see_machine.ensures.machine
+    (is_store c.args.self.now.store c.args.dfa.now c.requires.of c.see_bounds.ensures.bounds) c.requires.slot.may
+    c.requires.unknown (is_store c.set_start.new.self.store c.args.dfa.now (after_known c) c.see_bounds-in-Known.ensures.bounds)
+    (computed_makes c.args.dfa.now c.args.mode c.args.prev c.args.self.now c.set_start.new.self c.args.slot
+    c.in-Known.id (known c) c.requires.slot)
 
 pub returns-in_ok-id-in-New-clause-answer : goal.returns-in_ok-id-in-New-clause-answer
 returns-in_ok-id-in-New-clause-answer c =
@@ -83,6 +89,25 @@ returns-in_ok-id-in-New-clause-answer c =
 
 pub returns-in_ok-id-in-New-clause-run : goal.returns-in_ok-id-in-New-clause-run
 returns-in_ok-id-in-New-clause-run c =
-    computed_run c.args.dfa.now c.args.mode c.args.prev c.args.self.now c.set_start-in-New.new.self c.args.slot c.in_ok-id-in-New.id (new c)
-    c.requires.slot (is_store c.set_start-in-New.new.self.store c.args.dfa.now (after_new c) c.see_bounds-in-New.ensures.bounds)
-    c.requires.unknown (c.see_bounds.ensures.sound.slots ∙ ap (λ (m : Machine). m.slots) c.requires.of)
+    made_start_run c.args.dfa.now c.args.mode c.args.prev c.args.self.now c.set_start-in-New.new.self
+    c.see_machine.ensures.machine
+    (is_store c.args.self.now.store c.args.dfa.now c.requires.of c.see_bounds.ensures.bounds) c.requires.slot.may
+    c.requires.unknown (is_store c.set_start-in-New.new.self.store c.args.dfa.now (after_new c) c.see_bounds-in-New.ensures.bounds)
+    (computed_makes c.args.dfa.now c.args.mode c.args.prev c.args.self.now c.set_start-in-New.new.self c.args.slot
+    c.in_ok-id-in-New.id (new c) c.requires.slot)
+
+pub returns-in_err-id-in-New-clause-refusal : goal.returns-in_err-id-in-New-clause-refusal
+returns-in_err-id-in-New-clause-refusal c =
+    let same : c.resolve.new.self ≡ counted c.args.self.now =
+    c.resolve.ensures.same ∙ c.determinize_start.ensures.counted in
+    let found : IsLookedUp c.resolve.new.self.store.table c.in_ok-key.key (New c.in-New.state) =
+    looked_up c.determinize_start.new.self c.resolve.new.self c.in_ok-key.key _ (New c.in-New.state)
+    c.resolve.ensures.same c.in-New.is c.in_ok-id.ensures.found in
+    if_err c.from_residual-in_err-id-in-New.result _ _ c.from_residual-in_err-id-in-New.ensures.1
+    (failed_start_run c.args.dfa.now c.args.mode c.args.prev c.args.self.now c.add_start.new.self
+    c.see_machine.ensures.machine
+    (is_store c.args.self.now.store c.args.dfa.now c.requires.of c.see_bounds.ensures.bounds) c.requires.slot.may
+    c.requires.unknown c.in_err-id-in-New.field-0.0 (c.in_err-id-in-New.ensures.refused.kept ∙ same)
+    (λ cache. subst (GivesUpInStore c.args.self.now.store) (found.0 ∙ c.in_ok-key.ensures.value)
+    (subst (λ (v : CacheView). GivesUpInStore v.store c.in-New.state) same
+    (c.in_err-id-in-New.ensures.refused.gives_up.0 cache))))

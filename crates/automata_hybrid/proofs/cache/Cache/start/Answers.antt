@@ -1,34 +1,37 @@
-use Rattle.std.proofs.Common.{◌∙◌, ◌^◌, ◌<◌, ◌≤◌, ap, arith, subst, sym}
+use Rattle.std.proofs.Common.{◌^◌, ◌<◌, ◌≤◌, arith, subst, sym}
 use Rattle.std.proofs.lemmas.Grind.{common_steps}
-use Rattle.automata_hybrid.specs.Machines.Machine.{Machine}
-use Rattle.automata_hybrid.specs.Private.Calls.Steps.{StartFailsInStore}
-use Rattle.automata_hybrid.specs.Private.Steps.Starts.{KnowsStart}
+use Rattle.automata_hybrid.specs.Known.Steps.{StartFails}
+use Rattle.automata_hybrid.specs.Known.Stores.{known_of}
 use Rattle.automata_hybrid.specs.Private.Cache.Stores.{IsKnownStart}
-use Rattle.automata_hybrid.proofs.Steps.Starts.{knows_slot, known_answer, known_run}
+use Rattle.automata_hybrid.proofs.Known.Calls.{cached_start_run, unknown_start}
 use Rattle.automata_hybrid.proofs.Searches.Contracts.{is_store}
+use Rattle.automata_hybrid.proofs.Steps.Starts.{known_answer}
 use Rattle.automata_hybrid.proofs.cache.Cache.start.Goals as goal
 
 pub returns-then-not-is_unknown-clause-answer : goal.returns-then-not-is_unknown-clause-answer
 returns-then-not-is_unknown-clause-answer c =
     let low : c.start_slot-found.result < 2 ^ 31 = grind (arith, common_steps, c.if-not-is_unknown.ensures.size) in
-    let known : IsKnownStart c.args.self.now.store c.args.slot = subst (λ n. n < 2 ^ 31) c.start_slot-found.ensures.value low in
-    let knows : KnowsStart c.args.dfa.now c.args.self.now.store c.args.mode c.args.prev = knows_slot c.args.dfa.now c.args.self.now.store c.args.mode c.args.prev c.args.slot c.requires.slot (c.see_bounds.ensures.sound.slots ∙ ap (λ (m : Machine). m.slots) c.requires.of) known in
-    known_answer c.args.dfa.now c.args.mode c.args.prev c.args.self.now c.args.slot c.start_slot-found.result c.requires.of c.requires.slot knows
-    c.start_slot-found.ensures.value low c.start_slot-found.ensures.leads c.start_slot-found.ensures.tag
+    known_answer c.args.dfa.now c.args.mode c.args.prev c.args.self.now c.args.slot c.start_slot-found.result
+    c.requires.of c.requires.slot c.start_slot-found.ensures.value low c.start_slot-found.ensures.leads
+    c.start_slot-found.ensures.tag
 
 pub returns-then-not-is_unknown-clause-run : goal.returns-then-not-is_unknown-clause-run
 returns-then-not-is_unknown-clause-run c =
     let low : c.start_slot-found.result < 2 ^ 31 = grind (arith, common_steps, c.if-not-is_unknown.ensures.size) in
-    let known : IsKnownStart c.args.self.now.store c.args.slot = subst (λ n. n < 2 ^ 31) c.start_slot-found.ensures.value low in
-    known_run c.args.dfa.now c.args.mode c.args.prev c.args.self.now
-    (is_store c.args.self.now.store c.args.dfa.now c.requires.of c.see_bounds.ensures.bounds) (knows_slot c.args.dfa.now c.args.self.now.store c.args.mode c.args.prev c.args.slot c.requires.slot (c.see_bounds.ensures.sound.slots ∙ ap (λ (m : Machine). m.slots) c.requires.of) known)
+    cached_start_run c.args.dfa.now c.args.mode c.args.prev c.args.slot c.args.self.now c.see_machine.ensures.machine
+    (is_store c.args.self.now.store c.args.dfa.now c.requires.of c.see_bounds.ensures.bounds) c.requires.slot
+    (subst (λ n. n < 2 ^ 31) c.start_slot-found.ensures.value low)
 
 pub compute_start-requires-clause-unknown : goal.compute_start-requires-clause-unknown
-compute_start-requires-clause-unknown c = λ knows.
+compute_start-requires-clause-unknown c =
     let l : 2 ^ 31 ≤ c.start_slot-found.result = grind (arith, common_steps, c.if-not-is_unknown.ensures.size) in
-    let known : IsKnownStart c.args.self.now.store c.args.slot = subst (IsKnownStart c.args.self.now.store) (sym c.requires.slot.at) knows.1.1 in
-    absurd (omega (arith, known, l, c.start_slot-found.ensures.value))
+    unknown_start c.args.dfa.now c.args.mode c.args.prev c.args.slot c.args.self.now c.see_machine.ensures.machine
+    (is_store c.args.self.now.store c.args.dfa.now c.requires.of c.see_bounds.ensures.bounds) c.requires.slot
+    (λ known. (let k : IsKnownStart c.args.self.now.store c.args.slot = known in
+    absurd (omega (arith, k, l, c.start_slot-found.ensures.value))))
 
 pub returns-in-Err-clause-refusal : goal.returns-in-Err-clause-refusal
 returns-in-Err-clause-refusal c =
-    subst (StartFailsInStore c.args.dfa.now c.args.mode c.args.prev c.args.self.now c.compute_start.new.self) (sym c.start_error.ensures) c.in-Err.ensures.refusal
+    subst (StartFails c.args.dfa.now c.args.mode c.args.prev (known_of c.args.self.now)
+    (known_of c.compute_start.new.self))
+    (sym c.start_error.ensures) c.in-Err.ensures.refusal

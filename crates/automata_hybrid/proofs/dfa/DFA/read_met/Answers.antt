@@ -1,11 +1,10 @@
-use Rattle.std.proofs.Common.{◌≡◌, false, true, Some, refl, sym, subst}
+use Rattle.std.proofs.Common.{◌≡◌, false, true, refl, sym, ap, subst}
 use Rattle.automata_base.specs.ByteClasses.Classes.{is_quit}
 use Rattle.automata_base.specs.Powersets.Powerset.{Powerset}
 use Rattle.automata_hybrid.specs.Cache.Table.{Names}
 use Rattle.automata_hybrid.specs.Machines.Machine.{quits_on}
 use Rattle.automata_hybrid.specs.Private.Searches.Units.{IsRead}
-use Rattle.automata_hybrid.specs.Private.Searches.Passes.{IsStepError}
-use Rattle.automata_hybrid.specs.Private.Searches.Passes.{MeetsQuitByte}
+use Rattle.automata_hybrid.specs.Known.Stores.{known_of}
 use Rattle.automata_hybrid.proofs.Searches.Reads.{at_err, at_quit, unit_left, unit_quits, unit_read}
 use Rattle.automata_hybrid.proofs.Searches.PassState.{false_true}
 use Rattle.automata_hybrid.proofs.Searches.KnownPasses.{clean_unit}
@@ -22,21 +21,19 @@ pub returns-in-None-clause-read : goal.returns-in-None-clause-read
 returns-in-None-clause-read c =
     let clean : quits_on c.args.self.now c.args.unit ≡ false = subst (λ u. quits_on c.args.self.now u ≡ false) (sym c.in-None.is) refl in
     unit_read c.args.self.now c.args.id c.args.unit c.args.at c.args.cache.now (c.see_bounds.ensures.sound.alive c.args.id)
-    c.in_ok-next.next c.step.new.cache (record { clean = clean; named = c.in_ok-next.ensures.step.answer.named clean }) c.in_ok-next.ensures.step.taken
+    c.in_ok-next.next c.step.new.cache (record { clean = clean; named = c.in_ok-next.ensures.step.answer.named clean }) c.in_ok-next.ensures.step
 
 pub returns-then-is_quit-clause-read : goal.returns-then-is_quit-clause-read
 returns-then-is_quit-clause-read c =
-    let quits : (q : Powerset) → Names c.args.cache.now.store.table c.args.id q → is_quit c.args.self.now.quits c.in-Some.byte ≡ true =
-    at_quit c.args.self.now c.args.id c.args.unit c.in-Some.byte c.args.cache.now c.step.new.cache c.in_ok-next.next c.in-Some.is c.in_ok-next.ensures.step.answer
-    c.see_bounds-2.ensures.sound.small (λ p. c.see_bounds-2.ensures.sound.low c.in_ok-next.next p) (c.if-is_quit.ensures.0 refl) in
-    unit_quits c.args.self.now c.args.id c.args.unit c.args.at c.args.cache.now (c.see_bounds.ensures.sound.alive c.args.id)
-    c.args.quit_at c.step.new.cache c.end_search.new.self c.quit.result
-    (subst (λ u. quits_on c.args.self.now u ≡ true) (sym c.in-Some.is) (quits c.requires.valid.0 c.requires.valid.1))
-    c.in_ok-next.ensures.step.taken c.end_search.ensures.value
-    (λ q n.
-    subst (λ u. IsStepError c.args.self.now c.end_search.new.self.store q u c.args.quit_at c.args.at c.quit.result) (sym c.in-Some.is)
-    (subst (IsStepError c.args.self.now c.end_search.new.self.store q (Some c.in-Some.byte) c.args.quit_at c.args.at) (sym c.quit.ensures)
-    (MeetsQuitByte c.in-Some.byte c.args.quit_at refl (quits q n) refl)))
+    let quits : (q : Powerset) → Names c.args.cache.now.store.table c.args.id q
+    → is_quit c.args.self.now.quits c.in-Some.byte ≡ true =
+    at_quit c.args.self.now c.args.id c.args.unit c.in-Some.byte c.args.cache.now c.step.new.cache c.in_ok-next.next
+    c.in-Some.is c.in_ok-next.ensures.step.answer c.see_bounds-2.ensures.sound.small
+    (λ p. c.see_bounds-2.ensures.sound.low c.in_ok-next.next p) (c.if-is_quit.ensures.0 refl) in
+    unit_quits c.args.self.now c.args.id c.args.unit c.args.at c.args.cache.now
+    (c.see_bounds.ensures.sound.alive c.args.id) c.args.quit_at c.in-Some.byte c.in_ok-next.next c.step.new.cache
+    c.end_search.new.self c.quit.result c.in-Some.is (quits c.requires.valid.0 c.requires.valid.1) c.quit.ensures
+    c.in_ok-next.ensures.step (ap known_of c.end_search.ensures.value)
 
 pub returns-else-is_quit-clause-read : goal.returns-else-is_quit-clause-read
 returns-else-is_quit-clause-read c =
@@ -44,4 +41,4 @@ returns-else-is_quit-clause-read c =
     clean_unit c.args.self.now c.step.new.cache.store.table c.in_ok-next.next c.args.unit c.in_ok-next.ensures.of c.see_bounds-2.ensures.sound.small
     (λ b. false_true (c.if-is_quit.ensures.1 b)) (c.in_ok-next.ensures.step.answer.quit (c.see_bounds.ensures.sound.low c.args.id c.requires.valid.0 c.requires.valid.1)) in
     unit_read c.args.self.now c.args.id c.args.unit c.args.at c.args.cache.now (c.see_bounds.ensures.sound.alive c.args.id)
-    c.in_ok-next.next c.step.new.cache (record { clean = clean; named = c.in_ok-next.ensures.step.answer.named clean }) c.in_ok-next.ensures.step.taken
+    c.in_ok-next.next c.step.new.cache (record { clean = clean; named = c.in_ok-next.ensures.step.answer.named clean }) c.in_ok-next.ensures.step

@@ -1,23 +1,21 @@
-use Rattle.std.proofs.lemmas.Result.{IfErr-weaker, on_ok_weaker}
-use Rattle.automata_hybrid.specs.Cache.Caches.{IsStoreOf}
-use Rattle.automata_hybrid.proofs.Known.Calls.{start_fails_known, start_known}
+use Rattle.std.proofs.Common.{rules, ◌≡◌, ◌∙◌, ◌≤◌, Some, refl, sym, ap}
+use Rattle.automata_hybrid.specs.Known.Steps.{IsQuitBehind}
+use Rattle.automata_hybrid.specs.Machines.StartSlots.{slot_behind}
+use Rattle.automata_hybrid.specs.Steps.Starts.{MayStart, quit_behind}
+use Rattle.automata_hybrid.proofs.Known.Calls.{past_start_run}
 use Rattle.automata_hybrid.proofs.Searches.Contracts.{is_store}
 use Rattle.automata_hybrid.proofs.dfa.DFA.start_state.Goals as goal
-use Rattle.automata_hybrid.proofs.dfa.DFA.start_state.Goals.{After-find_start}
 
-sound : (c : After-find_start) → IsStoreOf c.args.cache.now.store c.args.self.now
-sound c = is_store c.args.cache.now.store c.args.self.now c.requires c.see_bounds.ensures.bounds
+pub returns-in-Some-clause-refusal : goal.returns-in-Some-clause-refusal
+returns-in-Some-clause-refusal c =
+    let quits : quit_behind c.args.self.now c.args.config.now.look_behind ≡ Some c.in-Some.byte = search rules in
+    IsQuitBehind c.in-Some.byte quits refl refl
 
-pub returns-clause-refusal : goal.returns-clause-refusal
-returns-clause-refusal c =
-    IfErr-weaker c.find_start.result _ _
-    (λ e. start_fails_known c.args.self.now c.see_machine.ensures.machine c.args.config.now.anchored
-    c.args.config.now.look_behind c.args.cache.now c.find_start.new.cache e (sound c))
-    c.find_start.ensures.refusal
-
-pub returns-clause-run : goal.returns-clause-run
-returns-clause-run c =
-    on_ok_weaker c.find_start.result
-    (start_known c.args.self.now c.see_machine.ensures.machine c.args.config.now.anchored
-    c.args.config.now.look_behind c.args.cache.now c.find_start.new.cache (sound c))
-    c.find_start.ensures.run
+pub returns-in-None-clause-run : goal.returns-in-None-clause-run
+returns-in-None-clause-run c =
+    let may : MayStart c.args.self.now c.args.config.now.anchored c.args.config.now.look_behind = search rules in
+    let past : c.args.self.now.slots
+    ≤ slot_behind c.args.self.now c.args.config.now.anchored c.args.config.now.look_behind = search rules in
+    past_start_run c.args.self.now c.args.config.now.anchored c.args.config.now.look_behind c.args.cache.now
+    c.see_machine.ensures.machine
+    (is_store c.args.cache.now.store c.args.self.now c.requires c.see_bounds.ensures.bounds) may past

@@ -1,27 +1,41 @@
-use Rattle.std.proofs.Common.{◌-◌}
-use Rattle.std.proofs.lemmas.Result.{IfErr-weaker, on_ok_weaker}
-use Rattle.automata_base.specs.Haystacks.Tapes.{byte_before}
-use Rattle.automata_hybrid.specs.Cache.Caches.{IsStoreOf}
-use Rattle.automata_hybrid.proofs.Known.Calls.{start_fails_at, start_known}
-use Rattle.automata_hybrid.proofs.Searches.Contracts.{is_store}
+use Rattle.std.proofs.Common.{ℕ, ◌≡◌, ◌-◌, ◌∙◌, ap, subst}
+use Rattle.automata_base.specs.Haystacks.StartConfig.{StartConfig}
+use Rattle.automata_hybrid.specs.Known.Steps.{IsStartRun, StartFails}
+use Rattle.automata_hybrid.specs.Known.Stores.{known_of}
+use Rattle.automata_hybrid.specs.Steps.Starts.{IsStartAnswer, start_search_error}
+use Rattle.automata_hybrid.proofs.Steps.BySteps.{stands_first}
 use Rattle.automata_hybrid.proofs.dfa.DFA.start_state_forward.Goals as goal
-use Rattle.automata_hybrid.proofs.dfa.DFA.start_state_forward.Goals.{After-find_start_forward}
 
-sound : (c : After-find_start_forward) → IsStoreOf c.args.cache.now.store c.args.self.now
-sound c = is_store c.args.cache.now.store c.args.self.now c.requires c.see_bounds.ensures.bounds
+pub returns-in-Ok-clause-answer : goal.returns-in-Ok-clause-answer
+returns-in-Ok-clause-answer c =
+    subst (λ (s : StartConfig). IsStartAnswer c.args.self.now s.anchored s.look_behind c.args.cache.now c.start_state.new.cache c.in-Ok.id)
+    c.from_input_forward-config.ensures c.in-Ok.ensures.answer
 
-pub returns-clause-refusal : goal.returns-clause-refusal
-returns-clause-refusal c =
-    IfErr-weaker c.find_start_forward.result _ _
-    (λ e. start_fails_at c.args.self.now c.see_machine.ensures.machine c.args.input.now.anchored
-    (byte_before c.args.input.now.haystack c.args.input.now.start) (c.args.input.now.start - 1)
-    c.args.input.now.start c.args.cache.now c.find_start_forward.new.cache e (sound c))
-    c.find_start_forward.ensures.refusal
+pub returns-in-Ok-clause-run : goal.returns-in-Ok-clause-run
+returns-in-Ok-clause-run c =
+    subst (λ (s : StartConfig). IsStartRun c.args.self.now s.anchored s.look_behind (known_of c.args.cache.now)
+    (known_of c.start_state.new.cache))
+    c.from_input_forward-config.ensures c.in-Ok.ensures.run
 
-pub returns-clause-run : goal.returns-clause-run
-returns-clause-run c =
-    on_ok_weaker c.find_start_forward.result
-    (start_known c.args.self.now c.see_machine.ensures.machine c.args.input.now.anchored
-    (byte_before c.args.input.now.haystack c.args.input.now.start) c.args.cache.now c.find_start_forward.new.cache
-    (sound c))
-    c.find_start_forward.ensures.run
+pub returns-in-Err-clause-refusal : goal.returns-in-Err-clause-refusal
+returns-in-Err-clause-refusal c =
+    let e = c.in-Err.error in
+    let behind : c.saturating_sub.result ≡ c.args.input.now.start - 1 = c.saturating_sub.ensures ∙ ap (λ (n : ℕ). n - 1) c.start.ensures.start in
+    record {
+      error = e;
+      fails =
+          subst (λ (s : StartConfig). StartFails c.args.self.now s.anchored s.look_behind (known_of c.args.cache.now)
+          (known_of c.start_state.new.cache) e)
+          c.from_input_forward-config.ensures c.in-Err.ensures.refusal;
+      reported =
+          c.start_search_error.ensures
+          ∙ (ap (λ (n : ℕ). start_search_error e n c.start-in-Err.result) behind ∙ ap (start_search_error e (c.args.input.now.start - 1)) c.start-in-Err.ensures.start);
+    }
+
+pub returns-in-Ok-clause-stands : goal.returns-in-Ok-clause-stands
+returns-in-Ok-clause-stands c = λ early undone.
+    stands_first c.args.self.now c.args.input.now c.args.cache.now c.start_state.new.cache c.in-Ok.id
+    (record { of = c.in-Ok.ensures.of; low = c.see_bounds.ensures.sound.low; small = c.see_bounds.ensures.sound.small })
+    early undone c.haystack-haystack.ensures.within.1
+    (subst (λ (s : StartConfig). IsStartAnswer c.args.self.now s.anchored s.look_behind c.args.cache.now c.start_state.new.cache c.in-Ok.id)
+    c.from_input_forward-config.ensures c.in-Ok.ensures.answer)

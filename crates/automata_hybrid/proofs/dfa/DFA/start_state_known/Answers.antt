@@ -1,4 +1,4 @@
-use Rattle.std.proofs.Common.{ℕ, Bool, ◌≡◌, ◌∙◌, ◌^◌, ◌<◌, Option, None, Some, ap, subst, sym, refl, false, true}
+use Rattle.std.proofs.Common.{ℕ, Bool, ◌≡◌, ◌∙◌, ◌^◌, ◌<◌, Option, None, Some, subst, sym, refl, false, true}
 use Rattle.std.specs.Prelude.{Result, Ok, Err, IfSome}
 use Rattle.std.specs.Option.{is_some}
 use Rattle.automata_base.specs.declared.util.search.Anchored.{Anchored}
@@ -7,9 +7,9 @@ use Rattle.automata_config.specs.declared.error.StartError.TheVariants.{Unsuppor
 use Rattle.automata_hybrid.specs.Machines.Machine.{Machine}
 use Rattle.automata_hybrid.specs.Machines.StartSlots.{slot_behind, supports}
 use Rattle.automata_hybrid.specs.Steps.Starts.{quit_behind}
-use Rattle.automata_hybrid.specs.Private.Steps.Starts.{KnowsStart}
 use Rattle.automata_hybrid.specs.Private.Steps.Starts.{IsStartSlot}
-use Rattle.automata_hybrid.proofs.Steps.Starts.{knows_slot, known_answer, known_run}
+use Rattle.automata_hybrid.proofs.Known.Calls.{cached_start_run}
+use Rattle.automata_hybrid.proofs.Steps.Starts.{known_answer}
 use Rattle.automata_hybrid.proofs.Searches.Contracts.{is_store}
 use Rattle.automata_hybrid.proofs.dfa.DFA.start_state_known.Goals as goal
 
@@ -32,19 +32,14 @@ slot_here c =
       within = subst (λ (o : Option ℕ). IfSome o (λ n. n < c.args.self.now.slots)) c.in-Ok-Some.field-0-is c.in-Ok-Some.ensures.within;
     }
 
-knows_here :
-    (c : goal.After-start_slot) → c.start_slot.result < 2 ^ 31
-    → KnowsStart c.args.self.now c.args.cache.now.store c.args.mode c.args.prev
-knows_here c low =
-    knows_slot c.args.self.now c.args.cache.now.store c.args.mode c.args.prev c.in-Ok-Some.slot (slot_here c)
-    (c.see_bounds.ensures.sound.slots ∙ ap (λ (m : Machine). m.slots) c.requires) (subst (λ n. n < 2 ^ 31) c.start_slot.ensures.value low)
-
 pub returns-clause-answer : goal.returns-clause-answer
 returns-clause-answer c = λ low.
-    known_answer c.args.self.now c.args.mode c.args.prev c.args.cache.now c.in-Ok-Some.slot c.start_slot.result c.requires (slot_here c) (knows_here c low)
-    c.start_slot.ensures.value low c.start_slot.ensures.leads c.start_slot.ensures.tag
+    known_answer c.args.self.now c.args.mode c.args.prev c.args.cache.now c.in-Ok-Some.slot c.start_slot.result
+    c.requires (slot_here c) c.start_slot.ensures.value low c.start_slot.ensures.leads c.start_slot.ensures.tag
 
 pub returns-clause-run : goal.returns-clause-run
 returns-clause-run c = λ low.
-    known_run c.args.self.now c.args.mode c.args.prev c.args.cache.now
-    (is_store c.args.cache.now.store c.args.self.now c.requires c.see_bounds.ensures.bounds) (knows_here c low)
+    cached_start_run c.args.self.now c.args.mode c.args.prev c.in-Ok-Some.slot c.args.cache.now
+    c.see_machine.ensures.machine
+    (is_store c.args.cache.now.store c.args.self.now c.requires c.see_bounds.ensures.bounds) (slot_here c)
+    (subst (λ n. n < 2 ^ 31) c.start_slot.ensures.value low)

@@ -1,26 +1,31 @@
-use Rattle.std.specs.Prelude.{slice_get}
-use Rattle.std.proofs.lemmas.Result.{IfErr-weaker, on_ok_weaker}
-use Rattle.automata_hybrid.specs.Cache.Caches.{IsStoreOf}
-use Rattle.automata_hybrid.proofs.Known.Calls.{start_fails_at, start_known}
-use Rattle.automata_hybrid.proofs.Searches.Contracts.{is_store}
+use Rattle.std.proofs.Common.{ℕ, ◌∙◌, ap, subst}
+use Rattle.automata_base.specs.Haystacks.StartConfig.{StartConfig}
+use Rattle.automata_hybrid.specs.Known.Steps.{IsStartRun, StartFails}
+use Rattle.automata_hybrid.specs.Known.Stores.{known_of}
+use Rattle.automata_hybrid.specs.Steps.Starts.{IsStartAnswer, start_search_error}
 use Rattle.automata_hybrid.proofs.dfa.DFA.start_state_reverse.Goals as goal
-use Rattle.automata_hybrid.proofs.dfa.DFA.start_state_reverse.Goals.{After-find_start_reverse}
 
-sound : (c : After-find_start_reverse) → IsStoreOf c.args.cache.now.store c.args.self.now
-sound c = is_store c.args.cache.now.store c.args.self.now c.requires c.see_bounds.ensures.bounds
+pub returns-in-Ok-clause-answer : goal.returns-in-Ok-clause-answer
+returns-in-Ok-clause-answer c =
+    subst (λ (s : StartConfig). IsStartAnswer c.args.self.now s.anchored s.look_behind c.args.cache.now c.start_state.new.cache c.in-Ok.id)
+    c.from_input_reverse-config.ensures c.in-Ok.ensures.answer
 
-pub returns-clause-refusal : goal.returns-clause-refusal
-returns-clause-refusal c =
-    IfErr-weaker c.find_start_reverse.result _ _
-    (λ e. start_fails_at c.args.self.now c.see_machine.ensures.machine c.args.input.now.anchored
-    (slice_get c.args.input.now.haystack c.args.input.now.end) c.args.input.now.end c.args.input.now.end
-    c.args.cache.now c.find_start_reverse.new.cache e (sound c))
-    c.find_start_reverse.ensures.refusal
+pub returns-in-Ok-clause-run : goal.returns-in-Ok-clause-run
+returns-in-Ok-clause-run c =
+    subst (λ (s : StartConfig). IsStartRun c.args.self.now s.anchored s.look_behind (known_of c.args.cache.now)
+    (known_of c.start_state.new.cache))
+    c.from_input_reverse-config.ensures c.in-Ok.ensures.run
 
-pub returns-clause-run : goal.returns-clause-run
-returns-clause-run c =
-    on_ok_weaker c.find_start_reverse.result
-    (start_known c.args.self.now c.see_machine.ensures.machine c.args.input.now.anchored
-    (slice_get c.args.input.now.haystack c.args.input.now.end) c.args.cache.now c.find_start_reverse.new.cache (sound
-    c))
-    c.find_start_reverse.ensures.run
+pub returns-in-Err-clause-refusal : goal.returns-in-Err-clause-refusal
+returns-in-Err-clause-refusal c =
+    let e = c.in-Err.error in
+    record {
+      error = e;
+      fails =
+          subst (λ (s : StartConfig). StartFails c.args.self.now s.anchored s.look_behind (known_of c.args.cache.now)
+          (known_of c.start_state.new.cache) e)
+          c.from_input_reverse-config.ensures c.in-Err.ensures.refusal;
+      reported =
+          c.start_search_error.ensures
+          ∙ (ap (λ (n : ℕ). start_search_error e n c.end-in-Err.result) c.end.ensures.end ∙ ap (start_search_error e c.args.input.now.end) c.end-in-Err.ensures.end);
+    }

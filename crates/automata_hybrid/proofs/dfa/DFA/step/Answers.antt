@@ -1,4 +1,4 @@
-use Rattle.std.proofs.Common.{ℕ, ◌≡◌, ◌<◌, ◌≤◌, ◌^◌, ◌∙◌, ◌⊎◌, Option, ap, inl, inr, refl, sym, subst, arith}
+use Rattle.std.proofs.Common.{ℕ, ◌≡◌, ◌<◌, ◌≤◌, ◌^◌, ◌∙◌, ◌⊎◌, Option, false, ap, inl, inr, refl, sym, subst, arith}
 use Rattle.std.proofs.lemmas.Bool.{cases_lt}
 use Rattle.automata_hybrid.specs.Cache.Caches.{CacheView}
 use Rattle.automata_hybrid.specs.Machines.Machine.{Machine}
@@ -7,9 +7,16 @@ use Rattle.automata_hybrid.specs.Steps.Steps.{IsStepAnswer, known_step}
 use Rattle.automata_hybrid.specs.Private.Steps.Steps.{KnowsStep}
 use Rattle.automata_hybrid.specs.Cache.Stores.{cell_of}
 use Rattle.automata_hybrid.specs.Cache.Table.{IsRowId, Rows}
-use Rattle.automata_hybrid.specs.Private.Calls.Events.{FindsCached}
-use Rattle.automata_hybrid.specs.Private.Calls.Steps.{IsStepRunInStore, StepFailsInStore}
-use Rattle.automata_hybrid.proofs.Steps.Steps.{known_answer, moved_answer, moved_run, unknown_clean}
+use Rattle.automata_hybrid.specs.Cache.Progress.{progress_updated}
+use Rattle.automata_hybrid.specs.Calls.Events.{Step}
+use Rattle.automata_hybrid.specs.Known.Known.{moved}
+use Rattle.automata_hybrid.specs.Known.Passes.{EventFails}
+use Rattle.automata_hybrid.specs.Known.Steps.{IsStepRun, StepFails}
+use Rattle.automata_hybrid.specs.Known.Stores.{known_of}
+use Rattle.automata_hybrid.specs.Machines.Machine.{quits_on}
+use Rattle.automata_hybrid.proofs.Known.Calls.{after_cached, cached_step, names_in, reported_failure, stepped}
+use Rattle.automata_hybrid.proofs.Searches.PassState.{false_true}
+use Rattle.automata_hybrid.proofs.Steps.Steps.{known_answer, moved_answer, unknown_clean}
 use Rattle.automata_hybrid.proofs.Searches.Contracts.{is_store}
 use Rattle.automata_hybrid.proofs.dfa.DFA.step.Goals as goal
 
@@ -34,14 +41,15 @@ returns-then-not-is_unknown-clause-step c =
           c.unit_class.ensures.value c.unit_class.ensures.small c.unit_class.ensures.quit c.unit_class.ensures.free
           c.cell-cell.ensures.value c.cell-cell.ensures.named (c.see_bounds.ensures.sound.low c.args.id c.requires.valid.0 c.requires.valid.1) (omega (arith, known, same)) c.cell-cell.ensures.tag
           c.unit_class.ensures.unit);
-      taken =
-          record {
-            quit = λ on. refl;
-            taken = λ clean q n.
-                FindsCached (clean, subst (λ k. k < c.args.self.now.stride) c.unit_class.ensures.value c.unit_class.ensures.below)
-                (is_store c.args.cache.now.store c.args.self.now c.requires.of c.see_bounds.ensures.bounds)
-                (c.args.id, n, subst (λ n. n < 2 ^ 31) (c.requires.cell.0 known) known) refl;
-          };
+      quit = λ on. refl;
+      taken = λ clean q n.
+          after_cached c.args.self.now (Step q c.args.unit) (moved c.args.at (known_of c.args.cache.now))
+          (known_of c.args.cache.now)
+          (cached_step c.args.self.now c.args.id c.args.unit c.args.cache.now c.see_machine.ensures.machine
+          c.unit_class.ensures.unit
+          (is_store c.args.cache.now.store c.args.self.now c.requires.of c.see_bounds.ensures.bounds)
+          (subst (λ k. k < c.args.self.now.stride) c.unit_class.ensures.value c.unit_class.ensures.below)
+          (subst (λ n. n < 2 ^ 31) (c.requires.cell.0 known) known) clean q n);
     }
 
 pub compute_next-requires-clause-unknown : goal.compute_next-requires-clause-unknown
@@ -65,25 +73,42 @@ compute_next-requires-clause-valid c =
 pub returns-in-Ok-clause-step : goal.returns-in-Ok-clause-step
 returns-in-Ok-clause-step c =
     let free : 2 ^ 31 ≤ c.args.cell = grind (arith, common_steps, c.if-not-is_unknown.ensures.size) in
+    let clean : quits_on c.args.self.now c.args.unit ≡ false = compute_next-requires-clause-clean c in
     record {
       answer =
-          moved_answer c.args.self.now c.args.id c.args.unit c.args.at c.args.cache.now c.compute_next.new.self c.in-Ok.next
-          (subst (λ (v : CacheView). IsStepAnswer c.args.self.now c.args.id c.args.unit v c.compute_next.new.self c.in-Ok.next) c.move_search.ensures.value c.in-Ok.ensures.answer);
-      taken =
-          moved_run c.args.self.now c.args.id c.args.unit c.args.at c.args.cache.now c.compute_next.new.self (c.requires.cell.1 free)
-          (unknown_clean c.args.self.now c.args.id c.args.unit c.args.cache.now c.unit_class.result c.cell-cell.result c.requires.of c.requires.valid
-          c.unit_class.ensures.value c.unit_class.ensures.small c.unit_class.ensures.quit c.unit_class.ensures.free
-          c.cell-cell.ensures.value c.cell-cell.ensures.named
-          (unread c.args.self.now c.args.id c.args.unit c.args.cache.now c.cell-cell.result
-          (c.cell-cell.ensures.value ∙ ap (cell_of c.args.cache.now.store c.args.id) c.unit_class.ensures.value) (c.requires.cell.1 free)))
-          (subst (λ (v : CacheView). IsStepRunInStore c.args.self.now c.args.id c.args.unit v c.compute_next.new.self) c.move_search.ensures.value c.in-Ok.ensures.run);
+          moved_answer c.args.self.now c.args.id c.args.unit
+          (progress_updated c.args.cache.now.store.searched c.args.at) c.args.cache.now c.compute_next.new.self
+          c.in-Ok.next
+          (subst (λ (v : CacheView). IsStepAnswer c.args.self.now c.args.id c.args.unit v c.compute_next.new.self
+          c.in-Ok.next)
+          c.move_search.ensures.value c.in-Ok.ensures.answer);
+      quit = λ quits. absurd (false_true (sym clean ∙ quits));
+      taken = λ _ q named.
+          stepped c.args.self.now c.args.id q c.args.unit c.args.at c.args.cache.now c.compute_next.new.self
+          c.see_machine.ensures.machine c.unit_class.ensures.unit
+          (is_store c.args.cache.now.store c.args.self.now c.requires.of c.see_bounds.ensures.bounds) clean
+          (subst (λ k. k < c.args.self.now.stride) c.unit_class.ensures.value c.unit_class.ensures.below)
+          (c.requires.cell.1 free) named
+          (subst (λ (v : CacheView). IsStepRun c.args.self.now c.args.id c.args.unit (known_of v)
+          (known_of c.compute_next.new.self))
+          c.move_search.ensures.value c.in-Ok.ensures.run);
     }
 
 pub returns-in-Err-clause-step : goal.returns-in-Err-clause-step
-returns-in-Err-clause-step c = record {
-  error = c.in-Err.error;
-  refused =
-      subst (λ (v : CacheView). StepFailsInStore c.args.self.now c.args.id c.args.unit v c.compute_next.new.self c.in-Err.error)
-      c.move_search.ensures.value c.in-Err.ensures.refusal;
-  reported = c.step_error.ensures;
-}
+returns-in-Err-clause-step c =
+    let fails : StepFails c.args.self.now c.args.id c.args.unit
+    (moved c.args.at (known_of c.args.cache.now)) (known_of c.compute_next.new.self) c.in-Err.error =
+    subst (λ (v : CacheView). StepFails c.args.self.now c.args.id c.args.unit (known_of v)
+    (known_of c.compute_next.new.self) c.in-Err.error)
+    c.move_search.ensures.value c.in-Err.ensures.refusal in
+    record {
+      clean = fails.clean;
+      fails = λ q named.
+          subst (EventFails c.args.self.now (Step q c.args.unit) c.args.at
+          (moved c.args.at (known_of c.args.cache.now)) (known_of c.compute_next.new.self))
+          (sym c.step_error.ensures)
+          (reported_failure c.args.self.now q c.args.unit c.args.at (moved c.args.at (known_of c.args.cache.now))
+          (known_of c.compute_next.new.self) c.in-Err.error
+          (fails.fails q (names_in c.args.self.now c.args.cache.now q c.args.id
+          (is_store c.args.cache.now.store c.args.self.now c.requires.of c.see_bounds.ensures.bounds) named)));
+    }
