@@ -1,5 +1,5 @@
 -- Units that are read one after another, and the end of a pass after them, by what the cache knows.
-use Rattle.std.proofs.Common.{ℕ, zero, suc, ◌≡◌, ◌∙◌, ◌+◌, ◌-◌, ◌<◌, ◌≤◌, ◌⊎◌, inl, inr, length, Option, Some, false}
+use Rattle.std.proofs.Common.{ℕ, zero, suc, ◌≡◌, ◌∙◌, ◌+◌, ◌-◌, ◌<◌, ◌≤◌, ◌⊎◌, inl, inr, length, Option, Some, true, false}
 use Rattle.std.proofs.Common.{refl, sym, ap, subst, arith, eq-or-lt_of_le}
 use Rattle.std.specs.Prelude.{Result, Ok, Err, option_and_then, option_map}
 use Rattle.automata_base.specs.Answers.Answers.{offset_in}
@@ -13,7 +13,7 @@ use Rattle.automata_config.specs.declared.error.SearchError.{SearchError}
 use Rattle.automata_config.specs.declared.error.SearchError.TheVariants as search
 use Rattle.automata_config.specs.declared.error.StartError.{StartError}
 use Rattle.automata_hybrid.specs.Cache.Caches.{CacheView, IsStoreOf, with_store}
-use Rattle.automata_hybrid.specs.Cache.Progress.{progress_finished}
+use Rattle.automata_hybrid.specs.Cache.Progress.{progress_finished, progress_started}
 use Rattle.automata_hybrid.specs.Cache.Stores.{with_searched}
 use Rattle.automata_hybrid.specs.Cache.Table.{Names}
 use Rattle.automata_hybrid.specs.Calls.Events.{Step}
@@ -288,6 +288,14 @@ module _ (way : Direction) (m : Machine) (input : Input) (k id at : ℕ) (unit :
       (given_up_offset way input k) (known_of c) (known_of new) e)
       (sym quits)
       (left_along (pass_trace way m input) way m input k id at unit c new is place named quit_at e fails)
+
+-- a search was begun at the offset of its first unit
+pub begun_here :
+    (way : Direction) (input : Input) (at : ℕ) (old new : CacheView) → given_up_offset way input 0 ≡ at
+    → new ≡ with_store old (with_searched old.store (progress_started old.store.searched at))
+    → known_of new ≡ known.begun (given_up_offset way input 0) (known_of old)
+begun_here way input at old new place begins =
+    ap known_of begins ∙ ap (λ a. known.begun a (known_of old)) (sym place)
 
 -- a search was ended at the offset of a unit
 pub ended_here :
