@@ -2,7 +2,7 @@ use Rattle.std.proofs.Common.{◌≡◌, ◌∙◌, refl, sym, subst}
 use Rattle.automata_base.proofs.Paths.Orders.{some_inj}
 use Rattle.automata_hybrid.specs.Cache.Table.{IsRowState}
 use Rattle.automata_hybrid.specs.Machines.Machine.{Machine}
-use Rattle.automata_hybrid.specs.Known.Pieces.{CannotHoldStart}
+use Rattle.automata_hybrid.specs.Known.Pieces.{CannotHoldStart, LacksStart}
 use Rattle.automata_hybrid.proofs.Pieces.Answers.{begun_alive, begun_dead, start_named}
 use Rattle.automata_hybrid.proofs.Pieces.Walks.{walk_begun_alive, walk_begun_dead}
 use Rattle.automata_hybrid.proofs.Searches.PassState.{false_true}
@@ -35,6 +35,9 @@ returns-in-Ok-handle-clause-begun c =
     begun_alive c.args.self.now c.args.config.now.anchored c.args.config.now.look_behind c.args.earliest c.args.cache.now c.start_state.new.cache
     c.in-Ok.id (c.skips.ensures.no c.if-skips.false) c.in-Ok.ensures.answer (c.see_bounds.ensures.sound.low c.in-Ok.id) c.see_bounds.ensures.sound.small
     c.in-Ok-handle.handle.state (λ b. false_true (c.if-is_dead.ensures.1 b)) (λ q n. (c.in-Ok-handle.ensures q n).0)
+
+pub returns-in-Err-clause-effect : goal.returns-in-Err-clause-effect
+returns-in-Err-clause-effect c = (c.skips.ensures.no c.if-skips.false, LacksStart c.in-Err.ensures.refusal)
 
 pub returns-clause-effect : goal.returns-clause-effect
 returns-clause-effect c = (c.skips.ensures.no c.if-skips.false, CannotHoldStart c.in-Ok.ensures.run refl)

@@ -11,7 +11,9 @@ use Rattle.automata_hybrid.specs.Pieces.State.{IsPiecesOf, PiecesView}
 use Rattle.automata_hybrid.specs.Private.Pieces.State.{found_in}
 use Rattle.automata_hybrid.specs.Pieces.Walks.{IsWalked}
 use Rattle.automata_hybrid.specs.Private.Pieces.Walks.{IsPiecesWalk}
+use Rattle.automata_hybrid.specs.Searches.PieceRuns.{piece_state}
 use Rattle.automata_hybrid.proofs.Pieces.Progress.{goes_on, run_left, run_through, run_upto}
+use Rattle.automata_hybrid.proofs.Pieces.Runs.{found_fits}
 use Rattle.automata_hybrid.proofs.Pieces.Walks.{named_upto, stands_as, walks_dead, walks_match, walks_none, walks_through}
 use Rattle.automata_hybrid.proofs.Searches.PassState.{none_is, some_is}
 use Rattle.automata_hybrid.proofs.Searches.Reads.{at_err}
@@ -58,9 +60,9 @@ returns-then-is_none-clause-walked c =
     c.in-Some.from true on.3 (sym c.requires.walk.early) c.in_ok-at.field-0 c.in-Over.at c.in-Over.found
     c.in_ok-at.ensures.end c.in-Over.is in
     let none : c.in-Over.found ≡ None = none_is c.in-Over.found (c.is_none.ensures ∙ ap not c.if-is_none.true) in
-    walks_dead c.args.self.now on.0 c.args.piece.now c.args.pieces.now c.end.new.self on.1 c.requires.walk.early c.in-Over.at c.in-Over.found (begun 0 (known_of c.resume_pieces.new.cache)) (known_of c.run_piece.new.cache) over.upto
-    over.reported
-    none c.end.ensures.state c.end.ensures.found
+    walks_dead c.args.self.now on.0 c.args.piece.now c.args.pieces.now c.end.new.self on.1 c.requires.walk.early
+    c.in-Over.at c.in-Over.found (begun 0 (known_of c.resume_pieces.new.cache)) (known_of c.run_piece.new.cache)
+    over.upto over.reported none c.end.ensures.state c.end.ensures.found
 
 pub returns-then-is_none-clause-effect : goal.returns-then-is_none-clause-effect
 returns-then-is_none-clause-effect c =
@@ -70,8 +72,19 @@ returns-then-is_none-clause-effect c =
     c.in-Some.from true on.3 (sym c.requires.walk.early) c.in_ok-at.field-0 c.in-Over.at c.in-Over.found
     c.in_ok-at.ensures.end c.in-Over.is in
     WalksUpto on.0 (begun 0 (known_of c.resume_pieces.new.cache)) c.in-Over.at
-    (goes_on c.args.self.now c.args.pieces.now on.0 (known_of c.args.cache.now) c.resume_pieces.new.cache on.1 on.2 0) over.upto
-    (let e = c.bytes_read-base.ensures in let r = c.end.ensures.read in omega (arith, e, r))
+    (goes_on c.args.self.now c.args.pieces.now on.0 (known_of c.args.cache.now) c.resume_pieces.new.cache on.1 on.2 0)
+    over.upto (let e = c.bytes_read-base.ensures in let r = c.end.ensures.read in omega (arith, e, r))
+
+pub found_in-found-requires : goal.found_in-found-requires
+found_in-found-requires c =
+    let on = rw c.in-Some.is at c.in_ok-from.ensures.some in
+    let over =
+    run_upto c.args.self.now c.args.piece.now c.args.pieces.now on.0 c.resume_pieces.new.cache c.run_piece.new.cache
+    c.in-Some.from true on.3 (sym c.requires.walk.early) c.in_ok-at.field-0 c.in-Over.at c.in-Over.found
+    c.in_ok-at.ensures.end c.in-Over.is in
+    found_fits c.args.pieces.now.earliest (λ k. piece_state c.args.self.now c.args.piece.now on.0 k) (suc c.in-Over.at)
+    c.args.piece.now c.bytes_read-base.result c.in-Over.found over.reported
+    (let l = over.upto.reads.0 in omega (arith, l)) (let e = c.in-Some-checked_add.ensures in omega (arith, e))
 
 pub returns-in_err-stand_in_row-in-Over-clause-walk : goal.returns-in_err-stand_in_row-in-Over-clause-walk
 returns-in_err-stand_in_row-in-Over-clause-walk c =
@@ -92,8 +105,8 @@ returns-in_err-stand_in_row-in-Over-clause-effect c =
     (known_of c.args.cache.now) (known_of c.run_piece.new.cache) (result_err r))
     c.from_residual-in_err-stand_in_row-in-Over.ensures.1
     (NotHeldAt on.0 (begun 0 (known_of c.resume_pieces.new.cache)) c.in-Over.at
-    (goes_on c.args.self.now c.args.pieces.now on.0 (known_of c.args.cache.now) c.resume_pieces.new.cache on.1 on.2 0) over.upto
-    c.in_err-stand_in_row-in-Over.ensures.error)
+    (goes_on c.args.self.now c.args.pieces.now on.0 (known_of c.args.cache.now) c.resume_pieces.new.cache on.1 on.2 0)
+    over.upto c.in_err-stand_in_row-in-Over.ensures.error)
 
 pub returns-in_err-stand_in_row-in-At-clause-walk : goal.returns-in_err-stand_in_row-in-At-clause-walk
 returns-in_err-stand_in_row-in-At-clause-walk c =
@@ -114,8 +127,8 @@ returns-in_err-stand_in_row-in-At-clause-effect c =
     (known_of c.args.cache.now) (known_of c.run_piece.new.cache) (result_err r))
     c.from_residual-in_err-stand_in_row-in-At.ensures.1
     (AsSearch (NotHeld on.0 (begun 0 (known_of c.resume_pieces.new.cache))
-    (goes_on c.args.self.now c.args.pieces.now on.0 (known_of c.args.cache.now) c.resume_pieces.new.cache on.1 on.2 0) through.all
-    c.in_err-stand_in_row-in-At.ensures.error))
+    (goes_on c.args.self.now c.args.pieces.now on.0 (known_of c.args.cache.now) c.resume_pieces.new.cache on.1 on.2 0)
+    through.all c.in_err-stand_in_row-in-At.ensures.error))
 
 pub returns-in_ok-stand_in_row-in-Over-clause-walked : goal.returns-in_ok-stand_in_row-in-Over-clause-walked
 returns-in_ok-stand_in_row-in-Over-clause-walked c =
@@ -127,15 +140,16 @@ returns-in_ok-stand_in_row-in-Over-clause-walked c =
     let some = some_is c.in-Over.found (sym (c.is_none.ensures ∙ ap not c.if-is_none.false)) in
     let more : suc c.in-Over.at ≡ c.in-Over.at + 1 = omega arith in
     subst (λ n. IsWalked c.args.self.now c.args.piece.now c.args.pieces.now c.stand_in_row.new.pieces n) more
-    (walks_match c.args.self.now on.0 c.args.piece.now c.args.pieces.now c.stand_in_row.new.pieces on.1 c.requires.walk.early c.in-Over.at c.in-Over.found (begun 0 (known_of c.resume_pieces.new.cache)) (known_of c.run_piece.new.cache) over.upto
-    over.reported
-    c.run_piece.new.cache.store.table c.in-Over.id some
-    (stands_as c.run_piece.new.cache.store.table c.in-Over.id _ _ _ _ c.args.pieces.now c.stand_in_row.new.pieces c.in_ok-stand_in_row-in-Over.ensures.stands
-    (let e = c.bytes_read-base.ensures in omega (arith, e))
+    (walks_match c.args.self.now on.0 c.args.piece.now c.args.pieces.now c.stand_in_row.new.pieces on.1
+    c.requires.walk.early c.in-Over.at c.in-Over.found (begun 0 (known_of c.resume_pieces.new.cache))
+    (known_of c.run_piece.new.cache) over.upto over.reported c.run_piece.new.cache.store.table c.in-Over.id some
+    (stands_as c.run_piece.new.cache.store.table c.in-Over.id _ _ _ _ c.args.pieces.now c.stand_in_row.new.pieces
+    c.in_ok-stand_in_row-in-Over.ensures.stands (let e = c.bytes_read-base.ensures in omega (arith, e))
     (c.found_in-found.ensures ∙ ap (λ b. found_in c.in-Over.found b None) c.bytes_read-base.ensures))
-    (named_upto c.args.self.now on.0 c.args.piece.now c.args.pieces.now c.stand_in_row.new.pieces on.1 c.requires.walk.early c.in-Over.at c.in-Over.found (begun 0 (known_of c.resume_pieces.new.cache)) (known_of c.run_piece.new.cache) over.upto
-    over.reported
-    c.run_piece.new.cache.store.table c.in-Over.id some over.leads))
+    (named_upto c.args.self.now on.0 c.args.piece.now c.args.pieces.now c.stand_in_row.new.pieces on.1
+    c.requires.walk.early c.in-Over.at c.in-Over.found (begun 0 (known_of c.resume_pieces.new.cache))
+    (known_of c.run_piece.new.cache) over.upto over.reported c.run_piece.new.cache.store.table c.in-Over.id some
+    over.leads))
 
 pub returns-in_ok-stand_in_row-in-Over-clause-effect : goal.returns-in_ok-stand_in_row-in-Over-clause-effect
 returns-in_ok-stand_in_row-in-Over-clause-effect c =
@@ -145,8 +159,10 @@ returns-in_ok-stand_in_row-in-Over-clause-effect c =
     c.in-Some.from true on.3 (sym c.requires.walk.early) c.in_ok-at.field-0 c.in-Over.at c.in-Over.found
     c.in_ok-at.ensures.end c.in-Over.is in
     WalksUpto on.0 (begun 0 (known_of c.resume_pieces.new.cache)) c.in-Over.at
-    (goes_on c.args.self.now c.args.pieces.now on.0 (known_of c.args.cache.now) c.resume_pieces.new.cache on.1 on.2 0) over.upto
-    (let e = c.bytes_read-base.ensures in let r = c.in_ok-stand_in_row-in-Over.ensures.stands.read in omega (arith, e, r))
+    (goes_on c.args.self.now c.args.pieces.now on.0 (known_of c.args.cache.now) c.resume_pieces.new.cache on.1 on.2 0)
+    over.upto
+    (let e = c.bytes_read-base.ensures in let r = c.in_ok-stand_in_row-in-Over.ensures.stands.read in
+    omega (arith, e, r))
 
 pub returns-in_ok-stand_in_row-in-At-clause-walked : goal.returns-in_ok-stand_in_row-in-At-clause-walked
 returns-in_ok-stand_in_row-in-At-clause-walked c =
@@ -155,9 +171,10 @@ returns-in_ok-stand_in_row-in-At-clause-walked c =
     run_through c.args.self.now c.args.piece.now c.args.pieces.now on.0 c.resume_pieces.new.cache
     c.run_piece.new.cache c.in-Some.from true on.3 (sym c.requires.walk.early) c.in_ok-at.field-0 c.in-At.id
     c.in-At.field-1 c.in_ok-at.ensures.end c.in-At.is in
-    walks_through c.args.self.now on.0 c.args.piece.now c.args.pieces.now c.stand_in_row-in-At.new.pieces on.1 c.requires.walk.early c.run_piece.new.cache.store.table c.in-At.id
-    c.in-At.field-1
-    (stands_as c.run_piece.new.cache.store.table c.in-At.id _ _ _ _ c.args.pieces.now c.stand_in_row-in-At.new.pieces c.in_ok-stand_in_row-in-At.ensures.stands
+    walks_through c.args.self.now on.0 c.args.piece.now c.args.pieces.now c.stand_in_row-in-At.new.pieces on.1
+    c.requires.walk.early c.run_piece.new.cache.store.table c.in-At.id c.in-At.field-1
+    (stands_as c.run_piece.new.cache.store.table c.in-At.id _ _ _ _ c.args.pieces.now
+    c.stand_in_row-in-At.new.pieces c.in_ok-stand_in_row-in-At.ensures.stands
     (let e = c.bytes_read-base.ensures in let a = c.in-Some-checked_add.ensures in omega (arith, e, a)) refl)
     through.at
 
@@ -169,5 +186,7 @@ returns-in_ok-stand_in_row-in-At-clause-effect c =
     c.run_piece.new.cache c.in-Some.from true on.3 (sym c.requires.walk.early) c.in_ok-at.field-0 c.in-At.id
     c.in-At.field-1 c.in_ok-at.ensures.end c.in-At.is in
     WalksThrough on.0 (begun 0 (known_of c.resume_pieces.new.cache))
-    (goes_on c.args.self.now c.args.pieces.now on.0 (known_of c.args.cache.now) c.resume_pieces.new.cache on.1 on.2 0) through.all
-    (let e = c.bytes_read-base.ensures in let r = c.in_ok-stand_in_row-in-At.ensures.stands.read in let a = c.in-Some-checked_add.ensures in omega (arith, e, r, a))
+    (goes_on c.args.self.now c.args.pieces.now on.0 (known_of c.args.cache.now) c.resume_pieces.new.cache on.1 on.2 0)
+    through.all
+    (let e = c.bytes_read-base.ensures in let r = c.in_ok-stand_in_row-in-At.ensures.stands.read in
+    let a = c.in-Some-checked_add.ensures in omega (arith, e, r, a))
