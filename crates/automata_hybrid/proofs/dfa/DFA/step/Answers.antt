@@ -73,7 +73,13 @@ compute_next-requires-clause-valid c =
 pub returns-in-Ok-clause-step : goal.returns-in-Ok-clause-step
 returns-in-Ok-clause-step c =
     let free : 2 ^ 31 ≤ c.args.cell = grind (arith, common_steps, c.if-not-is_unknown.ensures.size) in
-    let clean : quits_on c.args.self.now c.args.unit ≡ false = compute_next-requires-clause-clean c in
+    let clean : quits_on c.args.self.now c.args.unit ≡ false =
+    unknown_clean c.args.self.now c.args.id c.args.unit c.args.cache.now c.unit_class.result c.cell-cell.result
+    c.requires.of c.requires.valid c.unit_class.ensures.value c.unit_class.ensures.small c.unit_class.ensures.quit
+    c.unit_class.ensures.free c.cell-cell.ensures.value c.cell-cell.ensures.named
+    (unread c.args.self.now c.args.id c.args.unit c.args.cache.now c.cell-cell.result
+    (c.cell-cell.ensures.value ∙ ap (cell_of c.args.cache.now.store c.args.id) c.unit_class.ensures.value)
+    (c.requires.cell.1 free)) in
     record {
       answer =
           moved_answer c.args.self.now c.args.id c.args.unit
