@@ -20,7 +20,8 @@ use Rattle.automata_hybrid.specs.Cache.Table.{Leads, Names, Rows}
 use Rattle.automata_hybrid.specs.Known.Known.{Known}
 use Rattle.automata_hybrid.specs.Known.Pieces.{AnswerStands, DiesThere, FindsThere, ReadsPieceUpto}
 use Rattle.automata_hybrid.specs.Machines.Machine.{Machine}
-use Rattle.automata_hybrid.specs.Pieces.Answers.{BeginsAfter, EndsHere, HasBegun, IsPieceAt, IsWhole, ReadsOn, StandsAfter}
+use Rattle.automata_hybrid.specs.Pieces.Answers.{BeginsAfter, EndsHere, HasBegun, IsPieceAt, IsWhole, ReadsOn}
+use Rattle.automata_hybrid.specs.Pieces.Answers.{StandsAfter}
 use Rattle.automata_hybrid.specs.Pieces.Answers.{WasGiven, WasGivenAll, from_first}
 use Rattle.automata_hybrid.specs.Pieces.State.{PiecesView}
 use Rattle.automata_hybrid.specs.Private.Pieces.State.{found_in}
@@ -34,7 +35,8 @@ use Rattle.automata_hybrid.specs.Steps.Starts.{IsStartAnswer, MayStart}
 use Rattle.automata_hybrid.proofs.Pieces.Runs.{pass_clean, pass_found, pass_next, pass_state}
 use Rattle.automata_hybrid.proofs.Searches.Bounds.{lies_in}
 use Rattle.automata_hybrid.proofs.Searches.Directions.{begins_alive, begins_dead}
-use Rattle.automata_hybrid.proofs.Searches.PassState.{clean_all, clean_last, clean_start, dead_more, false_true, found_dead}
+use Rattle.automata_hybrid.proofs.Searches.PassState.{clean_all, clean_last, clean_start, dead_more, false_true}
+use Rattle.automata_hybrid.proofs.Searches.PassState.{found_dead}
 use Rattle.automata_hybrid.proofs.Searches.PassState.{found_first, more_last, reported_quiet, reported_stays, starts_at}
 use Rattle.automata_hybrid.proofs.Searches.PassState.{starts_dead}
 use Rattle.automata_hybrid.proofs.Searches.Skips.{found_reported}
@@ -46,19 +48,24 @@ use Rattle.automata_hybrid.proofs.Steps.Steps.{no_quit_unit}
 
 -- a start that is not dead is named
 pub start_named :
-    (m : Machine) (mode : Anchored) (behind : Option ℕ) (old new : CacheView) (id : ℕ) → IsStartAnswer m mode behind old new id
-    → ((q : Powerset) → Names new.store.table id q → id < 2 ^ 29) → new.store.table.of.stride ≤ 512 → (HasDeadTag id → ⊥)
+    (m : Machine) (mode : Anchored) (behind : Option ℕ) (old new : CacheView) (id : ℕ)
+    → IsStartAnswer m mode behind old new id
+    → ((q : Powerset) → Names new.store.table id q → id < 2 ^ 29) → new.store.table.of.stride ≤ 512
+    → (HasDeadTag id → ⊥)
     → Names new.store.table id (start_state_of m.nfa mode behind)
 start_named m mode behind old new id answer low small =
     (dead_tagged new.store.table id low small (start_state_of m.nfa mode behind) answer.named).1
 
 -- what a search that begins in a mode after a byte is to one over an input
-module _ (m : Machine) (mode : Anchored) (behind : Option ℕ) (earliest : Bool) (old new : CacheView) (id : ℕ) (plain : Skips m → ⊥)
+module _ (m : Machine) (mode : Anchored) (behind : Option ℕ) (earliest : Bool) (old new : CacheView) (id : ℕ)
+    (plain : Skips m → ⊥)
     (answer : IsStartAnswer m mode behind old new id) (low : (q : Powerset) → Names new.store.table id q → id < 2 ^ 29)
     (small : new.store.table.of.stride ≤ 512) where
-  pub may_begin : (input : Input) → BeginsAfter mode behind earliest input → MayStart m input.anchored (tape_in Forward input).before
+  pub may_begin :
+      (input : Input) → BeginsAfter mode behind earliest input → MayStart m input.anchored (tape_in Forward input).before
   may_begin input b =
-      subst (λ v. MayStart m input.anchored v) (sym b.follows) (subst (λ v. MayStart m v behind) (sym b.moded) answer.may)
+      subst (λ v. MayStart m input.anchored v) (sym b.follows)
+      (subst (λ v. MayStart m v behind) (sym b.moded) answer.may)
 
   pub leads_begin :
       (input : Input) → BeginsAfter mode behind earliest input
@@ -69,7 +76,8 @@ module _ (m : Machine) (mode : Anchored) (behind : Option ℕ) (earliest : Bool)
 
   -- it is dead from its start on
   pub begun_dead :
-      HasDeadTag id → HasBegun m mode behind earliest (record { state = None; read = 0; earliest = earliest; found = None })
+      HasDeadTag id → HasBegun m mode behind earliest
+      (record { state = None; read = 0; earliest = earliest; found = None })
   begun_dead tag = record {
     plain = plain;
     read = refl;
@@ -134,13 +142,15 @@ reads_none m piece p none input n given here = record {
   answered = given.answered;
 }
 
-found_none : (start base : ℕ) (o before : Option HalfMatch) → from_first start (found_in o base before) ≡ None → o ≡ None
+found_none :
+    (start base : ℕ) (o before : Option HalfMatch) → from_first start (found_in o base before) ≡ None → o ≡ None
 found_none start base None before e = refl
 found_none start base (Some half) before e = absurd (some_none e)
 
 -- a search that stood at a state has read a piece
 module _ (m : Machine) (q : Powerset) (piece : List ℕ) (old new : PiecesView) (was : old.state ≡ Some q)
-    (early : new.earliest ≡ old.earliest) (found : Option HalfMatch) (result : new.found ≡ found_in found old.read old.found) where
+    (early : new.earliest ≡ old.earliest) (found : Option HalfMatch)
+    (result : new.found ≡ found_in found old.read old.found) where
   found_on :
       (input : Input) (n k : ℕ) → WasGiven m input n old → IsPieceAt input n piece → k ≤ length piece
       → found ≡ half_of Forward (piece_input piece old.earliest) ((piece_trace m piece old.earliest q).reported k)
@@ -150,15 +160,16 @@ module _ (m : Machine) (q : Powerset) (piece : List ℕ) (old new : PiecesView) 
       ap (from_first input.start)
       (result ∙ (ap (λ b. found_in found b old.found) before.read
       ∙ (ap (λ o. found_in o n old.found) same
-      ∙ ap (λ e. found_in (half_of Forward (piece_input piece e) ((piece_trace m piece e q).reported k)) n old.found) given.early)))
+      ∙ ap (λ e. found_in (half_of Forward (piece_input piece e) ((piece_trace m piece e q).reported k)) n old.found)
+      given.early)))
       ∙ pass_found m input n q piece given.inside here before.state k old.found l before.found before.nothing
 
   -- it stands after it
   pub reads_through :
       (t : Rows) (id : ℕ) (held : Powerset)
       → new.state ≡ Some held → held ≡ piece_state m piece q (length piece) → new.read ≡ old.read + length piece
-      → IsAtAlong (piece_trace m piece old.earliest q) Forward m t (piece_input piece old.earliest) (length piece - 0) id
-      found
+      → IsAtAlong (piece_trace m piece old.earliest q) Forward m t (piece_input piece old.earliest) (length piece - 0)
+      id found
       → ReadsOn m piece old new
   reads_through t id held stood state read at input n given here = record {
     plain = given.plain;
@@ -179,21 +190,26 @@ module _ (m : Machine) (q : Powerset) (piece : List ℕ) (old new : PiecesView) 
     stands p same = record {
       read = read ∙ ap (λ k. k + length piece) before.read;
       within = let w = here.within in omega (arith, w);
-      state = sym same ∙ (state ∙ sym (pass_state m input n q piece given.inside here before.state (length piece) (omega arith)));
+      state =
+          sym same
+          ∙ (state ∙ sym (pass_state m input n q piece given.inside here before.state (length piece) (omega arith)));
       found =
           found_on input n (length piece) given here (omega arith)
           (at.reported
-          ∙ ap (λ k. half_of Forward (piece_input piece old.earliest) ((piece_trace m piece old.earliest q).reported k)) all);
+          ∙ ap (λ k. half_of Forward (piece_input piece old.earliest) ((piece_trace m piece old.earliest q).reported k))
+          all);
       nothing = λ e.
           result ∙ (ap (λ o. found_in o old.read old.found) (at.nothing (given.early ∙ e)) ∙ before.nothing e);
       clean =
-          pass_clean m input n q piece given.inside here before.state old.earliest (length piece) (omega arith) before.clean
+          pass_clean m input n q piece given.inside here before.state old.earliest (length piece) (omega arith)
+          before.clean
           (subst (λ k. HasReadNoQuit Forward m (piece_input piece old.earliest) k) all at.clean);
     }
 
   -- or its answer stands
   module _ (k : ℕ) (begun end : Known) (over : ReadsPieceUpto m piece old q k begun end)
-      (reported : found ≡ half_of Forward (piece_input piece old.earliest) ((piece_trace m piece old.earliest q).reported (suc k)))
+      (reported : found ≡ half_of Forward (piece_input piece old.earliest)
+      ((piece_trace m piece old.earliest q).reported (suc k)))
       (input : Input) (n : ℕ) (given : WasGiven m input n old) (here : IsPieceAt input n piece) where
     before : StandsAfter m input n q old
     before = given.stands q was
@@ -217,7 +233,8 @@ module _ (m : Machine) (q : Powerset) (piece : List ℕ) (old new : PiecesView) 
     clean : HasReadNoQuit Forward m input (suc (n + k))
     clean =
         subst (HasReadNoQuit Forward m input) more
-        (pass_clean m input n q piece given.inside here before.state old.earliest (suc k) (omega (arith, low)) before.clean over.clean)
+        (pass_clean m input n q piece given.inside here before.state old.earliest (suc k) (omega (arith, low))
+        before.clean over.clean)
 
     some_half :
         (found ≡ None → ⊥) → half_of Forward input (reported_in Forward m input (suc (n + k))) ≡ None → ⊥
@@ -227,8 +244,10 @@ module _ (m : Machine) (q : Powerset) (piece : List ℕ) (old new : PiecesView) 
     stops : input.earliest ≡ true → (found ≡ None → ⊥) → (j : ℕ) → suc (n + k) ≤ j → Reads Forward m input j → ⊥
     stops first some j l r =
         some_half some (ap (half_of Forward input)
-        (sym (reported_stays (match_kind_of m.config) input.earliest m.nfa input.anchored (tape_in Forward input) (suc (n + k)) j
-        (reported_in Forward m input (suc (n + k))) l first refl (λ f. some_half some (ap (half_of Forward input) f))) ∙ r.2 first))
+        (sym (reported_stays (match_kind_of m.config) input.earliest m.nfa input.anchored (tape_in Forward input)
+        (suc (n + k)) j
+        (reported_in Forward m input (suc (n + k))) l first refl (λ f. some_half some (ap (half_of Forward input) f)))
+        ∙ r.2 first))
 
     answer :
         AnswerStands (piece_trace m piece old.earliest q) (piece_input piece old.earliest) k
@@ -239,9 +258,11 @@ module _ (m : Machine) (q : Powerset) (piece : List ℕ) (old new : PiecesView) 
         record {
           found =
               read
-              ∙ (ap (half_of Forward input) (reported_quiet Forward m input (n + k) (ap (λ (p : Powerset). p.patterns) dies))
+              ∙ (ap (half_of Forward input) (reported_quiet Forward m input (n + k)
+              (ap (λ (p : Powerset). p.patterns) dies))
               ∙ found_dead Forward m input (n + k) (omega (arith, few)) dies);
-          clean = clean_all Forward m input (suc (n + k)) given.may.0 clean (λ j l r. r.1 (dead_more Forward m input (suc (n + k)) j l dies));
+          clean = clean_all Forward m input (suc (n + k)) given.may.0 clean
+              (λ j l r. r.1 (dead_more Forward m input (suc (n + k)) j l dies));
           supported = given.may.1;
         }
     answer (FindsThere e reports) =
@@ -274,26 +295,31 @@ module _ (m : Machine) (q : Powerset) (piece : List ℕ) (old new : PiecesView) 
 
 -- what one pass answers is what a search returns for the whole span, where no offset is skipped
 whole :
-    (m : Machine) (input : Input) (half : Option HalfMatch) (law : ReportedIsRight m.nfa) (ends : ReportedEndsAreRight m.nfa)
+    (m : Machine) (input : Input) (half : Option HalfMatch) (law : ReportedIsRight m.nfa)
+    (ends : ReportedEndsAreRight m.nfa)
     (lies : ReportedLiesWithin m.nfa) (ahead : Option ℕ) (p : PiecesView)
     → WasGivenAll m input ahead p → IsPassAnswer Forward m input half → IsWhole m input half
 whole m input half law ends lies ahead p all pass =
-    let found : WithoutBase (IsFound Forward m input) half = run_found m input half all.given.plain all.given.undone pass in record {
+    let found : WithoutBase (IsFound Forward m input) half = run_found m input half all.given.plain all.given.undone
+    pass in record {
       found = found;
       paths = record {
         answer = λ cycles. (
           found.0,
-          law Forward (match_kind_of m.config) input found.0 cycles (all.bytes, all.given.inside) (found_reported Forward m input found.0 found.1),
+          law Forward (match_kind_of m.config) input found.0 cycles (all.bytes, all.given.inside)
+              (found_reported Forward m input found.0 found.1),
           found.2,
         );
         nearest = λ early. (
           found.0,
-          (ends Forward (match_kind_of m.config) input found.0 (all.bytes, all.given.inside) (found_reported Forward m input found.0 found.1)).0 early,
+          (ends Forward (match_kind_of m.config) input found.0 (all.bytes, all.given.inside)
+              (found_reported Forward m input found.0 found.1)).0 early,
           found.2,
         );
         farthest = λ late kind. (
           found.0,
-          (ends Forward (match_kind_of m.config) input found.0 (all.bytes, all.given.inside) (found_reported Forward m input found.0 found.1)).1 late kind,
+          (ends Forward (match_kind_of m.config) input found.0 (all.bytes, all.given.inside)
+              (found_reported Forward m input found.0 found.1)).1 late kind,
           found.2,
         );
         within = lies_in m input lies all.given.inside Forward (Ok half) found;
@@ -317,7 +343,8 @@ first_half start at [] found = refl
 first_half start at (p ∷ ps) found = refl
 
 -- one that stands at a state reads the unit that follows
-module _ (m : Machine) (ahead : Option ℕ) (p : PiecesView) (q : Powerset) (old new : CacheView) (id to : ℕ) (half : Option HalfMatch)
+module _ (m : Machine) (ahead : Option ℕ) (p : PiecesView) (q : Powerset) (old new : CacheView) (id to : ℕ)
+    (half : Option HalfMatch)
     (stood : p.state ≡ Some q) (named : Names old.store.table id q) (answer : IsReadAnswer m id ahead old new to)
     (reports : (s : Powerset) → Leads new.store.table to s → half ≡ half_at s.patterns p.read p.found) where
   module _ (input : Input) (all : WasGivenAll m input ahead p) where
@@ -346,7 +373,8 @@ module _ (m : Machine) (ahead : Option ℕ) (p : PiecesView) (q : Powerset) (old
 
     found :
         (o : ℕ) × (o ≡ input.start + n)
-        × ((s : Powerset) → Leads new.store.table to s → from_first input.start half ≡ half_at s.patterns o (from_first input.start p.found))
+        × ((s : Powerset) → Leads new.store.table to s
+        → from_first input.start half ≡ half_at s.patterns o (from_first input.start p.found))
     found = (
       input.start + n,
       refl,
@@ -358,15 +386,18 @@ module _ (m : Machine) (ahead : Option ℕ) (p : PiecesView) (q : Powerset) (old
     end_answer : IsPassAnswer Forward m input (from_first input.start half)
     end_answer = record {
       found =
-          more_last Forward m old.store.table new.store.table input n id to ahead (from_first input.start p.found) (from_first input.start half)
+          more_last Forward m old.store.table new.store.table input n id to ahead (from_first input.start p.found)
+          (from_first input.start half)
           at unit answer.named free found last;
       clean =
-          clean_last Forward m old.store.table new.store.table input n id to ahead (from_first input.start p.found) (from_first input.start half)
+          clean_last Forward m old.store.table new.store.table input n id to ahead (from_first input.start p.found)
+          (from_first input.start half)
           at unit answer.named free last all.given.may.0;
       supported = all.given.may.1;
     }
 
   pub ends_some :
-      (law : ReportedIsRight m.nfa) (ends : ReportedEndsAreRight m.nfa) (lies : ReportedLiesWithin m.nfa) → EndsHere m p ahead half
+      (law : ReportedIsRight m.nfa) (ends : ReportedEndsAreRight m.nfa) (lies : ReportedLiesWithin m.nfa)
+      → EndsHere m p ahead half
   ends_some law ends lies input all =
       whole m input (from_first input.start half) law ends lies ahead p all (end_answer input all)

@@ -1,7 +1,7 @@
--- A run along a trace that is over with a byte, or fails at one; and that of a piece, whose errors are counted from a place
--- before it.
-use Rattle.std.proofs.Common.{ℕ, suc, ◌≡◌, ◌∙◌, ◌+◌, ◌-◌, ◌/◌, ◌%◌, ◌^◌, ◌<◌, Bool, true, List, Option, Some, None, refl, sym}
-use Rattle.std.proofs.Common.{ap, arith, slice_get, subst}
+-- A run along a trace that is over with a byte, or fails at one; and that of a piece, whose errors are counted from a
+-- place before it.
+use Rattle.std.proofs.Common.{ℕ, suc, ◌≡◌, ◌∙◌, ◌+◌, ◌-◌, ◌/◌, ◌%◌, ◌^◌, ◌<◌, Bool, true, List, Option, Some, None}
+use Rattle.std.proofs.Common.{refl, sym, ap, arith, slice_get, subst}
 use Rattle.std.specs.Prelude.{option_map}
 use Rattle.automata_base.specs.Answers.Answers.{offset_in}
 use Rattle.automata_base.specs.Haystacks.Input.{Input}
@@ -32,11 +32,12 @@ use Rattle.automata_hybrid.specs.declared.cache.row.Row.{Row}
 use Rattle.automata_hybrid.proofs.Caches.Places.{Names-Placed, Placed-HasState}
 use Rattle.automata_hybrid.proofs.Searches.Directions.{quit_free}
 use Rattle.automata_hybrid.proofs.Searches.Goes.{GoesToAlong, ended_here, goes_all, goes_more, left_along, taken_along}
-use Rattle.automata_hybrid.proofs.Searches.Traces.{clean_along, half_none, leads_along, more_along, quiet_along}
+use Rattle.automata_hybrid.proofs.Searches.Traces.{at_along, clean_along, half_none, leads_along, more_along}
+use Rattle.automata_hybrid.proofs.Searches.Traces.{quiet_along}
 
 -- a run that has come to a byte, from an ID that names its state there
-module _ {s : Trace} (m : Machine) (input : Input) (trace : IsTrace Forward m input s) (k id byte offset : ℕ)
-    (found : Option HalfMatch) (begun : Known) (c : CacheView)
+module _ {s : Trace} {m : Machine} {input : Input} (trace : IsTrace Forward m input s) {k id byte offset : ℕ}
+    {found : Option HalfMatch} {begun : Known} (c : CacheView)
     (at : IsAtAlong s Forward m c.store.table input k id found)
     (unit : unit_of (tape_in Forward input) k ≡ Some byte) (inside : k < input.end - input.start)
     (place : offset ≡ input.start + k) (before : GoesToAlong s Forward m input 0 k begun (known_of c)) where
@@ -49,9 +50,9 @@ module _ {s : Trace} (m : Machine) (input : Input) (trace : IsTrace Forward m in
 
   -- the byte was not read
   pub stopped_along :
-      (new : CacheView) (e : SearchError) → FailsToRead m id (Some byte) offset offset c new e
+      {new : CacheView} {e : SearchError} → FailsToRead m id (Some byte) offset offset c new e
       → FailsAlong s m input input.start begun (known_of new) e
-  stopped_along new e fails = record {
+  stopped_along {new} {e} fails = record {
     place = k;
     reads = reads_here fails.alive;
     clean = at.clean;
@@ -66,7 +67,7 @@ module _ {s : Trace} (m : Machine) (input : Input) (trace : IsTrace Forward m in
   }
 
   -- it was read
-  module _ (id' : ℕ) (c' : CacheView) (read : HasRead m id (Some byte) offset c c' id') where
+  module _ {id' : ℕ} {c' : CacheView} (read : HasRead m id (Some byte) offset c c' id') where
     pub goes_on : GoesToAlong s Forward m input 0 (suc k) begun (known_of c')
     goes_on =
         goes_more Forward m input 0 begun k (known_of c) (known_of c') before
@@ -75,8 +76,20 @@ module _ {s : Trace} (m : Machine) (input : Input) (trace : IsTrace Forward m in
     pub leads_on : Leads c'.store.table id' (s.state (suc k))
     leads_on = leads_along trace c.store.table c'.store.table k id id' (Some byte) found None at unit read.answer.named
 
-    -- and the search ends there
-    module _ (new : CacheView)
+    -- the run goes on after it
+    pub at_next :
+        {found' : Option HalfMatch}
+        → (o : ℕ) × (o ≡ offset_in Forward input k)
+        × ((q : Powerset) → Leads c'.store.table id' q → found' ≡ half_at q.patterns o found)
+        → (input.earliest ≡ true → found' ≡ None)
+        → (Leads c'.store.table id' (s.state (suc k)) → Names c'.store.table id' (s.state (suc k)))
+        → IsAtAlong s Forward m c'.store.table input (suc k) id' found'
+    at_next {found'} =
+        at_along trace c.store.table c'.store.table k id id' (Some byte) found found' at unit read.answer.named
+        (quit_free m byte read.answer.clean)
+
+    -- or its search ends there
+    module _ {new : CacheView}
         (last : new ≡ with_store c' (with_searched c'.store (progress_finished c'.store.searched offset))) where
       upto_here : AnswerStands s input k → ReadsUptoAlong s m input k begun (known_of new)
       upto_here over = record {
@@ -105,11 +118,11 @@ module _ {s : Trace} (m : Machine) (input : Input) (trace : IsTrace Forward m in
 
       -- or since an earliest search has found a match
       pub over_first :
-          (found' : Option HalfMatch)
+          {found' : Option HalfMatch}
           → (o : ℕ) × (o ≡ offset_in Forward input k)
           × ((q : Powerset) → Leads c'.store.table id' q → found' ≡ half_at q.patterns o found)
           → input.earliest ≡ true → (found' ≡ None → ⊥) → IsOverAlong s m input k id' found' begun new
-      over_first found' reports early some =
+      over_first {found'} reports early some =
           let reported : found' ≡ half_of Forward input (s.reported (suc k)) =
           more_along trace c.store.table c'.store.table k id id' (Some byte) found found' at unit read.answer.named
           reports in
@@ -179,7 +192,8 @@ state_of_row (Some r) = r.state
 abbrev pub state_named : Rows → ℕ → Powerset
 state_named t id = state_of_row (slice_get t.rows ((id % 2 ^ 27) / t.of.stride - 3))
 
-pub names_state : (t : Rows) (id : ℕ) (q : Powerset) → RowsFitCells t → 0 < t.of.stride → Names t id q → state_named t id ≡ q
+pub names_state : (t : Rows) (id : ℕ) (q : Powerset) → RowsFitCells t → 0 < t.of.stride → Names t id q
+    → state_named t id ≡ q
 names_state t id q rows positive named =
     let has = Placed-HasState t id ((id % 2 ^ 27) / t.of.stride - 3) q positive (Names-Placed t id q rows named) refl in
     ap state_of_row has.1 ∙ has.2

@@ -6,7 +6,6 @@ ghost use Rattle.std.specs.Prelude.{slice_index};
 ghost use Rattle.std.specs.Prelude.{Some, None, true, false};
 ghost use Rattle.std.specs.Result.{result_err};
 ghost use Rattle.automata_base.specs.declared.util.search.Direction.TheVariants.{Forward};
-ghost use Rattle.automata_base.specs.Powersets.Powerset.{Powerset};
 ghost use Rattle.automata_hybrid.specs.Cache.Caches.{IsCacheOf};
 ghost use Rattle.automata_hybrid.specs.Cache.Table.{IsRowId, IsRowState, Names};
 ghost use Rattle.automata_hybrid.specs.Pieces.Answers.{EndsHere, HasBegun, ReadsOn};
@@ -15,7 +14,7 @@ ghost use Rattle.automata_hybrid.specs.Known.Pieces.{FailsAlong, IsAnswerRun, Is
 ghost use Rattle.automata_hybrid.specs.Known.Stores.{known_of};
 ghost use Rattle.automata_hybrid.specs.Known.Walks.{IsNotBack, with_row_back};
 ghost use Rattle.automata_hybrid.specs.Pieces.State.{IsPiecesOf};
-ghost use Rattle.automata_hybrid.specs.Private.Pieces.State.{found_in};
+ghost use Rattle.automata_hybrid.specs.Private.Pieces.State.{FailsToResume, HasResumed, found_in};
 ghost use Rattle.automata_hybrid.specs.Pieces.Walks.{HasBegunWalk, patterns_here};
 ghost use Rattle.automata_hybrid.specs.Private.Searches.PassState.{IsOnTrace, step_error};
 ghost use Rattle.automata_hybrid.specs.Private.Searches.PieceRuns.{HasOffset, IsEndAlong, IsPieceEnd, IsPieceStopped};
@@ -373,7 +372,6 @@ impl DFA {
         };
         let at = pieces.bytes_read();
         cache.search_start(at);
-        cache.see_bounds();
         let next = self.read(cache, from, LazyStateID::UNKNOWN, look_ahead, at, at)?;
         cache.end_search(at);
         Ok(self.found_at(cache, next, at, pieces.get_match()))
@@ -391,16 +389,12 @@ impl DFA {
         ensures of { IsCacheOf cache.new self.now }
         ensures none { IfOk result (λ o. IfNone o
             ((pieces.now.state ≡ None) × (known_of cache.new ≡ known_of cache.old))) }
-        ensures some { IfOk result (λ o. IfSome o (λ id. (q : Powerset) × (pieces.now.state ≡ Some q)
-            × (with_row_back self.now q (known_of cache.old) ≡ Some (known_of cache.new))
-            × Names cache.new.store.table id q)) }
-        ensures left { IfErr result (λ e. (q : Powerset) × (pieces.now.state ≡ Some q)
-            × IsNotBack self.now q pieces.now.read (known_of cache.old) (known_of cache.new) e) }
+        ensures some { IfOk result (λ o. IfSome o (HasResumed self.now pieces.now cache.old cache.new)) }
+        ensures left { IfErr result (FailsToResume self.now pieces.now cache.old cache.new) }
     {
         let Some(handle) = &pieces.held else {
             return Ok(None);
         };
-        cache.see_bounds();
         match self.row_of(cache, handle, pieces.row) {
             Ok(id) => Ok(Some(id)),
             Err(error) => Err(step_error(error, pieces.read)),
@@ -425,7 +419,6 @@ impl DFA {
         ensures refused { IfErr result (λ e. (at : ℕ)
             → IsNotBack self.now handle.now.state at (known_of cache.old) (known_of cache.new) (step_error e at)) }
     {
-        cache.see_bounds();
         let table = cache.table();
         if table.has_row(row) && *table.state(row) == handle.state {
             return Ok(row);

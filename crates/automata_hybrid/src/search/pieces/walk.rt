@@ -278,7 +278,6 @@ impl DFA {
         };
         let at = pieces.bytes_read();
         cache.search_start(at);
-        cache.see_bounds();
         let next = self.read(cache, from, LazyStateID::UNKNOWN, look_ahead, at, at)?;
         cache.end_search(at);
         match self.end_at(cache, next) {

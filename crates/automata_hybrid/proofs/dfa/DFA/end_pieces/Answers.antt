@@ -3,13 +3,13 @@ use Rattle.std.specs.Result.{result_err}
 use Rattle.automata_base.specs.Answers.OfPasses.{ReportedEndsAreRight, ReportedIsRight}
 use Rattle.automata_base.specs.Answers.Within.{ReportedLiesWithin}
 use Rattle.automata_base.specs.Nfas.Nodes.{Automaton}
-use Rattle.automata_hybrid.specs.Cache.Table.{Leads, Names, Rows}
+use Rattle.automata_hybrid.specs.Cache.Table.{Leads, Rows}
 use Rattle.automata_hybrid.specs.Known.Pieces.{IsAnswerRun, NotBack}
 use Rattle.automata_hybrid.specs.Known.Stores.{known_of}
 use Rattle.automata_hybrid.specs.Pieces.Answers.{EndsHere}
 use Rattle.automata_hybrid.specs.Searches.PassState.{half_at}
 use Rattle.automata_hybrid.proofs.Pieces.Answers.{ends_none, ends_some}
-use Rattle.automata_hybrid.proofs.Pieces.Progress.{answer_ends, answer_left}
+use Rattle.automata_hybrid.proofs.Pieces.Progress.{answer_ends, answer_left, named_there}
 use Rattle.automata_hybrid.proofs.Searches.Reads.{at_err}
 use Rattle.automata_hybrid.proofs.dfa.DFA.end_pieces.Goals as goal
 
@@ -19,7 +19,7 @@ returns-in_err-from-clause-effect c =
     at_err c.from_residual.result _
     (λ r. IsAnswerRun c.args.self.now c.args.look_ahead c.args.pieces.now (known_of c.args.cache.now)
     (known_of c.resume_pieces.new.cache) (result_err r))
-    c.from_residual.ensures.1 (NotBack left.0 left.1 left.2)
+    c.from_residual.ensures.1 (NotBack left.state left.stood left.fails)
 
 pub returns-in_default-clause-answer : goal.returns-in_default-clause-answer
 returns-in_default-clause-answer c =
@@ -33,15 +33,11 @@ returns-in_default-clause-answer c =
 pub returns-in_err-next-clause-effect : goal.returns-in_err-next-clause-effect
 returns-in_err-next-clause-effect c =
     let on = rw c.in-Some.is at c.in_ok-from.ensures.some in
-    let named : Names c.search_start.new.self.store.table c.in-Some.from on.0 =
-    subst (λ (t : Rows). Names t c.in-Some.from on.0) (sym c.search_start.ensures.table) on.3 in
     at_err c.from_residual-in_err-next.result _
     (λ r. IsAnswerRun c.args.self.now c.args.look_ahead c.args.pieces.now (known_of c.args.cache.now)
     (known_of c.read.new.cache) (result_err r))
     c.from_residual-in_err-next.ensures.1
-    (answer_left c.args.self.now c.args.pieces.now on.0 (known_of c.args.cache.now) c.resume_pieces.new.cache on.1 on.2
-    c.args.look_ahead c.search_start.new.self c.in-Some.from c.bytes_read-at.result c.bytes_read-at.ensures
-    c.search_start.ensures.value named c.in_err-next.field-0.0 c.read.new.cache c.in_err-next.ensures.read)
+    (answer_left on c.bytes_read-at.ensures c.search_start.ensures.value c.in_err-next.ensures.read)
 
 pub returns-clause-answer : goal.returns-clause-answer
 returns-clause-answer c =
@@ -49,10 +45,9 @@ returns-clause-answer c =
     let ends = subst (λ (a : Automaton). ReportedEndsAreRight a) c.get_nfa.ensures c.reported_is_right.ensures.ends in
     let lies = subst ReportedLiesWithin c.get_nfa.ensures c.reported_is_right.ensures.within in
     let on = rw c.in-Some.is at c.in_ok-from.ensures.some in
-    let named : Names c.search_start.new.self.store.table c.in-Some.from on.0 =
-    subst (λ (t : Rows). Names t c.in-Some.from on.0) (sym c.search_start.ensures.table) on.3 in
-    ends_some c.args.self.now c.args.look_ahead c.args.pieces.now on.0 c.search_start.new.self c.read.new.cache
-    c.in-Some.from c.in_ok-next.next c.found_at.result on.1 named c.in_ok-next.ensures.read.answer
+    ends_some c.args.self.now c.args.look_ahead c.args.pieces.now on.state c.search_start.new.self c.read.new.cache
+    c.in-Some.from c.in_ok-next.next c.found_at.result on.stood
+    (named_there on c.bytes_read-at.ensures c.search_start.ensures.value) c.in_ok-next.ensures.read.answer
     (λ s l.
     c.found_at.ensures s (subst (λ (t : Rows). Leads t c.in_ok-next.next s) (sym c.end_search.ensures.table) l)
     ∙ ap₂ (λ at found. half_at s.patterns at found) c.bytes_read-at.ensures c.get_match-2.ensures)
@@ -61,9 +56,5 @@ returns-clause-answer c =
 pub returns-clause-effect : goal.returns-clause-effect
 returns-clause-effect c =
     let on = rw c.in-Some.is at c.in_ok-from.ensures.some in
-    let named : Names c.search_start.new.self.store.table c.in-Some.from on.0 =
-    subst (λ (t : Rows). Names t c.in-Some.from on.0) (sym c.search_start.ensures.table) on.3 in
-    answer_ends c.args.self.now c.args.pieces.now on.0 (known_of c.args.cache.now) c.resume_pieces.new.cache on.1 on.2
-    c.args.look_ahead c.search_start.new.self c.in-Some.from c.bytes_read-at.result c.bytes_read-at.ensures
-    c.search_start.ensures.value named c.in_ok-next.next c.read.new.cache c.end_search.new.self
-    c.in_ok-next.ensures.read c.end_search.ensures.value
+    answer_ends on c.bytes_read-at.ensures c.search_start.ensures.value c.in_ok-next.ensures.read
+    c.end_search.ensures.value

@@ -16,23 +16,24 @@ returns-in_default-clause-none c =
     (sym (ap (λ (p : PiecesView). p.state) c.pieces.view_is) ∙ ap held_state c.in_default.is, refl)
 
 pub returns-in-Ok-clause-some : goal.returns-in-Ok-clause-some
-returns-in-Ok-clause-some c = (
-  c.in-Some.handle.state,
-  sym (ap (λ (p : PiecesView). p.state) c.pieces.view_is) ∙ ap held_state c.in-Some.is,
-  c.in-Ok.ensures.row,
-  c.in-Ok.ensures.named,
-)
+returns-in-Ok-clause-some c = record {
+  state = c.in-Some.handle.state;
+  stood = sym (ap (λ (p : PiecesView). p.state) c.pieces.view_is) ∙ ap held_state c.in-Some.is;
+  back = c.in-Ok.ensures.row;
+  named = c.in-Ok.ensures.named;
+}
 
 pub returns-in-Err-clause-left : goal.returns-in-Err-clause-left
-returns-in-Err-clause-left c = (
-  c.in-Some.handle.state,
-  sym (ap (λ (p : PiecesView). p.state) c.pieces.view_is) ∙ ap held_state c.in-Some.is,
-  subst
+returns-in-Err-clause-left c = record {
+  state = c.in-Some.handle.state;
+  stood = sym (ap (λ (p : PiecesView). p.state) c.pieces.view_is) ∙ ap held_state c.in-Some.is;
+  fails =
+      subst
       (λ (p : PiecesView). IsNotBack c.args.self.now c.in-Some.handle.state p.read (known_of c.args.cache.now)
       (known_of c.row_of.new.cache) c.step_error.result)
       c.pieces.view_is
       (subst
       (λ (e : SearchError). IsNotBack c.args.self.now c.in-Some.handle.state c.pieces.inside.read
       (known_of c.args.cache.now) (known_of c.row_of.new.cache) e)
-      (sym c.step_error.ensures) (c.in-Err.ensures.refused c.pieces.inside.read)),
-)
+      (sym c.step_error.ensures) (c.in-Err.ensures.refused c.pieces.inside.read));
+}

@@ -12,7 +12,8 @@ use Rattle.automata_hybrid.specs.Private.Searches.PassState.{IsOnTrace}
 use Rattle.automata_hybrid.specs.Searches.Passes.{given_up_offset}
 use Rattle.automata_hybrid.specs.Searches.PieceRuns.{piece_input, piece_trace}
 use Rattle.automata_hybrid.specs.Private.Searches.PieceRuns.{IsEndAlong}
-use Rattle.automata_hybrid.proofs.Searches.PieceRuns.{failed_from, fails_offset, names_state, piece_is_trace, state_named}
+use Rattle.automata_hybrid.proofs.Searches.PieceRuns.{failed_from, fails_offset, names_state, piece_is_trace}
+use Rattle.automata_hybrid.proofs.Searches.PieceRuns.{state_named}
 use Rattle.automata_hybrid.proofs.dfa.DFA.run_piece.Goals as goal
 
 pub run_span-requires : goal.run_span-requires

@@ -11,11 +11,10 @@ use Rattle.automata_hybrid.specs.Searches.PassState.{IsAtAlong}
 use Rattle.automata_hybrid.specs.Searches.Passes.{given_up_offset, tape_in}
 use Rattle.automata_hybrid.specs.Private.Steps.Steps.{IsCellRead}
 use Rattle.automata_hybrid.proofs.Searches.Contracts.{is_store}
-use Rattle.automata_hybrid.proofs.Searches.Directions.{quit_free}
 use Rattle.automata_hybrid.proofs.Searches.Goes.{GoesToAlong, ended_here, goes_all, goes_known, goes_none}
 use Rattle.automata_hybrid.proofs.Searches.PassState.{false_true, none_is, some_is}
-use Rattle.automata_hybrid.proofs.Searches.PieceRuns.{goes_on, leads_on, over_dead, over_first, stopped_along}
-use Rattle.automata_hybrid.proofs.Searches.Traces.{at_along, begins_along, half_none}
+use Rattle.automata_hybrid.proofs.Searches.PieceRuns.{at_next, goes_on, leads_on, over_dead, over_first, stopped_along}
+use Rattle.automata_hybrid.proofs.Searches.Traces.{begins_along, half_none}
 use Rattle.automata_hybrid.proofs.Searches.Units.{units_in}
 use Rattle.automata_hybrid.proofs.Steps.Ids.{dead_tagged}
 use Rattle.automata_hybrid.proofs.dfa.DFA.run_span.Goals as goal
@@ -24,7 +23,9 @@ use Rattle.automata_hybrid.proofs.dfa.DFA.run_span.Goals.{else-get_earliest-via-
 
 pub next_known-requires : goal.next_known-requires
 next_known-requires g c =
-    let named = subst (λ (t : Rows). Names t c.args.from (g.trace.state 0)) (sym c.search_start.ensures.table) c.requires.1.0.named in (
+    let named =
+    subst (λ (t : Rows). Names t c.args.from (g.trace.state 0)) (sym c.search_start.ensures.table)
+    c.requires.1.0.named in (
       subst (λ (t : Rows). t.of ≡ c.args.self.now) (sym c.search_start.ensures.table) c.requires.0,
       record {
         on = record { trace = c.requires.1.0.trace; named = named };
@@ -36,7 +37,9 @@ next_known-requires g c =
 
 pub loop-run-init : goal.loop-run-init
 loop-run-init g c =
-    let begins : known_of c.search_start.new.self ≡ begun (given_up_offset Forward c.args.input.now 0) (known_of c.args.cache.now) =
+    let begins :
+    known_of c.search_start.new.self
+    ≡ begun (given_up_offset Forward c.args.input.now 0) (known_of c.args.cache.now) =
     ap known_of c.search_start.ensures.value
     ∙ ap (λ o. begun o (known_of c.args.cache.now)) c.span_offset.ensures.value in
     record {
@@ -61,31 +64,42 @@ read_met-requires-clause-valid g c = (_, c.loop-run.invariant.at.named)
 
 pub read_met-requires-clause-cell : goal.read_met-requires-clause-cell
 read_met-requires-clause-cell g c =
-    subst (λ (u : Option ℕ). IsCellRead c.args.self.now c.loop-run.cache.store c.loop-run.run.id u c.loop-run.run.next) c.byte_at-byte.ensures
+    subst
+    (λ (u : Option ℕ). IsCellRead c.args.self.now c.loop-run.cache.store c.loop-run.run.id u c.loop-run.run.next)
+    c.byte_at-byte.ensures
     (c.loop-run.invariant.read (omega (arith, c.loop-run-test.true, c.last_place-last.ensures.place)))
 
 pub found_at-found-requires-clause-leads : goal.found_at-found-requires-clause-leads
 found_at-found-requires-clause-leads g c =
     let inside : c.loop-run.run.at < c.args.input.now.end - c.args.input.now.start =
-    omega (arith, c.loop-run-test.true, c.last_place-last.ensures.place) in
-    (_, leads_on c.args.self.now c.args.input.now c.requires.1.0.trace c.loop-run.run.at c.loop-run.run.id c.byte_at-byte.result
-    c.byte_offset-offset.result c.loop-run.run.found (begun (given_up_offset Forward c.args.input.now 0) (known_of c.args.cache.now)) c.loop-run.cache c.loop-run.invariant.at
-    c.byte_at-byte.ensures inside c.byte_offset-offset.ensures.unit c.loop-run.invariant.progress
-    c.in-Ok.next c.read_met.new.cache c.in-Ok.ensures.read)
+    omega (arith, c.loop-run-test.true, c.last_place-last.ensures.place) in (
+      _,
+      leads_on c.requires.1.0.trace c.loop-run.cache c.loop-run.invariant.at c.byte_at-byte.ensures inside
+          c.byte_offset-offset.ensures.unit c.loop-run.invariant.progress c.in-Ok.ensures.read,
+    )
 
 pub run-near-requires : goal.run-near-requires
 run-near-requires g c =
-    let k : ℕ = c.loop-run.run.at in
+    let inside : c.loop-run.run.at < c.args.input.now.end - c.args.input.now.start =
+    omega (arith, c.loop-run-test.true, c.last_place-last.ensures.place) in
     let first : c.args.input.now.earliest ≡ true → c.found_at-found.result ≡ None =
     elim c.else-get_earliest.branch [
-      | else-get_earliest-via-then-get_earliest+else-is_some w ↦ λ e. none_is c.found_at-found.result (sym w.is_some.ensures ∙ w.if-is_some.false)
-      | else-get_earliest-via-else-get_earliest w ↦ λ e. absurd (false_true (sym w.if-get_earliest.false ∙ (c.get_earliest.ensures ∙ e)))
+      | else-get_earliest-via-then-get_earliest+else-is_some w ↦
+          λ e. none_is c.found_at-found.result (sym w.is_some.ensures ∙ w.if-is_some.false)
+      | else-get_earliest-via-else-get_earliest w ↦
+          λ e. absurd (false_true (sym w.if-get_earliest.false ∙ (c.get_earliest.ensures ∙ e)))
     ] in
-    let more : suc k ≡ c.loop-run.run.at + 1 = omega arith in
-    let at = subst (λ n. IsAtAlong g.trace Forward c.args.self.now c.read_met.new.cache.store.table c.args.input.now n c.in-Ok.next c.found_at-found.result) more
-    (at_along c.requires.1.0.trace c.loop-run.cache.store.table c.read_met.new.cache.store.table k c.loop-run.run.id c.in-Ok.next (Some c.byte_at-byte.result) c.loop-run.run.found c.found_at-found.result c.loop-run.invariant.at c.byte_at-byte.ensures
-    c.in-Ok.ensures.read.answer.named (quit_free c.args.self.now _ c.in-Ok.ensures.read.answer.clean) (c.place_offset.result, c.place_offset.ensures.value, c.found_at-found.ensures) first
-    (λ l. (dead_tagged c.read_met.new.cache.store.table c.in-Ok.next (c.see_bounds.ensures.sound.low c.in-Ok.next) c.see_bounds.ensures.sound.small _ l).1
+    let more : suc c.loop-run.run.at ≡ c.loop-run.run.at + 1 = omega arith in
+    let at =
+    subst
+    (λ n. IsAtAlong g.trace Forward c.args.self.now c.read_met.new.cache.store.table c.args.input.now n c.in-Ok.next
+    c.found_at-found.result)
+    more
+    (at_next c.requires.1.0.trace c.loop-run.cache c.loop-run.invariant.at c.byte_at-byte.ensures inside
+    c.byte_offset-offset.ensures.unit c.loop-run.invariant.progress c.in-Ok.ensures.read
+    (c.place_offset.result, c.place_offset.ensures.value, c.found_at-found.ensures) first
+    (λ l. (dead_tagged c.read_met.new.cache.store.table c.in-Ok.next (c.see_bounds.ensures.sound.low c.in-Ok.next)
+    c.see_bounds.ensures.sound.small _ l).1
     (λ b. false_true (c.if-is_dead.ensures.1 b)))) in (
       c.in-Ok.ensures.of,
       (
@@ -126,21 +140,19 @@ loop-run-preserved g c =
     let sound : IsStoreOf c.go_far-far.new.cache.store c.args.self.now =
     subst (λ (v : CacheView). IsStoreOf v.store c.args.self.now) (sym same)
     (is_store c.read_met.new.cache.store c.args.self.now c.in-Ok.ensures.of c.see_bounds.ensures.bounds) in
+    let first : Known = begun (given_up_offset Forward c.args.input.now 0) (known_of c.args.cache.now) in
     let behind :
-    GoesToAlong g.trace Forward c.args.self.now c.args.input.now 0 (c.loop-run.run.at + 1)
-    (begun (given_up_offset Forward c.args.input.now 0) (known_of c.args.cache.now)) (known_of c.go_far-far.new.cache) =
+    GoesToAlong g.trace Forward c.args.self.now c.args.input.now 0 (c.loop-run.run.at + 1) first
+    (known_of c.go_far-far.new.cache) =
     subst
-    (λ (v : CacheView). GoesToAlong g.trace Forward c.args.self.now c.args.input.now 0 (c.loop-run.run.at + 1)
-    (begun (given_up_offset Forward c.args.input.now 0) (known_of c.args.cache.now)) (known_of v))
+    (λ (v : CacheView). GoesToAlong g.trace Forward c.args.self.now c.args.input.now 0 (c.loop-run.run.at + 1) first
+    (known_of v))
     (sym same)
     (subst
-    (λ n. GoesToAlong g.trace Forward c.args.self.now c.args.input.now 0 n
-    (begun (given_up_offset Forward c.args.input.now 0) (known_of c.args.cache.now)) (known_of c.read_met.new.cache))
+    (λ n. GoesToAlong g.trace Forward c.args.self.now c.args.input.now 0 n first (known_of c.read_met.new.cache))
     more
-    (goes_on c.args.self.now c.args.input.now c.requires.1.0.trace c.loop-run.run.at c.loop-run.run.id c.byte_at-byte.result
-    c.byte_offset-offset.result c.loop-run.run.found (begun (given_up_offset Forward c.args.input.now 0) (known_of c.args.cache.now)) c.loop-run.cache c.loop-run.invariant.at
-    c.byte_at-byte.ensures inside c.byte_offset-offset.ensures.unit c.loop-run.invariant.progress
-    c.in-Ok.next c.read_met.new.cache c.in-Ok.ensures.read)) in
+    (goes_on c.requires.1.0.trace c.loop-run.cache c.loop-run.invariant.at c.byte_at-byte.ensures inside
+    c.byte_offset-offset.ensures.unit c.loop-run.invariant.progress c.in-Ok.ensures.read)) in
     let far = c.go_far-far.ensures.runs (c.loop-run.run.at + 1) c.run-near.ensures.runs in
     record {
       of = subst (λ (v : CacheView). IsCacheOf v c.args.self.now) (sym same) c.in-Ok.ensures.of;
@@ -149,10 +161,9 @@ loop-run-preserved g c =
       at = far.at;
       read = c.go_far-far.ensures.read;
       progress =
-          goes_known Forward c.args.self.now c.args.input.now 0
-          (begun (given_up_offset Forward c.args.input.now 0) (known_of c.args.cache.now))
-          c.see_machine.ensures.machine units (c.loop-run.run.at + 1) c.go_far-far.result.0.at c.go_far-far.new.cache
-          sound behind far.run.more far.at.clean far.run.known;
+          goes_known Forward c.args.self.now c.args.input.now 0 first c.see_machine.ensures.machine units
+          (c.loop-run.run.at + 1) c.go_far-far.result.0.at c.go_far-far.new.cache sound behind far.run.more far.at.clean
+          far.run.known;
     }
 
 pub loop-run-smaller : goal.loop-run-smaller
@@ -164,24 +175,18 @@ pub returns-in-Err-clause-left : goal.returns-in-Err-clause-left
 returns-in-Err-clause-left g c =
     let inside : c.loop-run.run.at < c.args.input.now.end - c.args.input.now.start =
     omega (arith, c.loop-run-test.true, c.last_place-last.ensures.place) in
-    stopped_along c.args.self.now c.args.input.now c.requires.1.0.trace c.loop-run.run.at c.loop-run.run.id c.byte_at-byte.result
-    c.byte_offset-offset.result c.loop-run.run.found (begun (given_up_offset Forward c.args.input.now 0) (known_of c.args.cache.now)) c.loop-run.cache c.loop-run.invariant.at
-    c.byte_at-byte.ensures inside c.byte_offset-offset.ensures.unit c.loop-run.invariant.progress
-    c.read_met.new.cache c.in-Err.error c.in-Err.ensures.read
+    stopped_along c.requires.1.0.trace c.loop-run.cache c.loop-run.invariant.at c.byte_at-byte.ensures inside
+    c.byte_offset-offset.ensures.unit c.loop-run.invariant.progress c.in-Err.ensures.read
 
 pub returns-then-is_dead-clause-end : goal.returns-then-is_dead-clause-end
 returns-then-is_dead-clause-end g c =
     let inside : c.loop-run.run.at < c.args.input.now.end - c.args.input.now.start =
     omega (arith, c.loop-run-test.true, c.last_place-last.ensures.place) in
     let leads =
-    leads_on c.args.self.now c.args.input.now c.requires.1.0.trace c.loop-run.run.at c.loop-run.run.id c.byte_at-byte.result
-    c.byte_offset-offset.result c.loop-run.run.found (begun (given_up_offset Forward c.args.input.now 0) (known_of c.args.cache.now)) c.loop-run.cache c.loop-run.invariant.at
-    c.byte_at-byte.ensures inside c.byte_offset-offset.ensures.unit c.loop-run.invariant.progress
-    c.in-Ok.next c.read_met.new.cache c.in-Ok.ensures.read in
-    over_dead c.args.self.now c.args.input.now c.requires.1.0.trace c.loop-run.run.at c.loop-run.run.id c.byte_at-byte.result
-    c.byte_offset-offset.result c.loop-run.run.found (begun (given_up_offset Forward c.args.input.now 0) (known_of c.args.cache.now)) c.loop-run.cache c.loop-run.invariant.at
-    c.byte_at-byte.ensures inside c.byte_offset-offset.ensures.unit c.loop-run.invariant.progress
-    c.in-Ok.next c.read_met.new.cache c.in-Ok.ensures.read c.end_search.new.self c.end_search.ensures.value
+    leads_on c.requires.1.0.trace c.loop-run.cache c.loop-run.invariant.at c.byte_at-byte.ensures inside
+    c.byte_offset-offset.ensures.unit c.loop-run.invariant.progress c.in-Ok.ensures.read in
+    over_dead c.requires.1.0.trace c.loop-run.cache c.loop-run.invariant.at c.byte_at-byte.ensures inside
+    c.byte_offset-offset.ensures.unit c.loop-run.invariant.progress c.in-Ok.ensures.read c.end_search.ensures.value
     ((dead_tagged c.read_met.new.cache.store.table c.in-Ok.next (c.see_bounds.ensures.sound.low c.in-Ok.next)
     c.see_bounds.ensures.sound.small _ leads).0 (c.if-is_dead.ensures.0 refl))
 
@@ -189,11 +194,9 @@ pub returns-then-is_some-clause-end : goal.returns-then-is_some-clause-end
 returns-then-is_some-clause-end g c =
     let inside : c.loop-run.run.at < c.args.input.now.end - c.args.input.now.start =
     omega (arith, c.loop-run-test.true, c.last_place-last.ensures.place) in
-    over_first c.args.self.now c.args.input.now c.requires.1.0.trace c.loop-run.run.at c.loop-run.run.id c.byte_at-byte.result
-    c.byte_offset-offset.result c.loop-run.run.found (begun (given_up_offset Forward c.args.input.now 0) (known_of c.args.cache.now)) c.loop-run.cache c.loop-run.invariant.at
-    c.byte_at-byte.ensures inside c.byte_offset-offset.ensures.unit c.loop-run.invariant.progress
-    c.in-Ok.next c.read_met.new.cache c.in-Ok.ensures.read c.end_search-then-is_some.new.self
-    c.end_search-then-is_some.ensures.value c.found_at-found.result
+    over_first c.requires.1.0.trace c.loop-run.cache c.loop-run.invariant.at c.byte_at-byte.ensures inside
+    c.byte_offset-offset.ensures.unit c.loop-run.invariant.progress c.in-Ok.ensures.read
+    c.end_search-then-is_some.ensures.value
     (c.place_offset.result, c.place_offset.ensures.value, c.found_at-found.ensures)
     (sym c.get_earliest.ensures ∙ c.if-get_earliest.true) (some_is c.found_at-found.result c.if-is_some.ensures)
 

@@ -4,7 +4,7 @@ use Rattle.std.specs.Result.{result_err}
 use Rattle.automata_base.specs.declared.util.search.MatchErrorKind.TheVariants.{GaveUp}
 use Rattle.automata_config.specs.declared.error.SearchError.TheVariants as search
 use Rattle.automata_hybrid.specs.Known.Known.{begun}
-use Rattle.automata_hybrid.specs.Known.Pieces.{AsSearch, AtByte, IsWalkCallRun, NotHeld, NotHeldAt, NotPutBack, TooLong}
+use Rattle.automata_hybrid.specs.Known.Pieces.{AsSearch, IsWalkCallRun, NotHeld, NotHeldAt, NotPutBack, TooLong}
 use Rattle.automata_hybrid.specs.Known.Pieces.{WalksThrough, WalksUpto}
 use Rattle.automata_hybrid.specs.Known.Stores.{known_of}
 use Rattle.automata_hybrid.specs.Pieces.State.{IsPiecesOf, PiecesView}
@@ -14,7 +14,8 @@ use Rattle.automata_hybrid.specs.Private.Pieces.Walks.{IsPiecesWalk}
 use Rattle.automata_hybrid.specs.Searches.PieceRuns.{piece_state}
 use Rattle.automata_hybrid.proofs.Pieces.Progress.{goes_on, run_left, run_through, run_upto}
 use Rattle.automata_hybrid.proofs.Pieces.Runs.{found_fits}
-use Rattle.automata_hybrid.proofs.Pieces.Walks.{named_upto, stands_as, walks_dead, walks_match, walks_none, walks_through}
+use Rattle.automata_hybrid.proofs.Pieces.Walks.{named_upto, stands_as, walks_dead, walks_match, walks_none}
+use Rattle.automata_hybrid.proofs.Pieces.Walks.{walks_through}
 use Rattle.automata_hybrid.proofs.Searches.PassState.{none_is, some_is}
 use Rattle.automata_hybrid.proofs.Searches.Reads.{at_err}
 use Rattle.automata_hybrid.proofs.dfa.DFA.walk_pieces.Goals as goal
@@ -25,7 +26,7 @@ returns-in_err-from-clause-effect c =
     at_err c.from_residual.result _
     (λ r. IsWalkCallRun c.args.self.now c.args.piece.now c.args.pieces.now c.args.pieces.now
     (known_of c.args.cache.now) (known_of c.resume_pieces.new.cache) (result_err r))
-    c.from_residual.ensures.1 (AsSearch (NotPutBack left.0 left.1 left.2))
+    c.from_residual.ensures.1 (AsSearch (NotPutBack left.state left.stood left.fails))
 
 pub returns-in_default-clause-walked : goal.returns-in_default-clause-walked
 returns-in_default-clause-walked c =
@@ -35,7 +36,7 @@ returns-in_default-clause-walked c =
 pub returns-in_default-checked_add-clause-effect : goal.returns-in_default-checked_add-clause-effect
 returns-in_default-checked_add-clause-effect c =
     let on = rw c.in-Some.is at c.in_ok-from.ensures.some in
-    AsSearch (TooLong on.0 on.1 on.2
+    AsSearch (TooLong on.state on.stood on.back
     (let e = c.bytes_read-base.ensures in let over = c.in_default-checked_add.ensures in omega (arith, e, over))
     (ap (λ e. search.Match e) (c.gave_up.ensures ∙ ap (λ at. GaveUp at) c.bytes_read-base.ensures)))
 
@@ -46,21 +47,17 @@ returns-in_err-at-clause-effect c =
     (λ r. IsWalkCallRun c.args.self.now c.args.piece.now c.args.pieces.now c.args.pieces.now
     (known_of c.args.cache.now) (known_of c.run_piece.new.cache) (result_err r))
     c.from_residual-in_err-at.ensures.1
-    (AsSearch (AtByte on.0 (begun 0 (known_of c.resume_pieces.new.cache))
-    (goes_on c.args.self.now c.args.pieces.now on.0 (known_of c.args.cache.now) c.resume_pieces.new.cache on.1 on.2 0)
-    (run_left c.args.self.now c.args.piece.now c.args.pieces.now on.0 c.resume_pieces.new.cache c.run_piece.new.cache
-    c.in-Some.from true on.3 (sym c.requires.walk.early) c.bytes_read-base.result c.in_err-at.field-0.0
-    c.bytes_read-base.ensures c.in_err-at.ensures.left)))
+    (AsSearch (run_left on c.args.piece.now c.run_piece.new.cache (sym c.requires.walk.early)
+    c.bytes_read-base.ensures c.in_err-at.ensures.left))
 
 pub returns-then-is_none-clause-walked : goal.returns-then-is_none-clause-walked
 returns-then-is_none-clause-walked c =
     let on = rw c.in-Some.is at c.in_ok-from.ensures.some in
     let over =
-    run_upto c.args.self.now c.args.piece.now c.args.pieces.now on.0 c.resume_pieces.new.cache c.run_piece.new.cache
-    c.in-Some.from true on.3 (sym c.requires.walk.early) c.in_ok-at.field-0 c.in-Over.at c.in-Over.found
+    run_upto on c.args.piece.now c.run_piece.new.cache (sym c.requires.walk.early) c.in_ok-at.field-0
     c.in_ok-at.ensures.end c.in-Over.is in
     let none : c.in-Over.found ≡ None = none_is c.in-Over.found (c.is_none.ensures ∙ ap not c.if-is_none.true) in
-    walks_dead c.args.self.now on.0 c.args.piece.now c.args.pieces.now c.end.new.self on.1 c.requires.walk.early
+    walks_dead c.args.self.now on.state c.args.piece.now c.args.pieces.now c.end.new.self on.stood c.requires.walk.early
     c.in-Over.at c.in-Over.found (begun 0 (known_of c.resume_pieces.new.cache)) (known_of c.run_piece.new.cache)
     over.upto over.reported none c.end.ensures.state c.end.ensures.found
 
@@ -68,21 +65,19 @@ pub returns-then-is_none-clause-effect : goal.returns-then-is_none-clause-effect
 returns-then-is_none-clause-effect c =
     let on = rw c.in-Some.is at c.in_ok-from.ensures.some in
     let over =
-    run_upto c.args.self.now c.args.piece.now c.args.pieces.now on.0 c.resume_pieces.new.cache c.run_piece.new.cache
-    c.in-Some.from true on.3 (sym c.requires.walk.early) c.in_ok-at.field-0 c.in-Over.at c.in-Over.found
+    run_upto on c.args.piece.now c.run_piece.new.cache (sym c.requires.walk.early) c.in_ok-at.field-0
     c.in_ok-at.ensures.end c.in-Over.is in
-    WalksUpto on.0 (begun 0 (known_of c.resume_pieces.new.cache)) c.in-Over.at
-    (goes_on c.args.self.now c.args.pieces.now on.0 (known_of c.args.cache.now) c.resume_pieces.new.cache on.1 on.2 0)
-    over.upto (let e = c.bytes_read-base.ensures in let r = c.end.ensures.read in omega (arith, e, r))
+    WalksUpto on.state _ c.in-Over.at (goes_on on 0) over.upto
+    (let e = c.bytes_read-base.ensures in let r = c.end.ensures.read in omega (arith, e, r))
 
 pub found_in-found-requires : goal.found_in-found-requires
 found_in-found-requires c =
     let on = rw c.in-Some.is at c.in_ok-from.ensures.some in
     let over =
-    run_upto c.args.self.now c.args.piece.now c.args.pieces.now on.0 c.resume_pieces.new.cache c.run_piece.new.cache
-    c.in-Some.from true on.3 (sym c.requires.walk.early) c.in_ok-at.field-0 c.in-Over.at c.in-Over.found
+    run_upto on c.args.piece.now c.run_piece.new.cache (sym c.requires.walk.early) c.in_ok-at.field-0
     c.in_ok-at.ensures.end c.in-Over.is in
-    found_fits c.args.pieces.now.earliest (λ k. piece_state c.args.self.now c.args.piece.now on.0 k) (suc c.in-Over.at)
+    found_fits c.args.pieces.now.earliest (λ k. piece_state c.args.self.now c.args.piece.now on.state k)
+    (suc c.in-Over.at)
     c.args.piece.now c.bytes_read-base.result c.in-Over.found over.reported
     (let l = over.upto.reads.0 in omega (arith, l)) (let e = c.in-Some-checked_add.ensures in omega (arith, e))
 
@@ -97,16 +92,13 @@ pub returns-in_err-stand_in_row-in-Over-clause-effect : goal.returns-in_err-stan
 returns-in_err-stand_in_row-in-Over-clause-effect c =
     let on = rw c.in-Some.is at c.in_ok-from.ensures.some in
     let over =
-    run_upto c.args.self.now c.args.piece.now c.args.pieces.now on.0 c.resume_pieces.new.cache c.run_piece.new.cache
-    c.in-Some.from true on.3 (sym c.requires.walk.early) c.in_ok-at.field-0 c.in-Over.at c.in-Over.found
+    run_upto on c.args.piece.now c.run_piece.new.cache (sym c.requires.walk.early) c.in_ok-at.field-0
     c.in_ok-at.ensures.end c.in-Over.is in
     at_err c.from_residual-in_err-stand_in_row-in-Over.result _
     (λ r. IsWalkCallRun c.args.self.now c.args.piece.now c.args.pieces.now c.stand_in_row.new.pieces
     (known_of c.args.cache.now) (known_of c.run_piece.new.cache) (result_err r))
     c.from_residual-in_err-stand_in_row-in-Over.ensures.1
-    (NotHeldAt on.0 (begun 0 (known_of c.resume_pieces.new.cache)) c.in-Over.at
-    (goes_on c.args.self.now c.args.pieces.now on.0 (known_of c.args.cache.now) c.resume_pieces.new.cache on.1 on.2 0)
-    over.upto c.in_err-stand_in_row-in-Over.ensures.error)
+    (NotHeldAt on.state _ c.in-Over.at (goes_on on 0) over.upto c.in_err-stand_in_row-in-Over.ensures.error)
 
 pub returns-in_err-stand_in_row-in-At-clause-walk : goal.returns-in_err-stand_in_row-in-At-clause-walk
 returns-in_err-stand_in_row-in-At-clause-walk c =
@@ -119,34 +111,30 @@ pub returns-in_err-stand_in_row-in-At-clause-effect : goal.returns-in_err-stand_
 returns-in_err-stand_in_row-in-At-clause-effect c =
     let on = rw c.in-Some.is at c.in_ok-from.ensures.some in
     let through =
-    run_through c.args.self.now c.args.piece.now c.args.pieces.now on.0 c.resume_pieces.new.cache
-    c.run_piece.new.cache c.in-Some.from true on.3 (sym c.requires.walk.early) c.in_ok-at.field-0 c.in-At.id
-    c.in-At.field-1 c.in_ok-at.ensures.end c.in-At.is in
+    run_through on c.args.piece.now c.run_piece.new.cache (sym c.requires.walk.early) c.in_ok-at.field-0
+    c.in_ok-at.ensures.end c.in-At.is in
     at_err c.from_residual-in_err-stand_in_row-in-At.result _
     (λ r. IsWalkCallRun c.args.self.now c.args.piece.now c.args.pieces.now c.stand_in_row-in-At.new.pieces
     (known_of c.args.cache.now) (known_of c.run_piece.new.cache) (result_err r))
     c.from_residual-in_err-stand_in_row-in-At.ensures.1
-    (AsSearch (NotHeld on.0 (begun 0 (known_of c.resume_pieces.new.cache))
-    (goes_on c.args.self.now c.args.pieces.now on.0 (known_of c.args.cache.now) c.resume_pieces.new.cache on.1 on.2 0)
-    through.all c.in_err-stand_in_row-in-At.ensures.error))
+    (AsSearch (NotHeld on.state _ (goes_on on 0) through.all c.in_err-stand_in_row-in-At.ensures.error))
 
 pub returns-in_ok-stand_in_row-in-Over-clause-walked : goal.returns-in_ok-stand_in_row-in-Over-clause-walked
 returns-in_ok-stand_in_row-in-Over-clause-walked c =
     let on = rw c.in-Some.is at c.in_ok-from.ensures.some in
     let over =
-    run_upto c.args.self.now c.args.piece.now c.args.pieces.now on.0 c.resume_pieces.new.cache c.run_piece.new.cache
-    c.in-Some.from true on.3 (sym c.requires.walk.early) c.in_ok-at.field-0 c.in-Over.at c.in-Over.found
+    run_upto on c.args.piece.now c.run_piece.new.cache (sym c.requires.walk.early) c.in_ok-at.field-0
     c.in_ok-at.ensures.end c.in-Over.is in
     let some = some_is c.in-Over.found (sym (c.is_none.ensures ∙ ap not c.if-is_none.false)) in
     let more : suc c.in-Over.at ≡ c.in-Over.at + 1 = omega arith in
     subst (λ n. IsWalked c.args.self.now c.args.piece.now c.args.pieces.now c.stand_in_row.new.pieces n) more
-    (walks_match c.args.self.now on.0 c.args.piece.now c.args.pieces.now c.stand_in_row.new.pieces on.1
+    (walks_match c.args.self.now on.state c.args.piece.now c.args.pieces.now c.stand_in_row.new.pieces on.stood
     c.requires.walk.early c.in-Over.at c.in-Over.found (begun 0 (known_of c.resume_pieces.new.cache))
     (known_of c.run_piece.new.cache) over.upto over.reported c.run_piece.new.cache.store.table c.in-Over.id some
     (stands_as c.run_piece.new.cache.store.table c.in-Over.id _ _ _ _ c.args.pieces.now c.stand_in_row.new.pieces
     c.in_ok-stand_in_row-in-Over.ensures.stands (let e = c.bytes_read-base.ensures in omega (arith, e))
     (c.found_in-found.ensures ∙ ap (λ b. found_in c.in-Over.found b None) c.bytes_read-base.ensures))
-    (named_upto c.args.self.now on.0 c.args.piece.now c.args.pieces.now c.stand_in_row.new.pieces on.1
+    (named_upto c.args.self.now on.state c.args.piece.now c.args.pieces.now c.stand_in_row.new.pieces on.stood
     c.requires.walk.early c.in-Over.at c.in-Over.found (begun 0 (known_of c.resume_pieces.new.cache))
     (known_of c.run_piece.new.cache) over.upto over.reported c.run_piece.new.cache.store.table c.in-Over.id some
     over.leads))
@@ -155,12 +143,9 @@ pub returns-in_ok-stand_in_row-in-Over-clause-effect : goal.returns-in_ok-stand_
 returns-in_ok-stand_in_row-in-Over-clause-effect c =
     let on = rw c.in-Some.is at c.in_ok-from.ensures.some in
     let over =
-    run_upto c.args.self.now c.args.piece.now c.args.pieces.now on.0 c.resume_pieces.new.cache c.run_piece.new.cache
-    c.in-Some.from true on.3 (sym c.requires.walk.early) c.in_ok-at.field-0 c.in-Over.at c.in-Over.found
+    run_upto on c.args.piece.now c.run_piece.new.cache (sym c.requires.walk.early) c.in_ok-at.field-0
     c.in_ok-at.ensures.end c.in-Over.is in
-    WalksUpto on.0 (begun 0 (known_of c.resume_pieces.new.cache)) c.in-Over.at
-    (goes_on c.args.self.now c.args.pieces.now on.0 (known_of c.args.cache.now) c.resume_pieces.new.cache on.1 on.2 0)
-    over.upto
+    WalksUpto on.state _ c.in-Over.at (goes_on on 0) over.upto
     (let e = c.bytes_read-base.ensures in let r = c.in_ok-stand_in_row-in-Over.ensures.stands.read in
     omega (arith, e, r))
 
@@ -168,10 +153,9 @@ pub returns-in_ok-stand_in_row-in-At-clause-walked : goal.returns-in_ok-stand_in
 returns-in_ok-stand_in_row-in-At-clause-walked c =
     let on = rw c.in-Some.is at c.in_ok-from.ensures.some in
     let through =
-    run_through c.args.self.now c.args.piece.now c.args.pieces.now on.0 c.resume_pieces.new.cache
-    c.run_piece.new.cache c.in-Some.from true on.3 (sym c.requires.walk.early) c.in_ok-at.field-0 c.in-At.id
-    c.in-At.field-1 c.in_ok-at.ensures.end c.in-At.is in
-    walks_through c.args.self.now on.0 c.args.piece.now c.args.pieces.now c.stand_in_row-in-At.new.pieces on.1
+    run_through on c.args.piece.now c.run_piece.new.cache (sym c.requires.walk.early) c.in_ok-at.field-0
+    c.in_ok-at.ensures.end c.in-At.is in
+    walks_through c.args.self.now on.state c.args.piece.now c.args.pieces.now c.stand_in_row-in-At.new.pieces on.stood
     c.requires.walk.early c.run_piece.new.cache.store.table c.in-At.id c.in-At.field-1
     (stands_as c.run_piece.new.cache.store.table c.in-At.id _ _ _ _ c.args.pieces.now
     c.stand_in_row-in-At.new.pieces c.in_ok-stand_in_row-in-At.ensures.stands
@@ -182,11 +166,8 @@ pub returns-in_ok-stand_in_row-in-At-clause-effect : goal.returns-in_ok-stand_in
 returns-in_ok-stand_in_row-in-At-clause-effect c =
     let on = rw c.in-Some.is at c.in_ok-from.ensures.some in
     let through =
-    run_through c.args.self.now c.args.piece.now c.args.pieces.now on.0 c.resume_pieces.new.cache
-    c.run_piece.new.cache c.in-Some.from true on.3 (sym c.requires.walk.early) c.in_ok-at.field-0 c.in-At.id
-    c.in-At.field-1 c.in_ok-at.ensures.end c.in-At.is in
-    WalksThrough on.0 (begun 0 (known_of c.resume_pieces.new.cache))
-    (goes_on c.args.self.now c.args.pieces.now on.0 (known_of c.args.cache.now) c.resume_pieces.new.cache on.1 on.2 0)
-    through.all
+    run_through on c.args.piece.now c.run_piece.new.cache (sym c.requires.walk.early) c.in_ok-at.field-0
+    c.in_ok-at.ensures.end c.in-At.is in
+    WalksThrough on.state _ (goes_on on 0) through.all
     (let e = c.bytes_read-base.ensures in let r = c.in_ok-stand_in_row-in-At.ensures.stands.read in
     let a = c.in-Some-checked_add.ensures in omega (arith, e, r, a))
