@@ -6,7 +6,6 @@ pub mod Made
 pub mod Events
 pub mod Calls
 pub mod Walks
-pub mod Pieces
 pub mod Stores
 pub mod Growth
 pub mod Bounds

@@ -6,4 +6,3 @@ pub mod Searches
 pub mod Steps
 pub mod Walks
 pub mod Calls
-pub mod Known

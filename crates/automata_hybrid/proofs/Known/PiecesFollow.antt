@@ -1,7 +1,8 @@
 -- What follows of the calls of a search in pieces, by what a cache knows.
-use Rattle.std.proofs.Common.{ℕ, suc, ◌≡◌, ◌∙◌, ◌+◌, ◌<◌, ◌≤◌, false, List}
+use Rattle.std.proofs.Common.{ℕ, suc, ◌≡◌, ◌∙◌, ◌+◌, ◌-◌, ◌<◌, ◌≤◌, false, List}
 use Rattle.std.proofs.Common.{length, Option, None, Some, refl, sym, ap, subst, arith}
-use Rattle.std.specs.Prelude.{option_and_then, option_map}
+use Rattle.std.specs.Prelude.{option_map}
+use Rattle.automata_base.specs.Paths.Paths.{next as unit_at}
 use Rattle.automata_base.specs.Powersets.Powerset.{Powerset}
 use Rattle.automata_base.specs.declared.util.search.Direction.TheVariants.{Forward}
 use Rattle.automata_config.specs.Options.{minimum_cache_clear_count_of}
@@ -11,21 +12,17 @@ use Rattle.automata_hybrid.specs.Known.Bounds.{IsKnown}
 use Rattle.automata_hybrid.specs.Known.Events.{after_event}
 use Rattle.automata_hybrid.specs.Known.Growth.{IsGrown, IsStill}
 use Rattle.automata_hybrid.specs.Known.Known.{Known, begun, cleared, counted, ended, moved}
-use Rattle.automata_hybrid.specs.Known.Passes.{CannotStep, EventFails, MeetsQuit, after_many}
-use Rattle.automata_hybrid.specs.Known.Pieces.{AlreadyOver, Answered, AtByte, AtEnd, ByteFails}
-use Rattle.automata_hybrid.specs.Known.Pieces.{EndFails}
-use Rattle.automata_hybrid.specs.Known.Pieces.{EndsAnswer, EndsPiece, FailsAtByte, FailsAtEnd}
-use Rattle.automata_hybrid.specs.Known.Pieces.{LeavesAnswer, LeavesPiece}
-use Rattle.automata_hybrid.specs.Known.Pieces.{NotBack, NotHeld, NotPutBack, Through, TooLong, Upto}
-use Rattle.automata_hybrid.specs.Known.Pieces.{after_bytes, after_piece}
-use Rattle.automata_hybrid.specs.Known.Pieces.{before_end}
+use Rattle.automata_hybrid.specs.Known.Passes.{CannotStep, EventFails, MeetsQuit, ReadFails, after_many}
+use Rattle.automata_hybrid.specs.Known.Pieces.{AlreadyOver, Answered, AtByte, AtEnd, EndsAnswer, EndsPiece}
+use Rattle.automata_hybrid.specs.Known.Pieces.{FailsAtByte, FailsAtEnd, GoesOn, LeavesAnswer, LeavesPiece}
+use Rattle.automata_hybrid.specs.Known.Pieces.{NotBack, NotHeld, NotPutBack, ReadsThrough, Through, TooLong, Upto}
 use Rattle.automata_hybrid.specs.Known.PiecesFollow.{IsCostOfUnits, PieceAnswersFollow, PiecesFollow}
 use Rattle.automata_hybrid.specs.Known.Walks.{GivesUpOnIt, IsNotBack, RunsOutOnIt, with_row_back}
 use Rattle.automata_hybrid.specs.Machines.Machine.{Machine, quits_on}
 use Rattle.automata_hybrid.specs.Pieces.Follows.{IsFreePiece}
 use Rattle.automata_hybrid.specs.Pieces.State.{IsPiecesOf, PiecesView}
 use Rattle.automata_hybrid.specs.Searches.Contracts.{IsMemory}
-use Rattle.automata_hybrid.specs.Searches.Passes.{given_up_offset}
+use Rattle.automata_hybrid.specs.Searches.Passes.{given_up_offset, tape_in}
 use Rattle.automata_hybrid.specs.Searches.PieceRuns.{piece_input, piece_trace}
 use Rattle.automata_hybrid.specs.Searches.Progress.{unit_event}
 use Rattle.automata_hybrid.proofs.Known.Bounds.{HasBounds, known_counted, known_moved}
@@ -33,7 +30,7 @@ use Rattle.automata_hybrid.proofs.Known.Growth.{clears_none, grown_after, grown_
 use Rattle.automata_hybrid.proofs.Known.Growth.{grown_still, grown_trans}
 use Rattle.automata_hybrid.proofs.Known.Makes.{BackFollows, back_follows, event_follows, mapped}
 use Rattle.automata_hybrid.proofs.Known.Memory.{event_memory, state_made}
-use Rattle.automata_hybrid.proofs.Known.PassesFollow.{UnitsFollow, then_some, units_follow}
+use Rattle.automata_hybrid.proofs.Known.PassesFollow.{units_follow}
 use Rattle.automata_hybrid.proofs.Pieces.Follows.{piece_unit}
 use Rattle.automata_hybrid.proofs.Searches.PassState.{false_true}
 
@@ -122,99 +119,97 @@ row_then m j k row mid new f g = record {
 row_more : (m : Machine) (j k : ℕ) (row new : Known) → j ≤ k → RowFollows m j row new → RowFollows m k row new
 row_more m j k row new less f = record { grown = f.grown; cost = omega (arith, f.cost, less); sound = f.sound }
 
+-- a search has gone on: the state is there, and the search has begun
+record Begins (m : Machine) (q : Powerset) (old opened : Known) : Type 0 where
+  pub row : Known
+  pub back : BackFollows m q old row
+  pub begins : RowFollows m 0 row opened
+
+begins :
+    (m : Machine) (p : PiecesView) (q : Powerset) (at : ℕ) (old opened : Known) → HasBounds m → IsKnown m old
+    → IsPiecesOf p m → GoesOn m p q at old opened → Begins m q old opened
+begins m p q at old opened bounds sound of on =
+    let first = mapped (begun at) (with_row_back m q old) opened on.begins in
+    let back = back_follows m q old first.0 sound bounds (of q on.from).cheap first.1 in
+    record {
+      row = first.0;
+      back = back;
+      begins = record {
+        grown = grown_still m first.0 opened (subst (λ (c : Known). IsStill first.0 c) (sym first.2) refl);
+        cost = omega (arith, ap (λ (c : Known). c.count) first.2);
+        sound = subst (IsKnown m) (sym first.2) (known_moved m first.0 (begun at first.0).searched back.sound);
+      };
+    }
+
 module _ (m : Machine) (bounds : HasBounds m) (piece : List ℕ) (p : PiecesView) (old : Known) (sound : IsKnown m old)
     (of : IsPiecesOf p m) where
-  -- the state is there, and so many bytes are read
-  record Bytes (q : Powerset) (bytes : ℕ) (new : Known) : Type 0 where
-    pub row : Known
-    pub back : BackFollows m q old row
-    pub reads : RowFollows m bytes row new
-
+  -- so many bytes are read
   bytes_read :
-      (q : Powerset) (bytes : ℕ) (new : Known) → p.state ≡ Some q → after_bytes m piece p q bytes old ≡ Some new
-      → Bytes q bytes new
-  bytes_read q bytes new stood run = record {
-    row = first.0;
-    back = back;
-    reads = record {
-      grown = grown_trans m first.0 (begun (given_up_offset Forward (piece_input piece p.earliest) 0) first.0) new
-          (grown_still m first.0 (begun (given_up_offset Forward (piece_input piece p.earliest) 0) first.0) refl)
-          f.grown;
-      cost = f.counted;
-      sound = f.sound;
-    };
-  } where
-    parts :
-        (opened : Known) × (option_map (begun (given_up_offset Forward (piece_input piece p.earliest) 0))
-        (with_row_back m q old) ≡ Some opened)
-        × (after_many (piece_trace m piece p.earliest q) Forward m (piece_input piece p.earliest) 0 bytes opened
-        ≡ Some new)
-    parts =
-        then_some (after_many (piece_trace m piece p.earliest q) Forward m (piece_input piece p.earliest) 0 bytes)
-        (option_map (begun (given_up_offset Forward (piece_input piece p.earliest) 0)) (with_row_back m q old)) new run
-
-    first :
-        (row : Known) × (with_row_back m q old ≡ Some row)
-        × (parts.0 ≡ begun (given_up_offset Forward (piece_input piece p.earliest) 0) row)
-    first =
-        mapped (begun (given_up_offset Forward (piece_input piece p.earliest) 0))
-        (with_row_back m q old) parts.0 parts.1
-
-    back : BackFollows m q old first.0
-    back = back_follows m q old first.0 sound bounds (of q stood).cheap first.1
-
-    f :
-        UnitsFollow (piece_trace m piece p.earliest q) Forward m (piece_input piece p.earliest) 0 bytes
-        (begun (given_up_offset Forward (piece_input piece p.earliest) 0) first.0) new
-    f =
-        units_follow (piece_trace m piece p.earliest q) Forward m (piece_input piece p.earliest) 0 bounds bytes
-        (begun (given_up_offset Forward (piece_input piece p.earliest) 0) first.0) new
-        (known_moved m first.0
-        (begun (given_up_offset Forward (piece_input piece p.earliest) 0) first.0).searched back.sound)
-        (subst
-        (λ (c : Known). after_many (piece_trace m piece p.earliest q) Forward m
-        (piece_input piece p.earliest) 0 bytes c ≡ Some new)
-        first.2 parts.2)
+      (q : Powerset) (bytes : ℕ) (opened new : Known) → IsKnown m opened
+      → after_many (piece_trace m piece p.earliest q) Forward m (piece_input piece p.earliest) 0 bytes opened
+      ≡ Some new
+      → RowFollows m bytes opened new
+  bytes_read q bytes opened new there run =
+      let f =
+      units_follow (piece_trace m piece p.earliest q) Forward m (piece_input piece p.earliest) 0 bounds bytes opened new
+      there run in
+      record { grown = f.grown; cost = f.counted; sound = f.sound }
 
   -- and then the search ends
   read_costs :
-      (q : Powerset) (bytes k : ℕ) (new : Known) → bytes ≤ length piece → p.state ≡ Some q
-      → after_piece m piece p q bytes k old ≡ Some new → IsCostOfUnits m (length piece) p old new
-  read_costs q bytes k new few stood run =
+      (q : Powerset) (bytes k : ℕ) (opened new : Known) → bytes ≤ length piece → GoesOn m p q 0 old opened
+      → option_map (ended (given_up_offset Forward (piece_input piece p.earliest) k))
+      (after_many (piece_trace m piece p.earliest q) Forward m (piece_input piece p.earliest) 0 bytes opened)
+      ≡ Some new
+      → IsCostOfUnits m (length piece) p old new
+  read_costs q bytes k opened new few on run =
       let parts =
       mapped (ended (given_up_offset Forward (piece_input piece p.earliest) k))
-      (after_bytes m piece p q bytes old) new run in
-      let b = bytes_read q bytes parts.0 stood parts.1 in
-      from_row m p q (length piece) old b.row new stood b.back
-      (row_more m (bytes + 0) (length piece) b.row new (omega (arith, few))
-      (row_then m bytes 0 b.row parts.0 new b.reads
-      (ended_row m 0 (given_up_offset Forward (piece_input piece p.earliest) k) parts.0 new b.reads.sound parts.2)))
+      (after_many (piece_trace m piece p.earliest q) Forward m (piece_input piece p.earliest) 0 bytes opened) new run in
+      let b = begins m p q 0 old opened bounds sound of on in
+      let f = bytes_read q bytes opened parts.0 b.begins.sound parts.1 in
+      from_row m p q (length piece) old b.row new on.from b.back
+      (row_more m (0 + (bytes + 0)) (length piece) b.row new (omega (arith, few))
+      (row_then m 0 (bytes + 0) b.row opened new b.begins
+      (row_then m bytes 0 opened parts.0 new f
+      (ended_row m 0 (given_up_offset Forward (piece_input piece p.earliest) k) parts.0 new f.sound parts.2))))
+
+  all_costs :
+      (q : Powerset) (opened new : Known) → GoesOn m p q 0 old opened → ReadsThrough m piece p q opened new
+      → IsCostOfUnits m (length piece) p old new
+  all_costs q opened new on t =
+      read_costs q (length piece - 0) (length piece - 0) opened new (omega arith) on t.run
 
   piece_ends :
       (next : PiecesView) (new : Known) → EndsPiece m piece p next old new → IsCostOfUnits m (length piece) p old new
   piece_ends next new (AlreadyOver none same still) = unchanged m p (length piece) old new sound still
-  piece_ends next new (Through q t read) = read_costs q (length piece) (length piece) new (omega arith) t.from t.run
-  piece_ends next new (Upto q k t none read) =
-      let less = t.reads.0 in read_costs q (suc k) k new (omega (arith, less)) t.from t.run
+  piece_ends next new (Through q opened on t read) = all_costs q opened new on t
+  piece_ends next new (Upto q opened k on t none read) =
+      let less = t.reads.0 in read_costs q (suc k) k opened new (omega (arith, less)) on t.run
 
   byte_fails :
-      (q : Powerset) (k : ℕ) (mid new : Known) (e : SearchError) → IsKnown m mid → ByteFails m piece p q k mid new e
+      (q : Powerset) (k at : ℕ) (mid new : Known) (e : SearchError) → IsKnown m mid
+      → ReadFails m ((piece_trace m piece p.earliest q).state k)
+      (unit_at (tape_in Forward (piece_input piece p.earliest)) k) at at
+      (given_up_offset Forward (piece_input piece p.earliest) k) mid new e
       → RowFollows m 1 mid new
-  byte_fails q k mid new e there (MeetsQuit byte unit quits is same) =
+  byte_fails q k at mid new e there (MeetsQuit byte unit quits is same) =
       ended_row m 1 (given_up_offset Forward (piece_input piece p.earliest) k) mid new there same
-  byte_fails q k mid new e there (CannotStep clean fails) =
-      failed_row m (unit_event (piece_trace m piece p.earliest q) Forward (piece_input piece p.earliest) k) (p.read + k)
+  byte_fails q k at mid new e there (CannotStep clean fails) =
+      failed_row m (unit_event (piece_trace m piece p.earliest q) Forward (piece_input piece p.earliest) k) at
       (given_up_offset Forward (piece_input piece p.earliest) k) mid new e there fails
 
   at_byte :
-      (q : Powerset) (new : Known) (e : SearchError) → FailsAtByte m piece p q old new e
-      → IsCostOfUnits m (length piece) p old new
-  at_byte q new e f =
-      let b = bytes_read q f.place f.mid f.from f.run in
+      (q : Powerset) (opened new : Known) (e : SearchError) → GoesOn m p q 0 old opened
+      → FailsAtByte m piece p q opened new e → IsCostOfUnits m (length piece) p old new
+  at_byte q opened new e on f =
+      let b = begins m p q 0 old opened bounds sound of on in
+      let g = bytes_read q f.place opened f.mid b.begins.sound f.run in
       let less = f.reads.0 in
-      from_row m p q (length piece) old b.row new f.from b.back
-      (row_more m (f.place + 1) (length piece) b.row new (omega (arith, less))
-      (row_then m f.place 1 b.row f.mid new b.reads (byte_fails q f.place f.mid new e b.reads.sound f.fails)))
+      from_row m p q (length piece) old b.row new on.from b.back
+      (row_more m (0 + (f.place + 1)) (length piece) b.row new (omega (arith, less))
+      (row_then m 0 (f.place + 1) b.row opened new b.begins
+      (row_then m f.place 1 opened f.mid new g (byte_fails q f.place (p.read + f.place) f.mid new e g.sound f.fails))))
 
   piece_left :
       (new : Known) (e : SearchError) → LeavesPiece m piece p old new e → IsCostOfUnits m (length piece) p old new
@@ -224,25 +219,28 @@ module _ (m : Machine) (bounds : HasBounds m) (piece : List ℕ) (p : PiecesView
       (record { grown = grown_same m new new refl; cost = omega arith; sound = b.sound })
   piece_left new e (NotPutBack q stood not) =
       unchanged m p (length piece) old new sound (not_back m q p.read old new e not)
-  piece_left new e (AtByte q f) = at_byte q new e f
-  piece_left new e (NotHeld q t is) = read_costs q (length piece) (length piece) new (omega arith) t.from t.run
+  piece_left new e (AtByte q opened on f) = at_byte q opened new e on f
+  piece_left new e (NotHeld q opened on t is) = all_costs q opened new on t
 
   byte_memory :
-      (q : Powerset) (k : ℕ) (mid new : Known) (e : SearchError) → k < length piece → IsFreePiece m piece p
-      → ByteFails m piece p q k mid new e → IsMemory e
-  byte_memory q k mid new e low free (MeetsQuit byte unit quits is same) =
+      (q : Powerset) (k at : ℕ) (mid new : Known) (e : SearchError) → k < length piece → IsFreePiece m piece p
+      → ReadFails m ((piece_trace m piece p.earliest q).state k)
+      (unit_at (tape_in Forward (piece_input piece p.earliest)) k) at at
+      (given_up_offset Forward (piece_input piece p.earliest) k) mid new e
+      → IsMemory e
+  byte_memory q k at mid new e low free (MeetsQuit byte unit quits is same) =
       absurd (false_true (sym (piece_unit m piece p.earliest k low free.clean) ∙ (ap (quits_on m) unit ∙ quits)))
-  byte_memory q k mid new e low free (CannotStep clean fails) =
-      event_memory m (unit_event (piece_trace m piece p.earliest q) Forward (piece_input piece p.earliest) k)
-      (p.read + k)
+  byte_memory q k at mid new e low free (CannotStep clean fails) =
+      event_memory m (unit_event (piece_trace m piece p.earliest q) Forward (piece_input piece p.earliest) k) at
       (moved (given_up_offset Forward (piece_input piece p.earliest) k) mid) new e free.clears fails
 
   piece_memory : (new : Known) (e : SearchError) → LeavesPiece m piece p old new e → IsFreePiece m piece p → IsMemory e
   piece_memory new e (TooLong q stood back many is) free = absurd (let l = free.fits in omega (arith, many, l))
   piece_memory new e (NotPutBack q stood not) free = back_memory m q p.read old new e free.clears not
-  piece_memory new e (AtByte q f) free =
-      let less = f.reads.0 in byte_memory q f.place f.mid new e (omega (arith, less)) free f.fails
-  piece_memory new e (NotHeld q t is) free = is
+  piece_memory new e (AtByte q opened on f) free =
+      let less = f.reads.0 in
+      byte_memory q f.place (p.read + f.place) f.mid new e (omega (arith, less)) free f.fails
+  piece_memory new e (NotHeld q opened on t is) free = is
 
 pub pieces_follow : (m : Machine) → HasBounds m → PiecesFollow m
 pieces_follow m bounds piece p next old new None sound of run =
@@ -252,64 +250,40 @@ pieces_follow m bounds piece p next old new (Some e) sound of run =
 
 module _ (m : Machine) (bounds : HasBounds m) (ahead : Option ℕ) (p : PiecesView) (old : Known) (sound : IsKnown m old)
     (of : IsPiecesOf p m) where
-  -- the state is there, and the search has begun
-  record Before (q : Powerset) (mid : Known) : Type 0 where
-    pub row : Known
-    pub back : BackFollows m q old row
-    pub begins : RowFollows m 0 row mid
-
-  before : (q : Powerset) (mid : Known) → p.state ≡ Some q → before_end m p q old ≡ Some mid → Before q mid
-  before q mid stood run =
-      let first = mapped (begun p.read) (with_row_back m q old) mid run in
-      let back = back_follows m q old first.0 sound bounds (of q stood).cheap first.1 in
-      record {
-        row = first.0;
-        back = back;
-        begins = record {
-          grown = grown_still m first.0 mid (subst (λ (c : Known). IsStill first.0 c) (sym first.2) refl);
-          cost = omega (arith, ap (λ (c : Known). c.count) first.2);
-          sound = subst (IsKnown m) (sym first.2) (known_moved m first.0 (begun p.read first.0).searched back.sound);
-        };
-      }
-
   answer_ends : (new : Known) → EndsAnswer m ahead p old new → IsCostOfUnits m 1 p old new
   answer_ends new (Answered none same) = unchanged m p 1 old new sound same
-  answer_ends new (AtEnd q stood clean run) =
-      let last =
-      mapped (ended p.read)
-      (option_and_then (λ mid. after_event m (Step q ahead) (moved p.read mid) mid) (before_end m p q old)) new run in
-      let step = then_some (λ mid. after_event m (Step q ahead) (moved p.read mid) mid)
-      (before_end m p q old) last.0 last.1 in
-      let b = before q step.0 stood step.1 in
-      let f = event_follows m step.0 (moved p.read step.0).searched last.0 b.begins.sound bounds
-      (Step q ahead) step.2 in
-      from_row m p q 1 old b.row new stood b.back
+  answer_ends new (AtEnd q opened on clean run) =
+      let last = mapped (ended p.read) (after_event m (Step q ahead) (moved p.read opened) opened) new run in
+      let b = begins m p q p.read old opened bounds sound of on in
+      let f = event_follows m opened (moved p.read opened).searched last.0 b.begins.sound bounds
+      (Step q ahead) last.1 in
+      from_row m p q 1 old b.row new on.from b.back
       (row_then m 1 0 b.row last.0 new
-      (row_then m 0 1 b.row step.0 last.0 b.begins (record { grown = f.grown; cost = f.counted; sound = f.sound }))
+      (row_then m 0 1 b.row opened last.0 b.begins (record { grown = f.grown; cost = f.counted; sound = f.sound }))
       (ended_row m 0 p.read last.0 new f.sound last.2))
 
   end_fails :
-      (q : Powerset) (mid new : Known) (e : SearchError) → IsKnown m mid → EndFails m ahead p q mid new e
-      → RowFollows m 1 mid new
+      (q : Powerset) (mid new : Known) (e : SearchError) → IsKnown m mid
+      → ReadFails m q ahead p.read p.read p.read mid new e → RowFollows m 1 mid new
   end_fails q mid new e there (MeetsQuit byte is quits reported same) = ended_row m 1 p.read mid new there same
   end_fails q mid new e there (CannotStep clean fails) =
       failed_row m (Step q ahead) p.read p.read mid new e there fails
 
   answer_left : (new : Known) (e : SearchError) → LeavesAnswer m ahead p old new e → IsCostOfUnits m 1 p old new
   answer_left new e (NotBack q stood not) = unchanged m p 1 old new sound (not_back m q p.read old new e not)
-  answer_left new e (FailsAtEnd q stood mid run fails) =
-      let b = before q mid stood run in
-      from_row m p q 1 old b.row new stood b.back
-      (row_then m 0 1 b.row mid new b.begins (end_fails q mid new e b.begins.sound fails))
+  answer_left new e (FailsAtEnd q opened on fails) =
+      let b = begins m p q p.read old opened bounds sound of on in
+      from_row m p q 1 old b.row new on.from b.back
+      (row_then m 0 1 b.row opened new b.begins (end_fails q opened new e b.begins.sound fails))
 
   answer_memory :
       (new : Known) (e : SearchError) → LeavesAnswer m ahead p old new e → quits_on m ahead ≡ false
       → minimum_cache_clear_count_of m.config ≡ None → IsMemory e
   answer_memory new e (NotBack q stood not) clean free = back_memory m q p.read old new e free not
-  answer_memory new e (FailsAtEnd q stood mid run (MeetsQuit byte is quits reported same)) clean free =
+  answer_memory new e (FailsAtEnd q opened on (MeetsQuit byte is quits reported same)) clean free =
       absurd (false_true (sym clean ∙ (ap (quits_on m) is ∙ quits)))
-  answer_memory new e (FailsAtEnd q stood mid run (CannotStep free_unit fails)) clean free =
-      event_memory m (Step q ahead) p.read (moved p.read mid) new e free fails
+  answer_memory new e (FailsAtEnd q opened on (CannotStep free_unit fails)) clean free =
+      event_memory m (Step q ahead) p.read (moved p.read opened) new e free fails
 
 pub piece_answers_follow : (m : Machine) → HasBounds m → PieceAnswersFollow m
 piece_answers_follow m bounds ahead p old new None sound of run =

@@ -16,28 +16,31 @@ use Rattle.automata_base.proofs.Paths.Orders.{none_some, some_inj, some_none}
 use Rattle.automata_config.specs.Options.{match_kind_of}
 use Rattle.automata_hybrid.specs.Cache.Caches.{CacheView}
 use Rattle.automata_hybrid.specs.Cache.Ids.{HasDeadTag}
-use Rattle.automata_hybrid.specs.Cache.Table.{Leads, Names}
+use Rattle.automata_hybrid.specs.Cache.Table.{Leads, Names, Rows}
+use Rattle.automata_hybrid.specs.Known.Known.{Known}
+use Rattle.automata_hybrid.specs.Known.Pieces.{AnswerStands, DiesThere, FindsThere, ReadsPieceUpto}
 use Rattle.automata_hybrid.specs.Machines.Machine.{Machine}
-use Rattle.automata_hybrid.specs.Pieces.Answers.{BeginsAfter, EndsHere, HasBegun, IsPieceAt, IsWhole, ReadsOn, StandsAfter}
+use Rattle.automata_hybrid.specs.Pieces.Answers.{BeginsAfter, EndsHere, HasBegun, IsPieceAt, IsWhole, ReadsOn}
+use Rattle.automata_hybrid.specs.Pieces.Answers.{StandsAfter}
 use Rattle.automata_hybrid.specs.Pieces.Answers.{WasGiven, WasGivenAll, from_first}
-use Rattle.automata_hybrid.specs.Private.Pieces.Progress.{ReadsThroughInStore, ReadsPieceUptoInStore}
 use Rattle.automata_hybrid.specs.Pieces.State.{PiecesView}
 use Rattle.automata_hybrid.specs.Private.Pieces.State.{found_in}
 use Rattle.automata_hybrid.specs.Searches.PassContracts.{IsPassAnswer}
-use Rattle.automata_hybrid.specs.Searches.PassState.{IsAt, half_at, half_of}
+use Rattle.automata_hybrid.specs.Searches.PassState.{IsAt, IsAtAlong, half_at, half_of}
 use Rattle.automata_hybrid.specs.Searches.Passes.{HasReadNoQuit, IsFound, Reads, Skips, WithoutBase, reported_in}
 use Rattle.automata_hybrid.specs.Searches.Passes.{state_in, tape_in}
 use Rattle.automata_hybrid.specs.Searches.PieceRuns.{piece_input, piece_state, piece_trace}
 use Rattle.automata_hybrid.specs.Private.Searches.Units.{IsReadAnswer}
 use Rattle.automata_hybrid.specs.Steps.Starts.{IsStartAnswer, MayStart}
-use Rattle.automata_hybrid.specs.Private.Searches.PieceRuns.{HasFound, IsDeadAfter, IsDecidedAlong}
 use Rattle.automata_hybrid.proofs.Pieces.Runs.{pass_clean, pass_found, pass_next, pass_state}
 use Rattle.automata_hybrid.proofs.Searches.Bounds.{lies_in}
 use Rattle.automata_hybrid.proofs.Searches.Directions.{begins_alive, begins_dead}
-use Rattle.automata_hybrid.proofs.Searches.PassState.{clean_all, clean_last, clean_start, dead_more, false_true, found_dead}
+use Rattle.automata_hybrid.proofs.Searches.PassState.{clean_all, clean_last, clean_start, dead_more, false_true}
+use Rattle.automata_hybrid.proofs.Searches.PassState.{found_dead}
 use Rattle.automata_hybrid.proofs.Searches.PassState.{found_first, more_last, reported_quiet, reported_stays, starts_at}
 use Rattle.automata_hybrid.proofs.Searches.PassState.{starts_dead}
 use Rattle.automata_hybrid.proofs.Searches.Skips.{found_reported}
+use Rattle.automata_hybrid.proofs.Searches.Traces.{half_none}
 use Rattle.automata_hybrid.proofs.Searches.Units.{forward_unit, forward_units}
 use Rattle.automata_hybrid.proofs.Steps.BySteps.{run_found}
 use Rattle.automata_hybrid.proofs.Steps.Ids.{dead_tagged}
@@ -45,19 +48,24 @@ use Rattle.automata_hybrid.proofs.Steps.Steps.{no_quit_unit}
 
 -- a start that is not dead is named
 pub start_named :
-    (m : Machine) (mode : Anchored) (behind : Option ℕ) (old new : CacheView) (id : ℕ) → IsStartAnswer m mode behind old new id
-    → ((q : Powerset) → Names new.store.table id q → id < 2 ^ 29) → new.store.table.of.stride ≤ 512 → (HasDeadTag id → ⊥)
+    (m : Machine) (mode : Anchored) (behind : Option ℕ) (old new : CacheView) (id : ℕ)
+    → IsStartAnswer m mode behind old new id
+    → ((q : Powerset) → Names new.store.table id q → id < 2 ^ 29) → new.store.table.of.stride ≤ 512
+    → (HasDeadTag id → ⊥)
     → Names new.store.table id (start_state_of m.nfa mode behind)
 start_named m mode behind old new id answer low small =
     (dead_tagged new.store.table id low small (start_state_of m.nfa mode behind) answer.named).1
 
 -- what a search that begins in a mode after a byte is to one over an input
-module _ (m : Machine) (mode : Anchored) (behind : Option ℕ) (earliest : Bool) (old new : CacheView) (id : ℕ) (plain : Skips m → ⊥)
+module _ (m : Machine) (mode : Anchored) (behind : Option ℕ) (earliest : Bool) (old new : CacheView) (id : ℕ)
+    (plain : Skips m → ⊥)
     (answer : IsStartAnswer m mode behind old new id) (low : (q : Powerset) → Names new.store.table id q → id < 2 ^ 29)
     (small : new.store.table.of.stride ≤ 512) where
-  pub may_begin : (input : Input) → BeginsAfter mode behind earliest input → MayStart m input.anchored (tape_in Forward input).before
+  pub may_begin :
+      (input : Input) → BeginsAfter mode behind earliest input → MayStart m input.anchored (tape_in Forward input).before
   may_begin input b =
-      subst (λ v. MayStart m input.anchored v) (sym b.follows) (subst (λ v. MayStart m v behind) (sym b.moded) answer.may)
+      subst (λ v. MayStart m input.anchored v) (sym b.follows)
+      (subst (λ v. MayStart m v behind) (sym b.moded) answer.may)
 
   pub leads_begin :
       (input : Input) → BeginsAfter mode behind earliest input
@@ -68,7 +76,8 @@ module _ (m : Machine) (mode : Anchored) (behind : Option ℕ) (earliest : Bool)
 
   -- it is dead from its start on
   pub begun_dead :
-      HasDeadTag id → HasBegun m mode behind earliest (record { state = None; read = 0; earliest = earliest; found = None })
+      HasDeadTag id → HasBegun m mode behind earliest
+      (record { state = None; read = 0; earliest = earliest; found = None })
   begun_dead tag = record {
     plain = plain;
     read = refl;
@@ -133,13 +142,15 @@ reads_none m piece p none input n given here = record {
   answered = given.answered;
 }
 
-found_none : (start base : ℕ) (o before : Option HalfMatch) → from_first start (found_in o base before) ≡ None → o ≡ None
+found_none :
+    (start base : ℕ) (o before : Option HalfMatch) → from_first start (found_in o base before) ≡ None → o ≡ None
 found_none start base None before e = refl
 found_none start base (Some half) before e = absurd (some_none e)
 
 -- a search that stood at a state has read a piece
 module _ (m : Machine) (q : Powerset) (piece : List ℕ) (old new : PiecesView) (was : old.state ≡ Some q)
-    (early : new.earliest ≡ old.earliest) (found : Option HalfMatch) (result : new.found ≡ found_in found old.read old.found) where
+    (early : new.earliest ≡ old.earliest) (found : Option HalfMatch)
+    (result : new.found ≡ found_in found old.read old.found) where
   found_on :
       (input : Input) (n k : ℕ) → WasGiven m input n old → IsPieceAt input n piece → k ≤ length piece
       → found ≡ half_of Forward (piece_input piece old.earliest) ((piece_trace m piece old.earliest q).reported k)
@@ -149,15 +160,18 @@ module _ (m : Machine) (q : Powerset) (piece : List ℕ) (old new : PiecesView) 
       ap (from_first input.start)
       (result ∙ (ap (λ b. found_in found b old.found) before.read
       ∙ (ap (λ o. found_in o n old.found) same
-      ∙ ap (λ e. found_in (half_of Forward (piece_input piece e) ((piece_trace m piece e q).reported k)) n old.found) given.early)))
+      ∙ ap (λ e. found_in (half_of Forward (piece_input piece e) ((piece_trace m piece e q).reported k)) n old.found)
+      given.early)))
       ∙ pass_found m input n q piece given.inside here before.state k old.found l before.found before.nothing
 
   -- it stands after it
   pub reads_through :
-      (id : ℕ) (row end : CacheView) (held : Powerset)
+      (t : Rows) (id : ℕ) (held : Powerset)
       → new.state ≡ Some held → held ≡ piece_state m piece q (length piece) → new.read ≡ old.read + length piece
-      → ReadsThroughInStore m piece old q id found row end → ReadsOn m piece old new
-  reads_through id row end held stood state read through input n given here = record {
+      → IsAtAlong (piece_trace m piece old.earliest q) Forward m t (piece_input piece old.earliest) (length piece - 0)
+      id found
+      → ReadsOn m piece old new
+  reads_through t id held stood state read at input n given here = record {
     plain = given.plain;
     undone = given.undone;
     inside = given.inside;
@@ -176,21 +190,27 @@ module _ (m : Machine) (q : Powerset) (piece : List ℕ) (old new : PiecesView) 
     stands p same = record {
       read = read ∙ ap (λ k. k + length piece) before.read;
       within = let w = here.within in omega (arith, w);
-      state = sym same ∙ (state ∙ sym (pass_state m input n q piece given.inside here before.state (length piece) (omega arith)));
+      state =
+          sym same
+          ∙ (state ∙ sym (pass_state m input n q piece given.inside here before.state (length piece) (omega arith)));
       found =
           found_on input n (length piece) given here (omega arith)
-          (through.at.reported
-          ∙ ap (λ k. half_of Forward (piece_input piece old.earliest) ((piece_trace m piece old.earliest q).reported k)) all);
+          (at.reported
+          ∙ ap (λ k. half_of Forward (piece_input piece old.earliest) ((piece_trace m piece old.earliest q).reported k))
+          all);
       nothing = λ e.
-          result ∙ (ap (λ o. found_in o old.read old.found) (through.at.nothing (given.early ∙ e)) ∙ before.nothing e);
+          result ∙ (ap (λ o. found_in o old.read old.found) (at.nothing (given.early ∙ e)) ∙ before.nothing e);
       clean =
-          pass_clean m input n q piece given.inside here before.state old.earliest (length piece) (omega arith) before.clean
-          (subst (λ k. HasReadNoQuit Forward m (piece_input piece old.earliest) k) all through.at.clean);
+          pass_clean m input n q piece given.inside here before.state old.earliest (length piece) (omega arith)
+          before.clean
+          (subst (λ k. HasReadNoQuit Forward m (piece_input piece old.earliest) k) all at.clean);
     }
 
   -- or its answer stands
-  module _ (k : ℕ) (row end : CacheView) (over : ReadsPieceUptoInStore m piece old q k found row end) (input : Input) (n : ℕ)
-      (given : WasGiven m input n old) (here : IsPieceAt input n piece) where
+  module _ (k : ℕ) (begun end : Known) (over : ReadsPieceUpto m piece old q k begun end)
+      (reported : found ≡ half_of Forward (piece_input piece old.earliest)
+      ((piece_trace m piece old.earliest q).reported (suc k)))
+      (input : Input) (n : ℕ) (given : WasGiven m input n old) (here : IsPieceAt input n piece) where
     before : StandsAfter m input n q old
     before = given.stands q was
 
@@ -207,13 +227,14 @@ module _ (m : Machine) (q : Powerset) (piece : List ℕ) (old new : PiecesView) 
 
     read : from_first input.start new.found ≡ half_of Forward input (reported_in Forward m input (suc (n + k)))
     read =
-        found_on input n (suc k) given here (omega (arith, low)) over.reported
+        found_on input n (suc k) given here (omega (arith, low)) reported
         ∙ ap (λ i. half_of Forward input (reported_in Forward m input i)) more
 
     clean : HasReadNoQuit Forward m input (suc (n + k))
     clean =
         subst (HasReadNoQuit Forward m input) more
-        (pass_clean m input n q piece given.inside here before.state old.earliest (suc k) (omega (arith, low)) before.clean over.clean)
+        (pass_clean m input n q piece given.inside here before.state old.earliest (suc k) (omega (arith, low))
+        before.clean over.clean)
 
     some_half :
         (found ≡ None → ⊥) → half_of Forward input (reported_in Forward m input (suc (n + k))) ≡ None → ⊥
@@ -223,25 +244,32 @@ module _ (m : Machine) (q : Powerset) (piece : List ℕ) (old new : PiecesView) 
     stops : input.earliest ≡ true → (found ≡ None → ⊥) → (j : ℕ) → suc (n + k) ≤ j → Reads Forward m input j → ⊥
     stops first some j l r =
         some_half some (ap (half_of Forward input)
-        (sym (reported_stays (match_kind_of m.config) input.earliest m.nfa input.anchored (tape_in Forward input) (suc (n + k)) j
-        (reported_in Forward m input (suc (n + k))) l first refl (λ f. some_half some (ap (half_of Forward input) f))) ∙ r.2 first))
+        (sym (reported_stays (match_kind_of m.config) input.earliest m.nfa input.anchored (tape_in Forward input)
+        (suc (n + k)) j
+        (reported_in Forward m input (suc (n + k))) l first refl (λ f. some_half some (ap (half_of Forward input) f)))
+        ∙ r.2 first))
 
     answer :
-        IsDecidedAlong (piece_trace m piece old.earliest q) (piece_input piece old.earliest) k found
+        AnswerStands (piece_trace m piece old.earliest q) (piece_input piece old.earliest) k
         → IsPassAnswer Forward m input (from_first input.start new.found)
-    answer (IsDeadAfter d) =
+    answer (DiesThere d) =
         let dies : state_in Forward m input (suc (n + k)) ≡ dead =
         pass_next m input n q piece given.inside here before.state k low ∙ d in
         record {
           found =
               read
-              ∙ (ap (half_of Forward input) (reported_quiet Forward m input (n + k) (ap (λ (p : Powerset). p.patterns) dies))
+              ∙ (ap (half_of Forward input) (reported_quiet Forward m input (n + k)
+              (ap (λ (p : Powerset). p.patterns) dies))
               ∙ found_dead Forward m input (n + k) (omega (arith, few)) dies);
-          clean = clean_all Forward m input (suc (n + k)) given.may.0 clean (λ j l r. r.1 (dead_more Forward m input (suc (n + k)) j l dies));
+          clean = clean_all Forward m input (suc (n + k)) given.may.0 clean
+              (λ j l r. r.1 (dead_more Forward m input (suc (n + k)) j l dies));
           supported = given.may.1;
         }
-    answer (HasFound e some) =
-        let first : input.earliest ≡ true = sym given.early ∙ e in record {
+    answer (FindsThere e reports) =
+        let first : input.earliest ≡ true = sym given.early ∙ e in
+        let some : found ≡ None → ⊥ =
+        λ none. reports (half_none Forward (piece_input piece old.earliest) _ (sym reported ∙ none)) in
+        record {
           found = read ∙ found_first Forward m input (suc (n + k)) (omega (arith, few)) first (some_half some);
           clean = clean_all Forward m input (suc (n + k)) given.may.0 clean (stops first some);
           supported = given.may.1;
@@ -259,31 +287,39 @@ module _ (m : Machine) (q : Powerset) (piece : List ℕ) (old new : PiecesView) 
     }
 
   pub reads_over :
-      (k : ℕ) (row end : CacheView) → new.state ≡ None → ReadsPieceUptoInStore m piece old q k found row end → ReadsOn m piece old new
-  reads_over k row end none over input n given here = over_given k row end over input n given here none
+      (k : ℕ) (begun end : Known) → new.state ≡ None → ReadsPieceUpto m piece old q k begun end
+      → found ≡ half_of Forward (piece_input piece old.earliest) ((piece_trace m piece old.earliest q).reported (suc k))
+      → ReadsOn m piece old new
+  reads_over k begun end none over reported input n given here =
+      over_given k begun end over reported input n given here none
 
 -- what one pass answers is what a search returns for the whole span, where no offset is skipped
 whole :
-    (m : Machine) (input : Input) (half : Option HalfMatch) (law : ReportedIsRight m.nfa) (ends : ReportedEndsAreRight m.nfa)
+    (m : Machine) (input : Input) (half : Option HalfMatch) (law : ReportedIsRight m.nfa)
+    (ends : ReportedEndsAreRight m.nfa)
     (lies : ReportedLiesWithin m.nfa) (ahead : Option ℕ) (p : PiecesView)
     → WasGivenAll m input ahead p → IsPassAnswer Forward m input half → IsWhole m input half
 whole m input half law ends lies ahead p all pass =
-    let found : WithoutBase (IsFound Forward m input) half = run_found m input half all.given.plain all.given.undone pass in record {
+    let found : WithoutBase (IsFound Forward m input) half = run_found m input half all.given.plain all.given.undone
+    pass in record {
       found = found;
       paths = record {
         answer = λ cycles. (
           found.0,
-          law Forward (match_kind_of m.config) input found.0 cycles (all.bytes, all.given.inside) (found_reported Forward m input found.0 found.1),
+          law Forward (match_kind_of m.config) input found.0 cycles (all.bytes, all.given.inside)
+              (found_reported Forward m input found.0 found.1),
           found.2,
         );
         nearest = λ early. (
           found.0,
-          (ends Forward (match_kind_of m.config) input found.0 (all.bytes, all.given.inside) (found_reported Forward m input found.0 found.1)).0 early,
+          (ends Forward (match_kind_of m.config) input found.0 (all.bytes, all.given.inside)
+              (found_reported Forward m input found.0 found.1)).0 early,
           found.2,
         );
         farthest = λ late kind. (
           found.0,
-          (ends Forward (match_kind_of m.config) input found.0 (all.bytes, all.given.inside) (found_reported Forward m input found.0 found.1)).1 late kind,
+          (ends Forward (match_kind_of m.config) input found.0 (all.bytes, all.given.inside)
+              (found_reported Forward m input found.0 found.1)).1 late kind,
           found.2,
         );
         within = lies_in m input lies all.given.inside Forward (Ok half) found;
@@ -307,7 +343,8 @@ first_half start at [] found = refl
 first_half start at (p ∷ ps) found = refl
 
 -- one that stands at a state reads the unit that follows
-module _ (m : Machine) (ahead : Option ℕ) (p : PiecesView) (q : Powerset) (old new : CacheView) (id to : ℕ) (half : Option HalfMatch)
+module _ (m : Machine) (ahead : Option ℕ) (p : PiecesView) (q : Powerset) (old new : CacheView) (id to : ℕ)
+    (half : Option HalfMatch)
     (stood : p.state ≡ Some q) (named : Names old.store.table id q) (answer : IsReadAnswer m id ahead old new to)
     (reports : (s : Powerset) → Leads new.store.table to s → half ≡ half_at s.patterns p.read p.found) where
   module _ (input : Input) (all : WasGivenAll m input ahead p) where
@@ -336,7 +373,8 @@ module _ (m : Machine) (ahead : Option ℕ) (p : PiecesView) (q : Powerset) (old
 
     found :
         (o : ℕ) × (o ≡ input.start + n)
-        × ((s : Powerset) → Leads new.store.table to s → from_first input.start half ≡ half_at s.patterns o (from_first input.start p.found))
+        × ((s : Powerset) → Leads new.store.table to s
+        → from_first input.start half ≡ half_at s.patterns o (from_first input.start p.found))
     found = (
       input.start + n,
       refl,
@@ -348,15 +386,18 @@ module _ (m : Machine) (ahead : Option ℕ) (p : PiecesView) (q : Powerset) (old
     end_answer : IsPassAnswer Forward m input (from_first input.start half)
     end_answer = record {
       found =
-          more_last Forward m old.store.table new.store.table input n id to ahead (from_first input.start p.found) (from_first input.start half)
+          more_last Forward m old.store.table new.store.table input n id to ahead (from_first input.start p.found)
+          (from_first input.start half)
           at unit answer.named free found last;
       clean =
-          clean_last Forward m old.store.table new.store.table input n id to ahead (from_first input.start p.found) (from_first input.start half)
+          clean_last Forward m old.store.table new.store.table input n id to ahead (from_first input.start p.found)
+          (from_first input.start half)
           at unit answer.named free last all.given.may.0;
       supported = all.given.may.1;
     }
 
   pub ends_some :
-      (law : ReportedIsRight m.nfa) (ends : ReportedEndsAreRight m.nfa) (lies : ReportedLiesWithin m.nfa) → EndsHere m p ahead half
+      (law : ReportedIsRight m.nfa) (ends : ReportedEndsAreRight m.nfa) (lies : ReportedLiesWithin m.nfa)
+      → EndsHere m p ahead half
   ends_some law ends lies input all =
       whole m input (from_first input.start half) law ends lies ahead p all (end_answer input all)

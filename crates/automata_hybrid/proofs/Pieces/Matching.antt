@@ -19,7 +19,10 @@ use Rattle.automata_hybrid.proofs.Searches.Units.{forward_units}
 pub states_have_matching : (m : Machine) → IsChecked m.nfa → StatesHaveMatching m
 states_have_matching m checked input start k kind starts bytes undone inside =
     let units = forward_units input undone bytes.1 in
-    subst (λ (e : MatchKind). IsSet (MatchesAt m input start k) (reported_at m.nfa e input.anchored (tape_in Forward input) k)) (sym kind)
-    (subst (IsSet (MatchesAt m input start k)) (sym (reported_is m.nfa KindAll input.anchored (tape_in Forward input) start k starts))
-    (set_right (nfa_of m.nfa) (tape_in Forward input) start k checked.range (start_below m.nfa input.anchored start checked starts)
+    subst (λ (e : MatchKind). IsSet (MatchesAt m input start k)
+    (reported_at m.nfa e input.anchored (tape_in Forward input) k)) (sym kind)
+    (subst (IsSet (MatchesAt m input start k))
+    (sym (reported_is m.nfa KindAll input.anchored (tape_in Forward input) start k starts))
+    (set_right (nfa_of m.nfa) (tape_in Forward input) start k checked.range
+    (start_below m.nfa input.anchored start checked starts)
     (tape_units Forward input.haystack input.start input.end bytes.0 undone bytes.1) (omega (arith, units, inside))))

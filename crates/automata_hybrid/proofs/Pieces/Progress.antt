@@ -1,100 +1,115 @@
--- What the calls of a search in pieces make of their cache, from what their parts do.
-use Rattle.std.proofs.Common.{ℕ, suc, ◌≡◌, sym, subst}
+-- What the calls of a search in pieces make of what their cache knows, from what their parts do.
+use Rattle.std.proofs.Common.{ℕ, ◌≡◌, ◌∙◌, false, sym, ap, subst, cond, inr}
 use Rattle.std.proofs.Common.{Bool, List, Option, Some}
+use Rattle.std.specs.Prelude.{option_map}
 use Rattle.automata_base.specs.Haystacks.Matches.{HalfMatch}
 use Rattle.automata_base.specs.Powersets.Powerset.{Powerset}
-use Rattle.automata_base.specs.declared.util.search.Direction.TheVariants.{Forward}
 use Rattle.automata_config.specs.declared.error.SearchError.{SearchError}
-use Rattle.automata_config.specs.declared.error.StepError.{StepError}
-use Rattle.automata_config.specs.declared.error.StepError.TheVariants as step
-use Rattle.automata_hybrid.specs.Cache.Caches.{CacheView}
-use Rattle.automata_hybrid.specs.Private.Cache.Growth.{AddFails}
-use Rattle.automata_hybrid.specs.Cache.Table.{Leads, Names}
-use Rattle.automata_hybrid.specs.Private.Cache.Table.{IsKnownState}
-use Rattle.automata_hybrid.specs.Private.Cache.Usage.{GivesUpInStore}
+use Rattle.automata_hybrid.specs.Cache.Caches.{CacheView, with_store}
+use Rattle.automata_hybrid.specs.Cache.Progress.{progress_finished, progress_started}
+use Rattle.automata_hybrid.specs.Cache.Stores.{with_searched}
+use Rattle.automata_hybrid.specs.Cache.Table.{Names}
 use Rattle.automata_hybrid.specs.Calls.Events.{Step}
-use Rattle.automata_hybrid.specs.Private.Calls.Events.{Does, IsStepLeft, begun_in_store, ended_in_store, moved_in_store}
+use Rattle.automata_hybrid.specs.Known.Events.{after_event, with_new_row}
+use Rattle.automata_hybrid.specs.Known.Known.{begun, cleared, ended, moved}
+use Rattle.automata_hybrid.specs.Known.Passes.{ReadFails}
+use Rattle.automata_hybrid.specs.Known.Pieces.{AtByte, AtEnd, EndsAnswer, FailsAtEnd, GoesOn, LeavesAnswer, LeavesPiece}
+use Rattle.automata_hybrid.specs.Known.Stores.{known_of}
+use Rattle.automata_hybrid.specs.Known.Walks.{with_row_back}
 use Rattle.automata_hybrid.specs.Machines.Machine.{Machine}
-use Rattle.automata_hybrid.specs.Private.Pieces.Progress.{AtByteInStore, AtEndInStore, EndsAnswerInStore, FailsAtEndInStore, GoesOnFrom, IsNotPutBack}
-use Rattle.automata_hybrid.specs.Private.Pieces.Progress.{LeavesAnswerInStore, LeavesPieceInStore, ReadsThroughInStore, ReadsPieceUptoInStore}
 use Rattle.automata_hybrid.specs.Pieces.State.{PiecesView}
-use Rattle.automata_hybrid.specs.Private.Searches.PassState.{step_error}
-use Rattle.automata_hybrid.specs.Private.Searches.Passes.{IsStepError}
-use Rattle.automata_hybrid.specs.Searches.PieceRuns.{piece_input, piece_state, piece_trace}
-use Rattle.automata_hybrid.specs.Private.Searches.PieceRuns.{IsEndAlong, IsPieceEnd, IsPieceStopped}
+use Rattle.automata_hybrid.specs.Private.Pieces.State.{HasResumed}
+use Rattle.automata_hybrid.specs.Searches.PieceRuns.{piece_input, piece_trace}
+use Rattle.automata_hybrid.specs.Private.Searches.PieceRuns.{IsEndAlong, IsOverAlong, IsPieceEnd, IsPieceStopped}
+use Rattle.automata_hybrid.specs.Private.Searches.PieceRuns.{IsThroughAlong}
 use Rattle.automata_hybrid.specs.Private.Searches.Units.{FailsToRead, HasRead}
-use Rattle.automata_hybrid.specs.Private.Walks.Answers.{HasNoRoom, IsPutBackError, RunsOut}
 use Rattle.automata_hybrid.specs.declared.search.pieces.PieceEnd.{PieceEnd}
 use Rattle.automata_hybrid.specs.declared.search.pieces.PieceEnd.TheVariants.{Over, At}
+use Rattle.automata_hybrid.proofs.Known.Rooms.{state_there}
 
--- why a state is not put back
-put_back_error :
-    (q : Powerset) (old new : CacheView) (error : StepError) (at : ℕ) (e : SearchError)
-    → AddFails old new q error → (IsKnownState old.store.table q → ⊥) → e ≡ step_error error at
-    → IsPutBackError new.store q at e
-put_back_error q old new (step.Cache err) at e refused lacks reported =
-    HasNoRoom (subst (λ (v : CacheView). GivesUpInStore v.store q) (sym refused.kept) (refused.gives_up.0 tt)) reported
-put_back_error q old new step.OutOfMemory at e refused lacks reported =
-    RunsOut (λ has. lacks (subst (λ (v : CacheView). IsKnownState v.store.table q) refused.kept has))
-    (λ gives. refused.gives_up.1 (subst (λ (v : CacheView). GivesUpInStore v.store q) refused.kept gives)) reported
+-- a state that has a row is not put back
+pub row_there :
+    (m : Machine) (q : Powerset) (id : ℕ) (c : CacheView) → Names c.store.table id q
+    → with_row_back m q (known_of c) ≡ Some (known_of c)
+row_there m q id c named =
+    ap
+    (λ b. cond b (Some (known_of c))
+    (with_new_row m (cleared (known_of c)) (record { state = q; started = false }) (known_of c)))
+    (state_there c.store c.count id q (inr named))
 
-pub not_put_back :
-    (p : PiecesView) (q : Powerset) (old new : CacheView) (error : StepError) (e : SearchError)
-    → p.state ≡ Some q → AddFails old new q error → (IsKnownState old.store.table q → ⊥) → e ≡ step_error error p.read
-    → IsNotPutBack p q old new e
-not_put_back p q old new error e stood refused lacks reported =
-    (stood, put_back_error q old new error p.read e refused lacks reported, refused.kept)
+-- a search goes on
+module _ {m : Machine} {p : PiecesView} {old row : CacheView} {id : ℕ} (on : HasResumed m p old row id) where
+  pub goes_on : (at : ℕ) → GoesOn m p on.state at (known_of old) (begun at (known_of row))
+  goes_on at = record { from = on.stood; begins = ap (option_map (begun at)) on.back }
 
--- the unit that follows is read, or not
-module _ (m : Machine) (ahead : Option ℕ) (p : PiecesView) (q : Powerset) (old row begins : CacheView) (id at : ℕ)
-    (on : GoesOnFrom m p q old row) (reads : at ≡ p.read) (begin : begins ≡ begun_in_store at row) (named : Names begins.store.table id q) where
-  pub answer_ends :
-      (next : ℕ) (mid new : CacheView)
-      → HasRead m id ahead at begins mid next → new ≡ ended_in_store at mid → EndsAnswerInStore m ahead p old new
-  answer_ends next mid new read end =
-      AtEndInStore q row mid on
-      (subst (λ a. Does m (Step q ahead) (begun_in_store a row) (moved_in_store a (begun_in_store a row)) mid) reads
-      (subst (λ (v : CacheView). Does m (Step q ahead) v (moved_in_store at v) mid) begin (read.taken q named)))
-      (subst (λ a. new ≡ ended_in_store a mid) reads end)
+  -- it begins at the offset of the unit that follows
+  module _ {begins : CacheView} {at : ℕ} (reads : at ≡ p.read)
+      (begin : begins ≡ with_store row (with_searched row.store (progress_started row.store.searched at))) where
+    pub named_there : Names begins.store.table id on.state
+    named_there = subst (λ (v : CacheView). Names v.store.table id on.state) (sym begin) on.named
 
-  pub answer_left :
-      (e : SearchError) (new : CacheView) → FailsToRead m id ahead at at begins new e → LeavesAnswerInStore m ahead p old new e
-  answer_left e new fails =
-      FailsAtEndInStore q row on (subst (λ a. IsStepError m new.store q ahead a a e) reads (fails.refused q named))
-      (subst (λ a. IsStepLeft m q ahead (moved_in_store a (begun_in_store a row)) (ended_in_store a (begun_in_store a row)) new) reads
-      (subst (λ (v : CacheView). IsStepLeft m q ahead (moved_in_store at v) (ended_in_store at v) new) begin (fails.left q named)))
+    begun_there : GoesOn m p on.state p.read (known_of old) (known_of begins)
+    begun_there =
+        subst (λ a. GoesOn m p on.state a (known_of old) (known_of begins)) reads
+        (subst (GoesOn m p on.state at (known_of old)) (sym (ap known_of begin)) (goes_on at))
 
--- a piece is read, or not
-module _ (m : Machine) (piece : List ℕ) (p : PiecesView) (q : Powerset) (old row new : CacheView) (from base : ℕ) (earliest : Bool)
-    (on : GoesOnFrom m p q old row) (named : Names row.store.table from q) (first : earliest ≡ p.earliest) (reads : base ≡ p.read) where
-  run_over :
-      {id : ℕ} (end : PieceEnd) (k : ℕ) (found : Option HalfMatch)
-      → IsPieceEnd m piece earliest from row new end → end ≡ Over k id found
-      → ReadsPieceUptoInStore m piece p q k found row new × Leads new.store.table id (piece_state m piece q (suc k))
-  run_over end k found run over =
-      subst (IsEndAlong (piece_trace m piece p.earliest q) Forward m (piece_input piece p.earliest) row new) over
-      (subst (λ e. IsPieceEnd m piece e from row new end) first run q named)
+    -- which is read
+    pub answer_ends :
+        {ahead : Option ℕ} {next : ℕ} {mid new : CacheView} → HasRead m id ahead at begins mid next
+        → new ≡ with_store mid (with_searched mid.store (progress_finished mid.store.searched at))
+        → EndsAnswer m ahead p (known_of old) (known_of new)
+    answer_ends {ahead} {next} {mid} {new} read end =
+        AtEnd on.state (known_of begins) begun_there read.answer.clean
+        (subst
+        (λ a. option_map (ended a) (after_event m (Step on.state ahead) (moved a (known_of begins)) (known_of begins))
+        ≡ Some (known_of new))
+        reads
+        (ap (option_map (ended at)) (read.taken on.state named_there)
+        ∙ ap (λ (v : CacheView). Some (known_of v)) (sym end)))
 
-  pub run_upto :
-      {id : ℕ} (end : PieceEnd) (k : ℕ) (found : Option HalfMatch)
-      → IsPieceEnd m piece earliest from row new end → end ≡ Over k id found → ReadsPieceUptoInStore m piece p q k found row new
-  run_upto end k found run over = (run_over end k found run over).0
+    -- or not
+    pub answer_left :
+        {ahead : Option ℕ} {e : SearchError} {new : CacheView} → FailsToRead m id ahead at at begins new e
+        → LeavesAnswer m ahead p (known_of old) (known_of new) e
+    answer_left {ahead} {e} {new} fails =
+        FailsAtEnd on.state (known_of begins) begun_there
+        (subst (λ a. ReadFails m on.state ahead a a a (known_of begins) (known_of new) e) reads
+        (fails.fails on.state named_there))
 
-  pub run_leads :
-      {id : ℕ} (end : PieceEnd) (k : ℕ) (found : Option HalfMatch)
-      → IsPieceEnd m piece earliest from row new end → end ≡ Over k id found
-      → Leads new.store.table id (piece_state m piece q (suc k))
-  run_leads end k found run over = (run_over end k found run over).1
+  -- it reads a piece, or not
+  module _ (piece : List ℕ) (new : CacheView) {earliest : Bool} (first : earliest ≡ p.earliest) where
+    run_ends :
+        (end : PieceEnd) → IsPieceEnd m piece earliest id row new end
+        → IsEndAlong (piece_trace m piece p.earliest on.state) m (piece_input piece p.earliest)
+        (begun 0 (known_of row)) new end
+    run_ends end run = subst (λ e. IsPieceEnd m piece e id row new end) first run on.state on.named
 
-  pub run_through :
-      (end : PieceEnd) (id : ℕ) (found : Option HalfMatch)
-      → IsPieceEnd m piece earliest from row new end → end ≡ At id found → ReadsThroughInStore m piece p q id found row new
-  run_through end id found run through =
-      subst (IsEndAlong (piece_trace m piece p.earliest q) Forward m (piece_input piece p.earliest) row new) through
-      (subst (λ e. IsPieceEnd m piece e from row new end) first run q named)
+    pub run_upto :
+        (end : PieceEnd) {k last : ℕ} {found : Option HalfMatch} → IsPieceEnd m piece earliest id row new end
+        → end ≡ Over k last found
+        → IsOverAlong (piece_trace m piece p.earliest on.state) m (piece_input piece p.earliest) k last found
+        (begun 0 (known_of row)) new
+    run_upto end run over =
+        subst
+        (IsEndAlong (piece_trace m piece p.earliest on.state) m (piece_input piece p.earliest)
+        (begun 0 (known_of row)) new)
+        over (run_ends end run)
 
-  pub run_left : (e : SearchError) → IsPieceStopped m piece earliest from base row new e → LeavesPieceInStore m piece p old new e
-  run_left e stopped =
-      let left = subst (λ b. IsPieceStopped m piece p.earliest from b row new e) reads
-      (subst (λ v. IsPieceStopped m piece v from base row new e) first stopped) q named in
-      AtByteInStore q row left.0 on left.1
+    pub run_through :
+        (end : PieceEnd) {last : ℕ} {found : Option HalfMatch} → IsPieceEnd m piece earliest id row new end
+        → end ≡ At last found
+        → IsThroughAlong (piece_trace m piece p.earliest on.state) m (piece_input piece p.earliest) last found
+        (begun 0 (known_of row)) new
+    run_through end run through =
+        subst
+        (IsEndAlong (piece_trace m piece p.earliest on.state) m (piece_input piece p.earliest)
+        (begun 0 (known_of row)) new)
+        through (run_ends end run)
+
+    pub run_left :
+        {base : ℕ} {e : SearchError} → base ≡ p.read → IsPieceStopped m piece earliest id base row new e
+        → LeavesPiece m piece p (known_of old) (known_of new) e
+    run_left {base} {e} reads stopped =
+        AtByte on.state (begun 0 (known_of row)) (goes_on 0)
+        (subst (λ b. IsPieceStopped m piece p.earliest id b row new e) reads
+        (subst (λ v. IsPieceStopped m piece v id base row new e) first stopped) on.state on.named)

@@ -1,5 +1,6 @@
 -- A pass over an input whose span goes on with a piece: where it is after the bytes of the piece, by a run over these.
-use Rattle.std.proofs.Common.{ℕ, zero, suc, ◌≡◌, ◌<◌, ◌≤◌, ◌+◌, ◌-◌, ◌^◌, ◌⊎◌, inl, inr, Bool, true, false, List, [], ◌∷◌, length}
+use Rattle.std.proofs.Common.{ℕ, zero, suc, ◌≡◌, ◌<◌, ◌≤◌, ◌+◌, ◌-◌, ◌^◌, ◌⊎◌, inl, inr, Bool, true, false, List, []}
+use Rattle.std.proofs.Common.{◌∷◌, length}
 use Rattle.std.proofs.Common.{Option, Some, None, refl, sym, ap, ap₂, ◌∙◌, subst, arith}
 use Rattle.std.proofs.lemmas.Bool.{cases_lt}
 use Rattle.std.specs.Prelude.{IfSome, slice_get}
@@ -10,7 +11,8 @@ use Rattle.automata_base.specs.Haystacks.Tapes.{forward_tape}
 use Rattle.automata_base.specs.Paths.Paths.{next}
 use Rattle.automata_base.specs.Paths.Selections.{Pair}
 use Rattle.automata_base.specs.Powersets.Powerset.{Powerset}
-use Rattle.automata_base.specs.Retraced.Passes.{earlier_or, first_among, first_reported, last_among, last_reported, pair_at}
+use Rattle.automata_base.specs.Retraced.Passes.{earlier_or, first_among, first_reported, last_among, last_reported}
+use Rattle.automata_base.specs.Retraced.Passes.{pair_at}
 use Rattle.automata_base.specs.Retraced.Passes.{reported_at, reported_upto}
 use Rattle.automata_base.specs.Retraced.Steps.{successor}
 use Rattle.automata_base.specs.declared.util.search.Direction.TheVariants.{Forward}
@@ -84,7 +86,8 @@ half_with pattern offset = record { pattern = pattern; offset = offset }
 -- a pair of the piece, as a half match
 half_shifted :
     (input own : Input) (n : ℕ) (pair : Pair) (found : Option HalfMatch) → own.start ≡ 0
-    → half_of Forward input (shifted n (Some pair)) ≡ from_first input.start (found_in (half_of Forward own (Some pair)) n found)
+    → half_of Forward input (shifted n (Some pair))
+    ≡ from_first input.start (found_in (half_of Forward own (Some pair)) n found)
 half_shifted input own n pair found at_0 =
     let same : input.start + (n + pair.place) ≡ input.start + (n + (own.start + pair.place)) = omega (arith, at_0) in
     ap (λ (o : ℕ). Some (half_with pair.pattern o)) same
@@ -109,7 +112,8 @@ half_joined input own n true piece before found at_0 same first =
     go (Some pair) = half_shifted input own n pair found at_0
 
 -- the span goes on with a piece from a place on, where the pass is in a state
-module _ (m : Machine) (input : Input) (n : ℕ) (q : Powerset) (piece : List ℕ) (inside : input.end ≤ length input.haystack)
+module _ (m : Machine) (input : Input) (n : ℕ) (q : Powerset) (piece : List ℕ)
+    (inside : input.end ≤ length input.haystack)
     (here : IsPieceAt input n piece) (at : q ≡ state_in Forward m input n) where
   -- the byte at a place
   unit_on : (k : ℕ) → k < length piece → next (tape_in Forward input) (n + k) ≡ slice_get piece k
@@ -134,7 +138,8 @@ module _ (m : Machine) (input : Input) (n : ℕ) (q : Powerset) (piece : List �
       let low : k < length piece = omega (arith, l) in
       ap (state_in Forward m input) more
       ∙ (state_more Forward m input (n + k)
-      ∙ ap₂ (successor m.nfa (match_kind_of m.config)) (pass_state k (omega (arith, l))) (unit_on k low ∙ sym (unit_own k low)))
+      ∙ ap₂ (successor m.nfa (match_kind_of m.config)) (pass_state k (omega (arith, l)))
+      (unit_on k low ∙ sym (unit_own k low)))
 
   pub pass_next : (k : ℕ) → k < length piece → state_in Forward m input (suc (n + k)) ≡ piece_state m piece q (suc k)
   pass_next k l =
@@ -162,16 +167,19 @@ module _ (m : Machine) (input : Input) (n : ℕ) (q : Powerset) (piece : List �
       → from_first input.start found ≡ half_of Forward input (reported_in Forward m input n)
       → (input.earliest ≡ true → found ≡ None)
       → from_first input.start
-      (found_in (half_of Forward (piece_input piece input.earliest) ((piece_trace m piece input.earliest q).reported k)) n found)
+      (found_in (half_of Forward (piece_input piece input.earliest) ((piece_trace m piece input.earliest q).reported k))
+      n found)
       ≡ half_of Forward input (reported_in Forward m input (n + k))
   pass_found k found l same first =
       sym (half_joined input (piece_input piece input.earliest) n input.earliest
-      (reported_along input.earliest (λ i. piece_state m piece q i) k) (reported_in Forward m input n) found refl same first)
+      (reported_along input.earliest (λ i. piece_state m piece q i) k) (reported_in Forward m input n) found refl same
+      first)
       ∙ sym (ap (half_of Forward input) (reported_by input.earliest k l))
 
   -- none of its first bytes is a quit byte
   pub pass_clean :
-      (e : Bool) (k : ℕ) → k ≤ length piece → HasReadNoQuit Forward m input n → HasReadNoQuit Forward m (piece_input piece e) k
+      (e : Bool) (k : ℕ) → k ≤ length piece → HasReadNoQuit Forward m input n
+      → HasReadNoQuit Forward m (piece_input piece e) k
       → HasReadNoQuit Forward m input (n + k)
   pass_clean e k l before clean j byte low is = go (cases_lt j n) where
     go : (j < n) ⊎ (n ≤ j) → is_quit m.quits byte ≡ false
@@ -218,6 +226,7 @@ found_fits e state k piece base found same within room =
     fits e None low = tt
     fits e (Some pair) low = omega (arith, low, within, room)
 
-    go : (e : Bool) → IfSome (half_of Forward (piece_input piece e) (reported_along e state k)) (λ half. base + half.offset < 2 ^ 64)
+    go : (e : Bool) → IfSome (half_of Forward (piece_input piece e) (reported_along e state k))
+        (λ half. base + half.offset < 2 ^ 64)
     go true = fits true (first_among (λ i. (state (suc i)).patterns) k) (first_below (λ i. (state (suc i)).patterns) k)
     go false = fits false (last_among (λ i. (state (suc i)).patterns) k) (last_below (λ i. (state (suc i)).patterns) k)

@@ -1,5 +1,6 @@
 -- What a walk over a haystack in pieces reports, by what a pass over the haystack does.
-use Rattle.std.proofs.Common.{ℕ, zero, suc, ◌≡◌, ◌<◌, ◌≤◌, ◌+◌, ◌-◌, ◌^◌, ◌⊎◌, inl, inr, Bool, true, List, [], ◌∷◌, length}
+use Rattle.std.proofs.Common.{ℕ, zero, suc, ◌≡◌, ◌<◌, ◌≤◌, ◌+◌, ◌-◌, ◌^◌, ◌⊎◌, inl, inr, Bool, true, List, [], ◌∷◌}
+use Rattle.std.proofs.Common.{length}
 use Rattle.std.proofs.Common.{Option, Some, None, refl, sym, ap, ap₂, ◌∙◌, subst, arith}
 use Rattle.std.proofs.lemmas.Bool.{cases_lt}
 use Rattle.automata_base.specs.Haystacks.Input.{Input}
@@ -16,20 +17,21 @@ use Rattle.automata_config.specs.Options.{match_kind_of}
 use Rattle.automata_hybrid.specs.Cache.Caches.{CacheView}
 use Rattle.automata_hybrid.specs.Cache.Ids.{HasDeadTag}
 use Rattle.automata_hybrid.specs.Cache.Table.{Leads, Names, Rows}
+use Rattle.automata_hybrid.specs.Known.Known.{Known}
+use Rattle.automata_hybrid.specs.Known.Pieces.{AnswerStands, DiesThere, FindsThere, ReadsPieceUpto}
 use Rattle.automata_hybrid.specs.Machines.Machine.{Machine}
 use Rattle.automata_hybrid.specs.Pieces.Answers.{IsPieceAt, from_first}
-use Rattle.automata_hybrid.specs.Private.Pieces.Progress.{ReadsThroughInStore, ReadsPieceUptoInStore}
 use Rattle.automata_hybrid.specs.Pieces.State.{PiecesView}
 use Rattle.automata_hybrid.specs.Private.Pieces.State.{found_in}
-use Rattle.automata_hybrid.specs.Pieces.Walks.{AtMatch, AtPieceEnd, EndsWith, HasBegunWalk, HasWalked, IsAtMatch, HasNoMatch, IsWalked}
+use Rattle.automata_hybrid.specs.Pieces.Walks.{AtMatch, AtPieceEnd, EndsWith, HasBegunWalk, HasWalked, IsAtMatch}
+use Rattle.automata_hybrid.specs.Pieces.Walks.{HasNoMatch, IsWalked}
 use Rattle.automata_hybrid.specs.Pieces.Walks.{patterns_at, patterns_here}
 use Rattle.automata_hybrid.specs.Private.Pieces.Walks.{StandsInRow}
-use Rattle.automata_hybrid.specs.Searches.PassState.{half_at, half_of}
+use Rattle.automata_hybrid.specs.Searches.PassState.{IsAtAlong, half_at, half_of}
 use Rattle.automata_hybrid.specs.Searches.Passes.{HasReadNoQuit, Skips, state_in, tape_in}
 use Rattle.automata_hybrid.specs.Searches.PieceRuns.{piece_input, piece_state, piece_trace}
 use Rattle.automata_hybrid.specs.Private.Searches.Units.{IsReadAnswer}
 use Rattle.automata_hybrid.specs.Steps.Starts.{IsStartAnswer}
-use Rattle.automata_hybrid.specs.Private.Searches.PieceRuns.{HasFound, IsDeadAfter, IsDecidedAlong}
 use Rattle.automata_hybrid.proofs.Pieces.Answers.{leads_begin, may_begin}
 use Rattle.automata_hybrid.proofs.Pieces.Runs.{pass_clean, pass_next, pass_state}
 use Rattle.automata_hybrid.proofs.Searches.Directions.{begins_alive, begins_dead}
@@ -38,7 +40,8 @@ use Rattle.automata_hybrid.proofs.Searches.Traces.{half_none, pair_half}
 use Rattle.automata_hybrid.proofs.Searches.Units.{forward_unit}
 
 -- what a walk that begins in a mode after a byte is to one over an input
-module _ (m : Machine) (mode : Anchored) (behind : Option ℕ) (earliest : Bool) (old new : CacheView) (id : ℕ) (plain : Skips m → ⊥)
+module _ (m : Machine) (mode : Anchored) (behind : Option ℕ) (earliest : Bool) (old new : CacheView) (id : ℕ)
+    (plain : Skips m → ⊥)
     (answer : IsStartAnswer m mode behind old new id) (low : (q : Powerset) → Names new.store.table id q → id < 2 ^ 29)
     (small : new.store.table.of.stride ≤ 512) where
   -- it is dead from its start on
@@ -154,7 +157,8 @@ stands_as t id count count' half half' old new stands same is =
 
 -- a walk that stands at no state passes over a piece
 pub walks_none :
-    (m : Machine) (piece : List ℕ) (w : PiecesView) → w.state ≡ None → w.found ≡ None → IsWalked m piece w w (length piece)
+    (m : Machine) (piece : List ℕ) (w : PiecesView) → w.state ≡ None → w.found ≡ None
+    → IsWalked m piece w w (length piece)
 walks_none m piece w none found = record {
   few = omega arith;
   all = λ e. refl;
@@ -170,13 +174,15 @@ walks_none m piece w none found = record {
           over = λ e. dead_more Forward m input k (k + length piece) (omega arith) dies;
         },
         AtPieceEnd refl
-            (λ j from to. ap (λ (q : Powerset). q.patterns) (dead_more Forward m input k (suc j) (omega (arith, from)) dies))
+            (λ j from to. ap (λ (q : Powerset). q.patterns)
+            (dead_more Forward m input k (suc j) (omega (arith, from)) dies))
             (at_none w found),
       );
 }
 
 -- a walk that stood at a state goes on over a piece
-module _ (m : Machine) (q : Powerset) (piece : List ℕ) (old new : PiecesView) (was : old.state ≡ Some q) (early : old.earliest ≡ true) where
+module _ (m : Machine) (q : Powerset) (piece : List ℕ) (old new : PiecesView) (was : old.state ≡ Some q)
+    (early : old.earliest ≡ true) where
   abbrev states : ℕ → List ℕ
   states i = (piece_state m piece q (suc i)).patterns
 
@@ -199,10 +205,12 @@ module _ (m : Machine) (q : Powerset) (piece : List ℕ) (old new : PiecesView) 
 
   -- through the piece it has met no match
   pub walks_through :
-      (t : Rows) (id : ℕ) (found : Option HalfMatch) (row end : CacheView)
-      → StandsInRow t id (old.read + length piece) None old new → Names t id (piece_state m piece q (length piece - 0))
-      → ReadsThroughInStore m piece old q id found row end → IsWalked m piece old new (length piece)
-  walks_through t id found row end stands named through = record {
+      (t : Rows) (id : ℕ) (found : Option HalfMatch)
+      → StandsInRow t id (old.read + length piece) None old new
+      → IsAtAlong (piece_trace m piece old.earliest q) Forward m t (piece_input piece old.earliest) (length piece - 0)
+      id found
+      → IsWalked m piece old new (length piece)
+  walks_through t id found stands at = record {
     few = omega arith;
     all = λ e. refl;
     some = λ s. absurd (s stands.found);
@@ -211,7 +219,7 @@ module _ (m : Machine) (q : Powerset) (piece : List ℕ) (old new : PiecesView) 
         let none : first_among states (length piece) ≡ None =
         sym (reported_is (length piece))
         ∙ (sym (ap (piece_trace m piece old.earliest q).reported all)
-        ∙ half_none Forward (piece_input piece old.earliest) _ (sym through.at.reported ∙ through.at.nothing early)) in (
+        ∙ half_none Forward (piece_input piece old.earliest) _ (sym at.reported ∙ at.nothing early)) in (
           record {
             plain = given.plain;
             within = let h = here.within in omega (arith, h);
@@ -220,13 +228,15 @@ module _ (m : Machine) (q : Powerset) (piece : List ℕ) (old new : PiecesView) 
             stands = λ p e. record {
               read = stands.read ∙ ap (λ r. r + length piece) (given.stands q was).read;
               state =
-                  some_inj (sym e ∙ stands.state _ named)
+                  some_inj (sym e ∙ stands.state _ at.named)
                   ∙ (ap (piece_state m piece q) all
-                  ∙ sym (pass_state m input n q piece given.inside here (given.stands q was).state (length piece) (omega arith)));
+                  ∙ sym (pass_state m input n q piece given.inside here (given.stands q was).state (length piece)
+                  (omega arith)));
               clean =
-                  pass_clean m input n q piece given.inside here (given.stands q was).state old.earliest (length piece) (omega arith)
+                  pass_clean m input n q piece given.inside here (given.stands q was).state old.earliest (length piece)
+                  (omega arith)
                   (given.stands q was).clean
-                  (subst (λ k. HasReadNoQuit Forward m (piece_input piece old.earliest) k) all through.at.clean);
+                  (subst (λ k. HasReadNoQuit Forward m (piece_input piece old.earliest) k) all at.clean);
             };
             over = λ e. absurd (stands.some e);
           },
@@ -235,116 +245,132 @@ module _ (m : Machine) (q : Powerset) (piece : List ℕ) (old new : PiecesView) 
   }
 
   -- up to a byte
-  module _ (i : ℕ) (found : Option HalfMatch) (row end : CacheView) (upto : ReadsPieceUptoInStore m piece old q i found row end) where
-    low : i < length piece
-    low = let l = upto.reads.0 in omega (arith, l)
+  module _ (i : ℕ) (found : Option HalfMatch) (begun end : Known) (upto : ReadsPieceUpto m piece old q i begun end)
+      (reported : found ≡ half_of Forward (piece_input piece old.earliest)
+      ((piece_trace m piece old.earliest q).reported (suc i)))
+    where
+      low : i < length piece
+      low = let l = upto.reads.0 in omega (arith, l)
 
-    before : first_among states i ≡ None
-    before = sym (reported_is i) ∙ upto.reads.2 early
+      before : first_among states i ≡ None
+      before = sym (reported_is i) ∙ upto.reads.2 early
 
-    found_is : found ≡ half_at (states i) (0 + i) None
-    found_is =
-        upto.reported
-        ∙ (ap (half_of Forward (piece_input piece old.earliest)) (reported_is (suc i))
-        ∙ first_last (piece_input piece old.earliest) states i before)
+      found_is : found ≡ half_at (states i) (0 + i) None
+      found_is =
+          reported
+          ∙ (ap (half_of Forward (piece_input piece old.earliest)) (reported_is (suc i))
+          ∙ first_last (piece_input piece old.earliest) states i before)
 
-    -- what it finds is why it stops: if nothing, the state is dead
-    pub dead_upto : found ≡ None → piece_state m piece q (suc i) ≡ dead
-    dead_upto none = go upto.over where
-      go :
-          IsDecidedAlong (piece_trace m piece old.earliest q) (piece_input piece old.earliest) i found
-          → piece_state m piece q (suc i) ≡ dead
-      go (IsDeadAfter dies) = dies
-      go (HasFound early some) = absurd (some none)
+      -- what it finds is why it stops: if nothing, the state is dead
+      pub dead_upto : found ≡ None → piece_state m piece q (suc i) ≡ dead
+      dead_upto none = go upto.over where
+        go :
+            AnswerStands (piece_trace m piece old.earliest q) (piece_input piece old.earliest) i
+            → piece_state m piece q (suc i) ≡ dead
+        go (DiesThere dies) = dies
+        go (FindsThere early some) =
+            absurd (some (half_none Forward (piece_input piece old.earliest) _ (sym reported ∙ none)))
 
-    -- else the state has a row
-    pub named_upto :
-        (t : Rows) (id : ℕ) → (found ≡ None → ⊥) → Leads t id (piece_state m piece q (suc i))
-        → Names t id (piece_state m piece q (suc i))
-    named_upto t id some (inl dies) =
-        absurd (some (found_is ∙ half_empty (states i) (0 + i) (ap (λ (p : Powerset). p.patterns) dies.1)))
-    named_upto t id some (inr named) = named
+      -- else the state has a row
+      pub named_upto :
+          (t : Rows) (id : ℕ) → (found ≡ None → ⊥) → Leads t id (piece_state m piece q (suc i))
+          → Names t id (piece_state m piece q (suc i))
+      named_upto t id some (inl dies) =
+          absurd (some (found_is ∙ half_empty (states i) (0 + i) (ap (λ (p : Powerset). p.patterns) dies.1)))
+      named_upto t id some (inr named) = named
 
-    -- after it nothing matches
-    pub walks_dead :
-        found ≡ None → new.state ≡ None → new.found ≡ None → IsWalked m piece old new (length piece)
-    walks_dead nothing none here_none = record {
-      few = omega arith;
-      all = λ e. refl;
-      some = λ s. absurd (s here_none);
-      walks = λ input n given here.
-          let dies : state_in Forward m input (suc (n + i)) ≡ dead =
-          pass_next m input n q piece given.inside here (given.stands q was).state i low ∙ dead_upto nothing in (
+      -- after it nothing matches
+      pub walks_dead :
+          found ≡ None → new.state ≡ None → new.found ≡ None → IsWalked m piece old new (length piece)
+      walks_dead nothing none here_none = record {
+        few = omega arith;
+        all = λ e. refl;
+        some = λ s. absurd (s here_none);
+        walks = λ input n given here.
+            let dies : state_in Forward m input (suc (n + i)) ≡ dead =
+            pass_next m input n q piece given.inside here (given.stands q was).state i low ∙ dead_upto nothing in (
+              record {
+                plain = given.plain;
+                within = let h = here.within in omega (arith, h);
+                inside = given.inside;
+                may = given.may;
+                stands = λ p e. absurd (none_some (sym none ∙ e));
+                over = λ e. dead_more Forward m input (suc (n + i)) (n + length piece) (omega (arith, low)) dies;
+              },
+              AtPieceEnd refl (λ j from to. go input n given here dies j from to (cases_lt j (n + i)))
+                  (at_none new here_none),
+            );
+      } where
+        go :
+            (input : Input) (n : ℕ) → HasWalked m input n old → IsPieceAt input n piece
+            → state_in Forward m input (suc (n + i)) ≡ dead
+            → (j : ℕ) → n ≤ j → j < n + length piece → (j < n + i) ⊎ (n + i ≤ j)
+            → (state_in Forward m input (suc j)).patterns ≡ []
+        go input n given here dies j from to (inl less) =
+            silent_on input n i given here (omega (arith, low)) before j from less
+        go input n given here dies j from to (inr more) =
+            ap (λ (p : Powerset). p.patterns)
+            (dead_more Forward m input (suc (n + i)) (suc j) (omega (arith, more)) dies)
+
+      -- at it patterns match
+      pub walks_match :
+          (t : Rows) (id : ℕ) → (found ≡ None → ⊥)
+          → StandsInRow t id (old.read + suc i) (found_in found old.read None) old new
+          → Names t id (piece_state m piece q (suc i)) → IsWalked m piece old new (suc i)
+      walks_match t id some stands named = record {
+        few = omega (arith, low);
+        all = λ e. absurd (some_found found old.read some (sym stands.found ∙ e));
+        some = λ s. omega arith;
+        walks = λ input n given here. (
+          walked input n given here,
+          AtMatch i refl
+              (silent_on input n i given here (omega (arith, low)) before) (matches input n given here),
+        );
+      } where
+        walked : (input : Input) (n : ℕ) → HasWalked m input n old → IsPieceAt input n piece
+            → HasWalked m input (n + suc i) new
+        walked input n given here = record {
+          plain = given.plain;
+          within = let h = here.within in omega (arith, h, low);
+          inside = given.inside;
+          may = given.may;
+          stands = λ p e. record {
+            read = stands.read ∙ ap (λ r. r + suc i) (given.stands q was).read;
+            state =
+                some_inj (sym e ∙ stands.state _ named)
+                ∙ sym (pass_state m input n q piece given.inside here (given.stands q was).state (suc i)
+                (omega (arith, low)));
+            clean =
+                pass_clean m input n q piece given.inside here (given.stands q was).state old.earliest (suc i)
+                (omega (arith, low))
+                (given.stands q was).clean upto.clean;
+          };
+          over = λ e. absurd (stands.some e);
+        }
+
+        matches : (input : Input) (n : ℕ) → HasWalked m input n old → IsPieceAt input n piece
+            → IsAtMatch m input (n + i) new
+        matches input n given here =
+            let same : state_in Forward m input (suc (n + i)) ≡ piece_state m piece q (suc i) =
+            pass_next m input n q piece given.inside here (given.stands q was).state i low in
+            let of : patterns_here new ≡ states i =
+            at_state new (piece_state m piece q (suc i)) (stands.state _ named)
+            (λ e. some_found found old.read some (sym stands.found ∙ e)) in
             record {
-              plain = given.plain;
-              within = let h = here.within in omega (arith, h);
-              inside = given.inside;
-              may = given.may;
-              stands = λ p e. absurd (none_some (sym none ∙ e));
-              over = λ e. dead_more Forward m input (suc (n + i)) (n + length piece) (omega (arith, low)) dies;
-            },
-            AtPieceEnd refl (λ j from to. go input n given here dies j from to (cases_lt j (n + i))) (at_none new here_none),
-          );
-    } where
-      go :
-          (input : Input) (n : ℕ) → HasWalked m input n old → IsPieceAt input n piece
-          → state_in Forward m input (suc (n + i)) ≡ dead
-          → (j : ℕ) → n ≤ j → j < n + length piece → (j < n + i) ⊎ (n + i ≤ j)
-          → (state_in Forward m input (suc j)).patterns ≡ []
-      go input n given here dies j from to (inl less) =
-          silent_on input n i given here (omega (arith, low)) before j from less
-      go input n given here dies j from to (inr more) =
-          ap (λ (p : Powerset). p.patterns) (dead_more Forward m input (suc (n + i)) (suc j) (omega (arith, more)) dies)
-
-    -- at it patterns match
-    pub walks_match :
-        (t : Rows) (id : ℕ) → (found ≡ None → ⊥)
-        → StandsInRow t id (old.read + suc i) (found_in found old.read None) old new
-        → Names t id (piece_state m piece q (suc i)) → IsWalked m piece old new (suc i)
-    walks_match t id some stands named = record {
-      few = omega (arith, low);
-      all = λ e. absurd (some_found found old.read some (sym stands.found ∙ e));
-      some = λ s. omega arith;
-      walks = λ input n given here. (walked input n given here, AtMatch i refl (silent_on input n i given here (omega (arith, low)) before) (matches input n given here));
-    } where
-      walked : (input : Input) (n : ℕ) → HasWalked m input n old → IsPieceAt input n piece → HasWalked m input (n + suc i) new
-      walked input n given here = record {
-        plain = given.plain;
-        within = let h = here.within in omega (arith, h, low);
-        inside = given.inside;
-        may = given.may;
-        stands = λ p e. record {
-          read = stands.read ∙ ap (λ r. r + suc i) (given.stands q was).read;
-          state =
-              some_inj (sym e ∙ stands.state _ named)
-              ∙ sym (pass_state m input n q piece given.inside here (given.stands q was).state (suc i) (omega (arith, low)));
-          clean =
-              pass_clean m input n q piece given.inside here (given.stands q was).state old.earliest (suc i) (omega (arith, low))
-              (given.stands q was).clean upto.clean;
-        };
-        over = λ e. absurd (stands.some e);
-      }
-
-      matches : (input : Input) (n : ℕ) → HasWalked m input n old → IsPieceAt input n piece → IsAtMatch m input (n + i) new
-      matches input n given here =
-          let same : state_in Forward m input (suc (n + i)) ≡ piece_state m piece q (suc i) =
-          pass_next m input n q piece given.inside here (given.stands q was).state i low in
-          let of : patterns_here new ≡ states i =
-          at_state new (piece_state m piece q (suc i)) (stands.state _ named)
-          (λ e. some_found found old.read some (sym stands.found ∙ e)) in
-          record {
-            patterns = of ∙ sym (ap (λ (p : Powerset). p.patterns) same);
-            some = λ e. some (found_is ∙ half_empty (states i) (0 + i) (sym of ∙ e));
-            found =
-                ap (from_first input.start)
-                (stands.found ∙ (ap (λ b. found_in found b None) (given.stands q was).read ∙ ap (λ o. found_in o n None) found_is))
-                ∙ (half_on (states i) input.start n i
-                ∙ sym (ap (λ (p : Powerset). half_at p.patterns (input.start + (n + i)) None) same));
-          }
+              patterns = of ∙ sym (ap (λ (p : Powerset). p.patterns) same);
+              some = λ e. some (found_is ∙ half_empty (states i) (0 + i) (sym of ∙ e));
+              found =
+                  ap (from_first input.start)
+                  (stands.found ∙ (ap (λ b. found_in found b None) (given.stands q was).read
+                  ∙ ap (λ o. found_in o n None) found_is))
+                  ∙ (half_on (states i) input.start n i
+                  ∙ sym (ap (λ (p : Powerset). half_at p.patterns (input.start + (n + i)) None) same));
+            }
 
 -- the state after the unit that follows the span reports what matches at its end
 pub walk_ends :
-    (m : Machine) (ahead : Option ℕ) (w : PiecesView) (q : Powerset) (old new : CacheView) (id to : ℕ) (patterns : List ℕ)
+    (m : Machine) (ahead : Option ℕ) (w : PiecesView) (q : Powerset) (old new : CacheView) (id to : ℕ)
+    (patterns : List ℕ)
     → w.state ≡ Some q → Names old.store.table id q → IsReadAnswer m id ahead old new to
     → ((s : Powerset) → Leads new.store.table to s → patterns ≡ s.patterns) → EndsWith m w ahead patterns
 walk_ends m ahead w q old new id to patterns stood named answer reports input all =
@@ -353,11 +379,13 @@ walk_ends m ahead w q old new id to patterns stood named answer reports input al
     let unit : next (tape_in Forward input) n ≡ ahead =
     forward_unit input input.end (omega (arith, l)) (omega arith) all.given.inside ∙ all.followed in
     let same : state_in Forward m input (suc n) ≡ successor m.nfa (match_kind_of m.config) q ahead =
-    state_more Forward m input n ∙ ap₂ (successor m.nfa (match_kind_of m.config)) (sym (all.given.stands q stood).state) unit in
+    state_more Forward m input n ∙ ap₂ (successor m.nfa (match_kind_of m.config)) (sym (all.given.stands q stood).state)
+    unit in
     reports (state_in Forward m input (suc n)) (subst (Leads new.store.table to) (sym same) (answer.named q named))
 
 -- at no state nothing matches there
 pub walk_ends_none : (m : Machine) (ahead : Option ℕ) (w : PiecesView) → w.state ≡ None → EndsWith m w ahead []
 walk_ends_none m ahead w none input all =
     sym (ap (λ (p : Powerset). p.patterns)
-    (dead_more Forward m input (input.end - input.start) (suc (input.end - input.start)) (omega arith) (all.given.over none)))
+    (dead_more Forward m input (input.end - input.start) (suc (input.end - input.start)) (omega arith)
+    (all.given.over none)))

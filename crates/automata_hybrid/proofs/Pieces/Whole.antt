@@ -12,10 +12,12 @@ use Rattle.automata_hybrid.specs.Pieces.Whole.{HasReadAll, PiecesAreWhole, bytes
 use Rattle.automata_hybrid.proofs.Searches.Units.{nth_past}
 
 -- a piece stands where it was put together
-piece_at : (mode : Anchored) (earliest : Bool) (xs piece rest : List ℕ) → IsPieceAt (whole_input (xs ++ (piece ++ rest)) mode earliest) (length xs) piece
+piece_at : (mode : Anchored) (earliest : Bool) (xs piece rest : List ℕ)
+    → IsPieceAt (whole_input (xs ++ (piece ++ rest)) mode earliest) (length xs) piece
 piece_at mode earliest xs piece rest = record {
   within = omega (arith, whole);
-  bytes = sym (ap₂ (λ n s. take n (drop s h)) width start ∙ (ap (take (length piece)) (drop-append_seam xs (piece ++ rest)) ∙ take-append_seam piece rest));
+  bytes = sym (ap₂ (λ n s. take n (drop s h)) width start
+      ∙ (ap (take (length piece)) (drop-append_seam xs (piece ++ rest)) ∙ take-append_seam piece rest));
 } where
   h : List ℕ
   h = xs ++ (piece ++ rest)
@@ -43,7 +45,8 @@ given_all m mode earliest (piece ∷ earlier) p rest (before, read, on) =
     (subst (λ n. WasGiven m (whole_input (bytes_of_pieces earlier ++ (piece ++ rest)) mode earliest) n p)
     (sym (length-append (bytes_of_pieces earlier) piece))
     (on (whole_input (bytes_of_pieces earlier ++ (piece ++ rest)) mode earliest) (length (bytes_of_pieces earlier))
-    (given_all m mode earliest earlier before (piece ++ rest) read) (piece_at mode earliest (bytes_of_pieces earlier) piece rest)))
+    (given_all m mode earliest earlier before (piece ++ rest) read)
+    (piece_at mode earliest (bytes_of_pieces earlier) piece rest)))
 
 append_none : (xs : List ℕ) → xs ++ [] ≡ xs
 append_none [] = refl
@@ -51,7 +54,9 @@ append_none (x ∷ xs) = ap (λ (ys : List ℕ). x ∷ ys) (append_none xs)
 
 first_zero : (half : Option HalfMatch) → from_first 0 half ≡ half
 first_zero None = refl
-first_zero (Some half) = let same : 0 + half.offset ≡ half.offset = omega arith in ap (λ n. Some (record { pattern = half.pattern; offset = n })) same
+first_zero (Some half) =
+    let same : 0 + half.offset ≡ half.offset = omega arith in
+    ap (λ n. Some (record { pattern = half.pattern; offset = n })) same
 
 pub pieces_are_whole : PiecesAreWhole
 pieces_are_whole m mode earliest pieces p half bytes read ends =

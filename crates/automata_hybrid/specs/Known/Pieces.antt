@@ -1,6 +1,7 @@
 -- What the calls of a search in pieces, and of a walk over pieces, make of what their cache knows.
-use Rattle.std.specs.Prelude.{ℕ, suc, ◌≡◌, ◌^◌, ◌≤◌, ◌+◌, true, false, List, length}
-use Rattle.std.specs.Prelude.{Option, None, Some, MatchOption, option_and_then, option_map}
+use Rattle.std.specs.Prelude.{ℕ, suc, ◌≡◌, ◌^◌, ◌≤◌, ◌+◌, ◌-◌, true, false, List, length}
+use Rattle.std.specs.Prelude.{Option, None, Some, MatchOption, option_map}
+use Rattle.automata_base.specs.Haystacks.Input.{Input}
 use Rattle.automata_base.specs.Paths.Paths.{next as unit_at}
 use Rattle.automata_base.specs.Powersets.Powerset.{Powerset, dead}
 use Rattle.automata_base.specs.declared.util.search.Anchored.{Anchored}
@@ -20,6 +21,7 @@ use Rattle.automata_hybrid.specs.Machines.Machine.{Machine, quits_on}
 use Rattle.automata_hybrid.specs.Pieces.State.{PiecesView}
 use Rattle.automata_hybrid.specs.Searches.Passes.{HasReadNoQuit, Skips, given_up_offset, tape_in}
 use Rattle.automata_hybrid.specs.Searches.PieceRuns.{ReadsAlong, piece_input, piece_trace}
+use Rattle.automata_hybrid.specs.Searches.Traces.{Trace}
 use Rattle.automata_hybrid.specs.declared.search.pieces.BeginError.{BeginError}
 use Rattle.automata_hybrid.specs.declared.search.pieces.BeginError.TheVariants as begin
 
@@ -40,92 +42,92 @@ IsBeginRun m mode behind old new (Some begin.Skips) = Skips m × (new ≡ old)
 -- they are not, and it fails to begin
 IsBeginRun m mode behind old new (Some (begin.Start e)) = (Skips m → ⊥) × FailsToBegin m mode behind old new e
 
--- what a search that stands at a state makes of the cache by the first so many bytes of a piece: the state is there or
--- is put back, and the search begins
-abbrev pub after_bytes :
-    Machine → (piece : List ℕ) → PiecesView → Powerset → (bytes : ℕ) → Known → Option Known
-after_bytes m piece p q bytes c =
-    option_and_then
-    (after_many (piece_trace m piece p.earliest q) Forward m (piece_input piece p.earliest) 0 bytes)
-    (option_map (begun (given_up_offset Forward (piece_input piece p.earliest) 0)) (with_row_back m q c))
+-- why nothing that follows the byte at place `k` of a run along a trace can change what it finds
+pub data AnswerStands (s : Trace) (input : Input) (k : ℕ) : Type 0 where
+  -- the state after it is dead
+  DiesThere : s.state (suc k) ≡ dead → AnswerStands s input k
+  -- an earliest search has found a match
+  FindsThere : input.earliest ≡ true → (s.reported (suc k) ≡ None → ⊥) → AnswerStands s input k
 
--- and where it ends at the byte at place `k`
-abbrev pub after_piece :
-    Machine → (piece : List ℕ) → PiecesView → Powerset → (bytes k : ℕ) → Known → Option Known
-after_piece m piece p q bytes k c =
-    option_map (ended (given_up_offset Forward (piece_input piece p.earliest) k)) (after_bytes m piece p q bytes c)
+-- a run along a trace that has begun reads all bytes of its span
+pub record ReadsAllAlong (s : Trace) (m : Machine) (input : Input) (begun new : Known) : Type 0 where
+  -- none of them is a quit byte
+  pub clean : HasReadNoQuit Forward m input (input.end - input.start)
+  -- in an earliest search they report none
+  pub nothing : input.earliest ≡ true → s.reported (input.end - input.start) ≡ None
+  -- what they make of the cache, where the search ends
+  pub run :
+      option_map (ended (given_up_offset Forward input (input.end - input.start)))
+      (after_many s Forward m input 0 (input.end - input.start) begun)
+      ≡ Some new
+
+-- a run along a trace that has begun reads its bytes up to the one at place `k`, after which its answer stands
+pub record ReadsUptoAlong (s : Trace) (m : Machine) (input : Input) (k : ℕ) (begun new : Known) : Type 0 where
+  -- it reads that byte
+  pub reads : ReadsAlong s input k
+  -- none of the bytes up to it is a quit byte
+  pub clean : HasReadNoQuit Forward m input (suc k)
+  -- the answer stands
+  pub over : AnswerStands s input k
+  -- what they make of the cache, where the search ends
+  pub run :
+      option_map (ended (given_up_offset Forward input k)) (after_many s Forward m input 0 (suc k) begun) ≡ Some new
+
+-- a run along a trace that has begun fails at a byte: the offset of its error is counted from so many bytes before the
+-- first one
+pub record FailsAlong (s : Trace) (m : Machine) (input : Input) (base : ℕ) (begun new : Known) (e : SearchError) :
+    Type 0 where
+  -- the place of the byte
+  pub place : ℕ
+  -- it reads the byte
+  pub reads : ReadsAlong s input place
+  -- none before it is a quit byte
+  pub clean : HasReadNoQuit Forward m input place
+  -- what the cache knows once it has come to it
+  pub mid : Known
+  -- the bytes before it made this of it
+  pub run : after_many s Forward m input 0 place begun ≡ Some mid
+  -- it fails there
+  pub fails :
+      ReadFails m (s.state place) (unit_at (tape_in Forward input) place) (base + place) (base + place)
+      (given_up_offset Forward input place) mid new e
+
+-- a search goes on from the state where it stands, which is there or is put back, and begins at an offset
+pub record GoesOn (m : Machine) (p : PiecesView) (q : Powerset) (at : ℕ) (old new : Known) : Type 0 where
+  -- it stood at this state
+  pub from : p.state ≡ Some q
+  -- what that makes of the cache
+  pub begins : option_map (begun at) (with_row_back m q old) ≡ Some new
 
 -- all bytes of a piece are read from a state on
-pub record ReadsThrough (m : Machine) (piece : List ℕ) (p : PiecesView) (q : Powerset) (old new : Known) :
-    Type 0 where
-  -- it stood at this state
-  pub from : p.state ≡ Some q
-  -- none of them is a quit byte
-  pub clean : HasReadNoQuit Forward m (piece_input piece p.earliest) (length piece)
-  -- if the search ends at its first match, they report none
-  pub nothing : p.earliest ≡ true → (piece_trace m piece p.earliest q).reported (length piece) ≡ None
-  -- what they make of the cache
-  pub run : after_piece m piece p q (length piece) (length piece) old ≡ Some new
-
--- why nothing that follows the byte at place `k` of a piece can change the answer
-pub data AnswerStands (m : Machine) (piece : List ℕ) (p : PiecesView) (q : Powerset) (k : ℕ) : Type 0 where
-  -- the state after it is dead
-  DiesThere : (piece_trace m piece p.earliest q).state (suc k) ≡ dead → AnswerStands m piece p q k
-  -- the search ends at its first match, and has found one
-  FindsThere :
-      p.earliest ≡ true → ((piece_trace m piece p.earliest q).reported (suc k) ≡ None → ⊥) → AnswerStands m piece p q k
+abbrev pub ReadsThrough : Machine → (piece : List ℕ) → PiecesView → Powerset → (begun new : Known) → Type 0
+ReadsThrough m piece p q begun new =
+    ReadsAllAlong (piece_trace m piece p.earliest q) m (piece_input piece p.earliest) begun new
 
 -- the bytes of a piece are read up to the one at place `k`, after which the answer stands
-pub record ReadsPieceUpto (m : Machine) (piece : List ℕ) (p : PiecesView) (q : Powerset) (k : ℕ)
-    (old new : Known) : Type 0 where
-  -- it stood at this state
-  pub from : p.state ≡ Some q
-  -- it reads that byte
-  pub reads : ReadsAlong (piece_trace m piece p.earliest q) (piece_input piece p.earliest) k
-  -- none of the bytes up to it is a quit byte
-  pub clean : HasReadNoQuit Forward m (piece_input piece p.earliest) (suc k)
-  -- the answer stands
-  pub over : AnswerStands m piece p q k
-  -- what they make of the cache
-  pub run : after_piece m piece p q (suc k) k old ≡ Some new
+abbrev pub ReadsPieceUpto :
+    Machine → (piece : List ℕ) → PiecesView → Powerset → (k : ℕ) → (begun new : Known) → Type 0
+ReadsPieceUpto m piece p q k begun new =
+    ReadsUptoAlong (piece_trace m piece p.earliest q) m (piece_input piece p.earliest) k begun new
 
--- what reading a piece makes of the search and of the cache, if it returns Ok
+-- what reading a piece makes of the search and of the cache, if it returns Ok: each piece is a search that begins at 0
 pub data EndsPiece (m : Machine) (piece : List ℕ) (p next : PiecesView) (old new : Known) : Type 0 where
   -- the answer of the search stood before, and nothing has changed
   AlreadyOver : p.state ≡ None → next ≡ p → new ≡ old → EndsPiece m piece p next old new
   -- all bytes of the piece are read
   Through :
-      (q : Powerset) → ReadsThrough m piece p q old new → next.read ≡ p.read + length piece
-      → EndsPiece m piece p next old new
+      (q : Powerset) (begun : Known) → GoesOn m p q 0 old begun → ReadsThrough m piece p q begun new
+      → next.read ≡ p.read + length piece → EndsPiece m piece p next old new
   -- the answer stands after one of its bytes, up to which they are read
   Upto :
-      (q : Powerset) (k : ℕ) → ReadsPieceUpto m piece p q k old new → next.state ≡ None
-      → next.read ≡ p.read + suc k → EndsPiece m piece p next old new
-
--- how a search fails at the byte at place `k` of a piece, to which it has come
-abbrev pub ByteFails :
-    Machine → (piece : List ℕ) → PiecesView → Powerset → (k : ℕ) → (old new : Known) → SearchError → Type 0
-ByteFails m piece p q k old new e =
-    ReadFails m ((piece_trace m piece p.earliest q).state k) (unit_at (tape_in Forward (piece_input piece p.earliest)) k)
-    (p.read + k) (p.read + k) (given_up_offset Forward (piece_input piece p.earliest) k) old new e
+      (q : Powerset) (begun : Known) (k : ℕ) → GoesOn m p q 0 old begun → ReadsPieceUpto m piece p q k begun new
+      → next.state ≡ None → next.read ≡ p.read + suc k → EndsPiece m piece p next old new
 
 -- a search has failed at a byte of a piece
-pub record FailsAtByte (m : Machine) (piece : List ℕ) (p : PiecesView) (q : Powerset) (old new : Known)
-    (e : SearchError) : Type 0 where
-  -- it stood at this state
-  pub from : p.state ≡ Some q
-  -- the place of the byte
-  pub place : ℕ
-  -- it reads the byte
-  pub reads : ReadsAlong (piece_trace m piece p.earliest q) (piece_input piece p.earliest) place
-  -- none before it is a quit byte
-  pub clean : HasReadNoQuit Forward m (piece_input piece p.earliest) place
-  -- what the cache knows once it has come to it
-  pub mid : Known
-  -- the bytes before it made this of it
-  pub run : after_bytes m piece p q place old ≡ Some mid
-  -- it fails there
-  pub fails : ByteFails m piece p q place mid new e
+abbrev pub FailsAtByte :
+    Machine → (piece : List ℕ) → PiecesView → Powerset → (begun new : Known) → SearchError → Type 0
+FailsAtByte m piece p q begun new e =
+    FailsAlong (piece_trace m piece p.earliest q) m (piece_input piece p.earliest) p.read begun new e
 
 -- why a piece is not read, and what that makes of the cache
 pub data LeavesPiece (m : Machine) (piece : List ℕ) (p : PiecesView) (old new : Known) (e : SearchError) :
@@ -137,10 +139,13 @@ pub data LeavesPiece (m : Machine) (piece : List ℕ) (p : PiecesView) (old new 
   -- the state where the search stands is not put back
   NotPutBack : (q : Powerset) → p.state ≡ Some q → IsNotBack m q p.read old new e → LeavesPiece m piece p old new e
   -- the step on a byte of the piece fails
-  AtByte : (q : Powerset) → FailsAtByte m piece p q old new e → LeavesPiece m piece p old new e
+  AtByte :
+      (q : Powerset) (begun : Known) → GoesOn m p q 0 old begun → FailsAtByte m piece p q begun new e
+      → LeavesPiece m piece p old new e
   -- the state after the piece cannot be held: the count of those who share it cannot rise
   NotHeld :
-      (q : Powerset) → ReadsThrough m piece p q old new → e ≡ search.OutOfMemory → LeavesPiece m piece p old new e
+      (q : Powerset) (begun : Known) → GoesOn m p q 0 old begun → ReadsThrough m piece p q begun new
+      → e ≡ search.OutOfMemory → LeavesPiece m piece p old new e
 
 -- what reading a piece makes of the search and of what the cache knows, by the error that it returns, if it fails
 abbrev pub IsPieceRun :
@@ -148,39 +153,25 @@ abbrev pub IsPieceRun :
 IsPieceRun m piece p next old new error =
     MatchOption error (EndsPiece m piece p next old new) (LeavesPiece m piece p old new)
 
--- the cache before the unit that follows the pieces: the state is there or is put back, and the search begins
-abbrev pub before_end : Machine → PiecesView → Powerset → Known → Option Known
-before_end m p q c = option_map (begun p.read) (with_row_back m q c)
-
--- what that unit makes of it, where the search ends
-abbrev pub after_end : Machine → (ahead : Option ℕ) → PiecesView → Powerset → Known → Option Known
-after_end m ahead p q c =
-    option_map (ended p.read)
-    (option_and_then (λ mid. after_event m (Step q ahead) (moved p.read mid) mid) (before_end m p q c))
-
 -- what asking for the answer makes of the cache, if that returns Ok
 pub data EndsAnswer (m : Machine) (ahead : Option ℕ) (p : PiecesView) (old new : Known) : Type 0 where
   -- the answer stood before, and nothing has changed
   Answered : p.state ≡ None → new ≡ old → EndsAnswer m ahead p old new
-  -- the unit that follows is read, which is no quit byte
+  -- the unit that follows is read, which is no quit byte, and the search ends there
   AtEnd :
-      (q : Powerset) → p.state ≡ Some q → quits_on m ahead ≡ false → after_end m ahead p q old ≡ Some new
+      (q : Powerset) (begun : Known) → GoesOn m p q p.read old begun → quits_on m ahead ≡ false
+      → option_map (ended p.read) (after_event m (Step q ahead) (moved p.read begun) begun) ≡ Some new
       → EndsAnswer m ahead p old new
-
--- how reading the unit that follows fails
-abbrev pub EndFails :
-    Machine → (ahead : Option ℕ) → PiecesView → Powerset → (old new : Known) → SearchError → Type 0
-EndFails m ahead p q old new e = ReadFails m q ahead p.read p.read p.read old new e
 
 -- why there is no answer, and what that makes of the cache
 pub data LeavesAnswer (m : Machine) (ahead : Option ℕ) (p : PiecesView) (old new : Known) (e : SearchError) :
     Type 0 where
   -- the state where the search stands is not put back
   NotBack : (q : Powerset) → p.state ≡ Some q → IsNotBack m q p.read old new e → LeavesAnswer m ahead p old new e
-  -- the step on the unit that follows fails
+  -- reading the unit that follows fails
   FailsAtEnd :
-      (q : Powerset) → p.state ≡ Some q → (mid : Known) → before_end m p q old ≡ Some mid
-      → EndFails m ahead p q mid new e → LeavesAnswer m ahead p old new e
+      (q : Powerset) (begun : Known) → GoesOn m p q p.read old begun
+      → ReadFails m q ahead p.read p.read p.read begun new e → LeavesAnswer m ahead p old new e
 
 -- what asking for the answer makes of what the cache knows, by the error that it returns, if it fails
 abbrev pub IsAnswerRun : Machine → (ahead : Option ℕ) → PiecesView → (old new : Known) → Option SearchError → Type 0
@@ -193,12 +184,12 @@ pub data EndsWalkCall (m : Machine) (piece : List ℕ) (w next : PiecesView) (ol
   AlreadyDone : w.state ≡ None → next ≡ w → new ≡ old → EndsWalkCall m piece w next old new
   -- all bytes of the piece are read
   WalksThrough :
-      (q : Powerset) → ReadsThrough m piece w q old new → next.read ≡ w.read + length piece
-      → EndsWalkCall m piece w next old new
+      (q : Powerset) (begun : Known) → GoesOn m w q 0 old begun → ReadsThrough m piece w q begun new
+      → next.read ≡ w.read + length piece → EndsWalkCall m piece w next old new
   -- they are read up to one at which patterns match, or after which nothing can
   WalksUpto :
-      (q : Powerset) (i : ℕ) → ReadsPieceUpto m piece w q i old new → next.read ≡ w.read + suc i
-      → EndsWalkCall m piece w next old new
+      (q : Powerset) (begun : Known) (i : ℕ) → GoesOn m w q 0 old begun → ReadsPieceUpto m piece w q i begun new
+      → next.read ≡ w.read + suc i → EndsWalkCall m piece w next old new
 
 -- why a call of a walk fails, and what that makes of the cache
 pub data LeavesWalkCall (m : Machine) (piece : List ℕ) (w : PiecesView) (old new : Known) (e : SearchError) :
@@ -207,8 +198,8 @@ pub data LeavesWalkCall (m : Machine) (piece : List ℕ) (w : PiecesView) (old n
   AsSearch : LeavesPiece m piece w old new e → LeavesWalkCall m piece w old new e
   -- the state at the match cannot be held: the count of those who share it cannot rise
   NotHeldAt :
-      (q : Powerset) (i : ℕ) → ReadsPieceUpto m piece w q i old new → e ≡ search.OutOfMemory
-      → LeavesWalkCall m piece w old new e
+      (q : Powerset) (begun : Known) (i : ℕ) → GoesOn m w q 0 old begun → ReadsPieceUpto m piece w q i begun new
+      → e ≡ search.OutOfMemory → LeavesWalkCall m piece w old new e
 
 -- what a call of a walk over a piece makes of the walk and of what the cache knows, by the error that it returns, if it
 -- fails

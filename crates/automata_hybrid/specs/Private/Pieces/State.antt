@@ -1,7 +1,13 @@
 -- What private functions and proofs need beside `Pieces/State`; no contract of a public call reaches it.
-use Rattle.std.specs.Prelude.{Option, Some, None, ℕ, ◌+◌}
+use Rattle.std.specs.Prelude.{Option, Some, None, ℕ, ◌+◌, ◌≡◌}
 use Rattle.automata_base.specs.Powersets.Powerset.{Powerset}
 use Rattle.automata_base.specs.Haystacks.Matches.{HalfMatch}
+use Rattle.automata_config.specs.declared.error.SearchError.{SearchError}
+use Rattle.automata_hybrid.specs.Cache.Caches.{CacheView}
+use Rattle.automata_hybrid.specs.Cache.Table.{Names}
+use Rattle.automata_hybrid.specs.Known.Stores.{known_of}
+use Rattle.automata_hybrid.specs.Known.Walks.{IsNotBack, with_row_back}
+use Rattle.automata_hybrid.specs.Machines.Machine.{Machine}
 use Rattle.automata_hybrid.specs.Private.Walks.State.{IsHandle}
 use Rattle.automata_hybrid.specs.declared.cache.handle.Handle.{Handle}
 use Rattle.automata_hybrid.specs.declared.search.pieces.Pieces.TheInside.{Inside}
@@ -25,3 +31,23 @@ HasOwnKey (Some handle) = IsHandle handle handle.state
 -- what contracts see of a search in pieces, by what it holds
 abbrev pub pieces_view : Inside → PiecesView
 pieces_view s = record { state = held_state s.held; read = s.read; earliest = s.earliest; found = s.found }
+
+-- a cache has the row of the state where a search stands, under this ID
+pub record HasResumed (m : Machine) (p : PiecesView) (old new : CacheView) (id : ℕ) : Type 0 where
+  -- the state
+  pub state : Powerset
+  -- the search stood at it
+  pub stood : p.state ≡ Some state
+  -- its row was there, or is put back
+  pub back : with_row_back m state (known_of old) ≡ Some (known_of new)
+  -- the ID names it
+  pub named : Names new.store.table id state
+
+-- it has not, and the row is not put back
+pub record FailsToResume (m : Machine) (p : PiecesView) (old new : CacheView) (e : SearchError) : Type 0 where
+  -- the state
+  pub state : Powerset
+  -- the search stood at it
+  pub stood : p.state ≡ Some state
+  -- why its row is not put back
+  pub fails : IsNotBack m state p.read (known_of old) (known_of new) e

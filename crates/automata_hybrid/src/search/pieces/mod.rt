@@ -1,30 +1,26 @@
 //! A search forward whose haystack comes in pieces. Between two pieces it holds its powerset state, as a walk does, so
 //! that its cache may serve other searches and be cleared, and another cache of the same DFA may take over. `walk` is one
 //! that stops at each match.
-ghost use Rattle.std.specs.Prelude.{◌≡◌, ◌+◌, ◌-◌, ◌^◌, ◌<◌, ◌≤◌, length, IfOk, IfErr, IfNone, IfSome, OnOk, OnErr};
+ghost use Rattle.std.specs.Prelude.{ℕ, ◌≡◌, ◌+◌, ◌-◌, ◌^◌, ◌<◌, ◌≤◌, length, IfOk, IfErr, IfNone, IfSome, OnOk, OnErr};
 ghost use Rattle.std.specs.Prelude.{slice_index};
 ghost use Rattle.std.specs.Prelude.{Some, None, true, false};
 ghost use Rattle.std.specs.Result.{result_err};
 ghost use Rattle.automata_base.specs.declared.util.search.Direction.TheVariants.{Forward};
-ghost use Rattle.automata_base.specs.Powersets.Powerset.{Powerset};
 ghost use Rattle.automata_hybrid.specs.Cache.Caches.{IsCacheOf};
-ghost use Rattle.automata_hybrid.specs.Private.Cache.Growth.{AddFails};
 ghost use Rattle.automata_hybrid.specs.Cache.Table.{IsRowId, IsRowState, Names};
-ghost use Rattle.automata_hybrid.specs.Private.Cache.Table.{IsKnownState};
 ghost use Rattle.automata_hybrid.specs.Pieces.Answers.{EndsHere, HasBegun, ReadsOn};
-ghost use Rattle.automata_hybrid.specs.Known.Pieces.{IsAnswerRun, IsBeginRun, IsPieceRun};
+ghost use Rattle.automata_hybrid.specs.Known.Known.{begun};
+ghost use Rattle.automata_hybrid.specs.Known.Pieces.{FailsAlong, IsAnswerRun, IsBeginRun, IsPieceRun};
 ghost use Rattle.automata_hybrid.specs.Known.Stores.{known_of};
-ghost use Rattle.automata_hybrid.specs.Private.Pieces.Progress.{GoesOnFrom, IsAnswerRunInStore};
-ghost use Rattle.automata_hybrid.specs.Private.Pieces.Progress.{IsBeginRunInStore, IsNotPutBack};
-ghost use Rattle.automata_hybrid.specs.Private.Pieces.Progress.{IsPieceRunInStore};
+ghost use Rattle.automata_hybrid.specs.Known.Walks.{IsNotBack, with_row_back};
 ghost use Rattle.automata_hybrid.specs.Pieces.State.{IsPiecesOf};
-ghost use Rattle.automata_hybrid.specs.Private.Pieces.State.{found_in};
+ghost use Rattle.automata_hybrid.specs.Private.Pieces.State.{FailsToResume, HasResumed, found_in};
 ghost use Rattle.automata_hybrid.specs.Pieces.Walks.{HasBegunWalk, patterns_here};
-ghost use Rattle.automata_hybrid.specs.Private.Searches.PassState.{IsOnTrace};
+ghost use Rattle.automata_hybrid.specs.Private.Searches.PassState.{IsOnTrace, step_error};
 ghost use Rattle.automata_hybrid.specs.Private.Searches.PieceRuns.{HasOffset, IsEndAlong, IsPieceEnd, IsPieceStopped};
-ghost use Rattle.automata_hybrid.specs.Private.Searches.PieceRuns.{StopsAlong, error_from};
+ghost use Rattle.automata_hybrid.specs.Private.Searches.PieceRuns.{error_from};
+ghost use Rattle.automata_hybrid.specs.Searches.Passes.{given_up_offset};
 ghost use Rattle.automata_hybrid.specs.Searches.Traces.{Trace};
-ghost use Rattle.automata_hybrid.specs.Private.Walks.Progress.{HasItsRow};
 ghost use Rattle.automata_hybrid.specs.Private.Walks.State.{IsHandle};
 
 pub mod walk;
@@ -258,8 +254,6 @@ impl DFA {
         ensures effect { IsBeginRun self.now config.now.anchored config.now.look_behind
             (known_of cache.old) (known_of cache.new) (result_err result) }
     {
-        self.see_machine();
-        cache.see_bounds();
         self.start_pieces(cache, config, earliest)
     }
 
@@ -276,8 +270,8 @@ impl DFA {
         ensures begun { IfOk result (HasBegun self.now config.now.anchored config.now.look_behind earliest) }
         ensures walk { IfOk result (HasBegunWalk self.now config.now.anchored config.now.look_behind) }
         ensures early { IfOk result (λ p. p.earliest ≡ earliest) }
-        ensures effect { IsBeginRunInStore self.now config.now.anchored config.now.look_behind
-            cache.old cache.new (result_err result) }
+        ensures effect { IsBeginRun self.now config.now.anchored config.now.look_behind
+            (known_of cache.old) (known_of cache.new) (result_err result) }
     {
         if self.skips() {
             return Err(BeginError::Skips);
@@ -330,30 +324,6 @@ impl DFA {
         ensures effect { IsPieceRun self.now piece.now pieces.old pieces.new
             (known_of cache.old) (known_of cache.new) (result_err result) }
     {
-        self.see_machine();
-        cache.see_bounds();
-        let whole = Input::new(piece);
-        let _haystack = whole.haystack();
-        self.take_piece(cache, pieces, piece)
-    }
-
-    /// Reads the next piece, as `read_piece`.
-    #[inline(always)]
-    fn take_piece(
-        &self,
-        cache: &mut Cache,
-        pieces: &mut Pieces,
-        piece: &[u8],
-    ) -> Result<(), SearchError>
-        requires of { IsCacheOf cache.old self.now }
-        requires pieces { IsPiecesOf pieces.old self.now }
-        ensures of { IsCacheOf cache.new self.now }
-        ensures pieces { IsPiecesOf pieces.new self.now }
-        ensures reads { OnOk result (ReadsOn self.now piece.now pieces.old pieces.new) }
-        ensures unchanged { OnErr result (pieces.new ≡ pieces.old) }
-        ensures effect { IsPieceRunInStore self.now piece.now pieces.old pieces.new
-            cache.old cache.new (result_err result) }
-    {
         let Some(from) = self.resume_pieces(cache, pieces)? else {
             return Ok(());
         };
@@ -396,34 +366,12 @@ impl DFA {
         ensures effect { IsAnswerRun self.now look_ahead pieces.now (known_of cache.old) (known_of cache.new)
             (result_err result) }
     {
-        self.see_machine();
-        cache.see_bounds();
-        let _class = self.unit_class(look_ahead);
-        self.take_answer(cache, pieces, look_ahead)
-    }
-
-    /// The match in the pieces so far, as `end_pieces` returns it.
-    #[inline(always)]
-    fn take_answer(
-        &self,
-        cache: &mut Cache,
-        pieces: &Pieces,
-        look_ahead: Option<u8>,
-    ) -> Result<Option<HalfMatch>, SearchError>
-        requires of { IsCacheOf cache.old self.now }
-        requires pieces { IsPiecesOf pieces.now self.now }
-        ensures of { IsCacheOf cache.new self.now }
-        ensures answer { IfOk result (EndsHere self.now pieces.now look_ahead) }
-        ensures effect { IsAnswerRunInStore self.now look_ahead pieces.now cache.old cache.new
-            (result_err result) }
-    {
         reported_is_right(self.get_nfa());
         let Some(from) = self.resume_pieces(cache, pieces)? else {
             return Ok(pieces.get_match());
         };
         let at = pieces.bytes_read();
         cache.search_start(at);
-        cache.see_bounds();
         let next = self.read(cache, from, LazyStateID::UNKNOWN, look_ahead, at, at)?;
         cache.end_search(at);
         Ok(self.found_at(cache, next, at, pieces.get_match()))
@@ -439,15 +387,14 @@ impl DFA {
         requires of { IsCacheOf cache.old self.now }
         requires pieces { IsPiecesOf pieces.now self.now }
         ensures of { IsCacheOf cache.new self.now }
-        ensures none { IfOk result (λ o. IfNone o ((pieces.now.state ≡ None) × (cache.new ≡ cache.old))) }
-        ensures some { IfOk result (λ o. IfSome o (λ id. (q : Powerset)
-            × GoesOnFrom self.now pieces.now q cache.old cache.new × Names cache.new.store.table id q)) }
-        ensures left { IfErr result (λ e. (q : Powerset) × IsNotPutBack pieces.now q cache.old cache.new e) }
+        ensures none { IfOk result (λ o. IfNone o
+            ((pieces.now.state ≡ None) × (known_of cache.new ≡ known_of cache.old))) }
+        ensures some { IfOk result (λ o. IfSome o (HasResumed self.now pieces.now cache.old cache.new)) }
+        ensures left { IfErr result (FailsToResume self.now pieces.now cache.old cache.new) }
     {
         let Some(handle) = &pieces.held else {
             return Ok(None);
         };
-        cache.see_bounds();
         match self.row_of(cache, handle, pieces.row) {
             Ok(id) => Ok(Some(id)),
             Err(error) => Err(step_error(error, pieces.read)),
@@ -467,11 +414,11 @@ impl DFA {
         requires state { IsRowState self.now handle.now.state }
         ensures of { IsCacheOf cache.new self.now }
         ensures named { IfOk result (λ id. Names cache.new.store.table id handle.now.state) }
-        ensures row { OnOk result (HasItsRow self.now handle.now.state cache.old cache.new) }
-        ensures refused { IfErr result (AddFails cache.old cache.new handle.now.state) }
-        ensures lacks { OnErr result (IsKnownState cache.old.store.table handle.now.state → ⊥) }
+        ensures row { OnOk result (with_row_back self.now handle.now.state (known_of cache.old)
+            ≡ Some (known_of cache.new)) }
+        ensures refused { IfErr result (λ e. (at : ℕ)
+            → IsNotBack self.now handle.now.state at (known_of cache.old) (known_of cache.new) (step_error e at)) }
     {
-        cache.see_bounds();
         let table = cache.table();
         if table.has_row(row) && *table.state(row) == handle.state {
             return Ok(row);
@@ -520,9 +467,13 @@ impl DFA {
         requires on { IsOnTrace trace Forward self.now cache.old.store.table input.now 0 from }
         requires open { input.now.start ≤ input.now.end }
         ensures of { IsCacheOf cache.new self.now }
-        ensures end { IfOk result (IsEndAlong trace Forward self.now input.now cache.old cache.new) }
-        ensures left { IfErr result (StopsAlong trace Forward self.now input.now cache.old cache.new) }
+        ensures end { IfOk result (IsEndAlong trace self.now input.now
+            (begun (given_up_offset Forward input.now 0) (known_of cache.old)) cache.new) }
+        ensures left { IfErr result (FailsAlong trace self.now input.now input.now.start
+            (begun (given_up_offset Forward input.now 0) (known_of cache.old)) (known_of cache.new)) }
     {
+        self.see_machine();
+        let _haystack = input.haystack();
         let way = Direction::Forward;
         let last = last_place(input);
         cache.search_start(span_offset(input, way, 0));

@@ -8,10 +8,8 @@ ghost use Rattle.automata_hybrid.specs.Known.Pieces.{IsBeginRun, IsWalkCallRun, 
 ghost use Rattle.automata_hybrid.specs.Known.Stores.{known_of};
 ghost use Rattle.automata_hybrid.specs.Pieces.State.{IsPiecesOf};
 ghost use Rattle.automata_hybrid.specs.Pieces.Walks.{HasBegunWalk, IsWalked};
-ghost use Rattle.automata_hybrid.specs.Private.Pieces.Walks.{IsWalkCallRunInStore};
 ghost use Rattle.automata_hybrid.specs.Private.Pieces.Walks.{IsPiecesWalk, StandsInRow};
 ghost use Rattle.automata_hybrid.specs.Pieces.Walks.{EndsWith, patterns_here};
-ghost use Rattle.automata_hybrid.specs.Private.Pieces.Walks.{IsWalkEndRunInStore};
 
 use crate::cache::Cache;
 use crate::cache::handle::Handle;
@@ -19,7 +17,7 @@ use crate::dfa::DFA;
 use crate::id::LazyStateID;
 use crate::search::pieces::{BeginError, PieceEnd, Pieces, found_in};
 use automata_base::util::primitives::PatternID;
-use automata_base::util::search::{HalfMatch, Input, MatchError};
+use automata_base::util::search::{HalfMatch, MatchError};
 use automata_base::util::start;
 use automata_config::error::SearchError;
 use std::fmt;
@@ -168,8 +166,6 @@ impl DFA {
         ensures effect { IsBeginRun self.now config.now.anchored config.now.look_behind
             (known_of cache.old) (known_of cache.new) (result_err result) }
     {
-        self.see_machine();
-        cache.see_bounds();
         match self.start_pieces(cache, config, true) {
             Ok(pieces) => Ok(PiecesWalk { pieces }),
             Err(error) => Err(error),
@@ -199,10 +195,6 @@ impl DFA {
         ensures effect { IsWalkCallRun self.now piece.now walk.old walk.new
             (known_of cache.old) (known_of cache.new) (result_err result) }
     {
-        self.see_machine();
-        cache.see_bounds();
-        let whole = Input::new(piece);
-        let _haystack = whole.haystack();
         self.walk_pieces(cache, &mut walk.pieces, piece)
     }
 
@@ -220,8 +212,8 @@ impl DFA {
         ensures walk { IsPiecesOf pieces.new self.now × IsPiecesWalk pieces.new }
         ensures walked { IfOk result (IsWalked self.now piece.now pieces.old pieces.new) }
         ensures unchanged { OnErr result (pieces.new ≡ pieces.old) }
-        ensures effect { IsWalkCallRunInStore self.now piece.now pieces.old pieces.new
-            cache.old cache.new (result_err result) }
+        ensures effect { IsWalkCallRun self.now piece.now pieces.old pieces.new
+            (known_of cache.old) (known_of cache.new) (result_err result) }
     {
         let Some(from) = self.resume_pieces(cache, pieces)? else {
             return Ok(piece.len());
@@ -264,9 +256,6 @@ impl DFA {
         ensures effect { IsWalkEndRun self.now look_ahead walk.now (known_of cache.old) (known_of cache.new)
             (result_err result) }
     {
-        self.see_machine();
-        cache.see_bounds();
-        let _class = self.unit_class(look_ahead);
         self.end_pieces_walk(cache, &walk.pieces, look_ahead)
     }
 
@@ -281,7 +270,7 @@ impl DFA {
         requires pieces { IsPiecesOf pieces.now self.now }
         ensures of { IsCacheOf cache.new self.now }
         ensures ends { IfOk result (EndsWith self.now pieces.now look_ahead) }
-        ensures effect { IsWalkEndRunInStore self.now look_ahead pieces.now cache.old cache.new
+        ensures effect { IsWalkEndRun self.now look_ahead pieces.now (known_of cache.old) (known_of cache.new)
             (result_err result) }
     {
         let Some(from) = self.resume_pieces(cache, pieces)? else {
@@ -289,7 +278,6 @@ impl DFA {
         };
         let at = pieces.bytes_read();
         cache.search_start(at);
-        cache.see_bounds();
         let next = self.read(cache, from, LazyStateID::UNKNOWN, look_ahead, at, at)?;
         cache.end_search(at);
         match self.end_at(cache, next) {

@@ -1,17 +1,60 @@
-use Rattle.automata_hybrid.specs.Cache.Caches.{IsStoreOf}
-use Rattle.automata_hybrid.specs.Private.Known.Laws.{PiecesByKnown}
-use Rattle.automata_hybrid.proofs.Known.Pieces.{pieces_by_known}
-use Rattle.automata_hybrid.proofs.Searches.Contracts.{is_store}
+use Rattle.std.proofs.Common.{◌∙◌, ap₂, subst, sym}
+use Rattle.std.specs.Result.{result_err}
+use Rattle.automata_base.specs.Answers.OfPasses.{ReportedEndsAreRight, ReportedIsRight}
+use Rattle.automata_base.specs.Answers.Within.{ReportedLiesWithin}
+use Rattle.automata_base.specs.Nfas.Nodes.{Automaton}
+use Rattle.automata_hybrid.specs.Cache.Table.{Leads, Rows}
+use Rattle.automata_hybrid.specs.Known.Pieces.{IsAnswerRun, NotBack}
+use Rattle.automata_hybrid.specs.Known.Stores.{known_of}
+use Rattle.automata_hybrid.specs.Pieces.Answers.{EndsHere}
+use Rattle.automata_hybrid.specs.Searches.PassState.{half_at}
+use Rattle.automata_hybrid.proofs.Pieces.Answers.{ends_none, ends_some}
+use Rattle.automata_hybrid.proofs.Pieces.Progress.{answer_ends, answer_left, named_there}
+use Rattle.automata_hybrid.proofs.Searches.Reads.{at_err}
 use Rattle.automata_hybrid.proofs.dfa.DFA.end_pieces.Goals as goal
-use Rattle.automata_hybrid.proofs.dfa.DFA.end_pieces.Goals.{After-take_answer}
 
-by_known : (c : After-take_answer) → PiecesByKnown c.args.self.now
-by_known c = pieces_by_known c.args.self.now c.see_machine.ensures.machine c.see_machine.ensures.bytes
+pub returns-in_err-from-clause-effect : goal.returns-in_err-from-clause-effect
+returns-in_err-from-clause-effect c =
+    let left = c.in_err-from.ensures.left in
+    at_err c.from_residual.result _
+    (λ r. IsAnswerRun c.args.self.now c.args.look_ahead c.args.pieces.now (known_of c.args.cache.now)
+    (known_of c.resume_pieces.new.cache) (result_err r))
+    c.from_residual.ensures.1 (NotBack left.state left.stood left.fails)
 
-sound : (c : After-take_answer) → IsStoreOf c.args.cache.now.store c.args.self.now
-sound c = is_store c.args.cache.now.store c.args.self.now c.requires.of c.see_bounds.ensures.bounds
+pub returns-in_default-clause-answer : goal.returns-in_default-clause-answer
+returns-in_default-clause-answer c =
+    let law = subst (λ (a : Automaton). ReportedIsRight a) c.get_nfa.ensures c.reported_is_right.ensures.answer in
+    let ends = subst (λ (a : Automaton). ReportedEndsAreRight a) c.get_nfa.ensures c.reported_is_right.ensures.ends in
+    let lies = subst ReportedLiesWithin c.get_nfa.ensures c.reported_is_right.ensures.within in
+    subst (EndsHere c.args.self.now c.args.pieces.now c.args.look_ahead) (sym c.get_match.ensures)
+    (ends_none c.args.self.now law ends lies c.args.look_ahead c.args.pieces.now
+    (rw c.in_default.is at c.in_ok-from.ensures.none).0)
+
+pub returns-in_err-next-clause-effect : goal.returns-in_err-next-clause-effect
+returns-in_err-next-clause-effect c =
+    let on = rw c.in-Some.is at c.in_ok-from.ensures.some in
+    at_err c.from_residual-in_err-next.result _
+    (λ r. IsAnswerRun c.args.self.now c.args.look_ahead c.args.pieces.now (known_of c.args.cache.now)
+    (known_of c.read.new.cache) (result_err r))
+    c.from_residual-in_err-next.ensures.1
+    (answer_left on c.bytes_read-at.ensures c.search_start.ensures.value c.in_err-next.ensures.read)
+
+pub returns-clause-answer : goal.returns-clause-answer
+returns-clause-answer c =
+    let law = subst (λ (a : Automaton). ReportedIsRight a) c.get_nfa.ensures c.reported_is_right.ensures.answer in
+    let ends = subst (λ (a : Automaton). ReportedEndsAreRight a) c.get_nfa.ensures c.reported_is_right.ensures.ends in
+    let lies = subst ReportedLiesWithin c.get_nfa.ensures c.reported_is_right.ensures.within in
+    let on = rw c.in-Some.is at c.in_ok-from.ensures.some in
+    ends_some c.args.self.now c.args.look_ahead c.args.pieces.now on.state c.search_start.new.self c.read.new.cache
+    c.in-Some.from c.in_ok-next.next c.found_at.result on.stood
+    (named_there on c.bytes_read-at.ensures c.search_start.ensures.value) c.in_ok-next.ensures.read.answer
+    (λ s l.
+    c.found_at.ensures s (subst (λ (t : Rows). Leads t c.in_ok-next.next s) (sym c.end_search.ensures.table) l)
+    ∙ ap₂ (λ at found. half_at s.patterns at found) c.bytes_read-at.ensures c.get_match-2.ensures)
+    law ends lies
 
 pub returns-clause-effect : goal.returns-clause-effect
 returns-clause-effect c =
-    (by_known c).answers c.args.look_ahead c.args.pieces.now c.args.cache.now c.take_answer.new.cache _
-    c.unit_class-class.ensures.unit (sound c) c.take_answer.ensures.effect
+    let on = rw c.in-Some.is at c.in_ok-from.ensures.some in
+    answer_ends on c.bytes_read-at.ensures c.search_start.ensures.value c.in_ok-next.ensures.read
+    c.end_search.ensures.value

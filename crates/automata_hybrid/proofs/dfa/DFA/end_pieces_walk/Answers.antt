@@ -3,11 +3,10 @@ use Rattle.std.specs.Result.{result_err}
 use Rattle.automata_base.specs.Powersets.Powerset.{Powerset}
 use Rattle.automata_base.specs.Retraced.Steps.{successor}
 use Rattle.automata_config.specs.Options.{match_kind_of}
-use Rattle.automata_hybrid.specs.Cache.Table.{Leads, Names, Rows}
-use Rattle.automata_hybrid.specs.Private.Pieces.Progress.{NotBackInStore}
-use Rattle.automata_hybrid.specs.Private.Pieces.Walks.{IsWalkEndRunInStore}
-use Rattle.automata_hybrid.specs.Private.Pieces.Walks.{AsAnswer, NotHeldAtEnd}
-use Rattle.automata_hybrid.proofs.Pieces.Progress.{answer_ends, answer_left}
+use Rattle.automata_hybrid.specs.Cache.Table.{Leads, Rows}
+use Rattle.automata_hybrid.specs.Known.Pieces.{AsForAnswer, CannotHoldEnd, IsWalkEndRun, NotBack}
+use Rattle.automata_hybrid.specs.Known.Stores.{known_of}
+use Rattle.automata_hybrid.proofs.Pieces.Progress.{answer_ends, answer_left, named_there}
 use Rattle.automata_hybrid.proofs.Pieces.Walks.{walk_ends, walk_ends_none}
 use Rattle.automata_hybrid.proofs.Searches.Reads.{at_err}
 use Rattle.automata_hybrid.proofs.dfa.DFA.end_pieces_walk.Goals as goal
@@ -16,58 +15,55 @@ pub returns-in_err-from-clause-effect : goal.returns-in_err-from-clause-effect
 returns-in_err-from-clause-effect c =
     let left = c.in_err-from.ensures.left in
     at_err c.from_residual.result _
-    (λ r. IsWalkEndRunInStore c.args.self.now c.args.look_ahead c.args.pieces.now c.args.cache.now c.resume_pieces.new.cache (result_err r))
-    c.from_residual.ensures.1 (AsAnswer (NotBackInStore left.0 left.1))
+    (λ r. IsWalkEndRun c.args.self.now c.args.look_ahead c.args.pieces.now (known_of c.args.cache.now)
+    (known_of c.resume_pieces.new.cache) (result_err r))
+    c.from_residual.ensures.1 (AsForAnswer (NotBack left.state left.stood left.fails))
 
 pub returns-in_default-clause-ends : goal.returns-in_default-clause-ends
 returns-in_default-clause-ends c =
-    walk_ends_none c.args.self.now c.args.look_ahead c.args.pieces.now (rw c.in_default.is at c.in_ok-from.ensures.none).0
+    walk_ends_none c.args.self.now c.args.look_ahead c.args.pieces.now
+    (rw c.in_default.is at c.in_ok-from.ensures.none).0
 
 pub returns-in_err-next-clause-effect : goal.returns-in_err-next-clause-effect
 returns-in_err-next-clause-effect c =
     let on = rw c.in-Some.is at c.in_ok-from.ensures.some in
-    let named : Names c.search_start.new.self.store.table c.in-Some.from on.0 =
-    subst (λ (t : Rows). Names t c.in-Some.from on.0) (sym c.search_start.ensures.table) on.2 in
     at_err c.from_residual-in_err-next.result _
-    (λ r. IsWalkEndRunInStore c.args.self.now c.args.look_ahead c.args.pieces.now c.args.cache.now c.read.new.cache (result_err r))
+    (λ r. IsWalkEndRun c.args.self.now c.args.look_ahead c.args.pieces.now (known_of c.args.cache.now)
+    (known_of c.read.new.cache) (result_err r))
     c.from_residual-in_err-next.ensures.1
-    (AsAnswer (answer_left c.args.self.now c.args.look_ahead c.args.pieces.now on.0 c.args.cache.now c.resume_pieces.new.cache c.search_start.new.self
-    c.in-Some.from c.bytes_read-at.result on.1 c.bytes_read-at.ensures c.search_start.ensures.value named c.in_err-next.field-0.0 c.read.new.cache
-    c.in_err-next.ensures.read))
+    (AsForAnswer
+    (answer_left on c.bytes_read-at.ensures c.search_start.ensures.value c.in_err-next.ensures.read))
 
 pub end_at-requires-clause-leads : goal.end_at-requires-clause-leads
 end_at-requires-clause-leads c =
     let on = rw c.in-Some.is at c.in_ok-from.ensures.some in
-    let named : Names c.search_start.new.self.store.table c.in-Some.from on.0 =
-    subst (λ (t : Rows). Names t c.in-Some.from on.0) (sym c.search_start.ensures.table) on.2 in
-    let s : Powerset = successor c.args.self.now.nfa (match_kind_of c.args.self.now.config) on.0 c.args.look_ahead in
-    (s, subst (λ (t : Rows). Leads t c.in_ok-next.next s) (sym c.end_search.ensures.table) (c.in_ok-next.ensures.read.answer.named on.0 named))
+    let s : Powerset = successor c.args.self.now.nfa (match_kind_of c.args.self.now.config) on.state
+    c.args.look_ahead in (
+      s,
+      subst (λ (t : Rows). Leads t c.in_ok-next.next s) (sym c.end_search.ensures.table)
+          (c.in_ok-next.ensures.read.answer.named on.state
+          (named_there on c.bytes_read-at.ensures c.search_start.ensures.value)),
+    )
 
 pub returns-in-Ok-clause-ends : goal.returns-in-Ok-clause-ends
 returns-in-Ok-clause-ends c =
     let on = rw c.in-Some.is at c.in_ok-from.ensures.some in
-    let named : Names c.search_start.new.self.store.table c.in-Some.from on.0 =
-    subst (λ (t : Rows). Names t c.in-Some.from on.0) (sym c.search_start.ensures.table) on.2 in
-    walk_ends c.args.self.now c.args.look_ahead c.args.pieces.now on.0 c.search_start.new.self c.read.new.cache
-    c.in-Some.from c.in_ok-next.next c.in-Ok.end on.1.0 named c.in_ok-next.ensures.read.answer
-    (λ s l. c.in-Ok.ensures.patterns s (subst (λ (t : Rows). Leads t c.in_ok-next.next s) (sym c.end_search.ensures.table) l))
+    walk_ends c.args.self.now c.args.look_ahead c.args.pieces.now on.state c.search_start.new.self c.read.new.cache
+    c.in-Some.from c.in_ok-next.next c.in-Ok.end on.stood
+    (named_there on c.bytes_read-at.ensures c.search_start.ensures.value) c.in_ok-next.ensures.read.answer
+    (λ s l. c.in-Ok.ensures.patterns s
+    (subst (λ (t : Rows). Leads t c.in_ok-next.next s) (sym c.end_search.ensures.table) l))
 
 pub returns-in-Ok-clause-effect : goal.returns-in-Ok-clause-effect
 returns-in-Ok-clause-effect c =
     let on = rw c.in-Some.is at c.in_ok-from.ensures.some in
-    let named : Names c.search_start.new.self.store.table c.in-Some.from on.0 =
-    subst (λ (t : Rows). Names t c.in-Some.from on.0) (sym c.search_start.ensures.table) on.2 in
-    answer_ends c.args.self.now c.args.look_ahead c.args.pieces.now on.0 c.args.cache.now c.resume_pieces.new.cache c.search_start.new.self
-    c.in-Some.from c.bytes_read-at.result on.1 c.bytes_read-at.ensures c.search_start.ensures.value named c.in_ok-next.next c.read.new.cache
-    c.end_search.new.self c.in_ok-next.ensures.read c.end_search.ensures.value
+    answer_ends on c.bytes_read-at.ensures c.search_start.ensures.value c.in_ok-next.ensures.read
+    c.end_search.ensures.value
 
 pub returns-in-Err-clause-effect : goal.returns-in-Err-clause-effect
 returns-in-Err-clause-effect c =
     let on = rw c.in-Some.is at c.in_ok-from.ensures.some in
-    let named : Names c.search_start.new.self.store.table c.in-Some.from on.0 =
-    subst (λ (t : Rows). Names t c.in-Some.from on.0) (sym c.search_start.ensures.table) on.2 in
-    NotHeldAtEnd
-    (answer_ends c.args.self.now c.args.look_ahead c.args.pieces.now on.0 c.args.cache.now c.resume_pieces.new.cache c.search_start.new.self
-    c.in-Some.from c.bytes_read-at.result on.1 c.bytes_read-at.ensures c.search_start.ensures.value named c.in_ok-next.next c.read.new.cache
-    c.end_search.new.self c.in_ok-next.ensures.read c.end_search.ensures.value)
+    CannotHoldEnd
+    (answer_ends on c.bytes_read-at.ensures c.search_start.ensures.value c.in_ok-next.ensures.read
+    c.end_search.ensures.value)
     c.in-Err.ensures.error

@@ -4,12 +4,16 @@ use Rattle.automata_base.specs.Powersets.Powerset.{Powerset}
 use Rattle.automata_base.specs.declared.util.search.Direction.TheVariants.{Forward}
 use Rattle.automata_config.specs.declared.error.SearchError.{SearchError}
 use Rattle.automata_hybrid.specs.Cache.Table.{Names}
+use Rattle.automata_hybrid.specs.Known.Known.{begun}
+use Rattle.automata_hybrid.specs.Known.Pieces.{FailsAlong}
+use Rattle.automata_hybrid.specs.Known.Stores.{known_of}
 use Rattle.automata_hybrid.specs.Machines.Machine.{Machine}
 use Rattle.automata_hybrid.specs.Private.Searches.PassState.{IsOnTrace}
+use Rattle.automata_hybrid.specs.Searches.Passes.{given_up_offset}
 use Rattle.automata_hybrid.specs.Searches.PieceRuns.{piece_input, piece_trace}
-use Rattle.automata_hybrid.specs.Private.Searches.PieceRuns.{IsStoppedAlong}
-use Rattle.automata_hybrid.specs.Private.Searches.PieceRuns.{IsEndAlong, StopsAlong}
-use Rattle.automata_hybrid.proofs.Searches.PieceRuns.{names_state, piece_is_trace, state_named, step_error_offset, stopped_from}
+use Rattle.automata_hybrid.specs.Private.Searches.PieceRuns.{IsEndAlong}
+use Rattle.automata_hybrid.proofs.Searches.PieceRuns.{failed_from, fails_offset, names_state, piece_is_trace}
+use Rattle.automata_hybrid.proofs.Searches.PieceRuns.{state_named}
 use Rattle.automata_hybrid.proofs.dfa.DFA.run_piece.Goals as goal
 
 pub run_span-requires : goal.run_span-requires
@@ -17,15 +21,23 @@ run_span-requires c =
     let m : Machine = c.args.self.now in
     let same : c.earliest-own.result ≡ piece_input c.args.piece.now c.args.earliest =
     c.earliest-own.ensures ∙ ap (λ (i : Input). record i { earliest = c.args.earliest }) c.new.ensures in
-    let positive : 0 < c.args.cache.now.store.table.of.stride = subst (λ (d : Machine). 0 < d.stride) (sym c.requires.of) c.see_machine.ensures.machine.template.positive in
+    let positive : 0 < c.args.cache.now.store.table.of.stride =
+    subst (λ (d : Machine). 0 < d.stride) (sym c.requires.of) c.see_machine.ensures.machine.template.positive in
     let q : Powerset = state_named c.args.cache.now.store.table c.args.from in
     let named : Names c.args.cache.now.store.table c.args.from q =
-    subst (λ p. Names c.args.cache.now.store.table c.args.from p) (sym (names_state c.args.cache.now.store.table c.args.from c.requires.valid.0 c.see_bounds.ensures.bounds.rows positive c.requires.valid.1)) c.requires.valid.1 in
-    let on : IsOnTrace (piece_trace m c.args.piece.now c.args.earliest q) Forward m c.args.cache.now.store.table (piece_input c.args.piece.now c.args.earliest) 0 c.args.from =
+    subst (λ p. Names c.args.cache.now.store.table c.args.from p)
+    (sym (names_state c.args.cache.now.store.table c.args.from c.requires.valid.0 c.see_bounds.ensures.bounds.rows
+    positive c.requires.valid.1))
+    c.requires.valid.1 in
+    let on : IsOnTrace (piece_trace m c.args.piece.now c.args.earliest q) Forward m c.args.cache.now.store.table
+    (piece_input c.args.piece.now c.args.earliest) 0 c.args.from =
     record { trace = piece_is_trace m c.args.piece.now c.args.earliest q; named = named } in (
       c.requires.of,
       (
-        subst (λ (i : Input). IsOnTrace (piece_trace m i.haystack i.earliest q) Forward m c.args.cache.now.store.table i 0 c.args.from) (sym same) on,
+        subst
+            (λ (i : Input). IsOnTrace (piece_trace m i.haystack i.earliest q) Forward m c.args.cache.now.store.table i
+            0 c.args.from)
+            (sym same) on,
         subst (λ (i : Input). i.start ≤ i.end) (sym same) (omega arith),
       ),
     )
@@ -35,35 +47,58 @@ returns-in-Ok-clause-end c = λ q named.
     let m : Machine = c.args.self.now in
     let same : c.earliest-own.result ≡ piece_input c.args.piece.now c.args.earliest =
     c.earliest-own.ensures ∙ ap (λ (i : Input). record i { earliest = c.args.earliest }) c.new.ensures in
-    let positive : 0 < c.args.cache.now.store.table.of.stride = subst (λ (d : Machine). 0 < d.stride) (sym c.requires.of) c.see_machine.ensures.machine.template.positive in
-    subst (λ p. IsEndAlong (piece_trace m c.args.piece.now c.args.earliest p) Forward m (piece_input c.args.piece.now c.args.earliest) c.args.cache.now c.run_span.new.cache c.in-Ok.end)
+    let positive : 0 < c.args.cache.now.store.table.of.stride =
+    subst (λ (d : Machine). 0 < d.stride) (sym c.requires.of) c.see_machine.ensures.machine.template.positive in
+    subst
+    (λ p. IsEndAlong (piece_trace m c.args.piece.now c.args.earliest p) m (piece_input c.args.piece.now c.args.earliest)
+    (begun 0 (known_of c.args.cache.now)) c.run_span.new.cache c.in-Ok.end)
     (names_state c.args.cache.now.store.table c.args.from q c.see_bounds.ensures.bounds.rows positive named)
-    (subst (λ (i : Input). IsEndAlong (piece_trace m i.haystack i.earliest (state_named c.args.cache.now.store.table c.args.from)) Forward m i c.args.cache.now c.run_span.new.cache c.in-Ok.end) same
-    c.in-Ok.ensures.end)
+    (subst
+    (λ (i : Input). IsEndAlong (piece_trace m i.haystack i.earliest (state_named c.args.cache.now.store.table
+    c.args.from)) m i (begun (given_up_offset Forward i 0) (known_of c.args.cache.now)) c.run_span.new.cache
+    c.in-Ok.end)
+    same c.in-Ok.ensures.end)
 
 pub error_from-requires : goal.error_from-requires
 error_from-requires c =
     let m : Machine = c.args.self.now in
     let same : c.earliest-own.result ≡ piece_input c.args.piece.now c.args.earliest =
     c.earliest-own.ensures ∙ ap (λ (i : Input). record i { earliest = c.args.earliest }) c.new.ensures in
-    let stops : StopsAlong (piece_trace m c.args.piece.now c.args.earliest (state_named c.args.cache.now.store.table c.args.from)) Forward m (piece_input c.args.piece.now c.args.earliest) c.args.cache.now c.run_span.new.cache c.in-Err.error =
-    subst (λ (i : Input). StopsAlong (piece_trace m i.haystack i.earliest (state_named c.args.cache.now.store.table c.args.from)) Forward m i c.args.cache.now c.run_span.new.cache c.in-Err.error) same c.in-Err.ensures.left in
-    step_error_offset m c.run_span.new.cache.store _ _ (0 + stops.0) c.in-Err.error (λ at. c.args.base + at < 2 ^ 64) (omega (arith, c.requires.room, stops.1.reads.0)) stops.1.refused
+    let fails : FailsAlong (piece_trace m c.args.piece.now c.args.earliest (state_named c.args.cache.now.store.table
+    c.args.from)) m (piece_input c.args.piece.now c.args.earliest) 0 (begun 0 (known_of c.args.cache.now))
+    (known_of c.run_span.new.cache) c.in-Err.error =
+    subst
+    (λ (i : Input). FailsAlong (piece_trace m i.haystack i.earliest (state_named c.args.cache.now.store.table
+    c.args.from)) m i i.start (begun (given_up_offset Forward i 0) (known_of c.args.cache.now))
+    (known_of c.run_span.new.cache) c.in-Err.error)
+    same c.in-Err.ensures.left in
+    fails_offset m _ _ (0 + fails.place) _ fails.mid (known_of c.run_span.new.cache) c.in-Err.error
+    (λ at. c.args.base + at < 2 ^ 64) (omega (arith, c.requires.room, fails.reads.0)) fails.fails
 
 pub returns-in-Err-clause-left : goal.returns-in-Err-clause-left
 returns-in-Err-clause-left c = λ q named.
     let m : Machine = c.args.self.now in
     let same : c.earliest-own.result ≡ piece_input c.args.piece.now c.args.earliest =
     c.earliest-own.ensures ∙ ap (λ (i : Input). record i { earliest = c.args.earliest }) c.new.ensures in
-    let positive : 0 < c.args.cache.now.store.table.of.stride = subst (λ (d : Machine). 0 < d.stride) (sym c.requires.of) c.see_machine.ensures.machine.template.positive in
-    let stops : StopsAlong (piece_trace m c.args.piece.now c.args.earliest q) Forward m (piece_input c.args.piece.now c.args.earliest) c.args.cache.now c.run_span.new.cache c.in-Err.error =
-    subst (λ p. StopsAlong (piece_trace m c.args.piece.now c.args.earliest p) Forward m (piece_input c.args.piece.now c.args.earliest) c.args.cache.now c.run_span.new.cache c.in-Err.error)
+    let positive : 0 < c.args.cache.now.store.table.of.stride =
+    subst (λ (d : Machine). 0 < d.stride) (sym c.requires.of) c.see_machine.ensures.machine.template.positive in
+    let fails : FailsAlong (piece_trace m c.args.piece.now c.args.earliest q) m
+    (piece_input c.args.piece.now c.args.earliest) 0 (begun 0 (known_of c.args.cache.now))
+    (known_of c.run_span.new.cache) c.in-Err.error =
+    subst
+    (λ p. FailsAlong (piece_trace m c.args.piece.now c.args.earliest p) m
+    (piece_input c.args.piece.now c.args.earliest) 0 (begun 0 (known_of c.args.cache.now))
+    (known_of c.run_span.new.cache) c.in-Err.error)
     (names_state c.args.cache.now.store.table c.args.from q c.see_bounds.ensures.bounds.rows positive named)
-    (subst (λ (i : Input). StopsAlong (piece_trace m i.haystack i.earliest (state_named c.args.cache.now.store.table c.args.from)) Forward m i c.args.cache.now c.run_span.new.cache c.in-Err.error) same
-    c.in-Err.ensures.left) in
-    let here : 0 + stops.0 ≡ stops.0 = omega arith in (
-      stops.0,
-      subst (λ (e : SearchError). IsStoppedAlong (piece_trace m c.args.piece.now c.args.earliest q) Forward m (piece_input c.args.piece.now c.args.earliest) stops.0 (c.args.base + stops.0) c.args.cache.now c.run_span.new.cache e)
-          (sym c.error_from.ensures)
-          (stopped_from c.args.base (subst (λ at. IsStoppedAlong (piece_trace m c.args.piece.now c.args.earliest q) Forward m (piece_input c.args.piece.now c.args.earliest) stops.0 at c.args.cache.now c.run_span.new.cache c.in-Err.error) here stops.1)),
-    )
+    (subst
+    (λ (i : Input). FailsAlong (piece_trace m i.haystack i.earliest (state_named c.args.cache.now.store.table
+    c.args.from)) m i i.start (begun (given_up_offset Forward i 0) (known_of c.args.cache.now))
+    (known_of c.run_span.new.cache) c.in-Err.error)
+    same c.in-Err.ensures.left) in
+    subst
+    (λ (e : SearchError). FailsAlong (piece_trace m c.args.piece.now c.args.earliest q) m
+    (piece_input c.args.piece.now c.args.earliest) c.args.base (begun 0 (known_of c.args.cache.now))
+    (known_of c.run_span.new.cache) e)
+    (sym c.error_from.ensures)
+    (failed_from (piece_trace m c.args.piece.now c.args.earliest q) m (piece_input c.args.piece.now c.args.earliest)
+    c.args.base (begun 0 (known_of c.args.cache.now)) (known_of c.run_span.new.cache) c.in-Err.error fails)

@@ -3,7 +3,9 @@ use Rattle.automata_base.specs.declared.util.search.Direction.TheVariants.{Forwa
 use Rattle.automata_hybrid.specs.Cache.Caches.{IsCacheOf}
 use Rattle.automata_hybrid.specs.Searches.PassState.{IsAtAlong}
 use Rattle.automata_hybrid.specs.Private.Searches.PassState.{IsNextCell}
-use Rattle.automata_hybrid.specs.Private.Searches.Progress.{with_search_begun}
+use Rattle.automata_hybrid.specs.Known.Known.{begun}
+use Rattle.automata_hybrid.specs.Known.Stores.{known_of}
+use Rattle.automata_hybrid.specs.Searches.Passes.{given_up_offset}
 use Rattle.automata_hybrid.proofs.Searches.Goes.{GoesToAlong}
 use Rattle.automata_hybrid.proofs.dfa.DFA.run_span.Given as goal
 
@@ -25,7 +27,9 @@ invariant-loop-run g l = record {
   read :
       l.run.at < l.input.end - l.input.start
       → IsNextCell Forward l.self l.cache.store l.input l.run.at l.run.id l.run.next;
-  progress : GoesToAlong g.trace Forward l.self l.input 0 l.run.at (with_search_begun Forward l.input 0 l.fn.cache) l.cache;
+  progress :
+      GoesToAlong g.trace Forward l.self l.input 0 l.run.at
+      (begun (given_up_offset Forward l.input 0) (known_of l.fn.cache)) (known_of l.cache);
 }
 
 abbrev pub decreases-loop-run : goal.decreases-loop-run
