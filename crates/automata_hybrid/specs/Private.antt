@@ -5,4 +5,3 @@ pub mod Pieces
 pub mod Searches
 pub mod Steps
 pub mod Walks
-pub mod Calls

@@ -7,5 +7,3 @@ pub mod SelfLoops
 pub mod Traces
 pub mod Units
 pub mod Cached
-pub mod Passes
-pub mod Progress

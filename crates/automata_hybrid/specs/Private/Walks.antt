@@ -2,4 +2,3 @@ pub mod Answers
 pub mod Contracts
 pub mod Parts
 pub mod State
-pub mod Progress

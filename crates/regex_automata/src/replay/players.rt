@@ -20,7 +20,7 @@ use std::alloc::{AllocError, Global};
 pub struct Player<'r, 'h> {
     alloc: Global,
     regexes: &'r [Regex],
-    regex: &'r Regex,
+    pub(super) regex: &'r Regex,
     current: usize,
     pub(super) cache: Cache,
     walks: Vec<KeptWalk<'h>>,
