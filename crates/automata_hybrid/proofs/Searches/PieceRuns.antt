@@ -16,8 +16,7 @@ use Rattle.automata_hybrid.specs.Cache.Stores.{with_searched}
 use Rattle.automata_hybrid.specs.Cache.Table.{RowsFitCells, Leads, Names, Rows}
 use Rattle.automata_hybrid.specs.Calls.Events.{Step}
 use Rattle.automata_hybrid.specs.Known.Known.{Known, ended, moved}
-use Rattle.automata_hybrid.specs.Known.Passes.{CannotStep, EventFails, FailsFor, GivesUp, LacksMemory, MeetsQuit}
-use Rattle.automata_hybrid.specs.Known.Passes.{ReadFails, after_many}
+use Rattle.automata_hybrid.specs.Known.Passes.{CannotStep, FailsFor, GivesUp, LacksMemory, MeetsQuit, ReadFails}
 use Rattle.automata_hybrid.specs.Known.Pieces.{AnswerStands, DiesThere, FailsAlong, FindsThere, ReadsUptoAlong}
 use Rattle.automata_hybrid.specs.Known.Stores.{known_of}
 use Rattle.automata_hybrid.specs.Machines.Machine.{Machine}
