@@ -16,7 +16,8 @@ use Rattle.automata_hybrid.specs.Cache.Ids.{dead_id}
 use Rattle.automata_hybrid.specs.Machines.Machine.{Machine}
 use Rattle.automata_hybrid.specs.Cache.Table.{Leads, Names, Rows, id_of}
 use Rattle.automata_hybrid.specs.Private.Cache.Table.{with_row}
-use Rattle.automata_hybrid.specs.Cache.Clears.{AllStarts, row_of, IsSlot, LeadsToStart}
+use Rattle.automata_hybrid.specs.Private.Cache.Clears.{AllStarts, IsSlot, LeadsToStart}
+use Rattle.automata_hybrid.specs.Cache.Clears.{row_of}
 use Rattle.automata_hybrid.specs.Private.Cache.Clears.{with_row_once, Kept, keep_found}
 use Rattle.automata_hybrid.specs.Private.Cache.Clears.{KeepsSlot}
 use Rattle.automata_hybrid.specs.Private.Cache.Clears.{keep_slot, keep_slots}

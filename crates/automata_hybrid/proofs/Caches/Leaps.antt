@@ -15,9 +15,10 @@ use Rattle.automata_hybrid.specs.Private.Cache.Leaps.{AreCacheParts, AreLeaps, A
 use Rattle.automata_hybrid.specs.Private.Cache.Leaps.{ReachesRow, leaps_bytes, mark}
 use Rattle.automata_hybrid.specs.Cache.Stores.{Stored}
 use Rattle.automata_hybrid.specs.Private.Cache.Stores.{with_next, with_start_in_store}
-use Rattle.automata_hybrid.specs.Cache.Clears.{AllStarts, IsSlot, LeadsToStart}
+use Rattle.automata_hybrid.specs.Private.Cache.Clears.{AllStarts, IsSlot, LeadsToStart}
 use Rattle.automata_base.proofs.Paths.Orders.{some_inj}
-use Rattle.automata_hybrid.specs.Cache.Table.{RowsFitCells, Rows, cell_at, row_cost}
+use Rattle.automata_hybrid.specs.Private.Cache.Table.{RowsFitCells}
+use Rattle.automata_hybrid.specs.Cache.Table.{Rows, cell_at, row_cost}
 use Rattle.automata_hybrid.specs.Private.Cache.Table.{with_cell}
 use Rattle.automata_hybrid.specs.Private.Cache.Usage.{usage_in_store}
 use Rattle.automata_hybrid.specs.Private.Cache.Usage.{IsCache}

@@ -15,9 +15,11 @@ use Rattle.automata_hybrid.specs.Cache.Ids.{tags}
 use Rattle.automata_hybrid.specs.Private.Cache.Ids.{HasOnly}
 use Rattle.std.specs.List.{sum_by}
 use Rattle.std.proofs.lemmas.List.Sums.{sum_by-cons}
-use Rattle.automata_hybrid.specs.Cache.Table.{CellLeads, CellQuits, CellUnknown}
-use Rattle.automata_hybrid.specs.Cache.Table.{Rows, has_patterns, find_id, Names, IsRowId, IsCell, row_id, LeadsByClass}
-use Rattle.automata_hybrid.specs.Cache.Table.{cell_at, RowsFitCells, IsStepped}
+use Rattle.automata_hybrid.specs.Private.Cache.Table.{CellLeads, CellQuits, CellUnknown}
+use Rattle.automata_hybrid.specs.Cache.Table.{Rows, has_patterns, find_id, Names, IsRowId, row_id}
+use Rattle.automata_hybrid.specs.Private.Cache.Table.{IsCell, LeadsByClass}
+use Rattle.automata_hybrid.specs.Cache.Table.{cell_at}
+use Rattle.automata_hybrid.specs.Private.Cache.Table.{RowsFitCells, IsStepped}
 use Rattle.automata_hybrid.specs.Private.Cache.Table.{with_cell}
 use Rattle.automata_hybrid.specs.Private.Cache.Table.{HasState}
 use Rattle.automata_hybrid.specs.Cache.Table.{row_cost}

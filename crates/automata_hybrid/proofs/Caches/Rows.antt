@@ -15,10 +15,12 @@ use Rattle.automata_hybrid.specs.declared.cache.row.Row.{Row}
 use Rattle.automata_base.specs.Powersets.Powerset.{dead}
 use Rattle.automata_hybrid.specs.Cache.Ids.{quit_id}
 use Rattle.automata_hybrid.specs.Private.Machines.Machine.{IsTemplate}
-use Rattle.automata_hybrid.specs.Cache.Table.{CellLeads, CellQuits, CellUnknown}
-use Rattle.automata_hybrid.specs.Cache.Table.{Rows, find_id, id_of, Names, Leads, IsCell, row_id, row_cost}
+use Rattle.automata_hybrid.specs.Private.Cache.Table.{CellLeads, CellQuits, CellUnknown}
+use Rattle.automata_hybrid.specs.Cache.Table.{Rows, find_id, id_of, Names, Leads, row_id, row_cost}
+use Rattle.automata_hybrid.specs.Private.Cache.Table.{IsCell}
 use Rattle.automata_hybrid.specs.Private.Cache.Table.{with_row}
-use Rattle.automata_hybrid.specs.Cache.Table.{RowsFitCells, IsRowState, IsStepped}
+use Rattle.automata_hybrid.specs.Private.Cache.Table.{RowsFitCells, IsStepped}
+use Rattle.automata_hybrid.specs.Cache.Table.{IsRowState}
 use Rattle.automata_hybrid.specs.Private.Cache.Table.{IsHeld, StateMap}
 
 -- a state that rows have keeps its ID when more come

@@ -14,7 +14,7 @@ use Rattle.automata_hybrid.specs.declared.cache.settings.Settings.{Settings}
 use Rattle.automata_hybrid.specs.declared.cache.progress.Searched.{Searched}
 use Rattle.automata_hybrid.specs.Cache.Table.{Rows, Leads, Names, row_cost, fixed_rows}
 use Rattle.automata_hybrid.specs.Private.Cache.Table.{with_row}
-use Rattle.automata_hybrid.specs.Cache.Clears.{AllStarts}
+use Rattle.automata_hybrid.specs.Private.Cache.Clears.{AllStarts}
 use Rattle.automata_hybrid.specs.Cache.Stores.{Stored, fresh_store}
 use Rattle.automata_hybrid.specs.Private.Cache.Stores.{with_table}
 use Rattle.automata_hybrid.specs.Private.Cache.Stores.{cache_settings}

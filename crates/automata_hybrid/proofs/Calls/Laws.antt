@@ -1,5 +1,5 @@
 -- What follows from the events of a call: how often it determinizes, how the cache grows, and what is cached after it.
-use Rattle.automata_hybrid.specs.Cache.Caches.{IsStoreOf}
+use Rattle.automata_hybrid.specs.Private.Cache.Caches.{IsStoreOf}
 use Rattle.automata_hybrid.specs.Cache.Stores.{Stored, with_searched}
 use Rattle.automata_hybrid.specs.declared.cache.progress.Searched.{Searched}
 use Rattle.automata_hybrid.specs.Machines.Machine.{Machine}

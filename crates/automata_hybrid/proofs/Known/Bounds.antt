@@ -13,7 +13,8 @@ use Rattle.automata_base.specs.Retraced.Steps.{start_state_of, successor}
 use Rattle.automata_config.specs.Options.{match_kind_of}
 use Rattle.automata_hybrid.specs.Cache.Table.{row_cost}
 use Rattle.automata_hybrid.specs.Calls.Events.{Event, Start, Step}
-use Rattle.automata_hybrid.specs.Cache.Caches.{CacheView, IsStoreOf}
+use Rattle.automata_hybrid.specs.Cache.Caches.{CacheView}
+use Rattle.automata_hybrid.specs.Private.Cache.Caches.{IsStoreOf}
 use Rattle.automata_hybrid.specs.Known.Bounds.{IsKnown}
 use Rattle.automata_hybrid.specs.Known.Events.{usage}
 use Rattle.automata_hybrid.specs.Known.Known.{Known, counted, keep_row, keep_start, row_in, rows_of_starts, with_row}

@@ -12,7 +12,8 @@ use Rattle.automata_base.specs.Retraced.Steps.{successor}
 use Rattle.automata_base.proofs.Paths.Orders.{none_some}
 use Rattle.automata_config.specs.Options.{match_kind_of}
 use Rattle.automata_hybrid.specs.declared.cache.row.Row.{Row}
-use Rattle.automata_hybrid.specs.Cache.Caches.{CacheView, IsStoreOf}
+use Rattle.automata_hybrid.specs.Cache.Caches.{CacheView}
+use Rattle.automata_hybrid.specs.Private.Cache.Caches.{IsStoreOf}
 use Rattle.automata_hybrid.specs.Cache.Ids.{unknown_id}
 use Rattle.automata_hybrid.specs.Cache.Stores.{Stored}
 use Rattle.automata_hybrid.specs.Cache.Table.{Rows, cell_at, id_of}

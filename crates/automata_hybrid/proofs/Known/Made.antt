@@ -5,7 +5,7 @@ use Rattle.std.specs.Prelude.{map, option_map, slice_set}
 use Rattle.std.proofs.lemmas.List.{map-set}
 use Rattle.automata_base.specs.Powersets.Powerset.{Powerset}
 use Rattle.automata_hybrid.specs.declared.cache.row.Row.{Row}
-use Rattle.automata_hybrid.specs.Cache.Caches.{IsStoreOf}
+use Rattle.automata_hybrid.specs.Private.Cache.Caches.{IsStoreOf}
 use Rattle.automata_hybrid.specs.Private.Cache.Changes.{ClearsFirst, IsComputed, IsStarted, IsStateAdded, JustGrows}
 use Rattle.automata_hybrid.specs.Private.Cache.Changes.{StartsAdded, StartsKnown, WritesAdded}
 use Rattle.automata_hybrid.specs.Private.Cache.Changes.{grown, put_found}

@@ -9,7 +9,7 @@ use Rattle.automata_base.specs.Powersets.Accounting.{cell_size, entry_size, fixe
 use Rattle.automata_base.specs.Powersets.Powerset.{Powerset, cost, dead}
 use Rattle.automata_base.specs.Powersets.Equal.{powerset_eq, powerset_eq-Decides}
 use Rattle.automata_config.specs.Options.{minimum_cache_clear_count_of}
-use Rattle.automata_hybrid.specs.Cache.Caches.{IsStoreOf}
+use Rattle.automata_hybrid.specs.Private.Cache.Caches.{IsStoreOf}
 use Rattle.automata_hybrid.specs.Cache.Ids.{offset_limit}
 use Rattle.automata_hybrid.specs.Cache.Stores.{Stored}
 use Rattle.automata_hybrid.specs.Cache.Table.{Leads, id_of, row_cost}

@@ -10,7 +10,8 @@ use Rattle.automata_base.specs.Powersets.Equal.{powerset_eq, powerset_eq-Decides
 use Rattle.automata_base.proofs.Paths.Orders.{some_inj}
 use Rattle.automata_hybrid.specs.declared.cache.row.Row.{Row}
 use Rattle.automata_hybrid.specs.Cache.Clears.{row_of}
-use Rattle.automata_hybrid.specs.Cache.Table.{HasRowIds, Names, Rows, RowsFitCells, cell_at, find_id, has_patterns}
+use Rattle.automata_hybrid.specs.Private.Cache.Table.{HasRowIds, RowsFitCells}
+use Rattle.automata_hybrid.specs.Cache.Table.{Names, Rows, cell_at, find_id, has_patterns}
 use Rattle.automata_hybrid.specs.Cache.Table.{row_id}
 use Rattle.automata_hybrid.specs.Private.Cache.Table.{with_cell, with_row}
 use Rattle.automata_hybrid.specs.Known.Known.{row_in}

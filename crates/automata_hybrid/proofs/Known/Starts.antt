@@ -10,11 +10,12 @@ use Rattle.std.proofs.lemmas.List.{get_or_append_left, get_or-append-add, length
 use Rattle.automata_base.specs.Powersets.Powerset.{Powerset, dead}
 use Rattle.automata_hybrid.specs.declared.cache.row.Row.{Row}
 use Rattle.automata_hybrid.specs.Cache.Ids.{dead_id, quit_id, unknown_id}
-use Rattle.automata_hybrid.specs.Cache.Clears.{AllStarts, IsSlot}
+use Rattle.automata_hybrid.specs.Private.Cache.Clears.{AllStarts, IsSlot}
 use Rattle.automata_hybrid.specs.Private.Cache.Clears.{Kept, keep_found, keep_slot, keep_slots, kept}
 use Rattle.automata_hybrid.specs.Cache.Clears.{row_of}
 use Rattle.automata_hybrid.specs.Private.Cache.Clears.{with_row_once}
-use Rattle.automata_hybrid.specs.Cache.Table.{Names, Rows, RowsFitCells, fresh, id_of, row_id}
+use Rattle.automata_hybrid.specs.Cache.Table.{Names, Rows, fresh, id_of, row_id}
+use Rattle.automata_hybrid.specs.Private.Cache.Table.{RowsFitCells}
 use Rattle.automata_hybrid.specs.Private.Cache.Table.{with_row}
 use Rattle.automata_hybrid.specs.Known.Known.{keep_row, keep_start, row_in, rows_of_starts}
 use Rattle.automata_hybrid.specs.Known.Stores.{start_named}

@@ -6,7 +6,8 @@ use Rattle.automata_base.specs.Powersets.Powerset.{Powerset}
 use Rattle.automata_config.specs.declared.error.StepError.{StepError}
 use Rattle.automata_config.specs.declared.error.StepError.TheVariants as step
 use Rattle.automata_hybrid.specs.declared.cache.row.Row.{Row}
-use Rattle.automata_hybrid.specs.Cache.Caches.{CacheView, IsStoreOf}
+use Rattle.automata_hybrid.specs.Cache.Caches.{CacheView}
+use Rattle.automata_hybrid.specs.Private.Cache.Caches.{IsStoreOf}
 use Rattle.automata_hybrid.specs.Cache.Stores.{Stored}
 use Rattle.automata_hybrid.specs.Cache.Table.{Names, id_of}
 use Rattle.automata_hybrid.specs.Known.Events.{with_new_row}

@@ -6,7 +6,7 @@ use Rattle.automata_base.specs.Answers.Answers.{Half}
 use Rattle.automata_base.specs.Haystacks.Matches.{HalfMatch}
 use Rattle.automata_config.specs.declared.error.SearchError.{SearchError}
 use Rattle.automata_hybrid.specs.Cache.Stores.{Stored}
-use Rattle.automata_hybrid.specs.Cache.Caches.{IsStoreOf}
+use Rattle.automata_hybrid.specs.Private.Cache.Caches.{IsStoreOf}
 use Rattle.automata_hybrid.specs.Machines.Machine.{Machine}
 use Rattle.automata_hybrid.specs.Searches.Contracts.{based_half}
 use Rattle.automata_hybrid.specs.Private.Searches.Contracts.{halves}

@@ -11,7 +11,8 @@ use Rattle.automata_base.specs.Powersets.Powerset.{Powerset}
 use Rattle.automata_base.specs.declared.util.search.Direction.{Direction}
 use Rattle.automata_config.specs.declared.error.SearchError.{SearchError}
 use Rattle.automata_config.specs.declared.error.StartError.{StartError}
-use Rattle.automata_hybrid.specs.Cache.Caches.{CacheView, IsStoreOf, with_store}
+use Rattle.automata_hybrid.specs.Cache.Caches.{CacheView, with_store}
+use Rattle.automata_hybrid.specs.Private.Cache.Caches.{IsStoreOf}
 use Rattle.automata_hybrid.specs.Cache.Progress.{progress_finished, progress_started}
 use Rattle.automata_hybrid.specs.Cache.Stores.{with_searched}
 use Rattle.automata_hybrid.specs.Cache.Table.{Names}

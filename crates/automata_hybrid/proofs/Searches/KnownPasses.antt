@@ -9,9 +9,11 @@ use Rattle.automata_base.specs.Answers.Answers.{offset_in}
 use Rattle.automata_base.specs.Paths.Paths.{next}
 use Rattle.automata_base.specs.Powersets.Passes.{IsUnit}
 use Rattle.automata_base.specs.Powersets.Powerset.{Powerset, dead}
-use Rattle.automata_hybrid.specs.Cache.Caches.{CacheView, IsCacheOf, IsStoreOf, with_store}
+use Rattle.automata_hybrid.specs.Cache.Caches.{CacheView, IsCacheOf, with_store}
+use Rattle.automata_hybrid.specs.Private.Cache.Caches.{IsStoreOf}
 use Rattle.automata_hybrid.specs.Cache.Progress.{distance, progress_started, saturated, total_len}
-use Rattle.automata_hybrid.specs.Cache.Stores.{IsSoundStore, with_searched}
+use Rattle.automata_hybrid.specs.Private.Cache.Stores.{IsSoundStore}
+use Rattle.automata_hybrid.specs.Cache.Stores.{with_searched}
 use Rattle.automata_hybrid.specs.Cache.Ids.{HasDeadTag, HasQuitTag, quit_id}
 use Rattle.automata_hybrid.specs.Cache.Table.{Leads, Rows}
 use Rattle.automata_hybrid.specs.Known.Known as known

@@ -15,8 +15,9 @@ use Rattle.automata_hybrid.specs.Cache.Ids.{quit_id, tags, unknown_id}
 use Rattle.automata_hybrid.specs.Private.Cache.Ids.{HasOnly}
 use Rattle.automata_hybrid.specs.Private.Cache.Leaps.{AreLeaps, LeadsToRow, LeapsTo, ReachesRow, mark}
 use Rattle.automata_hybrid.specs.Cache.Stores.{Stored, cell_of}
-use Rattle.automata_hybrid.specs.Cache.Table.{CellLeads, CellQuits, CellUnknown}
-use Rattle.automata_hybrid.specs.Cache.Table.{RowsFitCells, IsCell, Leads, Names, Rows, has_patterns, id_of, row_id}
+use Rattle.automata_hybrid.specs.Private.Cache.Table.{CellLeads, CellQuits, CellUnknown}
+use Rattle.automata_hybrid.specs.Private.Cache.Table.{RowsFitCells, IsCell}
+use Rattle.automata_hybrid.specs.Cache.Table.{Leads, Names, Rows, has_patterns, id_of, row_id}
 use Rattle.automata_hybrid.specs.Private.Cache.Table.{HasState}
 use Rattle.automata_hybrid.specs.Machines.Machine.{Machine}
 use Rattle.automata_hybrid.specs.Private.Machines.Machine.{IsMachine}

@@ -13,7 +13,8 @@ use Rattle.automata_config.specs.declared.error.SearchError.{SearchError}
 use Rattle.automata_hybrid.specs.Cache.Caches.{CacheView, with_store}
 use Rattle.automata_hybrid.specs.Cache.Progress.{progress_finished}
 use Rattle.automata_hybrid.specs.Cache.Stores.{with_searched}
-use Rattle.automata_hybrid.specs.Cache.Table.{RowsFitCells, Leads, Names, Rows}
+use Rattle.automata_hybrid.specs.Private.Cache.Table.{RowsFitCells}
+use Rattle.automata_hybrid.specs.Cache.Table.{Leads, Names, Rows}
 use Rattle.automata_hybrid.specs.Calls.Events.{Step}
 use Rattle.automata_hybrid.specs.Known.Known.{Known, ended, moved}
 use Rattle.automata_hybrid.specs.Known.Passes.{CannotStep, FailsFor, GivesUp, LacksMemory, MeetsQuit, ReadFails}

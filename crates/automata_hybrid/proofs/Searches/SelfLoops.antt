@@ -20,7 +20,8 @@ use Rattle.automata_hybrid.specs.Private.Searches.PassState.{IsFollowedAlong, Is
 use Rattle.automata_hybrid.specs.Searches.Passes.{tape_in}
 use Rattle.automata_hybrid.specs.Searches.Traces.{Trace}
 use Rattle.automata_hybrid.specs.Cache.Stores.{Stored, cell_of}
-use Rattle.automata_hybrid.specs.Cache.Table.{CellLeads, CellQuits, CellUnknown, IsCell, IsRowId, Leads, Names}
+use Rattle.automata_hybrid.specs.Private.Cache.Table.{CellLeads, CellQuits, CellUnknown, IsCell}
+use Rattle.automata_hybrid.specs.Cache.Table.{IsRowId, Leads, Names}
 use Rattle.automata_hybrid.specs.declared.cache.self_loops.LoopRange.{LoopRange}
 use Rattle.automata_hybrid.specs.declared.cache.self_loops.KnownLoop.{KnownLoop}
 use Rattle.automata_hybrid.proofs.Searches.Runs.{followed_none, followed_on, followed_one}

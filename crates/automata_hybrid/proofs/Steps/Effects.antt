@@ -5,7 +5,8 @@ use Rattle.std.proofs.Common.{⊎_elim, ◌⊎◌}
 use Rattle.std.proofs.lemmas.List.{get_or-set_same}
 use Rattle.automata_base.specs.Powersets.Powerset.{Powerset}
 use Rattle.automata_hybrid.specs.declared.cache.row.Row.{Row}
-use Rattle.automata_hybrid.specs.Cache.Table.{id_of, Rows, Names, HasCells, cell_at}
+use Rattle.automata_hybrid.specs.Cache.Table.{id_of, Rows, Names, cell_at}
+use Rattle.automata_hybrid.specs.Private.Cache.Table.{HasCells}
 use Rattle.automata_hybrid.specs.Private.Cache.Table.{with_row}
 use Rattle.automata_hybrid.specs.Private.Cache.Table.{IsKnownState}
 use Rattle.automata_hybrid.specs.Cache.Stores.{Stored, cell_of}

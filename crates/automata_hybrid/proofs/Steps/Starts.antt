@@ -1,6 +1,6 @@
 -- Starts: what a call answers and changes, from what its parts do.
 use Rattle.automata_hybrid.specs.Machines.StartSlots.{slot_behind, supports}
-use Rattle.automata_hybrid.specs.Cache.Clears.{IsSlot, LeadsToStart}
+use Rattle.automata_hybrid.specs.Private.Cache.Clears.{IsSlot, LeadsToStart}
 use Rattle.std.proofs.Common.{ℕ, ◌≡◌, ◌+◌, ◌^◌, ◌<◌, ◌≤◌, ◌⊎◌, List, length, get_or, set, Bool, Option, None, Some, true, false}
 use Rattle.std.proofs.Common.{refl, sym, ap, ◌∙◌, subst, arith, inl, inr}
 use Rattle.std.proofs.lemmas.List.{get_or-set_other}

@@ -22,8 +22,9 @@ use Rattle.automata_hybrid.specs.Steps.Steps.{IsStepAnswer, known_step}
 use Rattle.automata_hybrid.specs.Private.Steps.Steps.{KnowsStep}
 use Rattle.automata_hybrid.specs.Private.Steps.Steps.{IsCellRead}
 use Rattle.automata_hybrid.specs.Machines.Machine.{quits_on, unit_class}
-use Rattle.automata_hybrid.specs.Cache.Table.{CellLeads, CellQuits, CellUnknown}
-use Rattle.automata_hybrid.specs.Cache.Table.{HasCells, HasItsMatchTag, IsCell, IsRowId, Leads, LeadsByClass}
+use Rattle.automata_hybrid.specs.Private.Cache.Table.{CellLeads, CellQuits, CellUnknown}
+use Rattle.automata_hybrid.specs.Private.Cache.Table.{HasCells, IsCell, LeadsByClass}
+use Rattle.automata_hybrid.specs.Cache.Table.{HasItsMatchTag, IsRowId, Leads}
 use Rattle.automata_hybrid.specs.Private.Cache.Table.{Lacks}
 use Rattle.automata_hybrid.specs.Cache.Table.{Names, Rows}
 use Rattle.automata_hybrid.proofs.Steps.Effects.{cached-computed, one_id}

@@ -1,12 +1,11 @@
 -- What contracts see of a cache, its starts and its transitions, and how one of these is written.
-use Rattle.std.specs.Prelude.{ℕ, ◌≡◌, ◌^◌, ◌<◌, ◌≤◌, List, None, length, slice_index, replicate}
+use Rattle.std.specs.Prelude.{ℕ, List, None, slice_index, replicate}
 use Rattle.automata_hybrid.specs.declared.cache.progress.Searched.{Searched}
 use Rattle.automata_config.specs.declared.error.StepError.{StepError}
 use Rattle.automata_config.specs.declared.error.StepError.TheVariants.{Cache, OutOfMemory}
 use Rattle.automata_hybrid.specs.Cache.Ids.{unknown_id}
 use Rattle.automata_hybrid.specs.Machines.Machine.{Machine}
-use Rattle.automata_hybrid.specs.Cache.Table.{Rows, cell_at, fresh, HasCells, HasItsMatchTag, HasLowIds}
-use Rattle.automata_hybrid.specs.Cache.Table.{HasNoDeadRow, HasOwnStates, HasRowIds}
+use Rattle.automata_hybrid.specs.Cache.Table.{Rows, cell_at, fresh}
 
 -- what contracts see of a cache
 pub record Stored : Type 0 where
@@ -40,26 +39,3 @@ fresh_store m = record {
 -- with another progress
 abbrev pub with_searched : Stored → Searched → Stored
 with_searched c s = record { table = c.table; starts = c.starts; clears = c.clears; searched = s }
-
--- what is true of each cache
-pub record IsSoundStore (c : Stored) : Type 0 where
-  -- A row has at most 512 cells.
-  pub small : c.table.of.stride ≤ 512
-  -- A new row has as many cells as each row.
-  pub wide : length c.table.of.template ≡ c.table.of.stride
-  -- Each row is found by its state, and its offset is below the limit.
-  pub ids : HasRowIds c.table
-  -- IDs of rows have no high tag.
-  pub low : HasLowIds c.table
-  -- An ID has the match tag exactly if its state has patterns.
-  pub tagged : (id : ℕ) → HasItsMatchTag c.table id
-  -- No row has the dead state.
-  pub alive : HasNoDeadRow c.table
-  -- Each row has a state of the automaton.
-  pub own : HasOwnStates c.table
-  -- Each row has a cell for each class.
-  pub cells : HasCells c.table
-  -- There are as many slots as start states of the DFA.
-  pub slots : length c.starts ≡ c.table.of.slots
-  -- The count of clears is a number of 64 bits.
-  pub clears : c.clears < 2 ^ 64

@@ -8,3 +8,4 @@ pub mod Stores
 pub mod Table
 pub mod Usage
 pub mod States
+pub mod Caches

@@ -4,7 +4,7 @@ ghost use Rattle.std.specs.Prelude.{◌≡◌, ◌+◌, ◌*◌, ◌^◌, ◌<�
 ghost use Rattle.std.specs.Prelude.{OnErr, length, sum_by};
 ghost use Rattle.automata_base.specs.Powersets.Powerset.{Powerset};
 ghost use Rattle.automata_hybrid.specs.Cache.Table.{id_of, Names, IsRowId, row_cost};
-ghost use Rattle.automata_hybrid.specs.Cache.Clears.{AllStarts, IsSlot};
+ghost use Rattle.automata_hybrid.specs.Private.Cache.Clears.{AllStarts, IsSlot};
 ghost use Rattle.automata_hybrid.specs.Private.Cache.Clears.{IsPut, KeepsSlot, KeepsAllStarts};
 ghost use Rattle.automata_hybrid.specs.Cache.Ids.{offset_limit};
 

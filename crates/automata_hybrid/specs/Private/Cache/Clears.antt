@@ -1,21 +1,31 @@
 -- What private functions and proofs need beside `Cache/Clears`; no contract of a public call reaches it.
-use Rattle.std.specs.Prelude.{◌≡◌, ℕ, ◌+◌, ◌<◌, ◌≤◌, List, length}
-use Rattle.std.specs.Prelude.{None, Some, slice_index}
+use Rattle.std.specs.Prelude.{◌≡◌, ℕ, ◌+◌, ◌<◌, ◌≤◌, List, length, None, Some, slice_index, ◌-◌, ◌⊎◌, [], ◌∷◌, ◌++◌}
+use Rattle.std.specs.Prelude.{cond, Option, is_some, slice_get, nat_le, unwrap_or}
 use Rattle.automata_base.specs.Powersets.Powerset.{Powerset}
 use Rattle.automata_hybrid.specs.declared.cache.row.Row.{Row}
-use Rattle.automata_hybrid.specs.Cache.Table.{Names, Rows, id_of}
+use Rattle.automata_hybrid.specs.Cache.Table.{Names, Rows, id_of, Leads, fresh}
 use Rattle.automata_hybrid.specs.Private.Cache.Stores.{KeepsStarts}
-use Rattle.automata_hybrid.specs.Cache.Ids.{unknown_id}
-use Rattle.automata_hybrid.specs.Cache.Clears.{AllStarts, row_of}
-use Rattle.std.specs.Prelude.{◌-◌, ◌/◌, ◌%◌, ◌⊎◌, [], ◌∷◌, ◌++◌, cond, Option}
-use Rattle.std.specs.Prelude.{is_some, slice_get, nat_le, unwrap_or}
+use Rattle.automata_hybrid.specs.Cache.Ids.{unknown_id, fixed_from}
+use Rattle.automata_hybrid.specs.Cache.Clears.{row_of}
 use Rattle.automata_base.specs.Retraced.Steps.{start_state_of}
 use Rattle.automata_base.specs.declared.util.search.Anchored.{Anchored}
 use Rattle.automata_hybrid.specs.Machines.StartSlots.{slot_behind}
-use Rattle.automata_hybrid.specs.Cache.Table.{Leads, fresh}
 use Rattle.automata_hybrid.specs.Private.Cache.Table.{with_row}
-use Rattle.automata_hybrid.specs.Cache.Ids.{fixed_from, offset_limit}
-use Rattle.automata_hybrid.specs.Cache.Clears.{LeadsToStart, IsSlot}
+
+-- an ID leads to the start state of a slot: that of each mode after each look-behind byte that has it
+abbrev pub LeadsToStart : Rows → ℕ → (slot : ℕ) → Type 0
+LeadsToStart t id slot =
+    (q : Powerset) × Leads t id q
+    × ((mode : Anchored) (behind : Option ℕ) → slot_behind t.of mode behind ≡ slot
+    → q ≡ start_state_of t.of.nfa mode behind)
+
+-- what a slot has: unknown, dead for the dead state, or the ID of its start state
+abbrev pub IsSlot : Rows → (slot id : ℕ) → Type 0
+IsSlot t slot id = (id ≡ unknown_id) ⊎ LeadsToStart t id slot
+
+-- each start slot has what a slot has: unknown, dead, or the ID of its start state
+abbrev pub AllStarts : Rows → List ℕ → Type 0
+AllStarts t starts = (slot id : ℕ) → slice_get starts slot ≡ Some id → IsSlot t slot id
 
 -- with this row, unless its state has one
 abbrev pub with_row_once : Rows → Row → Rows

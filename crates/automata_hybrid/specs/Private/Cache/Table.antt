@@ -1,28 +1,81 @@
 -- What private functions and proofs need beside `Cache/Table`; no contract of a public call reaches it.
-use Rattle.std.specs.Prelude.{◌≡◌, ℕ, ◌*◌, ◌≤◌, List, length, Some, slice_get, sum_by}
+use Rattle.std.specs.Prelude.{◌≡◌, ℕ, ◌*◌, ◌≤◌, List, length, Some, slice_get, sum_by, ◌+◌, ◌<◌, [], ◌∷◌, ◌++◌, Option}
+use Rattle.std.specs.Prelude.{None, slice_index, slice_set, take}
 use Rattle.std.specs.HashMap.{HashMap, get}
 use Rattle.std.specs.declared.hash.FoldHasher.{FoldHasher}
 use Rattle.std.specs.declared.hash.BuildHasherDefault.{BuildHasherDefault}
-use Rattle.automata_base.specs.Powersets.Powerset.{Powerset, cost}
+use Rattle.automata_base.specs.Powersets.Powerset.{Powerset, cost, dead}
 use Rattle.automata_base.specs.Powersets.Equal.{powerset_eq}
 use Rattle.automata_hybrid.specs.declared.cache.row.Row.{Row}
 use Rattle.automata_hybrid.specs.Private.Machines.Machine.{IsTemplate}
 use Rattle.automata_hybrid.specs.Machines.Reachable.{IsStateOf}
-use Rattle.automata_hybrid.specs.Cache.Table.{RowsFitCells, HasCells, HasItsMatchTag, HasLowIds, HasNoDeadRow}
-use Rattle.automata_hybrid.specs.Cache.Table.{HasOwnStates, Rows, id_of, row_cost}
-use Rattle.automata_hybrid.specs.Cache.Table.{Names}
-use Rattle.std.specs.Prelude.{◌+◌, ◌%◌, ◌<◌, ◌⊎◌, ◌↔◌, [], ◌∷◌, ◌++◌, Bool}
-use Rattle.std.specs.Prelude.{cond, nat_lt, Option, None, slice_index, slice_set, replicate}
-use Rattle.std.specs.Prelude.{take}
+use Rattle.automata_hybrid.specs.Cache.Table.{HasItsMatchTag, Rows, id_of, row_cost, Names, row_id, Leads, fixed_rows}
+use Rattle.automata_hybrid.specs.Cache.Table.{IsRowState, IsRowId, cell_at}
 use Rattle.automata_base.specs.Powersets.Passes.{IsUnit}
-use Rattle.automata_base.specs.Powersets.Powerset.{dead}
-use Rattle.automata_hybrid.specs.Cache.Ids.{tags, dead_id, quit_id, unknown_id, fixed_from, offset_limit}
-use Rattle.automata_hybrid.specs.Cache.Ids.{HasMatchTag}
-use Rattle.automata_hybrid.specs.Machines.Machine.{Machine, unit_class}
+use Rattle.automata_hybrid.specs.Cache.Ids.{quit_id, unknown_id, fixed_from, offset_limit}
+use Rattle.automata_hybrid.specs.Machines.Machine.{unit_class}
 use Rattle.automata_base.specs.Retraced.Steps.{successor}
 use Rattle.automata_config.specs.Options.{match_kind_of}
 use Rattle.automata_hybrid.specs.Machines.OwnStates.{IsOwn}
-use Rattle.automata_hybrid.specs.Cache.Table.{has_patterns, row_id, find_id, Leads, LeadsByClass, IsCell, fixed_rows, fresh, IsStepped, HasRowIds, IsRowState, IsRowId, cell_at}
+
+-- an ID leads from a state where each unit of a class does
+abbrev pub LeadsByClass : Rows → ℕ → Powerset → (class : ℕ) → Type 0
+LeadsByClass t id q class =
+    (unit : Option ℕ) → IsUnit unit → unit_class t.of unit ≡ class
+    → Leads t id (successor t.of.nfa (match_kind_of t.of.config) q unit)
+
+-- what stands in a cell of a state's row: the template says which classes are quit classes
+pub data IsCell (t : Rows) (q : Powerset) (class id : ℕ) : Type 0 where
+  -- At a quit class it is the quit ID.
+  CellQuits : slice_index t.of.template class ≡ quit_id t.of.stride → id ≡ quit_id t.of.stride → IsCell t q class id
+  -- At another class it may be unknown yet.
+  CellUnknown : slice_index t.of.template class ≡ unknown_id → id ≡ unknown_id → IsCell t q class id
+  -- Else it leads to the next state.
+  CellLeads : slice_index t.of.template class ≡ unknown_id → LeadsByClass t id q class → IsCell t q class id
+
+-- each cached cell of a row names the next state of that row's state
+abbrev pub IsStepped : Rows → Type 0
+IsStepped t =
+    (k class : ℕ) (r : Row) → slice_get t.rows k ≡ Some r → class < t.of.stride
+    → IsCell t r.state class (slice_index t.cells ((k + 3) * t.of.stride + class))
+
+-- each row is found by its state, so no two rows have one state, and stands below the limit of offsets
+abbrev pub HasRowIds : Rows → Type 0
+HasRowIds t =
+    (k : ℕ) (r : Row) → slice_get t.rows k ≡ Some r
+    → Names t (row_id ((k + 3) * t.of.stride) r) r.state × ((k + 3) * t.of.stride < offset_limit)
+
+-- rows and cells fit each other: the fixed rows come first, no state has two rows, and each cached cell leads where its
+-- row's state goes
+pub record RowsFitCells (t : Rows) : Type 0 where
+  -- There are as many cells as all rows have.
+  pub whole : length t.cells ≡ (length t.rows + 3) * t.of.stride
+  -- The offset of the last row is below the limit.
+  pub small : length t.cells < offset_limit + t.of.stride
+  -- The fixed rows come first.
+  pub fixed : take (3 * t.of.stride) t.cells ≡ fixed_rows t.of.stride
+  -- Each cached cell leads where its row's state goes.
+  pub stepped : IsStepped t
+  -- Each row is found by its state, and its offset is below the limit.
+  pub ids : HasRowIds t
+  -- Each row has a state that a row may have.
+  pub states : (k : ℕ) (r : Row) → slice_get t.rows k ≡ Some r → IsRowState t.of r.state
+
+-- each row has a cell for each class
+abbrev pub HasCells : Rows → Type 0
+HasCells t = (id class : ℕ) → IsRowId t id → class < t.of.stride → cell_at id class < length t.cells
+
+-- IDs of rows have no high tag
+abbrev pub HasLowIds : Rows → Type 0
+HasLowIds t = (id : ℕ) (q : Powerset) → Names t id q → id < fixed_from
+
+-- no row has the dead state
+abbrev pub HasNoDeadRow : Rows → Type 0
+HasNoDeadRow t = (id : ℕ) (q : Powerset) → Names t id q → q ≡ dead → ⊥
+
+-- each row has a state of the automaton
+abbrev pub HasOwnStates : Rows → Type 0
+HasOwnStates t = (id : ℕ) (q : Powerset) → Names t id q → IsOwn t.of.nfa q
 
 -- a state that is not dead, and that no row has
 abbrev pub Lacks : Rows → Powerset → Type 0

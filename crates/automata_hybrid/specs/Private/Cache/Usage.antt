@@ -5,7 +5,7 @@ use Rattle.automata_base.specs.Powersets.Accounting.{minimum_capacity}
 use Rattle.automata_base.specs.Powersets.Powerset.{Powerset, cost}
 use Rattle.automata_hybrid.specs.declared.cache.settings.Settings.{Settings}
 use Rattle.automata_hybrid.specs.Cache.Ids.{offset_limit}
-use Rattle.automata_hybrid.specs.Cache.Clears.{AllStarts}
+use Rattle.automata_hybrid.specs.Private.Cache.Clears.{AllStarts}
 use Rattle.automata_hybrid.specs.Private.Cache.Clears.{kept}
 use Rattle.automata_hybrid.specs.Private.Cache.Clears.{KeepsAllStarts}
 use Rattle.automata_hybrid.specs.Cache.Stores.{Stored}

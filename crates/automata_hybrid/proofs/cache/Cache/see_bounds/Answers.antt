@@ -1,6 +1,7 @@
 use Rattle.std.proofs.Common.{refl, subst, arith}
-use Rattle.automata_hybrid.specs.Cache.Caches.{CacheView, IsStoreOf}
-use Rattle.automata_hybrid.specs.Cache.Stores.{IsSoundStore}
+use Rattle.automata_hybrid.specs.Cache.Caches.{CacheView}
+use Rattle.automata_hybrid.specs.Private.Cache.Caches.{IsStoreOf}
+use Rattle.automata_hybrid.specs.Private.Cache.Stores.{IsSoundStore}
 use Rattle.automata_hybrid.specs.declared.cache.Cache.TheInside.{Inside}
 use Rattle.automata_hybrid.proofs.cache.Cache.see_bounds.Goals as goal
 

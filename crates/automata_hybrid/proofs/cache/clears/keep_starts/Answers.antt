@@ -8,7 +8,7 @@ use Rattle.std.proofs.Math.Nat.{mul-le-mul_right}
 use Rattle.std.specs.Prelude.{sum_by}
 use Rattle.automata_hybrid.specs.Machines.Machine.{Machine}
 use Rattle.automata_hybrid.specs.Cache.Table.{Rows, fresh, row_cost}
-use Rattle.automata_hybrid.specs.Cache.Clears.{IsSlot}
+use Rattle.automata_hybrid.specs.Private.Cache.Clears.{IsSlot}
 use Rattle.automata_hybrid.specs.Private.Cache.Clears.{keep_slot, keep_slots, kept, Kept}
 use Rattle.automata_hybrid.proofs.Caches.Clears.{kept_step, AllStarts-none}
 use Rattle.automata_hybrid.proofs.cache.clears.keep_starts.Goals as goal

@@ -1,7 +1,7 @@
 use Rattle.std.proofs.Common.{None, ◌≡◌, ℕ, ◌≤◌, ◌<◌, ◌^◌, get_or, take, length, []}
 use Rattle.automata_hybrid.specs.Cache.Table.{fresh, id_of}
 use Rattle.automata_base.specs.Powersets.Powerset.{Powerset}
-use Rattle.automata_hybrid.specs.Cache.Clears.{AllStarts}
+use Rattle.automata_hybrid.specs.Private.Cache.Clears.{AllStarts}
 use Rattle.automata_hybrid.specs.Private.Cache.Clears.{keep_slots}
 use Rattle.automata_hybrid.proofs.cache.clears.keep_starts.Given as goal
 

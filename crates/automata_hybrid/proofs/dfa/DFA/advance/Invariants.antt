@@ -1,5 +1,6 @@
 use Rattle.std.proofs.Common.{ℕ, suc, ◌≡◌, ◌<◌, ◌≤◌, ◌+◌, ◌-◌}
-use Rattle.automata_hybrid.specs.Cache.Caches.{IsCacheOf, IsStoreOf}
+use Rattle.automata_hybrid.specs.Cache.Caches.{IsCacheOf}
+use Rattle.automata_hybrid.specs.Private.Cache.Caches.{IsStoreOf}
 use Rattle.automata_hybrid.specs.Known.Stores.{known_of}
 use Rattle.automata_hybrid.specs.Searches.Passes.{HasReadNoQuit, state_in}
 use Rattle.automata_hybrid.specs.Cache.Table.{Names}

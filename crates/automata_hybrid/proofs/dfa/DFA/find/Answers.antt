@@ -6,7 +6,8 @@ use Rattle.automata_base.specs.Powersets.Passes.{IsUnit}
 use Rattle.automata_base.specs.declared.util.search.Direction.{Direction}
 use Rattle.automata_hybrid.specs.Searches.PassContracts.{IsUnderway}
 use Rattle.automata_hybrid.specs.Searches.PassState.{IsAt}
-use Rattle.automata_hybrid.specs.Cache.Caches.{CacheView, IsCacheOf, IsStoreOf}
+use Rattle.automata_hybrid.specs.Cache.Caches.{CacheView, IsCacheOf}
+use Rattle.automata_hybrid.specs.Private.Cache.Caches.{IsStoreOf}
 use Rattle.automata_hybrid.specs.Cache.Table.{Leads}
 use Rattle.automata_hybrid.specs.Known.Stores.{known_of}
 use Rattle.automata_hybrid.specs.Private.Steps.Steps.{IsCellRead}

@@ -1,5 +1,6 @@
 use Rattle.std.proofs.Common.{◌<◌, ◌≤◌, ◌-◌}
-use Rattle.automata_hybrid.specs.Cache.Caches.{IsCacheOf, IsStoreOf}
+use Rattle.automata_hybrid.specs.Cache.Caches.{IsCacheOf}
+use Rattle.automata_hybrid.specs.Private.Cache.Caches.{IsStoreOf}
 use Rattle.automata_hybrid.specs.Searches.PassState.{IsAt}
 use Rattle.automata_hybrid.specs.Private.Searches.PassState.{IsNextCell}
 use Rattle.automata_hybrid.specs.Known.Stores.{known_of}

@@ -2,7 +2,8 @@ use Rattle.std.proofs.Common.{◌∙◌, ◌<◌, ◌≡◌, Some, ap, subst, sy
 use Rattle.automata_base.specs.ByteClasses.Classes.{class_in}
 use Rattle.automata_base.specs.Powersets.Powerset.{Powerset}
 use Rattle.automata_hybrid.specs.Cache.Stores.{cell_of}
-use Rattle.automata_hybrid.specs.Cache.Table.{IsCell, IsRowId, Names, Rows, cell_at}
+use Rattle.automata_hybrid.specs.Private.Cache.Table.{IsCell}
+use Rattle.automata_hybrid.specs.Cache.Table.{IsRowId, Names, Rows, cell_at}
 use Rattle.std.specs.Prelude.{slice_index}
 use Rattle.automata_hybrid.specs.Machines.Machine.{Machine}
 use Rattle.automata_hybrid.specs.Private.Searches.PassState.{IsMetAlong}

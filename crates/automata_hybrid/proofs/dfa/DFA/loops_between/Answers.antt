@@ -1,7 +1,7 @@
 use Rattle.std.proofs.Common.{◌≡◌, ◌∙◌, ◌<◌, ◌≤◌, subst, sym, arith, ⊎_elim}
 use Rattle.std.proofs.lemmas.Bool.{cases_lt}
 use Rattle.std.proofs.lemmas.Grind.{common_steps}
-use Rattle.automata_hybrid.specs.Cache.Table.{IsCell}
+use Rattle.automata_hybrid.specs.Private.Cache.Table.{IsCell}
 use Rattle.automata_hybrid.proofs.Searches.SelfLoops.{LoopsIn, loops_among}
 use Rattle.automata_hybrid.proofs.dfa.DFA.loops_between.Goals as goal
 

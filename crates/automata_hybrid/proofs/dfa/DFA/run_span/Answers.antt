@@ -3,7 +3,8 @@ use Rattle.std.specs.Prelude.{option_map}
 use Rattle.automata_base.specs.Paths.Paths.{next as unit_at}
 use Rattle.automata_base.specs.Powersets.Passes.{IsUnit}
 use Rattle.automata_base.specs.declared.util.search.Direction.TheVariants.{Forward}
-use Rattle.automata_hybrid.specs.Cache.Caches.{CacheView, IsCacheOf, IsStoreOf}
+use Rattle.automata_hybrid.specs.Cache.Caches.{CacheView, IsCacheOf}
+use Rattle.automata_hybrid.specs.Private.Cache.Caches.{IsStoreOf}
 use Rattle.automata_hybrid.specs.Cache.Table.{Names, Rows}
 use Rattle.automata_hybrid.specs.Known.Known.{Known, begun, ended}
 use Rattle.automata_hybrid.specs.Known.Stores.{known_of}

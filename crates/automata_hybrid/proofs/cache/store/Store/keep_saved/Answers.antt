@@ -3,7 +3,7 @@ use Rattle.std.proofs.lemmas.Grind.{common_steps}
 use Rattle.automata_hybrid.specs.Cache.Stores.{Stored}
 use Rattle.automata_hybrid.specs.Private.Cache.Stores.{with_table}
 use Rattle.automata_hybrid.specs.Cache.Table.{Rows}
-use Rattle.automata_hybrid.specs.Cache.Clears.{AllStarts}
+use Rattle.automata_hybrid.specs.Private.Cache.Clears.{AllStarts}
 use Rattle.automata_hybrid.specs.Private.Cache.Usage.{IsCache}
 use Rattle.automata_hybrid.proofs.Caches.Usage.{Fits-few, IsCache-few}
 use Rattle.automata_hybrid.proofs.Caches.Clears.{AllStarts-put, IsPut-length, IsPut-of}

@@ -4,7 +4,8 @@ use Rattle.std.proofs.lemmas.List.{get_or-drop, get_or-take}
 use Rattle.automata_base.specs.Powersets.Powerset.{Powerset}
 use Rattle.automata_hybrid.proofs.Caches.Places.{Names-Placed, Placed-cell, Placed-IsCell}
 use Rattle.automata_hybrid.specs.Cache.Ids.{offset_limit}
-use Rattle.automata_hybrid.specs.Cache.Table.{RowsFitCells, Names, Rows, IsCell, cell_at}
+use Rattle.automata_hybrid.specs.Private.Cache.Table.{RowsFitCells, IsCell}
+use Rattle.automata_hybrid.specs.Cache.Table.{Names, Rows, cell_at}
 use Rattle.automata_hybrid.proofs.cache.table.Table.cell_in_row.Goals as goal
 
 -- the cell of a row stands in the table

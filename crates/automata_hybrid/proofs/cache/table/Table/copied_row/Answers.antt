@@ -2,7 +2,8 @@ use Rattle.std.proofs.Common.{◌≡◌, ◌∙◌, sym, ap, ◌+◌, ◌*◌, �
 use Rattle.std.proofs.lemmas.Option.{slice_get_read}
 use Rattle.automata_base.specs.Powersets.Powerset.{Powerset, cost, dead}
 use Rattle.automata_hybrid.specs.Machines.Reachable.{IsStateOf}
-use Rattle.automata_hybrid.specs.Cache.Table.{RowsFitCells, Rows, id_of, row_id}
+use Rattle.automata_hybrid.specs.Private.Cache.Table.{RowsFitCells}
+use Rattle.automata_hybrid.specs.Cache.Table.{Rows, id_of, row_id}
 use Rattle.automata_hybrid.specs.declared.cache.row.Row.{Row}
 use Rattle.automata_hybrid.proofs.cache.table.Table.copied_row.Goals as goal
 

@@ -1,7 +1,8 @@
 use Rattle.std.proofs.Common.{◌≡◌, ap, ℕ, ◌+◌, ◌%◌, ◌^◌, ◌<◌, length, set, arith, subst, refl}
 use Rattle.std.proofs.lemmas.Grind.{common_steps}
 use Rattle.automata_hybrid.proofs.Caches.Places.{RowsFitCells-with_cell, Names-Placed, Placed-cell}
-use Rattle.automata_hybrid.specs.Cache.Table.{RowsFitCells, Rows, cell_at}
+use Rattle.automata_hybrid.specs.Private.Cache.Table.{RowsFitCells}
+use Rattle.automata_hybrid.specs.Cache.Table.{Rows, cell_at}
 use Rattle.automata_hybrid.specs.Private.Cache.Table.{with_cell}
 use Rattle.automata_hybrid.proofs.cache.table.Table.set_cell.Goals as goal
 

@@ -1,0 +1,27 @@
+-- What private functions and proofs need beside `Cache/Caches`; no contract of a public call reaches it.
+use Rattle.std.specs.Prelude.{◌≡◌, ◌^◌, ◌<◌, ◌≤◌, length}
+use Rattle.automata_hybrid.specs.Machines.Machine.{Machine}
+use Rattle.automata_hybrid.specs.Private.Cache.Table.{RowsFitCells}
+use Rattle.automata_hybrid.specs.Private.Cache.Clears.{AllStarts}
+use Rattle.automata_hybrid.specs.Private.Cache.Usage.{usage_in_store}
+use Rattle.automata_hybrid.specs.Cache.Stores.{Stored}
+
+-- a cache of this DFA: its rows fit together, each start slot has its own start or none yet, and its accounted bytes
+-- are within the settings
+pub record IsStoreOf (c : Stored) (m : Machine) : Type 0 where
+  -- It belongs to the DFA.
+  pub of : c.table.of ≡ m
+  -- Its rows and cells fit each other.
+  pub rows : RowsFitCells c.table
+  -- Each start slot has its own start state, or none yet.
+  pub starts : AllStarts c.table c.starts
+  -- There are as many start slots as the DFA has.
+  pub slots : length c.starts ≡ m.slots
+  -- Its accounted bytes are within the capacity.
+  pub within : usage_in_store c ≤ m.capacity
+  -- A row has at most 512 cells.
+  pub small : c.table.of.stride ≤ 512
+  -- A new row has as many cells as each row.
+  pub wide : length c.table.of.template ≡ c.table.of.stride
+  -- The count of clears is a number of 64 bits.
+  pub clears : c.clears < 2 ^ 64
