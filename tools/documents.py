@@ -14,8 +14,8 @@ are what tools/plots.py draws of the tables of docs/PERFORMANCE.md.
 
 docs/index has each definition, by crate, and docs/READING.md how many there are in each tier: both have to be what
 tools/index.py finds, and --write writes them. In specs/Private of the lazy DFA stands what no contract of a public call
-reaches, and nothing else. No two crates define one name. READING has each sign that specs/ use, and each name of the
-standard library.
+reaches, and nothing else. No two definitions have one name, and no line of specs/ and proofs/ has more than 120 signs.
+READING has each sign that specs/ use, and each name of the standard library.
 
 The last line counts each of these, beside what the given line counts, the last one of `rt ci`, which proves and runs the
 programs themselves. It needs Python 3 alone.
@@ -152,11 +152,23 @@ def index_faults(specs, named, tier, write):
 
 
 def homonym_faults(specs):
-    """Returns which names two crates define in specs/."""
+    """Returns which names stand for two definitions of specs/."""
     where = {}
     for module, name in specs.text:
-        where.setdefault(name, set()).add(module.split(".")[0])
-    return [f"{' and '.join(sorted(crates))} define {name}" for name, crates in sorted(where.items()) if len(crates) > 1]
+        where.setdefault(name, []).append(module)
+    return [f"{' and '.join(sorted(modules))} define {name}" for name, modules in sorted(where.items()) if len(modules) > 1]
+
+
+def width_faults():
+    """Returns which lines of specs/ and proofs/ have more than 120 signs. An import of one name may be longer."""
+    faults = []
+    for path in below("crates", ".antt"):
+        if "/out/" in path:
+            continue
+        for at, line in enumerate(read(path).split("\n"), 1):
+            if len(line) > 120 and not re.fullmatch(r"use [^,]*", line):
+                faults.append(f"line {at} of {path} has {len(line)} signs")
+    return faults
 
 
 def sign_faults():
@@ -180,7 +192,8 @@ def main(words):
     tier = index.tiers(specs, named)
     found["the index"] = index_faults(specs, named, tier, write), "it is that of specs"
     found["Private"] = index.misplaced(specs, tier), "it has what no public contract reaches"
-    found["names"] = homonym_faults(specs), "no two crates define one"
+    found["names"] = homonym_faults(specs), "no two definitions have one"
+    found["lines"] = width_faults(), "none of specs and proofs has more than 120 signs"
     found["signs"] = sign_faults(), f"each is in {READING}"
     for picture, graph in zip(PICTURES, read(GRAPHS).split("digraph ")[1:], strict=True):
         found[picture] = picture_faults(picture, graph), "it is that of example_picture"

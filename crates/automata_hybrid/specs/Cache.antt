@@ -3,6 +3,5 @@ pub mod Table
 pub mod Stores
 pub mod Caches
 pub mod Usage
-pub mod Clears
 pub mod Progress
 pub mod States

@@ -106,8 +106,9 @@ pub fn pieces_are_whole()
     ensures { PiecesAreWhole }
 {}
 
-/// Under `MatchKind::All`, at each offset of a span, its end included, the state of a pass reports just the patterns that
-/// match there. So the calls of a walk over a haystack in pieces, and its end, report all that match, each offset once.
+/// Under `MatchKind::All`, at each offset of a span, its end included, the state of a pass reports just the patterns
+/// that match there. So the calls of a walk over a haystack in pieces, and its end, report all that match, each offset
+/// once.
 pub fn states_have_matching(dfa: &DFA)
     ensures { StatesHaveMatching dfa.now }
 {

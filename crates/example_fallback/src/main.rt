@@ -2,9 +2,9 @@
 //!
 //!     example_fallback PATTERN < LINES
 //!
-//! The lazy DFA has a cache of 64 KiB, and gives up where it would clear that once more and has read few bytes since. Such
-//! a line is searched by a simulation of the NFA, which keeps no states: its time hangs on the pattern and the line alone.
-//! The last line says how many lines were searched so.
+//! The lazy DFA has a cache of 64 KiB, and gives up where it would clear that once more and has read few bytes since.
+//! Such a line is searched by a simulation of the NFA, which keeps no states: its time hangs on the pattern and the
+//! line alone. The last line says how many lines were searched so.
 //!
 //! It is proved that each line has what the pattern's text means, whoever finds it (`Finder::find`).
 #![tactic(auto)]

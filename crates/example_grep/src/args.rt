@@ -229,8 +229,8 @@ impl Args {
         }
     }
 
-    /// Ends the arguments: without `-e` and `-f` the first one that is no flag is the pattern, and without a file standard
-    /// input is searched, or with `-r` the current directory.
+    /// Ends the arguments: without `-e` and `-f` the first one that is no flag is the pattern, and without a file
+    /// standard input is searched, or with `-r` the current directory.
     fn end(&mut self, alloc: Global) -> Result<()> {
         if self.awaited.is_some() || !self.has_patterns && self.files.is_empty() {
             bail!("{USAGE}");
@@ -250,8 +250,8 @@ impl Args {
         Ok(())
     }
 
-    /// Reads the arguments after the program's name, and the files of patterns. What begins with `-` is a flag, up to an
-    /// argument `--`; `-` alone is none.
+    /// Reads the arguments after the program's name, and the files of patterns. What begins with `-` is a flag, up to
+    /// an argument `--`; `-` alone is none.
     pub fn read(rt: &HostRuntime, arguments: &[String]) -> Result<Args> {
         let mut args = Args::new(rt.alloc());
         for argument in arguments {

@@ -65,8 +65,8 @@ impl Blocks {
         self.binary
     }
 
-    /// Reads a block, and returns how many bytes it has: none at the end of the input. In a binary file a NUL ends a line
-    /// as a line feed does.
+    /// Reads a block, and returns how many bytes it has: none at the end of the input. In a binary file a NUL ends a
+    /// line as a line feed does.
     pub fn read<R: Read>(&mut self, input: &mut R) -> Result<usize> {
         let read = input.read(self.block.as_mut_slice())?;
         let read = read.min(self.block.len());

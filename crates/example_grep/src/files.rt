@@ -201,8 +201,8 @@ impl Search {
         self.stats.print(rt, self.grep.usage(), since)
     }
 
-    /// The status: 2 after an error, else 0 if a line was taken, else 1. If nothing is printed, a line that was taken counts
-    /// more than an error.
+    /// The status: 2 after an error, else 0 if a line was taken, else 1. If nothing is printed, a line that was taken
+    /// counts more than an error.
     pub fn status(&self) -> u8 {
         if self.reading.quiet && self.is_found {
             0

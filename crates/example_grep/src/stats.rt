@@ -66,8 +66,8 @@ impl Stats {
         self.taken = self.taken.saturating_add(file.taken);
     }
 
-    /// Prints them to standard error, with what the caches have made and how many megabytes were read in a second since a
-    /// time.
+    /// Prints them to standard error, with what the caches have made and how many megabytes were read in a second since
+    /// a time.
     pub fn print(&self, rt: &HostRuntime, usage: Usage, since: Instant) -> Result<()> {
         let micros = since.elapsed(rt)?.as_micros();
         eprintln!(rt; "bytes read: {}", self.bytes)?;

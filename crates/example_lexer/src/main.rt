@@ -1,12 +1,12 @@
 //! Splits a program of a small language, on standard input, into tokens.
 //!
-//! A line for each token has its line and column, its span in bytes, its kind, and its text. The last line says where the
-//! text ends, or which byte is the first one at which no token begins. `kinds.rt` has the kinds, a pattern each: names
-//! and blanks of whatever language, numbers, strings with escapes, comments and operators.
+//! A line for each token has its line and column, its span in bytes, its kind, and its text. The last line says where
+//! the text ends, or which byte is the first one at which no token begins. `kinds.rt` has the kinds, a pattern each:
+//! names and blanks of whatever language, numbers, strings with escapes, comments and operators.
 //!
 //! It is proved that the tokens tile the text: each begins where the one before it ended and is what the search there
-//! finds, up to the end, or to the offset that is told, at which there is no token (`Lexer::lex`). Lines and columns are
-//! counted by a loop of which nothing is proved but that it is safe.
+//! finds, up to the end, or to the offset that is told, at which there is no token (`Lexer::lex`). Lines and columns
+//! are counted by a loop of which nothing is proved but that it is safe.
 #![tactic(auto)]
 
 mod kinds;

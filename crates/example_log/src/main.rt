@@ -3,11 +3,11 @@
 //!     example_log PATTERNS LOG..
 //!
 //! PATTERNS has a pattern on each line. A log is read line by line, and all patterns are searched at once, so that the
-//! memory is that of the longest line and of the cache, however long a log is. A line need not be text: a byte that is no
-//! part of a character matches `(?-u:[\x80-\xFF])`, but no `.`. The log `/dev/stdin` is standard input.
+//! memory is that of the longest line and of the cache, however long a log is. A line need not be text: a byte that is
+//! no part of a character matches `(?-u:[\x80-\xFF])`, but no `.`. The log `/dev/stdin` is standard input.
 //!
-//! Which patterns match a line is what `RegexSet::which` promises; how lines are read and counted is safe, and no more is
-//! proved.
+//! Which patterns match a line is what `RegexSet::which` promises; how lines are read and counted is safe, and no more
+//! is proved.
 #![tactic(auto)]
 
 mod counter;

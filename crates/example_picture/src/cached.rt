@@ -160,8 +160,8 @@ fn push_before(state: &State, shown: &mut String) -> Result<()> {
     Ok(())
 }
 
-/// Appends a state: its number, its NFA states in order of preference, what is known of the byte before, and the patterns
-/// that match there.
+/// Appends a state: its number, its NFA states in order of preference, what is known of the byte before, and the
+/// patterns that match there.
 fn push_state(at: usize, state: &CachedState<'_>, shown: &mut String) -> Result<()> {
     write!(shown, "    {at} [")?;
     if state.id().is_match() {

@@ -3,13 +3,13 @@
 //!     example_picture PATTERN.. | dot -Tsvg > nfa.svg
 //!
 //! A state has its ID. An edge that reads a byte is solid, with the bytes that it reads. One that reads none is dashed,
-//! with its rank among the alternates, of which the first is preferred, or with the look that has to hold; one at a group
-//! is dotted. Searches that are not anchored start in a state of their own, whose loop skips bytes.
+//! with its rank among the alternates, of which the first is preferred, or with the look that has to hold; one at a
+//! group is dotted. Searches that are not anchored start in a state of their own, whose loop skips bytes.
 //!
-//! After it comes a second graph, if the first argument is `--in=TEXT`: what the cache of a DFA holds once that has searched
-//! the text. A state has its number, its NFA states in order of preference, and the patterns that match there, delayed by
-//! one byte. An edge has the bytes on which the cached transition leads there, and `end` for the haystack's end. What is
-//! not drawn is not cached.
+//! After it comes a second graph, if the first argument is `--in=TEXT`: what the cache of a DFA holds once that has
+//! searched the text. A state has its number, its NFA states in order of preference, and the patterns that match there,
+//! delayed by one byte. An edge has the bytes on which the cached transition leads there, and `end` for the haystack's
+//! end. What is not drawn is not cached.
 #![tactic(auto)]
 
 mod cached;

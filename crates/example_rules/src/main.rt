@@ -2,9 +2,9 @@
 //!
 //!     example_rules RULES < RECORDS
 //!
-//! RULES is a file with a pattern on each line; lines that begin with `#` are comments. A rule is known by the number of
-//! its line. One that is no pattern is shown with a caret below its place, and left out. All rules are searched at once:
-//! a record costs one pass, however many rules there are, in memory that is bounded beforehand.
+//! RULES is a file with a pattern on each line; lines that begin with `#` are comments. A rule is known by the number
+//! of its line. One that is no pattern is shown with a caret below its place, and left out. All rules are searched at
+//! once: a record costs one pass, however many rules there are, in memory that is bounded beforehand.
 //!
 //! It is proved that the rules named for a record are exactly those that match it: a rule matches if some path of its
 //! pattern through the record ends in a match (`RuleMatcher::rules_of`).

@@ -3,8 +3,8 @@
 //!     example_sets PATTERN.. < LINES
 //!
 //! A pattern is known by its place among the arguments, counted from 0. With the patterns `[0-9]+` and `[a-z]+[0-9]` it
-//! prints `0 1 | 1@2 0@2 | a1 b`: both match the line `a1 b`, and a match of each ends after its second byte. Matches may
-//! overlap; of their ends the first ten are printed.
+//! prints `0 1 | 1@2 0@2 | a1 b`: both match the line `a1 b`, and a match of each ends after its second byte. Matches
+//! may overlap; of their ends the first ten are printed.
 //!
 //! Which patterns match is what `RegexSet::which` promises; how that is printed is safe, and no more is proved.
 #![tactic(auto)]

@@ -147,8 +147,8 @@ fn entry_nfa(nfa: Result<NFA, NfaError>) -> Result<NFA, Refusal> {
     }
 }
 
-/// The regex of a forward and a reverse NFA. These keep unions if they have cycles through looks, so that replies follow
-/// the ordered paths.
+/// The regex of a forward and a reverse NFA. These keep unions if they have cycles through looks, so that replies
+/// follow the ordered paths.
 fn build_pair(forward: NFA, reverse: NFA, config: Config) -> Result<Regex, Refusal> {
     match Regex::builder()
         .dfa(config)

@@ -37,8 +37,8 @@ pub struct FoundHalf {
     pub reserved: u32,
 }
 
-/// The anchored mode of two numbers: 0 is unanchored, 1 anchored, 2 of the pattern. It is none for another number, or if
-/// the pattern's number is no ID.
+/// The anchored mode of two numbers: 0 is unanchored, 1 anchored, 2 of the pattern. It is none for another number, or
+/// if the pattern's number is no ID.
 fn mode_of(anchored: u32, pattern: u32) -> Option<Anchored>
     ensures { result ≡ mode_of anchored pattern }
 {
@@ -53,8 +53,8 @@ fn mode_of(anchored: u32, pattern: u32) -> Option<Anchored>
     }
 }
 
-/// The byte beside the pieces of a haystack that a number stands for: that byte, or none for -1 as an unsigned number. It
-/// is none at all for any other number.
+/// The byte beside the pieces of a haystack that a number stands for: that byte, or none for -1 as an unsigned number.
+/// It is none at all for any other number.
 pub fn beside_of(number: u32) -> Option<Option<u8>>
     ensures { result ≡ beside_of number }
 {

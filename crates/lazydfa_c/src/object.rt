@@ -23,8 +23,8 @@ pub struct InPieces {
     pub walk: Option<Walk>,
 }
 
-/// A cache, with the regex that it belongs to, and the search and the walk in pieces that were begun over it. So no call
-/// can be given a cache, a search or a walk of another regex, and the regex stays while one of its caches does.
+/// A cache, with the regex that it belongs to, and the search and the walk in pieces that were begun over it. So no
+/// call can be given a cache, a search or a walk of another regex, and the regex stays while one of its caches does.
 #[derive(Drop)]
 pub struct Searcher {
     pub shared: Shared,

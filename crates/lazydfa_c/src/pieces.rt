@@ -1,5 +1,5 @@
-//! A search in pieces over each cache, whose haystack comes piece by piece. Other searches of the cache may come between
-//! two pieces.
+//! A search in pieces over each cache, whose haystack comes piece by piece. Other searches of the cache may come
+//! between two pieces.
 ghost use Rattle.std.specs.Prelude.{◌≡◌, ◌==◌, not};
 ghost use Rattle.lazydfa_c.specs.Calls.{KeepsUnlessCache, KeepsUnlessOpen, OfHandle, OfObject, WritesIfDone};
 ghost use Rattle.lazydfa_c.specs.Pieces.{BeginsBy, BeginsPieces, EndsIn, OfNumbers, ReadsIn};
@@ -34,8 +34,8 @@ impl Searcher {
         }
     }
 
-    /// Reads the next piece, and writes whether the answer stands. The status is `Code::NotBegun` if no search in pieces
-    /// was begun.
+    /// Reads the next piece, and writes whether the answer stands. The status is `Code::NotBegun` if no search in
+    /// pieces was begun.
     fn read_piece(&mut self, piece: &[u8], done: &mut u32) -> Status
         ensures { ReadsIn piece.now done.new self.old self.new result }
     {
@@ -51,8 +51,8 @@ impl Searcher {
         }
     }
 
-    /// Writes the end of the match in the pieces so far, before this byte or none. The status is `Code::Nothing` if there
-    /// is no match, and `Code::NotBegun` if no search in pieces was begun.
+    /// Writes the end of the match in the pieces so far, before this byte or none. The status is `Code::Nothing` if
+    /// there is no match, and `Code::NotBegun` if no search in pieces was begun.
     fn end_pieces(&mut self, ahead: Option<u8>, found: &mut FoundHalf) -> Status
         ensures found { EndsIn found.new ahead self.old self.new result }
         ensures written { WritesIfDone found.old found.new result }
@@ -71,8 +71,8 @@ impl Searcher {
     }
 }
 
-/// Begins a search in pieces over a cache. The status is `Code::Kind` if the object is no cache, and `Code::Argument` if
-/// there is nothing to start from.
+/// Begins a search in pieces over a cache. The status is `Code::Kind` if the object is no cache, and `Code::Argument`
+/// if there is nothing to start from.
 fn begin_in(object: &mut Object, start: Option<start::Config>, earliest: bool) -> Status
     ensures { OfObject (BeginsBy earliest start) object.old object.new result }
 {
@@ -97,8 +97,8 @@ fn read_in(object: &mut Object, piece: &[u8], done: &mut u32) -> Status
     }
 }
 
-/// Writes the end of the match in the pieces so far, over a cache. The status is `Code::Kind` if the object is no cache,
-/// and `Code::Argument` if the byte that follows is none.
+/// Writes the end of the match in the pieces so far, over a cache. The status is `Code::Kind` if the object is no
+/// cache, and `Code::Argument` if the byte that follows is none.
 fn end_in(object: &mut Object, ahead: Option<Option<u8>>, found: &mut FoundHalf) -> Status
     ensures found { OfObject (OfNumbers (EndsIn found.new) ahead) object.old object.new result }
     ensures written { WritesIfDone found.old found.new result }
@@ -134,8 +134,8 @@ pub extern "C" fn lazydfa_raw_pieces_begin(
     status
 }
 
-/// Reads the next piece of the search over the cache behind a handle, and writes whether the answer stands: 0 if there is
-/// no search.
+/// Reads the next piece of the search over the cache behind a handle, and writes whether the answer stands: 0 if there
+/// is no search.
 #[unsafe(no_mangle)]
 pub extern "C" fn lazydfa_raw_pieces_read(
     alloc: Global,

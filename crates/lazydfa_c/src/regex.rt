@@ -173,8 +173,8 @@ fn build_of(
     open_sound(alloc, regex, nfa, config)
 }
 
-/// The configuration for an NFA with these starts, with these quit bytes. It fails with `Code::OneStart` if both are one
-/// state and the settings do not allow that, and with `Code::Argument` if the match kind is none.
+/// The configuration for an NFA with these starts, with these quit bytes. It fails with `Code::OneStart` if both are
+/// one state and the settings do not allow that, and with `Code::Argument` if the match kind is none.
 fn config_for(settings: &Settings, quits: &[u8], starts: StartStates) -> Result<Config, Status>
     ensures { result ≡ options_for settings.now quits.now starts }
 {

@@ -105,8 +105,8 @@ impl TextOptions {
     }
 }
 
-/// The status of what is wrong with a pattern; of a text that is no pattern, with the offset of the first byte that this
-/// is about.
+/// The status of what is wrong with a pattern; of a text that is no pattern, with the offset of the first byte that
+/// this is about.
 fn status_of(error: &PatternError) -> Status
     ensures { IsFailure result }
 {
@@ -123,8 +123,8 @@ fn status_of(error: &PatternError) -> Status
 }
 
 /// Cuts texts that lie one after another, by their lengths in bytes. It fails with `Code::Argument` if these are not
-/// the lengths of all of it, and with `Code::NotText` and an offset in the text if one is not UTF-8. How many texts were
-/// cut before is written then.
+/// the lengths of all of it, and with `Code::NotText` and an offset in the text if one is not UTF-8. How many texts
+/// were cut before is written then.
 fn cut<'t>(
     alloc: Global,
     texts: &'t [u8],
@@ -275,7 +275,8 @@ fn build_texts(
     )
 }
 
-/// Opens a handle on the regex of the texts of patterns, which lie one after another. What is wrong with one is written.
+/// Opens a handle on the regex of the texts of patterns, which lie one after another. What is wrong with one is
+/// written.
 #[unsafe(no_mangle)]
 pub extern "C" fn lazydfa_raw_regex_any_of(
     alloc: Global,

@@ -1,5 +1,5 @@
-//! What several threads may use at once, and what may move from one to another. The bounds are the promise; the functions
-//! do nothing when they run.
+//! What several threads may use at once, and what may move from one to another. The bounds are the promise; the
+//! functions do nothing when they run.
 use crate::object::{InPieces, Shared};
 
 /// Takes what may be sent to another thread, and used by several threads at once.

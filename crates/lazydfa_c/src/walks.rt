@@ -36,8 +36,8 @@ impl Searcher {
         }
     }
 
-    /// Reads a piece up to the next match, and writes where the walk stands. The status is `Code::Nothing` if there is no
-    /// match in the piece, and `Code::NotBegun` if no walk was begun.
+    /// Reads a piece up to the next match, and writes where the walk stands. The status is `Code::Nothing` if there is
+    /// no match in the piece, and `Code::NotBegun` if no walk was begun.
     fn walk_piece(&mut self, piece: &[u8], stop: &mut Stop) -> Status
         ensures { WalksIn piece.now stop.new self.old self.new result }
     {
@@ -54,8 +54,8 @@ impl Searcher {
         }
     }
 
-    /// Lists the patterns that match up to the end of the pieces so far, before this byte or none, and writes where that
-    /// is. The status is `Code::Nothing` if there are none, and `Code::NotBegun` if no walk was begun.
+    /// Lists the patterns that match up to the end of the pieces so far, before this byte or none, and writes where
+    /// that is. The status is `Code::Nothing` if there are none, and `Code::NotBegun` if no walk was begun.
     fn end_walk(&mut self, ahead: Option<u8>, stop: &mut Stop) -> Status
         ensures { EndsWalkIn ahead stop.new self.old self.new result }
     {
@@ -117,8 +117,8 @@ fn walk_in(object: &mut Object, piece: &[u8], stop: &mut Stop) -> Status
     }
 }
 
-/// Lists the patterns at the end of the pieces so far, over a cache, and writes where that is. The status is `Code::Kind`
-/// if the object is no cache, and `Code::Argument` if the byte that follows is none.
+/// Lists the patterns at the end of the pieces so far, over a cache, and writes where that is. The status is
+/// `Code::Kind` if the object is no cache, and `Code::Argument` if the byte that follows is none.
 fn end_in(object: &mut Object, ahead: Option<Option<u8>>, stop: &mut Stop) -> Status
     ensures ends { OfObject (OfNumbers (λ a. EndsWalkIn a stop.new) ahead) object.old object.new result }
     ensures kept { KeepsUnlessCache (stop.new ≡ stop.old) object.old }

@@ -23,8 +23,8 @@ use std::mem;
 /// How many bytes of the size limit a state of a merged NFA takes.
 const STATE_BYTES: usize = 12;
 
-/// How patterns are read, and how large they may become. The flags are those of the same names of Rust's `RegexBuilder`;
-/// a pattern sets one for a part of itself by `(?flags)`.
+/// How patterns are read, and how large they may become. The flags are those of the same names of Rust's
+/// `RegexBuilder`; a pattern sets one for a part of itself by `(?flags)`.
 #[derive(Clone, Copy, Debug)]
 pub struct Options {
     /// The flag `u`: whether classes such as `\w` and `.` are of characters, and letters have the cases of Unicode.
@@ -275,7 +275,8 @@ impl Draft {
     }
 }
 
-/// The NFA with its wide unions merged, if its states then take no more bytes than the limit; otherwise it is as it was.
+/// The NFA with its wide unions merged, if its states then take no more bytes than the limit; otherwise it is as it
+/// was.
 fn merged_within(nfa: NFA, limit: usize) -> Result<NFA, AllocError>
     ensures { IfOk result (IsMergedWithin limit nfa) }
 {
@@ -291,9 +292,9 @@ fn merged_within(nfa: NFA, limit: usize) -> Result<NFA, AllocError>
 /// no pattern, or that makes the patterns too large.
 ///
 /// Behind the states of the patterns stand a union of their starts and a loop that skips bytes, also for one pattern.
-/// Of eight patterns or more that union is merged where `NFA::merged` does so, if the size limit leaves room for 12 bytes
-/// of each state: states that read bytes for several patterns at once come after the loop. No cycle of what reads nothing
-/// passes a look-around assertion, whatever the patterns.
+/// Of eight patterns or more that union is merged where `NFA::merged` does so, if the size limit leaves room for 12
+/// bytes of each state: states that read bytes for several patterns at once come after the loop. No cycle of what reads
+/// nothing passes a look-around assertion, whatever the patterns.
 pub fn nfa_of(alloc: Global, texts: &[&str], options: &Options) -> Result<NFA, PatternError>
     ensures meant { IfOk result (IsNfaOf options.now (map (λ text. text.now) texts.now)) }
     ensures acyclic { IfOk result HasNoLookCycle }

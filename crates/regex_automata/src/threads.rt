@@ -1,5 +1,5 @@
-//! What several threads may use at once, and what may move from one to another. The bounds are the promise; the functions
-//! do nothing when they run.
+//! What several threads may use at once, and what may move from one to another. The bounds are the promise; the
+//! functions do nothing when they run.
 use crate::hybrid::dfa::{self, DFA, OverlappingState, Pieces};
 use crate::hybrid::regex::{self, FindMatches, Regex};
 use crate::nfa::thompson::NFA;

@@ -5,25 +5,21 @@ use Rattle.automata_hybrid.specs.Machines.Reachable.{IsStateOf}
 use Rattle.automata_hybrid.specs.declared.cache.Found.{Found}
 use Rattle.automata_hybrid.specs.declared.cache.row.Row.{Row}
 use Rattle.automata_hybrid.specs.Cache.Caches.{CacheView}
-use Rattle.automata_hybrid.specs.Cache.Clears.{row_of}
-use Rattle.automata_hybrid.specs.Private.Cache.Changes.{grown, put_found}
-use Rattle.automata_hybrid.specs.Private.Cache.Changes.{ClearsFirst, JustGrows, cleared_saving_in_store}
-use Rattle.automata_hybrid.specs.Private.Cache.Changes.{AddsNext, AddsRow}
+use Rattle.automata_hybrid.specs.Cache.Table.{row_of, Names, Rows, id_of}
+use Rattle.automata_hybrid.specs.Private.Cache.Changes.{grown, put_found, ClearsFirst, JustGrows}
+use Rattle.automata_hybrid.specs.Private.Cache.Changes.{cleared_saving_in_store, AddsNext, AddsRow}
 use Rattle.automata_hybrid.specs.Private.Cache.LookUps.{IsLookedUp}
 use Rattle.automata_hybrid.specs.Machines.Machine.{Machine}
 use Rattle.automata_hybrid.specs.Cache.Stores.{Stored}
 use Rattle.automata_hybrid.specs.Private.Cache.Stores.{KeepsStarts, with_table}
-use Rattle.automata_hybrid.specs.Cache.Table.{Names, Rows, id_of}
-use Rattle.automata_hybrid.specs.Private.Cache.Table.{Lacks}
-use Rattle.automata_hybrid.specs.Private.Cache.Table.{IsKnownState}
-use Rattle.automata_hybrid.specs.Private.Cache.Table.{IsNewState}
-use Rattle.automata_hybrid.specs.Private.Cache.Usage.{Fits, cleared, refuses_to_clear}
-use Rattle.automata_hybrid.specs.Private.Cache.Usage.{IsCleared}
+use Rattle.automata_hybrid.specs.Private.Cache.Table.{Lacks, IsKnownState, IsNewState}
+use Rattle.automata_hybrid.specs.Private.Cache.Usage.{Fits, cleared_in_store, refuses_in_store, IsCleared}
 use Rattle.automata_hybrid.proofs.Steps.Effects.{only-grown}
 
 -- a state to be added, by the machine that a table is of
 pub new_state :
-    (m : Machine) (t : Rows) (q : Powerset) → t.of ≡ m → Lacks t q → cost q ≤ m.greatest → IsStateOf m q → IsNewState t q
+    (m : Machine) (t : Rows) (q : Powerset) → t.of ≡ m → Lacks t q → cost q ≤ m.greatest → IsStateOf m q
+    → IsNewState t q
 new_state m t q of lacks cheap own = record {
   lacks = lacks;
   cheap = subst (λ (n : Machine). cost q ≤ n.greatest) (sym of) cheap;
@@ -39,13 +35,15 @@ pub looked_up :
     (before after : CacheView) (key : Powerset) (found at : Found)
     → after ≡ before → found ≡ at → IsLookedUp before.store.table key found → IsLookedUp after.store.table key at
 looked_up before after key found at same is h =
-    subst (λ (v : CacheView). IsLookedUp v.store.table key at) (sym same) (subst (λ (f : Found). IsLookedUp before.store.table key f) is h)
+    subst (λ (v : CacheView). IsLookedUp v.store.table key at) (sym same)
+    (subst (λ (f : Found). IsLookedUp before.store.table key f) is h)
 
 -- a key's state costs no more than a state may
 pub cheap :
     (m n : Machine) (key target : Powerset)
     → n ≡ m → key ≡ target → cost key ≤ m.greatest → cost target ≤ n.greatest
-cheap m n key target of is h = subst (λ (d : Machine). cost target ≤ d.greatest) (sym of) (subst (λ (q : Powerset). cost q ≤ m.greatest) is h)
+cheap m n key target of is h =
+    subst (λ (d : Machine). cost target ≤ d.greatest) (sym of) (subst (λ (q : Powerset). cost q ≤ m.greatest) is h)
 
 only_row :
     (old between new : Stored) (r : Row)
@@ -76,7 +74,7 @@ adds_fits old emptied new r id fits e named = record {
 -- a state that does not fit: the cache was cleared
 adds_clears :
     (old emptied new : Stored) (r : Row) (id : ℕ)
-    → (Fits old (cost r.state) → ⊥) → refuses_to_clear old ≡ false
+    → (Fits old (cost r.state) → ⊥) → refuses_in_store old ≡ false
     → ((p : Powerset) → id_of old.table p ≡ None → id_of emptied.table p ≡ None) → KeepsStarts old.starts emptied.starts
     → length emptied.starts ≡ length old.starts → emptied.table.of ≡ old.table.of
     → new ≡ grown emptied r → Names new.table id r.state → AddsRow old emptied new r id
@@ -96,7 +94,11 @@ pub next_fits :
     → ((id : ℕ) (p : Powerset) → Names old.table id p → Names new.table id p) → Names new.table next q
     → AddsNext old new from q from next
 next_fits old new from next q fits e kept named =
-    record { row = adds_fits old (cleared_saving_in_store old from) new (record { state = q; started = false }) next fits e named; saved = kept from }
+    record {
+      row = adds_fits old (cleared_saving_in_store old from) new (record { state = q; started = false }) next
+          fits e named;
+      saved = kept from;
+    }
 
 -- a state stepped to that does not fit: the row stepped from was put back
 pub next_clears :
@@ -112,7 +114,8 @@ next_clears old fresh between new from now next q full clear put of saved absent
   row =
       subst (λ (s : Stored). AddsRow old s new r next) all
       (adds_clears old between new r next full clear.allowed (λ p none. absent p none (clear.kept.absent p none))
-      (subst (KeepsStarts old.starts) (sym slots) clear.kept.known) (ap (λ xs. length xs) slots ∙ clear.kept.slots) (of ∙ clear.kept.of) e named);
+      (subst (KeepsStarts old.starts) (sym slots) clear.kept.known) (ap (λ xs. length xs) slots ∙ clear.kept.slots)
+      (of ∙ clear.kept.of) e named);
   saved = λ p n. kept now p (saved p n);
 } where
   r : Row
@@ -127,14 +130,16 @@ next_clears old fresh between new from now next q full clear put of saved absent
 -- a start state that fits
 pub start_fits :
     (old new : Stored) (r : Row) (id : ℕ)
-    → Fits old (cost r.state) → new ≡ grown old r → Names new.table id r.state → AddsRow old (cleared old) new r id
-start_fits old new r id fits e named = adds_fits old (cleared old) new r id fits e named
+    → Fits old (cost r.state) → new ≡ grown old r → Names new.table id r.state
+    → AddsRow old (cleared_in_store old) new r id
+start_fits old new r id fits e named = adds_fits old (cleared_in_store old) new r id fits e named
 
 -- a start state that does not fit
 pub start_clears :
     (old fresh new : Stored) (r : Row) (id : ℕ)
     → (Fits old (cost r.state) → ⊥) → IsCleared old fresh → new ≡ grown fresh r → Names new.table id r.state
-    → AddsRow old (cleared old) new r id
+    → AddsRow old (cleared_in_store old) new r id
 start_clears old fresh new r id full clear e named =
     subst (λ (s : Stored). AddsRow old s new r id) clear.value
-    (adds_clears old fresh new r id full clear.allowed clear.kept.absent clear.kept.known clear.kept.slots clear.kept.of e named)
+    (adds_clears old fresh new r id full clear.allowed clear.kept.absent clear.kept.known clear.kept.slots clear.kept.of
+    e named)

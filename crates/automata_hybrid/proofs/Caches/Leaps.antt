@@ -1,27 +1,25 @@
 -- How leaps are made of a table: steps on one class, levels of them, and the cells of the last level.
-use Rattle.std.proofs.Common.{ℕ, zero, suc, ◌≡◌, ◌∙◌, ◌+◌, ◌-◌, ◌*◌, ◌/◌, ◌%◌, ◌^◌, ◌<◌, ◌≤◌, ◌⊎◌, inl, inr, Bool, true, false}
-use Rattle.std.proofs.Common.{List, [], ◌∷◌, ◌++◌, length, refl, slice_index, sym, ap, subst, arith, Option, None, Some}
-use Rattle.std.proofs.Common.{drop, slice_get, slice_set, sum_by, take}
+use Rattle.std.proofs.Common.{ℕ, zero, suc, ◌≡◌, ◌∙◌, ◌+◌, ◌-◌, ◌*◌, ◌/◌, ◌%◌, ◌^◌, ◌<◌, ◌≤◌, ◌⊎◌, inl, inr, Bool, true}
+use Rattle.std.proofs.Common.{false, List, [], ◌∷◌, ◌++◌, length, refl, slice_index, sym, ap, subst, arith, Option}
+use Rattle.std.proofs.Common.{None, Some, drop, slice_get, slice_set, sum_by, take}
 use Rattle.std.proofs.Math.Nat.{mul-le-mul_left, mul-le-mul_right, pow-le-pow_left}
 use Rattle.std.proofs.lemmas.Bool.{cases_lt}
-use Rattle.std.proofs.lemmas.List.{get_or-append-add, get_or-drop, get_or-set_other, get_or-take, get_or_append_left, get_or_push, length-append}
-use Rattle.std.proofs.lemmas.List.{length-drop, length-set, length-take-le}
+use Rattle.std.proofs.lemmas.List.{get_or-append-add, get_or-drop, get_or-set_other, get_or-take, get_or_append_left}
+use Rattle.std.proofs.lemmas.List.{get_or_push, length-append, length-drop, length-set, length-take-le}
 use Rattle.std.proofs.lemmas.Nat.{div-mul-add, mod-mul-add}
 use Rattle.std.specs.Global.{Box}
 use Rattle.automata_base.specs.Nfas.Nodes.{Automaton}
 use Rattle.automata_base.specs.Powersets.Accounting.{cell_size, entry_size, fixed_rows_cost, minimum_capacity, row_size}
 use Rattle.automata_hybrid.specs.Cache.Ids.{offset_limit, unknown_id}
-use Rattle.automata_hybrid.specs.Private.Cache.Leaps.{AreCacheParts, AreLeaps, AreLeapSteps, IsLevel, IsLevelCell, IsLeapStep, LeadsToRow, LeapsTo}
-use Rattle.automata_hybrid.specs.Private.Cache.Leaps.{ReachesRow, leaps_bytes, mark}
+use Rattle.automata_hybrid.specs.Private.Cache.Leaps.{AreCacheParts, AreLeaps, AreLeapSteps, IsLevel, IsLevelCell}
+use Rattle.automata_hybrid.specs.Private.Cache.Leaps.{IsLeapStep, LeadsToRow, LeapsTo, ReachesRow, leaps_bytes, mark}
 use Rattle.automata_hybrid.specs.Cache.Stores.{Stored}
 use Rattle.automata_hybrid.specs.Private.Cache.Stores.{with_next, with_start_in_store}
 use Rattle.automata_hybrid.specs.Private.Cache.Clears.{AllStarts, IsSlot, LeadsToStart}
 use Rattle.automata_base.proofs.Paths.Orders.{some_inj}
-use Rattle.automata_hybrid.specs.Private.Cache.Table.{RowsFitCells}
+use Rattle.automata_hybrid.specs.Private.Cache.Table.{RowsFitCells, with_cell}
 use Rattle.automata_hybrid.specs.Cache.Table.{Rows, cell_at, row_cost}
-use Rattle.automata_hybrid.specs.Private.Cache.Table.{with_cell}
-use Rattle.automata_hybrid.specs.Private.Cache.Usage.{usage_in_store}
-use Rattle.automata_hybrid.specs.Private.Cache.Usage.{IsCache}
+use Rattle.automata_hybrid.specs.Private.Cache.Usage.{usage_in_store, IsCache}
 use Rattle.automata_hybrid.specs.declared.cache.settings.Settings.{Settings}
 use Rattle.automata_hybrid.specs.Machines.Machine.{Machine}
 use Rattle.automata_hybrid.specs.declared.cache.leaps.Leaps.{Leaps}
@@ -43,15 +41,18 @@ place_below rows n row class below known =
     omega (arith, l, e, below)
 
 -- so many numbers of a list from a place on
-pub slice_long : (steps : List ℕ) (from n : ℕ) → from + n ≤ length steps → length (take (from + n - from) (drop from steps)) ≡ n
+pub slice_long :
+    (steps : List ℕ) (from n : ℕ) → from + n ≤ length steps → length (take (from + n - from) (drop from steps)) ≡ n
 slice_long steps from n within =
     let e : from + n - from ≡ n = omega arith in
-    ap (λ k. length (take k (drop from steps))) e ∙ length-take-le n (drop from steps) (omega (arith, within, length-drop from steps))
+    ap (λ k. length (take k (drop from steps))) e
+    ∙ length-take-le n (drop from steps) (omega (arith, within, length-drop from steps))
 
 pub slice_at :
     (steps : List ℕ) (from n class : ℕ) → class < n
     → slice_index (take (from + n - from) (drop from steps)) class ≡ slice_index steps (from + class)
-slice_at steps from n class low = get_or-take (from + n - from) (drop from steps) class 0 (omega (arith, low)) ∙ get_or-drop from steps class 0
+slice_at steps from n class low =
+    get_or-take (from + n - from) (drop from steps) class 0 (omega (arith, low)) ∙ get_or-drop from steps class 0
 
 -- the places of a level fit
 pub level_fits : (rows n count : ℕ) → rows ≤ 2 ^ 18 → n ≤ 32 → count ≤ 4 → rows * n ^ count * n ≤ 2 ^ 43
@@ -65,14 +66,16 @@ level_fits rows n count many few short =
 -- rows have offsets below the limit
 pub row_low : (t : Rows) (k : ℕ) → RowsFitCells t → k < length t.rows → (k + 3) * t.of.stride < 2 ^ 27
 row_low t k rows known =
-    let l : (k + 4) * t.of.stride ≤ (length t.rows + 3) * t.of.stride = mul-le-mul_right t.of.stride (omega (arith, known)) in
+    let l : (k + 4) * t.of.stride ≤ (length t.rows + 3) * t.of.stride =
+    mul-le-mul_right t.of.stride (omega (arith, known)) in
     let e : (k + 4) * t.of.stride ≡ (k + 3) * t.of.stride + t.of.stride = omega arith in
     omega (arith, l, e, rows.whole, rows.small)
 
 module _ (t : Rows) (n : ℕ) where
   -- a step on a class of a row
   step_at :
-      (row class to : ℕ) → class < n → row < length t.rows → to ≤ length t.rows → (to < length t.rows → LeadsToRow t row class to)
+      (row class to : ℕ) → class < n → row < length t.rows → to ≤ length t.rows
+      → (to < length t.rows → LeadsToRow t row class to)
       → IsLeapStep t n (row * n + class) to
   step_at row class to below known upto leads = record {
     upto = upto;
@@ -83,7 +86,8 @@ module _ (t : Rows) (n : ℕ) where
 
   -- one step more
   pub steps_more :
-      (steps : List ℕ) (row class to : ℕ) → length steps ≡ row * n + class → class < n → row < length t.rows → to ≤ length t.rows
+      (steps : List ℕ) (row class to : ℕ) → length steps ≡ row * n + class → class < n → row < length t.rows
+      → to ≤ length t.rows
       → (to < length t.rows → LeadsToRow t row class to) → AreLeapSteps t n steps → AreLeapSteps t n (steps ++ to ∷ [])
   steps_more steps row class to long below known upto leads are place l = go (cases_lt place (length steps)) where
     go : (place < length steps) ⊎ (length steps ≤ place) → IsLeapStep t n place (slice_index (steps ++ to ∷ []) place)
@@ -108,9 +112,13 @@ module _ (t : Rows) (n : ℕ) where
     })
 
   -- the steps from each row are the level of one class
-  pub level_one : (steps level : List ℕ) → length level ≤ length steps → ((k : ℕ) → k < length level → slice_index level k ≡ slice_index steps k) → AreLeapSteps t n steps → IsLevel t n (suc zero) level
+  pub level_one :
+      (steps level : List ℕ) → length level ≤ length steps
+      → ((k : ℕ) → k < length level → slice_index level k ≡ slice_index steps k) → AreLeapSteps t n steps
+      → IsLevel t n (suc zero) level
   level_one steps level within same are place l =
-      let step : IsLeapStep t n place (slice_index level place) = subst (IsLeapStep t n place) (sym (same place l)) (are place (omega (arith, l, within))) in
+      let step : IsLeapStep t n place (slice_index level place) =
+      subst (IsLeapStep t n place) (sym (same place l)) (are place (omega (arith, l, within))) in
       record { upto = step.upto; reaches = λ known. (place / n, refl, step.leads known) }
 
   -- a level of one class more, after so many places of the one before
@@ -118,68 +126,75 @@ module _ (t : Rows) (n : ℕ) where
       (count : ℕ) (level steps next more : List ℕ) (i : ℕ) → length steps ≡ (length t.rows + 1) * n → i < length level
       → length next ≡ i * n → length more ≡ length next + n
       → ((k : ℕ) → k < length next → slice_index more k ≡ slice_index next k)
-      → ((class : ℕ) → class < n → slice_index more (length next + class) ≡ slice_index steps (slice_index level i * n + class))
+      → ((class : ℕ) → class < n
+      → slice_index more (length next + class) ≡ slice_index steps (slice_index level i * n + class))
       → AreLeapSteps t n steps → IsLevel t n count level → IsLevel t n (suc count) next → IsLevel t n (suc count) more
-  level_more count level steps next more i long within at longer below above are before now place l = go (cases_lt place (length next)) where
-    go : (place < length next) ⊎ (length next ≤ place) → IsLevelCell t n (suc count) place (slice_index more place)
-    go (inl old) = subst (IsLevelCell t n (suc count) place) (sym (below place old)) (now place old)
-    go (inr new) = subst (IsLevelCell t n (suc count) place) (sym value) cell where
-      class : ℕ
-      class = place - length next
+  level_more count level steps next more i long within at longer below above are before now place l =
+      go (cases_lt place (length next)) where
+        go : (place < length next) ⊎ (length next ≤ place) → IsLevelCell t n (suc count) place (slice_index more place)
+        go (inl old) = subst (IsLevelCell t n (suc count) place) (sym (below place old)) (now place old)
+        go (inr new) = subst (IsLevelCell t n (suc count) place) (sym value) cell where
+          class : ℕ
+          class = place - length next
 
-      low : class < n
-      low = omega (arith, new, l, longer)
+          low : class < n
+          low = omega (arith, new, l, longer)
 
-      here : length next + class ≡ place
-      here = omega (arith, new)
+          here : length next + class ≡ place
+          here = omega (arith, new)
 
-      row : ℕ
-      row = slice_index level i
+          row : ℕ
+          row = slice_index level i
 
-      from : IsLevelCell t n count i row
-      from = before i within
+          from : IsLevelCell t n count i row
+          from = before i within
 
-      value : slice_index more place ≡ slice_index steps (row * n + class)
-      value = ap (slice_index more) (sym here) ∙ above class low
+          value : slice_index more place ≡ slice_index steps (row * n + class)
+          value = ap (slice_index more) (sym here) ∙ above class low
 
-      step : IsLeapStep t n (row * n + class) (slice_index steps (row * n + class))
-      step = are (row * n + class) (
-          let l : row * n + class < suc (length t.rows) * n = place_below (suc (length t.rows)) n row class low (omega (arith, from.upto)) in
-          let e : suc (length t.rows) ≡ length t.rows + 1 = omega arith in
-          subst (λ k. row * n + class < k) (ap (λ k. k * n) e ∙ sym long) l)
+          step : IsLeapStep t n (row * n + class) (slice_index steps (row * n + class))
+          step = are (row * n + class) (
+              let l : row * n + class < suc (length t.rows) * n =
+              place_below (suc (length t.rows)) n row class low (omega (arith, from.upto)) in
+              let e : suc (length t.rows) ≡ length t.rows + 1 = omega arith in
+              subst (λ k. row * n + class < k) (ap (λ k. k * n) e ∙ sym long) l)
 
-      to : ℕ
-      to = slice_index steps (row * n + class)
+          to : ℕ
+          to = slice_index steps (row * n + class)
 
-      before_here : place / n ≡ i
-      before_here = ap (λ k. k / n) (sym (ap (λ k. k + class) (sym at) ∙ here)) ∙ div-mul-add i n class low
+          before_here : place / n ≡ i
+          before_here = ap (λ k. k / n) (sym (ap (λ k. k + class) (sym at) ∙ here)) ∙ div-mul-add i n class low
 
-      class_here : place % n ≡ class
-      class_here = ap (λ k. k % n) (sym (ap (λ k. k + class) (sym at) ∙ here)) ∙ mod-mul-add i n class low
+          class_here : place % n ≡ class
+          class_here = ap (λ k. k % n) (sym (ap (λ k. k + class) (sym at) ∙ here)) ∙ mod-mul-add i n class low
 
-      cell : IsLevelCell t n (suc count) place to
-      cell = record {
-        upto = step.upto;
-        reaches = λ known. (
-          row,
-          subst (λ k. ReachesRow t n count k row) (sym before_here)
-              (from.reaches (subst (λ k. k < length t.rows) (div-mul-add row n class low) (step.from known))),
-          subst (λ k. LeadsToRow t row k to) (sym class_here)
-              (subst (λ k. LeadsToRow t row k to) (mod-mul-add row n class low)
-              (subst (λ k. LeadsToRow t k ((row * n + class) % n) to) (div-mul-add row n class low) (step.leads known))),
-        );
-      }
+          cell : IsLevelCell t n (suc count) place to
+          cell = record {
+            upto = step.upto;
+            reaches = λ known. (
+              row,
+              subst (λ k. ReachesRow t n count k row) (sym before_here)
+                  (from.reaches (subst (λ k. k < length t.rows) (div-mul-add row n class low) (step.from known))),
+              subst (λ k. LeadsToRow t row k to) (sym class_here)
+                  (subst (λ k. LeadsToRow t row k to) (mod-mul-add row n class low)
+                  (subst (λ k. LeadsToRow t k ((row * n + class) % n) to) (div-mul-add row n class low)
+                  (step.leads known))),
+            );
+          }
 
   -- the same where a slice of the steps is appended
   pub level_append :
-      (count : ℕ) (level steps next more piece : List ℕ) (i : ℕ) → length steps ≡ (length t.rows + 1) * n → i < length level
+      (count : ℕ) (level steps next more piece : List ℕ) (i : ℕ) → length steps ≡ (length t.rows + 1) * n
+      → i < length level
       → length next ≡ i * n → more ≡ next ++ piece → length piece ≡ n
       → ((class : ℕ) → class < n → slice_index piece class ≡ slice_index steps (slice_index level i * n + class))
       → AreLeapSteps t n steps → IsLevel t n count level → IsLevel t n (suc count) next → IsLevel t n (suc count) more
   level_append count level steps next more piece i long within at «is» wide same are before now =
       subst (IsLevel t n (suc count)) (sym «is»)
-      (level_more count level steps next (next ++ piece) i long within at (length-append next piece ∙ ap (λ k. length next + k) wide)
-      (λ k l. get_or_append_left next piece 0 k l) (λ class l. get_or-append-add next piece class 0 ∙ same class l) are before now)
+      (level_more count level steps next (next ++ piece) i long within at
+      (length-append next piece ∙ ap (λ k. length next + k) wide)
+      (λ k l. get_or_append_left next piece 0 k l) (λ class l. get_or-append-add next piece class 0 ∙ same class l) are
+      before now)
 
 -- leaps stay those of the table, if a cell is written that was unknown
 module _ (t : Rows) (id class next : ℕ) (unknown : unknown_id ≤ slice_index t.cells (cell_at id class)) where
@@ -190,10 +205,12 @@ module _ (t : Rows) (id class next : ℕ) (unknown : unknown_id ≤ slice_index 
   } where
     other : (row + 3) * t.of.stride + c ≡ cell_at id class → ⊥
     other same =
-        let here : slice_index t.cells (cell_at id class) ≡ (to + 3) * t.of.stride = ap (slice_index t.cells) (sym same) ∙ leads.cell in
+        let here : slice_index t.cells (cell_at id class) ≡ (to + 3) * t.of.stride =
+        ap (slice_index t.cells) (sym same) ∙ leads.cell in
         absurd (omega (arith, here, leads.untagged, unknown))
 
-  reaches_kept : (n count place to : ℕ) → ReachesRow t n count place to → ReachesRow (with_cell t id class next) n count place to
+  reaches_kept :
+      (n count place to : ℕ) → ReachesRow t n count place to → ReachesRow (with_cell t id class next) n count place to
   reaches_kept n zero place to same = same
   reaches_kept n (suc count) place to (row, before, leads) =
       (row, reaches_kept n count (place / n) row before, leads_kept row (place % n) to leads)
@@ -205,8 +222,10 @@ module _ (t : Rows) (id class next : ℕ) (unknown : unknown_id ≤ slice_index 
     leads = λ place within. go place (are.leads place within);
   } where
     go :
-        (place : ℕ) → (slice_index l.cells.items place ≡ mark) ⊎ LeapsTo t l.shape place (slice_index l.cells.items place)
-        → (slice_index l.cells.items place ≡ mark) ⊎ LeapsTo (with_cell t id class next) l.shape place (slice_index l.cells.items place)
+        (place : ℕ) → (slice_index l.cells.items place ≡ mark)
+        ⊎ LeapsTo t l.shape place (slice_index l.cells.items place)
+        → (slice_index l.cells.items place ≡ mark)
+        ⊎ LeapsTo (with_cell t id class next) l.shape place (slice_index l.cells.items place)
     go place (inl marked) = inl marked
     go place (inr leads) = inr (record {
       to = leads.to;
@@ -223,7 +242,8 @@ pub parts_kept :
     (c new : Stored) (nfa : Automaton) (held : Option (Box Leaps)) → new.table.of ≡ c.table.of
     → ((l : Leaps) → AreLeaps c.table l → AreLeaps new.table l) → usage_in_store new ≡ usage_in_store c
     → AreCacheParts c nfa held → AreCacheParts new nfa held
-parts_kept c new nfa None of stay same parts = record { scratch = parts.scratch ∙ ap (λ (m : Machine). m.nfa) (sym of); leaps = _; within = _ }
+parts_kept c new nfa None of stay same parts =
+    record { scratch = parts.scratch ∙ ap (λ (m : Machine). m.nfa) (sym of); leaps = _; within = _ }
 parts_kept c new nfa (Some l) of stay same parts = record {
   scratch = parts.scratch ∙ ap (λ (m : Machine). m.nfa) (sym of);
   leaps = stay l.value parts.leaps;
@@ -256,7 +276,8 @@ pub parts_next :
     → unknown_id ≤ slice_index c.table.cells (cell_at id class)
     → AreCacheParts c nfa held → AreCacheParts (with_next c id class next) nfa held
 parts_next c nfa held id class next unknown =
-    parts_kept c (with_next c id class next) nfa held refl (leaps_kept c.table id class next unknown) (used_next c id class next)
+    parts_kept c (with_next c id class next) nfa held refl (leaps_kept c.table id class next unknown)
+    (used_next c id class next)
 
 -- with a transition, where leaps stay only if it was not known
 pub parts_written :
@@ -266,12 +287,17 @@ pub parts_written :
     → AreCacheParts c nfa old → AreCacheParts (with_next c id class next) nfa new
 parts_written c nfa old new id class next unknown free kept dropped parts = go unknown refl where
   go : (b : Bool) → unknown ≡ b → AreCacheParts (with_next c id class next) nfa new
-  go true e = subst (λ (l : Option (Box Leaps)). AreCacheParts (with_next c id class next) nfa l) (sym (kept e)) (parts_next c nfa old id class next (free e) parts)
-  go false e = subst (λ (l : Option (Box Leaps)). AreCacheParts (with_next c id class next) nfa l) (sym (dropped e)) (parts_none (with_next c id class next) nfa parts.scratch)
+  go true e =
+      subst (λ (l : Option (Box Leaps)). AreCacheParts (with_next c id class next) nfa l) (sym (kept e))
+      (parts_next c nfa old id class next (free e) parts)
+  go false e =
+      subst (λ (l : Option (Box Leaps)). AreCacheParts (with_next c id class next) nfa l) (sym (dropped e))
+      (parts_none (with_next c id class next) nfa parts.scratch)
 
 -- with a start slot written
 slice_get_set :
-    (xs : List ℕ) (i x k y : ℕ) → slice_get (slice_set xs i x) k ≡ Some y → ((k ≡ i) × (y ≡ x)) ⊎ (slice_get xs k ≡ Some y)
+    (xs : List ℕ) (i x k y : ℕ) → slice_get (slice_set xs i x) k ≡ Some y → ((k ≡ i) × (y ≡ x))
+    ⊎ (slice_get xs k ≡ Some y)
 slice_get_set [] i x k y e = inr e
 slice_get_set (a ∷ xs) zero x zero y e = inl (refl, sym (some_inj e))
 slice_get_set (a ∷ xs) zero x (suc k) y e = inr e
@@ -281,19 +307,25 @@ slice_get_set (a ∷ xs) (suc i) x (suc k) y e = go (slice_get_set xs i x k y e)
   go (inl here) = inl (ap suc here.0, here.1)
   go (inr there) = inr there
 
-starts_set : (t : Rows) (xs : List ℕ) (slot id : ℕ) → AllStarts t xs → LeadsToStart t id slot → AllStarts t (slice_set xs slot id)
+starts_set :
+    (t : Rows) (xs : List ℕ) (slot id : ℕ) → AllStarts t xs → LeadsToStart t id slot
+    → AllStarts t (slice_set xs slot id)
 starts_set t xs slot id all leads s i e = go (slice_get_set xs slot id s i e) where
   go : ((s ≡ slot) × (i ≡ id)) ⊎ (slice_get xs s ≡ Some i) → IsSlot t s i
   go (inl here) = subst (λ n. IsSlot t n i) (sym here.0) (subst (IsSlot t slot) (sym here.1) (inr leads))
   go (inr there) = all s i there
 
-pub cache_start : (c : Stored) (s : Settings) (slot id : ℕ) → LeadsToStart c.table id slot → IsCache c s → IsCache (with_start_in_store c slot id) s
+pub cache_start :
+    (c : Stored) (s : Settings) (slot id : ℕ) → LeadsToStart c.table id slot → IsCache c s
+    → IsCache (with_start_in_store c slot id) s
 cache_start c s slot id leads held =
     let long : length (slice_set c.starts slot id) ≡ length c.starts = length-set c.starts slot id in
     record {
       named = starts_set c.table c.starts slot id held.named leads;
       within = omega (arith, held.within, long);
-      enough = subst (λ n. minimum_capacity c.table.of.stride n c.table.of.greatest c.table.of.fixed ≤ c.table.of.capacity) (sym long) held.enough;
+      enough =
+          subst (λ n. minimum_capacity c.table.of.stride n c.table.of.greatest c.table.of.fixed ≤ c.table.of.capacity)
+          (sym long) held.enough;
       offsets = subst (λ n. (n + 4) * c.table.of.stride < offset_limit) (sym long) held.offsets;
       slots = long ∙ held.slots;
       same = held.same;

@@ -8,70 +8,89 @@ use Rattle.std.proofs.lemmas.Option.{slice_get_within}
 use Rattle.std.proofs.lemmas.List.{get_or_append_left, get_or-append-add, take-append-le}
 use Rattle.std.proofs.Math.Nat.{mul-le-mul_right}
 use Rattle.std.proofs.lemmas.List.Sums.{sum_by_push}
-use Rattle.automata_base.specs.Powersets.Powerset.{Powerset, cost}
+use Rattle.automata_base.specs.Powersets.Powerset.{Powerset, cost, dead}
 use Rattle.automata_base.specs.Powersets.Equal.{powerset_eq, powerset_eq-Decides}
 use Rattle.automata_hybrid.specs.Machines.Reachable.{IsStateOf}
 use Rattle.automata_hybrid.specs.declared.cache.row.Row.{Row}
-use Rattle.automata_base.specs.Powersets.Powerset.{dead}
 use Rattle.automata_hybrid.specs.Cache.Ids.{quit_id}
 use Rattle.automata_hybrid.specs.Private.Machines.Machine.{IsTemplate}
-use Rattle.automata_hybrid.specs.Private.Cache.Table.{CellLeads, CellQuits, CellUnknown}
-use Rattle.automata_hybrid.specs.Cache.Table.{Rows, find_id, id_of, Names, Leads, row_id, row_cost}
-use Rattle.automata_hybrid.specs.Private.Cache.Table.{IsCell}
-use Rattle.automata_hybrid.specs.Private.Cache.Table.{with_row}
-use Rattle.automata_hybrid.specs.Private.Cache.Table.{RowsFitCells, IsStepped}
-use Rattle.automata_hybrid.specs.Cache.Table.{IsRowState}
-use Rattle.automata_hybrid.specs.Private.Cache.Table.{IsHeld, StateMap}
+use Rattle.automata_hybrid.specs.Private.Cache.Table.{CellLeads, CellQuits, CellUnknown, IsCell, with_row_in_store}
+use Rattle.automata_hybrid.specs.Private.Cache.Table.{RowsFitCells, IsStepped, IsHeld, StateMap}
+use Rattle.automata_hybrid.specs.Cache.Table.{Rows, find_id, id_of, Names, Leads, row_id, row_cost, IsRowState}
 
 -- a state that rows have keeps its ID when more come
-find_id-more : (s at : ℕ) (q : Powerset) (rs ys : List Row) (id : ℕ) → find_id s at q rs ≡ Some id → find_id s at q (rs ++ ys) ≡ Some id
+find_id-more :
+    (s at : ℕ) (q : Powerset) (rs ys : List Row) (id : ℕ) → find_id s at q rs ≡ Some id
+    → find_id s at q (rs ++ ys) ≡ Some id
 find_id-more s at q [] ys id h = cc
 find_id-more s at q (r ∷ rs) ys id h = go (powerset_eq q r.state) h (find_id-more s (at + s) q rs ys id) where
-  go : (b : Bool) → cond b (Some (row_id at r)) (find_id s (at + s) q rs) ≡ Some id → (find_id s (at + s) q rs ≡ Some id → find_id s (at + s) q (rs ++ ys) ≡ Some id) → cond b (Some (row_id at r)) (find_id s (at + s) q (rs ++ ys)) ≡ Some id
+  go :
+      (b : Bool) → cond b (Some (row_id at r)) (find_id s (at + s) q rs) ≡ Some id
+      → (find_id s (at + s) q rs ≡ Some id → find_id s (at + s) q (rs ++ ys) ≡ Some id)
+      → cond b (Some (row_id at r)) (find_id s (at + s) q (rs ++ ys)) ≡ Some id
   go true h again = h
   go false h again = again h
 
 -- a state that is new stands last
-pub find_id-push_new : (s at : ℕ) (rs : List Row) (r : Row) → find_id s at r.state rs ≡ None → find_id s at r.state (rs ++ r ∷ []) ≡ Some (row_id (at + length rs * s) r)
-find_id-push_new s at [] r h = rw ((powerset_eq-Decides r.state r.state).1 refl) (let e : at ≡ at + 0 * s = omega arith in ap (λ n. Some (row_id n r)) e)
+pub find_id-push_new :
+    (s at : ℕ) (rs : List Row) (r : Row) → find_id s at r.state rs ≡ None
+    → find_id s at r.state (rs ++ r ∷ []) ≡ Some (row_id (at + length rs * s) r)
+find_id-push_new s at [] r h =
+    rw ((powerset_eq-Decides r.state r.state).1 refl)
+    (let e : at ≡ at + 0 * s = omega arith in ap (λ n. Some (row_id n r)) e)
 find_id-push_new s at (x ∷ rs) r h = go (powerset_eq r.state x.state) h (find_id-push_new s (at + s) rs r) where
-  go : (b : Bool) → cond b (Some (row_id at x)) (find_id s (at + s) r.state rs) ≡ None → (find_id s (at + s) r.state rs ≡ None → find_id s (at + s) r.state (rs ++ r ∷ []) ≡ Some (row_id (at + s + length rs * s) r)) → cond b (Some (row_id at x)) (find_id s (at + s) r.state (rs ++ r ∷ [])) ≡ Some (row_id (at + suc (length rs) * s) r)
+  go :
+      (b : Bool) → cond b (Some (row_id at x)) (find_id s (at + s) r.state rs) ≡ None
+      → (find_id s (at + s) r.state rs ≡ None
+      → find_id s (at + s) r.state (rs ++ r ∷ []) ≡ Some (row_id (at + s + length rs * s) r))
+      → cond b (Some (row_id at x)) (find_id s (at + s) r.state (rs ++ r ∷ []))
+      ≡ Some (row_id (at + suc (length rs) * s) r)
   go true h again = cc
-  go false h again = let e : at + s + length rs * s ≡ at + suc (length rs) * s = omega arith in again h ∙ ap (λ n. Some (row_id n r)) e
+  go false h again =
+      let e : at + s + length rs * s ≡ at + suc (length rs) * s = omega arith in again h ∙ ap (λ n. Some (row_id n r)) e
 
 -- another keeps its answer
-pub find_id-push_other : (s at : ℕ) (p : Powerset) (rs : List Row) (r : Row) → powerset_eq p r.state ≡ false → find_id s at p (rs ++ r ∷ []) ≡ find_id s at p rs
+pub find_id-push_other :
+    (s at : ℕ) (p : Powerset) (rs : List Row) (r : Row) → powerset_eq p r.state ≡ false
+    → find_id s at p (rs ++ r ∷ []) ≡ find_id s at p rs
 find_id-push_other s at p [] r h = rw h refl
 find_id-push_other s at p (x ∷ rs) r h = rw (find_id-push_other s (at + s) p rs r h) refl
 
 flipped : (q p : Powerset) → powerset_eq q p ≡ false → powerset_eq p q ≡ false
 flipped q p h = (decided powerset_eq powerset_eq-Decides).symm p q ∙ h
 
-pub Names-more : (t : Rows) (r : Row) (id : ℕ) (q : Powerset) → Names t id q → Names (with_row t r) id q
+pub Names-more : (t : Rows) (r : Row) (id : ℕ) (q : Powerset) → Names t id q → Names (with_row_in_store t r) id q
 Names-more t r id q h = find_id-more t.of.stride (3 * t.of.stride) q t.rows (r ∷ []) id h
 
-pub Leads-more : (t : Rows) (r : Row) (id : ℕ) (q : Powerset) → Leads t id q → Leads (with_row t r) id q
+pub Leads-more : (t : Rows) (r : Row) (id : ℕ) (q : Powerset) → Leads t id q → Leads (with_row_in_store t r) id q
 Leads-more t r id q (inl h) = inl h
 Leads-more t r id q (inr h) = inr (Names-more t r id q h)
 
-pub IsCell-more : (t : Rows) (r : Row) (q : Powerset) (class id : ℕ) → IsCell t q class id → IsCell (with_row t r) q class id
+pub IsCell-more :
+    (t : Rows) (r : Row) (q : Powerset) (class id : ℕ) → IsCell t q class id → IsCell (with_row_in_store t r) q class id
 IsCell-more t r q class id (CellQuits h e) = CellQuits h e
 IsCell-more t r q class id (CellUnknown h e) = CellUnknown h e
 IsCell-more t r q class id (CellLeads h l) = CellLeads h (λ unit is at. Leads-more t r id _ (l unit is at))
 
 -- a new row is named at once
-pub Names-new : (t : Rows) (r : Row) → length t.cells ≡ (length t.rows + 3) * t.of.stride → id_of t r.state ≡ None → Names (with_row t r) (row_id (length t.cells) r) r.state
+pub Names-new :
+    (t : Rows) (r : Row) → length t.cells ≡ (length t.rows + 3) * t.of.stride → id_of t r.state ≡ None
+    → Names (with_row_in_store t r) (row_id (length t.cells) r) r.state
 Names-new t r whole none =
     let e : 3 * t.of.stride + length t.rows * t.of.stride ≡ length t.cells = omega (arith, whole) in
     find_id-push_new t.of.stride (3 * t.of.stride) t.rows r none ∙ ap (λ n. Some (row_id n r)) e
 
 -- an element of a list with one more
-pub at_push : {A : Type 0} (xs : List A) (y : A) (k : ℕ) (x : A) → slice_get (xs ++ y ∷ []) k ≡ Some x → (slice_get xs k ≡ Some x) ⊎ ((k ≡ length xs) × (y ≡ x))
+pub at_push :
+    {A : Type 0} (xs : List A) (y : A) (k : ℕ) (x : A) → slice_get (xs ++ y ∷ []) k ≡ Some x → (slice_get xs k ≡ Some x)
+    ⊎ ((k ≡ length xs) × (y ≡ x))
 at_push [] y zero x h = inr (refl, cc)
 at_push [] y (suc k) x h = cc
 at_push (z ∷ xs) y zero x h = inl h
 at_push (z ∷ xs) y (suc k) x h = go (at_push xs y k x h) where
-  go : (slice_get xs k ≡ Some x) ⊎ ((k ≡ length xs) × (y ≡ x)) → (slice_get xs k ≡ Some x) ⊎ ((suc k ≡ suc (length xs)) × (y ≡ x))
+  go :
+      (slice_get xs k ≡ Some x) ⊎ ((k ≡ length xs) × (y ≡ x)) → (slice_get xs k ≡ Some x)
+      ⊎ ((suc k ≡ suc (length xs)) × (y ≡ x))
   go (inl e) = inl e
   go (inr (e, f)) = inr (ap suc e, f)
 
@@ -80,26 +99,39 @@ inside k n s class h l =
     let le : (k + 4) * s ≤ (n + 3) * s = mul-le-mul_right s (omega (arith, h)) in
     omega (arith, le, l)
 
-stepped-with_row : (t : Rows) (r : Row) → IsTemplate t.of.stride t.of.template → length t.cells ≡ (length t.rows + 3) * t.of.stride → IsStepped t → IsStepped (with_row t r)
+stepped-with_row :
+    (t : Rows) (r : Row) → IsTemplate t.of.stride t.of.template → length t.cells ≡ (length t.rows + 3) * t.of.stride
+    → IsStepped t → IsStepped (with_row_in_store t r)
 stepped-with_row t r template whole old k class x h l = go (at_push t.rows r k x h) where
-  go : (slice_get t.rows k ≡ Some x) ⊎ ((k ≡ length t.rows) × (r ≡ x)) → IsCell (with_row t r) x.state class (get_or (t.cells ++ t.of.template) ((k + 3) * t.of.stride + class) 0)
+  go :
+      (slice_get t.rows k ≡ Some x) ⊎ ((k ≡ length t.rows) × (r ≡ x))
+      → IsCell (with_row_in_store t r) x.state class
+      (get_or (t.cells ++ t.of.template) ((k + 3) * t.of.stride + class) 0)
   go (inl e) =
-      let within : (k + 3) * t.of.stride + class < length t.cells = rw whole (inside k (length t.rows) t.of.stride class (slice_get_within t.rows k x e) l) in
-      subst (IsCell (with_row t r) x.state class) (sym (get_or_append_left t.cells t.of.template 0 ((k + 3) * t.of.stride + class) within)) (IsCell-more t r x.state class _ (old k class x e l))
+      let within : (k + 3) * t.of.stride + class < length t.cells =
+      rw whole (inside k (length t.rows) t.of.stride class (slice_get_within t.rows k x e) l) in
+      subst (IsCell (with_row_in_store t r) x.state class)
+      (sym (get_or_append_left t.cells t.of.template 0 ((k + 3) * t.of.stride + class) within))
+      (IsCell-more t r x.state class _ (old k class x e l))
   go (inr (e, f)) =
       let at : length t.cells + class ≡ (k + 3) * t.of.stride + class = rw (e, whole) refl in
-      let read : get_or t.of.template class 0 ≡ get_or (t.cells ++ t.of.template) ((k + 3) * t.of.stride + class) 0 = sym (get_or-append-add t.cells t.of.template class 0) ∙ ap (λ i. get_or (t.cells ++ t.of.template) i 0) at in
-      subst (IsCell (with_row t r) x.state class) read (new (template.cells class l)) where
-        new : (get_or t.of.template class 0 ≡ quit_id t.of.stride) ⊎ (get_or t.of.template class 0 ≡ 2 ^ 31) → IsCell (with_row t r) x.state class (get_or t.of.template class 0)
+      let read : get_or t.of.template class 0 ≡ get_or (t.cells ++ t.of.template) ((k + 3) * t.of.stride + class) 0 =
+      sym (get_or-append-add t.cells t.of.template class 0) ∙ ap (λ i. get_or (t.cells ++ t.of.template) i 0) at in
+      subst (IsCell (with_row_in_store t r) x.state class) read (new (template.cells class l)) where
+        new :
+            (get_or t.of.template class 0 ≡ quit_id t.of.stride) ⊎ (get_or t.of.template class 0 ≡ 2 ^ 31)
+            → IsCell (with_row_in_store t r) x.state class (get_or t.of.template class 0)
         new (inl q) = CellQuits q q
         new (inr u) = CellUnknown u u
 
 -- a new row, after which the rows still fit together
 pub RowsFitCells-with_row :
-    (t : Rows) (r : Row) → RowsFitCells t → IsTemplate t.of.stride t.of.template → id_of t r.state ≡ None → (r.state ≡ dead → ⊥) → cost r.state ≤ t.of.greatest → IsStateOf t.of r.state → length t.cells < 2 ^ 27
-    → RowsFitCells (with_row t r)
+    (t : Rows) (r : Row) → RowsFitCells t → IsTemplate t.of.stride t.of.template → id_of t r.state ≡ None
+    → (r.state ≡ dead → ⊥) → cost r.state ≤ t.of.greatest → IsStateOf t.of r.state → length t.cells < 2 ^ 27
+    → RowsFitCells (with_row_in_store t r)
 RowsFitCells-with_row t r i template none live cheap of fits =
-    let more : length (t.cells ++ t.of.template) ≡ length t.cells + t.of.stride = length-append t.cells t.of.template ∙ ap (λ k. length t.cells + k) template.whole in
+    let more : length (t.cells ++ t.of.template) ≡ length t.cells + t.of.stride =
+    length-append t.cells t.of.template ∙ ap (λ k. length t.cells + k) template.whole in
     let one : length (t.rows ++ r ∷ []) ≡ length t.rows + 1 = length-append t.rows (r ∷ []) in
     let few : 3 * t.of.stride ≤ length t.cells = rw i.whole (grind arith) in
     record {
@@ -110,38 +142,56 @@ RowsFitCells-with_row t r i template none live cheap of fits =
       ids = λ k x h. ids k x (at_push t.rows r k x h);
       states = λ k x h. states k x (at_push t.rows r k x h);
     } where
-      ids : (k : ℕ) (x : Row) → (slice_get t.rows k ≡ Some x) ⊎ ((k ≡ length t.rows) × (r ≡ x)) → Names (with_row t r) (row_id ((k + 3) * t.of.stride) x) x.state × ((k + 3) * t.of.stride < 2 ^ 27)
+      ids :
+          (k : ℕ) (x : Row) → (slice_get t.rows k ≡ Some x) ⊎ ((k ≡ length t.rows) × (r ≡ x))
+          → Names (with_row_in_store t r) (row_id ((k + 3) * t.of.stride) x) x.state × ((k + 3) * t.of.stride < 2 ^ 27)
       ids k x (inl e) = let old = i.ids k x e in (Names-more t r _ x.state old.0, old.1)
       ids k x (inr (e, f)) =
           let at : length t.cells ≡ (k + 3) * t.of.stride = i.whole ∙ rw e refl in (
-            subst (λ y. Names (with_row t r) (row_id ((k + 3) * t.of.stride) y) y.state) f (subst (λ n. Names (with_row t r) (row_id n r) r.state) at (Names-new t r i.whole none)),
+            subst (λ y. Names (with_row_in_store t r) (row_id ((k + 3) * t.of.stride) y) y.state) f
+                (subst (λ n. Names (with_row_in_store t r) (row_id n r) r.state) at (Names-new t r i.whole none)),
             subst (λ n. n < 2 ^ 27) at fits,
           )
 
-      states : (k : ℕ) (x : Row) → (slice_get t.rows k ≡ Some x) ⊎ ((k ≡ length t.rows) × (r ≡ x)) → IsRowState t.of x.state
+      states :
+          (k : ℕ) (x : Row) → (slice_get t.rows k ≡ Some x) ⊎ ((k ≡ length t.rows) × (r ≡ x)) → IsRowState t.of x.state
       states k x (inl e) = i.states k x e
-      states k x (inr (e, f)) = subst (λ (y : Row). IsRowState t.of y.state) f (record { own = of; cheap = cheap; alive = live })
+      states k x (inr (e, f)) =
+          subst (λ (y : Row). IsRowState t.of y.state) f (record { own = of; cheap = cheap; alive = live })
 
 -- and the map that has cached it
 pub IsHeld-with_row :
-    (t : Rows) (r : Row) (s : ℕ) (row : List ℕ) (m n : StateMap) (costs : ℕ) → IsHeld t s row m costs → id_of t r.state ≡ None → (r.state ≡ dead → ⊥) → cost r.state ≤ t.of.greatest → IsStateOf t.of r.state → length t.cells < 2 ^ 27
-    → ((p : Powerset) → get powerset_eq n p ≡ cond (powerset_eq r.state p) (Some (row_id (length t.cells) r)) (get powerset_eq m p)) → IsHeld (with_row t r) s row n (costs + cost r.state)
+    (t : Rows) (r : Row) (s : ℕ) (row : List ℕ) (m n : StateMap) (costs : ℕ) → IsHeld t s row m costs
+    → id_of t r.state ≡ None → (r.state ≡ dead → ⊥) → cost r.state ≤ t.of.greatest → IsStateOf t.of r.state
+    → length t.cells < 2 ^ 27
+    → ((p : Powerset)
+    → get powerset_eq n p ≡ cond (powerset_eq r.state p) (Some (row_id (length t.cells) r)) (get powerset_eq m p))
+    → IsHeld (with_row_in_store t r) s row n (costs + cost r.state)
 IsHeld-with_row t r s row m n costs i none live cheap of fits new = record {
   rows = RowsFitCells-with_row t r i.rows i.cells none live cheap of fits;
   cells = i.cells;
   stride = i.stride;
   template = i.template;
-  mapped = λ p. ⊎_elim (λ (e : powerset_eq r.state p ≡ true). same p e) (λ (e : powerset_eq r.state p ≡ false). other p e) (cases_Bool (powerset_eq r.state p));
+  mapped =
+      λ p. ⊎_elim (λ (e : powerset_eq r.state p ≡ true). same p e) (λ (e : powerset_eq r.state p ≡ false). other p e)
+      (cases_Bool (powerset_eq r.state p));
   costs_of = ap (λ n. n + cost r.state) i.costs_of ∙ sym (sum_by_push row_cost t.rows r);
 } where
-  same : (p : Powerset) → powerset_eq r.state p ≡ true → get powerset_eq n p ≡ id_of (with_row t r) p
-  same p e = new p ∙ rw e (sym (subst (λ w. id_of (with_row t r) w ≡ Some (row_id (length t.cells) r)) ((powerset_eq-Decides r.state p).0 e) (Names-new t r i.rows.whole none)))
+  same : (p : Powerset) → powerset_eq r.state p ≡ true → get powerset_eq n p ≡ id_of (with_row_in_store t r) p
+  same p e =
+      new p ∙ rw e
+      (sym (subst (λ w. id_of (with_row_in_store t r) w ≡ Some (row_id (length t.cells) r))
+      ((powerset_eq-Decides r.state p).0 e) (Names-new t r i.rows.whole none)))
 
-  other : (p : Powerset) → powerset_eq r.state p ≡ false → get powerset_eq n p ≡ id_of (with_row t r) p
-  other p e = new p ∙ rw e (i.mapped p ∙ sym (find_id-push_other t.of.stride (3 * t.of.stride) p t.rows r (flipped r.state p e)))
+  other : (p : Powerset) → powerset_eq r.state p ≡ false → get powerset_eq n p ≡ id_of (with_row_in_store t r) p
+  other p e =
+      new p ∙ rw e
+      (i.mapped p ∙ sym (find_id-push_other t.of.stride (3 * t.of.stride) p t.rows r (flipped r.state p e)))
 
 -- a map that finds the same
-pub IsHeld-map : (t : Rows) (s : ℕ) (row : List ℕ) (m n : StateMap) (costs : ℕ) → IsHeld t s row m costs → ((p : Powerset) → get powerset_eq n p ≡ get powerset_eq m p) → IsHeld t s row n costs
+pub IsHeld-map :
+    (t : Rows) (s : ℕ) (row : List ℕ) (m n : StateMap) (costs : ℕ) → IsHeld t s row m costs
+    → ((p : Powerset) → get powerset_eq n p ≡ get powerset_eq m p) → IsHeld t s row n costs
 IsHeld-map t s row m n costs i same = record {
   rows = i.rows;
   cells = i.cells;

@@ -1,23 +1,21 @@
 -- The states of the rows of a table, one by one.
-use Rattle.std.proofs.Common.{◌≡◌, ◌∙◌, ℕ, ◌+◌, ◌-◌, ◌*◌, ◌%◌, ◌^◌, ◌<◌, ◌≤◌, suc, List, [], ◌∷◌, length, Some, drop, take, get_or, slice_get}
-use Rattle.std.proofs.Common.{◌⊎◌, inl, inr, Option}
+use Rattle.std.proofs.Common.{◌≡◌, ◌∙◌, ℕ, ◌+◌, ◌-◌, ◌*◌, ◌%◌, ◌^◌, ◌<◌, ◌≤◌, suc, List, [], ◌∷◌, length, Some, drop}
+use Rattle.std.proofs.Common.{take, get_or, slice_get, ◌⊎◌, inl, inr, Option, refl, sym, ap, subst, arith}
 use Rattle.automata_base.specs.Powersets.Passes.{IsUnit}
 use Rattle.automata_base.specs.Retraced.Steps.{successor}
 use Rattle.automata_config.specs.Options.{match_kind_of}
 use Rattle.automata_hybrid.specs.Cache.Ids.{quit_id}
-use Rattle.automata_hybrid.specs.Cache.States.{IsTransition, transition_on}
+use Rattle.automata_hybrid.specs.Cache.States.{IsTransition, transition_on, HeldState, IsHeldState, held_states}
+use Rattle.automata_hybrid.specs.Cache.States.{states_from}
 use Rattle.automata_hybrid.specs.Private.Cache.Table.{CellLeads, CellQuits, CellUnknown, HasOwnStates, IsCell}
 use Rattle.automata_hybrid.specs.Private.Cache.Table.{RowsFitCells}
-use Rattle.automata_hybrid.specs.Cache.Table.{Leads}
+use Rattle.automata_hybrid.specs.Cache.Table.{Leads, Names, has_patterns, row_id}
 use Rattle.automata_hybrid.specs.Machines.Machine.{unit_class}
-use Rattle.std.proofs.Common.{refl, sym, ap, subst, arith}
 use Rattle.std.proofs.lemmas.List.{get_or-drop, get_or-take, length-drop}
 use Rattle.std.specs.List.{AllByRecursion}
 use Rattle.automata_hybrid.specs.declared.cache.row.Row.{Row}
-use Rattle.automata_hybrid.specs.Cache.States.{HeldState, IsHeldState, held_states, states_from}
 use Rattle.automata_hybrid.specs.Private.Cache.States.{AreRowsLeft}
 use Rattle.automata_hybrid.specs.Cache.Stores.{Stored}
-use Rattle.automata_hybrid.specs.Cache.Table.{Names, has_patterns, row_id}
 use Rattle.automata_hybrid.proofs.Caches.Places.{tags_mod}
 
 -- the state of a row
@@ -32,7 +30,9 @@ pub record IsFirstRow (s at : ℕ) (cells : List ℕ) (rows : List Row) (r : Row
   pub left : AreRowsLeft s (at + s) (drop s cells) (drop 1 rows)
   pub fits : at + s < 2 ^ 64
 
-pub first_row : (s at : ℕ) (cells : List ℕ) (rows : List Row) (d : Row) → 0 < length rows → AreRowsLeft s at cells rows → IsFirstRow s at cells rows (get_or rows 0 d)
+pub first_row :
+    (s at : ℕ) (cells : List ℕ) (rows : List Row) (d : Row) → 0 < length rows → AreRowsLeft s at cells rows
+    → IsFirstRow s at cells rows (get_or rows 0 d)
 first_row s at cells [] d l i = absurd (omega (arith, l))
 first_row s at cells (r ∷ rows) d l i =
     let all : suc (length rows) * s ≡ s + length rows * s = omega arith in
@@ -52,7 +52,8 @@ first_row s at cells (r ∷ rows) d l i =
 
 -- the state of a row that a cache has
 held_one :
-    (c : Stored) (k at : ℕ) (cells : List ℕ) (r : Row) → RowsFitCells c.table → HasOwnStates c.table → at ≡ (k + 3) * c.table.of.stride → slice_get c.table.rows k ≡ Some r
+    (c : Stored) (k at : ℕ) (cells : List ℕ) (r : Row) → RowsFitCells c.table → HasOwnStates c.table
+    → at ≡ (k + 3) * c.table.of.stride → slice_get c.table.rows k ≡ Some r
     → ((n : ℕ) → get_or cells n 0 ≡ get_or c.table.cells (at + n) 0) → IsHeldState c (held c.table.of.stride at cells r)
 held_one c k at cells r fits own_states same has read =
     let own = fits.ids k r has in
@@ -72,28 +73,30 @@ held_one c k at cells r fits own_states same has read =
     leads :
         (unit : Option ℕ) → IsUnit unit → unit_class c.table.of unit < c.table.of.stride
         → IsTransition c (held c.table.of.stride at cells r) unit
-    leads unit is below low = go (subst (IsCell c.table r.state class) (sym value) (fits.stepped k class r has below)) where
-      class : ℕ
-      class = unit_class c.table.of unit
+    leads unit is below low =
+        go (subst (IsCell c.table r.state class) (sym value) (fits.stepped k class r has below)) where
+          class : ℕ
+          class = unit_class c.table.of unit
 
-      id : ℕ
-      id = transition_on c (held c.table.of.stride at cells r) unit
+          id : ℕ
+          id = transition_on c (held c.table.of.stride at cells r) unit
 
-      value : id ≡ get_or c.table.cells ((k + 3) * c.table.of.stride + class) 0
-      value =
-          get_or-take c.table.of.stride cells class 0 below ∙ read class
-          ∙ ap (λ n. get_or c.table.cells (n + class) 0) same
+          value : id ≡ get_or c.table.cells ((k + 3) * c.table.of.stride + class) 0
+          value =
+              get_or-take c.table.of.stride cells class 0 below ∙ read class
+              ∙ ap (λ n. get_or c.table.cells (n + class) 0) same
 
-      go :
-          IsCell c.table r.state class id
-          → (id ≡ quit_id c.table.of.stride)
-          ⊎ Leads c.table id (successor c.table.of.nfa (match_kind_of c.table.of.config) r.state unit)
-      go (CellQuits at_quit quits) = inl quits
-      go (CellUnknown free unknown) = absurd (omega (arith, low, unknown))
-      go (CellLeads free all) = inr (all unit is refl)
+          go :
+              IsCell c.table r.state class id
+              → (id ≡ quit_id c.table.of.stride)
+              ⊎ Leads c.table id (successor c.table.of.nfa (match_kind_of c.table.of.config) r.state unit)
+          go (CellQuits at_quit quits) = inl quits
+          go (CellUnknown free unknown) = absurd (omega (arith, low, unknown))
+          go (CellLeads free all) = inr (all unit is refl)
 
 held_from :
-    (c : Stored) (k at : ℕ) (cells : List ℕ) (rows : List Row) → RowsFitCells c.table → HasOwnStates c.table → at ≡ (k + 3) * c.table.of.stride
+    (c : Stored) (k at : ℕ) (cells : List ℕ) (rows : List Row) → RowsFitCells c.table → HasOwnStates c.table
+    → at ≡ (k + 3) * c.table.of.stride
     → ((j : ℕ) (r : Row) → slice_get rows j ≡ Some r → slice_get c.table.rows (k + j) ≡ Some r)
     → ((n : ℕ) → get_or cells n 0 ≡ get_or c.table.cells (at + n) 0)
     → AllByRecursion (IsHeldState c) (states_from c.table.of.stride at cells rows)
@@ -104,12 +107,16 @@ held_from c k at cells (r ∷ rows) fits own same has read =
     let next : at + s ≡ (suc k + 3) * s = omega (arith, same) in (
       held_one c k at cells r fits own same (subst (λ n. slice_get c.table.rows n ≡ Some r) here (has 0 r refl)) read,
       held_from c (suc k) (at + s) (drop s cells) rows fits own next
-          (λ j x h. (let e : k + suc j ≡ suc k + j = omega arith in subst (λ n. slice_get c.table.rows n ≡ Some x) e (has (suc j) x h)))
-          (λ n. (let e : at + (s + n) ≡ at + s + n = omega arith in get_or-drop s cells n 0 ∙ read (s + n) ∙ ap (λ i. get_or c.table.cells i 0) e)),
+          (λ j x h.
+          (let e : k + suc j ≡ suc k + j = omega arith in
+          subst (λ n. slice_get c.table.rows n ≡ Some x) e (has (suc j) x h)))
+          (λ n. (let e : at + (s + n) ≡ at + s + n = omega arith in
+          get_or-drop s cells n 0 ∙ read (s + n) ∙ ap (λ i. get_or c.table.cells i 0) e)),
     )
 
 -- a cache holds each of its states so
-pub all_held : (c : Stored) → RowsFitCells c.table → HasOwnStates c.table → AllByRecursion (IsHeldState c) (held_states c.table)
+pub all_held :
+    (c : Stored) → RowsFitCells c.table → HasOwnStates c.table → AllByRecursion (IsHeldState c) (held_states c.table)
 all_held c fits own =
     held_from c 0 (3 * c.table.of.stride) (drop (3 * c.table.of.stride) c.table.cells) c.table.rows fits own refl
     (λ j r h. (let e : j ≡ 0 + j = omega arith in subst (λ n. slice_get c.table.rows n ≡ Some r) e h))

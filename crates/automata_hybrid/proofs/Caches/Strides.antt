@@ -24,4 +24,5 @@ stride_log len (suc (suc (suc (suc (suc (suc (suc zero))))))) h l = grind (arith
 stride_log len (suc (suc (suc (suc (suc (suc (suc (suc zero)))))))) h l = grind (arith, nat_tests)
 stride_log len (suc (suc (suc (suc (suc (suc (suc (suc (suc zero))))))))) h l = grind (arith, nat_tests)
 stride_log len (suc (suc (suc (suc (suc (suc (suc (suc (suc (suc r)))))))))) h l =
-    absurd (omega (arith, h, stride_few len, big_power (suc (suc (suc (suc (suc (suc (suc (suc (suc (suc r)))))))))) (omega arith)))
+    absurd (omega
+    (arith, h, stride_few len, big_power (suc (suc (suc (suc (suc (suc (suc (suc (suc (suc r)))))))))) (omega arith)))

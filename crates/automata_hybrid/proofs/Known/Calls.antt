@@ -1,5 +1,6 @@
 -- What steps and calls for a start state make of what a cache knows.
-use Rattle.std.proofs.Common.{ℕ, ◌≡◌, ◌∙◌, ◌*◌, ◌<◌, ◌≤◌, length, Option, None, Some, true, false, cond, refl, sym, ap, subst, arith}
+use Rattle.std.proofs.Common.{ℕ, ◌≡◌, ◌∙◌, ◌*◌, ◌<◌, ◌≤◌, length, Option, None, Some, true, false, cond, refl, sym, ap}
+use Rattle.std.proofs.Common.{subst, arith}
 use Rattle.automata_base.specs.Powersets.Passes.{IsUnit}
 use Rattle.automata_base.specs.Powersets.Powerset.{Powerset}
 use Rattle.automata_base.specs.Retraced.Steps.{start_state_of, successor}
@@ -26,7 +27,7 @@ use Rattle.automata_hybrid.specs.Private.Cache.Stores.{IsKnownStart}
 use Rattle.automata_hybrid.specs.Private.Cache.Usage.{GivesUpInStore}
 use Rattle.automata_hybrid.specs.Private.Machines.Machine.{IsMachine}
 use Rattle.automata_hybrid.specs.Private.Searches.PassState.{step_error}
-use Rattle.automata_hybrid.specs.Private.Searches.Units.{IsStepped}
+use Rattle.automata_hybrid.specs.Private.Searches.Units.{StepMakes}
 use Rattle.automata_hybrid.specs.Private.Steps.Starts.{IsStartSlot, start_error}
 use Rattle.automata_hybrid.specs.Private.Steps.Steps.{KnowsStep}
 use Rattle.automata_hybrid.specs.Steps.Starts.{MayStart}
@@ -110,7 +111,7 @@ module _ (m : Machine) (id : ℕ) (unit : Option ℕ) (old new : CacheView) (mac
   }
 
   pub failed_run :
-      (e : StepError) → new ≡ caches.counted old
+      (e : StepError) → new ≡ caches.counted_in_store old
       → (IsCacheError e → (q : Powerset) → Names old.store.table id q
       → GivesUpInStore old.store (successor m.nfa (match_kind_of m.config) q unit))
       → StepFails m id unit (known_of old) (known_of new) e
@@ -118,11 +119,11 @@ module _ (m : Machine) (id : ℕ) (unit : Option ℕ) (old new : CacheView) (mac
     low = low;
     clean = clean;
     fails = λ q named. (record {
-        unknown = uncached q named;
-        unchanged = ap known_of unchanged;
-        gives_up = λ room. (gives_up_known m (Step q unit) old sound).0
-            (gives_up room q (named_in m old q id sound named));
-      });
+      unknown = uncached q named;
+      unchanged = ap known_of unchanged;
+      gives_up = λ room. (gives_up_known m (Step q unit) old sound).0
+          (gives_up room q (named_in m old q id sound named));
+    });
   }
 
 -- a step that a search has come to, by a transition that is not cached
@@ -130,7 +131,7 @@ pub stepped :
     (m : Machine) (id : ℕ) (q : Powerset) (unit : Option ℕ) (at : ℕ) (old new : CacheView) → IsMachine m → IsUnit unit
     → IsStoreOf old.store m → quits_on m unit ≡ false → unit_class m unit < m.stride
     → (KnowsStep m old.store id unit → ⊥) → Names old.store.table id q
-    → IsStepRun m id unit (moved at (known_of old)) (known_of new) → IsStepped m q unit at old new
+    → IsStepRun m id unit (moved at (known_of old)) (known_of new) → StepMakes m q unit at old new
 stepped m id q unit at old new machine is sound clean below unknown named run =
     let none : is_cached m (Step q unit) (known_of old) ≡ false =
     uncached_known m (Step q unit) old machine (clean, below) is sound (step_unknown m id unit old unknown q named) in
@@ -194,7 +195,7 @@ module _ (m : Machine) (mode : Anchored) (behind : Option ℕ) (old new : CacheV
   }
 
   pub failed_start_run :
-      (e : StepError) → new ≡ caches.counted old
+      (e : StepError) → new ≡ caches.counted_in_store old
       → (IsCacheError e → GivesUpInStore old.store (start_state_of m.nfa mode behind))
       → StartFails m mode behind (known_of old) (known_of new) (start_error e)
   failed_start_run (step.Cache err) unchanged gives_up =

@@ -20,14 +20,11 @@ use Rattle.automata_hybrid.specs.Known.Events.{is_cached}
 use Rattle.automata_hybrid.specs.Known.Growth.{ClearedNothing, HasRoom, IsGrown, IsStill}
 use Rattle.automata_hybrid.specs.Known.Known.{Known, begun, counted, ended, row_in}
 use Rattle.automata_hybrid.specs.Known.Passes.{UnitFails, after_unit, after_many}
-use Rattle.automata_hybrid.specs.Known.Steps.{GivesUpOnStart, IsNotSupported, IsQuitBehind, RunsOutOnStart}
-use Rattle.automata_hybrid.specs.Known.Steps.{StartFails}
+use Rattle.automata_hybrid.specs.Known.Steps.{GivesUpOnStart, IsNotSupported, IsQuitBehind, RunsOutOnStart, StartFails}
 use Rattle.automata_hybrid.specs.Known.Walks.{EndsCall, FailsAfterIt, FailsAtIt, FailsOnItsWay, FailsToGoOn}
-use Rattle.automata_hybrid.specs.Known.Walks.{GivesUpOnIt}
-use Rattle.automata_hybrid.specs.Known.Walks.{IsCallLeftAt, IsNotBack, IsNotResumed, LeavesCall, MayGoOn, ReadsNone}
-use Rattle.automata_hybrid.specs.Known.Walks.{ReadsNoQuit}
-use Rattle.automata_hybrid.specs.Known.Walks.{ReadsSome, RunsOutOnIt, after_going_on, after_resume, has_its_row}
-use Rattle.automata_hybrid.specs.Known.Walks.{with_row_back}
+use Rattle.automata_hybrid.specs.Known.Walks.{GivesUpOnIt, IsCallLeftAt, IsNotBack, IsNotResumed, LeavesCall, MayGoOn}
+use Rattle.automata_hybrid.specs.Known.Walks.{ReadsNone, ReadsNoQuit, ReadsSome, RunsOutOnIt, after_going_on}
+use Rattle.automata_hybrid.specs.Known.Walks.{after_resume, has_its_row, with_row_back}
 use Rattle.automata_hybrid.specs.Known.WalksFollow.{CallFollows, CallsFollow, KnowsItsState, KnowsUnits, KnowsWalk}
 use Rattle.automata_hybrid.specs.Machines.Machine.{Machine, quits_on}
 use Rattle.automata_hybrid.specs.Searches.Cached.{IsOfInput}
@@ -44,8 +41,7 @@ use Rattle.automata_hybrid.specs.Walks.State.{At, Ended, Fresh, Ids, Keeping, St
 use Rattle.automata_hybrid.specs.declared.cache.row.Row.{Row}
 use Rattle.automata_hybrid.proofs.Known.Bounds.{HasBounds, known_counted, known_moved}
 use Rattle.automata_hybrid.proofs.Known.Growth.{clears_none, grown_after, grown_counted, grown_less, grown_same}
-use Rattle.automata_hybrid.proofs.Known.Growth.{grown_still, grown_trans}
-use Rattle.automata_hybrid.proofs.Known.Growth.{nothing_after, nothing_first, nothing_second}
+use Rattle.automata_hybrid.proofs.Known.Growth.{grown_still, grown_trans, nothing_after, nothing_first, nothing_second}
 use Rattle.automata_hybrid.proofs.Known.Makes.{back_follows, back_there, event_once, events_follow, mapped}
 use Rattle.automata_hybrid.proofs.Known.PassesFollow.{Leaves, UnitsFollow, event_idle, event_still, unit_leaves}
 use Rattle.automata_hybrid.proofs.Known.PassesFollow.{units_follow}
@@ -604,7 +600,8 @@ module _ (way : Direction) (m : Machine) (input : Input) (bounds : HasBounds m) 
     b = began old first sound may goes_on
 
     run :
-        after_many (pass_trace way m input) way m input w.units s.units (begun (given_up_offset way input w.units) b.base)
+        after_many (pass_trace way m input) way m input w.units s.units
+        (begun (given_up_offset way input w.units) b.base)
         ≡ Some s.mid
     run = from_base old first b s.units s.mid s.run
 

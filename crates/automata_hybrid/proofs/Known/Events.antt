@@ -1,6 +1,6 @@
 -- The laws of an event: what is cached, what is made, and when a call gives up.
-use Rattle.std.proofs.Common.{◌≡◌, ◌∙◌, ℕ, ◌^◌, ◌<◌, ◌≤◌, ◌⊎◌, inl, inr, length, Bool, true, false, cond}
-use Rattle.std.proofs.Common.{Option, None, Some, get_or, slice_get, refl, sym, ap, subst, arith}
+use Rattle.std.proofs.Common.{◌≡◌, ◌∙◌, ℕ, ◌^◌, ◌<◌, ◌≤◌, ◌⊎◌, inl, inr, length, Bool, true, false, cond, Option, None}
+use Rattle.std.proofs.Common.{Some, get_or, slice_get, refl, sym, ap, subst, arith}
 use Rattle.std.specs.Prelude.{◌↔◌, ◌&&◌, is_some, nat_lt, option_map, unwrap_or}
 use Rattle.std.proofs.lemmas.Bool.{cases_Bool}
 use Rattle.std.proofs.lemmas.Bool.Decides.{nat_tests}
@@ -18,9 +18,8 @@ use Rattle.automata_hybrid.specs.Cache.Ids.{unknown_id}
 use Rattle.automata_hybrid.specs.Cache.Stores.{Stored}
 use Rattle.automata_hybrid.specs.Cache.Table.{Rows, cell_at, id_of}
 use Rattle.automata_hybrid.specs.Private.Cache.Usage.{GivesUpInStore}
-use Rattle.automata_hybrid.specs.Calls.Events.{Event, Start}
+use Rattle.automata_hybrid.specs.Calls.Events.{Event, Start, Step}
 use Rattle.automata_hybrid.proofs.Calls.Events.{AsksForUnit, IsCached, Makes, MayAsk, asked_state}
-use Rattle.automata_hybrid.specs.Calls.Events.{Step}
 use Rattle.automata_hybrid.specs.Known.Events as events
 use Rattle.automata_hybrid.specs.Known.Known.{Known, has_state}
 use Rattle.automata_hybrid.specs.Known.Known as known

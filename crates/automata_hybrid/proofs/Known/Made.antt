@@ -1,23 +1,21 @@
 -- What an event makes of a cache is what it makes of what the cache knows.
-use Rattle.std.proofs.Common.{◌≡◌, ◌∙◌, ℕ, ◌+◌, ◌^◌, ◌<◌, inl, inr, List, [], ◌∷◌, ◌++◌}
-use Rattle.std.proofs.Common.{false, cond, Option, None, Some, refl, sym, ap, subst}
+use Rattle.std.proofs.Common.{◌≡◌, ◌∙◌, ℕ, ◌+◌, ◌^◌, ◌<◌, inl, inr, List, [], ◌∷◌, ◌++◌, false, cond, Option, None}
+use Rattle.std.proofs.Common.{Some, refl, sym, ap, subst}
 use Rattle.std.specs.Prelude.{map, option_map, slice_set}
 use Rattle.std.proofs.lemmas.List.{map-set}
 use Rattle.automata_base.specs.Powersets.Powerset.{Powerset}
 use Rattle.automata_hybrid.specs.declared.cache.row.Row.{Row}
 use Rattle.automata_hybrid.specs.Private.Cache.Caches.{IsStoreOf}
 use Rattle.automata_hybrid.specs.Private.Cache.Changes.{ClearsFirst, IsComputed, IsStarted, IsStateAdded, JustGrows}
-use Rattle.automata_hybrid.specs.Private.Cache.Changes.{StartsAdded, StartsKnown, WritesAdded}
-use Rattle.automata_hybrid.specs.Private.Cache.Changes.{grown, put_found}
+use Rattle.automata_hybrid.specs.Private.Cache.Changes.{StartsAdded, StartsKnown, WritesAdded, grown, put_found}
 use Rattle.automata_hybrid.specs.Private.Cache.Changes.{WritesKnown}
-use Rattle.automata_hybrid.specs.Cache.Clears.{row_of}
+use Rattle.automata_hybrid.specs.Cache.Table.{row_of, Leads, Names, Rows, id_of}
 use Rattle.automata_hybrid.specs.Private.Cache.Clears.{Kept, kept}
 use Rattle.automata_hybrid.specs.Cache.Progress.{progress_cleared, saturated}
 use Rattle.automata_hybrid.specs.Cache.Stores.{Stored}
 use Rattle.automata_hybrid.specs.Private.Cache.Stores.{with_next, with_start_in_store}
-use Rattle.automata_hybrid.specs.Cache.Table.{Leads, Names, Rows, id_of}
-use Rattle.automata_hybrid.specs.Private.Cache.Table.{Lacks, with_row}
-use Rattle.automata_hybrid.specs.Private.Cache.Usage.{cleared}
+use Rattle.automata_hybrid.specs.Private.Cache.Table.{Lacks, with_row_in_store}
+use Rattle.automata_hybrid.specs.Private.Cache.Usage.{cleared_in_store}
 use Rattle.automata_hybrid.specs.Known.Events as events
 use Rattle.automata_hybrid.specs.Known.Known.{Known, keep_row, row_in, rows_of_starts}
 use Rattle.automata_hybrid.specs.Known.Known as known
@@ -26,8 +24,8 @@ use Rattle.automata_hybrid.specs.Machines.Machine.{Machine}
 use Rattle.automata_hybrid.proofs.Known.Rooms.{fits_if, fits_not, known_with, refuses_is, state_lacks, state_there}
 use Rattle.automata_hybrid.proofs.Known.Rows.{HasPlaces, NamedRow, named_row, places_before, places_unwritten}
 use Rattle.automata_hybrid.proofs.Known.Starts.{AllStarts-named, AreNamed, AreNamed-more, AreNamed-read, IsKept}
-use Rattle.automata_hybrid.proofs.Known.Starts.{IsNamed, NamesDead, NamesRow}
-use Rattle.automata_hybrid.proofs.Known.Starts.{clear_keeps, named_read, none_dead, saving_keeps, unwritten_more}
+use Rattle.automata_hybrid.proofs.Known.Starts.{IsNamed, NamesDead, NamesRow, clear_keeps, named_read, none_dead}
+use Rattle.automata_hybrid.proofs.Known.Starts.{saving_keeps, unwritten_more}
 use Rattle.automata_hybrid.proofs.Known.Steps.{HasSteps, added_step, unwritten_step, written_step}
 
 -- the start states that a cache knows
@@ -45,7 +43,7 @@ emptied_with old t ids = record {
 
 -- with one more row it knows that row
 grown_known :
-    (c : Stored) (n : ℕ) (r : Row) → IsStoreOf c c.table.of → HasPlaces (with_row c.table r)
+    (c : Stored) (n : ℕ) (r : Row) → IsStoreOf c c.table.of → HasPlaces (with_row_in_store c.table r)
     → id_of c.table r.state ≡ None
     → known.with_row r (known_with c n) ≡ known_with (grown c r) n
 grown_known c n r s p none = λ i. record {
@@ -56,28 +54,28 @@ grown_known c n r s p none = λ i. record {
   searched = c.searched;
   count = n;
 } where
-  starts : map (start_named (with_row c.table r)) c.starts ≡ starts_in c
+  starts : map (start_named (with_row_in_store c.table r)) c.starts ≡ starts_in c
   starts =
-      AreNamed-read (with_row c.table r) c.starts (starts_in c) p
+      AreNamed-read (with_row_in_store c.table r) c.starts (starts_in c) p
       (AreNamed-more c.table r c.starts (starts_in c)
       (AllStarts-named c.table c.starts (places_before c.table r p) s.starts))
 
 -- a cache that was cleared knows what was kept
 emptied_known :
     (old : Stored) (t : Rows) (ids : List ℕ) (n : ℕ) (r : Row) (rows : List Row)
-    → IsKept old.table (starts_in old) rows (record { table = t; starts = ids }) → HasPlaces (with_row t r)
+    → IsKept old.table (starts_in old) rows (record { table = t; starts = ids }) → HasPlaces (with_row_in_store t r)
     → known.with_row r (record (known.cleared (known_with old n)) { rows = rows })
     ≡ known_with (grown (emptied_with old t ids) r) n
 emptied_known old t ids n r rows k p = λ i. record {
   rows = sym k.rows_are i ++ r ∷ [];
-  steps = λ q class. sym (unwritten_step (with_row t r) p (unwritten_more t r p.wide k.unwritten) q class) i;
+  steps = λ q class. sym (unwritten_step (with_row_in_store t r) p (unwritten_more t r p.wide k.unwritten) q class) i;
   starts = sym starts i;
   clears = saturated (old.clears + 1);
   searched = progress_cleared old.searched;
   count = n;
 } where
-  starts : map (start_named (with_row t r)) ids ≡ starts_in old
-  starts = AreNamed-read (with_row t r) ids (starts_in old) p (AreNamed-more t r ids (starts_in old) k.named)
+  starts : map (start_named (with_row_in_store t r)) ids ≡ starts_in old
+  starts = AreNamed-read (with_row_in_store t r) ids (starts_in old) p (AreNamed-more t r ids (starts_in old) k.named)
 
 -- a state is added
 adds_known :
@@ -241,7 +239,7 @@ module _ (old new : Stored) (n : ℕ) (s : IsStoreOf old old.table.of) (was : Ha
 
   -- a state is put back
   pub put_back_known :
-      (r : Row) → Lacks old.table r.state → IsStateAdded old (cleared old) r new
+      (r : Row) → Lacks old.table r.state → IsStateAdded old (cleared_in_store old) r new
       → events.with_state old.table.of (known.cleared before) r before ≡ Some (known_with new n)
   put_back_known r lacks added =
       ap (λ b. cond b (Some before) (events.with_new_row old.table.of (known.cleared before) r before))

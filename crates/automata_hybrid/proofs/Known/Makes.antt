@@ -1,8 +1,7 @@
 -- What follows of an event, by what a cache knows: how the cache grows, and what is cached then.
 use Rattle.std.proofs.Common.{◌≡◌, ◌∙◌, ℕ, zero, suc, ◌+◌, ◌-◌, ◌^◌, ◌<◌, ◌≤◌, ◌⊎◌, inl, inr, List, [], ◌∷◌, ◌++◌}
-use Rattle.std.proofs.Common.{length}
-use Rattle.std.proofs.Common.{Bool, true, false, cond, Option, None, Some, refl, sym, ap, subst, arith, append-nil}
-use Rattle.std.proofs.Common.{length-set}
+use Rattle.std.proofs.Common.{length, Bool, true, false, cond, Option, None, Some, refl, sym, ap, subst, arith}
+use Rattle.std.proofs.Common.{append-nil, length-set}
 use Rattle.std.specs.Prelude.{is_some, option_map, unwrap_or, slice_get, slice_set, nat_eq, ◌&&◌, ◌||◌}
 use Rattle.std.proofs.lemmas.Bool.{cases_eq}
 use Rattle.std.proofs.lemmas.Bool.Decides.{nat_tests}
@@ -18,8 +17,8 @@ use Rattle.automata_hybrid.specs.Cache.Progress.{progress_cleared, saturated}
 use Rattle.automata_hybrid.specs.Calls.Events.{Event, Start, Step}
 use Rattle.automata_hybrid.specs.Known.Bounds.{IsKnown}
 use Rattle.automata_hybrid.specs.Known.Effects.{ClearsAll, ClearsFor, ClearsNothing, EventFollows, EventsFollow}
-use Rattle.automata_hybrid.specs.Known.Effects.{FailureFollows, KnowsId, StartsFollow}
-use Rattle.automata_hybrid.specs.Known.Effects.{StepFollows, StepsFollow, asked_row}
+use Rattle.automata_hybrid.specs.Known.Effects.{FailureFollows, KnowsId, StartsFollow, StepFollows, StepsFollow}
+use Rattle.automata_hybrid.specs.Known.Effects.{asked_row}
 use Rattle.automata_hybrid.specs.Known.Events.{usage, after_event, fits, is_cached, made, refuses_to_clear}
 use Rattle.automata_hybrid.specs.Known.Events.{with_new_row, with_start, with_state, with_step}
 use Rattle.automata_hybrid.specs.Known.Growth.{ClearedNothing, HasRoom, HasRow, IsGrown, IsStartRow, Keeps}
@@ -34,8 +33,7 @@ use Rattle.automata_hybrid.specs.Steps.Starts.{start_row}
 use Rattle.automata_hybrid.specs.declared.cache.progress.Searched.{Searched}
 use Rattle.automata_hybrid.specs.declared.cache.row.Row.{Row}
 use Rattle.automata_hybrid.proofs.Known.Bounds.{AreOf, HasBounds, IsIn, emptied_within, found_in, in_more, kept_few}
-use Rattle.automata_hybrid.proofs.Known.Bounds.{kept_of, known_counted, known_moved}
-use Rattle.automata_hybrid.proofs.Known.Bounds.{starts_few, starts_of}
+use Rattle.automata_hybrid.proofs.Known.Bounds.{kept_of, known_counted, known_moved, starts_few, starts_of}
 use Rattle.automata_hybrid.proofs.Known.Growth.{fits_within, used_by, used_more, grown_counted, grown_same, grown_still}
 use Rattle.automata_hybrid.proofs.Known.Growth.{grown_trans, room_by, room_fits, room_left, room_less}
 use Rattle.automata_hybrid.proofs.Searches.PassState.{false_true}

@@ -1,11 +1,10 @@
 -- Where nothing else can prevent it, a call fails with out of memory alone, by what a cache knows.
-use Rattle.std.proofs.Common.{ℕ, ◌≡◌, ◌∙◌, ◌+◌, ◌≤◌, Bool, true, false, cond, length, Option, None, Some, refl}
-use Rattle.std.proofs.Common.{sym}
-use Rattle.std.proofs.Common.{ap, arith}
+use Rattle.std.proofs.Common.{ℕ, ◌≡◌, ◌∙◌, ◌+◌, ◌≤◌, Bool, true, false, cond, length, Option, None, Some, refl, sym, ap}
+use Rattle.std.proofs.Common.{arith}
 use Rattle.std.specs.Prelude.{option_map, IfErr, Result, Ok, Err}
 use Rattle.std.specs.Result.{result_err}
 use Rattle.automata_base.proofs.Paths.Orders.{some_none}
-use Rattle.automata_base.specs.Answers.Answers.{later}
+use Rattle.automata_base.specs.Answers.Answers.{later, offset_in}
 use Rattle.automata_base.specs.ByteClasses.Classes.{is_quit}
 use Rattle.automata_base.specs.Haystacks.Input.{Input}
 use Rattle.automata_base.specs.declared.util.search.Direction.{Direction}
@@ -18,8 +17,8 @@ use Rattle.automata_hybrid.specs.Known.Events.{fits, made, refuses_past, refuses
 use Rattle.automata_hybrid.specs.Known.Events.{with_step}
 use Rattle.automata_hybrid.specs.Known.Known.{Known, cleared, cleared_saving, has_state, moved, with_row}
 use Rattle.automata_hybrid.specs.Known.Passes.{EventFails, FailsFor, FailsLater, GivesUp, LacksMemory, LacksMode}
-use Rattle.automata_hybrid.specs.Known.Passes.{IsSearchRun, MeetsQuit, PassFails}
-use Rattle.automata_hybrid.specs.Known.Passes.{QuitsBehind, SearchFails, CannotStart, CannotStep, UnitFails}
+use Rattle.automata_hybrid.specs.Known.Passes.{IsSearchRun, MeetsQuit, PassFails, QuitsBehind, SearchFails, CannotStart}
+use Rattle.automata_hybrid.specs.Known.Passes.{CannotStep, UnitFails}
 use Rattle.automata_hybrid.specs.Machines.Machine.{Machine, unit_class}
 use Rattle.automata_hybrid.specs.Machines.StartSlots.{slot_behind, supports}
 use Rattle.automata_hybrid.specs.Searches.Contracts.{IsMemory, IsUnhindered}
@@ -28,7 +27,6 @@ use Rattle.automata_hybrid.specs.Searches.Progress.{start_event, unit_event}
 use Rattle.automata_hybrid.specs.Searches.Traces.{pass_trace}
 use Rattle.automata_hybrid.specs.declared.cache.row.Row.{Row}
 use Rattle.automata_base.specs.Retraced.Steps.{start_state_of}
-use Rattle.automata_base.specs.Answers.Answers.{offset_in}
 use Rattle.automata_hybrid.proofs.Searches.Directions.{later_anchored}
 use Rattle.automata_hybrid.proofs.Searches.PassState.{false_true}
 use Rattle.automata_hybrid.proofs.Searches.Reach.{InReach, behind_reach, is_behind, later_reach, unit_reach}

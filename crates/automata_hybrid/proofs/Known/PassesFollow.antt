@@ -1,6 +1,6 @@
 -- What follows of a pass, by what a cache knows: what it costs, how the cache grows, and what is cached.
-use Rattle.std.proofs.Common.{ℕ, zero, suc, ◌≡◌, ◌∙◌, ◌+◌, ◌-◌, ◌<◌, ◌≤◌, ◌⊎◌, inl, inr, length, true, false}
-use Rattle.std.proofs.Common.{Option, None, Some, refl, sym, ap, subst, arith}
+use Rattle.std.proofs.Common.{ℕ, zero, suc, ◌≡◌, ◌∙◌, ◌+◌, ◌-◌, ◌<◌, ◌≤◌, ◌⊎◌, inl, inr, length, true, false, Option}
+use Rattle.std.proofs.Common.{None, Some, refl, sym, ap, subst, arith}
 use Rattle.std.specs.Prelude.{option_and_then, IfSome}
 use Rattle.std.proofs.lemmas.Bool.{cases_lt}
 use Rattle.automata_base.proofs.Paths.Orders.{none_some, some_inj, some_none}

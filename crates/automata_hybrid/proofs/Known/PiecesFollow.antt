@@ -1,6 +1,6 @@
 -- What follows of the calls of a search in pieces, by what a cache knows.
-use Rattle.std.proofs.Common.{ℕ, suc, ◌≡◌, ◌∙◌, ◌+◌, ◌-◌, ◌<◌, ◌≤◌, false, List}
-use Rattle.std.proofs.Common.{length, Option, None, Some, refl, sym, ap, subst, arith}
+use Rattle.std.proofs.Common.{ℕ, suc, ◌≡◌, ◌∙◌, ◌+◌, ◌-◌, ◌<◌, ◌≤◌, false, List, length, Option, None, Some, refl, sym}
+use Rattle.std.proofs.Common.{ap, subst, arith}
 use Rattle.std.specs.Prelude.{option_map}
 use Rattle.automata_base.specs.Paths.Paths.{next as unit_at}
 use Rattle.automata_base.specs.Powersets.Powerset.{Powerset}
@@ -13,9 +13,9 @@ use Rattle.automata_hybrid.specs.Known.Events.{after_event}
 use Rattle.automata_hybrid.specs.Known.Growth.{IsGrown, IsStill}
 use Rattle.automata_hybrid.specs.Known.Known.{Known, begun, cleared, counted, ended, moved}
 use Rattle.automata_hybrid.specs.Known.Passes.{CannotStep, EventFails, MeetsQuit, ReadFails, after_many}
-use Rattle.automata_hybrid.specs.Known.Pieces.{AlreadyOver, Answered, AtByte, AtEnd, EndsAnswer, EndsPiece}
-use Rattle.automata_hybrid.specs.Known.Pieces.{FailsAtByte, FailsAtEnd, GoesOn, LeavesAnswer, LeavesPiece}
-use Rattle.automata_hybrid.specs.Known.Pieces.{NotBack, NotHeld, NotPutBack, ReadsThrough, Through, TooLong, Upto}
+use Rattle.automata_hybrid.specs.Known.Pieces.{AlreadyOver, Answered, AtByte, AtEnd, EndsAnswer, EndsPiece, FailsAtByte}
+use Rattle.automata_hybrid.specs.Known.Pieces.{FailsAtEnd, GoesOn, LeavesAnswer, LeavesPiece, NotBack, NotHeld}
+use Rattle.automata_hybrid.specs.Known.Pieces.{NotPutBack, ReadsThrough, Through, TooLong, Upto}
 use Rattle.automata_hybrid.specs.Known.PiecesFollow.{IsCostOfUnits, PieceAnswersFollow, PiecesFollow}
 use Rattle.automata_hybrid.specs.Known.Walks.{GivesUpOnIt, IsNotBack, RunsOutOnIt, with_row_back}
 use Rattle.automata_hybrid.specs.Machines.Machine.{Machine, quits_on}

@@ -1,6 +1,6 @@
 -- What fits, and when a clear is refused, by what a cache knows.
-use Rattle.std.proofs.Common.{◌≡◌, ◌∙◌, ℕ, ◌+◌, ◌*◌, ◌<◌, ◌≤◌, ◌⊎◌, inl, inr, length, Bool, true, false}
-use Rattle.std.proofs.Common.{Option, None, Some, refl, sym, ap, subst, arith}
+use Rattle.std.proofs.Common.{◌≡◌, ◌∙◌, ℕ, ◌+◌, ◌*◌, ◌<◌, ◌≤◌, ◌⊎◌, inl, inr, length, Bool, true, false, Option, None}
+use Rattle.std.proofs.Common.{Some, refl, sym, ap, subst, arith}
 use Rattle.std.specs.Prelude.{is_some, nat_le, nat_lt, ◌&&◌, ◌||◌}
 use Rattle.std.specs.List.{sum_by}
 use Rattle.std.proofs.lemmas.Bool.{cases_Bool}
@@ -15,8 +15,7 @@ use Rattle.automata_hybrid.specs.Cache.Stores.{Stored}
 use Rattle.automata_hybrid.specs.Cache.Table.{Leads, id_of, row_cost}
 use Rattle.automata_hybrid.specs.Private.Cache.Table.{Lacks}
 use Rattle.automata_hybrid.specs.Cache.Usage.{row_usage}
-use Rattle.automata_hybrid.specs.Private.Cache.Usage.{usage_in_store}
-use Rattle.automata_hybrid.specs.Private.Cache.Usage.{Fits, refuses_at, refuses_to_clear}
+use Rattle.automata_hybrid.specs.Private.Cache.Usage.{usage_in_store, Fits, refuses_at, refuses_in_store}
 use Rattle.automata_hybrid.specs.Known.Events as known
 use Rattle.automata_hybrid.specs.Known.Known.{Known, has_state, row_in}
 use Rattle.automata_hybrid.specs.Known.Stores.{known_of}
@@ -71,7 +70,7 @@ module _ (c : Stored) (n : ℕ) (s : IsStoreOf c c.table.of) (q : Powerset) wher
     go (inr e) = e
 
 -- the clear rule
-pub refuses_is : (c : Stored) (n : ℕ) → known.refuses_to_clear c.table.of (known_with c n) ≡ refuses_to_clear c
+pub refuses_is : (c : Stored) (n : ℕ) → known.refuses_to_clear c.table.of (known_with c n) ≡ refuses_in_store c
 refuses_is c n = go (minimum_cache_clear_count_of c.table.of.config) where
   go : (o : Option ℕ) → known.refuses_past c.table.of (known_with c n) o ≡ refuses_at o c
   go None = refl

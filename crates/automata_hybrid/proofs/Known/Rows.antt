@@ -1,7 +1,7 @@
 -- The row of a state, and where it stands.
-use Rattle.std.proofs.Common.{◌≡◌, ◌∙◌, ℕ, ◌+◌, ◌-◌, ◌*◌, ◌/◌, ◌%◌, ◌^◌, ◌<◌, ◌≤◌, List, [], ◌∷◌, ◌++◌}
-use Rattle.std.proofs.Common.{length, Bool, true, false, cond, Option, None, Some, slice_get, refl, sym, ap, subst}
-use Rattle.std.proofs.Common.{arith, length-append, length-set, zero, suc}
+use Rattle.std.proofs.Common.{◌≡◌, ◌∙◌, ℕ, ◌+◌, ◌-◌, ◌*◌, ◌/◌, ◌%◌, ◌^◌, ◌<◌, ◌≤◌, List, [], ◌∷◌, ◌++◌, length, Bool}
+use Rattle.std.proofs.Common.{true, false, cond, Option, None, Some, slice_get, refl, sym, ap, subst, arith}
+use Rattle.std.proofs.Common.{length-append, length-set, zero, suc}
 use Rattle.std.specs.Prelude.{is_some}
 use Rattle.std.proofs.lemmas.Option.{slice_get_within}
 use Rattle.std.proofs.lemmas.Nat.{div-mul-add}
@@ -9,11 +9,8 @@ use Rattle.automata_base.specs.Powersets.Powerset.{Powerset}
 use Rattle.automata_base.specs.Powersets.Equal.{powerset_eq, powerset_eq-Decides}
 use Rattle.automata_base.proofs.Paths.Orders.{some_inj}
 use Rattle.automata_hybrid.specs.declared.cache.row.Row.{Row}
-use Rattle.automata_hybrid.specs.Cache.Clears.{row_of}
-use Rattle.automata_hybrid.specs.Private.Cache.Table.{HasRowIds, RowsFitCells}
-use Rattle.automata_hybrid.specs.Cache.Table.{Names, Rows, cell_at, find_id, has_patterns}
-use Rattle.automata_hybrid.specs.Cache.Table.{row_id}
-use Rattle.automata_hybrid.specs.Private.Cache.Table.{with_cell, with_row}
+use Rattle.automata_hybrid.specs.Cache.Table.{row_of, Names, Rows, cell_at, find_id, has_patterns, row_id}
+use Rattle.automata_hybrid.specs.Private.Cache.Table.{HasRowIds, RowsFitCells, with_cell, with_row_in_store}
 use Rattle.automata_hybrid.specs.Known.Known.{row_in}
 use Rattle.automata_hybrid.proofs.Caches.Places.{find_id-Found, tags_low, tags_mod}
 use Rattle.automata_hybrid.proofs.Caches.Rows.{Names-more, inside}
@@ -163,7 +160,7 @@ slice_get-more (y ∷ xs) ys zero x h = h
 slice_get-more (y ∷ xs) ys (suc k) x h = slice_get-more xs ys k x h
 
 -- rows that have places have them without the last one
-pub places_before : (t : Rows) (r : Row) → HasPlaces (with_row t r) → HasPlaces t
+pub places_before : (t : Rows) (r : Row) → HasPlaces (with_row_in_store t r) → HasPlaces t
 places_before t r p =
     let cells : length (t.cells ++ t.of.template) ≡ length t.cells + length t.of.template =
     length-append t.cells t.of.template in

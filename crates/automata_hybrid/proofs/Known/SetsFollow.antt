@@ -1,6 +1,6 @@
 -- What follows of the search for a set of patterns, by what a cache knows.
-use Rattle.std.proofs.Common.{ℕ, zero, suc, ◌≡◌, ◌∙◌, ◌+◌, ◌-◌, ◌<◌, ◌≤◌, ◌⊎◌, Bool, true, List, Some, None}
-use Rattle.std.proofs.Common.{length, inl, inr, refl, sym, ap, ap₂, subst, arith, take}
+use Rattle.std.proofs.Common.{ℕ, zero, suc, ◌≡◌, ◌∙◌, ◌+◌, ◌-◌, ◌<◌, ◌≤◌, ◌⊎◌, Bool, true, List, Some, None, length}
+use Rattle.std.proofs.Common.{inl, inr, refl, sym, ap, ap₂, subst, arith, take}
 use Rattle.std.proofs.lemmas.Bool.{cases_lt}
 use Rattle.automata_base.specs.Answers.Answers.{AreUnsplit}
 use Rattle.automata_base.specs.Haystacks.Input.{Input}
@@ -14,8 +14,8 @@ use Rattle.automata_hybrid.specs.Known.Bounds.{IsKnown}
 use Rattle.automata_hybrid.specs.Known.Cached.{KnowsItsStart, KnowsUnit}
 use Rattle.automata_hybrid.specs.Known.Growth.{ClearedNothing, IsGrown}
 use Rattle.automata_hybrid.specs.Known.Known.{Known}
-use Rattle.automata_hybrid.specs.Known.Walks.{EndsCall, HaveCalled, LeavesSet}
-use Rattle.automata_hybrid.specs.Known.Walks.{NoCall, OneMore, ReadsNone, ReadsSome, has_its_row}
+use Rattle.automata_hybrid.specs.Known.Walks.{EndsCall, HaveCalled, LeavesSet, NoCall, OneMore, ReadsNone, ReadsSome}
+use Rattle.automata_hybrid.specs.Known.Walks.{has_its_row}
 use Rattle.automata_hybrid.specs.Known.WalksFollow.{CallFollows, KnowsItsState, KnowsWalk, KnowsWhich, SetFollows}
 use Rattle.automata_hybrid.specs.Known.WalksFollow.{SetsFollow}
 use Rattle.automata_hybrid.specs.Machines.Machine.{Machine}
@@ -24,8 +24,7 @@ use Rattle.automata_hybrid.specs.Searches.Progress.{start_event, unit_event}
 use Rattle.automata_hybrid.specs.Searches.Traces.{pass_trace}
 use Rattle.automata_hybrid.specs.Steps.Starts.{MayStart}
 use Rattle.automata_hybrid.specs.Walks.Answers.{AreWalked, HasReported, HasReportedAt, HasReportedBy, ReportsNext}
-use Rattle.automata_hybrid.specs.Walks.Answers.{WalkReads}
-use Rattle.automata_hybrid.specs.Walks.Answers.{half_nth, pairs_reported_in, start_count}
+use Rattle.automata_hybrid.specs.Walks.Answers.{WalkReads, half_nth, pairs_reported_in, start_count}
 use Rattle.automata_hybrid.specs.Walks.Cached.{IsOpen, IsToRead, NoPair}
 use Rattle.automata_hybrid.specs.Walks.Progress.{HasEnded, HasMore, HasNoneLeft, IsClosedAfter, IsOpenAfter}
 use Rattle.automata_hybrid.specs.Walks.Progress.{ReadsNoUnit}
@@ -323,7 +322,8 @@ module _ (m : Machine) (bounds : HasBounds m) (skips : Skips m ⊎ (Skips m → 
         let here = c.known (which_walk m s.mid input s.walk set s.calls made.reported s.still_open list s.there
         (which_idle m input set old s.mid made.grown count knows)) in
         (grown.idle (ap (λ (v : Known). v.count) here.0 ∙ count), of_input Forward m input s.walk e here.1));
-    done = λ past. absurd (left_reads Ids Forward m input s.walk s.mid new e s.left (HasNoneLeft (omega (arith, past))));
+    done =
+        λ past. absurd (left_reads Ids Forward m input s.walk s.mid new e s.left (HasNoneLeft (omega (arith, past))));
   } where
     made : CallsMade s.calls s.walk s.mid
     made = calls_made s.calls s.walk s.mid s.called

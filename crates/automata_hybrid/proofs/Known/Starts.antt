@@ -1,7 +1,6 @@
 -- What the slots name, and what a clear keeps of it.
-use Rattle.std.proofs.Common.{◌≡◌, ◌∙◌, ℕ, ◌+◌, ◌*◌, ◌^◌, ◌<◌, ◌≤◌, ◌⊎◌, inl, inr, List, [], ◌∷◌, ◌++◌}
-use Rattle.std.proofs.Common.{length, Bool, true, false, cond, Option, None, Some, get_or, replicate, slice_get, refl}
-use Rattle.std.proofs.Common.{sym, ap, subst}
+use Rattle.std.proofs.Common.{◌≡◌, ◌∙◌, ℕ, ◌+◌, ◌*◌, ◌^◌, ◌<◌, ◌≤◌, ◌⊎◌, inl, inr, List, [], ◌∷◌, ◌++◌, length, Bool}
+use Rattle.std.proofs.Common.{true, false, cond, Option, None, Some, get_or, replicate, slice_get, refl, sym, ap, subst}
 use Rattle.std.proofs.Common.{arith, length-append, suc, append_assoc, append-nil}
 use Rattle.std.specs.Prelude.{fold, is_some, map, nat_le, option_map, unwrap_or, option_and_then}
 use Rattle.std.proofs.lemmas.Bool.{cases_lt}
@@ -10,13 +9,10 @@ use Rattle.std.proofs.lemmas.List.{get_or_append_left, get_or-append-add, length
 use Rattle.automata_base.specs.Powersets.Powerset.{Powerset, dead}
 use Rattle.automata_hybrid.specs.declared.cache.row.Row.{Row}
 use Rattle.automata_hybrid.specs.Cache.Ids.{dead_id, quit_id, unknown_id}
-use Rattle.automata_hybrid.specs.Private.Cache.Clears.{AllStarts, IsSlot}
-use Rattle.automata_hybrid.specs.Private.Cache.Clears.{Kept, keep_found, keep_slot, keep_slots, kept}
-use Rattle.automata_hybrid.specs.Cache.Clears.{row_of}
+use Rattle.automata_hybrid.specs.Private.Cache.Clears.{AllStarts, IsSlot, Kept, keep_found, keep_slot, keep_slots, kept}
 use Rattle.automata_hybrid.specs.Private.Cache.Clears.{with_row_once}
-use Rattle.automata_hybrid.specs.Cache.Table.{Names, Rows, fresh, id_of, row_id}
-use Rattle.automata_hybrid.specs.Private.Cache.Table.{RowsFitCells}
-use Rattle.automata_hybrid.specs.Private.Cache.Table.{with_row}
+use Rattle.automata_hybrid.specs.Cache.Table.{row_of, Names, Rows, fresh, id_of, row_id}
+use Rattle.automata_hybrid.specs.Private.Cache.Table.{RowsFitCells, with_row_in_store}
 use Rattle.automata_hybrid.specs.Known.Known.{keep_row, keep_start, row_in, rows_of_starts}
 use Rattle.automata_hybrid.specs.Known.Stores.{start_named}
 use Rattle.automata_hybrid.specs.Machines.Machine.{Machine}
@@ -38,7 +34,8 @@ AreNamed t (id ∷ ids) [] = ⊥
 AreNamed t (id ∷ ids) (start ∷ starts) = IsNamed t id start × AreNamed t ids starts
 
 named_more :
-    (t : Rows) (r : Row) (id : ℕ) (start : Option Powerset) → IsNamed t id start → IsNamed (with_row t r) id start
+    (t : Rows) (r : Row) (id : ℕ) (start : Option Powerset) → IsNamed t id start
+    → IsNamed (with_row_in_store t r) id start
 named_more t r id start (NamesNone e f) = NamesNone e f
 named_more t r id start (NamesDead e f) = NamesDead e f
 named_more t r id start (NamesRow q n f) = NamesRow q (Names-more t r id q n) f
@@ -46,7 +43,7 @@ named_more t r id start (NamesRow q n f) = NamesRow q (Names-more t r id q n) f
 -- more rows
 pub AreNamed-more :
     (t : Rows) (r : Row) (ids : List ℕ) (starts : List (Option Powerset)) → AreNamed t ids starts
-    → AreNamed (with_row t r) ids starts
+    → AreNamed (with_row_in_store t r) ids starts
 AreNamed-more t r [] [] all = tt
 AreNamed-more t r [] (start ∷ starts) all = absurd all
 AreNamed-more t r (id ∷ ids) [] all = absurd all
@@ -57,7 +54,7 @@ pub AreNamed-once :
     (t : Rows) (r : Row) (ids : List ℕ) (starts : List (Option Powerset)) → AreNamed t ids starts
     → AreNamed (with_row_once t r) ids starts
 AreNamed-once t r ids starts all = go (is_some (id_of t r.state)) where
-  go : (b : Bool) → AreNamed (cond b t (with_row t r)) ids starts
+  go : (b : Bool) → AreNamed (cond b t (with_row_in_store t r)) ids starts
   go true = all
   go false = AreNamed-more t r ids starts all
 
@@ -148,7 +145,7 @@ unwritten_fresh m =
     }
 
 pub unwritten_more :
-    (t : Rows) (r : Row) → length t.of.template ≡ t.of.stride → IsUnwritten t → IsUnwritten (with_row t r)
+    (t : Rows) (r : Row) → length t.of.template ≡ t.of.stride → IsUnwritten t → IsUnwritten (with_row_in_store t r)
 unwritten_more t r wide u = record {
   whole =
       length-append t.cells t.of.template ∙ ap (λ n. length t.cells + n) wide ∙ more
@@ -181,7 +178,7 @@ unwritten_more t r wide u = record {
 pub unwritten_once :
     (t : Rows) (r : Row) → length t.of.template ≡ t.of.stride → IsUnwritten t → IsUnwritten (with_row_once t r)
 unwritten_once t r wide u = go (is_some (id_of t r.state)) where
-  go : (b : Bool) → IsUnwritten (cond b t (with_row t r))
+  go : (b : Bool) → IsUnwritten (cond b t (with_row_in_store t r))
   go true = u
   go false = unwritten_more t r wide u
 
@@ -191,7 +188,7 @@ rows_once t r =
     go (is_some (id_of t r.state))
     ∙ ap (λ b. cond b t.rows (t.rows ++ r ∷ [])) (row_in-is t.of.stride (3 * t.of.stride) r.state t.rows)
   where
-    go : (b : Bool) → (cond b t (with_row t r)).rows ≡ cond b t.rows (t.rows ++ r ∷ [])
+    go : (b : Bool) → (cond b t (with_row_in_store t r)).rows ≡ cond b t.rows (t.rows ++ r ∷ [])
     go true = refl
     go false = refl
 
@@ -200,7 +197,7 @@ pub named_once :
     (t : Rows) (r : Row) → length t.cells ≡ (length t.rows + 3) * t.of.stride
     → (id : ℕ) × Names (with_row_once t r) id r.state
 named_once t r whole = go (id_of t r.state) refl where
-  go : (o : Option ℕ) → id_of t r.state ≡ o → (id : ℕ) × Names (cond (is_some o) t (with_row t r)) id r.state
+  go : (o : Option ℕ) → id_of t r.state ≡ o → (id : ℕ) × Names (cond (is_some o) t (with_row_in_store t r)) id r.state
   go None e = (row_id (length t.cells) r, Names-new t r whole e)
   go (Some id) e = (id, e)
 

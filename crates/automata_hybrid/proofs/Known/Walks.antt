@@ -1,6 +1,5 @@
 -- The state where a walk stands: whether a cache has its row, and what putting it back makes of what the cache knows.
-use Rattle.std.proofs.Common.{◌≡◌, ◌∙◌, ℕ, ◌*◌, true, false, Option, None, Some, cond, refl, sym, ap, subst}
-use Rattle.std.proofs.Common.{inr}
+use Rattle.std.proofs.Common.{◌≡◌, ◌∙◌, ℕ, ◌*◌, true, false, Option, None, Some, cond, refl, sym, ap, subst, inr}
 use Rattle.std.specs.Prelude.{is_some, option_map}
 use Rattle.automata_base.specs.Powersets.Powerset.{Powerset}
 use Rattle.automata_config.specs.declared.error.StepError.{StepError}

@@ -1,6 +1,6 @@
 -- No state of an automaton costs more than the greatest cost.
-use Rattle.std.proofs.Common.{ℕ, zero, suc, ◌≡◌, ◌∙◌, ◌≤◌, inl, inr, Bool, true, false, List, [], ◌∷◌, ◌++◌}
-use Rattle.std.proofs.Common.{◌||◌, eqb, length, Option, None, Some, refl, sym, ap, subst, arith}
+use Rattle.std.proofs.Common.{ℕ, zero, suc, ◌≡◌, ◌∙◌, ◌≤◌, inl, inr, Bool, true, false, List, [], ◌∷◌, ◌++◌, ◌||◌, eqb}
+use Rattle.std.proofs.Common.{length, Option, None, Some, refl, sym, ap, subst, arith}
 use Rattle.std.proofs.lemmas.Bool.Decides.{Decides-eqb}
 use Rattle.automata_base.proofs.Powersets.Distinct.{distinct_below}
 use Rattle.automata_base.proofs.Powersets.Walking.{nodes_length}

@@ -10,14 +10,17 @@ use Rattle.automata_config.specs.Settling.{greatest_offset, has_unicode_word, ho
 use Rattle.automata_config.specs.Settling.{is_unsupported, settling_error, settled_minimum, settled_stride}
 use Rattle.automata_base.proofs.ByteClasses.Boundaries.{stride_for-few}
 
-no_reason : {X : Type 0} (p q r : Bool) (x y z : X) → p ≡ false → q ≡ false → r ≡ false → cond p (Some x) (cond q (Some y) (cond r (Some z) None)) ≡ None
+no_reason :
+    {X : Type 0} (p q r : Bool) (x y z : X) → p ≡ false → q ≡ false → r ≡ false
+    → cond p (Some x) (cond q (Some y) (cond r (Some z) None)) ≡ None
 no_reason false false false x y z e f g = refl
 no_reason true q r x y z e f g = absurd (cc)
 no_reason false true r x y z e f g = absurd (cc)
 no_reason false false true x y z e f g = absurd (cc)
 
 minimum_fits :
-    (a : Automaton) → length a.states ≡ 1 → length a.start_pattern ≤ 1 → stack_room a.states ≤ 1 → settled_minimum unset a ≤ 2097152
+    (a : Automaton) → length a.states ≡ 1 → length a.start_pattern ≤ 1 → stack_room a.states ≤ 1
+    → settled_minimum unset a ≤ 2097152
 unfolding settled_minimum
 minimum_fits a one few room =
     let stride : settled_stride unset a ≤ 512 = stride_for-few _ in
@@ -28,7 +31,8 @@ unfolding greatest_offset
 offset_fits a = let stride : settled_stride unset a ≤ 512 = stride_for-few _ in omega (arith, stride)
 
 one_settles :
-    (a : Automaton) → length a.states ≡ 1 → length a.start_pattern ≤ 1 → stack_room a.states ≤ 1 → has_unicode_word a ≡ false
+    (a : Automaton) → length a.states ≡ 1 → length a.start_pattern ≤ 1 → stack_room a.states ≤ 1
+    → has_unicode_word a ≡ false
     → settling_error unset a ≡ None
 one_settles a one few room word =
     no_reason (is_unsupported unset a) (is_too_small unset a) (ltb 134217727 (greatest_offset unset a)) _ _ _

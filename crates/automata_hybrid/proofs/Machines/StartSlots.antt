@@ -1,5 +1,5 @@
-use Rattle.std.proofs.Common.{◌≡◌, ℕ, zero, suc, ◌+◌, ◌*◌, ◌/◌, ◌%◌, ◌<◌, ◌≤◌, length, Bool, true, false, cond, eqb, Option, None}
-use Rattle.std.proofs.Common.{Some, refl, sym, ap, ◌∙◌, arith, lit<}
+use Rattle.std.proofs.Common.{◌≡◌, ℕ, zero, suc, ◌+◌, ◌*◌, ◌/◌, ◌%◌, ◌<◌, ◌≤◌, length, Bool, true, false, cond, eqb}
+use Rattle.std.proofs.Common.{Option, None, Some, refl, sym, ap, ◌∙◌, arith, lit<}
 use Rattle.std.proofs.lemmas.Nat.{div-mul-add, mod-mul-add}
 use Rattle.std.proofs.lemmas.Option.{slice_get_past}
 use Rattle.automata_base.specs.Powersets.Accounting.{start_slots}
@@ -46,17 +46,22 @@ starts_alike m mode other x y e =
     let k : ℕ = behind_of t x in
     let l : ℕ = behind_of t y in
     let group : group_of mode ≡ group_of other =
-    sym (div-mul-add (group_of mode) 6 k (kind_below t x)) ∙ (ap (λ n. n / 6) e ∙ div-mul-add (group_of other) 6 l (kind_below t y)) in
-    let kind : k ≡ l = sym (mod-mul-add (group_of mode) 6 k (kind_below t x)) ∙ (ap (λ n. n % 6) e ∙ mod-mul-add (group_of other) 6 l (kind_below t y)) in
+    sym (div-mul-add (group_of mode) 6 k (kind_below t x))
+    ∙ (ap (λ n. n / 6) e ∙ div-mul-add (group_of other) 6 l (kind_below t y)) in
+    let kind : k ≡ l =
+    sym (mod-mul-add (group_of mode) 6 k (kind_below t x))
+    ∙ (ap (λ n. n % 6) e ∙ mod-mul-add (group_of other) 6 l (kind_below t y)) in
     let same : mode ≡ other = sym (mode_group mode) ∙ (ap mode_of group ∙ mode_group other) in
     ap (λ v. start_state_of m.nfa v x) same ∙ behind_alike m.nfa other x y kind
 
 -- past the last pattern the start is dead
-pub past_patterns : (a : Automaton) (p : ℕ) (x : Option ℕ) → length a.start_pattern ≤ p → start_state_of a (Pattern p) x ≡ dead
+pub past_patterns :
+    (a : Automaton) (p : ℕ) (x : Option ℕ) → length a.start_pattern ≤ p → start_state_of a (Pattern p) x ≡ dead
 unfolding start_state_of
 past_patterns a p x l = rw (slice_get_past a.start_pattern p l) refl
 
 -- there are no more slots than with starts for each pattern
-pub few_slots : (a : Automaton) (each : Bool) (slots : ℕ) → slots ≡ start_slots a each → slots ≤ 12 + 6 * length a.start_pattern
+pub few_slots :
+    (a : Automaton) (each : Bool) (slots : ℕ) → slots ≡ start_slots a each → slots ≤ 12 + 6 * length a.start_pattern
 few_slots a true slots e = omega (arith, e)
 few_slots a false slots e = omega (arith, e)

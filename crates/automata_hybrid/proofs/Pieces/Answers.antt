@@ -1,6 +1,6 @@
 -- What a search in pieces answers over an input, by what a pass over it does.
-use Rattle.std.proofs.Common.{ℕ, suc, ◌≡◌, ◌<◌, ◌≤◌, ◌+◌, ◌-◌, ◌^◌, true, false, List, [], ◌∷◌, length}
-use Rattle.std.proofs.Common.{Bool, Option, Some, None, refl, sym, ap, ◌∙◌, subst, arith}
+use Rattle.std.proofs.Common.{ℕ, suc, ◌≡◌, ◌<◌, ◌≤◌, ◌+◌, ◌-◌, ◌^◌, true, false, List, [], ◌∷◌, length, Bool, Option}
+use Rattle.std.proofs.Common.{Some, None, refl, sym, ap, ◌∙◌, subst, arith}
 use Rattle.std.specs.Prelude.{Ok}
 use Rattle.automata_base.specs.Answers.OfPasses.{ReportedEndsAreRight, ReportedIsRight}
 use Rattle.automata_base.specs.Answers.Within.{ReportedLiesWithin}
@@ -21,8 +21,7 @@ use Rattle.automata_hybrid.specs.Known.Known.{Known}
 use Rattle.automata_hybrid.specs.Known.Pieces.{AnswerStands, DiesThere, FindsThere, ReadsPieceUpto}
 use Rattle.automata_hybrid.specs.Machines.Machine.{Machine}
 use Rattle.automata_hybrid.specs.Pieces.Answers.{BeginsAfter, EndsHere, HasBegun, IsPieceAt, IsWhole, ReadsOn}
-use Rattle.automata_hybrid.specs.Pieces.Answers.{StandsAfter}
-use Rattle.automata_hybrid.specs.Pieces.Answers.{WasGiven, WasGivenAll, from_first}
+use Rattle.automata_hybrid.specs.Pieces.Answers.{StandsAfter, WasGiven, WasGivenAll, from_first}
 use Rattle.automata_hybrid.specs.Pieces.State.{PiecesView}
 use Rattle.automata_hybrid.specs.Private.Pieces.State.{found_in}
 use Rattle.automata_hybrid.specs.Searches.PassContracts.{IsPassAnswer}
@@ -36,9 +35,8 @@ use Rattle.automata_hybrid.proofs.Pieces.Runs.{pass_clean, pass_found, pass_next
 use Rattle.automata_hybrid.proofs.Searches.Bounds.{lies_in}
 use Rattle.automata_hybrid.proofs.Searches.Directions.{begins_alive, begins_dead}
 use Rattle.automata_hybrid.proofs.Searches.PassState.{clean_all, clean_last, clean_start, dead_more, false_true}
-use Rattle.automata_hybrid.proofs.Searches.PassState.{found_dead}
-use Rattle.automata_hybrid.proofs.Searches.PassState.{found_first, more_last, reported_quiet, reported_stays, starts_at}
-use Rattle.automata_hybrid.proofs.Searches.PassState.{starts_dead}
+use Rattle.automata_hybrid.proofs.Searches.PassState.{found_dead, found_first, more_last, reported_quiet}
+use Rattle.automata_hybrid.proofs.Searches.PassState.{reported_stays, starts_at, starts_dead}
 use Rattle.automata_hybrid.proofs.Searches.Skips.{found_reported}
 use Rattle.automata_hybrid.proofs.Searches.Traces.{half_none}
 use Rattle.automata_hybrid.proofs.Searches.Units.{forward_unit, forward_units}
@@ -62,7 +60,8 @@ module _ (m : Machine) (mode : Anchored) (behind : Option ℕ) (earliest : Bool)
     (answer : IsStartAnswer m mode behind old new id) (low : (q : Powerset) → Names new.store.table id q → id < 2 ^ 29)
     (small : new.store.table.of.stride ≤ 512) where
   pub may_begin :
-      (input : Input) → BeginsAfter mode behind earliest input → MayStart m input.anchored (tape_in Forward input).before
+      (input : Input) → BeginsAfter mode behind earliest input
+      → MayStart m input.anchored (tape_in Forward input).before
   may_begin input b =
       subst (λ v. MayStart m input.anchored v) (sym b.follows)
       (subst (λ v. MayStart m v behind) (sym b.moded) answer.may)

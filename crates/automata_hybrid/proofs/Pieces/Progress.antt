@@ -1,6 +1,5 @@
 -- What the calls of a search in pieces make of what their cache knows, from what their parts do.
-use Rattle.std.proofs.Common.{ℕ, ◌≡◌, ◌∙◌, false, sym, ap, subst, cond, inr}
-use Rattle.std.proofs.Common.{Bool, List, Option, Some}
+use Rattle.std.proofs.Common.{ℕ, ◌≡◌, ◌∙◌, false, sym, ap, subst, cond, inr, Bool, List, Option, Some}
 use Rattle.std.specs.Prelude.{option_map}
 use Rattle.automata_base.specs.Haystacks.Matches.{HalfMatch}
 use Rattle.automata_base.specs.Powersets.Powerset.{Powerset}

@@ -1,7 +1,6 @@
 -- A pass over an input whose span goes on with a piece: where it is after the bytes of the piece, by a run over these.
 use Rattle.std.proofs.Common.{ℕ, zero, suc, ◌≡◌, ◌<◌, ◌≤◌, ◌+◌, ◌-◌, ◌^◌, ◌⊎◌, inl, inr, Bool, true, false, List, []}
-use Rattle.std.proofs.Common.{◌∷◌, length}
-use Rattle.std.proofs.Common.{Option, Some, None, refl, sym, ap, ap₂, ◌∙◌, subst, arith}
+use Rattle.std.proofs.Common.{◌∷◌, length, Option, Some, None, refl, sym, ap, ap₂, ◌∙◌, subst, arith}
 use Rattle.std.proofs.lemmas.Bool.{cases_lt}
 use Rattle.std.specs.Prelude.{IfSome, slice_get}
 use Rattle.automata_base.specs.ByteClasses.Classes.{is_quit}
@@ -12,8 +11,7 @@ use Rattle.automata_base.specs.Paths.Paths.{next}
 use Rattle.automata_base.specs.Paths.Selections.{Pair}
 use Rattle.automata_base.specs.Powersets.Powerset.{Powerset}
 use Rattle.automata_base.specs.Retraced.Passes.{earlier_or, first_among, first_reported, last_among, last_reported}
-use Rattle.automata_base.specs.Retraced.Passes.{pair_at}
-use Rattle.automata_base.specs.Retraced.Passes.{reported_at, reported_upto}
+use Rattle.automata_base.specs.Retraced.Passes.{pair_at, reported_at, reported_upto}
 use Rattle.automata_base.specs.Retraced.Steps.{successor}
 use Rattle.automata_base.specs.declared.util.search.Direction.TheVariants.{Forward}
 use Rattle.automata_base.proofs.Answers.Bytes.{forward_next, nth_between}

@@ -1,7 +1,6 @@
 -- What a walk over a haystack in pieces reports, by what a pass over the haystack does.
 use Rattle.std.proofs.Common.{ℕ, zero, suc, ◌≡◌, ◌<◌, ◌≤◌, ◌+◌, ◌-◌, ◌^◌, ◌⊎◌, inl, inr, Bool, true, List, [], ◌∷◌}
-use Rattle.std.proofs.Common.{length}
-use Rattle.std.proofs.Common.{Option, Some, None, refl, sym, ap, ap₂, ◌∙◌, subst, arith}
+use Rattle.std.proofs.Common.{length, Option, Some, None, refl, sym, ap, ap₂, ◌∙◌, subst, arith}
 use Rattle.std.proofs.lemmas.Bool.{cases_lt}
 use Rattle.automata_base.specs.Haystacks.Input.{Input}
 use Rattle.automata_base.specs.Haystacks.Matches.{HalfMatch}
@@ -24,8 +23,7 @@ use Rattle.automata_hybrid.specs.Pieces.Answers.{IsPieceAt, from_first}
 use Rattle.automata_hybrid.specs.Pieces.State.{PiecesView}
 use Rattle.automata_hybrid.specs.Private.Pieces.State.{found_in}
 use Rattle.automata_hybrid.specs.Pieces.Walks.{AtMatch, AtPieceEnd, EndsWith, HasBegunWalk, HasWalked, IsAtMatch}
-use Rattle.automata_hybrid.specs.Pieces.Walks.{HasNoMatch, IsWalked}
-use Rattle.automata_hybrid.specs.Pieces.Walks.{patterns_at, patterns_here}
+use Rattle.automata_hybrid.specs.Pieces.Walks.{HasNoMatch, IsWalked, patterns_at, patterns_here}
 use Rattle.automata_hybrid.specs.Private.Pieces.Walks.{StandsInRow}
 use Rattle.automata_hybrid.specs.Searches.PassState.{IsAtAlong, half_at, half_of}
 use Rattle.automata_hybrid.specs.Searches.Passes.{HasReadNoQuit, Skips, state_in, tape_in}

@@ -15,7 +15,8 @@ pub answers_agree : ReportedIsOne → AnswersAgree
 answers_agree one way m other input first second nfa kind f s =
     one way m.nfa (match_kind_of m.config) input first second (found_reported way m input first f)
     (subst (λ (k : MatchKind). IsReported way m.nfa k input second) (sym kind)
-    (subst (λ (a : Automaton). IsReported way a (match_kind_of other.config) input second) (sym nfa) (found_reported way other input second s)))
+    (subst (λ (a : Automaton). IsReported way a (match_kind_of other.config) input second) (sym nfa)
+    (found_reported way other input second s)))
 
 pub walks_agree : (m : Machine) → WalksAreReported m.nfa → WalksAgree m
 walks_agree m reported way other input first second first_reported second_reported k nfa kind f s f' s' =

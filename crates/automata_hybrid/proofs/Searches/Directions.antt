@@ -19,8 +19,8 @@ use Rattle.automata_hybrid.specs.Private.Searches.SelfLoops.{byte_in}
 use Rattle.automata_hybrid.specs.Cache.Table.{Rows, Leads, Names}
 use Rattle.automata_hybrid.proofs.Searches.PassState.{state_first}
 use Rattle.automata_hybrid.proofs.Steps.Ids.{dead_tagged}
-use Rattle.automata_hybrid.proofs.Searches.Units.{backward_read, backward_unit, backward_units, forward_read, forward_unit}
-use Rattle.automata_hybrid.proofs.Searches.Units.{forward_units, nth_read}
+use Rattle.automata_hybrid.proofs.Searches.Units.{backward_read, backward_unit, backward_units, forward_read}
+use Rattle.automata_hybrid.proofs.Searches.Units.{forward_unit, forward_units, nth_read}
 
 pub units_in :
     (way : Direction) (input : Input) → input.start ≤ input.end → input.end ≤ length input.haystack
@@ -34,7 +34,8 @@ pub unit_forward :
     → w ≡ Forward → input.start ≤ input.end → place ≤ input.end - input.start → input.end ≤ length input.haystack
     → at ≡ offset_in w input place → next (tape_in w input) place ≡ slice_get input.haystack at
 unit_forward w input place at e s p l o =
-    subst (λ (v : Direction). at ≡ offset_in v input place → next (tape_in v input) place ≡ slice_get input.haystack at) (sym e) forward o
+    subst (λ (v : Direction). at ≡ offset_in v input place → next (tape_in v input) place ≡ slice_get input.haystack at)
+    (sym e) forward o
   where
     forward : at ≡ input.start + place → next (tape_in Forward input) place ≡ slice_get input.haystack at
     forward f =
@@ -46,12 +47,14 @@ pub unit_backward :
     → w ≡ Backward → input.start ≤ input.end → place ≤ input.end - input.start → input.end ≤ length input.haystack
     → at ≡ offset_in w input place → next (tape_in w input) place ≡ byte_before input.haystack at
 unit_backward w input place at e s p l o =
-    subst (λ (v : Direction). at ≡ offset_in v input place → next (tape_in v input) place ≡ byte_before input.haystack at) (sym e) backward o
+    subst (λ (v : Direction). at ≡ offset_in v input place
+    → next (tape_in v input) place ≡ byte_before input.haystack at) (sym e) backward o
   where
     backward : at ≡ input.end - place → next (tape_in Backward input) place ≡ byte_before input.haystack at
     backward f =
         let k : place ≡ input.end - at = omega (arith, f, p, s) in
-        ap (next (tape_in Backward input)) k ∙ backward_unit input at (omega (arith, f, p, s)) (omega (arith, f, p, s)) l
+        ap (next (tape_in Backward input)) k
+        ∙ backward_unit input at (omega (arith, f, p, s)) (omega (arith, f, p, s)) l
 
 pub before_read :
     (xs : List ℕ) (at i x : ℕ) → suc i ≡ at → i < length xs → x ≡ get_or xs i 0 → byte_before xs at ≡ Some x
@@ -90,17 +93,20 @@ pub units_forward :
     → next (tape_in w input) (place + k)
     ≡ Some (byte_in w (take (end - (first + place)) (drop (first + place) hay)) k)
 units_forward w input hay place first end e s p l same here there =
-    subst (λ (v : Direction). (k : ℕ) → k < length xs → next (tape_in v input) (place + k) ≡ Some (byte_in v xs k)) (sym e) forward
+    subst (λ (v : Direction). (k : ℕ) → k < length xs → next (tape_in v input) (place + k) ≡ Some (byte_in v xs k))
+    (sym e) forward
   where
     xs : List ℕ
     xs = take (end - (first + place)) (drop (first + place) hay)
 
     long : length xs ≡ end - (first + place)
-    long = length-chunk (first + place) (end - (first + place)) hay (omega (arith, s, p, l, here, there, ap length same))
+    long =
+        length-chunk (first + place) (end - (first + place)) hay (omega (arith, s, p, l, here, there, ap length same))
 
     forward : (k : ℕ) → k < length xs → next (tape_in Forward input) (place + k) ≡ Some (get_or xs k 0)
     forward k low =
-        unit_read Forward input hay (place + k) (first + place + k) (omega (arith, low, long, here, there)) l same (omega (arith, here))
+        unit_read Forward input hay (place + k) (first + place + k) (omega (arith, low, long, here, there)) l same
+        (omega (arith, here))
         ∙ ap Some (sym (get_or-chunk (first + place) (end - (first + place)) hay k 0 (omega (arith, low, long))))
 
 pub units_backward :
@@ -111,7 +117,8 @@ pub units_backward :
     → next (tape_in w input) (place + k)
     ≡ Some (byte_in w (take (end - place - first) (drop first hay)) k)
 units_backward w input hay place first end e s p l same here there =
-    subst (λ (v : Direction). (k : ℕ) → k < length xs → next (tape_in v input) (place + k) ≡ Some (byte_in v xs k)) (sym e) backward
+    subst (λ (v : Direction). (k : ℕ) → k < length xs → next (tape_in v input) (place + k) ≡ Some (byte_in v xs k))
+    (sym e) backward
   where
     xs : List ℕ
     xs = take (end - place - first) (drop first hay)
@@ -119,10 +126,12 @@ units_backward w input hay place first end e s p l same here there =
     long : length xs ≡ end - place - first
     long = length-chunk first (end - place - first) hay (omega (arith, s, p, l, here, there, ap length same))
 
-    backward : (k : ℕ) → k < length xs → next (tape_in Backward input) (place + k) ≡ Some (get_or xs (length xs - 1 - k) 0)
+    backward :
+        (k : ℕ) → k < length xs → next (tape_in Backward input) (place + k) ≡ Some (get_or xs (length xs - 1 - k) 0)
     backward k low =
         let i : ℕ = length xs - 1 - k in
-        unit_read Backward input hay (place + k) (first + i) (omega (arith, low, long, here, there)) l same (omega (arith, low, long, here, there))
+        unit_read Backward input hay (place + k) (first + i) (omega (arith, low, long, here, there)) l same
+        (omega (arith, low, long, here, there))
         ∙ ap Some (sym (get_or-chunk first (end - place - first) hay i 0 (omega (arith, low, long))))
 
 -- in the span the step on a byte is given up at its own offset
@@ -134,8 +143,10 @@ span_unit Backward input k l = omega (arith, l)
 
 -- the input of which a search begins later
 pub later_none : (way : Direction) (input : Input) → input ≡ later way 0 input
-later_none Forward input = let e : input.start ≡ input.start + 0 = omega arith in ap (λ (n : ℕ). record input { start = n }) e
-later_none Backward input = let e : input.end ≡ input.end - 0 = omega arith in ap (λ (n : ℕ). record input { end = n }) e
+later_none Forward input =
+    let e : input.start ≡ input.start + 0 = omega arith in ap (λ (n : ℕ). record input { start = n }) e
+later_none Backward input =
+    let e : input.end ≡ input.end - 0 = omega arith in ap (λ (n : ℕ). record input { end = n }) e
 
 pub later_on : (way : Direction) (k : ℕ) (input : Input) → later way 1 (later way k input) ≡ later way (suc k) input
 later_on Forward k input =
@@ -148,7 +159,8 @@ later_anchored Forward k input = refl
 later_anchored Backward k input = refl
 
 pub later_start :
-    (way : Direction) (k : ℕ) (input now : Input) → now ≡ later way k input → way ≡ Forward → now.start ≡ input.start + k
+    (way : Direction) (k : ℕ) (input now : Input) → now ≡ later way k input → way ≡ Forward
+    → now.start ≡ input.start + k
 later_start way k input now same forward =
     ap (λ (i : Input). i.start) same ∙ ap (λ (d : Direction). (later d k input).start) forward
 
@@ -156,7 +168,8 @@ later_start way k input now same forward =
 abbrev pub skipped : Input → Input → ℕ
 skipped input now = input.end + 1 - input.start - (now.end + 1 - now.start)
 
-module _ (input now : Input) (few : now.end + 1 - now.start ≤ input.end + 1 - input.start) (ahead : now.start ≤ now.end) where
+module _ (input now : Input) (few : now.end + 1 - now.start ≤ input.end + 1 - input.start)
+    (ahead : now.start ≤ now.end) where
   pub skipped_within : input.start + skipped input now ≤ input.end
   skipped_within = omega (arith, few, ahead)
 
@@ -164,7 +177,8 @@ module _ (input now : Input) (few : now.end + 1 - now.start ≤ input.end + 1 - 
   skipped_last over = omega (arith, few, ahead, over)
 
   pub skipped_more :
-      (next : Input) → next.end + 2 - next.start ≡ now.end + 1 - now.start → suc (skipped input now) ≡ skipped input next
+      (next : Input) → next.end + 2 - next.start ≡ now.end + 1 - now.start
+      → suc (skipped input now) ≡ skipped input next
   skipped_more next shorter = omega (arith, few, ahead, shorter)
 
 -- a byte read that is no quit byte

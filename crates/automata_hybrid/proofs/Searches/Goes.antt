@@ -30,7 +30,7 @@ use Rattle.automata_hybrid.specs.Machines.Machine.{Machine, quits_on, unit_class
 use Rattle.automata_hybrid.specs.Private.Machines.Machine.{IsMachine}
 use Rattle.automata_hybrid.specs.Private.Searches.PassContracts.{IsLastRead, IsPassResult, IsRest}
 use Rattle.automata_hybrid.specs.Private.Searches.PassState.{HasLearnedAlong}
-use Rattle.automata_hybrid.specs.Private.Searches.Units.{IsStepped}
+use Rattle.automata_hybrid.specs.Private.Searches.Units.{StepMakes}
 use Rattle.automata_hybrid.specs.Searches.Passes.{HasReadNoQuit, Reads, behind_offset, given_up_offset, state_in}
 use Rattle.automata_hybrid.specs.Searches.Passes.{tape_in, unit_offset}
 use Rattle.automata_hybrid.specs.Searches.Progress.{unit_event}
@@ -252,7 +252,7 @@ module _ (s : Trace) (way : Direction) (m : Machine) (input : Input) (k id at : 
     (named : Names c.store.table id (s.state k)) where
   -- and read
   pub taken_along :
-      ((q : Powerset) → Names c.store.table id q → IsStepped m q unit at c new)
+      ((q : Powerset) → Names c.store.table id q → StepMakes m q unit at c new)
       → after_unit s way m input k (known_of c) ≡ Some (known_of new)
   taken_along taken =
       ap (λ a. after_event m (unit_event s way input k) (moved a (known_of c)) (known_of c)) place
@@ -276,7 +276,7 @@ module _ (way : Direction) (m : Machine) (input : Input) (k id at : ℕ) (unit :
     (is : next (tape_in way input) k ≡ unit) (place : given_up_offset way input k ≡ at)
     (named : Names c.store.table id (state_in way m input k)) where
   pub taken_here :
-      ((q : Powerset) → Names c.store.table id q → IsStepped m q unit at c new)
+      ((q : Powerset) → Names c.store.table id q → StepMakes m q unit at c new)
       → after_unit (pass_trace way m input) way m input k (known_of c) ≡ Some (known_of new)
   taken_here = taken_along (pass_trace way m input) way m input k id at unit c new is place named
 

@@ -19,7 +19,7 @@ use Rattle.automata_hybrid.specs.Cache.Table.{Leads, Rows}
 use Rattle.automata_hybrid.specs.Known.Known as known
 use Rattle.automata_hybrid.specs.Known.Passes.{UnitsEnd}
 use Rattle.automata_hybrid.specs.Known.Stores.{known_of}
-use Rattle.automata_hybrid.specs.Machines.Machine.{Machine}
+use Rattle.automata_hybrid.specs.Machines.Machine.{Machine, quits_on, unit_class}
 use Rattle.automata_hybrid.specs.Private.Machines.Machine.{IsMachine}
 use Rattle.automata_hybrid.specs.Searches.PassContracts.{IsPassAnswer}
 use Rattle.automata_hybrid.specs.Private.Searches.PassContracts.{IsKnownEnd, IsKnownUpto}
@@ -29,8 +29,8 @@ use Rattle.automata_hybrid.specs.Searches.Passes.{HasReadNoQuit, Reads, given_up
 use Rattle.automata_hybrid.specs.Private.Searches.Units.{IsReadAnswer}
 use Rattle.automata_hybrid.specs.Steps.Steps.{IsStepAnswer}
 use Rattle.automata_hybrid.specs.Private.Steps.Steps.{KnowsStep}
-use Rattle.automata_hybrid.specs.Machines.Machine.{quits_on, unit_class}
-use Rattle.automata_hybrid.proofs.Searches.PassContracts.{dead_answer, dead_stops, first_answer, first_stops, last_answer}
+use Rattle.automata_hybrid.proofs.Searches.PassContracts.{dead_answer, dead_stops, first_answer, first_stops}
+use Rattle.automata_hybrid.proofs.Searches.PassContracts.{last_answer}
 use Rattle.automata_hybrid.proofs.Searches.PassState.{at_reads, more_at, more_leads, reads_before, stops_last}
 use Rattle.automata_hybrid.proofs.Steps.Steps.{no_quit_unit}
 use Rattle.automata_hybrid.proofs.Calls.Laws.{searched_sound}
@@ -80,7 +80,8 @@ module _ (way : Direction) (m : Machine) (input : Input) (k id : ℕ) (c : Cache
             let same : k ≡ j = omega (arith, less, more) in
             subst (HasLearnedUnit way m c.store input) same end.known
 
--- a pass stands at a place up to which all was cached, and so is the transition on its unit there, which is no quit byte
+-- a pass stands at a place up to which all was cached, and so is the transition on its unit there, which is no quit
+-- byte
 module _ (way : Direction) (m : Machine) (input : Input) (k id : ℕ) (c : CacheView) (before : Option HalfMatch) (to : ℕ)
     (of : IsCacheOf c m) (sound : IsSoundStore c.store) (upto : IsKnownUpto way m c.store input k id before)
     (few : k ≤ length (tape_in way input).bytes) (knows : KnowsStep m c.store id (next (tape_in way input) k))
@@ -95,7 +96,8 @@ module _ (way : Direction) (m : Machine) (input : Input) (k id : ℕ) (c : Cache
 
   pub known_leads : Leads c.store.table to (state_in way m input (suc k))
   known_leads =
-      more_leads way m c.store.table c.store.table input k id to (next (tape_in way input) k) before None upto.at.at refl answer.named
+      more_leads way m c.store.table c.store.table input k id to (next (tape_in way input) k) before None upto.at.at
+      refl answer.named
       (no_quit_unit m (next (tape_in way input) k) answer.clean)
 
   here : HasLearnedUnit way m c.store input k
@@ -133,14 +135,17 @@ module _ (way : Direction) (m : Machine) (input : Input) (k id : ℕ) (c : Cache
     pub known_last : k ≡ length (tape_in way input).bytes → IsKnownEnd way m c input k id half
     known_last last =
         ends_known half (stops_last way m input k last)
-        (last_answer way m input k id (next (tape_in way input) k) before c c upto.at refl to half answer at place reports last)
+        (last_answer way m input k id (next (tape_in way input) k) before c c upto.at refl to half answer at place
+        reports last)
 
     -- and where it is earliest, and found something
     pub known_first : input.earliest ≡ true → (half ≡ None → ⊥) → IsKnownEnd way m c input k id half
     known_first early some =
         ends_known half
-        (first_stops way m input k id (next (tape_in way input) k) before c c upto.at refl to half answer at place reports early some)
-        (first_answer way m input k id (next (tape_in way input) k) before c c upto.at refl to half answer at place reports early some few)
+        (first_stops way m input k id (next (tape_in way input) k) before c c upto.at refl to half answer at place
+        reports early some)
+        (first_answer way m input k id (next (tape_in way input) k) before c c upto.at refl to half answer at place
+        reports early some few)
 
     -- and else it goes on
     pub known_more :
@@ -152,7 +157,8 @@ module _ (way : Direction) (m : Machine) (input : Input) (k id : ℕ) (c : Cache
         undone = upto.at.undone;
         may = upto.at.may;
         at =
-            more_at way m c.store.table c.store.table input k id to (next (tape_in way input) k) before half upto.at.at refl answer.named
+            more_at way m c.store.table c.store.table input k id to (next (tape_in way input) k) before half upto.at.at
+            refl answer.named
             (no_quit_unit m (next (tape_in way input) k) answer.clean) (at, place, reports) first
             (λ l. (dead_tagged c.store.table to (sound.low to) sound.small (state_in way m input (suc k)) l).1 alive);
       };

@@ -31,11 +31,14 @@ get_or-map_at f (x ∷ xs) (suc k) l = get_or-map_at f xs k (omega (arith, l))
 -- the mask that is computed of 32 bytes
 abbrev pub mask_of : ℕ → ℕ → List ℕ → ℕ
 mask_of low size v =
-    mask_l (map (top 7) (zip2 (λ a b. cond (leb a b) 255 0) (replicate 32 size) (zip2 (λ a b. (a + (256 - b)) % 256) v (replicate 32 low)))) % 2 ^ 64
+    mask_l (map (top 7)
+    (zip2 (λ a b. cond (leb a b) 255 0) (replicate 32 size)
+    (zip2 (λ a b. (a + (256 - b)) % 256) v (replicate 32 low)))) % 2 ^ 64
 
 mask_is : (low size : ℕ) (v : List ℕ) → length v ≡ 32 → mask_of low size v ≡ mask_l (map (is_outside low size) v)
 mask_is low size v long =
-    let places : zip2 (λ a b. (a + (256 - b)) % 256) v (replicate 32 low) ≡ map (steps_above low) v = zip2_splat (λ (a b : ℕ). (a + (256 - b)) % 256) v 32 low long in
+    let places : zip2 (λ a b. (a + (256 - b)) % 256) v (replicate 32 low) ≡ map (steps_above low) v =
+    zip2_splat (λ (a b : ℕ). (a + (256 - b)) % 256) v 32 low long in
     let many : length (map (steps_above low) v) ≡ 32 = length-map v (steps_above low) ∙ long in
     ap (λ us. mask_l (map (top 7) (zip2 (λ a b. cond (leb a b) 255 0) (replicate 32 size) us)) % 2 ^ 64) places
     ∙ (ap (λ ms. mask_l ms % 2 ^ 64)
@@ -51,14 +54,22 @@ module _ (low size : ℕ) (xs : List ℕ) (i : ℕ) (room : i + 32 ≤ length xs
 
   pub mask_small : mask_of low size (chunk i 32 xs) < 2 ^ 32
   mask_small =
-      let lanes : length (map (is_outside low size) (chunk i 32 xs)) ≡ 32 = length-map (chunk i 32 xs) (is_outside low size) ∙ long in
+      let lanes : length (map (is_outside low size) (chunk i 32 xs)) ≡ 32 =
+      length-map (chunk i 32 xs) (is_outside low size) ∙ long in
       subst (λ n. n < 2 ^ 32) (sym (mask_is low size (chunk i 32 xs) long))
-      (subst (λ n. mask_l (map (is_outside low size) (chunk i 32 xs)) < 2 ^ n) lanes (mask_l-lt (map (is_outside low size) (chunk i 32 xs))))
+      (subst (λ n. mask_l (map (is_outside low size) (chunk i 32 xs)) < 2 ^ n) lanes
+      (mask_l-lt (map (is_outside low size) (chunk i 32 xs))))
 
   -- a lane whose bit is not set is in the range
-  pub mask_near : (k : ℕ) → k < 32 → bit_at (mask_of low size (chunk i 32 xs)) k ≡ 0 → steps_above low (slice_index xs (i + k)) < size
+  pub mask_near :
+      (k : ℕ) → k < 32 → bit_at (mask_of low size (chunk i 32 xs)) k ≡ 0
+      → steps_above low (slice_index xs (i + k)) < size
   mask_near k few clear =
-      omega (arith, leb-false size (steps_above low (slice_index xs (i + k))) (sym lane ∙ unset _ (sym (bit_mask_l (map (is_outside low size) (chunk i 32 xs)) k) ∙ bit)))
+      omega (
+        arith,
+        leb-false size (steps_above low (slice_index xs (i + k)))
+            (sym lane ∙ unset _ (sym (bit_mask_l (map (is_outside low size) (chunk i 32 xs)) k) ∙ bit)),
+      )
     where
       bit : bit_at (mask_l (map (is_outside low size) (chunk i 32 xs))) k ≡ 0
       bit = sym (ap (λ m. bit_at m k) (mask_is low size (chunk i 32 xs) long)) ∙ clear
@@ -72,21 +83,25 @@ module _ (low size : ℕ) (xs : List ℕ) (i : ℕ) (room : i + 32 ≤ length xs
       unset false e = refl
 
 -- the bits of the mask below the lowest that is set
-pub trailing_clear : (mask : ℕ) → (mask ≡ 0 → ⊥) → mask < 2 ^ 32 → (k : ℕ) → k < count_trailing_zeros 64 mask → bit_at mask k ≡ 0
+pub trailing_clear :
+    (mask : ℕ) → (mask ≡ 0 → ⊥) → mask < 2 ^ 32 → (k : ℕ) → k < count_trailing_zeros 64 mask → bit_at mask k ≡ 0
 trailing_clear mask some small = (bit_at-trailing_zeros w64 mask (omega (arith, some)) (omega (arith, small))).2
 
 pub trailing_few : (mask : ℕ) → (mask ≡ 0 → ⊥) → mask < 2 ^ 32 → count_trailing_zeros 64 mask ≤ 32
 trailing_few mask some small = ⊎_elim
     (λ (below : count_trailing_zeros 64 mask < 32). omega (arith, below))
     (λ (above : 32 ≤ count_trailing_zeros 64 mask).
-    let unset : bit_at mask (count_trailing_zeros 64 mask) ≡ 0 = bit_at_above mask 32 (count_trailing_zeros 64 mask) small above in
-    let set : bit_at mask (count_trailing_zeros 64 mask) ≡ 1 = (bit_at-trailing_zeros w64 mask (omega (arith, some)) (omega (arith, small))).1 in
+    let unset : bit_at mask (count_trailing_zeros 64 mask) ≡ 0 =
+    bit_at_above mask 32 (count_trailing_zeros 64 mask) small above in
+    let set : bit_at mask (count_trailing_zeros 64 mask) ≡ 1 =
+    (bit_at-trailing_zeros w64 mask (omega (arith, some)) (omega (arith, small))).1 in
     absurd (omega (arith, unset, set)))
     (cases_lt (count_trailing_zeros 64 mask) 32)
 
 -- and above the highest
 pub leading_clear : (mask top n : ℕ) → mask < 2 * 2 ^ top → n ≡ 31 - top → (k : ℕ) → k < n → bit_at mask (31 - k) ≡ 0
-leading_clear mask top n high e k l = bit_at_above mask (suc top) (31 - k) (omega (arith, two-pow-succ top, high)) (omega (arith, e, l))
+leading_clear mask top n high e k l =
+    bit_at_above mask (suc top) (31 - k) (omega (arith, two-pow-succ top, high)) (omega (arith, e, l))
 
 -- a bit that is not set in both is not set in one
 pub both_clear : (a b k : ℕ) → bit_at (bit_and a b) k ≡ 0 → (bit_at a k ≡ 0) ⊎ (bit_at b k ≡ 0)
@@ -110,4 +125,5 @@ module _
         subst (λ j. P (byte_in way xs j)) here (near (k - at) (omega (arith, lane, few)) (clear (k - at) lane))
 
     pub all_near : mask ≡ 0 → (k : ℕ) → at ≤ k → k < at + 32 → P (byte_in way xs k)
-    all_near none = near_upto 32 (omega arith) (λ k l. ap (λ n. bit_at n (lane_of way k)) none ∙ bit_at-zero (lane_of way k))
+    all_near none =
+        near_upto 32 (omega arith) (λ k l. ap (λ n. bit_at n (lane_of way k)) none ∙ bit_at-zero (lane_of way k))

@@ -1,6 +1,6 @@
 -- Where leaps lead is where the transitions on the bytes lead, one by one.
-use Rattle.std.proofs.Common.{ℕ, zero, suc, ◌≡◌, ◌∙◌, ◌+◌, ◌-◌, ◌*◌, ◌/◌, ◌%◌, ◌^◌, ◌<◌, ◌≤◌, ◌⊎◌, Bool, true, false, List, Some, length}
-use Rattle.std.proofs.Common.{refl, slice_index, sym, ap, subst, arith, inl, inr}
+use Rattle.std.proofs.Common.{ℕ, zero, suc, ◌≡◌, ◌∙◌, ◌+◌, ◌-◌, ◌*◌, ◌/◌, ◌%◌, ◌^◌, ◌<◌, ◌≤◌, ◌⊎◌, Bool, true, false}
+use Rattle.std.proofs.Common.{List, Some, length, refl, slice_index, sym, ap, subst, arith, inl, inr}
 use Rattle.std.proofs.Math.Nat.{mod-eq_of_lt, mul-le-mul_right, one-le-pow, pow-suc, pow-zero}
 use Rattle.std.proofs.lemmas.Nat.{div-mul-add, mod-mul-add}
 use Rattle.automata_base.specs.ByteClasses.Classes.{AreClasses, class_in, is_quit}
@@ -15,10 +15,8 @@ use Rattle.automata_hybrid.specs.Cache.Ids.{quit_id, tags, unknown_id}
 use Rattle.automata_hybrid.specs.Private.Cache.Ids.{HasOnly}
 use Rattle.automata_hybrid.specs.Private.Cache.Leaps.{AreLeaps, LeadsToRow, LeapsTo, ReachesRow, mark}
 use Rattle.automata_hybrid.specs.Cache.Stores.{Stored, cell_of}
-use Rattle.automata_hybrid.specs.Private.Cache.Table.{CellLeads, CellQuits, CellUnknown}
-use Rattle.automata_hybrid.specs.Private.Cache.Table.{RowsFitCells, IsCell}
+use Rattle.automata_hybrid.specs.Private.Cache.Table.{CellLeads, CellQuits, CellUnknown, RowsFitCells, IsCell, HasState}
 use Rattle.automata_hybrid.specs.Cache.Table.{Leads, Names, Rows, has_patterns, id_of, row_id}
-use Rattle.automata_hybrid.specs.Private.Cache.Table.{HasState}
 use Rattle.automata_hybrid.specs.Machines.Machine.{Machine}
 use Rattle.automata_hybrid.specs.Private.Machines.Machine.{IsMachine}
 use Rattle.automata_hybrid.specs.Private.Searches.Leaps.{IsLeapt, LeadsIds, LeadsOver, column_of}
@@ -46,7 +44,8 @@ module _ (t : Rows) (way : Direction) (bytes : List ℕ) (n from row : ℕ) wher
   -- one byte more
   place_more :
       (count : ℕ) → row * n ^ suc count + column_of t.of.classes n way bytes from (suc count)
-      ≡ (row * n ^ count + column_of t.of.classes n way bytes from count) * n + class_in t.of.classes (byte_in way bytes (from + count))
+      ≡ (row * n ^ count + column_of t.of.classes n way bytes from count) * n
+      + class_in t.of.classes (byte_in way bytes (from + count))
   place_more count =
       let class : ℕ = class_in t.of.classes (byte_in way bytes (from + count)) in
       let column : ℕ = column_of t.of.classes n way bytes from count in
@@ -70,8 +69,12 @@ module _ (t : Rows) (way : Direction) (bytes : List ℕ) (n from row : ℕ) wher
       let quotient : (row * n ^ suc count + column_of t.of.classes n way bytes from (suc count)) / n ≡ place =
       ap (λ k. k / n) (place_more count) ∙ div-mul-add place n class low in
       let rest : (row * n ^ suc count + column_of t.of.classes n way bytes from (suc count)) % n ≡ class =
-      ap (λ k. k % n) (place_more count) ∙ mod-mul-add place n class low in
-      (at, reaches_over small count at (subst (λ k. ReachesRow t n count k at) quotient before), subst (λ k. LeadsToRow t at k to) rest leads)
+      ap (λ k. k % n) (place_more count) ∙ mod-mul-add place n class low in (
+        at,
+        reaches_over small count at (subst (λ k. ReachesRow t n count k at) quotient before),
+        subst
+            (λ k. LeadsToRow t at k to) rest leads,
+      )
 
 -- over some bytes and then over more
 pub over_on :
@@ -102,7 +105,8 @@ cell_leads m c q to byte machine of plain few cell = (go (is_quit m.quits byte) 
   marked_not : is_quit m.quits byte ≡ true → slice_index c.table.of.template class ≡ unknown_id → ⊥
   marked_not e unmarked =
       let quit : slice_index m.template class ≡ quit_id m.stride = machine.quit byte few e in
-      let free : slice_index m.template class ≡ unknown_id = subst (λ (k : Machine). slice_index k.template class ≡ unknown_id) of unmarked in
+      let free : slice_index m.template class ≡ unknown_id =
+      subst (λ (k : Machine). slice_index k.template class ≡ unknown_id) of unmarked in
       omega (arith, quit, free, machine.template.small)
 
   go : (b : Bool) → is_quit m.quits byte ≡ b → IsCell c.table q class to → is_quit m.quits byte ≡ false
@@ -118,15 +122,18 @@ cell_leads m c q to byte machine of plain few cell = (go (is_quit m.quits byte) 
       subst (λ (k : Machine). Leads c.table to (successor k.nfa (match_kind_of k.config) q (Some byte))) of
       (leads (Some byte) few (ap (λ (k : Machine). class_in k.classes byte) of))
 
-module _ {s : Trace} {way : Direction} {m : Machine} {c : Stored} {input : Input} {place : ℕ} (machine : IsMachine m) (are : AreClasses m.classes) (of : c.table.of ≡ m) (rows : RowsFitCells c.table) where
+module _ {s : Trace} {way : Direction} {m : Machine} {c : Stored} {input : Input} {place : ℕ} (machine : IsMachine m)
+    (are : AreClasses m.classes) (of : c.table.of ≡ m) (rows : RowsFitCells c.table) where
   -- one byte, by the cell of a row
   run_one :
       (row byte to : ℕ) → byte < 256 → next (tape_in way input) place ≡ Some byte
-      → IsTagAt s way m c.table input 0 place ((row + 3) * c.table.of.stride) → LeadsToRow c.table row (class_in c.table.of.classes byte) to
+      → IsTagAt s way m c.table input 0 place ((row + 3) * c.table.of.stride)
+      → LeadsToRow c.table row (class_in c.table.of.classes byte) to
       → IsRun s way m c input 0 place (suc place) ((to + 3) * c.table.of.stride)
   run_one row byte to few unit at leads = record {
     followed =
-        followed_one way m c input 0 place id next_id byte at.kind only unit known (omega (arith, below)) (λ quits. absurd (false_true (sym (both (s.state place) at.on.named).0 ∙ quits)))
+        followed_one way m c input 0 place id next_id byte at.kind only unit known (omega (arith, below))
+        (λ quits. absurd (false_true (sym (both (s.state place) at.on.named).0 ∙ quits)))
         (λ _ _ q n. (both q n).1) at.on;
     only = only;
   } where
@@ -147,36 +154,49 @@ module _ {s : Trace} {way : Direction} {m : Machine} {c : Stored} {input : Input
 
     value : cell_of c id class ≡ next_id
     value =
-        ap (λ n. slice_index c.table.cells (n + class)) (mod-eq_of_lt (let l : id < 2 ^ 27 = omega (arith, at.only.below) in l))
+        ap (λ n. slice_index c.table.cells (n + class))
+        (mod-eq_of_lt (let l : id < 2 ^ 27 = omega (arith, at.only.below) in l))
         ∙ ap (λ (k : Machine). slice_index c.table.cells (id + class_in k.classes byte)) (sym of) ∙ leads.cell
 
     known : cell_of c id class < 2 ^ 31
     known = subst (λ n. n < 2 ^ 31) (sym value) (omega (arith, leads.untagged))
 
-    both : (q : Powerset) → Names c.table id q → (is_quit m.quits byte ≡ false) × Leads c.table next_id (successor m.nfa (match_kind_of m.config) q (Some byte))
+    both :
+        (q : Powerset) → Names c.table id q → (is_quit m.quits byte ≡ false)
+        × Leads c.table next_id (successor m.nfa (match_kind_of m.config) q (Some byte))
     both q n = cell_leads m c q next_id byte machine of (omega (arith, leads.untagged)) few
-        (subst (IsCell c.table q class) value (Placed-IsCell c.table id class q rows (Names-Placed c.table id q rows n) below))
+        (subst (IsCell c.table q class) value
+        (Placed-IsCell c.table id class q rows (Names-Placed c.table id q rows n) below))
 
-module _ {s : Trace} {way : Direction} {m : Machine} {c : Stored} {input : Input} {place : ℕ} (bytes : List ℕ) (machine : IsMachine m) (are : AreClasses m.classes) (of : c.table.of ≡ m) (rows : RowsFitCells c.table)
+module _ {s : Trace} {way : Direction} {m : Machine} {c : Stored} {input : Input} {place : ℕ} (bytes : List ℕ)
+    (machine : IsMachine m) (are : AreClasses m.classes) (of : c.table.of ≡ m) (rows : RowsFitCells c.table)
     (small : (k : ℕ) → byte_in way bytes k < 256)
     (units : (k : ℕ) → k < length bytes → next (tape_in way input) (place + k) ≡ Some (byte_in way bytes k)) where
   run_rows :
       (len row to : ℕ) → len ≤ length bytes → IsTagAt s way m c.table input 0 place ((row + 3) * c.table.of.stride)
-      → LeadsOver c.table way bytes 0 len row to → IsRun s way m c input 0 place (place + len) ((to + 3) * c.table.of.stride)
+      → LeadsOver c.table way bytes 0 len row to
+      → IsRun s way m c input 0 place (place + len) ((to + 3) * c.table.of.stride)
   run_rows zero row to within at same =
       let here : place ≡ place + 0 = omega arith in
       run_to here (subst (λ k. IsRun s way m c input 0 place place ((k + 3) * c.table.of.stride)) same (run_none at))
   run_rows (suc len) row to within at (mid, before, leads) =
       let here : suc (place + len) ≡ place + suc len = omega arith in
       let one : 0 + len ≡ len = omega arith in
-      let run : IsRun s way m c input 0 place (place + len) ((mid + 3) * c.table.of.stride) = run_rows len row mid (omega (arith, within)) at before in
-      run_to here (run_on run (run_one machine are of rows mid (byte_in way bytes len) to (small len) (units len (omega (arith, within))) (run_at at.kind at.on.trace run) (subst (λ k. LeadsToRow c.table mid (class_in c.table.of.classes (byte_in way bytes k)) to) one leads)))
+      let run : IsRun s way m c input 0 place (place + len) ((mid + 3) * c.table.of.stride) =
+      run_rows len row mid (omega (arith, within)) at before in
+      run_to here
+      (run_on run
+      (run_one machine are of rows mid (byte_in way bytes len) to (small len) (units len (omega (arith, within)))
+      (run_at at.kind at.on.trace run)
+      (subst (λ k. LeadsToRow c.table mid (class_in c.table.of.classes (byte_in way bytes k)) to) one leads)))
 
   -- a run along the bytes that lead from one ID to another
   pub run_over :
-      {len id to : ℕ} → IsTagAt s way m c.table input 0 place id → LeadsIds c.table way bytes len id to → IsRun s way m c input 0 place (place + len) to
+      {len id to : ℕ} → IsTagAt s way m c.table input 0 place id → LeadsIds c.table way bytes len id to
+      → IsRun s way m c input 0 place (place + len) to
   run_over {len} {id} {to} at ids =
-      run_id (sym ids.ends) (run_rows len ids.row ids.to ids.within (subst (IsTagAt s way m c.table input 0 place) ids.begins at) ids.over)
+      run_id (sym ids.ends)
+      (run_rows len ids.row ids.to ids.within (subst (IsTagAt s way m c.table input 0 place) ids.begins at) ids.over)
 
 -- a column with a digit more fits
 pub column_fits : (column n count : ℕ) → n ≤ 32 → count ≤ 4 → column < n ^ count → column * n ≤ 2 ^ 25
@@ -186,24 +206,29 @@ column_fits column n count few short low =
     omega (arith, b, few)
 
 -- a byte is small in whichever direction it is read
-pub byte_small : (way : Direction) (bytes : List ℕ) → ((k : ℕ) → slice_index bytes k < 256) → (k : ℕ) → byte_in way bytes k < 256
+pub byte_small :
+    (way : Direction) (bytes : List ℕ) → ((k : ℕ) → slice_index bytes k < 256) → (k : ℕ) → byte_in way bytes k < 256
 byte_small Forward bytes small k = small k
 byte_small Backward bytes small k = small (length bytes - 1 - k)
 
 -- bytes have classes of the leaps
 pub classes_small :
-    {t : Rows} {l : Leaps} (way : Direction) (bytes : List ℕ) → AreLeaps t l → AreClasses t.of.classes → ((k : ℕ) → byte_in way bytes k < 256)
+    {t : Rows} {l : Leaps} (way : Direction) (bytes : List ℕ) → AreLeaps t l → AreClasses t.of.classes
+    → ((k : ℕ) → byte_in way bytes k < 256)
     → (k : ℕ) → class_in t.of.classes (byte_in way bytes k) < l.shape.classes
-classes_small {t} {l} way bytes are classes small k = omega (arith, are.of.classes, classes.below (byte_in way bytes k) (small k))
+classes_small {t} {l} way bytes are classes small k =
+    omega (arith, are.of.classes, classes.below (byte_in way bytes k) (small k))
 
-module _ {t : Rows} {l : Leaps} (way : Direction) (bytes : List ℕ) {row at first : ℕ} (are : AreLeaps t l) (small : (k : ℕ) → class_in t.of.classes (byte_in way bytes k) < l.shape.classes)
+module _ {t : Rows} {l : Leaps} (way : Direction) (bytes : List ℕ) {row at first : ℕ} (are : AreLeaps t l)
+    (small : (k : ℕ) → class_in t.of.classes (byte_in way bytes k) < l.shape.classes)
     (leapt : IsLeapt t l.shape way bytes row at first) where
   -- the place of a column of the row that leaps have come to
   pub leap_within : (column : ℕ) → column < l.shape.classes ^ l.shape.reach → first + column < length l.cells.items
   leap_within column low =
       subst (λ k. first + column < k) (sym are.cells)
       (subst (λ k. k + column < l.shape.rows * l.shape.width) (sym leapt.first)
-      (place_below l.shape.rows l.shape.width leapt.to column (subst (λ k. column < k) (sym are.of.shape.width) low) leapt.known))
+      (place_below l.shape.rows l.shape.width leapt.to column (subst (λ k. column < k) (sym are.of.shape.width) low)
+      leapt.known))
 
   -- one leap more
   pub leap_more :
@@ -219,7 +244,8 @@ module _ {t : Rows} {l : Leaps} (way : Direction) (bytes : List ℕ) {row at fir
     place = ap (λ k. k + column) (leapt.first ∙ ap (λ k. leapt.to * k) are.of.shape.width)
 
     go :
-        (slice_index l.cells.items (first + column) ≡ mark) ⊎ LeapsTo t l.shape (first + column) (slice_index l.cells.items (first + column))
+        (slice_index l.cells.items (first + column) ≡ mark)
+        ⊎ LeapsTo t l.shape (first + column) (slice_index l.cells.items (first + column))
         → IsLeapt t l.shape way bytes row (at + l.shape.reach) cell
     go (inl marked) = absurd (unmarked (read ∙ marked))
     go (inr leads) = record {
@@ -229,11 +255,13 @@ module _ {t : Rows} {l : Leaps} (way : Direction) (bytes : List ℕ) {row at fir
       within = within;
       over =
           over_on t way bytes row leapt.to at l.shape.reach leads.to leapt.over
-          (reaches_over t way bytes l.shape.classes at leapt.to small l.shape.reach leads.to (subst (λ k. ReachesRow t l.shape.classes l.shape.reach k leads.to) place leads.reaches));
+          (reaches_over t way bytes l.shape.classes at leapt.to small l.shape.reach leads.to
+          (subst (λ k. ReachesRow t l.shape.classes l.shape.reach k leads.to) place leads.reaches));
     }
 
 -- what the column of the bytes at a place gives
-module _ {m : Machine} {t : Rows} {l : Leaps} (way : Direction) (bytes : List ℕ) {row at first reach column : ℕ} (of : t.of ≡ m) (rising : AreClasses m.classes)
+module _ {m : Machine} {t : Rows} {l : Leaps} (way : Direction) (bytes : List ℕ) {row at first reach column : ℕ}
+    (of : t.of ≡ m) (rising : AreClasses m.classes)
     (fits : (k : ℕ) → byte_in way bytes k < 256) (are : AreLeaps t l) (far : reach ≡ l.shape.reach)
     (value : column ≡ column_of m.classes l.shape.classes way bytes at reach) (below : column < l.shape.classes ^ reach)
     (leapt : IsLeapt t l.shape way bytes row at first) where
@@ -258,7 +286,9 @@ module _ {m : Machine} {t : Rows} {l : Leaps} (way : Direction) (bytes : List �
       (subst (λ k. first + k < length l.cells.items) is_column cell_within) unmarked)
 
 -- an ID without a tag is the offset of its row
-pub row_of_id : (t : Rows) (id k : ℕ) (q : Powerset) → RowsFitCells t → Names t id q → id < 2 ^ 27 → HasState t k q → id ≡ (k + 3) * t.of.stride
+pub row_of_id :
+    (t : Rows) (id k : ℕ) (q : Powerset) → RowsFitCells t → Names t id q → id < 2 ^ 27 → HasState t k q
+    → id ≡ (k + 3) * t.of.stride
 row_of_id t id k q rows named low (r, has, state) =
     let ids = rows.ids k r has in
     let same : id ≡ row_id ((k + 3) * t.of.stride) r = some_inj (sym named ∙ (ap (id_of t) (sym state) ∙ ids.0)) in
@@ -272,7 +302,8 @@ row_of_id t id k q rows named low (r, has, state) =
 
 -- the row whose first cell has a place
 pub row_of_place :
-    {t : Rows} {l : Leaps} {way : Direction} {bytes : List ℕ} {row len place : ℕ} → AreLeaps t l → (leapt : IsLeapt t l.shape way bytes row len place)
+    {t : Rows} {l : Leaps} {way : Direction} {bytes : List ℕ} {row len place : ℕ} → AreLeaps t l
+    → (leapt : IsLeapt t l.shape way bytes row len place)
     → place / l.shape.width ≡ leapt.to
 row_of_place {t} {l} {way} {bytes} {row} {len} {place} are leapt =
     let some : 1 ≤ l.shape.classes = omega (arith, are.of.classes) in

@@ -1,5 +1,6 @@
 -- Cached transitions that are followed from a match, one by one, into states that report or do not.
-use Rattle.std.proofs.Common.{ℕ, suc, ◌≡◌, ◌∙◌, ◌+◌, ◌-◌, ◌<◌, ◌≤◌, ◌^◌, ◌⊎◌, inl, inr, true, Option, refl, sym, ap, subst, arith}
+use Rattle.std.proofs.Common.{ℕ, suc, ◌≡◌, ◌∙◌, ◌+◌, ◌-◌, ◌<◌, ◌≤◌, ◌^◌, ◌⊎◌, inl, inr, true, Option, refl, sym, ap}
+use Rattle.std.proofs.Common.{subst, arith}
 use Rattle.automata_base.specs.Answers.Answers.{offset_in}
 use Rattle.automata_base.specs.Haystacks.Input.{Input}
 use Rattle.automata_base.specs.Haystacks.Matches.{HalfMatch}
@@ -58,7 +59,13 @@ module _ {s : Trace} {way : Direction} {m : Machine} {c : Stored} {input : Input
       → HasRunOn s way m c input at at id found reported mark
   run_on_none none inside here =
       record {
-        run = record { more = omega arith; within = omega (arith, inside); known = λ k more less. absurd (omega (arith, more, less)) };
+        run =
+            record {
+              more = omega arith;
+              within = omega (arith, inside);
+              known = λ k more less. absurd
+                  (omega (arith, more, less));
+            };
         named = here.named;
         clean = here.clean;
         none = λ u. here.reported;
@@ -94,7 +101,14 @@ module _ {s : Trace} {way : Direction} {m : Machine} {c : Stored} {input : Input
           none = λ u. here.none u ∙ ap (half_of way input) same;
           some = λ l.
               let r = here.some l in
-              record { state = r.state; named = r.named; tagged = r.tagged; before = r.before; last = r.last ∙ ap (half_of way input) same };
+              record {
+                state = r.state;
+                named = r.named;
+                tagged = r.tagged;
+                before = r.before;
+                last = r.last
+                    ∙ ap (half_of way input) same;
+              };
         } where
           reported_none : IsFollowedAlong s way m c input 0 at (at + 1) next → s.reported at ≡ s.reported (at + 1)
           reported_none one = sym (reported_upto one trace (at + 1) (omega arith) (omega arith))
@@ -118,7 +132,8 @@ module _ {s : Trace} {way : Direction} {m : Machine} {c : Stored} {input : Input
                 before = half_of way input (s.reported at);
                 last =
                     subst
-                    (λ n. half_at (s.state n).patterns (offset_in way input at) (half_of way input (s.reported at)) ≡ half_of way input (s.reported n))
+                    (λ n. half_at (s.state n).patterns (offset_in way input at) (half_of way input (s.reported at))
+                    ≡ half_of way input (s.reported n))
                     more (sym (found_along trace at (λ e. absurd (late e))));
               };
         }
@@ -132,7 +147,12 @@ module _ {s : Trace} {way : Direction} {m : Machine} {c : Stored} {input : Input
       → found' ≡ half_at q.patterns (offset_in way input mark) before)
       → IsAtAlong s way m c.table input at id found'
   run_on_at {from} {at} {id} {found} {found'} {reported} {mark} late here none some =
-      record { named = here.named; reported = last (cases_lt reported unknown_id); nothing = λ e. absurd (late e); clean = here.clean }
+      record {
+        named = here.named;
+        reported = last (cases_lt reported unknown_id);
+        nothing = λ e. absurd (late e);
+        clean = here.clean;
+      }
     where
       last : (reported < unknown_id) ⊎ (unknown_id ≤ reported) → found' ≡ half_of way input (s.reported at)
       last (inl low) = let r = here.some low in some low r.state r.named r.before ∙ r.last

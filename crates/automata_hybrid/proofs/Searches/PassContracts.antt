@@ -1,6 +1,5 @@
 -- What a pass answers, from what its parts answer.
-use Rattle.std.proofs.Common.{ℕ, suc, ◌≡◌, ◌≤◌, length, Option, Some, None, true, false}
-use Rattle.std.proofs.Common.{List, Bool}
+use Rattle.std.proofs.Common.{ℕ, suc, ◌≡◌, ◌≤◌, length, Option, Some, None, true, false, List, Bool}
 use Rattle.automata_base.specs.Answers.Answers.{offset_in}
 use Rattle.automata_base.specs.ByteClasses.Classes.{is_quit}
 use Rattle.automata_base.specs.Haystacks.Input.{Input}
@@ -18,14 +17,15 @@ use Rattle.automata_hybrid.specs.Searches.PassState.{half_at}
 use Rattle.automata_hybrid.specs.Private.Searches.Units.{IsReadAnswer}
 use Rattle.automata_hybrid.specs.Searches.Passes.{Reads, state_in, tape_in}
 use Rattle.automata_hybrid.specs.Cache.Table.{Leads}
-use Rattle.automata_hybrid.proofs.Searches.PassState.{clean_dead, clean_ends, clean_last, more_dead, more_ends, more_last}
-use Rattle.automata_hybrid.proofs.Searches.PassState.{stops_dead, stops_ends}
+use Rattle.automata_hybrid.proofs.Searches.PassState.{clean_dead, clean_ends, clean_last, more_dead, more_ends}
+use Rattle.automata_hybrid.proofs.Searches.PassState.{more_last, stops_dead, stops_ends}
 use Rattle.automata_hybrid.proofs.Steps.Steps.{no_quit_unit}
 
 -- the parts of an input make it again
 pub same_input :
     (input : Input) (haystack : List ℕ) (span : Span) (anchored : Anchored) (earliest : Bool)
-    → haystack ≡ input.haystack → span.start ≡ input.start → span.end ≡ input.end → anchored ≡ input.anchored → earliest ≡ input.earliest
+    → haystack ≡ input.haystack → span.start ≡ input.start → span.end ≡ input.end → anchored ≡ input.anchored
+    → earliest ≡ input.earliest
     → input_at haystack span anchored earliest ≡ input
 same_input input haystack span anchored earliest h s e a f = λ i. record {
   haystack = h i;
@@ -50,22 +50,33 @@ module _ (way : Direction) (m : Machine) (input : Input) (k id : ℕ) (u : Optio
         → ((q : Powerset) → Leads after.store.table n q → half ≡ half_at q.patterns at found)
         → k ≡ length (tape_in way input).bytes → IsPassAnswer way m input half
     last_answer at place reports last = record {
-      found = more_last way m old.store.table after.store.table input k id n u found half underway.at unit a.named free (at, place, reports) last;
-      clean = clean_last way m old.store.table after.store.table input k id n u found half underway.at unit a.named free last underway.may.0;
+      found =
+          more_last way m old.store.table after.store.table input k id n u found half underway.at unit a.named free
+          (at, place, reports) last;
+      clean =
+          clean_last way m old.store.table after.store.table input k id n u found half underway.at unit a.named free
+          last underway.may.0;
       supported = underway.may.1;
     }
 
     -- where the state after it is dead
-    module _ (dies : Leads after.store.table n (state_in way m input (suc k)) → state_in way m input (suc k) ≡ dead) where
+    module _
+        (dies : Leads after.store.table n (state_in way m input (suc k)) → state_in way m input (suc k) ≡ dead) where
       pub dead_answer : k ≤ length (tape_in way input).bytes → IsPassAnswer way m input found
       dead_answer few = record {
-        found = more_dead way m old.store.table after.store.table input k id n u found half underway.at unit a.named free dies few;
-        clean = clean_dead way m old.store.table after.store.table input k id n u found half underway.at unit a.named free dies underway.may.0;
+        found =
+            more_dead way m old.store.table after.store.table input k id n u found half underway.at unit a.named free
+            dies few;
+        clean =
+            clean_dead way m old.store.table after.store.table input k id n u found half underway.at unit a.named free
+            dies underway.may.0;
         supported = underway.may.1;
       }
 
       pub dead_stops : (j : ℕ) → suc k ≤ j → Reads way m input j → ⊥
-      dead_stops = stops_dead way m old.store.table after.store.table input k id n u found half underway.at unit a.named free dies
+      dead_stops =
+          stops_dead way m old.store.table after.store.table input k id n u found half underway.at unit a.named free
+          dies
 
     -- where an earliest pass found something
     module _ (at : ℕ) (place : at ≡ offset_in way input k)
@@ -73,10 +84,16 @@ module _ (way : Direction) (m : Machine) (input : Input) (k id : ℕ) (u : Optio
         (early : input.earliest ≡ true) (some : half ≡ None → ⊥) where
       pub first_answer : k ≤ length (tape_in way input).bytes → IsPassAnswer way m input half
       first_answer few = record {
-        found = more_ends way m old.store.table after.store.table input k id n u found half underway.at unit a.named free (at, place, reports) few early some;
-        clean = clean_ends way m old.store.table after.store.table input k id n u found half underway.at unit a.named free (at, place, reports) early some underway.may.0;
+        found =
+            more_ends way m old.store.table after.store.table input k id n u found half underway.at unit a.named free
+            (at, place, reports) few early some;
+        clean =
+            clean_ends way m old.store.table after.store.table input k id n u found half underway.at unit a.named free
+            (at, place, reports) early some underway.may.0;
         supported = underway.may.1;
       }
 
       pub first_stops : (j : ℕ) → suc k ≤ j → Reads way m input j → ⊥
-      first_stops = stops_ends way m old.store.table after.store.table input k id n u found half underway.at unit a.named free (at, place, reports) early some
+      first_stops =
+          stops_ends way m old.store.table after.store.table input k id n u found half underway.at unit a.named free
+          (at, place, reports) early some

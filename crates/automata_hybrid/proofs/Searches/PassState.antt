@@ -1,8 +1,9 @@
 -- What a pass has found so far, unit by unit.
-use Rattle.std.proofs.Common.{ℕ, zero, suc, ◌≡◌, ◌<◌, ◌≤◌, ◌⊎◌, inl, inr, Bool, true, false, [], length}
-use Rattle.std.proofs.Common.{Option, Some, None, refl, sym, ap, ◌∙◌, subst, arith, eq-or-lt_of_le}
+use Rattle.std.proofs.Common.{ℕ, zero, suc, ◌≡◌, ◌<◌, ◌≤◌, ◌⊎◌, inl, inr, Bool, true, false, [], length, Option, Some}
+use Rattle.std.proofs.Common.{None, refl, sym, ap, ◌∙◌, subst, arith, eq-or-lt_of_le}
 use Rattle.automata_base.specs.Answers.Answers.{offset_in}
-use Rattle.automata_base.specs.Retraced.Passes.{pair_at, earlier_or}
+use Rattle.automata_base.specs.Retraced.Passes.{pair_at, earlier_or, state_after, reported_at, first_reported}
+use Rattle.automata_base.specs.Retraced.Passes.{reported_upto}
 use Rattle.automata_base.specs.declared.util.search.MatchKind.{MatchKind}
 use Rattle.automata_base.specs.declared.util.search.Anchored.{Anchored}
 use Rattle.automata_base.specs.Haystacks.Input.{Input}
@@ -13,27 +14,26 @@ use Rattle.automata_base.specs.Powersets.Powerset.{Powerset, dead}
 use Rattle.automata_base.specs.Paths.Selections.{Pair}
 use Rattle.automata_base.specs.Retraced.Steps.{start_state_of, successor}
 use Rattle.automata_base.specs.declared.util.search.Direction.{Direction}
-use Rattle.automata_base.specs.Retraced.Passes.{state_after, reported_at, first_reported, reported_upto}
 use Rattle.automata_base.proofs.Powersets.Alike.{dead_stays}
 use Rattle.std.specs.Prelude.{Result, Ok, Err, IfErr, is_some}
 use Rattle.std.specs.Result.{IsErrAnd}
 use Rattle.automata_hybrid.specs.Machines.Machine.{Machine}
 use Rattle.automata_hybrid.specs.Searches.PassState.{half_of, half_at, found_over, IsAt}
-use Rattle.automata_hybrid.specs.Searches.Passes.{MeetsNoQuit, Reads}
-use Rattle.automata_hybrid.specs.Searches.Passes.{state_in, tape_in, reported_in}
+use Rattle.automata_hybrid.specs.Searches.Passes.{MeetsNoQuit, Reads, state_in, tape_in, reported_in}
 use Rattle.automata_hybrid.specs.Steps.Starts.{quit_behind}
 use Rattle.automata_hybrid.specs.Cache.Table.{Rows, Leads, Names}
 use Rattle.automata_base.specs.ByteClasses.Classes.{is_quit}
 use Rattle.automata_config.specs.Options.{match_kind_of}
 use Rattle.std.proofs.lemmas.Bool.{cases_lt}
-use Rattle.automata_hybrid.proofs.Searches.Traces.{at_along, begins_along, clean_along, half_none}
-use Rattle.automata_hybrid.proofs.Searches.Traces.{leads_along, more_along, none_along, pass_is_trace, quiet_along}
+use Rattle.automata_hybrid.proofs.Searches.Traces.{at_along, begins_along, clean_along, half_none, leads_along}
+use Rattle.automata_hybrid.proofs.Searches.Traces.{more_along, none_along, pass_is_trace, quiet_along}
 use Rattle.automata_base.proofs.Paths.Orders.{some_none}
 
 -- one unit more
 pub state_more :
     (way : Direction) (m : Machine) (input : Input) (k : ℕ)
-    → state_in way m input (suc k) ≡ successor m.nfa (match_kind_of m.config) (state_in way m input k) (next (tape_in way input) k)
+    → state_in way m input (suc k)
+    ≡ successor m.nfa (match_kind_of m.config) (state_in way m input k) (next (tape_in way input) k)
 state_more way m input k = (pass_is_trace way m input).steps k
 
 pub false_true : false ≡ true → ⊥
@@ -50,7 +50,8 @@ dead_more way m input k (suc n) l e = go (λ more. dead_more way m input k n mor
   go before (inl same) = subst (λ i. state_in way m input i ≡ dead) same e
   go before (inr less) =
       state_more way m input n
-      ∙ (ap (λ q. successor m.nfa (match_kind_of m.config) q (next (tape_in way input) n)) (before (omega (arith, less)))
+      ∙ (ap (λ q. successor m.nfa (match_kind_of m.config) q (next (tape_in way input) n))
+      (before (omega (arith, less)))
       ∙ dead_stays m.nfa (match_kind_of m.config) (next (tape_in way input) n))
 
 -- a unit after which the state has no patterns reports nothing
@@ -92,13 +93,14 @@ first_stays :
 unfolding first_reported
 first_stays kind a mode t k zero pair l e =
     let z : k ≡ 0 = omega (arith, l) in subst (λ i. first_reported a kind mode t i ≡ Some pair) z e
-first_stays kind a mode t k (suc n) pair l e = go (λ more. first_stays kind a mode t k n pair more e) (eq-or-lt_of_le l) where
-  go :
-      (k ≤ n → first_reported a kind mode t n ≡ Some pair) → (k ≡ suc n) ⊎ (k < suc n)
-      → first_reported a kind mode t (suc n) ≡ Some pair
-  go before (inl same) = subst (λ i. first_reported a kind mode t i ≡ Some pair) same e
-  go before (inr less) =
-      ap (λ o. earlier_or o (pair_at (reported_at a kind mode t n) n None)) (before (omega (arith, less)))
+first_stays kind a mode t k (suc n) pair l e =
+    go (λ more. first_stays kind a mode t k n pair more e) (eq-or-lt_of_le l) where
+      go :
+          (k ≤ n → first_reported a kind mode t n ≡ Some pair) → (k ≡ suc n) ⊎ (k < suc n)
+          → first_reported a kind mode t (suc n) ≡ Some pair
+      go before (inl same) = subst (λ i. first_reported a kind mode t i ≡ Some pair) same e
+      go before (inr less) =
+          ap (λ o. earlier_or o (pair_at (reported_at a kind mode t n) n None)) (before (omega (arith, less)))
 
 pub reported_stays :
     (kind : MatchKind) (e : Bool) (a : Automaton) (mode : Anchored) (t : Tape) (k n : ℕ) (o : Option Pair)
@@ -117,7 +119,8 @@ pub found_first :
 found_first way m input k l e some =
     ap (half_of way input)
     (sym (reported_stays (match_kind_of m.config) input.earliest m.nfa input.anchored (tape_in way input) k
-    (suc (length (tape_in way input).bytes)) (reported_in way m input k) l e refl (λ f. some (ap (half_of way input) f))))
+    (suc (length (tape_in way input).bytes)) (reported_in way m input k) l e refl
+    (λ f. some (ap (half_of way input) f))))
 
 -- a pass has met no quit byte if it does not have up to a place, and reads nothing from there on
 pub clean_all :
@@ -137,8 +140,12 @@ pub at_reads :
     (way : Direction) (m : Machine) (t : Rows) (input : Input) (k id : ℕ) (found : Option HalfMatch)
     → IsAt way m t input k id found → k ≤ length (tape_in way input).bytes
     → ((q : Powerset) → Names t id q → q ≡ dead → ⊥) → Reads way m input k
-at_reads way m t input k id found at l alive =
-    (l, alive (state_in way m input k) at.named, λ e. half_none way input (reported_in way m input k) (sym at.reported ∙ at.nothing e))
+at_reads way m t input k id found at l alive = (
+  l,
+  alive (state_in way m input k) at.named,
+  λ e. half_none way input (reported_in way m input k)
+      (sym at.reported ∙ at.nothing e),
+)
 
 -- it reads the units before one that it reads
 pub reads_before :
@@ -152,14 +159,16 @@ reads_before way m input j k l reads = (
   none early None e = e
   none early (Some pair) e =
       let stays : reported_in way m input k ≡ reported_in way m input j =
-      reported_stays (match_kind_of m.config) input.earliest m.nfa input.anchored (tape_in way input) j k (Some pair) l early e some_none in
+      reported_stays (match_kind_of m.config) input.earliest m.nfa input.anchored (tape_in way input) j k (Some pair) l
+      early e some_none in
       absurd (some_none (sym e ∙ (sym stays ∙ reads.2 early)))
 
 -- nothing is read after the last unit
 pub stops_last :
     (way : Direction) (m : Machine) (input : Input) (k : ℕ)
     → k ≡ length (tape_in way input).bytes → (j : ℕ) → suc k ≤ j → Reads way m input j → ⊥
-stops_last way m input k l j less r = let f : j ≤ length (tape_in way input).bytes = r.0 in absurd (omega (arith, l, less, f))
+stops_last way m input k l j less r =
+    let f : j ≤ length (tape_in way input).bytes = r.0 in absurd (omega (arith, l, less, f))
 
 -- a pass that stands at a place reads one unit more, which is no quit byte
 module _ (way : Direction) (m : Machine) (t t' : Rows) (input : Input) (k id id' : ℕ) (u : Option ℕ)
@@ -168,7 +177,8 @@ module _ (way : Direction) (m : Machine) (t t' : Rows) (input : Input) (k id id'
     (free : (byte : ℕ) → u ≡ Some byte → is_quit m.quits byte ≡ false) where
   -- the ID found reports its patterns at the offset of the place
   abbrev pub Reports : Type 0
-  Reports = (o : ℕ) × (o ≡ offset_in way input k) × ((q : Powerset) → Leads t' id' q → found' ≡ half_at q.patterns o found)
+  Reports =
+      (o : ℕ) × (o ≡ offset_in way input k) × ((q : Powerset) → Leads t' id' q → found' ≡ half_at q.patterns o found)
 
   pub more_leads : Leads t' id' (state_in way m input (suc k))
   more_leads = leads_along (pass_is_trace way m input) t t' k id id' u found found' at unit reads
@@ -184,13 +194,16 @@ module _ (way : Direction) (m : Machine) (t t' : Rows) (input : Input) (k id id'
   -- and stands after it
   pub more_at :
       Reports
-      → (input.earliest ≡ true → found' ≡ None) → (Leads t' id' (state_in way m input (suc k)) → Names t' id' (state_in way m input (suc k)))
+      → (input.earliest ≡ true → found' ≡ None)
+      → (Leads t' id' (state_in way m input (suc k)) → Names t' id' (state_in way m input (suc k)))
       → IsAt way m t' input (suc k) id' found'
-  more_at reports first alive = at_along (pass_is_trace way m input) t t' k id id' u found found' at unit reads free reports first alive
+  more_at reports first alive =
+      at_along (pass_is_trace way m input) t t' k id id' u found found' at unit reads free reports first alive
 
   -- or dies
   pub more_dead :
-      (Leads t' id' (state_in way m input (suc k)) → state_in way m input (suc k) ≡ dead) → k ≤ length (tape_in way input).bytes
+      (Leads t' id' (state_in way m input (suc k)) → state_in way m input (suc k) ≡ dead)
+      → k ≤ length (tape_in way input).bytes
       → found ≡ found_over way m input
   more_dead dies l = at.reported ∙ found_dead way m input k l (dies more_leads)
 
@@ -207,7 +220,8 @@ module _ (way : Direction) (m : Machine) (t t' : Rows) (input : Input) (k id id'
   -- or an earliest pass ends
   pub more_ends :
       Reports
-      → k ≤ length (tape_in way input).bytes → input.earliest ≡ true → (found' ≡ None → ⊥) → found' ≡ found_over way m input
+      → k ≤ length (tape_in way input).bytes → input.earliest ≡ true → (found' ≡ None → ⊥)
+      → found' ≡ found_over way m input
   more_ends reports l e some =
       more_found reports
       ∙ found_first way m input (suc k) (omega (arith, l)) e (λ f. some (more_found reports ∙ f))
@@ -216,12 +230,14 @@ module _ (way : Direction) (m : Machine) (t t' : Rows) (input : Input) (k id id'
       Reports → input.earliest ≡ true → (found' ≡ None → ⊥) → (j : ℕ) → suc k ≤ j → Reads way m input j → ⊥
   stops_ends reports e some j l r =
       some (more_found reports ∙ ap (half_of way input)
-      (sym (reported_stays (match_kind_of m.config) input.earliest m.nfa input.anchored (tape_in way input) (suc k) j (reported_in way m input (suc k)) l e refl
+      (sym (reported_stays (match_kind_of m.config) input.earliest m.nfa input.anchored (tape_in way input) (suc k) j
+      (reported_in way m input (suc k)) l e refl
       (λ f. some (more_found reports ∙ ap (half_of way input) f))) ∙ r.2 e))
 
   pub clean_ends :
       Reports
-      → input.earliest ≡ true → (found' ≡ None → ⊥) → quit_behind m (tape_in way input).before ≡ None → MeetsNoQuit way m input
+      → input.earliest ≡ true → (found' ≡ None → ⊥) → quit_behind m (tape_in way input).before ≡ None
+      → MeetsNoQuit way m input
   clean_ends reports e some behind = clean_all way m input (suc k) behind more_clean (stops_ends reports e some)
 
   -- or it was the last unit
@@ -230,7 +246,8 @@ module _ (way : Direction) (m : Machine) (t t' : Rows) (input : Input) (k id id'
       → k ≡ length (tape_in way input).bytes → found' ≡ found_over way m input
   more_last reports l = more_found reports ∙ ap (λ i. half_of way input (reported_in way m input (suc i))) l
 
-  pub clean_last : k ≡ length (tape_in way input).bytes → quit_behind m (tape_in way input).before ≡ None → MeetsNoQuit way m input
+  pub clean_last :
+      k ≡ length (tape_in way input).bytes → quit_behind m (tape_in way input).before ≡ None → MeetsNoQuit way m input
   clean_last l behind = clean_all way m input (suc k) behind more_clean (stops_last way m input k l)
 
 -- a pass begins at its start
@@ -244,7 +261,8 @@ pub starts_dead :
     (way : Direction) (m : Machine) (input : Input)
     → state_in way m input 0 ≡ dead → None ≡ found_over way m input
 starts_dead way m input d =
-    none_along (pass_is_trace way m input) ∙ found_dead way m input 0 (omega arith) (dead_more way m input 0 1 (omega arith) d)
+    none_along (pass_is_trace way m input)
+    ∙ found_dead way m input 0 (omega arith) (dead_more way m input 0 1 (omega arith) d)
 
 pub stops_start :
     (way : Direction) (m : Machine) (input : Input)

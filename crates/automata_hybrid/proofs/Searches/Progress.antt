@@ -16,7 +16,8 @@ tries_first way m input = record { comes = inl refl; before = λ j less. absurd 
 pub spans_before :
     (way : Direction) (m : Machine) (input : Input) (k : ℕ)
     → Tries (Finds way m) (Skips m) way input k → TriesSpans way m input k
-spans_before way m input k tries = λ j less. (tries_before (Finds way m) (Skips m) way input j k (omega (arith, less)) tries, (tries.before j less).0)
+spans_before way m input k tries =
+    λ j less. (tries_before (Finds way m) (Skips m) way input j k (omega (arith, less)) tries, (tries.before j less).0)
 
 -- and itself
 pub spans_tried :

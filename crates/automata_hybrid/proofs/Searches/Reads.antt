@@ -15,14 +15,14 @@ use Rattle.automata_base.specs.ByteClasses.Classes.{is_quit}
 use Rattle.automata_base.specs.Retraced.Steps.{successor}
 use Rattle.automata_config.specs.Options.{match_kind_of}
 use Rattle.automata_hybrid.specs.Cache.Ids.{HasQuitTag}
-use Rattle.automata_hybrid.specs.Machines.Machine.{Machine}
+use Rattle.automata_hybrid.specs.Machines.Machine.{Machine, quits_on}
 use Rattle.automata_hybrid.specs.Steps.Steps.{IsStepAnswer}
 use Rattle.automata_hybrid.specs.Private.Searches.Units.{FailsToRead, FailsToStep, HasRead, HasStepped, IsReadAnswer}
-use Rattle.automata_hybrid.specs.Machines.Machine.{quits_on}
 use Rattle.automata_hybrid.proofs.Steps.Ids.{quits}
 
 -- what holds of the error that a call handed on holds of what it answers
-pub at_err : {A E : Type 0} (r : Result A E) (e : E) (P : Result A E → Type 0) → IsErrAnd r (λ x. x ≡ e) → P (Err e) → P r
+pub at_err :
+    {A E : Type 0} (r : Result A E) (e : E) (P : Result A E → Type 0) → IsErrAnd r (λ x. x ≡ e) → P (Err e) → P r
 at_err (Ok a) e P h p = absurd h
 at_err (Err x) e P h p = subst (λ v. P (Err v)) (sym h) p
 

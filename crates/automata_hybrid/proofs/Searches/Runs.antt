@@ -1,6 +1,6 @@
 -- Cached transitions that are followed, between IDs that have a tag and no other.
-use Rattle.std.proofs.Common.{ℕ, zero, suc, ◌≡◌, ◌∙◌, ◌+◌, ◌-◌, ◌<◌, ◌≤◌, ◌^◌, ◌⊎◌, inl, inr, Bool, true, false, List, []}
-use Rattle.std.proofs.Common.{◌∷◌, length, Option, Some, refl, slice_index, sym, ap, subst, arith, eq-or-lt_of_le}
+use Rattle.std.proofs.Common.{ℕ, zero, suc, ◌≡◌, ◌∙◌, ◌+◌, ◌-◌, ◌<◌, ◌≤◌, ◌^◌, ◌⊎◌, inl, inr, Bool, true, false, List}
+use Rattle.std.proofs.Common.{[], ◌∷◌, length, Option, Some, refl, slice_index, sym, ap, subst, arith, eq-or-lt_of_le}
 use Rattle.automata_base.specs.Answers.Answers.{offset_in}
 use Rattle.automata_base.specs.ByteClasses.Classes.{class_in, is_quit}
 use Rattle.automata_base.specs.Haystacks.Input.{Input}
@@ -15,11 +15,9 @@ use Rattle.automata_hybrid.specs.Private.Cache.Stores.{IsKnownTransition}
 use Rattle.automata_hybrid.specs.Cache.Ids.{quit_id}
 use Rattle.automata_hybrid.specs.Private.Cache.Ids.{HasOnly, IsRunTag}
 use Rattle.automata_hybrid.specs.Steps.Steps.{known_step}
-use Rattle.automata_hybrid.specs.Machines.Machine.{unit_class}
-use Rattle.automata_hybrid.specs.Machines.Machine.{Machine}
-use Rattle.automata_hybrid.specs.Searches.PassState.{IsAtAlong}
+use Rattle.automata_hybrid.specs.Machines.Machine.{unit_class, Machine}
+use Rattle.automata_hybrid.specs.Searches.PassState.{IsAtAlong, half_at, half_of}
 use Rattle.automata_hybrid.specs.Private.Searches.PassState.{HasLearnedAlong, IsFollowed, IsFollowedAlong, IsMetAlong}
-use Rattle.automata_hybrid.specs.Searches.PassState.{half_at, half_of}
 use Rattle.automata_hybrid.specs.Private.Searches.PassState.{IsNextCell, IsOnTrace, IsRun, IsTagAt, IsTaken}
 use Rattle.automata_hybrid.specs.Private.Searches.PassContracts.{FollowsAlong, RunsAlong}
 use Rattle.automata_hybrid.specs.Searches.Traces.{Trace}
@@ -65,32 +63,35 @@ pub followed_one :
     → IsRunTag tag → HasOnly tag to → next (tape_in way input) k ≡ Some byte
     → IsKnownTransition c id (class_in m.classes byte) → class_in m.classes byte < c.table.of.stride
     → (is_quit m.quits byte ≡ true → to ≡ quit_id m.stride)
-    → (is_quit m.quits byte ≡ false → to < 2 ^ 31 → (q : Powerset) → Names c.table id q → Leads c.table to (successor m.nfa (match_kind_of m.config) q (Some byte)))
+    → (is_quit m.quits byte ≡ false → to < 2 ^ 31 → (q : Powerset) → Names c.table id q
+    → Leads c.table to (successor m.nfa (match_kind_of m.config) q (Some byte)))
     → IsOnTrace s way m c.table input k id → IsFollowedAlong s way m c input tag k (suc k) to
-followed_one {s} way m c input tag k id to byte kind only unit known below quit named on = go (is_quit m.quits byte) refl where
-  plain : to < 2 ^ 29
-  plain = omega (arith, only.below, kind.upto)
+followed_one {s} way m c input tag k id to byte kind only unit known below quit named on =
+    go (is_quit m.quits byte) refl where
+      plain : to < 2 ^ 29
+      plain = omega (arith, only.below, kind.upto)
 
-  go : (b : Bool) → is_quit m.quits byte ≡ b → IsFollowedAlong s way m c input tag k (suc k) to
-  go true e = absurd (let h : to ≡ quit_id m.stride = quit e in omega (arith, h, plain))
-  go false e =
-      let after : s.state (suc k) ≡ successor m.nfa (match_kind_of m.config) (s.state k) (Some byte) =
-      on.trace.steps k ∙ ap (successor m.nfa (match_kind_of m.config) (s.state k)) unit in
-      let leads : Names c.table to (s.state (suc k)) =
-      Leads-Names c.table to (s.state (suc k)) (subst (Leads c.table to) (sym after) (named e (omega (arith, plain)) (s.state k) on.named)) plain in
-      let here : IsTaken s way m c input tag k = record {
-        clean = λ other same. subst (λ v. is_quit m.quits v ≡ false) (some_inj (sym unit ∙ same)) e;
-        known = (
-          (id, on.named, subst (λ v. IsKnownTransition c id (unit_class m v)) (sym unit) known),
-          subst (λ v. unit_class m v < c.table.of.stride) (sym unit) below,
-        );
-        leads = (to, leads, only);
-      } in
-      record {
-        more = omega arith;
-        named = leads;
-        taken = λ j l h. (let same : k ≡ j = omega (arith, l, h) in subst (IsTaken s way m c input tag) same here);
-      }
+      go : (b : Bool) → is_quit m.quits byte ≡ b → IsFollowedAlong s way m c input tag k (suc k) to
+      go true e = absurd (let h : to ≡ quit_id m.stride = quit e in omega (arith, h, plain))
+      go false e =
+          let after : s.state (suc k) ≡ successor m.nfa (match_kind_of m.config) (s.state k) (Some byte) =
+          on.trace.steps k ∙ ap (successor m.nfa (match_kind_of m.config) (s.state k)) unit in
+          let leads : Names c.table to (s.state (suc k)) =
+          Leads-Names c.table to (s.state (suc k))
+          (subst (Leads c.table to) (sym after) (named e (omega (arith, plain)) (s.state k) on.named)) plain in
+          let here : IsTaken s way m c input tag k = record {
+            clean = λ other same. subst (λ v. is_quit m.quits v ≡ false) (some_inj (sym unit ∙ same)) e;
+            known = (
+              (id, on.named, subst (λ v. IsKnownTransition c id (unit_class m v)) (sym unit) known),
+              subst (λ v. unit_class m v < c.table.of.stride) (sym unit) below,
+            );
+            leads = (to, leads, only);
+          } in
+          record {
+            more = omega arith;
+            named = leads;
+            taken = λ j l h. (let same : k ≡ j = omega (arith, l, h) in subst (IsTaken s way m c input tag) same here);
+          }
 
 -- the ID that stands in the cell of the byte at a place is the one that comes next there
 pub met_at :
@@ -98,7 +99,8 @@ pub met_at :
     → k < input.end - input.start → next (tape_in way input) k ≡ Some byte → to ≡ cell_of c id (class_in m.classes byte)
     → class_in m.classes byte < c.table.of.stride
     → (is_quit m.quits byte ≡ true → to ≡ quit_id m.stride)
-    → (is_quit m.quits byte ≡ false → to < 2 ^ 31 → (q : Powerset) → Names c.table id q → Leads c.table to (successor m.nfa (match_kind_of m.config) q (Some byte)))
+    → (is_quit m.quits byte ≡ false → to < 2 ^ 31 → (q : Powerset) → Names c.table id q
+    → Leads c.table to (successor m.nfa (match_kind_of m.config) q (Some byte)))
     → IsOnTrace s way m c.table input k id → IsMetAlong s way m c input k id to
 met_at {s} way m c input k id to byte within unit value below quit named on = λ low. record {
   within = within;
@@ -108,7 +110,8 @@ met_at {s} way m c input k id to byte within unit value below quit named on = λ
       record {
         followed =
             subst (λ n. IsFollowedAlong s way m c input tag k n to) one
-            (followed_one way m c input tag k id to byte kind only unit (subst (λ n. n < 2 ^ 31) value low) below quit named on);
+            (followed_one way m c input tag k id to byte kind only unit (subst (λ n. n < 2 ^ 31) value low) below quit
+            named on);
         only = only;
       });
 }
@@ -116,8 +119,10 @@ met_at {s} way m c input k id to byte within unit value below quit named on = λ
 -- what stands in the cell of a byte that was read
 pub next_cell :
     (way : Direction) (m : Machine) (c : Stored) (input : Input) (k id to byte : ℕ)
-    → next (tape_in way input) k ≡ Some byte → to ≡ cell_of c id (class_in m.classes byte) → IsNextCell way m c input k id to
-next_cell way m c input k id to byte unit value = cell_read m c id (next (tape_in way input) k) to (value ∙ ap (known_step m c id) (sym unit))
+    → next (tape_in way input) k ≡ Some byte → to ≡ cell_of c id (class_in m.classes byte)
+    → IsNextCell way m c input k id to
+next_cell way m c input k id to byte unit value =
+    cell_read m c id (next (tape_in way input) k) to (value ∙ ap (known_step m c id) (sym unit))
 
 -- a run between IDs with a tag: nothing yet, and on
 pub run_none :
@@ -129,7 +134,8 @@ run_none {s} {way} {m} {c} {input} {tag} {from} {id} at =
 -- from where a run has come to another one can go on
 pub run_at :
     {s : Trace} {way : Direction} {m : Machine} {c : Stored} {input : Input} {tag from to id : ℕ}
-    → IsRunTag tag → IsTrace way m input s → IsRun s way m c input tag from to id → IsTagAt s way m c.table input tag to id
+    → IsRunTag tag → IsTrace way m input s → IsRun s way m c input tag from to id
+    → IsTagAt s way m c.table input tag to id
 run_at tags trace f = record { kind = tags; only = f.only; on = record { trace = trace; named = f.followed.named } }
 
 pub run_on :
@@ -173,13 +179,20 @@ module _ {s : Trace} {way : Direction} {m : Machine} {c : Stored} {input : Input
   pub followed_known : (k : ℕ) → from ≤ k → k < to → HasLearnedAlong s way m c input k
   followed_known k more less = (f.taken k more less).known
 
-  -- a run that was there is here, and has found what the state here reports, if that has patterns and the search is not an earliest one
+  -- a run that was there is here, and has found what the state here reports, if that has patterns and the search is not
+  -- an earliest one
   pub matched_at :
-      {start : ℕ} (j o : ℕ) {found found' : Option HalfMatch} → IsTrace way m input s → input.earliest ≡ false → to ≡ suc j → o ≡ offset_in way input j
+      {start : ℕ} (j o : ℕ) {found found' : Option HalfMatch} → IsTrace way m input s → input.earliest ≡ false
+      → to ≡ suc j → o ≡ offset_in way input j
       → 0 < length (s.state to).patterns → ((q : Powerset) → Leads c.table id q → found' ≡ half_at q.patterns o found)
       → IsAtAlong s way m c.table input from start found → IsAtAlong s way m c.table input to id found'
   matched_at j o {found} {found'} trace late here offset some reports at =
-      record { named = f.named; reported = reported; nothing = λ e. absurd (false_true (sym late ∙ e)); clean = followed_clean at.clean }
+      record {
+        named = f.named;
+        reported = reported;
+        nothing = λ e. absurd (false_true (sym late ∙ e));
+        clean = followed_clean at.clean;
+      }
     where
       reported : found' ≡ half_of way input (s.reported to)
       reported =
@@ -222,15 +235,18 @@ module _ {s : Trace} {way : Direction} {m : Machine} {c : Stored} {input : Input
       }
 
 -- and a walk is reported nothing
-module _ {way : Direction} {m : Machine} {c : Stored} {input : Input} {from to id : ℕ} (f : IsFollowed way m c input 0 from to id) where
+module _ {way : Direction} {m : Machine} {c : Stored} {input : Input} {from to id : ℕ}
+    (f : IsFollowed way m c input 0 from to id) where
   silent_upto : (n : ℕ) → from ≤ n → n ≤ to → IsSilent way m input from n
-  silent_upto zero l h = let z : from ≡ 0 = omega (arith, l) in subst (IsSilent way m input from) z (silent_same way m input from)
+  silent_upto zero l h =
+      let z : from ≡ 0 = omega (arith, l) in subst (IsSilent way m input from) z (silent_same way m input from)
   silent_upto (suc n) l h = go (λ more. silent_upto n more (omega (arith, h))) (eq-or-lt_of_le l) where
     go : (from ≤ n → IsSilent way m input from n) → (from ≡ suc n) ⊎ (from < suc n) → IsSilent way m input from (suc n)
     go again (inl same) = subst (IsSilent way m input from) same (silent_same way m input from)
     go again (inr less) =
         let more : from ≤ n = omega (arith, less) in
-        silent_trans way m input from n (suc n) (again more) (silent_none way m input n (quiet f n more (omega (arith, h))))
+        silent_trans way m input from n (suc n) (again more)
+        (silent_none way m input n (quiet f n more (omega (arith, h))))
 
   pub followed_silent : {start : ℕ} → IsSilent way m input start from → IsSilent way m input start to
   followed_silent {start} silent = silent_trans way m input start from to silent (silent_upto to f.more (omega arith))
@@ -275,5 +291,6 @@ follows_none {s} {way} {m} {c} {input} stop within named met =
 -- what was followed to a stop is followed on
 pub follows_on :
     {s : Trace} {way : Direction} {m : Machine} {c : Stored} {input : Input} {from : ℕ} {stop to : Stop}
-    → FollowsAlong s way m c input 0 from stop → FollowsAlong s way m c input 0 stop.at to → FollowsAlong s way m c input 0 from to
+    → FollowsAlong s way m c input 0 from stop → FollowsAlong s way m c input 0 stop.at to
+    → FollowsAlong s way m c input 0 from to
 follows_on near far = record { within = far.within; followed = followed_on near.followed far.followed; met = far.met }

@@ -10,8 +10,8 @@ use Rattle.automata_base.specs.Retraced.Steps.{successor}
 use Rattle.automata_base.specs.declared.util.search.Direction.{Direction}
 use Rattle.automata_base.specs.declared.util.search.Direction.TheVariants.{Forward, Backward}
 use Rattle.automata_config.specs.Options.{match_kind_of}
-use Rattle.automata_hybrid.specs.Private.Searches.SelfLoops.{HasByte, HasEither, IsKnownLoop, IsLoopRange, IsLoopRun, IsSelfLoop}
-use Rattle.automata_hybrid.specs.Private.Searches.SelfLoops.{LoopsAt, LoopsOn, LoopsOver, byte_in}
+use Rattle.automata_hybrid.specs.Private.Searches.SelfLoops.{HasByte, HasEither, IsKnownLoop, IsLoopRange, IsLoopRun}
+use Rattle.automata_hybrid.specs.Private.Searches.SelfLoops.{IsSelfLoop, LoopsAt, LoopsOn, LoopsOver, byte_in}
 use Rattle.automata_hybrid.specs.Cache.Ids.{quit_id, unknown_id}
 use Rattle.automata_hybrid.specs.Private.Cache.Ids.{HasOnly, IsRunTag}
 use Rattle.automata_hybrid.specs.Machines.Machine.{Machine}
@@ -32,20 +32,26 @@ pub range_none : (m : Machine) (c : Stored) (id : ℕ) (r : LoopRange) → r.siz
 range_none m c id r none = record { loops = λ byte l has. absurd (omega (arith, has, none)) }
 
 -- classes rise from byte to byte
-rising : (classes : List ℕ) → AreClasses classes → (from n : ℕ) → from + n < 256 → class_in classes from ≤ class_in classes (from + n)
+rising :
+    (classes : List ℕ) → AreClasses classes → (from n : ℕ) → from + n < 256
+    → class_in classes from ≤ class_in classes (from + n)
 rising classes are from zero l =
     let e : from ≡ from + 0 = omega arith in
     subst (λ k. class_in classes from ≤ class_in classes k) e (omega arith)
 rising classes are from (suc n) l =
     let e : from + n + 1 ≡ from + suc n = omega arith in
-    let next : class_in classes (from + n) ≤ class_in classes (from + n + 1) = (are.rising (from + n) (omega (arith, l))).0 in
+    let next : class_in classes (from + n) ≤ class_in classes (from + n + 1) =
+    (are.rising (from + n) (omega (arith, l))).0 in
     let before : class_in classes from ≤ class_in classes (from + n) = rising classes are from n (omega (arith, l)) in
     subst (λ k. class_in classes from ≤ class_in classes k) e (omega (arith, next, before))
 
-pub rises : (classes : List ℕ) → AreClasses classes → (from to : ℕ) → from ≤ to → to < 256 → class_in classes from ≤ class_in classes to
+pub rises :
+    (classes : List ℕ) → AreClasses classes → (from to : ℕ) → from ≤ to → to < 256
+    → class_in classes from ≤ class_in classes to
 rises classes are from to ahead l =
     let e : from + (to - from) ≡ to = omega (arith, ahead) in
-    subst (λ k. class_in classes from ≤ class_in classes k) e (rising classes are from (to - from) (omega (arith, e, l)))
+    subst (λ k. class_in classes from ≤ class_in classes k) e
+    (rising classes are from (to - from) (omega (arith, e, l)))
 
 -- the cell of a row at a class is the row's own ID
 abbrev pub LoopsIn : Stored → ℕ → ℕ → Type 0
@@ -59,7 +65,9 @@ loops_in :
 loops_in m c id byte machine are of valid plain few loops = record {
   clean = go (is_quit m.quits byte) refl (loops.1 valid.0 valid.1);
   known = subst (λ n. n < 2 ^ 31) (sym loops.0) (omega (arith, plain));
-  below = subst (λ (n : Machine). class_in m.classes byte < n.stride) (sym of) (omega (arith, machine.below, are.below byte few));
+  below =
+      subst (λ (n : Machine). class_in m.classes byte < n.stride) (sym of)
+      (omega (arith, machine.below, are.below byte few));
   back = λ q n. lead q n (loops.1 q n);
 } where
   class : ℕ
@@ -69,7 +77,8 @@ loops_in m c id byte machine are of valid plain few loops = record {
   marked_not : is_quit m.quits byte ≡ true → slice_index c.table.of.template class ≡ unknown_id → ⊥
   marked_not e unmarked =
       let quit : slice_index m.template class ≡ quit_id m.stride = machine.quit byte few e in
-      let free : slice_index m.template class ≡ unknown_id = subst (λ (k : Machine). slice_index k.template class ≡ unknown_id) of unmarked in
+      let free : slice_index m.template class ≡ unknown_id =
+      subst (λ (k : Machine). slice_index k.template class ≡ unknown_id) of unmarked in
       omega (arith, quit, free, machine.template.small)
 
   go : (b : Bool) → is_quit m.quits byte ≡ b → IsCell c.table valid.0 class id → is_quit m.quits byte ≡ false
@@ -98,8 +107,10 @@ pub loops_among :
 loops_among m c id from to first last machine are of valid plain some within low high each byte ahead below =
     let few : byte < 256 = omega (arith, below, within) in
     let above : class_in m.classes from ≤ class_in m.classes byte = rises m.classes are from byte ahead few in
-    let under : class_in m.classes byte ≤ class_in m.classes (to - 1) = rises m.classes are byte (to - 1) (omega (arith, below)) (omega (arith, some, within)) in
-    loops_in m c id byte machine are of valid plain few (each (class_in m.classes byte) (omega (arith, low, above)) (omega (arith, high, under)))
+    let under : class_in m.classes byte ≤ class_in m.classes (to - 1) =
+    rises m.classes are byte (to - 1) (omega (arith, below)) (omega (arith, some, within)) in
+    loops_in m c id byte machine are of valid plain few
+    (each (class_in m.classes byte) (omega (arith, low, above)) (omega (arith, high, under)))
 
 -- a range that ends before byte 256, and one that goes on at 0
 pub range_within :
@@ -121,26 +132,32 @@ range_past m c id r past high low = record {
 }
 
 -- bytes of a slice are bytes
-pub byte_small : (way : Direction) (bytes : List ℕ) (k : ℕ) → ((k : ℕ) → get_or bytes k 0 < 256) → byte_in way bytes k < 256
+pub byte_small :
+    (way : Direction) (bytes : List ℕ) (k : ℕ) → ((k : ℕ) → get_or bytes k 0 < 256) → byte_in way bytes k < 256
 byte_small Forward bytes k small = small k
 byte_small Backward bytes k small = small (length bytes - 1 - k)
 
 -- over one byte more
 pub over_more :
     (m : Machine) (c : Stored) (id : ℕ) (way : Direction) (bytes : List ℕ) (from at : ℕ)
-    → LoopsOn m c id (byte_in way bytes at) → LoopsOver m c id way bytes from at → LoopsOver m c id way bytes from (at + 1)
+    → LoopsOn m c id (byte_in way bytes at) → LoopsOver m c id way bytes from at
+    → LoopsOver m c id way bytes from (at + 1)
 over_more m c id way bytes from at loops over k l below = ⊎_elim
     (λ (old : k < at). over k l old)
-    (λ (new : at ≤ k). let same : at ≡ k = omega (arith, new, below) in subst (λ j. LoopsOn m c id (byte_in way bytes j)) same loops)
+    (λ (new : at ≤ k). let same : at ≡ k = omega (arith, new, below) in
+    subst (λ j. LoopsOn m c id (byte_in way bytes j)) same loops)
     (cases_lt k at)
 
 module _ {m : Machine} {c : Stored} {id : ℕ} {way : Direction} {bytes : List ℕ} where
   -- a run of no byte
   pub run_none : (from : ℕ) → from ≤ length bytes → IsLoopRun m c id way bytes from from
-  run_none from within = record { more = omega arith; within = within; loops = λ k l below. absurd (omega (arith, l, below)) }
+  run_none from within =
+      record { more = omega arith; within = within; loops = λ k l below. absurd (omega (arith, l, below)) }
 
   -- one run and another
-  pub run_on : {from at to : ℕ} → IsLoopRun m c id way bytes from at → IsLoopRun m c id way bytes at to → IsLoopRun m c id way bytes from to
+  pub run_on :
+      {from at to : ℕ} → IsLoopRun m c id way bytes from at → IsLoopRun m c id way bytes at to
+      → IsLoopRun m c id way bytes from to
   run_on {from} {at} {to} a b = record {
     more = omega (arith, a.more, b.more);
     within = b.within;
@@ -162,17 +179,21 @@ module _ {m : Machine} {c : Stored} {id : ℕ} {way : Direction} {bytes : List �
       {from at : ℕ} → at < length bytes → LoopsOn m c id (byte_in way bytes at)
       → IsLoopRun m c id way bytes from at → IsLoopRun m c id way bytes from (at + 1)
   run_more {from} {at} within loops run =
-      run_over 1 (omega (arith, within)) (over_more m c id way bytes at at loops (λ k l below. absurd (omega (arith, l, below)))) run
+      run_over 1 (omega (arith, within))
+      (over_more m c id way bytes at at loops (λ k l below. absurd (omega (arith, l, below)))) run
 
   -- a run and bytes of two ranges
   pub run_known :
-      {from at : ℕ} (n : ℕ) (known : KnownLoop) → at + n ≤ length bytes → ((k : ℕ) → get_or bytes k 0 < 256) → IsKnownLoop m c id known
+      {from at : ℕ} (n : ℕ) (known : KnownLoop) → at + n ≤ length bytes → ((k : ℕ) → get_or bytes k 0 < 256)
+      → IsKnownLoop m c id known
       → ((k : ℕ) → at ≤ k → k < at + n → HasEither known.first known.second (byte_in way bytes k))
       → IsLoopRun m c id way bytes from at → IsLoopRun m c id way bytes from (at + n)
   run_known {from} {at} n known within small are has run = run_over n within
       (λ k l below. ⊎_elim
-      (λ (in_first : HasByte known.first (byte_in way bytes k)). are.first.loops (byte_in way bytes k) (byte_small way bytes k small) in_first)
-      (λ (in_second : HasByte known.second (byte_in way bytes k)). are.second.loops (byte_in way bytes k) (byte_small way bytes k small) in_second)
+      (λ (in_first : HasByte known.first (byte_in way bytes k)). are.first.loops (byte_in way bytes k)
+      (byte_small way bytes k small) in_first)
+      (λ (in_second : HasByte known.second (byte_in way bytes k)). are.second.loops (byte_in way bytes k)
+      (byte_small way bytes k small) in_second)
       (has k l below))
       run
 
@@ -188,7 +209,9 @@ module _ {s : Trace} {way : Direction} {m : Machine} {c : Stored} {input : Input
       let f = followed_upto n tag kind only (λ k l below. each k l (omega (arith, below))) on in
       subst (λ k. IsFollowedAlong s way m c input tag from k id) e
       (followed_on f (here (record { trace = on.trace; named = f.named }))) where
-        here : IsOnTrace s way m c.table input (from + n) id → IsFollowedAlong s way m c input tag (from + n) (suc (from + n)) id
+        here :
+            IsOnTrace s way m c.table input (from + n) id
+            → IsFollowedAlong s way m c input tag (from + n) (suc (from + n)) id
         here at =
             let there : LoopsAt way m c input id (from + n) = each (from + n) (omega arith) (omega arith) in
             let loops : LoopsOn m c id there.0 = there.2 in
@@ -204,7 +227,8 @@ module _ {s : Trace} {way : Direction} {m : Machine} {c : Stored} {input : Input
       record {
         followed =
             subst (λ k. IsFollowedAlong s way m c input tag from k id) e
-            (followed_upto (to - from) tag at.kind at.only (λ k l below. loop.loops k l (omega (arith, below, e))) at.on);
+            (followed_upto (to - from) tag at.kind at.only (λ k l below. loop.loops k l (omega (arith, below, e)))
+            at.on);
         only = at.only;
       }
 
@@ -220,7 +244,8 @@ loop_along {way} {m} {c} {input} {id} {place} {n} {bytes} units run = record {
       let low : i < n = omega (arith, from, below) in
       let here : place + i ≡ k = omega (arith, from) in (
         byte_in way bytes i,
-        subst (λ j. next (tape_in way input) j ≡ Some (byte_in way bytes i)) here (units i (omega (arith, low, run.within))),
+        subst (λ j. next (tape_in way input) j ≡ Some (byte_in way bytes i)) here
+            (units i (omega (arith, low, run.within))),
         run.loops i (omega arith) low,
       );
 }

@@ -1,7 +1,8 @@
 -- Spans tried one after another.
-use Rattle.std.proofs.Common.{ℕ, suc, ◌≡◌, ◌<◌, ◌≤◌, ◌+◌, ◌⊎◌, inl, inr, Bool, true, Option, Some, None, false, refl, sym, ap}
-use Rattle.std.proofs.Common.{ap₂, ◌∙◌, subst, arith}
-use Rattle.automata_base.specs.Answers.Answers.{Half, later, offset_in, IsSplit, SpanIsDone, SpanReportsNone, StopsAtSplit, Tries}
+use Rattle.std.proofs.Common.{ℕ, suc, ◌≡◌, ◌<◌, ◌≤◌, ◌+◌, ◌⊎◌, inl, inr, Bool, true, Option, Some, None, false, refl}
+use Rattle.std.proofs.Common.{sym, ap, ap₂, ◌∙◌, subst, arith}
+use Rattle.automata_base.specs.Answers.Answers.{Half, later, offset_in, IsSplit, SpanIsDone, SpanReportsNone}
+use Rattle.automata_base.specs.Answers.Answers.{StopsAtSplit, Tries}
 use Rattle.automata_base.specs.declared.util.search.Anchored.TheVariants.{No}
 use Rattle.automata_base.specs.Haystacks.Input.{Input}
 use Rattle.automata_base.specs.Haystacks.Matches.{HalfMatch}
@@ -12,8 +13,7 @@ use Rattle.automata_base.specs.Answers.OfPasses.{ReportsOver, IsReported, report
 use Rattle.automata_base.proofs.Answers.Turning.{turn_answers}
 use Rattle.automata_hybrid.specs.Machines.Machine.{Machine}
 use Rattle.automata_hybrid.specs.Searches.PassState.{half_of, found_over}
-use Rattle.automata_hybrid.specs.Searches.Passes.{Finds, Skips, IsFound, MeetsNoQuit}
-use Rattle.automata_hybrid.specs.Searches.Passes.{with_base}
+use Rattle.automata_hybrid.specs.Searches.Passes.{Finds, Skips, IsFound, MeetsNoQuit, with_base}
 use Rattle.automata_hybrid.proofs.Searches.PassState.{false_true}
 use Rattle.automata_hybrid.proofs.Searches.Traces.{half_none}
 use Rattle.automata_config.specs.Options.{match_kind_of}
@@ -33,11 +33,18 @@ pub record Stands (way : Direction) (input : Input) (o : Option Pair) (half : Ha
   pub offset : half.offset ≡ offset_in way input pair.place
 
 pub half_stands :
-    (way : Direction) (input : Input) (o : Option Pair) (half : HalfMatch) → Some half ≡ half_of way input o → Stands way input o half
+    (way : Direction) (input : Input) (o : Option Pair) (half : HalfMatch) → Some half ≡ half_of way input o
+    → Stands way input o half
 half_stands way input None half e = absurd (cc)
 half_stands way input (Some pair) half e =
     let h : half ≡ record { pattern = pair.pattern; offset = offset_in way input pair.place } = cc in
-    record { pair = pair; reported = refl; pattern = ap (λ (v : HalfMatch). v.pattern) h; offset = ap (λ (v : HalfMatch). v.offset) h }
+    record {
+      pair = pair;
+      reported = refl;
+      pattern = ap (λ (v : HalfMatch). v.pattern) h;
+      offset = ap
+          (λ (v : HalfMatch). v.offset) h;
+    }
 
 module _ (T : Input → Option Pair → Type 0) (S : Type 0) (way : Direction) (input : Input) where
   pub tries_more :
@@ -65,13 +72,21 @@ module _ (way : Direction) (m : Machine) (input now : Input) (k : ℕ) (same : n
   -- it found nothing
   pub finds_none : None ≡ found_over way m now → MeetsNoQuit way m now → IsFound way m input None
   finds_none e c =
-      let none : reported_over way m.nfa (match_kind_of m.config) (later way k input) ≡ None = half_none way (later way k input) _ (sym (there None e)) in
+      let none : reported_over way m.nfa (match_kind_of m.config) (later way k input) ≡ None =
+      half_none way (later way k input) _ (sym (there None e)) in
       (k, tries, SpanReportsNone (sym none, clear c))
 
-  stands : (half : HalfMatch) → Some half ≡ found_over way m now → Stands way (later way k input) (reported_over way m.nfa (match_kind_of m.config) (later way k input)) half
-  stands half e = half_stands way (later way k input) (reported_over way m.nfa (match_kind_of m.config) (later way k input)) half (there (Some half) e)
+  stands :
+      (half : HalfMatch) → Some half ≡ found_over way m now
+      → Stands way (later way k input) (reported_over way m.nfa (match_kind_of m.config) (later way k input)) half
+  stands half e =
+      half_stands way (later way k input) (reported_over way m.nfa (match_kind_of m.config) (later way k input)) half
+      (there (Some half) e)
 
-  split_at : (half : HalfMatch) (s : Stands way (later way k input) (reported_over way m.nfa (match_kind_of m.config) (later way k input)) half) → is_split now.haystack half.offset ≡ is_split input.haystack (offset_in way (later way k input) s.pair.place)
+  split_at :
+      (half : HalfMatch)
+      (s : Stands way (later way k input) (reported_over way m.nfa (match_kind_of m.config) (later way k input)) half)
+      → is_split now.haystack half.offset ≡ is_split input.haystack (offset_in way (later way k input) s.pair.place)
   split_at half s =
       ap₂ is_split (ap (λ (i : Input). i.haystack) same ∙ haystack_later way k input) s.offset
 
@@ -80,7 +95,8 @@ module _ (way : Direction) (m : Machine) (input now : Input) (k : ℕ) (same : n
       (half : HalfMatch) → Some half ≡ found_over way m now → MeetsNoQuit way m now
       → (Skips m → is_split now.haystack half.offset ≡ false) → IsFound way m input (Some (with_base half now.start))
   finds_some half e c keeps =
-      let s : Stands way (later way k input) (reported_over way m.nfa (match_kind_of m.config) (later way k input)) half = stands half e in (
+      let s : Stands way (later way k input) (reported_over way m.nfa (match_kind_of m.config) (later way k input))
+      half = stands half e in (
         k,
         tries,
         record {
@@ -98,10 +114,12 @@ module _ (way : Direction) (m : Machine) (input now : Input) (k : ℕ) (same : n
       (half : HalfMatch) → Some half ≡ found_over way m now → MeetsNoQuit way m now
       → is_split now.haystack half.offset ≡ true → IsSplit (Finds way m) way (later way k input)
   split_there half e c split =
-      let s : Stands way (later way k input) (reported_over way m.nfa (match_kind_of m.config) (later way k input)) half = stands half e in (
+      let s : Stands way (later way k input) (reported_over way m.nfa (match_kind_of m.config) (later way k input))
+      half = stands half e in (
         s.pair,
         (sym s.reported, clear c),
-        ap (λ h. is_split h (offset_in way (later way k input) s.pair.place)) (haystack_later way k input) ∙ (sym (split_at half s) ∙ split),
+        ap (λ h. is_split h (offset_in way (later way k input) s.pair.place)) (haystack_later way k input)
+            ∙ (sym (split_at half s) ∙ split),
       )
 
   -- it found what is left out: an anchored search ends
@@ -121,7 +139,8 @@ module _ (way : Direction) (m : Machine) (input now : Input) (k : ℕ) (same : n
   pub none_stops : None ≡ found_over way m now → (j : ℕ) → k < j → Tries (Finds way m) (Skips m) way input j → ⊥
   none_stops e j less tried =
       let split : IsSplit (Finds way m) way (later way k input) = (tried.before k less).1 in
-      let none : reported_over way m.nfa (match_kind_of m.config) (later way k input) ≡ None = half_none way (later way k input) _ (sym (there None e)) in
+      let none : reported_over way m.nfa (match_kind_of m.config) (later way k input) ≡ None =
+      half_none way (later way k input) _ (sym (there None e)) in
       some_none (split.1.0 ∙ none)
 
   -- or what is not left out
@@ -133,12 +152,17 @@ module _ (way : Direction) (m : Machine) (input now : Input) (k : ℕ) (same : n
     go (inl z) = omega (arith, z, less)
     go (inr skips) =
         let split : IsSplit (Finds way m) way (later way k input) = (tried.before k less).1 in
-        let s : Stands way (later way k input) (reported_over way m.nfa (match_kind_of m.config) (later way k input)) half = stands half e in
+        let s : Stands way (later way k input) (reported_over way m.nfa (match_kind_of m.config) (later way k input))
+        half = stands half e in
         let same : split.0 ≡ s.pair = some_inj (split.1.0 ∙ s.reported) in
         let place : is_split (later way k input).haystack (offset_in way (later way k input) s.pair.place) ≡ true =
-        subst (λ (p : Pair). is_split (later way k input).haystack (offset_in way (later way k input) p.place) ≡ true) same split.2 in
+        subst (λ (p : Pair). is_split (later way k input).haystack (offset_in way (later way k input) p.place) ≡ true)
+        same split.2 in
         false_true
-        (sym (keeps skips.0) ∙ (split_at half s ∙ (ap (λ h. is_split h (offset_in way (later way k input) s.pair.place)) (sym (haystack_later way k input)) ∙ place)))
+        (sym (keeps skips.0)
+        ∙ (split_at half s
+        ∙ (ap (λ h. is_split h (offset_in way (later way k input) s.pair.place)) (sym (haystack_later way k input))
+        ∙ place)))
 
   -- or where the search is anchored
   pub anchored_stops : (input.anchored ≡ No → ⊥) → (j : ℕ) → k < j → Tries (Finds way m) (Skips m) way input j → ⊥
@@ -158,4 +182,5 @@ pub found_reported :
     (way : Direction) (m : Machine) (input : Input) (o : Option Half)
     → IsFound way m input o → IsReported way m.nfa (match_kind_of m.config) input o
 found_reported way m input o found =
-    turn_answers (Finds way m) (ReportsOver way m.nfa (match_kind_of m.config)) (Skips m) way input (λ k reported l f. f.0) o found
+    turn_answers (Finds way m) (ReportsOver way m.nfa (match_kind_of m.config)) (Skips m) way input
+    (λ k reported l f. f.0) o found

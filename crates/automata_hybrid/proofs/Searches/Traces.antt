@@ -1,6 +1,6 @@
 -- What a run along a trace has found so far, unit by unit, and where it stands after one unit more.
-use Rattle.std.proofs.Common.{ℕ, suc, ◌≡◌, ◌<◌, ◌≤◌, ◌⊎◌, inl, inr, Bool, true, false, List, [], ◌∷◌, Option, Some, None}
-use Rattle.std.proofs.Common.{refl, sym, ap, ◌∙◌, subst, arith}
+use Rattle.std.proofs.Common.{ℕ, suc, ◌≡◌, ◌<◌, ◌≤◌, ◌⊎◌, inl, inr, Bool, true, false, List, [], ◌∷◌, Option, Some}
+use Rattle.std.proofs.Common.{None, refl, sym, ap, ◌∙◌, subst, arith}
 use Rattle.std.proofs.lemmas.Bool.{cases_lt}
 use Rattle.automata_base.specs.Answers.Answers.{offset_in}
 use Rattle.automata_base.specs.ByteClasses.Classes.{is_quit}
@@ -10,8 +10,8 @@ use Rattle.automata_base.specs.Nfas.Nodes.{Automaton}
 use Rattle.automata_base.specs.Paths.Paths.{Tape, next}
 use Rattle.automata_base.specs.Paths.Selections.{Pair}
 use Rattle.automata_base.specs.Powersets.Powerset.{Powerset}
-use Rattle.automata_base.specs.Retraced.Passes.{earlier_or, first_among, first_reported, last_among, last_reported, pair_at}
-use Rattle.automata_base.specs.Retraced.Passes.{reported_upto, state_after}
+use Rattle.automata_base.specs.Retraced.Passes.{earlier_or, first_among, first_reported, last_among, last_reported}
+use Rattle.automata_base.specs.Retraced.Passes.{pair_at, reported_upto, state_after}
 use Rattle.automata_base.specs.Retraced.Steps.{successor}
 use Rattle.automata_base.specs.declared.util.search.Anchored.{Anchored}
 use Rattle.automata_base.specs.declared.util.search.Direction.{Direction}
@@ -112,12 +112,14 @@ module _ {s : Trace} {way : Direction} {m : Machine} {input : Input} (trace : Is
       (reads : (q : Powerset) → Names t id q → Leads t' id' (successor m.nfa (match_kind_of m.config) q u)) where
     pub leads_along : Leads t' id' (s.state (suc k))
     leads_along =
-        subst (λ q. Leads t' id' q) (sym (trace.steps k ∙ ap (successor m.nfa (match_kind_of m.config) (s.state k)) unit))
+        subst (λ q. Leads t' id' q)
+        (sym (trace.steps k ∙ ap (successor m.nfa (match_kind_of m.config) (s.state k)) unit))
         (reads (s.state k) at.named)
 
     -- the ID found reports its patterns at the offset of the place
     abbrev pub ReportsAlong : Type 0
-    ReportsAlong = (o : ℕ) × (o ≡ offset_in way input k) × ((q : Powerset) → Leads t' id' q → found' ≡ half_at q.patterns o found)
+    ReportsAlong =
+        (o : ℕ) × (o ≡ offset_in way input k) × ((q : Powerset) → Leads t' id' q → found' ≡ half_at q.patterns o found)
 
     pub first_along : input.earliest ≡ true → half_of way input (s.reported k) ≡ None
     first_along e = sym at.reported ∙ at.nothing e

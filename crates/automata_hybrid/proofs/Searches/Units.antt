@@ -19,7 +19,8 @@ pub forward_unit :
     → next (tape_in Forward input) (at - input.start) ≡ slice_get input.haystack at
 forward_unit input at s e l =
     let n : input.start + (at - input.start) ≡ at = omega (arith, s) in
-    forward_next input.haystack input.start input.end (at - input.start) (omega (arith, n, e)) l ∙ ap (slice_get input.haystack) n
+    forward_next input.haystack input.start input.end (at - input.start) (omega (arith, n, e)) l
+    ∙ ap (slice_get input.haystack) n
 
 pub forward_units :
     (input : Input) → input.start ≤ input.end → input.end ≤ length input.haystack
@@ -51,7 +52,8 @@ nth_past (y ∷ ys) (suc k) l = nth_past ys k (omega (arith, l))
 -- what is read of the haystack at an offset is the unit there
 pub forward_read :
     (input : Input) (xs : List ℕ) (at i : ℕ)
-    → input.start ≤ at → at ≤ input.end → input.end ≤ length input.haystack → at < length input.haystack → xs ≡ input.haystack → i ≡ at
+    → input.start ≤ at → at ≤ input.end → input.end ≤ length input.haystack → at < length input.haystack
+    → xs ≡ input.haystack → i ≡ at
     → next (tape_in Forward input) (at - input.start) ≡ Some (get_or xs i 0)
 forward_read input xs at i s e l inside same here =
     forward_unit input at s e l

@@ -1,6 +1,6 @@
 -- Searches by steps stand where their steps led.
-use Rattle.std.proofs.Common.{ℕ, suc, ◌≡◌, ◌∙◌, ◌+◌, ◌*◌, ◌-◌, ◌<◌, ◌≤◌, inl, inr, Bool, true, false}
-use Rattle.std.proofs.Common.{length, Option, Some, None, refl, sym, ap, subst, arith, get_or, add-zero}
+use Rattle.std.proofs.Common.{ℕ, suc, ◌≡◌, ◌∙◌, ◌+◌, ◌*◌, ◌-◌, ◌<◌, ◌≤◌, inl, inr, Bool, true, false, length, Option}
+use Rattle.std.proofs.Common.{Some, None, refl, sym, ap, subst, arith, get_or, add-zero}
 use Rattle.std.specs.Prelude.{IsBitSet}
 use Rattle.automata_base.specs.Answers.Answers.{later}
 use Rattle.automata_base.specs.ByteClasses.Classes.{is_quit}
@@ -15,20 +15,19 @@ use Rattle.automata_base.specs.Answers.OfPasses.{ReportedEndsAreRight}
 use Rattle.automata_config.specs.Options.{match_kind_of}
 use Rattle.automata_hybrid.specs.Cache.Caches.{CacheView}
 use Rattle.automata_hybrid.specs.Cache.Ids.{dead_id, fixed_from, quit_id}
-use Rattle.automata_hybrid.specs.Machines.Machine.{Machine}
+use Rattle.automata_hybrid.specs.Machines.Machine.{Machine, quits_on}
 use Rattle.automata_hybrid.specs.Searches.PassContracts.{IsUnderway}
 use Rattle.automata_hybrid.specs.Searches.PassState.{half_at}
 use Rattle.automata_hybrid.specs.Searches.Passes.{IsFound, Skips, WithoutBase, state_in, tape_in, with_base}
 use Rattle.automata_hybrid.specs.Steps.BySteps.{FirstMatchIsFound, HasPatterns, IsFirstMatch, IsFirstPattern, IsStepAt}
-use Rattle.automata_hybrid.specs.Steps.BySteps.{IsUnitAt, StandsAt}
+use Rattle.automata_hybrid.specs.Steps.BySteps.{IsUnitAt, StandsAt, IsDead, IsUnmatched, LeadsToId}
 use Rattle.automata_hybrid.specs.Steps.Starts.{IsStartAnswer}
 use Rattle.automata_hybrid.specs.Steps.Steps.{IsStepAnswer}
-use Rattle.automata_hybrid.specs.Machines.Machine.{quits_on}
 use Rattle.automata_hybrid.specs.Cache.Table.{Leads, Names, Rows}
-use Rattle.automata_hybrid.specs.Steps.BySteps.{IsDead, IsUnmatched, LeadsToId}
 use Rattle.automata_hybrid.proofs.Caches.Places.{bit_of, zero_one}
-use Rattle.automata_hybrid.proofs.Searches.PassState.{clean_dead, clean_ends, clean_last, clean_start, more_at, more_dead}
-use Rattle.automata_hybrid.proofs.Searches.PassState.{more_ends, more_last, starts_at, starts_dead, state_first, state_more}
+use Rattle.automata_hybrid.proofs.Searches.PassState.{clean_dead, clean_ends, clean_last, clean_start, more_at}
+use Rattle.automata_hybrid.proofs.Searches.PassState.{more_dead, more_ends, more_last, starts_at, starts_dead}
+use Rattle.automata_hybrid.proofs.Searches.PassState.{state_first, state_more}
 use Rattle.automata_hybrid.proofs.Searches.Skips.{finds_none, finds_some, found_reported}
 use Rattle.automata_hybrid.proofs.Steps.Ids.{Leads-untagged, low_bit}
 use Rattle.automata_hybrid.proofs.Searches.Units.{forward_unit, forward_units, nth_past, nth_read}
@@ -68,12 +67,18 @@ stands_first m input old new id tagged early undone inside answer = record {
   go (inl (e, d)) =
       let dies : state_in Forward m input 0 ≡ dead = sym (state_first Forward m input) ∙ d in
       IsDead (e ∙ ap (λ (n : Machine). dead_id n.stride) tagged.of)
-      (record { found = starts_dead Forward m input dies; clean = clean_start Forward m input dies answer.may.0; supported = answer.may.1 })
+      (record {
+        found = starts_dead Forward m input dies;
+        clean = clean_start Forward m input dies answer.may.0;
+        supported = answer.may.1;
+      })
   go (inr n) =
       IsUnmatched (subst (λ k. IsUnderway Forward m new.store.table input k id None) zero_in (record {
         undone = undone;
         may = answer.may;
-        at = starts_at Forward m new.store.table input id (subst (Names new.store.table id) (state_first Forward m input) n);
+        at =
+            starts_at Forward m new.store.table input id
+            (subst (Names new.store.table id) (state_first Forward m input) n);
       }))
 
 dead_matchless : (m : Machine) (id : ℕ) → m.stride ≤ 512 → id ≡ dead_id m.stride → IsBitSet id 27 → ⊥
@@ -90,13 +95,16 @@ quit_quits m id small e = (bit_of 29 (2 * m.stride) 1 id (omega (arith, small)) 
 
 -- the unit at an offset of the span is the one that a pass reads there
 unit_in :
-    (input : Input) (at : ℕ) (u : Option ℕ) → input.start ≤ at → at ≤ input.end → input.end ≤ length input.haystack → IsUnitAt input at u
+    (input : Input) (at : ℕ) (u : Option ℕ) → input.start ≤ at → at ≤ input.end → input.end ≤ length input.haystack
+    → IsUnitAt input at u
     → next (tape_in Forward input) (at - input.start) ≡ u
 unit_in input at None from upto inside past = forward_unit input at from upto inside ∙ nth_past input.haystack at past
-unit_in input at (Some byte) from upto inside (less, e) = forward_unit input at from upto inside ∙ nth_read input.haystack at byte 0 less e
+unit_in input at (Some byte) from upto inside (less, e) =
+    forward_unit input at from upto inside ∙ nth_read input.haystack at byte 0 less e
 
 -- a search that stands at an offset takes a step from there
-module _ (m : Machine) (input : Input) (old new : CacheView) (at id to : ℕ) (u : Option ℕ) (before : Tagged m old.store.table)
+module _ (m : Machine) (input : Input) (old new : CacheView) (at id to : ℕ) (u : Option ℕ)
+    (before : Tagged m old.store.table)
     (after : Tagged m new.store.table) (stands : StandsAt m old input at id) (unit : IsUnitAt input at u)
     (answer : IsStepAnswer m id u old new to) where
   stride : m.stride ≤ 512
@@ -155,24 +163,37 @@ module _ (m : Machine) (input : Input) (old new : CacheView) (at id to : ℕ) (u
       free : (byte : ℕ) → u ≡ Some byte → is_quit m.quits byte ≡ false
       free = no_quit_unit m u clean
 
-      reads : (q : Powerset) → Names old.store.table id q → Leads new.store.table to (successor m.nfa (match_kind_of m.config) q u)
+      reads :
+          (q : Powerset) → Names old.store.table id q
+          → Leads new.store.table to (successor m.nfa (match_kind_of m.config) q u)
       reads q n = answer.named clean q n
 
       tagged_leads : (q : Powerset) → Leads new.store.table to q → IsBitSet to 27 → 0 < length q.patterns
-      tagged_leads q (inl (e, d)) b = absurd (dead_matchless m to stride (e ∙ ap (λ (n : Machine). dead_id n.stride) after.of) b)
+      tagged_leads q (inl (e, d)) b =
+          absurd (dead_matchless m to stride (e ∙ ap (λ (n : Machine). dead_id n.stride) after.of) b)
       tagged_leads q (inr n) b = (answer.tag q n).0 b
 
-      found_here : IsBitSet to 27 → (pattern : ℕ) → IsFirstPattern new to pattern → IsFirstMatch m input (Some (record { pattern = pattern; offset = at }))
+      found_here :
+          IsBitSet to 27 → (pattern : ℕ) → IsFirstPattern new to pattern
+          → IsFirstMatch m input (Some (record { pattern = pattern; offset = at }))
       found_here b pattern first =
-          let reports : (q : Powerset) → Leads new.store.table to q → ◌≡◌ {A = Option HalfMatch} (Some (record { pattern = pattern; offset = at })) (half_at q.patterns at None) =
+          let reports : (q : Powerset) → Leads new.store.table to q
+          → ◌≡◌ {A = Option HalfMatch} (Some (record { pattern = pattern; offset = at })) (half_at q.patterns at None) =
           λ q l. first_half q.patterns pattern at None (tagged_leads q l b) (named_first q l) in
           record {
-            found = more_ends Forward m old.store.table new.store.table input k id to u None (Some (record { pattern = pattern; offset = at })) under.at reads_unit reads free (at, place, reports) few stands.early some_none;
-            clean = clean_ends Forward m old.store.table new.store.table input k id to u None (Some (record { pattern = pattern; offset = at })) under.at reads_unit reads free (at, place, reports) stands.early some_none under.may.0;
+            found =
+                more_ends Forward m old.store.table new.store.table input k id to u None
+                (Some (record { pattern = pattern; offset = at })) under.at reads_unit reads free (at, place, reports)
+                few stands.early some_none;
+            clean =
+                clean_ends Forward m old.store.table new.store.table input k id to u None
+                (Some (record { pattern = pattern; offset = at })) under.at reads_unit reads free (at, place, reports)
+                stands.early some_none under.may.0;
             supported = under.may.1;
           } where
             named_first : (q : Powerset) → Leads new.store.table to q → pattern ≡ get_or q.patterns 0 0
-            named_first q (inl (e, d)) = absurd (dead_matchless m to stride (e ∙ ap (λ (n : Machine). dead_id n.stride) after.of) b)
+            named_first q (inl (e, d)) =
+                absurd (dead_matchless m to stride (e ∙ ap (λ (n : Machine). dead_id n.stride) after.of) b)
             named_first q (inr n) = first q n
 
       dies_here :
@@ -181,10 +202,15 @@ module _ (m : Machine) (input : Input) (old new : CacheView) (at id to : ℕ) (u
           → IsFirstMatch m input None
       dies_here e d =
           let dies : state_in Forward m input (suc k) ≡ dead =
-          state_more Forward m input k ∙ (ap (successor m.nfa (match_kind_of m.config) (state_in Forward m input k)) reads_unit ∙ d) in
+          state_more Forward m input k
+          ∙ (ap (successor m.nfa (match_kind_of m.config) (state_in Forward m input k)) reads_unit ∙ d) in
           record {
-            found = more_dead Forward m old.store.table new.store.table input k id to u None None under.at reads_unit reads free (λ l. dies) few;
-            clean = clean_dead Forward m old.store.table new.store.table input k id to u None None under.at reads_unit reads free (λ l. dies) under.may.0;
+            found =
+                more_dead Forward m old.store.table new.store.table input k id to u None None under.at reads_unit reads
+                free (λ l. dies) few;
+            clean =
+                clean_dead Forward m old.store.table new.store.table input k id to u None None under.at reads_unit reads
+                free (λ l. dies) under.may.0;
             supported = under.may.1;
           }
 
@@ -192,7 +218,11 @@ module _ (m : Machine) (input : Input) (old new : CacheView) (at id to : ℕ) (u
           Leads new.store.table to (successor m.nfa (match_kind_of m.config) (state_in Forward m input k) u)
           → IsBitSet to 30 → IsFirstMatch m input None
       dead_here (inl (e, d)) b = dies_here e d
-      dead_here (inr n) b = absurd (let l : to < fixed_from = after.low to (successor m.nfa (match_kind_of m.config) (state_in Forward m input k) u) n in low_bit 30 to (omega (arith, l)) b)
+      dead_here (inr n) b =
+          absurd (let l : to
+          < fixed_from =
+          after.low to (successor m.nfa (match_kind_of m.config) (state_in Forward m input k) u) n in
+          low_bit 30 to (omega (arith, l)) b)
 
       -- no match is reported
       module _ (silent : IsBitSet to 27 → ⊥) where
@@ -203,8 +233,12 @@ module _ (m : Machine) (input : Input) (old new : CacheView) (at id to : ℕ) (u
         end_here end =
             let last : k ≡ length (tape_in Forward input).bytes = omega (arith, units, end) in
             record {
-              found = more_last Forward m old.store.table new.store.table input k id to u None None under.at reads_unit reads free (at, place, reports) last;
-              clean = clean_last Forward m old.store.table new.store.table input k id to u None None under.at reads_unit reads free last under.may.0;
+              found =
+                  more_last Forward m old.store.table new.store.table input k id to u None None under.at reads_unit
+                  reads free (at, place, reports) last;
+              clean =
+                  clean_last Forward m old.store.table new.store.table input k id to u None None under.at reads_unit
+                  reads free last under.may.0;
               supported = under.may.1;
             }
 
@@ -214,11 +248,15 @@ module _ (m : Machine) (input : Input) (old new : CacheView) (at id to : ℕ) (u
         goes_on (inl (e, d)) = IsDead (e ∙ ap (λ (n : Machine). dead_id n.stride) after.of) (dies_here e d)
         goes_on (inr n) =
             let there : Names new.store.table to (state_in Forward m input (suc k)) =
-            subst (Names new.store.table to) (sym (state_more Forward m input k ∙ ap (successor m.nfa (match_kind_of m.config) (state_in Forward m input k)) reads_unit)) n in
+            subst (Names new.store.table to)
+            (sym (state_more Forward m input k
+            ∙ ap (successor m.nfa (match_kind_of m.config) (state_in Forward m input k)) reads_unit)) n in
             IsUnmatched (subst (λ n. IsUnderway Forward m new.store.table input n to None) more (record {
               undone = under.undone;
               may = under.may;
-              at = more_at Forward m old.store.table new.store.table input k id to u None None under.at reads_unit reads free (at, place, reports) (λ e. refl) (λ l. there);
+              at =
+                  more_at Forward m old.store.table new.store.table input k id to u None None under.at reads_unit reads
+                  free (at, place, reports) (λ e. refl) (λ l. there);
             })) where
               more : suc k ≡ at + 1 - input.start
               more = omega (arith, from)
@@ -266,11 +304,18 @@ module _ (m : Machine) (input : Input) (old new : CacheView) (at id to : ℕ) (u
 pub run_found :
     (m : Machine) (input : Input) (half : Option HalfMatch)
     → (Skips m → ⊥) → input.start ≤ input.end → IsFirstMatch m input half → WithoutBase (IsFound Forward m input) half
-run_found m input None plain undone run =
-    (None, finds_none Forward m input input 0 (first_span input) (record { comes = inl refl; before = λ j less. absurd (omega (arith, less)) }) (omega (arith, undone)) run.found run.clean, refl)
+run_found m input None plain undone run = (
+  None,
+  finds_none Forward m input input 0 (first_span input)
+      (record { comes = inl refl; before = λ j less. absurd (omega (arith, less)) }) (omega (arith, undone)) run.found
+      run.clean,
+  refl,
+)
 run_found m input (Some half) plain undone run = (
   Some (with_base half input.start),
-  finds_some Forward m input input 0 (first_span input) (record { comes = inl refl; before = λ j less. absurd (omega (arith, less)) }) (omega (arith, undone)) half run.found run.clean (λ skips. absurd (plain skips)),
+  finds_some Forward m input input 0 (first_span input)
+      (record { comes = inl refl; before = λ j less. absurd (omega (arith, less)) }) (omega (arith, undone)) half run.found
+      run.clean (λ skips. absurd (plain skips)),
   refl,
 )
 
@@ -280,7 +325,8 @@ first_match_is_found m ends input half plain bytes undone inside run =
       found,
       λ early. (
         found.0,
-        (ends Forward (match_kind_of m.config) input found.0 (bytes, inside) (found_reported Forward m input found.0 found.1)).0 early,
+        (ends Forward (match_kind_of m.config) input found.0 (bytes, inside)
+            (found_reported Forward m input found.0 found.1)).0 early,
         found.2,
       ),
     )

@@ -1,18 +1,14 @@
 -- What a step or a start does to a cache, from its whole effect.
-use Rattle.std.proofs.Common.{◌≡◌, ℕ, ◌-◌, ◌*◌, ◌<◌, None, length, Option}
-use Rattle.std.proofs.Common.{Some, false, refl, sym, ap, ◌∙◌, subst, inl, inr, arith, length-set, true}
-use Rattle.std.proofs.Common.{⊎_elim, ◌⊎◌}
+use Rattle.std.proofs.Common.{◌≡◌, ℕ, ◌-◌, ◌*◌, ◌<◌, None, length, Option, Some, false, refl, sym, ap, ◌∙◌, subst, inl}
+use Rattle.std.proofs.Common.{inr, arith, length-set, true, ⊎_elim, ◌⊎◌}
 use Rattle.std.proofs.lemmas.List.{get_or-set_same}
 use Rattle.automata_base.specs.Powersets.Powerset.{Powerset}
 use Rattle.automata_hybrid.specs.declared.cache.row.Row.{Row}
 use Rattle.automata_hybrid.specs.Cache.Table.{id_of, Rows, Names, cell_at}
-use Rattle.automata_hybrid.specs.Private.Cache.Table.{HasCells}
-use Rattle.automata_hybrid.specs.Private.Cache.Table.{with_row}
-use Rattle.automata_hybrid.specs.Private.Cache.Table.{IsKnownState}
+use Rattle.automata_hybrid.specs.Private.Cache.Table.{HasCells, with_row_in_store, IsKnownState}
 use Rattle.automata_hybrid.specs.Cache.Stores.{Stored, cell_of}
 use Rattle.automata_hybrid.specs.Private.Cache.Stores.{with_next}
-use Rattle.automata_hybrid.specs.Private.Cache.Changes.{IsComputed}
-use Rattle.automata_hybrid.specs.Private.Cache.Changes.{WritesAdded, WritesKnown}
+use Rattle.automata_hybrid.specs.Private.Cache.Changes.{IsComputed, WritesAdded, WritesKnown}
 use Rattle.automata_base.specs.Powersets.Equal.{powerset_eq, powerset_eq-Decides}
 use Rattle.automata_base.proofs.Paths.Orders.{none_some}
 use Rattle.std.proofs.lemmas.Bool.{cases_Bool}
@@ -24,16 +20,24 @@ one_id t a b q f g = some_same a b (sym f ∙ g)
 
 -- the transition that was computed is cached at the row of its state, also after a clear
 pub cached-computed :
-    (old new : Stored) (id class next : ℕ) (q target : Powerset) → Names old.table id q → IsComputed old id class q target new next
-    → HasCells new.table → class < new.table.of.stride → (now : ℕ) × Names new.table now q × (cell_of new now class ≡ next)
+    (old new : Stored) (id class next : ℕ) (q target : Powerset) → Names old.table id q
+    → IsComputed old id class q target new next
+    → HasCells new.table → class < new.table.of.stride → (now : ℕ) × Names new.table now q
+    × (cell_of new now class ≡ next)
 cached-computed old new id class next q target named done has below = go done where
   at :
       (between : Stored) (from : ℕ) → new ≡ with_next between from class next → Names between.table from q
       → (now : ℕ) × Names new.table now q × (cell_of new now class ≡ next)
   at between from e n =
       let here : Names new.table from q = subst (λ (s : Stored). Names s.table from q) (sym e) n in
-      let long : length new.table.cells ≡ length between.table.cells = ap (λ (s : Stored). length s.table.cells) e ∙ length-set between.table.cells (cell_at from class) next in
-      (from, here, ap (λ (s : Stored). cell_of s from class) e ∙ get_or-set_same between.table.cells (cell_at from class) next 0 (omega (arith, long, has from class (q, here) below)))
+      let long : length new.table.cells ≡ length between.table.cells =
+      ap (λ (s : Stored). length s.table.cells) e ∙ length-set between.table.cells (cell_at from class) next in (
+        from,
+        here,
+        ap (λ (s : Stored). cell_of s from class) e
+            ∙ get_or-set_same between.table.cells (cell_at from class) next 0
+            (omega (arith, long, has from class (q, here) below)),
+      )
 
   go : IsComputed old id class q target new next → (now : ℕ) × Names new.table now q × (cell_of new now class ≡ next)
   go (WritesKnown leads e) = at old id e named
@@ -42,11 +46,13 @@ cached-computed old new id class next q target named done has below = go done wh
 -- the rows of a table that another has, and one more
 pub only-grown :
     (old t : Rows) (r : Row) → ((q : Powerset) → id_of old q ≡ None → id_of t q ≡ None)
-    → (p : Powerset) → IsKnownState (with_row t r) p → IsKnownState old p ⊎ (p ≡ r.state)
+    → (p : Powerset) → IsKnownState (with_row_in_store t r) p → IsKnownState old p ⊎ (p ≡ r.state)
 only-grown old t r absent p has = go (id_of old p) refl where
   go : (o : Option ℕ) → id_of old p ≡ o → IsKnownState old p ⊎ (p ≡ r.state)
   go (Some k) e = inl (record { id = k; named = e })
   go None e = ⊎_elim
       (λ (same : powerset_eq p r.state ≡ true). inr ((powerset_eq-Decides p r.state).0 same))
-      (λ (other : powerset_eq p r.state ≡ false). absurd (none_some (sym (absent p e) ∙ sym (find_id-push_other t.of.stride (3 * t.of.stride) p t.rows r other) ∙ has.named)))
+      (λ (other : powerset_eq p r.state ≡ false). absurd
+      (none_some
+      (sym (absent p e) ∙ sym (find_id-push_other t.of.stride (3 * t.of.stride) p t.rows r other) ∙ has.named)))
       (cases_Bool (powerset_eq p r.state))

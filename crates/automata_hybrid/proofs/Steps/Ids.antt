@@ -19,9 +19,12 @@ HoldsRow-valid c id (inr (inl e)) l = absurd (omega (arith, e, l))
 HoldsRow-valid c id (inr (inr h)) l = h
 
 -- an ID of a row with the match tag is neither dead nor quit
-pub HoldsRow-matched : (c : CacheView) (id : ℕ) → c.store.table.of.stride ≤ 512 → HoldsRow c id → IsBitSet id 27 → IsRowId c.store.table id
-HoldsRow-matched c id small (inl e) b = absurd (zero_one ((bit_of 27 c.store.table.of.stride 8 id (omega (arith, small)) (omega (arith, e))).0 b))
-HoldsRow-matched c id small (inr (inl e)) b = absurd (zero_one ((bit_of 27 (2 * c.store.table.of.stride) 4 id (omega (arith, small)) (omega (arith, e))).0 b))
+pub HoldsRow-matched :
+    (c : CacheView) (id : ℕ) → c.store.table.of.stride ≤ 512 → HoldsRow c id → IsBitSet id 27 → IsRowId c.store.table id
+HoldsRow-matched c id small (inl e) b =
+    absurd (zero_one ((bit_of 27 c.store.table.of.stride 8 id (omega (arith, small)) (omega (arith, e))).0 b))
+HoldsRow-matched c id small (inr (inl e)) b =
+    absurd (zero_one ((bit_of 27 (2 * c.store.table.of.stride) 4 id (omega (arith, small)) (omega (arith, e))).0 b))
 HoldsRow-matched c id small (inr (inr v)) b = v
 
 pub Leads-Names : (t : Rows) (id : ℕ) (q : Powerset) → Leads t id q → id < 2 ^ 29 → Names t id q
@@ -30,7 +33,8 @@ Leads-Names t id q (inr h) l = h
 
 -- an ID without the match bit reports nothing
 pub Leads-untagged :
-    (t : Rows) (id : ℕ) (q : Powerset) → Leads t id q → (Names t id q → IsBitSet id 27 ↔ (0 < length q.patterns)) → (IsBitSet id 27 → ⊥)
+    (t : Rows) (id : ℕ) (q : Powerset) → Leads t id q → (Names t id q → IsBitSet id 27 ↔ (0 < length q.patterns))
+    → (IsBitSet id 27 → ⊥)
     → q.patterns ≡ []
 Leads-untagged t id q (inl (e, d)) tagged clear = ap (λ (p : Powerset). p.patterns) d
 Leads-untagged t id q (inr h) tagged clear = no_patterns q.patterns (λ some. clear ((tagged h).1 some))
@@ -40,7 +44,8 @@ low_bit k n l b = let z : n ≡ 0 * 2 ^ k + n = omega arith in zero_one ((bit_of
 
 -- the bit of quit IDs
 pub Leads-quit :
-    (t : Rows) (id : ℕ) (q : Powerset) → Leads t id q → (Names t id q → id < 2 ^ 29) → t.of.stride ≤ 512 → IsBitSet id 29 → ⊥
+    (t : Rows) (id : ℕ) (q : Powerset) → Leads t id q → (Names t id q → id < 2 ^ 29) → t.of.stride ≤ 512
+    → IsBitSet id 29 → ⊥
 Leads-quit t id q (inl (e, d)) low small b =
     let n : id ≡ 2 * 2 ^ 29 + t.of.stride = omega (arith, e) in
     zero_one ((bit_of 29 t.of.stride 2 id (omega (arith, small)) n).0 b)
@@ -58,7 +63,8 @@ dead_tagged t id low small q (inr h) =
 
 -- a dead ID is none of the quit state
 pub dead_clear :
-    (c : CacheView) (id : ℕ) → HoldsRow c id → ((q : Powerset) → Names c.store.table id q → id < 2 ^ 29) → c.store.table.of.stride ≤ 512 → IsBitSet id 30
+    (c : CacheView) (id : ℕ) → HoldsRow c id → ((q : Powerset) → Names c.store.table id q → id < 2 ^ 29)
+    → c.store.table.of.stride ≤ 512 → IsBitSet id 30
     → IsBitSet id 29 → ⊥
 dead_clear c id (inl e) low small b q =
     let n : id ≡ 2 * 2 ^ 29 + c.store.table.of.stride = omega (arith, e) in
@@ -87,13 +93,15 @@ unquit m t id' byte of small clear quit = go (is_quit m.quits byte) refl where
 pub quits :
     (m : Machine) (t t' : Rows) (id id' byte : ℕ) (q : Powerset)
     → t'.of.stride ≤ 512 → ((p : Powerset) → Names t' id' p → id' < 2 ^ 29) → IsBitSet id' 29
-    → (is_quit m.quits byte ≡ false → (p : Powerset) → Names t id p → Leads t' id' (successor m.nfa (match_kind_of m.config) p (Some byte)))
+    → (is_quit m.quits byte ≡ false → (p : Powerset) → Names t id p
+    → Leads t' id' (successor m.nfa (match_kind_of m.config) p (Some byte)))
     → Names t id q → is_quit m.quits byte ≡ true
 quits m t t' id id' byte q small low bit named h = go (is_quit m.quits byte) refl where
   go : (b : Bool) → is_quit m.quits byte ≡ b → is_quit m.quits byte ≡ true
   go true e = e
   go false e =
-      absurd (Leads-quit t' id' (successor m.nfa (match_kind_of m.config) q (Some byte)) (named e q h) (low (successor m.nfa (match_kind_of m.config) q (Some byte))) small bit)
+      absurd (Leads-quit t' id' (successor m.nfa (match_kind_of m.config) q (Some byte)) (named e q h)
+      (low (successor m.nfa (match_kind_of m.config) q (Some byte))) small bit)
 
 -- of one pattern the first that a list reports is that one
 pub only_pattern : (ps : List ℕ) → 0 < length ps → ((p : ℕ) → In p ps → p < 1) → 0 ≡ get_or ps 0 0

@@ -1,8 +1,8 @@
 -- Starts: what a call answers and changes, from what its parts do.
 use Rattle.automata_hybrid.specs.Machines.StartSlots.{slot_behind, supports}
 use Rattle.automata_hybrid.specs.Private.Cache.Clears.{IsSlot, LeadsToStart}
-use Rattle.std.proofs.Common.{ℕ, ◌≡◌, ◌+◌, ◌^◌, ◌<◌, ◌≤◌, ◌⊎◌, List, length, get_or, set, Bool, Option, None, Some, true, false}
-use Rattle.std.proofs.Common.{refl, sym, ap, ◌∙◌, subst, arith, inl, inr}
+use Rattle.std.proofs.Common.{ℕ, ◌≡◌, ◌+◌, ◌^◌, ◌<◌, ◌≤◌, ◌⊎◌, List, length, get_or, set, Bool, Option, None, Some}
+use Rattle.std.proofs.Common.{true, false, refl, sym, ap, ◌∙◌, subst, arith, inl, inr}
 use Rattle.std.proofs.lemmas.List.{get_or-set_other}
 use Rattle.std.specs.Prelude.{slice_index}
 use Rattle.automata_base.specs.Powersets.Powerset.{Powerset}
@@ -12,19 +12,15 @@ use Rattle.automata_base.proofs.Paths.Orders.{none_some}
 use Rattle.automata_hybrid.specs.declared.cache.row.Row.{Row}
 use Rattle.automata_hybrid.specs.Cache.Ids.{unknown_id}
 use Rattle.automata_hybrid.specs.Machines.Machine.{Machine}
-use Rattle.automata_hybrid.specs.Cache.Table.{HasItsMatchTag, Leads, Names}
+use Rattle.automata_hybrid.specs.Cache.Table.{HasItsMatchTag, Leads, Names, Rows}
 use Rattle.automata_hybrid.specs.Private.Cache.Table.{Lacks}
-use Rattle.automata_hybrid.specs.Cache.Table.{Rows}
 use Rattle.automata_hybrid.specs.Cache.Stores.{Stored}
-use Rattle.automata_hybrid.specs.Private.Cache.Stores.{KeepsStarts}
-use Rattle.automata_hybrid.specs.Private.Cache.Stores.{IsKnownStart, with_start_in_store}
-use Rattle.automata_hybrid.specs.Private.Cache.Usage.{cleared}
-use Rattle.automata_hybrid.specs.Private.Cache.Changes.{IsStarted, StartsAdded, StartsKnown}
-use Rattle.automata_hybrid.specs.Private.Cache.Changes.{AddsRow}
-use Rattle.automata_hybrid.specs.Cache.Caches.{CacheView, HoldsRow, IsCacheOf, counted, with_store}
+use Rattle.automata_hybrid.specs.Private.Cache.Stores.{KeepsStarts, IsKnownStart, with_start_in_store}
+use Rattle.automata_hybrid.specs.Private.Cache.Usage.{cleared_in_store}
+use Rattle.automata_hybrid.specs.Private.Cache.Changes.{IsStarted, StartsAdded, StartsKnown, AddsRow}
+use Rattle.automata_hybrid.specs.Cache.Caches.{CacheView, HoldsRow, IsCacheOf, counted_in_store, with_store}
 use Rattle.automata_hybrid.proofs.Calls.Events.{MakesStart}
-use Rattle.automata_hybrid.specs.Steps.Starts.{IsStartAnswer, MayStart, quit_behind}
-use Rattle.automata_hybrid.specs.Steps.Starts.{known_start, start_row}
+use Rattle.automata_hybrid.specs.Steps.Starts.{IsStartAnswer, MayStart, quit_behind, known_start, start_row}
 use Rattle.automata_hybrid.specs.Private.Steps.Starts.{IsStartSlot}
 use Rattle.automata_hybrid.proofs.Searches.PassState.{false_true}
 use Rattle.automata_hybrid.proofs.Machines.StartSlots.{starts_alike}
@@ -34,14 +30,16 @@ use Rattle.std.proofs.lemmas.Bool.{cases_lt}
 -- what leads to the start of a mode leads to the starts of its slot
 pub slot_leads :
     (m : Machine) (mode : Anchored) (behind : Option ℕ) (slot : ℕ) (t : Rows) (id : ℕ) (q : Powerset)
-    → IsStartSlot m mode behind slot → t.of ≡ m → q ≡ start_state_of m.nfa mode behind → Leads t id q → LeadsToStart t id slot
+    → IsStartSlot m mode behind slot → t.of ≡ m → q ≡ start_state_of m.nfa mode behind → Leads t id q
+    → LeadsToStart t id slot
 slot_leads m mode behind slot t id q at of same leads = (
   q,
   leads,
   λ other look here.
       let slots : slot_behind m mode behind ≡ slot_behind m other look =
       sym at.at ∙ sym (subst (λ (d : Machine). slot_behind d other look ≡ slot) of here) in
-      same ∙ (starts_alike m mode other behind look slots ∙ ap (λ (d : Machine). start_state_of d.nfa other look) (sym of)),
+      same ∙ (starts_alike m mode other behind look slots
+      ∙ ap (λ (d : Machine). start_state_of d.nfa other look) (sym of)),
 )
 
 -- an ID that names a state or the dead one has a row
@@ -52,7 +50,8 @@ leads_row c id q (inr names) = inr (inr (q, names))
 -- a start state that is cached is answered as it stands
 pub known_answer :
     (m : Machine) (mode : Anchored) (behind : Option ℕ) (c : CacheView) (slot id : ℕ)
-    → IsCacheOf c m → IsStartSlot m mode behind slot → id ≡ slice_index c.store.starts slot → id < unknown_id → IsSlot c.store.table slot id
+    → IsCacheOf c m → IsStartSlot m mode behind slot → id ≡ slice_index c.store.starts slot → id < unknown_id
+    → IsSlot c.store.table slot id
     → HasItsMatchTag c.store.table id → IsStartAnswer m mode behind c c id
 known_answer m mode behind c slot id of at value low may tag = record {
   may = at.may;
@@ -73,17 +72,19 @@ known_answer m mode behind c slot id of at value low may tag = record {
       ∙ ap (λ (d : Machine). start_state_of d.nfa mode behind) of) leads
 
 -- a start was computed and written
-pub record ComputesStart (m : Machine) (mode : Anchored) (behind : Option ℕ) (old new : CacheView) (slot id : ℕ) : Type 0 where
+pub record ComputesStart (m : Machine) (mode : Anchored) (behind : Option ℕ) (old new : CacheView) (slot id : ℕ) : Type
+    0 where
   pub done : IsStarted old.store slot (start_row m mode behind) new.store id
   pub leads : Leads new.store.table id (start_state_of m.nfa mode behind)
   pub starts : KeepsStarts old.store.starts new.store.starts
   pub written : slice_index new.store.starts slot ≡ id
   pub found : IsKnownStart new.store slot
-  pub counted : new.count ≡ old.count + 1
+  pub counted_in_store : new.count ≡ old.count + 1
 
 -- a cached start state is written among the others
 keeps_written :
-    (old xs : List ℕ) (slot id : ℕ) → KeepsStarts old xs → get_or (set xs slot id) slot 0 < 2 ^ 31 → KeepsStarts old (set xs slot id)
+    (old xs : List ℕ) (slot id : ℕ) → KeepsStarts old xs → get_or (set xs slot id) slot 0 < 2 ^ 31
+    → KeepsStarts old (set xs slot id)
 keeps_written old xs slot id keeps found other k = go (cases_lt other slot) (cases_lt slot other) where
   apart : (other ≡ slot → ⊥) → get_or (set xs slot id) other 0 < 2 ^ 31
   apart not = subst (λ n. n < 2 ^ 31) (sym (get_or-set_other xs slot other id 0 not)) (keeps other k)
@@ -91,12 +92,14 @@ keeps_written old xs slot id keeps found other k = go (cases_lt other slot) (cas
   go : (other < slot) ⊎ (slot ≤ other) → (slot < other) ⊎ (other ≤ slot) → get_or (set xs slot id) other 0 < 2 ^ 31
   go (inl l) _ = apart (λ e. absurd (omega (arith, e, l)))
   go (inr _) (inl l) = apart (λ e. absurd (omega (arith, e, l)))
-  go (inr a) (inr b) = let same : slot ≡ other = omega (arith, a, b) in subst (λ n. get_or (set xs slot id) n 0 < 2 ^ 31) same found
+  go (inr a) (inr b) =
+      let same : slot ≡ other = omega (arith, a, b) in subst (λ n. get_or (set xs slot id) n 0 < 2 ^ 31) same found
 
 -- the start state was there
 pub computes_known :
     (m : Machine) (mode : Anchored) (behind : Option ℕ) (old mid new : CacheView) (slot id : ℕ) (key : Powerset)
-    → mid ≡ counted old → new ≡ with_store mid (with_start_in_store mid.store slot id) → Leads mid.store.table id key
+    → mid ≡ counted_in_store old → new ≡ with_store mid (with_start_in_store mid.store slot id)
+    → Leads mid.store.table id key
     → key ≡ start_state_of m.nfa mode behind
     → slice_index new.store.starts slot ≡ id → slice_index new.store.starts slot < unknown_id
     → ComputesStart m mode behind old new slot id
@@ -105,7 +108,8 @@ computes_known m mode behind old mid new slot id key was e leads same written fo
   leads = subst (λ (s : Stored). Leads s.table id (start_state_of m.nfa mode behind)) (sym stored) there;
   starts =
       subst (λ (s : Stored). KeepsStarts old.store.starts s.starts) (sym stored)
-      (keeps_written old.store.starts old.store.starts slot id (λ _ k. k) (subst (λ (s : Stored). get_or s.starts slot 0 < 2 ^ 31) stored found));
+      (keeps_written old.store.starts old.store.starts slot id (λ _ k. k)
+      (subst (λ (s : Stored). get_or s.starts slot 0 < 2 ^ 31) stored found));
   written = written;
   found = found;
   counted = ap (λ (v : CacheView). v.count) e ∙ ap (λ (v : CacheView). v.count) was;
@@ -123,43 +127,50 @@ computes_known m mode behind old mid new slot id key was e leads same written fo
 
 -- the start state was added
 pub computes_new :
-    (m : Machine) (mode : Anchored) (behind : Option ℕ) (old mid between new : CacheView) (slot id : ℕ) (state key : Powerset) (started : Bool)
-    → mid ≡ counted old → AddsRow mid.store (cleared mid.store) between.store (record { state = state; started = started }) id → between.count ≡ mid.count
+    (m : Machine) (mode : Anchored) (behind : Option ℕ) (old mid between new : CacheView) (slot id : ℕ)
+    (state key : Powerset) (started : Bool)
+    → mid ≡ counted_in_store old
+    → AddsRow mid.store (cleared_in_store mid.store) between.store (record { state = state; started = started }) id
+    → between.count ≡ mid.count
     → new ≡ with_store between (with_start_in_store between.store slot id) → state ≡ key → Lacks mid.store.table key
     → key ≡ start_state_of m.nfa mode behind → started ≡ specialize_start_states_of m.config
     → slice_index new.store.starts slot ≡ id → slice_index new.store.starts slot < unknown_id
     → ComputesStart m mode behind old new slot id
-computes_new m mode behind old mid between new slot id state key started was adds count e is lacks same tags written found = record {
-  done = StartsAdded none between.store added.effect added.named stored;
-  leads = inr (subst (λ (s : Stored). Names s.table id (start_state_of m.nfa mode behind)) (sym stored) added.named);
-  starts =
-      subst (λ (s : Stored). KeepsStarts old.store.starts s.starts) (sym stored)
-      (keeps_written old.store.starts between.store.starts slot id added.starts (subst (λ (s : Stored). get_or s.starts slot 0 < 2 ^ 31) stored found));
-  written = written;
-  found = found;
-  counted = ap (λ (v : CacheView). v.count) e ∙ (count ∙ ap (λ (v : CacheView). v.count) was);
-} where
-  before : mid.store ≡ old.store
-  before = ap (λ (v : CacheView). v.store) was
+computes_new m mode behind old mid between new slot id state key started was adds count e is lacks same tags written
+    found = record {
+      done = StartsAdded none between.store added.effect added.named stored;
+      leads = inr (subst (λ (s : Stored). Names s.table id (start_state_of m.nfa mode behind)) (sym stored) added.named);
+      starts =
+          subst (λ (s : Stored). KeepsStarts old.store.starts s.starts) (sym stored)
+          (keeps_written old.store.starts between.store.starts slot id added.starts
+          (subst (λ (s : Stored). get_or s.starts slot 0 < 2 ^ 31) stored found));
+      written = written;
+      found = found;
+      counted = ap (λ (v : CacheView). v.count) e ∙ (count ∙ ap (λ (v : CacheView). v.count) was);
+    } where
+      before : mid.store ≡ old.store
+      before = ap (λ (v : CacheView). v.store) was
 
-  stored : new.store ≡ with_start_in_store between.store slot id
-  stored = ap (λ (v : CacheView). v.store) e
+      stored : new.store ≡ with_start_in_store between.store slot id
+      stored = ap (λ (v : CacheView). v.store) e
 
-  none : Lacks old.store.table (start_state_of m.nfa mode behind)
-  none =
-      subst (λ (s : Stored). Lacks s.table (start_state_of m.nfa mode behind)) before
-      (subst (λ (q : Powerset). Lacks mid.store.table q) same lacks)
+      none : Lacks old.store.table (start_state_of m.nfa mode behind)
+      none =
+          subst (λ (s : Stored). Lacks s.table (start_state_of m.nfa mode behind)) before
+          (subst (λ (q : Powerset). Lacks mid.store.table q) same lacks)
 
-  row : record { state = state; started = started } ≡ start_row m mode behind
-  row = λ i. record { state = (is ∙ same) i; started = tags i }
+      row : record { state = state; started = started } ≡ start_row m mode behind
+      row = λ i. record { state = (is ∙ same) i; started = tags i }
 
-  added : AddsRow old.store (cleared old.store) between.store (start_row m mode behind) id
-  added =
-      subst (λ (r : Row). AddsRow old.store (cleared old.store) between.store r id) row
-      (subst (λ (s : Stored). AddsRow s (cleared s) between.store (record { state = state; started = started }) id) before adds)
+      added : AddsRow old.store (cleared_in_store old.store) between.store (start_row m mode behind) id
+      added =
+          subst (λ (r : Row). AddsRow old.store (cleared_in_store old.store) between.store r id) row
+          (subst (λ (s : Stored). AddsRow s (cleared_in_store s) between.store (record { state = state; started = started })
+          id) before adds)
 
 -- what a computed start answers, and what it makes of the cache
-module _ (m : Machine) (mode : Anchored) (behind : Option ℕ) (old new : CacheView) (slot id : ℕ) (made : ComputesStart m mode behind old new slot id)
+module _ (m : Machine) (mode : Anchored) (behind : Option ℕ) (old new : CacheView) (slot id : ℕ)
+    (made : ComputesStart m mode behind old new slot id)
     (at : IsStartSlot m mode behind slot) where
   pub computed_answer : HasItsMatchTag new.store.table id → IsStartAnswer m mode behind old new id
   computed_answer tag = record {
@@ -181,7 +192,8 @@ module _ (m : Machine) (mode : Anchored) (behind : Option ℕ) (old new : CacheV
   }
 
 -- a search may start, or it may not
-pub may_or_not : (m : Machine) (mode : Anchored) (behind : Option ℕ) → MayStart m mode behind ⊎ (MayStart m mode behind → ⊥)
+pub may_or_not :
+    (m : Machine) (mode : Anchored) (behind : Option ℕ) → MayStart m mode behind ⊎ (MayStart m mode behind → ⊥)
 may_or_not m mode behind = go (quit_behind m behind) refl (supports m mode) refl where
   go :
       (o : Option ℕ) → quit_behind m behind ≡ o → (b : Bool) → supports m mode ≡ b

@@ -1,6 +1,6 @@
 -- Steps: what a call answers and changes, from what its parts do.
-use Rattle.std.proofs.Common.{ℕ, ◌≡◌, ◌+◌, ◌<◌, ◌≤◌, Bool, true, false, Option, None, Some, refl, sym}
-use Rattle.std.proofs.Common.{ap, ◌∙◌, subst, arith, inl, inr}
+use Rattle.std.proofs.Common.{ℕ, ◌≡◌, ◌+◌, ◌<◌, ◌≤◌, Bool, true, false, Option, None, Some, refl, sym, ap, ◌∙◌, subst}
+use Rattle.std.proofs.Common.{arith, inl, inr}
 use Rattle.std.specs.Prelude.{slice_index}
 use Rattle.automata_base.specs.ByteClasses.Classes.{is_quit}
 use Rattle.automata_base.specs.Powersets.Powerset.{Powerset}
@@ -9,24 +9,19 @@ use Rattle.automata_base.proofs.Paths.Orders.{none_some, some_inj}
 use Rattle.automata_base.specs.Powersets.Passes.{IsUnit}
 use Rattle.automata_hybrid.specs.Cache.Stores.{Stored, cell_of, with_searched}
 use Rattle.automata_hybrid.specs.declared.cache.progress.Searched.{Searched}
-use Rattle.automata_hybrid.specs.Private.Cache.Stores.{KeepsStarts}
-use Rattle.automata_hybrid.specs.Private.Cache.Stores.{IsKnownTransition, with_next}
-use Rattle.automata_hybrid.specs.Private.Cache.Changes.{IsComputed, IsStateAdded, WritesAdded, WritesKnown, cleared_saving_in_store}
-use Rattle.automata_hybrid.specs.Private.Cache.Changes.{AddsNext}
-use Rattle.automata_hybrid.specs.Cache.Caches.{CacheView, HoldsRow, IsCacheOf, counted, with_store}
+use Rattle.automata_hybrid.specs.Private.Cache.Stores.{KeepsStarts, IsKnownTransition, with_next}
+use Rattle.automata_hybrid.specs.Private.Cache.Changes.{IsComputed, IsStateAdded, WritesAdded, WritesKnown}
+use Rattle.automata_hybrid.specs.Private.Cache.Changes.{cleared_saving_in_store, AddsNext}
+use Rattle.automata_hybrid.specs.Cache.Caches.{CacheView, HoldsRow, IsCacheOf, counted_in_store, with_store}
 use Rattle.automata_hybrid.specs.Cache.Ids.{fixed_from, quit_id, unknown_id}
-use Rattle.automata_hybrid.specs.Machines.Machine.{Machine}
+use Rattle.automata_hybrid.specs.Machines.Machine.{Machine, quits_on, unit_class}
 use Rattle.automata_hybrid.specs.Calls.Events.{Step}
 use Rattle.automata_hybrid.proofs.Calls.Events.{IsCached, MakesStep}
 use Rattle.automata_hybrid.specs.Steps.Steps.{IsStepAnswer, known_step}
-use Rattle.automata_hybrid.specs.Private.Steps.Steps.{KnowsStep}
-use Rattle.automata_hybrid.specs.Private.Steps.Steps.{IsCellRead}
-use Rattle.automata_hybrid.specs.Machines.Machine.{quits_on, unit_class}
-use Rattle.automata_hybrid.specs.Private.Cache.Table.{CellLeads, CellQuits, CellUnknown}
-use Rattle.automata_hybrid.specs.Private.Cache.Table.{HasCells, IsCell, LeadsByClass}
-use Rattle.automata_hybrid.specs.Cache.Table.{HasItsMatchTag, IsRowId, Leads}
+use Rattle.automata_hybrid.specs.Private.Steps.Steps.{KnowsStep, IsCellRead}
+use Rattle.automata_hybrid.specs.Private.Cache.Table.{CellLeads, CellQuits, CellUnknown, HasCells, IsCell, LeadsByClass}
 use Rattle.automata_hybrid.specs.Private.Cache.Table.{Lacks}
-use Rattle.automata_hybrid.specs.Cache.Table.{Names, Rows}
+use Rattle.automata_hybrid.specs.Cache.Table.{HasItsMatchTag, IsRowId, Leads, Names, Rows}
 use Rattle.automata_hybrid.proofs.Steps.Effects.{cached-computed, one_id}
 use Rattle.automata_hybrid.proofs.Searches.PassState.{false_true}
 use Rattle.automata_hybrid.proofs.Steps.Starts.{leads_row}
@@ -37,11 +32,14 @@ pub step_unknown :
     (m : Machine) (id : ℕ) (unit : Option ℕ) (c : CacheView) → (KnowsStep m c.store id unit → ⊥)
     → (q : Powerset) → Names c.store.table id q → IsCached m c.store (Step q unit) → ⊥
 step_unknown m id unit c unknown q named (other, names, known) =
-    let one : other ≡ id = one_id c.store.table other id q names named in unknown (subst (λ k. KnowsStep m c.store k unit) one known)
+    let one : other ≡ id = one_id c.store.table other id q names named in
+    unknown (subst (λ k. KnowsStep m c.store k unit) one known)
 
 -- of a search that moved before it made a step
 module _ (m : Machine) (id : ℕ) (unit : Option ℕ) (s : Searched) (old new : CacheView) where
-  pub moved_answer : (next : ℕ) → IsStepAnswer m id unit (with_store old (with_searched old.store s)) new next → IsStepAnswer m id unit old new next
+  pub moved_answer :
+      (next : ℕ) → IsStepAnswer m id unit (with_store old (with_searched old.store s)) new next
+      → IsStepAnswer m id unit old new next
   moved_answer next a = record {
     row = a.row;
     tag = a.tag;
@@ -53,7 +51,8 @@ module _ (m : Machine) (id : ℕ) (unit : Option ℕ) (s : Searched) (old new : 
 
 -- what stands in a cell was read there
 pub cell_read :
-    (m : Machine) (c : Stored) (id : ℕ) (unit : Option ℕ) (cell : ℕ) → cell ≡ known_step m c id unit → IsCellRead m c id unit cell
+    (m : Machine) (c : Stored) (id : ℕ) (unit : Option ℕ) (cell : ℕ) → cell ≡ known_step m c id unit
+    → IsCellRead m c id unit cell
 cell_read m c id unit cell same = (λ _. same, λ free known. absurd (omega (arith, free, known, same)))
 
 -- a step from dead or quit answers its own ID
@@ -73,7 +72,8 @@ fixed_answer m id unit c high below row = record {
   apart q n = let low : id < fixed_from = below q n in absurd (omega (arith, low, high))
 
 -- what a cell reports at the class of a unit
-module _ (m : Machine) (id : ℕ) (unit : Option ℕ) (c : CacheView) (class next : ℕ) (of : IsCacheOf c m) (valid : IsRowId c.store.table id)
+module _ (m : Machine) (id : ℕ) (unit : Option ℕ) (c : CacheView) (class next : ℕ) (of : IsCacheOf c m)
+    (valid : IsRowId c.store.table id)
     (at : class ≡ unit_class m unit) (small : m.stride ≤ 512)
     (quit : quits_on m unit ≡ true → slice_index m.template class ≡ quit_id m.stride)
     (free : quits_on m unit ≡ false → slice_index m.template class ≡ unknown_id)
@@ -83,7 +83,9 @@ module _ (m : Machine) (id : ℕ) (unit : Option ℕ) (c : CacheView) (class nex
   clash : slice_index m.template class ≡ quit_id m.stride → slice_index m.template class ≡ unknown_id → ⊥
   clash a b = absurd (omega (arith, a, b, small))
 
-  stands_quit : slice_index c.store.table.of.template class ≡ quit_id c.store.table.of.stride → slice_index m.template class ≡ quit_id m.stride
+  stands_quit :
+      slice_index c.store.table.of.template class ≡ quit_id c.store.table.of.stride
+      → slice_index m.template class ≡ quit_id m.stride
   stands_quit a = subst (λ (d : Machine). slice_index d.template class ≡ quit_id d.stride) of a
 
   stands_free : slice_index c.store.table.of.template class ≡ unknown_id → slice_index m.template class ≡ unknown_id
@@ -101,7 +103,9 @@ module _ (m : Machine) (id : ℕ) (unit : Option ℕ) (c : CacheView) (class nex
     go true e (CellLeads a h) = absurd (clash (quit e) (stands_free a))
 
   pub unknown_free : unknown_id ≤ next → KnowsStep m c.store id unit → ⊥
-  unknown_free l k = let here : cell_of c.store id class < unknown_id = subst (IsKnownTransition c.store id) (sym at) k in absurd (omega (arith, here, value, l))
+  unknown_free l k =
+      let here : cell_of c.store id class < unknown_id = subst (IsKnownTransition c.store id) (sym at) k in
+      absurd (omega (arith, here, value, l))
 
   pub cell_known : next < unknown_id → KnowsStep m c.store id unit
   cell_known low = subst (IsKnownTransition c.store id) at (subst (λ n. n < unknown_id) value low)
@@ -128,7 +132,8 @@ module _ (m : Machine) (id : ℕ) (unit : Option ℕ) (c : CacheView) (class nex
     go (CellQuits a e) = absurd (clash (stands_quit a) (free clean))
     go (CellUnknown a e) = absurd (omega (arith, e, low))
     go (CellLeads a h) =
-        subst (λ (d : Machine). Leads c.store.table next (successor d.nfa (match_kind_of d.config) q unit)) of (here is q h)
+        subst (λ (d : Machine). Leads c.store.table next (successor d.nfa (match_kind_of d.config) q unit)) of
+        (here is q h)
 
   -- a cached cell is the answer
   pub known_answer :
@@ -150,7 +155,8 @@ module _ (m : Machine) (id : ℕ) (unit : Option ℕ) (c : CacheView) (class nex
 
 -- a cell that is cached has the ID of a row
 pub cell_row :
-    (c : CacheView) (q : Powerset) (class id : ℕ) (unit : Option ℕ) → IsUnit unit → unit_class c.store.table.of unit ≡ class
+    (c : CacheView) (q : Powerset) (class id : ℕ) (unit : Option ℕ) → IsUnit unit
+    → unit_class c.store.table.of unit ≡ class
     → IsCell c.store.table q class id → id < unknown_id → HoldsRow c id
 cell_row c q class id unit is at (CellQuits a e) low = inr (inl e)
 cell_row c q class id unit is at (CellUnknown a e) low = absurd (omega (arith, e, low))
@@ -159,10 +165,12 @@ cell_row c q class id unit is at (CellLeads a leads) low = leads_row c id _ (lea
 -- where the key of a step is cached, a cell leads where each unit of the class does
 pub key_leads :
     (m : Machine) (t : Rows) (q key : Powerset) (unit : Option ℕ) (class to : ℕ) → t.of ≡ m → class ≡ unit_class m unit
-    → ((other : Option ℕ) → IsUnit other → unit_class m other ≡ unit_class m unit → key ≡ successor m.nfa (match_kind_of m.config) q other)
+    → ((other : Option ℕ) → IsUnit other → unit_class m other ≡ unit_class m unit
+    → key ≡ successor m.nfa (match_kind_of m.config) q other)
     → Leads t to key → LeadsByClass t to q class
 key_leads m t q key unit class to of at alike leads other is here =
-    let same : unit_class m other ≡ unit_class m unit = subst (λ (d : Machine). unit_class d other ≡ class) of here ∙ at in
+    let same : unit_class m other ≡ unit_class m unit =
+    subst (λ (d : Machine). unit_class d other ≡ class) of here ∙ at in
     subst (λ (d : Machine). Leads t to (successor d.nfa (match_kind_of d.config) q other)) (sym of)
     (subst (Leads t to) (alike other is same) leads)
 
@@ -175,16 +183,18 @@ pub record ComputesStep (m : Machine) (id : ℕ) (unit : Option ℕ) (old new : 
       (q : Powerset) → Names old.store.table id q
       → Leads new.store.table next (successor m.nfa (match_kind_of m.config) q unit)
   pub starts : KeepsStarts old.store.starts new.store.starts
-  pub counted : new.count ≡ old.count + 1
+  pub counted_in_store : new.count ≡ old.count + 1
 
 -- the next state was there
 pub computes_known :
     (m : Machine) (id : ℕ) (unit : Option ℕ) (old mid new : CacheView) (class next : ℕ) (key : Powerset)
-    → mid ≡ counted old → new ≡ with_store mid (with_next mid.store id class next) → Leads mid.store.table next key
+    → mid ≡ counted_in_store old → new ≡ with_store mid (with_next mid.store id class next)
+    → Leads mid.store.table next key
     → ((q : Powerset) → Names old.store.table id q → key ≡ successor m.nfa (match_kind_of m.config) q unit)
     → ComputesStep m id unit old new class next
 computes_known m id unit old mid new class next key was e leads same =
-    subst (λ (v : CacheView). ComputesStep m id unit old v class next) (sym (e ∙ ap (λ (v : CacheView). with_store v (with_next v.store id class next)) was))
+    subst (λ (v : CacheView). ComputesStep m id unit old v class next)
+    (sym (e ∙ ap (λ (v : CacheView). with_store v (with_next v.store id class next)) was))
     (record {
       done = λ q n. WritesKnown (there q n) refl;
       leads = there;
@@ -192,15 +202,18 @@ computes_known m id unit old mid new class next key was e leads same =
       counted = refl;
     })
   where
-    there : (q : Powerset) → Names old.store.table id q → Leads old.store.table next (successor m.nfa (match_kind_of m.config) q unit)
+    there :
+        (q : Powerset) → Names old.store.table id q
+        → Leads old.store.table next (successor m.nfa (match_kind_of m.config) q unit)
     there q n =
         subst (λ (v : CacheView). Leads v.store.table next (successor m.nfa (match_kind_of m.config) q unit)) was
         (subst (λ (p : Powerset). Leads mid.store.table next p) (same q n) leads)
 
 -- the next state was added
 pub computes_new :
-    (m : Machine) (id : ℕ) (unit : Option ℕ) (old mid between new : CacheView) (class from next : ℕ) (state key : Powerset)
-    → mid ≡ counted old → AddsNext mid.store between.store id state from next → between.count ≡ mid.count
+    (m : Machine) (id : ℕ) (unit : Option ℕ) (old mid between new : CacheView) (class from next : ℕ)
+    (state key : Powerset)
+    → mid ≡ counted_in_store old → AddsNext mid.store between.store id state from next → between.count ≡ mid.count
     → new ≡ with_store between (with_next between.store from class next) → state ≡ key → Lacks mid.store.table key
     → ((q : Powerset) → Names old.store.table id q → key ≡ successor m.nfa (match_kind_of m.config) q unit)
     → ComputesStep m id unit old new class next
@@ -210,10 +223,14 @@ computes_new m id unit old mid between new class from next state key was adds co
       done = λ q n.
           (let to : key ≡ successor m.nfa (match_kind_of m.config) q unit = same q n in
           let none : Lacks old.store.table (successor m.nfa (match_kind_of m.config) q unit) =
-          subst (λ (s : Stored). Lacks s.table (successor m.nfa (match_kind_of m.config) q unit)) before (subst (λ (p : Powerset). Lacks mid.store.table p) to lacks) in
-          let grew : IsStateAdded old.store (cleared_saving_in_store old.store id) (record { state = successor m.nfa (match_kind_of m.config) q unit; started = false }) between.store =
-          subst (λ (p : Powerset). IsStateAdded old.store (cleared_saving_in_store old.store id) (record { state = p; started = false }) between.store) (is ∙ to) added.row.effect in
-          WritesAdded none from between.store grew (added.saved q n) (subst (λ (p : Powerset). Names between.store.table next p) (is ∙ to) added.row.named) refl);
+          subst (λ (s : Stored). Lacks s.table (successor m.nfa (match_kind_of m.config) q unit)) before
+          (subst (λ (p : Powerset). Lacks mid.store.table p) to lacks) in
+          let grew : IsStateAdded old.store (cleared_saving_in_store old.store id)
+          (record { state = successor m.nfa (match_kind_of m.config) q unit; started = false }) between.store =
+          subst (λ (p : Powerset). IsStateAdded old.store (cleared_saving_in_store old.store id)
+          (record { state = p; started = false }) between.store) (is ∙ to) added.row.effect in
+          WritesAdded none from between.store grew (added.saved q n)
+          (subst (λ (p : Powerset). Names between.store.table next p) (is ∙ to) added.row.named) refl);
       leads = λ q n. inr (subst (λ (p : Powerset). Names between.store.table next p) (is ∙ same q n) added.row.named);
       starts = added.row.starts;
       counted = count ∙ ap (λ (v : CacheView). v.count) was;
@@ -226,12 +243,14 @@ computes_new m id unit old mid between new class from next state key was adds co
     added = subst (λ (s : Stored). AddsNext s between.store id state from next) before adds
 
 -- what a computed step answers, and what it makes of the cache
-module _ (m : Machine) (id : ℕ) (unit : Option ℕ) (old new : CacheView) (class next : ℕ) (step : ComputesStep m id unit old new class next)
+module _ (m : Machine) (id : ℕ) (unit : Option ℕ) (old new : CacheView) (class next : ℕ)
+    (step : ComputesStep m id unit old new class next)
     (valid : IsRowId old.store.table id) (low : id < fixed_from)
     (clean : quits_on m unit ≡ false) (unknown : KnowsStep m old.store id unit → ⊥)
     (at : class ≡ unit_class m unit) (below : class < m.stride) where
   pub computed_answer :
-      IsCacheOf new m → HasCells new.store.table → HasItsMatchTag new.store.table next → IsStepAnswer m id unit old new next
+      IsCacheOf new m → HasCells new.store.table → HasItsMatchTag new.store.table next
+      → IsStepAnswer m id unit old new next
   computed_answer of cells tag = record {
     row = leads_row new next _ (step.leads valid.0 valid.1);
     tag = tag;
@@ -240,7 +259,8 @@ module _ (m : Machine) (id : ℕ) (unit : Option ℕ) (old new : CacheView) (cla
     named = λ _ q n. step.leads q n;
     cached = λ q n.
         subst (λ k. (now : ℕ) × Names new.store.table now q × (cell_of new.store now k ≡ next)) at
-        (cached-computed old.store new.store id class next q _ n (step.done q n) cells (subst (λ (d : Machine). class < d.stride) (sym of) below));
+        (cached-computed old.store new.store id class next q _ n (step.done q n) cells
+        (subst (λ (d : Machine). class < d.stride) (sym of) below));
   }
 
   pub computed_makes : (q : Powerset) → Names old.store.table id q → MakesStep m q unit old new
@@ -257,10 +277,14 @@ module _ (m : Machine) (id : ℕ) (unit : Option ℕ) (old new : CacheView) (cla
   }
 
 -- a unit that is not a quit byte, either way it is said
-pub unit_no_quit : (m : Machine) (unit : Option ℕ) → ((byte : ℕ) → unit ≡ Some byte → is_quit m.quits byte ≡ false) → quits_on m unit ≡ false
+pub unit_no_quit :
+    (m : Machine) (unit : Option ℕ) → ((byte : ℕ) → unit ≡ Some byte → is_quit m.quits byte ≡ false)
+    → quits_on m unit ≡ false
 unit_no_quit m None free = refl
 unit_no_quit m (Some byte) free = free byte refl
 
-pub no_quit_unit : (m : Machine) (unit : Option ℕ) → quits_on m unit ≡ false → (byte : ℕ) → unit ≡ Some byte → is_quit m.quits byte ≡ false
+pub no_quit_unit :
+    (m : Machine) (unit : Option ℕ) → quits_on m unit ≡ false → (byte : ℕ) → unit ≡ Some byte
+    → is_quit m.quits byte ≡ false
 no_quit_unit m None clean byte e = absurd (none_some e)
 no_quit_unit m (Some read) clean byte e = subst (λ b. is_quit m.quits b ≡ false) (some_inj e) clean

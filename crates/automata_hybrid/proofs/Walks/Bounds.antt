@@ -24,14 +24,18 @@ nth_in [] k half e = absurd (none_some e)
 nth_in (pair ∷ pairs) zero half e = inl (ap pair_of (sym (some_inj e)))
 nth_in (pair ∷ pairs) (suc k) half e = inr (nth_in pairs k half e)
 
-module _ (way : Direction) (m : Machine) (input : Input) (reported : WalksAreReported m.nfa) (law : WalkLiesWithin m.nfa)
+module _ (way : Direction) (m : Machine) (input : Input) (reported : WalksAreReported m.nfa)
+    (law : WalkLiesWithin m.nfa)
     (few : input.end ≤ length input.haystack) (old new : Walk) where
-  match_lies : (found : Option HalfMatch) → new.found ≡ found → IsWalkOf way m input old → ReportsNext way m input old new → IfSome found (LiesIn m input)
+  match_lies :
+      (found : Option HalfMatch) → new.found ≡ found → IsWalkOf way m input old → ReportsNext way m input old new
+      → IfSome found (LiesIn m input)
   match_lies None e was next = tt
   match_lies (Some half) e was next =
       let pairs = reported way (match_kind_of m.config) input in
       let nth : half_nth pairs.0 was.0 ≡ Some half = sym ((next was.0 was.1).1 pairs.0 pairs.1).0 ∙ e in
-      let l = law way (match_kind_of m.config) input pairs.0 (pair_of half) few pairs.1 (nth_in pairs.0 was.0 half nth) in
+      let l =
+      law way (match_kind_of m.config) input pairs.0 (pair_of half) few pairs.1 (nth_in pairs.0 was.0 half nth) in
       record { pattern = l.0; from = l.1.0; upto = l.1.1 }
 
   none_lies : (found : Option HalfMatch) → found ≡ None → IfSome found (LiesIn m input)

@@ -1,6 +1,6 @@
 -- What a set of patterns took to be found is cached.
-use Rattle.std.proofs.Common.{ℕ, zero, suc, ◌≡◌, ◌≤◌, inl, inr, Bool, List, [], ◌∷◌, ◌++◌, length}
-use Rattle.std.proofs.Common.{take, None, refl, ap, subst, arith}
+use Rattle.std.proofs.Common.{ℕ, zero, suc, ◌≡◌, ◌≤◌, inl, inr, Bool, List, [], ◌∷◌, ◌++◌, length, take, None, refl, ap}
+use Rattle.std.proofs.Common.{subst, arith}
 use Rattle.automata_base.specs.Answers.Answers.{AreUnsplit, HasPattern}
 use Rattle.automata_base.specs.Haystacks.Input.{Input}
 use Rattle.automata_base.specs.Paths.Selections.{Pair}
@@ -21,24 +21,35 @@ taken_front (x ∷ xs) ys (suc n) p l (inr h) = inr (taken_front xs ys n p (omeg
 
 -- a set that is closed after the pairs that its walk has reported is closed after more
 pub closed_stops :
-    (m : Machine) (input : Input) (v : Walk) (k : ℕ) (set : List Bool) (list : List Pair) → HasReported Forward m input v k
-    → (v.stage ≡ Ended → ⊥) → input.start ≤ input.end → AreWalked Forward m input list → (IsOpen input set (take k list) → ⊥)
+    (m : Machine) (input : Input) (v : Walk) (k : ℕ) (set : List Bool) (list : List Pair)
+    → HasReported Forward m input v k
+    → (v.stage ≡ Ended → ⊥) → input.start ≤ input.end → AreWalked Forward m input list
+    → (IsOpen input set (take k list) → ⊥)
     → (j : ℕ) (pairs : List Pair)
-    → v.units ≤ j → WalkReads Forward m input j → AreUnsplit (Skips m) Forward input (pairs_reported_in Forward m input j) pairs
+    → v.units ≤ j → WalkReads Forward m input j
+    → AreUnsplit (Skips m) Forward input (pairs_reported_in Forward m input j) pairs
     → IsOpen input set pairs → ⊥
 closed_stops m input v zero set list reported on s walked closed j pairs l reads unsplit is_open = closed (NoPair refl)
-closed_stops m input v (suc k) set list reported on s walked closed j pairs l reads unsplit is_open = closed (go is_open) where
-  least : suc k ≤ length pairs
-  least = reported_least Forward m input v k reported on j (length pairs) l (record { pairs = pairs; unsplit = unsplit; count = refl })
+closed_stops m input v (suc k) set list reported on s walked closed j pairs l reads unsplit is_open =
+    closed (go is_open) where
+      least : suc k ≤ length pairs
+      least =
+          reported_least Forward m input v k reported on j (length pairs) l
+          (record { pairs = pairs; unsplit = unsplit; count = refl })
 
-  begins : Begins Forward m input pairs list
-  begins = walked_begin Forward m input j pairs list s (let few : j ≤ length (tape_in Forward input).bytes = reads.0 in omega (arith, few)) unsplit walked
+      begins : Begins Forward m input pairs list
+      begins =
+          walked_begin Forward m input j pairs list s
+          (let few : j ≤ length (tape_in Forward input).bytes = reads.0 in omega (arith, few)) unsplit walked
 
-  go : IsOpen input set pairs → IsOpen input set (take (suc k) list)
-  go (NoPair none) = absurd (let z : length pairs ≡ 0 = ap (λ (ps : List Pair). length ps) none in omega (arith, least, z))
-  go (LacksOne e p below absent other) =
-      LacksOne e p below absent
-      (λ h. other (taken_front pairs begins.rest (suc k) p least (subst (λ (ps : List Pair). HasPattern p (take (suc k) ps)) begins.joined h)))
+      go : IsOpen input set pairs → IsOpen input set (take (suc k) list)
+      go (NoPair none) =
+          absurd (let z : length pairs ≡ 0 = ap (λ (ps : List Pair). length ps) none in omega (arith, least, z))
+      go (LacksOne e p below absent other) =
+          LacksOne e p below absent
+          (λ h. other
+          (taken_front pairs begins.rest (suc k) p least
+          (subst (λ (ps : List Pair). HasPattern p (take (suc k) ps)) begins.joined h)))
 
 pub half_none : (pairs : List Pair) (k : ℕ) → half_nth pairs k ≡ None → length pairs ≤ k
 half_none [] k e = omega arith

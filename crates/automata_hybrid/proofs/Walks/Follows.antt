@@ -1,17 +1,14 @@
 -- What follows of what a call of a walk makes of its cache.
-use Rattle.std.proofs.Common.{ℕ, suc, ◌≡◌, ◌∙◌, ◌+◌, ◌<◌, ◌≤◌, ◌⊎◌, length}
-use Rattle.std.proofs.Common.{inl, inr, refl, sym, arith}
+use Rattle.std.proofs.Common.{ℕ, suc, ◌≡◌, ◌∙◌, ◌+◌, ◌<◌, ◌≤◌, ◌⊎◌, length, inl, inr, refl, sym, arith}
 use Rattle.std.proofs.lemmas.Bool.{cases_lt}
 use Rattle.automata_base.specs.Haystacks.Input.{Input}
 use Rattle.automata_base.specs.Powersets.Powerset.{Powerset}
 use Rattle.automata_base.specs.declared.util.search.Direction.{Direction}
 use Rattle.automata_hybrid.specs.Machines.Machine.{Machine}
 use Rattle.automata_hybrid.specs.Searches.Passes.{Skips}
-use Rattle.automata_hybrid.specs.Walks.Answers.{HasReported, HasReportedAt, HasReportedBy}
-use Rattle.automata_hybrid.specs.Walks.Answers.{WalkReads}
+use Rattle.automata_hybrid.specs.Walks.Answers.{HasReported, HasReportedAt, HasReportedBy, WalkReads}
 use Rattle.automata_hybrid.specs.Walks.Cached.{IsToRead}
-use Rattle.automata_hybrid.specs.Walks.Progress.{HasEnded, HasMore}
-use Rattle.automata_hybrid.specs.Walks.Progress.{HasNoneLeft, ReadsNoUnit}
+use Rattle.automata_hybrid.specs.Walks.Progress.{HasEnded, HasMore, HasNoneLeft, ReadsNoUnit}
 use Rattle.automata_hybrid.specs.Walks.State.{At, Ended, Fresh, Stage, Walk}
 use Rattle.automata_hybrid.proofs.Walks.Calls.{ended_at, reported_least}
 use Rattle.automata_hybrid.proofs.Walks.Progress.{walk_reads_before}
@@ -31,17 +28,21 @@ module _ (way : Direction) (m : Machine) (input : Input) (skips : Skips m ⊎ (S
     all_reported = λ q at. few q at (cases_lt w.reported (length q.patterns));
     left = omega (arith, within (cases_lt input.end (input.start + w.units)));
   } where
-    within : (input.end < input.start + w.units) ⊎ (input.start + w.units ≤ input.end) → input.start + w.units ≤ input.end
+    within :
+        (input.end < input.start + w.units) ⊎ (input.start + w.units ≤ input.end) → input.start + w.units ≤ input.end
     within (inl past) = absurd (reads (HasNoneLeft past))
     within (inr fits) = fits
 
-    few : (q : Powerset) → w.stage ≡ At q → (w.reported < length q.patterns) ⊎ (length q.patterns ≤ w.reported) → length q.patterns ≤ w.reported
+    few :
+        (q : Powerset) → w.stage ≡ At q → (w.reported < length q.patterns) ⊎ (length q.patterns ≤ w.reported)
+        → length q.patterns ≤ w.reported
     few q at (inl less) = absurd (reads (HasMore q at less))
     few q at (inr all) = all
 
   -- after where it stands then a walk reads no unit, or has reported a pair more
   pub next_stops :
-      (next : Walk) (j : ℕ) → HasReported way m input next (suc j) → (next.stage ≡ Ended → WalkReads way m input next.units → ⊥)
+      (next : Walk) (j : ℕ) → HasReported way m input next (suc j)
+      → (next.stage ≡ Ended → WalkReads way m input next.units → ⊥)
       → (i : ℕ) → next.units ≤ i → WalkReads way m input i → HasReportedBy way m input i j → ⊥
   next_stops next j t ends i more reads by = go next.stage refl t where
     go : (s : Stage) → next.stage ≡ s → HasReportedAt way m input s next.units next.reported (suc j) → ⊥

@@ -33,7 +33,8 @@ use Rattle.automata_hybrid.proofs.Walks.Reports.{reported_rises}
 
 -- a walk reads the units before one that it reads
 pub walk_reads_before :
-    (way : Direction) (m : Machine) (input : Input) (j k : ℕ) → j ≤ k → WalkReads way m input k → WalkReads way m input j
+    (way : Direction) (m : Machine) (input : Input) (j k : ℕ) → j ≤ k → WalkReads way m input k
+    → WalkReads way m input j
 walk_reads_before way m input j k l reads =
     (omega (arith, l, reads.0), λ dies. reads.1 (dead_more way m input j k l dies))
 
@@ -43,7 +44,8 @@ pub silent_before :
     → IsSilent way m input from j
 silent_before way m input from j to more less silent k t = subst (HasReportedBy way m input j) same here.1 where
   one :
-      AreUnsplit (Skips m) way input (pairs_reported_in way m input from) t.pairs → (n : ℕ) × HasReportedBy way m input j n
+      AreUnsplit (Skips m) way input (pairs_reported_in way m input from) t.pairs → (n : ℕ)
+      × HasReportedBy way m input j n
   one (SkipsSplit skips same) = (
     length (without_split input.haystack (with_offsets way input (pairs_reported_in way m input j))),
     record {
@@ -54,7 +56,11 @@ silent_before way m input from j to more less silent k t = subst (HasReportedBy 
   )
   one (KeepsSplit keeps same) = (
     length (with_offsets way input (pairs_reported_in way m input j)),
-    record { pairs = with_offsets way input (pairs_reported_in way m input j); unsplit = KeepsSplit keeps refl; count = refl },
+    record {
+      pairs = with_offsets way input (pairs_reported_in way m input j);
+      unsplit = KeepsSplit keeps refl;
+      count = refl;
+    },
   )
 
   here : (n : ℕ) × HasReportedBy way m input j n

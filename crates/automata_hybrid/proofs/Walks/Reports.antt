@@ -2,8 +2,8 @@
 use Rattle.std.proofs.Common.{ℕ, zero, suc, ◌≡◌, ◌<◌, ◌≤◌, ◌+◌, ◌⊎◌, inl, inr, Bool, true, false, cond, List, [], ◌∷◌}
 use Rattle.std.proofs.Common.{◌++◌, length, Some, None, refl, sym, ap, ap₂, ◌∙◌, subst, arith, length-append}
 use Rattle.std.proofs.Common.{eq-or-lt_of_le, get_or}
-use Rattle.automata_base.specs.Answers.Answers.{AreUnsplit, KeepsSplit, SkipsSplit, WalksNoSpan, WalksSpan, offset_in, with_offsets}
-use Rattle.automata_base.specs.Answers.Answers.{without_split}
+use Rattle.automata_base.specs.Answers.Answers.{AreUnsplit, KeepsSplit, SkipsSplit, WalksNoSpan, WalksSpan, offset_in}
+use Rattle.automata_base.specs.Answers.Answers.{with_offsets, without_split}
 use Rattle.automata_base.specs.ByteClasses.Classes.{is_quit}
 use Rattle.automata_base.specs.Haystacks.Input.{Input}
 use Rattle.automata_base.specs.Paths.Paths.{next}
@@ -14,40 +14,50 @@ use Rattle.automata_base.specs.declared.util.search.Direction.{Direction}
 use Rattle.automata_base.specs.Retraced.Passes.{pairs_reported}
 use Rattle.automata_hybrid.specs.Machines.Machine.{Machine}
 use Rattle.automata_hybrid.specs.Searches.Passes.{HasReadNoQuit, Skips, state_in, tape_in}
-use Rattle.automata_hybrid.specs.Walks.Answers.{AreWalked, HasReportedBy, IsSilent, WalkMeetsNoQuit}
+use Rattle.automata_hybrid.specs.Walks.Answers.{AreWalked, HasReportedBy, IsSilent, WalkMeetsNoQuit, half_nth}
+use Rattle.automata_hybrid.specs.Walks.Answers.{pairs_reported_in}
 use Rattle.automata_hybrid.specs.Private.Walks.Answers.{Finishes}
-use Rattle.automata_hybrid.specs.Walks.Answers.{half_nth, pairs_reported_in}
 use Rattle.automata_hybrid.proofs.Searches.PassState.{dead_more}
 use Rattle.std.proofs.lemmas.Bool.{cases_lt}
 
 -- lists joined
-offsets_join : (way : Direction) (input : Input) (xs ys : List Pair) → with_offsets way input (xs ++ ys) ≡ with_offsets way input xs ++ with_offsets way input ys
+offsets_join :
+    (way : Direction) (input : Input) (xs ys : List Pair)
+    → with_offsets way input (xs ++ ys) ≡ with_offsets way input xs ++ with_offsets way input ys
 offsets_join way input [] ys = refl
-offsets_join way input (x ∷ xs) ys = ap (λ (zs : List Pair). record x { place = offset_in way input x.place } ∷ zs) (offsets_join way input xs ys)
+offsets_join way input (x ∷ xs) ys =
+    ap (λ (zs : List Pair). record x { place = offset_in way input x.place } ∷ zs) (offsets_join way input xs ys)
 
 unsplit_join : (h : List ℕ) (xs ys : List Pair) → without_split h (xs ++ ys) ≡ without_split h xs ++ without_split h ys
 unsplit_join h [] ys = refl
 unsplit_join h (x ∷ xs) ys = go (is_split h x.place) (unsplit_join h xs ys) where
   go :
       (b : Bool) → without_split h (xs ++ ys) ≡ without_split h xs ++ without_split h ys
-      → cond b (without_split h (xs ++ ys)) (x ∷ without_split h (xs ++ ys)) ≡ cond b (without_split h xs) (x ∷ without_split h xs) ++ without_split h ys
+      → cond b (without_split h (xs ++ ys)) (x ∷ without_split h (xs ++ ys))
+      ≡ cond b (without_split h xs) (x ∷ without_split h xs) ++ without_split h ys
   go true again = again
   go false again = ap (λ (zs : List Pair). x ∷ zs) again
 
 -- the pairs of one place
-place_offsets : (way : Direction) (input : Input) (i : ℕ) (ps : List ℕ) → with_offsets way input (at_place i ps) ≡ at_place (offset_in way input i) ps
+place_offsets :
+    (way : Direction) (input : Input) (i : ℕ) (ps : List ℕ)
+    → with_offsets way input (at_place i ps) ≡ at_place (offset_in way input i) ps
 place_offsets way input i [] = refl
-place_offsets way input i (p ∷ ps) = ap (λ (zs : List Pair). record { pattern = p; place = offset_in way input i } ∷ zs) (place_offsets way input i ps)
+place_offsets way input i (p ∷ ps) =
+    ap (λ (zs : List Pair). record { pattern = p; place = offset_in way input i } ∷ zs) (place_offsets way input i ps)
 
 place_split : (h : List ℕ) (o : ℕ) (ps : List ℕ) → is_split h o ≡ true → without_split h (at_place o ps) ≡ []
 place_split h o [] e = refl
 place_split h o (p ∷ ps) e =
-    ap (λ b. cond b (without_split h (at_place o ps)) (record { pattern = p; place = o } ∷ without_split h (at_place o ps))) e ∙ place_split h o ps e
+    ap (λ b. cond b (without_split h (at_place o ps))
+    (record { pattern = p; place = o } ∷ without_split h (at_place o ps))) e ∙ place_split h o ps e
 
-place_unsplit : (h : List ℕ) (o : ℕ) (ps : List ℕ) → is_split h o ≡ false → without_split h (at_place o ps) ≡ at_place o ps
+place_unsplit :
+    (h : List ℕ) (o : ℕ) (ps : List ℕ) → is_split h o ≡ false → without_split h (at_place o ps) ≡ at_place o ps
 place_unsplit h o [] e = refl
 place_unsplit h o (p ∷ ps) e =
-    ap (λ b. cond b (without_split h (at_place o ps)) (record { pattern = p; place = o } ∷ without_split h (at_place o ps))) e
+    ap (λ b. cond b (without_split h (at_place o ps))
+    (record { pattern = p; place = o } ∷ without_split h (at_place o ps))) e
     ∙ ap (λ (zs : List Pair). record { pattern = p; place = o } ∷ zs) (place_unsplit h o ps e)
 
 pub place_length : (o : ℕ) (ps : List ℕ) → length (at_place o ps) ≡ length ps
@@ -72,45 +82,57 @@ module _ (way : Direction) (m : Machine) (input : Input) where
       (i : ℕ) (pairs : List Pair)
       → (Skips m → is_split input.haystack (offset_in way input i) ≡ false)
       → AreUnsplit (Skips m) way input (pairs_reported_in way m input i) pairs
-      → AreUnsplit (Skips m) way input (pairs_reported_in way m input (suc i)) (pairs ++ at_place (offset_in way input i) (at i))
+      → AreUnsplit (Skips m) way input (pairs_reported_in way m input (suc i))
+      (pairs ++ at_place (offset_in way input i) (at i))
   reported_more i pairs free (SkipsSplit s e) = SkipsSplit s
       (sym (ap (λ (zs : List Pair). without_split input.haystack (with_offsets way input zs)) (pairs_more i)
-      ∙ (ap (without_split input.haystack) (offsets_join way input (pairs_reported_in way m input i) (at_place i (at i)))
-      ∙ (unsplit_join input.haystack (with_offsets way input (pairs_reported_in way m input i)) (with_offsets way input (at_place i (at i)))
+      ∙ (ap (without_split input.haystack)
+      (offsets_join way input (pairs_reported_in way m input i) (at_place i (at i)))
+      ∙ (unsplit_join input.haystack (with_offsets way input (pairs_reported_in way m input i))
+      (with_offsets way input (at_place i (at i)))
       ∙ ap₂ (λ (xs ys : List Pair). xs ++ ys) (sym e)
-      (ap (without_split input.haystack) (place_offsets way input i (at i)) ∙ place_unsplit input.haystack (offset_in way input i) (at i) (free s))))))
+      (ap (without_split input.haystack) (place_offsets way input i (at i))
+      ∙ place_unsplit input.haystack (offset_in way input i) (at i) (free s))))))
   reported_more i pairs free (KeepsSplit n e) = KeepsSplit n
       (sym (ap (with_offsets way input) (pairs_more i)
-      ∙ (offsets_join way input (pairs_reported_in way m input i) (at_place i (at i)) ∙ ap₂ (λ (xs ys : List Pair). xs ++ ys) (sym e) (place_offsets way input i (at i)))))
+      ∙ (offsets_join way input (pairs_reported_in way m input i) (at_place i (at i))
+      ∙ ap₂ (λ (xs ys : List Pair). xs ++ ys) (sym e) (place_offsets way input i (at i)))))
 
   -- at a place that is skipped
   reported_skipped :
       (i : ℕ) (pairs : List Pair)
       → Skips m → is_split input.haystack (offset_in way input i) ≡ true
-      → AreUnsplit (Skips m) way input (pairs_reported_in way m input i) pairs → AreUnsplit (Skips m) way input (pairs_reported_in way m input (suc i)) pairs
+      → AreUnsplit (Skips m) way input (pairs_reported_in way m input i) pairs
+      → AreUnsplit (Skips m) way input (pairs_reported_in way m input (suc i)) pairs
   reported_skipped i pairs skips split (KeepsSplit n e) = absurd (n skips)
   reported_skipped i pairs skips split (SkipsSplit s e) = SkipsSplit s
       (sym (ap (λ (zs : List Pair). without_split input.haystack (with_offsets way input zs)) (pairs_more i)
-      ∙ (ap (without_split input.haystack) (offsets_join way input (pairs_reported_in way m input i) (at_place i (at i)))
-      ∙ (unsplit_join input.haystack (with_offsets way input (pairs_reported_in way m input i)) (with_offsets way input (at_place i (at i)))
+      ∙ (ap (without_split input.haystack)
+      (offsets_join way input (pairs_reported_in way m input i) (at_place i (at i)))
+      ∙ (unsplit_join input.haystack (with_offsets way input (pairs_reported_in way m input i))
+      (with_offsets way input (at_place i (at i)))
       ∙ (ap₂ (λ (xs ys : List Pair). xs ++ ys) (sym e)
-      (ap (without_split input.haystack) (place_offsets way input i (at i)) ∙ place_split input.haystack (offset_in way input i) (at i) split)
+      (ap (without_split input.haystack) (place_offsets way input i (at i))
+      ∙ place_split input.haystack (offset_in way input i) (at i) split)
       ∙ join_none pairs)))))
 
   -- a state without patterns
   pairs_none : (i : ℕ) → at i ≡ [] → pairs_reported_in way m input (suc i) ≡ pairs_reported_in way m input i
   pairs_none i e =
-      pairs_more i ∙ (ap (λ ps. pairs_reported_in way m input i ++ at_place i ps) e ∙ join_none (pairs_reported_in way m input i))
+      pairs_more i
+      ∙ (ap (λ ps. pairs_reported_in way m input i ++ at_place i ps) e ∙ join_none (pairs_reported_in way m input i))
 
   pub silent_none : (i : ℕ) → at i ≡ [] → IsSilent way m input i (suc i)
   silent_none i e k t =
       record {
         pairs = t.pairs;
-        unsplit = subst (λ (ps : List Pair). AreUnsplit (Skips m) way input ps t.pairs) (sym (pairs_none i e)) t.unsplit;
+        unsplit =
+            subst (λ (ps : List Pair). AreUnsplit (Skips m) way input ps t.pairs) (sym (pairs_none i e)) t.unsplit;
         count = t.count;
       }
 
-  pub silent_skipped : (i : ℕ) → Skips m → is_split input.haystack (offset_in way input i) ≡ true → IsSilent way m input i (suc i)
+  pub silent_skipped :
+      (i : ℕ) → Skips m → is_split input.haystack (offset_in way input i) ≡ true → IsSilent way m input i (suc i)
   silent_skipped i s split k t =
       record { pairs = t.pairs; unsplit = reported_skipped i t.pairs s split t.unsplit; count = t.count }
 
@@ -132,7 +154,8 @@ module _ (way : Direction) (m : Machine) (input : Input) where
 
   -- no quit byte up to one unit more
   pub clean_more :
-      (k : ℕ) → HasReadNoQuit way m input k → ((byte : ℕ) → next (tape_in way input) k ≡ Some byte → is_quit m.quits byte ≡ false)
+      (k : ℕ) → HasReadNoQuit way m input k
+      → ((byte : ℕ) → next (tape_in way input) k ≡ Some byte → is_quit m.quits byte ≡ false)
       → HasReadNoQuit way m input (suc k)
   clean_more k before here j byte l e = go (cases_lt j k) where
     go : (j < k) ⊎ (k ≤ j) → is_quit m.quits byte ≡ false
@@ -159,13 +182,15 @@ module _ (way : Direction) (m : Machine) (input : Input) where
         clean = dead_clean (suc k) clean e;
         silent =
             silent_trans from k (suc (length (tape_in way input).bytes)) silent
-            (silent_trans k (suc k) (suc (length (tape_in way input).bytes)) (silent_none k (ap (λ (q : Powerset). q.patterns) e))
+            (silent_trans k (suc k) (suc (length (tape_in way input).bytes))
+            (silent_none k (ap (λ (q : Powerset). q.patterns) e))
             (silent_dead (suc k) (suc (length (tape_in way input).bytes)) (omega (arith, l)) e));
         stops = λ j l r. r.1 (dead_more way m input (suc k) j (omega (arith, l, u)) e);
       }
 
   pub finish_start :
-      (k : ℕ) → k ≤ suc (length (tape_in way input).bytes) → HasReadNoQuit way m input k → state_in way m input k ≡ dead → Finishes way m input k k
+      (k : ℕ) → k ≤ suc (length (tape_in way input).bytes) → HasReadNoQuit way m input k → state_in way m input k ≡ dead
+      → Finishes way m input k k
   finish_start k l clean e =
       record {
         more = omega arith;
@@ -176,18 +201,21 @@ module _ (way : Direction) (m : Machine) (input : Input) where
 
   pub finish_all :
       (k : ℕ) → k ≡ suc (length (tape_in way input).bytes) → HasReadNoQuit way m input k → WalkMeetsNoQuit way m input
-  finish_all k e clean j byte r h = let l : j ≤ length (tape_in way input).bytes = r.0 in clean j byte (omega (arith, l, e)) h
+  finish_all k e clean j byte r h =
+      let l : j ≤ length (tape_in way input).bytes = r.0 in clean j byte (omega (arith, l, e)) h
 
   pub finish_read :
       (from k : ℕ)
-      → k ≡ suc (length (tape_in way input).bytes) → from ≤ k → HasReadNoQuit way m input k → IsSilent way m input from k
+      → k ≡ suc (length (tape_in way input).bytes) → from ≤ k → HasReadNoQuit way m input k
+      → IsSilent way m input from k
       → Finishes way m input from k
   finish_read from k e l clean silent =
       record {
         more = l;
         clean = finish_all k e clean;
         silent = subst (IsSilent way m input from) e silent;
-        stops = λ j more r. absurd (let few : j ≤ length (tape_in way input).bytes = r.0 in omega (arith, few, more, e));
+        stops =
+            λ j more r. absurd (let few : j ≤ length (tape_in way input).bytes = r.0 in omega (arith, few, more, e));
       }
 
   -- one step of a walk that reports nothing
@@ -211,21 +239,35 @@ module _ (way : Direction) (m : Machine) (input : Input) where
   pairs_begin : (i n : ℕ) → i ≤ n → Begins (pairs_reported_in way m input i) (pairs_reported_in way m input n)
   pairs_begin i zero l =
       let z : i ≡ 0 = omega (arith, l) in
-      record { rest = []; joined = ap (pairs_reported_in way m input) (sym z) ∙ sym (join_none (pairs_reported_in way m input i)) }
+      record {
+        rest = [];
+        joined = ap (pairs_reported_in way m input) (sym z)
+            ∙ sym (join_none (pairs_reported_in way m input i));
+      }
   pairs_begin i (suc n) l = go (λ more. pairs_begin i n more) (eq-or-lt_of_le l) where
     go :
         (i ≤ n → Begins (pairs_reported_in way m input i) (pairs_reported_in way m input n)) → (i ≡ suc n) ⊎ (i < suc n)
         → Begins (pairs_reported_in way m input i) (pairs_reported_in way m input (suc n))
-    go again (inl same) = record { rest = []; joined = ap (pairs_reported_in way m input) (sym same) ∙ sym (join_none (pairs_reported_in way m input i)) }
+    go again (inl same) =
+        record {
+          rest = [];
+          joined = ap (pairs_reported_in way m input) (sym same)
+              ∙ sym (join_none (pairs_reported_in way m input i));
+        }
     go again (inr less) =
-        let b : Begins (pairs_reported_in way m input i) (pairs_reported_in way m input n) = again (omega (arith, less)) in
+        let b : Begins (pairs_reported_in way m input i) (pairs_reported_in way m input n) =
+        again (omega (arith, less)) in
         record {
           rest = b.rest ++ at_place n (at n);
-          joined = pairs_more n ∙ (ap (λ (zs : List Pair). zs ++ at_place n (at n)) b.joined ∙ join_twice (pairs_reported_in way m input i) b.rest (at_place n (at n)));
+          joined =
+              pairs_more n
+              ∙ (ap (λ (zs : List Pair). zs ++ at_place n (at n)) b.joined
+              ∙ join_twice (pairs_reported_in way m input i) b.rest (at_place n (at n)));
         }
 
   unsplit_begin :
-      (xs ys a b : List Pair) → Begins xs ys → AreUnsplit (Skips m) way input xs a → AreUnsplit (Skips m) way input ys b → Begins a b
+      (xs ys a b : List Pair) → Begins xs ys → AreUnsplit (Skips m) way input xs a → AreUnsplit (Skips m) way input ys b
+      → Begins a b
   unsplit_begin xs ys a b j (SkipsSplit s e) (SkipsSplit s' f) =
       record {
         rest = without_split input.haystack (with_offsets way input j.rest);
@@ -242,7 +284,8 @@ module _ (way : Direction) (m : Machine) (input : Input) where
         rest = with_offsets way input j.rest;
         joined =
             f ∙ (ap (with_offsets way input) j.joined
-            ∙ (offsets_join way input xs j.rest ∙ ap (λ (zs : List Pair). zs ++ with_offsets way input j.rest) (sym e)));
+            ∙ (offsets_join way input xs j.rest
+            ∙ ap (λ (zs : List Pair). zs ++ with_offsets way input j.rest) (sym e)));
       }
 
   -- the whole list begins with what fewer units report
@@ -253,19 +296,24 @@ module _ (way : Direction) (m : Machine) (input : Input) where
   walked_begin i a b s l u (WalksNoSpan done e) = absurd (omega (arith, s, done))
   walked_begin i a b s l u (WalksSpan undone pairs reported v) =
       unsplit_begin (pairs_reported_in way m input i) pairs a b
-      (subst (λ (zs : List Pair). Begins (pairs_reported_in way m input i) zs) (sym reported) (pairs_begin i (suc (length (tape_in way input).bytes)) l)) u v
+      (subst (λ (zs : List Pair). Begins (pairs_reported_in way m input i) zs) (sym reported)
+      (pairs_begin i (suc (length (tape_in way input).bytes)) l)) u v
 
   -- what all units report is the whole list
   pub walked_all :
       (a : List Pair) → input.start ≤ input.end
-      → AreUnsplit (Skips m) way input (pairs_reported_in way m input (suc (length (tape_in way input).bytes))) a → AreWalked way m input a
+      → AreUnsplit (Skips m) way input (pairs_reported_in way m input (suc (length (tape_in way input).bytes))) a
+      → AreWalked way m input a
   walked_all a s u = WalksSpan s (pairs_reported_in way m input (suc (length (tape_in way input).bytes))) refl u
 
   -- more units report no fewer pairs
   pub reported_rises : (i n a b : ℕ) → i ≤ n → HasReportedBy way m input i a → HasReportedBy way m input n b → a ≤ b
   reported_rises i n a b l t u =
-      let more : Begins t.pairs u.pairs = unsplit_begin (pairs_reported_in way m input i) (pairs_reported_in way m input n) t.pairs u.pairs (pairs_begin i n l) t.unsplit u.unsplit in
-      let long : length u.pairs ≡ length t.pairs + length more.rest = ap (λ (zs : List Pair). length zs) more.joined ∙ length-append t.pairs more.rest in
+      let more : Begins t.pairs u.pairs =
+      unsplit_begin (pairs_reported_in way m input i) (pairs_reported_in way m input n) t.pairs u.pairs
+      (pairs_begin i n l) t.unsplit u.unsplit in
+      let long : length u.pairs ≡ length t.pairs + length more.rest =
+      ap (λ (zs : List Pair). length zs) more.joined ∙ length-append t.pairs more.rest in
       omega (arith, long, t.count, u.count)
 
 -- the pair at an index

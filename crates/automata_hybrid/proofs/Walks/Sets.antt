@@ -1,7 +1,7 @@
 -- The patterns that a walk puts into a set.
 use Rattle.std.proofs.Common.{ℕ, zero, suc, ◌≡◌, ◌<◌, ◌≤◌, ◌+◌, ◌-◌, ◌*◌, ◌⊎◌, ◌↔◌, inl, inr, Bool, true, false, List}
-use Rattle.std.proofs.Common.{[], ◌∷◌, length, take, set, Option, Some, None, refl, sym, ap, ◌∙◌, ◌++◌, subst}
-use Rattle.std.proofs.Common.{arith, length-set}
+use Rattle.std.proofs.Common.{[], ◌∷◌, length, take, set, Option, Some, None, refl, sym, ap, ◌∙◌, ◌++◌, subst, arith}
+use Rattle.std.proofs.Common.{length-set}
 use Rattle.std.proofs.lemmas.Bool.{cases_eq}
 use Rattle.std.proofs.lemmas.List.{get_or-set_other, get_or-set_same}
 use Rattle.automata_base.specs.Answers.Answers.{ArePatterns, ArePatternsFound, HasPattern, IsInput, first_alone}
@@ -23,11 +23,9 @@ use Rattle.automata_hybrid.specs.Machines.Machine.{Machine, engine}
 use Rattle.automata_base.specs.Powersets.Powerset.{Powerset, cost}
 use Rattle.automata_hybrid.specs.Walks.Progress.{IsJoined, IsJoinedAfter}
 use Rattle.automata_hybrid.specs.Searches.Passes.{tape_in}
-use Rattle.automata_hybrid.specs.Walks.Answers.{AreWalked, HasReported, HasReportedAt}
-use Rattle.automata_hybrid.specs.Private.Walks.Answers.{GoesOn}
-use Rattle.automata_hybrid.specs.Walks.Answers.{ReportsNext, half_nth}
+use Rattle.automata_hybrid.specs.Walks.Answers.{AreWalked, HasReported, HasReportedAt, ReportsNext, half_nth}
+use Rattle.automata_hybrid.specs.Private.Walks.Answers.{GoesOn, FindsNone, ReadsMore, ReportsOneMore}
 use Rattle.automata_hybrid.specs.Walks.State.{At, Ended, Fresh, Stage, Walk, fresh_walk}
-use Rattle.automata_hybrid.specs.Private.Walks.Answers.{FindsNone, ReadsMore, ReportsOneMore}
 use Rattle.automata_hybrid.proofs.Searches.PassState.{false_true}
 use Rattle.automata_hybrid.proofs.Walks.Reports.{reported_rises}
 use Rattle.automata_hybrid.proofs.Searches.Directions.{units_in}
@@ -92,14 +90,18 @@ insert_in xs i p = (λ h. there (in_flag (set xs i true) p h) (cases_eq p i), λ
     back : In p (members xs) ⊎ ((p < length xs) × (p ≡ i)) → (p ≡ i) ⊎ (p ≡ i → ⊥) → In p (members (set xs i true))
     back (inl h) (inl same) =
         let l : p < length xs = inside xs p (in_flag xs p h) in
-        flag_in (set xs i true) p (ap (λ n. has (set xs i true) n) same ∙ get_or-set_same xs i true false (omega (arith, l, same)))
+        flag_in (set xs i true) p
+        (ap (λ n. has (set xs i true) n) same ∙ get_or-set_same xs i true false (omega (arith, l, same)))
     back (inl h) (inr other) = flag_in (set xs i true) p (get_or-set_other xs i p true false other ∙ in_flag xs p h)
-    back (inr (l, e)) c = flag_in (set xs i true) p (ap (λ n. has (set xs i true) n) e ∙ get_or-set_same xs i true false (omega (arith, l, e)))
+    back (inr (l, e)) c =
+        flag_in (set xs i true) p
+        (ap (λ n. has (set xs i true) n) e ∙ get_or-set_same xs i true false (omega (arith, l, e)))
 
 -- the patterns of one pair more
 more_pattern :
     (pairs : List Pair) (k p : ℕ) (half : HalfMatch)
-    → half_nth pairs k ≡ Some half → HasPattern p (take (suc k) pairs) ↔ (HasPattern p (take k pairs) ⊎ (p ≡ half.pattern))
+    → half_nth pairs k ≡ Some half
+    → HasPattern p (take (suc k) pairs) ↔ (HasPattern p (take k pairs) ⊎ (p ≡ half.pattern))
 more_pattern [] k p half e = absurd (cc)
 more_pattern (x ∷ xs) zero p half e =
     let same : x.pattern ≡ half.pattern = cc in
@@ -112,7 +114,8 @@ more_pattern (x ∷ xs) zero p half e =
     last : ⊥ ⊎ (p ≡ half.pattern) → x.pattern ≡ half.pattern → (p ≡ x.pattern) ⊎ HasPattern p (take 0 xs)
     last (inl h) same = absurd h
     last (inr f) same = inl (f ∙ sym same)
-more_pattern (x ∷ xs) (suc k) p half e = (λ h. first h (more_pattern xs k p half e), λ h. last h (more_pattern xs k p half e))
+more_pattern (x ∷ xs) (suc k) p half e =
+    (λ h. first h (more_pattern xs k p half e), λ h. last h (more_pattern xs k p half e))
   where
     first :
         (p ≡ x.pattern) ⊎ HasPattern p (take (suc k) xs)
@@ -120,7 +123,9 @@ more_pattern (x ∷ xs) (suc k) p half e = (λ h. first h (more_pattern xs k p h
         → ((p ≡ x.pattern) ⊎ HasPattern p (take k xs)) ⊎ (p ≡ half.pattern)
     first (inl f) again = inl (inl f)
     first (inr h) again = go (again.0 h) where
-      go : HasPattern p (take k xs) ⊎ (p ≡ half.pattern) → ((p ≡ x.pattern) ⊎ HasPattern p (take k xs)) ⊎ (p ≡ half.pattern)
+      go :
+          HasPattern p (take k xs) ⊎ (p ≡ half.pattern) → ((p ≡ x.pattern) ⊎ HasPattern p (take k xs))
+          ⊎ (p ≡ half.pattern)
       go (inl g) = inl (inr g)
       go (inr g) = inr g
 
@@ -165,7 +170,8 @@ lacking (true ∷ xs) j full =
     let rest : IsLacking xs = lacking xs (suc j) (λ e. full (ap suc e)) in
     record { pattern = suc rest.pattern; below = omega (arith, rest.below); absent = rest.absent }
 
--- a set with the patterns of the first pairs of a walk, as many as the walk has reported; an earliest search goes on with none
+-- a set with the patterns of the first pairs of a walk, as many as the walk has reported; an earliest search goes on
+-- with none
 pub record Joins (m : Machine) (input : Input) (walk : Walk) (old new : List Bool) : Type 0 where
   pub k : ℕ
   pub reported : HasReported Forward m input walk k
@@ -181,7 +187,8 @@ joined_none xs p = (λ h. inl h, λ h. go h) where
   go (inr (l, h)) = absurd h
 
 module _ (m : Machine) (input : Input) (old : List Bool) where
-  module _ (walk next : Walk) (new : List Bool) (j : Joins m input walk old new) (reports : ReportsNext Forward m input walk next)
+  module _ (walk next : Walk) (new : List Bool) (j : Joins m input walk old new)
+      (reports : ReportsNext Forward m input walk next)
       (list : (pairs : List Pair) × AreWalked Forward m input pairs) where
     abbrev pairs : List Pair
     pairs = list.0
@@ -190,7 +197,8 @@ module _ (m : Machine) (input : Input) (old : List Bool) where
     found = ((reports j.k j.reported).1 pairs list.1).0
 
     one_more :
-        (half : HalfMatch) (ps : List Pair) → half_nth ps j.k ≡ Some half → IsJoined (take j.k ps) old new → IsJoined (take (suc j.k) ps) old (set new half.pattern true)
+        (half : HalfMatch) (ps : List Pair) → half_nth ps j.k ≡ Some half → IsJoined (take j.k ps) old new
+        → IsJoined (take (suc j.k) ps) old (set new half.pattern true)
     one_more half ps e before p = (λ h. there ((insert_in new half.pattern p).0 h), λ h. back h)
       where
         more : HasPattern p (take (suc j.k) ps) ↔ (HasPattern p (take j.k ps) ⊎ (p ≡ half.pattern))
@@ -208,7 +216,8 @@ module _ (m : Machine) (input : Input) (old : List Bool) where
         there (inr (l, e)) = inr (omega (arith, l, j.capacity), more.1 (inr e))
 
         back :
-            In p (members old) ⊎ ((p < length old) × HasPattern p (take (suc j.k) ps)) → In p (members (set new half.pattern true))
+            In p (members old) ⊎ ((p < length old) × HasPattern p (take (suc j.k) ps))
+            → In p (members (set new half.pattern true))
         back (inl h) = (insert_in new half.pattern p).1 (inl ((before p).1 (inl h)))
         back (inr (l, h)) = go (more.0 h) where
           go : HasPattern p (take j.k ps) ⊎ (p ≡ half.pattern) → In p (members (set new half.pattern true))
@@ -216,7 +225,8 @@ module _ (m : Machine) (input : Input) (old : List Bool) where
           go (inr g) = (insert_in new half.pattern p).1 (inr (omega (arith, l, j.capacity), g))
 
     -- no match is left
-    pub joins_all : next.found ≡ None → ArePatterns (AreWalked Forward m input) input (length old) (members old) (members new)
+    pub joins_all :
+        next.found ≡ None → ArePatterns (AreWalked Forward m input) input (length old) (members old) (members new)
     joins_all e = (pairs, list.1, go input.earliest refl)
       where
         whole : take j.k pairs ≡ pairs
@@ -230,12 +240,16 @@ module _ (m : Machine) (input : Input) (old : List Bool) where
 
         go :
             (b : Bool) → input.earliest ≡ b
-            → (p : ℕ) → In p (members new) ↔ (In p (members old) ⊎ ((p < length old) × HasPattern p (first_alone b pairs)))
-        go false s p = subst (λ (ps : List Pair). In p (members new) ↔ (In p (members old) ⊎ ((p < length old) × HasPattern p ps))) (sym (all_of pairs)) (joined p)
+            → (p : ℕ)
+            → In p (members new) ↔ (In p (members old) ⊎ ((p < length old) × HasPattern p (first_alone b pairs)))
+        go false s p =
+            subst (λ (ps : List Pair). In p (members new) ↔ (In p (members old) ⊎ ((p < length old) × HasPattern p ps)))
+            (sym (all_of pairs)) (joined p)
         go true s p =
             let z : pairs ≡ [] = none (j.first s) in
             let same : pairs ≡ first_alone true pairs = z ∙ ap (first_alone true) (sym z) in
-            subst (λ (ps : List Pair). In p (members new) ↔ (In p (members old) ⊎ ((p < length old) × HasPattern p ps))) same (joined p)
+            subst (λ (ps : List Pair). In p (members new) ↔ (In p (members old) ⊎ ((p < length old) × HasPattern p ps)))
+            same (joined p)
 
     -- one is, and its pattern is put in
     module _ (half : HalfMatch) (is_found : next.found ≡ Some half) where
@@ -248,16 +262,23 @@ module _ (m : Machine) (input : Input) (old : List Bool) where
       -- a full set has nothing to gain
       pub joins_full :
           length (members (set new half.pattern true)) ≡ length (set new half.pattern true)
-          → ArePatterns (AreWalked Forward m input) input (length old) (members old) (members (set new half.pattern true))
+          → ArePatterns (AreWalked Forward m input) input (length old) (members old)
+          (members (set new half.pattern true))
       joins_full full = (pairs, list.1, λ p. (λ h. there p ((joined_more p).0 h) input.earliest refl, λ h. back p h))
         where
           there :
               (p : ℕ) → In p (members old) ⊎ ((p < length old) × HasPattern p (take (suc j.k) pairs))
-              → (b : Bool) → input.earliest ≡ b → In p (members old) ⊎ ((p < length old) × HasPattern p (first_alone b pairs))
+              → (b : Bool) → input.earliest ≡ b → In p (members old)
+              ⊎ ((p < length old) × HasPattern p (first_alone b pairs))
           there p (inl h) b s = inl h
-          there p (inr (l, h)) false s = inr (l, subst (HasPattern p) (sym (all_of pairs)) (taken_pattern pairs (suc j.k) p h))
+          there p (inr (l, h)) false s =
+              inr (l, subst (HasPattern p) (sym (all_of pairs)) (taken_pattern pairs (suc j.k) p h))
           there p (inr (l, h)) true s =
-              inr (l, subst (HasPattern p) (sym (one_of pairs)) (subst (λ n. HasPattern p (take (suc n) pairs)) (j.first s) h))
+              inr (
+                l,
+                subst (HasPattern p) (sym (one_of pairs))
+                    (subst (λ n. HasPattern p (take (suc n) pairs)) (j.first s) h),
+              )
 
           back :
               (p : ℕ) → In p (members old) ⊎ ((p < length old) × HasPattern p (first_alone input.earliest pairs))
@@ -265,24 +286,36 @@ module _ (m : Machine) (input : Input) (old : List Bool) where
           back p (inl h) = (joined_more p).1 (inl h)
           back p (inr (l, h)) =
               flag_in (set new half.pattern true) p
-              (full_at (set new half.pattern true) 0 p full (omega (arith, l, j.capacity, length-set new half.pattern true)))
+              (full_at (set new half.pattern true) 0 p full
+              (omega (arith, l, j.capacity, length-set new half.pattern true)))
 
       -- an earliest search takes the first pair alone
       pub joins_first :
-          input.earliest ≡ true → ArePatterns (AreWalked Forward m input) input (length old) (members old) (members (set new half.pattern true))
+          input.earliest ≡ true
+          → ArePatterns (AreWalked Forward m input) input (length old) (members old)
+          (members (set new half.pattern true))
       joins_first e =
           let one : take (suc j.k) pairs ≡ first_alone input.earliest pairs =
-          ap (λ n. take (suc n) pairs) (j.first e) ∙ (sym (one_of pairs) ∙ ap (λ b. first_alone b pairs) (sym e)) in
-          (pairs, list.1, λ p. subst (λ (ps : List Pair). In p (members (set new half.pattern true)) ↔ (In p (members old) ⊎ ((p < length old) × HasPattern p ps))) one (joined_more p))
+          ap (λ n. take (suc n) pairs) (j.first e) ∙ (sym (one_of pairs) ∙ ap (λ b. first_alone b pairs) (sym e)) in (
+            pairs,
+            list.1,
+            λ p. subst
+                (λ (ps : List Pair). In p (members (set new half.pattern true))
+                ↔ (In p (members old) ⊎ ((p < length old) × HasPattern p ps))) one (joined_more p),
+          )
 
       -- and any other goes on
-      pub joins_more : input.earliest ≡ false → IsLacking (set new half.pattern true) → Joins m input next old (set new half.pattern true)
+      pub joins_more :
+          input.earliest ≡ false → IsLacking (set new half.pattern true)
+          → Joins m input next old (set new half.pattern true)
       joins_more e lacks =
           record {
             k = suc j.k;
             reported = (reports j.k j.reported).0;
             first = λ f. absurd (false_true (sym e ∙ f));
-            joined = λ ps walked. one_more half ps (sym (((reports j.k j.reported).1 ps walked).0) ∙ is_found) (j.joined ps walked);
+            joined =
+                λ ps walked. one_more half ps (sym (((reports j.k j.reported).1 ps walked).0) ∙ is_found)
+                (j.joined ps walked);
             capacity = length-set new half.pattern true ∙ j.capacity;
             open_at = inr lacks;
           }
@@ -326,10 +359,13 @@ module _ (m : Machine) (input : Input) (inside : input.end ≤ length input.hays
 
   pub stands_well : (w : Walk) (k : ℕ) → HasReported Forward m input w (suc k) → (w.stage ≡ Ended → ⊥) → StandsWell w
   stands_well w k t on = go w.stage refl t on where
-    go : (s : Stage) → w.stage ≡ s → HasReportedAt Forward m input s w.units w.reported (suc k) → (s ≡ Ended → ⊥) → StandsWell w
+    go :
+        (s : Stage) → w.stage ≡ s → HasReportedAt Forward m input s w.units w.reported (suc k) → (s ≡ Ended → ⊥)
+        → StandsWell w
     go Fresh e (none, first) on = absurd (omega (arith, none))
     go (At q) e s on =
-        let all : input.end - input.start ≡ length (tape_in Forward input).bytes = units_in Forward input s.undone inside in
+        let all : input.end - input.start ≡ length (tape_in Forward input).bytes =
+        units_in Forward input s.undone inside in
         record {
           units = omega (arith, s.one_after, s.within, all);
           reported = omega (arith, s.few, few_patterns q s.row.cheap);
@@ -338,7 +374,8 @@ module _ (m : Machine) (input : Input) (inside : input.end ≤ length input.hays
 
   pub steps_less :
       (old new : Walk) → StandsWell new
-      → (old.units < new.units) ⊎ ((new.units ≡ old.units) × (new.reported ≡ suc old.reported)) → steps_left m input new < steps_left m input old
+      → (old.units < new.units) ⊎ ((new.units ≡ old.units) × (new.reported ≡ suc old.reported))
+      → steps_left m input new < steps_left m input old
   steps_less old new s (inl l) =
       let x : ℕ = input.end - input.start + 2 - new.units in
       let y : ℕ = input.end - input.start + 2 - old.units in
@@ -347,8 +384,10 @@ module _ (m : Machine) (input : Input) (inside : input.end ≤ length input.hays
       let one : (x + 1) * (m.greatest + 1) ≡ x * (m.greatest + 1) + (m.greatest + 1) = grind arith in
       omega (arith, times, one)
   steps_less old new s (inr (same, more)) =
-      let units : input.end - input.start + 2 - new.units ≡ input.end - input.start + 2 - old.units = ap (λ n. input.end - input.start + 2 - n) same in
-      let times : (input.end - input.start + 2 - new.units) * (m.greatest + 1) ≡ (input.end - input.start + 2 - old.units) * (m.greatest + 1) = ap (λ n. n * (m.greatest + 1)) units in
+      let units : input.end - input.start + 2 - new.units ≡ input.end - input.start + 2 - old.units =
+      ap (λ n. input.end - input.start + 2 - n) same in
+      let times : (input.end - input.start + 2 - new.units) * (m.greatest + 1)
+      ≡ (input.end - input.start + 2 - old.units) * (m.greatest + 1) = ap (λ n. n * (m.greatest + 1)) units in
       omega (arith, times, more, s.reported)
 
 -- what the walk reports is what the ordered paths do, where the NFA keeps its cycles
@@ -365,7 +404,8 @@ none_half half e = cc
 pub on_found :
     (old new : Walk) (half : HalfMatch)
     → GoesOn old new → new.found ≡ Some half
-    → (new.stage ≡ Ended → ⊥) × ((old.units < new.units) ⊎ ((new.units ≡ old.units) × (new.reported ≡ suc old.reported)))
+    → (new.stage ≡ Ended → ⊥)
+    × ((old.units < new.units) ⊎ ((new.units ≡ old.units) × (new.reported ≡ suc old.reported)))
 on_found old new half (FindsNone none) e = absurd (none_half half (sym none ∙ e))
 on_found old new half (ReadsMore on more) e = (on, inl more)
 on_found old new half (ReportsOneMore on same more) e = (on, inr (same, more))
@@ -375,11 +415,17 @@ pub reported_one :
     (m : Machine) (input : Input) (w : Walk) (a b : ℕ)
     → (w.stage ≡ Ended → ⊥) → HasReported Forward m input w a → HasReported Forward m input w b → a ≡ b
 reported_one m input w a b on t u = go w.stage on t u where
-  go : (s : Stage) → (s ≡ Ended → ⊥) → HasReportedAt Forward m input s w.units w.reported a → HasReportedAt Forward m input s w.units w.reported b → a ≡ b
+  go :
+      (s : Stage) → (s ≡ Ended → ⊥) → HasReportedAt Forward m input s w.units w.reported a
+      → HasReportedAt Forward m input s w.units w.reported b → a ≡ b
   go Fresh on (t, x) (u, y) = t ∙ sym u
   go (At q) on t u =
-      let up : t.earlier ≤ u.earlier = reported_rises Forward m input t.place u.place t.earlier u.earlier (omega (arith, t.one_after, u.one_after)) t.before u.before in
-      let down : u.earlier ≤ t.earlier = reported_rises Forward m input u.place t.place u.earlier t.earlier (omega (arith, t.one_after, u.one_after)) u.before t.before in
+      let up : t.earlier ≤ u.earlier =
+      reported_rises Forward m input t.place u.place t.earlier u.earlier (omega (arith, t.one_after, u.one_after))
+      t.before u.before in
+      let down : u.earlier ≤ t.earlier =
+      reported_rises Forward m input u.place t.place u.earlier t.earlier (omega (arith, t.one_after, u.one_after))
+      u.before t.before in
       omega (arith, up, down, t.count, u.count)
   go Ended on t u = absurd (on refl)
 
@@ -392,7 +438,9 @@ pub reported_undone :
     (m : Machine) (input : Input) (w : Walk) (k : ℕ)
     → HasReported Forward m input w (suc k) → (w.stage ≡ Ended → ⊥) → input.start ≤ input.end
 reported_undone m input w k t on = go w.stage t on where
-  go : (s : Stage) → HasReportedAt Forward m input s w.units w.reported (suc k) → (s ≡ Ended → ⊥) → input.start ≤ input.end
+  go :
+      (s : Stage) → HasReportedAt Forward m input s w.units w.reported (suc k) → (s ≡ Ended → ⊥)
+      → input.start ≤ input.end
   go Fresh (none, first) on = absurd (omega (arith, none))
   go (At q) s on = s.undone
   go Ended t on = absurd (on refl)
@@ -409,7 +457,8 @@ open_after m input walk old new j pairs walked = go j.open_at input.earliest ref
   go (inl z) b e = none z
   go (inr lacks) true e = none (j.first e)
   go (inr lacks) false e =
-      let absent : In lacks.pattern (members new) → ⊥ = (λ i. false_true (sym lacks.absent ∙ in_flag new lacks.pattern i)) in
+      let absent : In lacks.pattern (members new) → ⊥ =
+      (λ i. false_true (sym lacks.absent ∙ in_flag new lacks.pattern i)) in
       let below : lacks.pattern < length old = omega (arith, lacks.below, j.capacity) in
       LacksOne e lacks.pattern below
       (λ i. absent ((j.joined pairs walked lacks.pattern).1 (inl i)))

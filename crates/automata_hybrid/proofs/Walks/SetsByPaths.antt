@@ -18,7 +18,8 @@ use Rattle.automata_hybrid.specs.Walks.SetsByPaths.{MatchesIn, SetsHaveMatching}
 use Rattle.automata_hybrid.specs.Machines.Machine.{Machine}
 use Rattle.automata_hybrid.specs.Walks.Contracts.{JoinsReported}
 
-pair_of : (p : ℕ) (pairs : List Pair) → HasPattern p pairs → (at : ℕ) × InPairs (record { pattern = p; place = at }) pairs
+pair_of :
+    (p : ℕ) (pairs : List Pair) → HasPattern p pairs → (at : ℕ) × InPairs (record { pattern = p; place = at }) pairs
 pair_of p [] h = elim h [ ]
 pair_of p (pair ∷ pairs) (inl e) = (pair.place, inl (ap (λ v. record { pattern = v; place = pair.place }) e))
 pair_of p (pair ∷ pairs) (inr h) = let rest = pair_of p pairs h in (rest.0, inr rest.1)
@@ -33,48 +34,67 @@ all_pairs earliest [] e = refl
 all_pairs false (pair ∷ pairs) e = refl
 all_pairs true (pair ∷ pairs) e = absurd (cc)
 
-module _ (m : Machine) (all : AllPairsAreReported m.nfa) (reported : WalksAreReported m.nfa) (within : WalkLiesWithin m.nfa) (input : Input)
-    (start : ℕ) (starts : mode_start m.nfa input.anchored ≡ Some start) (bytes : IsInput input) (undone : input.start ≤ input.end) where
+module _ (m : Machine) (all : AllPairsAreReported m.nfa) (reported : WalksAreReported m.nfa)
+    (within : WalkLiesWithin m.nfa) (input : Input)
+    (start : ℕ) (starts : mode_start m.nfa input.anchored ≡ Some start) (bytes : IsInput input)
+    (undone : input.start ≤ input.end) where
   own : (p : ℕ) → MatchesIn m input start p → p < length m.nfa.start_pattern
   own p matching =
       let at = matching.at in
       let walk = reported Forward KindAll input in
-      let inside : InPairs (record { pattern = p; place = at }) walk.0 = (all Forward input walk.0 start bytes undone starts walk.1 (record { pattern = p; place = at })).1 matching.accepted in
+      let inside : InPairs (record { pattern = p; place = at }) walk.0 =
+      (all Forward input walk.0 start bytes undone starts walk.1 (record { pattern = p; place = at })).1
+      matching.accepted in
       (within Forward KindAll input walk.0 (record { pattern = p; place = at }) bytes.1 walk.1 inside).0
 
   module _ (pairs : List Pair) (walked : AreReported Forward m.nfa KindAll input pairs) where
     matches : (p : ℕ) → HasPattern p pairs → MatchesIn m input start p
     matches p h =
         let inside = pair_of p pairs h in
-        record { at = inside.0; accepted = (all Forward input pairs start bytes undone starts walked (record { pattern = p; place = inside.0 })).0 inside.1 }
+        record {
+          at = inside.0;
+          accepted =
+              (all Forward input pairs start bytes undone starts walked (record { pattern = p; place = inside.0 })).0
+              inside.1;
+        }
 
     has_all : (p : ℕ) → MatchesIn m input start p → HasPattern p pairs
     has_all p matching =
-        has_pair p matching.at pairs ((all Forward input pairs start bytes undone starts walked (record { pattern = p; place = matching.at })).1 matching.accepted)
+        has_pair p matching.at pairs
+        ((all Forward input pairs start bytes undone starts walked (record { pattern = p; place = matching.at })).1
+        matching.accepted)
 
   sets :
       (old new : List Bool) → match_kind_of m.config ≡ KindAll → input.earliest ≡ false → JoinsReported m input old new
       → (p : ℕ) → In p (members new) ↔ (In p (members old) ⊎ ((p < length old) × MatchesIn m input start p))
   sets old new kind full found p =
-      let walked : AreReported Forward m.nfa KindAll input found.0 = subst (λ (k : MatchKind). AreReported Forward m.nfa k input found.0) kind found.1 in
+      let walked : AreReported Forward m.nfa KindAll input found.0 =
+      subst (λ (k : MatchKind). AreReported Forward m.nfa k input found.0) kind found.1 in
       let same : first_alone input.earliest found.0 ≡ found.0 = all_pairs input.earliest found.0 full in
       (λ h. forth found.0 walked same ((found.2 p).0 h), λ h. (found.2 p).1 (back found.0 walked same h)) where
         forth :
-            (pairs : List Pair) → AreReported Forward m.nfa KindAll input pairs → first_alone input.earliest pairs ≡ pairs
+            (pairs : List Pair) → AreReported Forward m.nfa KindAll input pairs
+            → first_alone input.earliest pairs ≡ pairs
             → (In p (members old) ⊎ ((p < length old) × HasPattern p (first_alone input.earliest pairs)))
             → In p (members old) ⊎ ((p < length old) × MatchesIn m input start p)
         forth pairs walked same (inl h) = inl h
         forth pairs walked same (inr (l, h)) = inr (l, matches pairs walked p (subst (HasPattern p) same h))
 
         back :
-            (pairs : List Pair) → AreReported Forward m.nfa KindAll input pairs → first_alone input.earliest pairs ≡ pairs
+            (pairs : List Pair) → AreReported Forward m.nfa KindAll input pairs
+            → first_alone input.earliest pairs ≡ pairs
             → (In p (members old) ⊎ ((p < length old) × MatchesIn m input start p))
             → In p (members old) ⊎ ((p < length old) × HasPattern p (first_alone input.earliest pairs))
         back pairs walked same (inl h) = inl h
         back pairs walked same (inr (l, h)) = inr (l, subst (HasPattern p) (sym same) (has_all pairs walked p h))
 
-pub sets_have_matching : (m : Machine) → AllPairsAreReported m.nfa → WalksAreReported m.nfa → WalkLiesWithin m.nfa → SetsHaveMatching m
+pub sets_have_matching :
+    (m : Machine) → AllPairsAreReported m.nfa → WalksAreReported m.nfa → WalkLiesWithin m.nfa → SetsHaveMatching m
 sets_have_matching m all reported within = record {
-  sets = λ input start old new kind starts full bytes undone which. sets m all reported within input start starts bytes undone old new kind full which;
-  own = λ input start p starts bytes undone matching. own m all reported within input start starts bytes undone p matching;
+  sets =
+      λ input start old new kind starts full bytes undone which. sets m all reported within input start starts bytes
+      undone old new kind full which;
+  own =
+      λ input start p starts bytes undone matching. own m all reported within input start starts bytes undone p
+      matching;
 }

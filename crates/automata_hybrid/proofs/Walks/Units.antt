@@ -45,7 +45,8 @@ pub unit_result :
     → given_up_offset way input place ≡ at → Names old.store.table id (state_in way m input place)
     → IsRead m id unit quit_at at old new r → IsUnitResult way m input place old new r
 unit_result way m input place id quit_at at unit old new (Ok n) is first second named h =
-    let more = state_more way m input place ∙ ap (successor m.nfa (match_kind_of m.config) (state_in way m input place)) is in
+    let more =
+    state_more way m input place ∙ ap (successor m.nfa (match_kind_of m.config) (state_in way m input place)) is in
     record {
       leads = subst (λ q. Leads new.store.table n q) (sym more) (h.answer.named (state_in way m input place) named);
       clean = λ byte e. no_quit_unit m unit h.answer.clean byte (sym is ∙ e);
@@ -64,7 +65,8 @@ read_alive m id unit quit_at at old new (Err e) h = h.alive
 -- units before the last one that a walk came to report nothing
 arrival_silent :
     (way : Direction) (m : Machine) (t : Rows) (input : Input) (from : ℕ) (id : Option ℕ) (units k : ℕ)
-    → IsArrival way m t input from id units → from ≤ k → k < units → k ≤ length (tape_in way input).bytes → IsSilent way m input from k
+    → IsArrival way m t input from id units → from ≤ k → k < units → k ≤ length (tape_in way input).bytes
+    → IsSilent way m input from k
 arrival_silent way m t input from None units k a more less few =
     silent_before way m input from k (suc (length (tape_in way input).bytes)) more (omega (arith, few)) a.silent
 arrival_silent way m t input from (Some id) units k a more less few =

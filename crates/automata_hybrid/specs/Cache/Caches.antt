@@ -25,8 +25,8 @@ abbrev pub fresh_cache : Machine → CacheView
 fresh_cache m = record { store = fresh_store m; count = 0 }
 
 -- one more determinization
-abbrev pub counted : CacheView → CacheView
-counted c = record { store = c.store; count = c.count + 1 }
+abbrev pub counted_in_store : CacheView → CacheView
+counted_in_store c = record { store = c.store; count = c.count + 1 }
 
 -- with other states
 abbrev pub with_store : CacheView → Stored → CacheView

@@ -1,14 +1,16 @@
 -- What contracts see of the table: the rows of the states, and what their identifiers name.
-use Rattle.std.specs.Prelude.{◌≡◌, ℕ, ◌+◌, ◌*◌, ◌%◌, ◌<◌, ◌≤◌, ◌⊎◌, ◌↔◌, List, [], ◌∷◌, ◌++◌, length, Bool}
-use Rattle.std.specs.Prelude.{cond, nat_lt, Option, None, Some, replicate}
-use Rattle.automata_base.specs.Powersets.Powerset.{Powerset, cost}
+use Rattle.std.specs.Prelude.{◌≡◌, ℕ, ◌+◌, ◌*◌, ◌%◌, ◌<◌, ◌≤◌, ◌⊎◌, ◌↔◌, List, [], ◌∷◌, ◌++◌, length, Bool, cond}
+use Rattle.std.specs.Prelude.{nat_lt, Option, None, Some, replicate, ◌-◌, ◌/◌, slice_get}
+use Rattle.automata_base.specs.Powersets.Powerset.{Powerset, cost, dead}
 use Rattle.automata_base.specs.Powersets.Equal.{powerset_eq}
 use Rattle.automata_hybrid.specs.declared.cache.row.Row.{Row}
-use Rattle.automata_base.specs.Powersets.Powerset.{dead}
-use Rattle.automata_hybrid.specs.Cache.Ids.{tags, dead_id, quit_id, unknown_id, offset_limit}
-use Rattle.automata_hybrid.specs.Cache.Ids.{HasMatchTag}
+use Rattle.automata_hybrid.specs.Cache.Ids.{tags, dead_id, quit_id, unknown_id, offset_limit, HasMatchTag}
 use Rattle.automata_hybrid.specs.Machines.Machine.{Machine}
 use Rattle.automata_hybrid.specs.Machines.Reachable.{IsStateOf}
+
+-- the row that an ID names
+abbrev pub row_of : Rows → ℕ → Option Row
+row_of t id = slice_get t.rows ((id % offset_limit) / t.of.stride - 3)
 
 -- a state has patterns
 abbrev pub has_patterns : Powerset → Bool

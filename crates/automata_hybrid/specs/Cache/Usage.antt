@@ -1,8 +1,7 @@
 -- What a new row takes, and when too few bytes were searched.
-use Rattle.std.specs.Prelude.{ℕ, ◌+◌, ◌*◌, ◌<◌, ◌≤◌, length, Bool, true, false, cond, Option, None, Some}
-use Rattle.std.specs.Prelude.{sum_by, nat_lt}
-use Rattle.automata_base.specs.Powersets.Accounting.{cell_size, entry_size, fixed_rows_cost}
-use Rattle.automata_base.specs.Powersets.Accounting.{row_size}
+use Rattle.std.specs.Prelude.{ℕ, ◌+◌, ◌*◌, ◌<◌, ◌≤◌, length, Bool, true, false, cond, Option, None, Some, sum_by}
+use Rattle.std.specs.Prelude.{nat_lt}
+use Rattle.automata_base.specs.Powersets.Accounting.{cell_size, entry_size, fixed_rows_cost, row_size}
 use Rattle.automata_hybrid.specs.Cache.Ids.{offset_limit}
 use Rattle.automata_hybrid.specs.Machines.Machine.{Machine}
 use Rattle.automata_hybrid.specs.Cache.Table.{row_cost}

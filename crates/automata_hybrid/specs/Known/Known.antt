@@ -1,12 +1,11 @@
 -- What a cache knows: the states that have rows, and which transitions and start states are cached, without the IDs and
 -- cells in which it stands.
-use Rattle.std.specs.Prelude.{ℕ, ◌+◌, List, [], ◌∷◌, ◌++◌, Bool, false, cond, ◌||◌, fold, find}
-use Rattle.std.specs.Prelude.{Option, None, Some, is_some, option_and_then}
+use Rattle.std.specs.Prelude.{ℕ, ◌+◌, List, [], ◌∷◌, ◌++◌, Bool, false, cond, ◌||◌, fold, find, Option, None, Some}
+use Rattle.std.specs.Prelude.{is_some, option_and_then}
 use Rattle.automata_base.specs.Powersets.Equal.{powerset_eq}
 use Rattle.automata_base.specs.Powersets.Powerset.{Powerset, dead}
 use Rattle.automata_hybrid.specs.Cache.Progress.{progress_cleared, progress_finished, progress_started}
-use Rattle.automata_hybrid.specs.Cache.Progress.{progress_updated}
-use Rattle.automata_hybrid.specs.Cache.Progress.{saturated}
+use Rattle.automata_hybrid.specs.Cache.Progress.{progress_updated, saturated}
 use Rattle.automata_hybrid.specs.declared.cache.progress.Searched.{Searched}
 use Rattle.automata_hybrid.specs.declared.cache.row.Row.{Row}
 

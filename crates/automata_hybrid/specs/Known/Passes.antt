@@ -1,6 +1,6 @@
 -- What the passes of a search make of what its cache knows: their events, unit by unit, up to one that fails.
-use Rattle.std.specs.Prelude.{ℕ, zero, suc, ◌≡◌, ◌+◌, ◌-◌, true, false}
-use Rattle.std.specs.Prelude.{Option, None, Some, MatchOption, option_map, option_and_then}
+use Rattle.std.specs.Prelude.{ℕ, zero, suc, ◌≡◌, ◌+◌, ◌-◌, true, false, Option, None, Some, MatchOption, option_map}
+use Rattle.std.specs.Prelude.{option_and_then}
 use Rattle.automata_base.specs.Answers.Answers.{later, offset_in}
 use Rattle.automata_base.specs.Haystacks.Input.{Input}
 use Rattle.automata_base.specs.Paths.Paths.{next}

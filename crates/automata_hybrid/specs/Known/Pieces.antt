@@ -1,6 +1,6 @@
 -- What the calls of a search in pieces, and of a walk over pieces, make of what their cache knows.
-use Rattle.std.specs.Prelude.{ℕ, suc, ◌≡◌, ◌^◌, ◌≤◌, ◌+◌, ◌-◌, true, false, List, length}
-use Rattle.std.specs.Prelude.{Option, None, Some, MatchOption, option_map}
+use Rattle.std.specs.Prelude.{ℕ, suc, ◌≡◌, ◌^◌, ◌≤◌, ◌+◌, ◌-◌, true, false, List, length, Option, None, Some}
+use Rattle.std.specs.Prelude.{MatchOption, option_map}
 use Rattle.automata_base.specs.Haystacks.Input.{Input}
 use Rattle.automata_base.specs.Paths.Paths.{next as unit_at}
 use Rattle.automata_base.specs.Powersets.Powerset.{Powerset, dead}

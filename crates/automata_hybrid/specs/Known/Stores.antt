@@ -1,12 +1,11 @@
 -- What a cache knows, by its rows, its cells and its slots.
-use Rattle.std.specs.Prelude.{ℕ, map, Bool, false, cond, nat_eq, nat_lt, nat_le, ◌&&◌}
-use Rattle.std.specs.Prelude.{Option, None, Some, option_map, unwrap_or, slice_index}
+use Rattle.std.specs.Prelude.{ℕ, map, Bool, false, cond, nat_eq, nat_lt, nat_le, ◌&&◌, Option, None, Some, option_map}
+use Rattle.std.specs.Prelude.{unwrap_or, slice_index}
 use Rattle.automata_base.specs.Powersets.Powerset.{Powerset, dead}
 use Rattle.automata_hybrid.specs.Cache.Caches.{CacheView}
-use Rattle.automata_hybrid.specs.Cache.Clears.{row_of}
+use Rattle.automata_hybrid.specs.Cache.Table.{row_of, Rows, id_of}
 use Rattle.automata_hybrid.specs.Cache.Ids.{fixed_from, unknown_id}
 use Rattle.automata_hybrid.specs.Cache.Stores.{Stored, cell_of}
-use Rattle.automata_hybrid.specs.Cache.Table.{Rows, id_of}
 use Rattle.automata_hybrid.specs.Known.Known.{Known}
 use Rattle.automata_hybrid.specs.Machines.Machine.{Machine}
 use Rattle.automata_hybrid.specs.declared.cache.row.Row.{Row}

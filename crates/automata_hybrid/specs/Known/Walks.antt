@@ -1,6 +1,6 @@
 -- What the calls of a walk, and the search for a set of patterns, make of what their cache knows.
-use Rattle.std.specs.Prelude.{ℕ, zero, suc, ◌≡◌, ◌<◌, ◌+◌, ◌-◌, ◌⊎◌, Bool, true, false, List}
-use Rattle.std.specs.Prelude.{Option, None, Some, MatchOption, is_some, option_map}
+use Rattle.std.specs.Prelude.{ℕ, zero, suc, ◌≡◌, ◌<◌, ◌+◌, ◌-◌, ◌⊎◌, Bool, true, false, List, Option, None, Some}
+use Rattle.std.specs.Prelude.{MatchOption, is_some, option_map}
 use Rattle.automata_base.specs.Answers.Answers.{offset_in}
 use Rattle.automata_base.specs.Haystacks.Input.{Input}
 use Rattle.automata_base.specs.Paths.Paths.{next as unit_at}

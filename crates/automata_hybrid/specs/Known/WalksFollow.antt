@@ -1,6 +1,6 @@
 -- What follows of what the calls of a walk, and the search for a set of patterns, make of what their cache knows.
-use Rattle.std.specs.Prelude.{ℕ, suc, ◌≡◌, ◌+◌, ◌-◌, ◌<◌, ◌≤◌, ◌⊎◌, Bool, true, false, List, Option, Some}
-use Rattle.std.specs.Prelude.{IfNone, IfSome}
+use Rattle.std.specs.Prelude.{ℕ, suc, ◌≡◌, ◌+◌, ◌-◌, ◌<◌, ◌≤◌, ◌⊎◌, Bool, true, false, List, Option, Some, IfNone}
+use Rattle.std.specs.Prelude.{IfSome}
 use Rattle.automata_base.specs.Answers.Answers.{AreUnsplit}
 use Rattle.automata_base.specs.Haystacks.Input.{Input}
 use Rattle.automata_base.specs.Paths.Selections.{Pair}

@@ -1,6 +1,5 @@
 -- What contracts see of a lazy DFA, the units that it reads, and what each lazy DFA keeps.
-use Rattle.std.specs.Prelude.{ℕ, zero, suc, List, Bool, false, cond}
-use Rattle.std.specs.Prelude.{Option, None, Some, slice_set, replicate, ◌≡◌}
+use Rattle.std.specs.Prelude.{ℕ, zero, suc, List, Bool, false, cond, Option, None, Some, slice_set, replicate, ◌≡◌}
 use Rattle.automata_base.specs.Nfas.Nodes.{Automaton}
 use Rattle.automata_base.specs.Nfas.Engines.{Engine, engine_of}
 use Rattle.automata_base.specs.ByteClasses.Classes.{class_in, eoi_class, is_quit, stride_of}

@@ -27,6 +27,7 @@ whole_input haystack mode earliest =
 -- if the pieces are the whole haystack, the answer at its end is what `try_search_fwd` returns for it
 abbrev pub PiecesAreWhole : Type 0
 PiecesAreWhole =
-    (m : Machine) (mode : Anchored) (earliest : Bool) (pieces : List (List ℕ)) (p : PiecesView) (half : Option HalfMatch)
+    (m : Machine) (mode : Anchored) (earliest : Bool) (pieces : List (List ℕ)) (p : PiecesView)
+    (half : Option HalfMatch)
     → IsHaystack (bytes_of_pieces pieces) → HasReadAll m mode earliest pieces p → EndsHere m p None half
     → IsWhole m (whole_input (bytes_of_pieces pieces) mode earliest) half

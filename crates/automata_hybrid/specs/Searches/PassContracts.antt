@@ -4,8 +4,7 @@ use Rattle.automata_base.specs.Haystacks.Input.{Input}
 use Rattle.automata_base.specs.Haystacks.Matches.{HalfMatch}
 use Rattle.automata_base.specs.declared.util.search.Direction.{Direction}
 use Rattle.automata_hybrid.specs.Machines.Machine.{Machine}
-use Rattle.automata_hybrid.specs.Searches.PassState.{IsAt}
-use Rattle.automata_hybrid.specs.Searches.PassState.{found_over}
+use Rattle.automata_hybrid.specs.Searches.PassState.{IsAt, found_over}
 use Rattle.automata_hybrid.specs.Searches.Passes.{MeetsNoQuit, tape_in}
 use Rattle.automata_hybrid.specs.Machines.StartSlots.{supports}
 use Rattle.automata_hybrid.specs.Steps.Starts.{MayStart}

@@ -1,10 +1,10 @@
 -- A pass of a search over the span of an input, unit by unit, and what a search answers.
 use Rattle.std.specs.Prelude.{ℕ, ◌≡◌, ◌<◌, ◌≤◌, ◌+◌, ◌-◌, max, option_map, length, true, false, Option, Some, None}
+use Rattle.std.specs.Prelude.{slice_get}
 use Rattle.automata_base.specs.Answers.Answers.{Answers, Half}
 use Rattle.automata_base.specs.ByteClasses.Classes.{is_quit}
 use Rattle.automata_base.specs.Nfas.Engines.{IsSkipping}
 use Rattle.automata_base.specs.Haystacks.Input.{Input}
-use Rattle.std.specs.Prelude.{slice_get}
 use Rattle.automata_base.specs.Haystacks.Matches.{HalfMatch}
 use Rattle.automata_base.specs.Paths.Paths.{Tape, next}
 use Rattle.automata_base.specs.Powersets.Powerset.{Powerset, dead}

@@ -6,8 +6,7 @@ use Rattle.automata_base.specs.Paths.Paths.{next}
 use Rattle.automata_base.specs.declared.util.search.Direction.{Direction}
 use Rattle.automata_hybrid.specs.Calls.Events.{Event, Start, Step}
 use Rattle.automata_hybrid.specs.Machines.Machine.{Machine}
-use Rattle.automata_hybrid.specs.Searches.Passes.{Finds, Reads, Skips}
-use Rattle.automata_hybrid.specs.Searches.Passes.{tape_in}
+use Rattle.automata_hybrid.specs.Searches.Passes.{Finds, Reads, Skips, tape_in}
 use Rattle.automata_hybrid.specs.Searches.Traces.{Trace}
 
 -- a pass asks for its start state

@@ -5,8 +5,7 @@ use Rattle.automata_base.specs.Retraced.Steps.{successor}
 use Rattle.automata_hybrid.specs.Cache.Stores.{Stored, cell_of}
 use Rattle.automata_hybrid.specs.Cache.Caches.{CacheView, HoldsRow}
 use Rattle.automata_hybrid.specs.Cache.Ids.{fixed_from, quit_id}
-use Rattle.automata_hybrid.specs.Machines.Machine.{quits_on, unit_class}
-use Rattle.automata_hybrid.specs.Machines.Machine.{Machine}
+use Rattle.automata_hybrid.specs.Machines.Machine.{quits_on, unit_class, Machine}
 use Rattle.automata_hybrid.specs.Cache.Table.{HasItsMatchTag, Leads, Names}
 use Rattle.automata_config.specs.Options.{match_kind_of}
 

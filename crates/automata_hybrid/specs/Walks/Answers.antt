@@ -13,11 +13,9 @@ use Rattle.automata_base.specs.Retraced.Passes.{pairs_reported}
 use Rattle.automata_base.specs.Laws.Walks.{AreReported}
 use Rattle.automata_config.specs.declared.error.SearchError.{SearchError}
 use Rattle.automata_config.specs.declared.error.SearchError.TheVariants as search
-use Rattle.automata_hybrid.specs.Machines.Machine.{Machine}
-use Rattle.automata_hybrid.specs.Searches.Passes.{HasReadNoQuit, Skips}
-use Rattle.automata_hybrid.specs.Searches.Passes.{state_in, tape_in}
+use Rattle.automata_hybrid.specs.Machines.Machine.{Machine, quits_on}
+use Rattle.automata_hybrid.specs.Searches.Passes.{HasReadNoQuit, Skips, state_in, tape_in}
 use Rattle.automata_hybrid.specs.Steps.Starts.{MayStart}
-use Rattle.automata_hybrid.specs.Machines.Machine.{quits_on}
 use Rattle.automata_hybrid.specs.Cache.Table.{IsRowState}
 use Rattle.automata_hybrid.specs.Walks.State.{At, Ended, Fresh, Stage, Walk}
 use Rattle.automata_config.specs.Options.{match_kind_of}

@@ -1,7 +1,6 @@
 -- What a call of a walk and a set answer by their DFA and their input alone, whatever the cache, and what they make of
 -- their cache.
-use Rattle.std.specs.Prelude.{ℕ, ◌≡◌, ◌<◌, Bool, List, length, None, Result, Err}
-use Rattle.std.specs.Prelude.{IfErr, IfSome, IsOk, OnOk, OnErr}
+use Rattle.std.specs.Prelude.{ℕ, ◌≡◌, ◌<◌, Bool, List, length, None, Result, Err, IfErr, IfSome, IsOk, OnOk, OnErr}
 use Rattle.automata_base.specs.Answers.Answers.{ArePatterns, ArePatternsFound, IsOverlapping}
 use Rattle.automata_base.specs.Haystacks.Input.{Input}
 use Rattle.automata_base.specs.Nfas.Nodes.{nfa_of}
@@ -12,12 +11,9 @@ use Rattle.automata_base.specs.declared.util.search.Direction.{Direction}
 use Rattle.automata_base.specs.declared.util.search.Direction.TheVariants.{Forward}
 use Rattle.automata_config.specs.declared.error.SearchError.{SearchError}
 use Rattle.automata_hybrid.specs.Machines.Machine.{Machine, engine}
-use Rattle.automata_hybrid.specs.Searches.Contracts.{IsMemory, IsUnhindered, IsUnsupported}
-use Rattle.automata_hybrid.specs.Searches.Contracts.{unsupported_error}
+use Rattle.automata_hybrid.specs.Searches.Contracts.{IsMemory, IsUnhindered, IsUnsupported, unsupported_error}
 use Rattle.automata_hybrid.specs.Walks.Progress.{ReadsNoUnit}
-use Rattle.automata_hybrid.specs.Walks.Answers.{AreWalked, HasReported}
-use Rattle.automata_hybrid.specs.Walks.Answers.{ReportsNext}
-use Rattle.automata_hybrid.specs.Walks.Answers.{half_nth}
+use Rattle.automata_hybrid.specs.Walks.Answers.{AreWalked, HasReported, ReportsNext, half_nth}
 use Rattle.automata_hybrid.specs.Walks.State.{Ended, Fresh, Walk, without_match}
 use Rattle.automata_hybrid.specs.Searches.Bounds.{LiesIn}
 

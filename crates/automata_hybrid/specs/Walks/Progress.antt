@@ -10,8 +10,7 @@ use Rattle.automata_base.specs.declared.util.search.Direction.{Direction}
 use Rattle.automata_base.specs.declared.util.search.Direction.TheVariants.{Forward}
 use Rattle.automata_hybrid.specs.Walks.Cached.{IsOpen}
 use Rattle.automata_hybrid.specs.Machines.Machine.{Machine}
-use Rattle.automata_hybrid.specs.Walks.Answers.{AreWalked, IsSilent}
-use Rattle.automata_hybrid.specs.Walks.Answers.{WalkReads}
+use Rattle.automata_hybrid.specs.Walks.Answers.{AreWalked, IsSilent, WalkReads}
 use Rattle.automata_hybrid.specs.Walks.State.{At, Ended, Walk}
 
 -- why a call reads no unit

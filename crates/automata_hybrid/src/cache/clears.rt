@@ -1,11 +1,9 @@
 //! What a clear keeps: the start states, with the slots that name them, and the state that the step which needs room
 //! is taken from. They are put into a new table, and nothing of the old one changes.
-ghost use Rattle.std.specs.Prelude.{◌≡◌, ◌+◌, ◌*◌, ◌^◌, ◌<◌, None, IfOk, OnOk};
-ghost use Rattle.std.specs.Prelude.{OnErr, length, sum_by};
+ghost use Rattle.std.specs.Prelude.{◌≡◌, ◌+◌, ◌*◌, ◌^◌, ◌<◌, None, IfOk, OnOk, OnErr, length, sum_by};
 ghost use Rattle.automata_base.specs.Powersets.Powerset.{Powerset};
 ghost use Rattle.automata_hybrid.specs.Cache.Table.{id_of, Names, IsRowId, row_cost};
-ghost use Rattle.automata_hybrid.specs.Private.Cache.Clears.{AllStarts, IsSlot};
-ghost use Rattle.automata_hybrid.specs.Private.Cache.Clears.{IsPut, KeepsSlot, KeepsAllStarts};
+ghost use Rattle.automata_hybrid.specs.Private.Cache.Clears.{AllStarts, IsSlot, IsPut, KeepsSlot, KeepsAllStarts};
 ghost use Rattle.automata_hybrid.specs.Cache.Ids.{offset_limit};
 
 use crate::cache::row;

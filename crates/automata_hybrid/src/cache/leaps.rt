@@ -4,8 +4,8 @@
 //! by one. So they say nothing that the table does not say, and no contract of a search speaks of them.
 ghost use Rattle.std.specs.Prelude.{ℕ, suc, ◌≡◌, true, false, ◌+◌, ◌*◌, ◌^◌, ◌<◌, ◌≤◌, IfOk, IfSome, None, OnOk};
 ghost use Rattle.std.specs.Prelude.{length, slice_index};
-ghost use Rattle.automata_hybrid.specs.Private.Cache.Leaps.{AreLeaps, AreLeapSteps, IsLevel, IsShape, IsShapeOf, first_cell};
-ghost use Rattle.automata_hybrid.specs.Private.Cache.Leaps.{leaps_bytes, making_bytes};
+ghost use Rattle.automata_hybrid.specs.Private.Cache.Leaps.{AreLeaps, AreLeapSteps, IsLevel, IsShape, IsShapeOf};
+ghost use Rattle.automata_hybrid.specs.Private.Cache.Leaps.{first_cell, leaps_bytes, making_bytes};
 
 use crate::cache::progress::Searched;
 use crate::cache::table::Table;

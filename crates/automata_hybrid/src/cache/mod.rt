@@ -1,13 +1,13 @@
-//! The cache of a lazy DFA: its store, the buffers to determinize into, the self-loop that was followed last, and leaps.
-//! Steps, start states and searches do all that they do to a cache by these methods. A state that does not fit is
-//! added after a clear, which makes the new store beside the old one: an error leaves the cache as it was.
+//! The cache of a lazy DFA: its store, the buffers to determinize into, the self-loop that was followed last, and
+//! leaps. Steps, start states and searches do all that they do to a cache by these methods. A state that does not fit
+//! is added after a clear, which makes the new store beside the old one: an error leaves the cache as it was.
 //!
-//! A `store` has the `table` of the rows (`row`), the start slots and the progress of searches (`progress`), within limits
-//! (`settings`). Where a row does not fit, `clears` says what a clear keeps. Searches have from a cache what it keeps of a
-//! row's self-loop (`self_loops`), leaps (`leaps`), and a state that a walk holds (`handle`). `states` are what a cache
-//! holds, to look at.
-ghost use Rattle.std.specs.Prelude.{ℕ, ◌≡◌, ◌*◌, ◌%◌, ◌<◌, ◌≤◌, IfOk, IfErr, OnOk, OnErr, slice_index};
-ghost use Rattle.std.specs.Prelude.{All, length, is_some, IfSome, IsSome, IsTrue, ◌+◌, ◌↔◌, ◌⊎◌, false, None, Option};
+//! A `store` has the `table` of the rows (`row`), the start slots and the progress of searches (`progress`), within
+//! limits (`settings`). Where a row does not fit, `clears` says what a clear keeps. Searches have from a cache what it
+//! keeps of a row's self-loop (`self_loops`), leaps (`leaps`), and a state that a walk holds (`handle`). `states` are
+//! what a cache holds, to look at.
+ghost use Rattle.std.specs.Prelude.{ℕ, ◌≡◌, ◌*◌, ◌%◌, ◌<◌, ◌≤◌, IfOk, IfErr, OnOk, OnErr, slice_index, All, length};
+ghost use Rattle.std.specs.Prelude.{is_some, IfSome, IsSome, IsTrue, ◌+◌, ◌↔◌, ◌⊎◌, false, None, Option};
 ghost use Rattle.automata_base.specs.Powersets.Powerset.{Powerset, cost, dead};
 ghost use Rattle.automata_base.specs.Retraced.Steps.{successor, start_state_of};
 ghost use Rattle.automata_base.specs.Powersets.Passes.{IsUnit};
@@ -16,27 +16,19 @@ ghost use Rattle.automata_hybrid.specs.Machines.Reachable.{IsStateOf};
 ghost use Rattle.automata_hybrid.specs.Machines.OwnStates.{IsOwn};
 ghost use Rattle.automata_hybrid.specs.Machines.Machine.{quits_on, unit_class};
 ghost use Rattle.automata_hybrid.specs.Cache.Ids.{dead_id, unknown_id, offset_limit};
-ghost use Rattle.automata_hybrid.specs.Cache.Table.{id_of, Names, IsRowId};
-ghost use Rattle.automata_hybrid.specs.Private.Cache.Table.{IsCell, LeadsByClass};
-ghost use Rattle.automata_hybrid.specs.Cache.Table.{HasItsMatchTag};
-ghost use Rattle.automata_hybrid.specs.Private.Cache.Table.{HasState};
+ghost use Rattle.automata_hybrid.specs.Cache.Table.{id_of, Names, IsRowId, HasItsMatchTag, IsRowState};
+ghost use Rattle.automata_hybrid.specs.Private.Cache.Table.{IsCell, LeadsByClass, HasState, IsNewState};
 ghost use Rattle.automata_hybrid.specs.Private.Cache.Leaps.{AreLeaps, IsShapeOf, making_bytes};
-ghost use Rattle.automata_hybrid.specs.Cache.Table.{IsRowState};
-ghost use Rattle.automata_hybrid.specs.Private.Cache.Table.{IsNewState};
-ghost use Rattle.automata_hybrid.specs.Private.Cache.Stores.{IsSoundStore};
-ghost use Rattle.automata_hybrid.specs.Cache.Stores.{cell_of};
-ghost use Rattle.automata_hybrid.specs.Private.Cache.Stores.{with_next, with_start_in_store};
-ghost use Rattle.automata_hybrid.specs.Cache.Stores.{with_searched};
-ghost use Rattle.automata_hybrid.specs.Private.Cache.Usage.{usage_in_store};
-ghost use Rattle.automata_hybrid.specs.Private.Cache.Usage.{cleared, Fits};
+ghost use Rattle.automata_hybrid.specs.Private.Cache.Stores.{IsSoundStore, with_next, with_start_in_store};
+ghost use Rattle.automata_hybrid.specs.Cache.Stores.{cell_of, with_searched};
+ghost use Rattle.automata_hybrid.specs.Private.Cache.Usage.{usage_in_store, cleared_in_store, Fits};
 ghost use Rattle.automata_hybrid.specs.Private.Cache.Changes.{AddsNext, AddsRow};
-ghost use Rattle.automata_hybrid.specs.Cache.Caches.{HoldsRow, IsCacheOf, counted, dfa_of, fresh_cache};
-ghost use Rattle.automata_hybrid.specs.Private.Cache.Caches.{IsStoreOf};
+ghost use Rattle.automata_hybrid.specs.Cache.Caches.{HoldsRow, IsCacheOf, counted_in_store, dfa_of, fresh_cache};
 ghost use Rattle.automata_hybrid.specs.Cache.Caches.{with_store};
+ghost use Rattle.automata_hybrid.specs.Private.Cache.Caches.{IsStoreOf};
 ghost use Rattle.automata_hybrid.specs.Known.Events.{usage};
 ghost use Rattle.automata_hybrid.specs.Known.Stores.{known_of};
-ghost use Rattle.automata_hybrid.specs.Private.Cache.Growth.{PutsBack};
-ghost use Rattle.automata_hybrid.specs.Private.Cache.Growth.{AddFails};
+ghost use Rattle.automata_hybrid.specs.Private.Cache.Growth.{PutsBack, AddFails};
 ghost use Rattle.automata_hybrid.specs.Private.Steps.Starts.{IsStartSlot};
 ghost use Rattle.automata_hybrid.specs.Private.Walks.State.{IsHandle};
 ghost use Rattle.automata_hybrid.specs.Cache.Progress.{progress_finished, progress_started, progress_updated};
@@ -188,7 +180,7 @@ impl Cache {
             → k ≡ successor dfa.now.nfa (match_kind_of dfa.now.config) q other) }
         ensures cost { IfOk result (λ k. cost k ≤ dfa.now.greatest) }
         ensures is_of { IfOk result (λ k. IsStateOf dfa.now k) }
-        ensures counted { self.new ≡ counted self.old }
+        ensures counted { self.new ≡ counted_in_store self.old }
     {
         dfa.see_machine();
         let from = self.store.table.state(id);
@@ -216,8 +208,8 @@ impl Cache {
         Ok(Found::New(state))
     }
 
-    /// The ID of a state, if the cache has it. It is a call, since a set takes 3% more where a walk has its text, although
-    /// no set asks.
+    /// The ID of a state, if the cache has it. It is a call, since a set takes 3% more where a walk has its text,
+    /// although no set asks.
     #[inline(never)]
     pub(crate) fn find(&self, key: &Key) -> Option<LazyStateID>
         ensures { result ≡ id_of self.now.store.table key.now }
@@ -286,9 +278,9 @@ impl Cache {
     }
 
     /// The start states that are cached, six for each group: the unanchored ones, the anchored ones, and those of each
-    /// pattern, if the DFA has them. In a group the first is the one after another byte, and then come those after a word
-    /// byte, at the edge of the haystack, after a line feed, after a carriage return, and after another line terminator.
-    /// `is_unknown` is true of those that are not cached.
+    /// pattern, if the DFA has them. In a group the first is the one after another byte, and then come those after a
+    /// word byte, at the edge of the haystack, after a line feed, after a carriage return, and after another line
+    /// terminator. `is_unknown` is true of those that are not cached.
     pub fn starts(&self) -> &[LazyStateID]
         ensures value { result.now ≡ self.now.store.starts }
         ensures leads { (mode : Anchored) (behind : Option ℕ) → LeadsAsStart self.now.store mode behind }
@@ -376,8 +368,8 @@ impl Cache {
         self.clear_and_add_next(dfa, from, state, bytes)
     }
 
-    /// Adds the state that comes next where it does not fit: clears first, and keeps the row that the step is from. What
-    /// a clear needs on the stack is prepared here alone.
+    /// Adds the state that comes next where it does not fit: clears first, and keeps the row that the step is from.
+    /// What a clear needs on the stack is prepared here alone.
     #[inline(never)]
     fn clear_and_add_next(
         &mut self,
@@ -425,7 +417,7 @@ impl Cache {
         ensures value { IfOk result (λ k. k ≡ start_state_of dfa.now.nfa mode prev) }
         ensures cost { IfOk result (λ k. cost k ≤ dfa.now.greatest) }
         ensures is_of { IfOk result (λ k. IsStateOf dfa.now k) }
-        ensures counted { self.new ≡ counted self.old }
+        ensures counted { self.new ≡ counted_in_store self.old }
     {
         dfa.see_machine();
         let key = start_key(dfa.get_nfa(), &mut self.scratch, mode, prev)?;
@@ -451,7 +443,7 @@ impl Cache {
     ) -> Result<LazyStateID, StepError>
         requires dfa { IsCacheOf self.old dfa.now }
         requires new { IsNewState self.old.store.table state }
-        ensures answer { IfOk result (AddsRow self.old.store (cleared self.old.store) self.new.store
+        ensures answer { IfOk result (AddsRow self.old.store (cleared_in_store self.old.store) self.new.store
             (record { state = state; started = started })) }
         ensures counted { self.new.count ≡ self.old.count }
         ensures refused { IfErr result (AddFails self.old self.new state) }
@@ -478,7 +470,7 @@ impl Cache {
         requires new { IsNewState self.old.store.table state }
         requires bytes { bytes ≡ cost state }
         requires full { Fits self.old.store (cost state) → ⊥ }
-        ensures answer { IfOk result (AddsRow self.old.store (cleared self.old.store) self.new.store
+        ensures answer { IfOk result (AddsRow self.old.store (cleared_in_store self.old.store) self.new.store
             (record { state = state; started = started })) }
         ensures counted { self.new.count ≡ self.old.count }
         ensures refused { IfErr result (AddFails self.old self.new state) }
@@ -709,9 +701,9 @@ impl Cache {
         self.store.memory_usage()
     }
 
-    /// The bytes that leaps take now, beside the accounted ones: by them a search over a long text reads a few bytes at a
-    /// step. Together they never exceed the capacity, or the minimum capacity if that was raised to. Leaps are made where
-    /// there is room for them, and dropped where a state is added or the cache is cleared.
+    /// The bytes that leaps take now, beside the accounted ones: by them a search over a long text reads a few bytes at
+    /// a step. Together they never exceed the capacity, or the minimum capacity if that was raised to. Leaps are made
+    /// where there is room for them, and dropped where a state is added or the cache is cleared.
     pub fn leap_usage(&self) -> usize
         ensures { usage (dfa_of self.now) (known_of self.now) + result ≤ (dfa_of self.now).capacity }
     {

@@ -1,7 +1,6 @@
 //! The state of a row, and its accounted bytes.
 ghost use Rattle.std.specs.Prelude.{◌≡◌, ◌+◌, ◌*◌, ◌^◌, ◌<◌, ◌↔◌, IsTrue};
-ghost use Rattle.automata_base.specs.Powersets.Powerset.{cost};
-ghost use Rattle.automata_base.specs.Powersets.Powerset.{dead};
+ghost use Rattle.automata_base.specs.Powersets.Powerset.{cost, dead};
 ghost use Rattle.automata_hybrid.specs.Cache.Table.{has_patterns};
 ghost use Rattle.automata_hybrid.specs.Cache.Ids.{offset_limit};
 

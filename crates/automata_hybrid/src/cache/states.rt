@@ -24,24 +24,25 @@ impl<'c> Model for CachedState<'c> {
 }
 
 impl<'c> CachedState<'c> {
-    /// Its ID, which `is_start` and `is_match` ask for its tags. It is the ID that a search by steps gets for the state.
+    /// Its ID, which `is_start` and `is_match` ask for its tags. It is the ID that a search by steps gets for the
+    /// state.
     pub fn id(&self) -> LazyStateID
         ensures { result ≡ self.now.id }
     {
         self.id
     }
 
-    /// What it stands for: its NFA states in order of preference (`nfa`), its patterns (`match_len`, `match_pattern`), and
-    /// what is known of the byte before (`known`, `needed`, `word`, `half`).
+    /// What it stands for: its NFA states in order of preference (`nfa`), its patterns (`match_len`, `match_pattern`),
+    /// and what is known of the byte before (`known`, `needed`, `word`, `half`).
     pub fn state(&self) -> &'c State
         ensures { result.now ≡ self.now.state }
     {
         self.state
     }
 
-    /// The IDs that its transitions lead to, one for each class of bytes, as `ByteClasses::get` numbers them, and the one
-    /// on the haystack's end at `ByteClasses::eoi`. `is_unknown` is true of those that are not cached. Those after the
-    /// last class mean nothing.
+    /// The IDs that its transitions lead to, one for each class of bytes, as `ByteClasses::get` numbers them, and the
+    /// one on the haystack's end at `ByteClasses::eoi`. `is_unknown` is true of those that are not cached. Those after
+    /// the last class mean nothing.
     pub fn transitions(&self) -> &'c [LazyStateID]
         ensures { result.now ≡ self.now.transitions }
     {

@@ -7,15 +7,11 @@ ghost use Rattle.automata_base.specs.Powersets.Powerset.{Powerset, cost};
 ghost use Rattle.automata_base.specs.Powersets.Accounting.{minimum_capacity};
 ghost use Rattle.automata_hybrid.specs.Cache.Ids.{offset_limit};
 ghost use Rattle.automata_hybrid.specs.Private.Machines.Machine.{IsTemplate};
-ghost use Rattle.automata_hybrid.specs.Cache.Table.{id_of, Names, IsRowId};
+ghost use Rattle.automata_hybrid.specs.Cache.Table.{id_of, Names, IsRowId, row_of};
 ghost use Rattle.automata_hybrid.specs.Private.Cache.Table.{IsNewState};
-ghost use Rattle.automata_hybrid.specs.Cache.Clears.{row_of};
 ghost use Rattle.automata_hybrid.specs.Cache.Stores.{IsCacheError, fresh_store};
-ghost use Rattle.automata_hybrid.specs.Private.Cache.Stores.{with_table};
-ghost use Rattle.automata_hybrid.specs.Private.Cache.Stores.{cache_settings};
-ghost use Rattle.automata_hybrid.specs.Private.Cache.Usage.{usage_in_store};
-ghost use Rattle.automata_hybrid.specs.Private.Cache.Usage.{Fits, refuses_to_clear};
-ghost use Rattle.automata_hybrid.specs.Private.Cache.Usage.{FitsAny, IsCleared};
+ghost use Rattle.automata_hybrid.specs.Private.Cache.Stores.{with_table, cache_settings};
+ghost use Rattle.automata_hybrid.specs.Private.Cache.Usage.{usage_in_store, Fits, refuses_in_store, FitsAny, IsCleared};
 ghost use Rattle.automata_hybrid.specs.Private.Cache.Changes.{grown, put_found};
 
 use crate::cache::clears::{keep_row, keep_starts};
@@ -148,7 +144,7 @@ impl Store {
 
     /// Whether a search gives up in place of a clear.
     pub fn refuses(&self) -> bool
-        ensures { result ≡ refuses_to_clear self.now }
+        ensures { result ≡ refuses_in_store self.now }
     {
         let Some(limit) = self.settings.minimum_clear_count else {
             return false;
@@ -165,7 +161,7 @@ impl Store {
     /// Whether a search gives up at a state that no row has: it does not fit, and no clear is allowed for it.
     pub fn gives_up(&self, state: &State) -> bool
         requires { cost state.now ≤ self.now.table.of.greatest }
-        ensures { IsTrue result ↔ ((Fits self.now (cost state.now) → ⊥) × (refuses_to_clear self.now ≡ true)) }
+        ensures { IsTrue result ↔ ((Fits self.now (cost state.now) → ⊥) × (refuses_in_store self.now ≡ true)) }
     {
         !self.fits(self.cost_of(state)) && self.refuses()
     }
@@ -175,7 +171,7 @@ impl Store {
         requires { dfa.now ≡ self.now.table.of }
         ensures cleared { IfOk result (IsCleared self.now) }
         ensures room { IfOk result FitsAny }
-        ensures gives_up { IfErr result (λ e. IsCacheError e ↔ (refuses_to_clear self.now ≡ true)) }
+        ensures gives_up { IfErr result (λ e. IsCacheError e ↔ (refuses_in_store self.now ≡ true)) }
     {
         if self.refuses() {
             return Err(StepError::Cache(CacheError));

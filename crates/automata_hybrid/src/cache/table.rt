@@ -1,23 +1,17 @@
 //! The transition table: a row of cells for each state, after the three fixed rows (unknown, dead and quit), and the
 //! map from states to the IDs of their rows. An ID has the offset of its row, so that a step adds a class and loads
 //! one cell. The cell is unknown until the step has been taken once.
-ghost use Rattle.std.specs.Prelude.{ℕ, ◌≡◌, ◌+◌, ◌-◌, ◌*◌, ◌/◌, ◌%◌, ◌^◌, ◌<◌, ◌≤◌, None, Some, IfOk, IsTrue};
-ghost use Rattle.std.specs.Prelude.{◌↔◌, OnOk, OnErr, length, slice_index, slice_set, slice_get, sum_by, false, cond};
-ghost use Rattle.automata_base.specs.Powersets.Powerset.{Powerset, cost};
+ghost use Rattle.std.specs.Prelude.{ℕ, ◌≡◌, ◌+◌, ◌-◌, ◌*◌, ◌/◌, ◌%◌, ◌^◌, ◌<◌, ◌≤◌, None, Some, IfOk, IsTrue, ◌↔◌};
+ghost use Rattle.std.specs.Prelude.{OnOk, OnErr, length, slice_index, slice_set, slice_get, sum_by, false, cond};
+ghost use Rattle.automata_base.specs.Powersets.Powerset.{Powerset, cost, dead};
 ghost use Rattle.automata_base.specs.ByteClasses.Classes.{eoi_class, stride_for};
-ghost use Rattle.automata_base.specs.Powersets.Powerset.{dead};
 ghost use Rattle.automata_hybrid.specs.Machines.Reachable.{IsStateOf};
 ghost use Rattle.automata_hybrid.specs.Cache.Ids.{unknown_id, offset_limit};
 ghost use Rattle.automata_hybrid.specs.Machines.Machine.{marked};
 ghost use Rattle.automata_hybrid.specs.Private.Machines.Machine.{IsTemplate};
-ghost use Rattle.automata_hybrid.specs.Cache.Table.{id_of, fresh, Names, row_cost, IsRowId};
-ghost use Rattle.automata_hybrid.specs.Private.Cache.Table.{LeadsByClass};
-ghost use Rattle.automata_hybrid.specs.Private.Cache.Table.{with_row};
-ghost use Rattle.automata_hybrid.specs.Private.Cache.Table.{HasState};
-ghost use Rattle.automata_hybrid.specs.Private.Cache.Table.{IsNewState, IsSoundTable};
-ghost use Rattle.automata_hybrid.specs.Private.Cache.Table.{IsCell};
-ghost use Rattle.automata_hybrid.specs.Cache.Table.{cell_at};
-ghost use Rattle.automata_hybrid.specs.Private.Cache.Table.{with_cell};
+ghost use Rattle.automata_hybrid.specs.Cache.Table.{id_of, fresh, Names, row_cost, IsRowId, cell_at};
+ghost use Rattle.automata_hybrid.specs.Private.Cache.Table.{LeadsByClass, with_row_in_store, HasState, IsNewState};
+ghost use Rattle.automata_hybrid.specs.Private.Cache.Table.{IsSoundTable, IsCell, with_cell};
 ghost use Rattle.automata_hybrid.specs.Private.Cache.Leaps.{LeadsToRow};
 ghost use Rattle.automata_hybrid.specs.Cache.States.{held_states};
 
@@ -166,7 +160,7 @@ impl Table {
         requires bytes { bytes ≡ cost state }
         requires fits { length self.old.cells < offset_limit }
         requires costs { sum_by row_cost self.old.rows + cost state < 2 ^ 64 }
-        ensures ok { OnOk result (self.new ≡ with_row self.old (record { state = state; started = started })) }
+        ensures ok { OnOk result (self.new ≡ with_row_in_store self.old (record { state = state; started = started })) }
         ensures named { IfOk result (λ id. Names self.new id state) }
         ensures kept { OnOk result ((id : ℕ) (q : Powerset) → Names self.old id q → Names self.new id q) }
         ensures err { OnErr result (self.new ≡ self.old) }
@@ -258,8 +252,8 @@ impl Table {
         id == row.id(offset)
     }
 
-    /// The cell of a row at a class. The row's offset is known: no tag has to be taken off. The column is found first, so
-    /// that from one row to the next there is one load alone.
+    /// The cell of a row at a class. The row's offset is known: no tag has to be taken off. The column is found first,
+    /// so that from one row to the next there is one load alone.
     #[inline(always)]
     pub fn cell_in_row(&self, id: LazyStateID, row: usize, class: usize) -> LazyStateID
         requires row { IsRowId self.now id }

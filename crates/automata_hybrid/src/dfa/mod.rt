@@ -1,6 +1,6 @@
 //! The lazy DFA itself: its NFA, settings, byte classes and quit bytes. It has no states of its own: they are in a
-//! `Cache`. `start` and `step` find an ID in the cache, or determinize its state and add a row. `builder` makes DFAs, with
-//! the limits of their caches.
+//! `Cache`. `start` and `step` find an ID in the cache, or determinize its state and add a row. `builder` makes DFAs,
+//! with the limits of their caches.
 ghost use Rattle.std.specs.Prelude.{ℕ, ◌≡◌, ◌<◌, ◌≤◌, ◌^◌, IfOk, OnOk, OnErr, Some, None, true, false, slice_index};
 ghost use Rattle.std.specs.Prelude.{length};
 ghost use Rattle.automata_base.specs.ByteClasses.Classes.{AreClasses, class_in, eoi_class, is_quit};
@@ -9,12 +9,11 @@ ghost use Rattle.automata_base.specs.Powersets.Accounting.{start_slots};
 ghost use Rattle.automata_hybrid.specs.Cache.Ids.{quit_id, unknown_id};
 ghost use Rattle.automata_hybrid.specs.Private.Machines.Machine.{IsMachine};
 ghost use Rattle.automata_config.specs.Settling.{IsSettled};
-ghost use Rattle.automata_config.specs.Options.{unset};
+ghost use Rattle.automata_config.specs.Options.{unset, starts_for_each_pattern_of};
 ghost use Rattle.automata_hybrid.specs.Cache.Caches.{fresh_cache};
 ghost use Rattle.automata_hybrid.specs.Machines.Builds.{built_machine};
 ghost use Rattle.automata_hybrid.specs.Cache.Stores.{fresh_store};
 ghost use Rattle.automata_hybrid.specs.Private.Cache.Stores.{cache_settings};
-ghost use Rattle.automata_config.specs.Options.{starts_for_each_pattern_of};
 ghost use Rattle.automata_hybrid.specs.Machines.Machine.{quits_on, unit_class};
 
 pub mod builder;

@@ -1,19 +1,16 @@
 //! Start states. There is a start slot for each anchored mode, and each pattern if the settings ask for that, after
 //! each kind of look-behind byte (`Start`). A slot has the ID of its start state once that was determinized, and is
 //! unknown before.
-ghost use Rattle.std.specs.Prelude.{◌≡◌, ◌+◌, ◌-◌, ◌*◌, ◌^◌, ◌<◌, ◌≤◌, ◌↔◌, IfOk, IfErr, OnOk, IfSome, IfNone, Err, Some};
+ghost use Rattle.std.specs.Prelude.{◌≡◌, ◌+◌, ◌-◌, ◌*◌, ◌^◌, ◌<◌, ◌≤◌, ◌↔◌, IfOk, IfErr, OnOk, IfSome, IfNone, Err};
+ghost use Rattle.std.specs.Prelude.{Some, slice_get, false};
 ghost use Rattle.automata_base.specs.ByteClasses.LookBehind.{behind_of};
 ghost use Rattle.automata_base.specs.Powersets.Powerset.{dead};
 ghost use Rattle.automata_base.specs.ByteClasses.Classes.{is_quit};
 ghost use Rattle.automata_base.specs.Retraced.Steps.{start_state_of};
 ghost use Rattle.automata_base.specs.Haystacks.Tapes.{byte_before};
-ghost use Rattle.std.specs.Prelude.{slice_get, false};
-ghost use Rattle.automata_hybrid.specs.Steps.Starts.{quit_behind, start_search_error};
-ghost use Rattle.automata_hybrid.specs.Private.Steps.Starts.{start_error};
-ghost use Rattle.automata_hybrid.specs.Private.Steps.Starts.{IsStartSlot};
-ghost use Rattle.automata_hybrid.specs.Steps.Starts.{IsStartAnswer};
-ghost use Rattle.automata_hybrid.specs.Known.Steps.{IsStartRun, StartFails};
-ghost use Rattle.automata_hybrid.specs.Known.Steps.{StartFailsAt};
+ghost use Rattle.automata_hybrid.specs.Steps.Starts.{quit_behind, start_search_error, IsStartAnswer};
+ghost use Rattle.automata_hybrid.specs.Private.Steps.Starts.{start_error, IsStartSlot};
+ghost use Rattle.automata_hybrid.specs.Known.Steps.{IsStartRun, StartFails, StartFailsAt};
 ghost use Rattle.automata_hybrid.specs.Known.Stores.{known_of};
 ghost use Rattle.automata_hybrid.specs.Known.Events.{is_cached};
 ghost use Rattle.automata_hybrid.specs.Calls.Events as events;

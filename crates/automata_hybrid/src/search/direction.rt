@@ -4,8 +4,7 @@ ghost use Rattle.std.specs.Prelude.{ℕ, ◌≡◌, ◌+◌, ◌-◌, ◌^◌, �
 ghost use Rattle.automata_base.specs.Answers.Answers.{later, offset_in};
 ghost use Rattle.automata_base.specs.Paths.Paths.{next};
 ghost use Rattle.automata_hybrid.specs.Known.Stores.{known_of};
-ghost use Rattle.automata_hybrid.specs.Known.Steps.{IsStartRun};
-ghost use Rattle.automata_hybrid.specs.Known.Steps.{StartFailsAt};
+ghost use Rattle.automata_hybrid.specs.Known.Steps.{IsStartRun, StartFailsAt};
 ghost use Rattle.automata_hybrid.specs.Cache.Caches.{IsCacheOf};
 ghost use Rattle.automata_hybrid.specs.Cache.Progress.{distance};
 ghost use Rattle.automata_hybrid.specs.Searches.Passes.{behind_offset, given_up_offset, tape_in, unit_offset};

@@ -1,8 +1,7 @@
 //! Searches. Here is what one unit does to the state of a search, and `direction` has all in which the two directions
-//! differ. `plain` has the searches for one end of a match, `walk` overlapping searches, and `pieces` those whose haystack
-//! comes in pieces. `fast` follows cached transitions for all of them.
-ghost use Rattle.std.specs.Prelude.{◌≡◌, slice_index, ◌<◌};
-ghost use Rattle.std.specs.Prelude.{Some, None, true, false};
+//! differ. `plain` has the searches for one end of a match, `walk` overlapping searches, and `pieces` those whose
+//! haystack comes in pieces. `fast` follows cached transitions for all of them.
+ghost use Rattle.std.specs.Prelude.{◌≡◌, slice_index, ◌<◌, Some, None, true, false};
 ghost use Rattle.automata_base.specs.Powersets.Powerset.{Powerset};
 ghost use Rattle.automata_hybrid.specs.Cache.Caches.{IsCacheOf};
 ghost use Rattle.automata_base.specs.Haystacks.Tapes.{is_split};
@@ -112,7 +111,8 @@ impl DFA {
         }
     }
 
-    /// The state after a unit. `cell` was read in the row. A quit byte ends the search, and is an error at its own offset.
+    /// The state after a unit. `cell` was read in the row. A quit byte ends the search, and is an error at its own
+    /// offset.
     #[inline(always)]
     fn read_met(
         &self,

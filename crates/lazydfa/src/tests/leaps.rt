@@ -28,8 +28,8 @@ fn leaps_in_turn(rt: &impl Host, dfa: &DFA, text: &[u8], turns: &mut Turns) -> u
     leaps
 }
 
-/// Takes turns until leaps are made. The first one lends nothing. While they are made, less than they take stands beside
-/// them.
+/// Takes turns until leaps are made. The first one lends nothing. While they are made, less than they take stands
+/// beside them.
 fn leaps_at_last(rt: &impl Host, dfa: &DFA, text: &[u8], turns: &mut Turns) {
     same_of(
         rt,
@@ -47,7 +47,8 @@ fn leaps_at_last(rt: &impl Host, dfa: &DFA, text: &[u8], turns: &mut Turns) {
     check(rt, false);
 }
 
-/// A search answers the same whichever allocation of its leaps fails, and makes them in little more memory than they take.
+/// A search answers the same whichever allocation of its leaps fails, and makes them in little more memory than they
+/// take.
 #[test]
 fn answers_after_each_refused_leap(rt: HostRuntime) {
     let dfa = Automaton::Forward(Entry::Date)

@@ -1,8 +1,8 @@
 //! States with their wide unions folded.
 //!
-//! Of the alternates of a union those that read a range of bytes become one state. For each byte it leads to a state that
-//! stands for all to which these led on it. So a powerset state has one NFA state where it had all that read, and a step
-//! follows the byte once. States that nothing leads to any more are made anew, and no state is added.
+//! Of the alternates of a union those that read a range of bytes become one state. For each byte it leads to a state
+//! that stands for all to which these led on it. So a powerset state has one NFA state where it had all that read, and
+//! a step follows the byte once. States that nothing leads to any more are made anew, and no state is added.
 ghost use Rattle.std.specs.Prelude.{ℕ, ◌≡◌, ◌<◌, ◌≤◌, ◌+◌, ◌/◌, ◌^◌, ◌⊎◌, ◌↔◌, ◌++◌, [], ◌∷◌, true, false, List};
 ghost use Rattle.std.specs.Prelude.{IfOk, IfSome, OnOk, IsTrue, length, Some, None, slice_get};
 ghost use Rattle.automata_base.specs.Lists.{In, Distinct, cons_some};

@@ -30,8 +30,8 @@ const EACH: usize = 8;
 
 const MORE: usize = 512;
 
-/// The closure of the root of an NFA, the unanchored start, with whose closure most powerset states end. What a step needs
-/// of it is here.
+/// The closure of the root of an NFA, the unanchored start, with whose closure most powerset states end. What a step
+/// needs of it is here.
 #[derive(Drop)]
 pub(crate) struct KeptClosure {
     /// The state whose closure this is.
@@ -42,8 +42,8 @@ pub(crate) struct KeptClosure {
     pub kept: Vec<StateID>,
     /// The bytes that code the kept states behind the first of them.
     pub code: Vec<u8>,
-    /// For each byte, where the kept states lead on it, in order. There are no rows if a kept state matches or if it would
-    /// take too long to make them.
+    /// For each byte, where the kept states lead on it, in order. There are no rows if a kept state matches or if it
+    /// would take too long to make them.
     pub rows: Vec<Vec<StateID>>,
 }
 

@@ -1,8 +1,8 @@
 //! The same NFA with fewer states to follow at once.
 //!
-//! The alternates of a wide union that read bytes, one after another, become one state that reads. Where several of them
-//! read one byte, it leads to a further state, which stands for the list of their targets and is merged likewise. So a
-//! union of many words becomes a trie. An alternate that reads no byte stays, and the order stays as it is.
+//! The alternates of a wide union that read bytes, one after another, become one state that reads. Where several of
+//! them read one byte, it leads to a further state, which stands for the list of their targets and is merged likewise.
+//! So a union of many words becomes a trie. An alternate that reads no byte stays, and the order stays as it is.
 //!
 //! Nothing is promised of the states that are made: `standing` tests them.
 ghost use Rattle.std.specs.Prelude.{◌≡◌, IfOk, IfSome, IsTrue, false};
@@ -387,11 +387,11 @@ impl NFA {
     /// each byte to the targets of the row, in order. So a lazy DFA of it has smaller states, which are made faster; a
     /// set of 1,000 words takes a twentieth of the time and the memory until its states are cached.
     ///
-    /// Its searches, walks, spans and sets answer as those of this NFA do, and it is made with the same starts and flags.
-    /// The states keep their IDs, and further ones come after them. It is this NFA itself if no union has eight
-    /// alternates, if it keeps unions (`NFA::keeping_unions`), if the targets to be listed are too many, more than eight
-    /// for each state and some thousands, or if a closure would need more room or searches no longer skip lazily. The
-    /// only error is out of memory. It takes time linear in the states, their edges and what is listed.
+    /// Its searches, walks, spans and sets answer as those of this NFA do, and it is made with the same starts and
+    /// flags. The states keep their IDs, and further ones come after them. It is this NFA itself if no union has eight
+    /// alternates, if it keeps unions (`NFA::keeping_unions`), if the targets to be listed are too many, more than
+    /// eight for each state and some thousands, or if a closure would need more room or searches no longer skip lazily.
+    /// The only error is out of memory. It takes time linear in the states, their edges and what is listed.
     pub fn merged(&self) -> Result<NFA, AllocError>
         ensures alike { IfOk result (λ nfa. (kind : MatchKind)
             → AnswerAlike (engine_of self.now kind) (engine_of nfa kind)) }

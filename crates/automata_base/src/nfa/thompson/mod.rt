@@ -547,9 +547,9 @@ impl NFA {
         self.data.start_pattern.as_slice()
     }
 
-    /// This NFA, which from then on keeps unions in the states of its lazy DFAs if a cycle of epsilon transitions passes
-    /// a look. Searches are proved to answer by the ordered paths of every NFA that this returns. It changes nothing if
-    /// there is no such cycle, and allocates nothing.
+    /// This NFA, which from then on keeps unions in the states of its lazy DFAs if a cycle of epsilon transitions
+    /// passes a look. Searches are proved to answer by the ordered paths of every NFA that this returns. It changes
+    /// nothing if there is no such cycle, and allocates nothing.
     pub fn keeping_unions(self) -> NFA
         ensures same { IsKeepingUnions self result }
         ensures keeps { KeepsCycles (nfa_of result) }
@@ -705,8 +705,9 @@ impl NFA {
     /// most `(P + 1) * (n + r + 2)` states, where P counts patterns, n states, and r such edges. Neighbouring bytes of
     /// a `Dense` state that lead to one state are one edge.
     ///
-    /// Where many edges that read bytes lead to one state, as to the match of a large class of characters, one state reads
-    /// in place of theirs, and others of them stand for the states that a byte leads to. The states are as many as before.
+    /// Where many edges that read bytes lead to one state, as to the match of a large class of characters, one state
+    /// reads in place of theirs, and others of them stand for the states that a byte leads to. The states are as many
+    /// as before.
     ///
     /// It fails if the empty match is reached from the start of a pattern and not from the anchored start, or the other
     /// way round, since then the two would not omit the same empty matches in UTF-8 mode; if by that bound, or a like

@@ -144,8 +144,8 @@ impl NFA {
         }
     }
 
-    /// The reversed NFA of these states with their wide unions folded. It is none if there are not enough free states or
-    /// too many alternates then.
+    /// The reversed NFA of these states with their wide unions folded. It is none if there are not enough free states
+    /// or too many alternates then.
     pub(super) fn folded(&self, mirror: Mirror) -> Result<Option<NFA>, ReverseError>
         requires { IsFit
             self.now.states (length self.now.start_pattern) mirror.states.items mirror.entries.items mirror.root }

@@ -67,8 +67,8 @@ fn put_last(lists: &mut Vec<Vec<StateID>>, end: usize, next: StateID) -> Result<
     Ok(end - 1)
 }
 
-/// Adds that the bytes from `lo` to `hi` lead to a state, to at most sixteen nodes: those below which there are no other
-/// bytes, and whose parents have others.
+/// Adds that the bytes from `lo` to `hi` lead to a state, to at most sixteen nodes: those below which there are no
+/// other bytes, and whose parents have others.
 pub fn put_range(
     lists: &mut Vec<Vec<StateID>>,
     lo: u8,

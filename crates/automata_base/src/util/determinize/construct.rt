@@ -271,9 +271,9 @@ fn read_first(
     false
 }
 
-/// Reads what of a list counts under the match kind, and returns whether that was cut, so that what would come after the
-/// list does not count: adds the closure of what it leads to on the byte to the set, and makes its patterns the only
-/// ones.
+/// Reads what of a list counts under the match kind, and returns whether that was cut, so that what would come after
+/// the list does not count: adds the closure of what it leads to on the byte to the set, and makes its patterns the
+/// only ones.
 #[inline(always)]
 fn read_kind(
     kind: MatchKind,

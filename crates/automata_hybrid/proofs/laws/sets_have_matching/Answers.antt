@@ -7,4 +7,5 @@ use Rattle.automata_hybrid.proofs.laws.sets_have_matching.Goals as goal
 pub returns : goal.returns
 returns c =
     sets_have_matching c.args.dfa.now (subst AllPairsAreReported c.get_nfa.ensures c.walk_is_right.ensures.all)
-    (subst WalksAreReported c.get_nfa.ensures c.walk_is_right.ensures.reported) (subst WalkLiesWithin c.get_nfa.ensures c.walk_is_right.ensures.within)
+    (subst WalksAreReported c.get_nfa.ensures c.walk_is_right.ensures.reported)
+    (subst WalkLiesWithin c.get_nfa.ensures c.walk_is_right.ensures.within)

@@ -1,18 +1,12 @@
 -- What private functions and proofs need beside `Cache/Changes`; no contract of a public call reaches it.
-use Rattle.std.specs.Prelude.{◌≡◌, ℕ, ◌⊎◌, false, length}
+use Rattle.std.specs.Prelude.{◌≡◌, ℕ, ◌⊎◌, false, length, Option, None, Some}
 use Rattle.automata_base.specs.Powersets.Powerset.{Powerset, cost}
 use Rattle.automata_hybrid.specs.declared.cache.row.Row.{Row}
-use Rattle.automata_hybrid.specs.Cache.Table.{Names, Leads}
-use Rattle.automata_hybrid.specs.Private.Cache.Table.{Lacks}
-use Rattle.automata_hybrid.specs.Private.Cache.Table.{IsKnownState}
+use Rattle.automata_hybrid.specs.Cache.Table.{Names, Leads, row_of, Rows}
+use Rattle.automata_hybrid.specs.Private.Cache.Table.{Lacks, IsKnownState, with_row_in_store}
 use Rattle.automata_hybrid.specs.Cache.Stores.{Stored}
-use Rattle.automata_hybrid.specs.Private.Cache.Stores.{KeepsStarts, with_table}
-use Rattle.automata_hybrid.specs.Cache.Clears.{row_of}
-use Rattle.automata_hybrid.specs.Private.Cache.Stores.{with_next, with_start_in_store}
-use Rattle.automata_hybrid.specs.Private.Cache.Usage.{Fits, cleared, refuses_to_clear}
-use Rattle.std.specs.Prelude.{Option, None, Some}
-use Rattle.automata_hybrid.specs.Cache.Table.{Rows}
-use Rattle.automata_hybrid.specs.Private.Cache.Table.{with_row}
+use Rattle.automata_hybrid.specs.Private.Cache.Stores.{KeepsStarts, with_table, with_next, with_start_in_store}
+use Rattle.automata_hybrid.specs.Private.Cache.Usage.{Fits, cleared_in_store, refuses_in_store}
 use Rattle.automata_hybrid.specs.Private.Cache.Clears.{with_row_once}
 
 -- with the row that was found, if one was
@@ -22,11 +16,12 @@ put_found t (Some r) = with_row_once t r
 
 -- with one more row
 abbrev pub grown : Stored → Row → Stored
-grown c r = with_table c (with_row c.table r)
+grown c r = with_table c (with_row_in_store c.table r)
 
 -- cleared, the state of this ID saved, and with a new row
 abbrev pub cleared_saving_in_store : Stored → ℕ → Stored
-cleared_saving_in_store c id = with_table (cleared c) (put_found (cleared c).table (row_of c.table id))
+cleared_saving_in_store c id =
+    with_table (cleared_in_store c) (put_found (cleared_in_store c).table (row_of c.table id))
 
 -- what adding a state that is absent does to a cache, of which a clear leaves `emptied`
 pub data IsStateAdded (old emptied : Stored) (r : Row) (new : Stored) : Type 0 where
@@ -34,7 +29,7 @@ pub data IsStateAdded (old emptied : Stored) (r : Row) (new : Stored) : Type 0 w
   JustGrows : Fits old (cost r.state) → new ≡ grown old r → IsStateAdded old emptied r new
   -- it does not fit, and the cache is cleared first, which the clear rule allows
   ClearsFirst :
-      (Fits old (cost r.state) → ⊥) → refuses_to_clear old ≡ false → new ≡ grown emptied r
+      (Fits old (cost r.state) → ⊥) → refuses_in_store old ≡ false → new ≡ grown emptied r
       → IsStateAdded old emptied r new
 
 -- the whole effect of computing a transition from a state to a target, whose ID is written in the state's row
@@ -55,7 +50,7 @@ pub data IsStarted (old : Stored) (slot : ℕ) (r : Row) (new : Stored) (id : �
   StartsKnown : Leads old.table id r.state → new ≡ with_start_in_store old slot id → IsStarted old slot r new id
   -- none does: its row is added
   StartsAdded :
-      Lacks old.table r.state → (between : Stored) → IsStateAdded old (cleared old) r between
+      Lacks old.table r.state → (between : Stored) → IsStateAdded old (cleared_in_store old) r between
       → Names between.table id r.state → new ≡ with_start_in_store between slot id → IsStarted old slot r new id
 
 -- what adding a state that is absent returns: its ID

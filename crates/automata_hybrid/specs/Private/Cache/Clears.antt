@@ -3,14 +3,13 @@ use Rattle.std.specs.Prelude.{◌≡◌, ℕ, ◌+◌, ◌<◌, ◌≤◌, List,
 use Rattle.std.specs.Prelude.{cond, Option, is_some, slice_get, nat_le, unwrap_or}
 use Rattle.automata_base.specs.Powersets.Powerset.{Powerset}
 use Rattle.automata_hybrid.specs.declared.cache.row.Row.{Row}
-use Rattle.automata_hybrid.specs.Cache.Table.{Names, Rows, id_of, Leads, fresh}
+use Rattle.automata_hybrid.specs.Cache.Table.{Names, Rows, id_of, Leads, fresh, row_of}
 use Rattle.automata_hybrid.specs.Private.Cache.Stores.{KeepsStarts}
 use Rattle.automata_hybrid.specs.Cache.Ids.{unknown_id, fixed_from}
-use Rattle.automata_hybrid.specs.Cache.Clears.{row_of}
 use Rattle.automata_base.specs.Retraced.Steps.{start_state_of}
 use Rattle.automata_base.specs.declared.util.search.Anchored.{Anchored}
 use Rattle.automata_hybrid.specs.Machines.StartSlots.{slot_behind}
-use Rattle.automata_hybrid.specs.Private.Cache.Table.{with_row}
+use Rattle.automata_hybrid.specs.Private.Cache.Table.{with_row_in_store}
 
 -- an ID leads to the start state of a slot: that of each mode after each look-behind byte that has it
 abbrev pub LeadsToStart : Rows → ℕ → (slot : ℕ) → Type 0
@@ -29,7 +28,7 @@ AllStarts t starts = (slot id : ℕ) → slice_get starts slot ≡ Some id → I
 
 -- with this row, unless its state has one
 abbrev pub with_row_once : Rows → Row → Rows
-with_row_once t r = cond (is_some (id_of t r.state)) t (with_row t r)
+with_row_once t r = cond (is_some (id_of t r.state)) t (with_row_in_store t r)
 
 -- rows and slots while start states are kept
 pub record Kept : Type 0 where

@@ -4,9 +4,8 @@ use Rattle.automata_base.specs.Powersets.Powerset.{Powerset}
 use Rattle.automata_config.specs.declared.error.StepError.{StepError}
 use Rattle.automata_hybrid.specs.Cache.Stores.{IsCacheError}
 use Rattle.automata_hybrid.specs.Private.Cache.Stores.{KeepsStarts}
-use Rattle.automata_hybrid.specs.Private.Cache.Usage.{GivesUpInStore}
+use Rattle.automata_hybrid.specs.Private.Cache.Usage.{GivesUpInStore, cleared_in_store}
 use Rattle.automata_hybrid.specs.Cache.Caches.{CacheView}
-use Rattle.automata_hybrid.specs.Private.Cache.Usage.{cleared}
 use Rattle.automata_hybrid.specs.Private.Cache.Changes.{IsStateAdded}
 use Rattle.automata_hybrid.specs.Cache.Table.{Names}
 
@@ -18,7 +17,7 @@ pub record PutsBack (q : Powerset) (old new : CacheView) : Type 0 where
   -- it names the state
   pub named : Names new.store.table id q
   -- the state was added; if it did not fit, the cache was cleared first
-  pub added : IsStateAdded old.store (cleared old.store) (record { state = q; started = false }) new.store
+  pub added : IsStateAdded old.store (cleared_in_store old.store) (record { state = q; started = false }) new.store
   -- each start state that was cached is cached
   pub starts : KeepsStarts old.store.starts new.store.starts
   -- nothing was determinized

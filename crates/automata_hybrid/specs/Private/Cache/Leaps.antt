@@ -78,7 +78,8 @@ pub record AreLeaps (t : Rows) (l : Leaps) : Type 0 where
 abbrev pub leaps_bytes : ℕ → ℕ
 leaps_bytes cells = 64 + 4 * cells
 
--- the bytes that stand while leaps are made: these leaps, where one byte leads from each row and from none, and where one
+-- the bytes that stand while leaps are made: these leaps, where one byte leads from each row and from none, and where
+-- one
 -- byte less than a leap takes leads from each row
 abbrev pub making_bytes : Shape → ℕ
 making_bytes s = leaps_bytes (s.rows * s.width) + 4 * ((s.rows + 1) * s.classes + s.rows * (s.width / max s.classes 1))

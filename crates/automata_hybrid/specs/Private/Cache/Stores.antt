@@ -4,11 +4,10 @@ use Rattle.automata_config.specs.Options.{minimum_cache_clear_count_of, minimum_
 use Rattle.automata_hybrid.specs.declared.cache.settings.Settings.{Settings}
 use Rattle.automata_hybrid.specs.Machines.Machine.{Machine}
 use Rattle.automata_hybrid.specs.Cache.Ids.{unknown_id}
-use Rattle.automata_hybrid.specs.Private.Cache.Table.{with_cell}
+use Rattle.automata_hybrid.specs.Private.Cache.Table.{with_cell, HasCells, HasLowIds, HasNoDeadRow, HasOwnStates}
+use Rattle.automata_hybrid.specs.Private.Cache.Table.{HasRowIds}
 use Rattle.automata_hybrid.specs.Cache.Stores.{Stored, cell_of}
 use Rattle.automata_hybrid.specs.Cache.Table.{Rows, HasItsMatchTag}
-use Rattle.automata_hybrid.specs.Private.Cache.Table.{HasCells, HasLowIds, HasNoDeadRow, HasOwnStates}
-use Rattle.automata_hybrid.specs.Private.Cache.Table.{HasRowIds}
 
 -- what is true of each cache
 pub record IsSoundStore (c : Stored) : Type 0 where

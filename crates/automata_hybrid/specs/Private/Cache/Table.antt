@@ -82,8 +82,8 @@ abbrev pub Lacks : Rows → Powerset → Type 0
 Lacks t q = (id_of t q ≡ None) × (q ≡ dead → ⊥)
 
 -- with one more row
-abbrev pub with_row : Rows → Row → Rows
-with_row t r = record { of = t.of; cells = t.cells ++ t.of.template; rows = t.rows ++ r ∷ [] }
+abbrev pub with_row_in_store : Rows → Row → Rows
+with_row_in_store t r = record { of = t.of; cells = t.cells ++ t.of.template; rows = t.rows ++ r ∷ [] }
 
 -- with a cell written
 abbrev pub with_cell : Rows → ℕ → ℕ → ℕ → Rows

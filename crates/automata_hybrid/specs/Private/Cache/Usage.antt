@@ -1,27 +1,19 @@
 -- What private functions and proofs need beside `Cache/Usage`; no contract of a public call reaches it.
-use Rattle.std.specs.Prelude.{sum_by}
-use Rattle.std.specs.Prelude.{◌≡◌, ℕ, ◌+◌, ◌*◌, ◌^◌, ◌<◌, ◌≤◌, length, false, true}
-use Rattle.automata_base.specs.Powersets.Accounting.{minimum_capacity}
+use Rattle.std.specs.Prelude.{sum_by, ◌≡◌, ℕ, ◌+◌, ◌*◌, ◌^◌, ◌<◌, ◌≤◌, length, false, true, Bool, cond, Option, None}
+use Rattle.std.specs.Prelude.{Some, nat_lt}
+use Rattle.automata_base.specs.Powersets.Accounting.{minimum_capacity, cell_size, entry_size, fixed_rows_cost, row_size}
 use Rattle.automata_base.specs.Powersets.Powerset.{Powerset, cost}
 use Rattle.automata_hybrid.specs.declared.cache.settings.Settings.{Settings}
 use Rattle.automata_hybrid.specs.Cache.Ids.{offset_limit}
-use Rattle.automata_hybrid.specs.Private.Cache.Clears.{AllStarts}
-use Rattle.automata_hybrid.specs.Private.Cache.Clears.{kept}
-use Rattle.automata_hybrid.specs.Private.Cache.Clears.{KeepsAllStarts}
+use Rattle.automata_hybrid.specs.Private.Cache.Clears.{AllStarts, kept, KeepsAllStarts}
 use Rattle.automata_hybrid.specs.Cache.Stores.{Stored}
 use Rattle.automata_hybrid.specs.Private.Cache.Stores.{cache_settings}
 use Rattle.automata_hybrid.specs.Private.Cache.Table.{Lacks}
-use Rattle.std.specs.Prelude.{Bool, cond, Option, None, Some}
-use Rattle.std.specs.Prelude.{sum_by, nat_lt}
-use Rattle.automata_base.specs.Powersets.Accounting.{cell_size, entry_size, fixed_rows_cost}
-use Rattle.automata_base.specs.Powersets.Accounting.{row_size}
 use Rattle.automata_hybrid.specs.Machines.Machine.{Machine}
 use Rattle.automata_hybrid.specs.Cache.Table.{row_cost}
 use Rattle.automata_hybrid.specs.Cache.Progress.{saturated, total_len, progress_cleared}
 use Rattle.automata_config.specs.Options.{minimum_cache_clear_count_of, minimum_bytes_per_state_of}
 use Rattle.automata_hybrid.specs.Cache.Usage.{row_usage, short_of}
-use Rattle.automata_base.specs.Powersets.Accounting.{cell_size, entry_size, fixed_rows_cost, row_size}
-use Rattle.automata_hybrid.specs.Cache.Table.{row_cost}
 
 -- the accounted bytes: those of the cells and of the slots, of the rows with the three fixed ones, and of their entries
 -- in the map, which has one of these three; the costs of all states, and the room for determinization
@@ -44,12 +36,12 @@ refuses_at (Some limit) c =
     (length c.table.rows + 3) (total_len c.searched))
 
 -- the clear rule
-abbrev pub refuses_to_clear : Stored → Bool
-refuses_to_clear c = refuses_at (minimum_cache_clear_count_of c.table.of.config) c
+abbrev pub refuses_in_store : Stored → Bool
+refuses_in_store c = refuses_at (minimum_cache_clear_count_of c.table.of.config) c
 
 -- a clear that keeps the start states
-abbrev pub cleared : Stored → Stored
-cleared c = record {
+abbrev pub cleared_in_store : Stored → Stored
+cleared_in_store c = record {
   table = (kept c.table c.starts).table;
   starts = (kept c.table c.starts).starts;
   clears = saturated (c.clears + 1);
@@ -58,7 +50,7 @@ cleared c = record {
 
 -- why a call gives up at a state: it is not there, it does not fit, and the clear rule does not allow a clear
 abbrev pub GivesUpInStore : Stored → Powerset → Type 0
-GivesUpInStore c q = Lacks c.table q × (Fits c (cost q) → ⊥) × (refuses_to_clear c ≡ true)
+GivesUpInStore c q = Lacks c.table q × (Fits c (cost q) → ⊥) × (refuses_in_store c ≡ true)
 
 -- any state fits
 abbrev pub FitsAny : Stored → Type 0
@@ -67,9 +59,9 @@ FitsAny c = (extra : ℕ) → extra ≤ c.table.of.greatest → Fits c extra
 -- what a clear makes of a cache
 pub record IsCleared (old new : Stored) : Type 0 where
   -- The clear rule allows it.
-  pub allowed : refuses_to_clear old ≡ false
+  pub allowed : refuses_in_store old ≡ false
   -- The start states stay, and the progress of searches begins anew.
-  pub value : new ≡ cleared old
+  pub value : new ≡ cleared_in_store old
   -- Each slot is kept, and no other row.
   pub kept : KeepsAllStarts old.table old.starts (record { table = new.table; starts = new.starts })
 

@@ -1,6 +1,5 @@
 -- What private functions and proofs need beside `Machines/Machine`; no contract of a public call reaches it.
-use Rattle.std.specs.Prelude.{ℕ, ◌+◌, ◌*◌, ◌<◌, ◌≤◌, List, true, false}
-use Rattle.std.specs.Prelude.{Option, slice_index, length, ◌≡◌, ◌⊎◌}
+use Rattle.std.specs.Prelude.{ℕ, ◌+◌, ◌*◌, ◌<◌, ◌≤◌, List, true, false, Option, slice_index, length, ◌≡◌, ◌⊎◌}
 use Rattle.automata_base.specs.Powersets.Powerset.{Powerset}
 use Rattle.automata_base.specs.ByteClasses.Classes.{class_in, eoi_class, is_quit, stride_for}
 use Rattle.automata_base.specs.Retraced.Steps.{successor}

@@ -1,6 +1,5 @@
 -- What private functions and proofs need beside `Searches/PassContracts`; no contract of a public call reaches it.
-use Rattle.std.specs.Prelude.{ℕ, List, Bool, suc, ◌≡◌, ◌-◌, ◌<◌, ◌≤◌, true, false, Option, Some, None}
-use Rattle.std.specs.Prelude.{Result, Ok, Err}
+use Rattle.std.specs.Prelude.{ℕ, List, Bool, suc, ◌≡◌, ◌-◌, ◌<◌, ◌≤◌, true, false, Option, Some, None, Result, Ok, Err}
 use Rattle.automata_base.specs.Haystacks.Input.{Input, IsAllowed}
 use Rattle.automata_base.specs.Haystacks.Matches.{HalfMatch}
 use Rattle.automata_base.specs.declared.util.search.Direction.{Direction}
@@ -10,8 +9,7 @@ use Rattle.automata_config.specs.declared.error.SearchError.{SearchError}
 use Rattle.automata_hybrid.specs.Cache.Caches.{CacheView, IsCacheOf}
 use Rattle.automata_hybrid.specs.Machines.Machine.{Machine}
 use Rattle.automata_hybrid.specs.Searches.PassState.{IsAtAlong}
-use Rattle.automata_hybrid.specs.Private.Searches.PassState.{HasLearnedUnit, HasRun, IsFollowedAlong}
-use Rattle.automata_hybrid.specs.Private.Searches.PassState.{IsMetAlong}
+use Rattle.automata_hybrid.specs.Private.Searches.PassState.{HasLearnedUnit, HasRun, IsFollowedAlong, IsMetAlong}
 use Rattle.automata_hybrid.specs.Searches.Traces.{Trace, pass_trace}
 use Rattle.automata_hybrid.specs.declared.search.fast.follow.Stop.{Stop}
 use Rattle.automata_hybrid.specs.declared.search.plain.pass.Place.{Place}

@@ -9,7 +9,7 @@ use Rattle.automata_config.specs.declared.error.StepError.{StepError}
 use Rattle.automata_config.specs.declared.error.StepError.TheVariants as step
 use Rattle.automata_config.specs.declared.error.SearchError.{SearchError}
 use Rattle.automata_config.specs.declared.error.SearchError.TheVariants as search
-use Rattle.automata_hybrid.specs.Machines.Machine.{Machine}
+use Rattle.automata_hybrid.specs.Machines.Machine.{Machine, unit_class}
 use Rattle.automata_hybrid.specs.Cache.Table.{Rows, Names}
 use Rattle.automata_hybrid.specs.Searches.Passes.{tape_in}
 use Rattle.automata_hybrid.specs.Cache.Stores.{Stored}
@@ -20,7 +20,6 @@ use Rattle.automata_hybrid.specs.Cache.Ids.{HasMatchTag, unknown_id}
 use Rattle.automata_hybrid.specs.Private.Cache.Ids.{HasOnly, IsRunTag}
 use Rattle.automata_hybrid.specs.Steps.Steps.{known_step}
 use Rattle.automata_hybrid.specs.Private.Steps.Steps.{IsCellRead}
-use Rattle.automata_hybrid.specs.Machines.Machine.{unit_class}
 
 -- the error of a step, as a search reports it at an offset
 abbrev pub step_error : StepError → (at : ℕ) → SearchError
@@ -69,7 +68,8 @@ pub record IsOnTrace (s : Trace) (way : Direction) (m : Machine) (t : Rows) (inp
   pub named : Names t id (s.state k)
 
 -- a run along a trace may go on from an ID, to which so many units led it, up to a place
-pub record MayFollow (s : Trace) (way : Direction) (m : Machine) (t : Rows) (input : Input) (at end id : ℕ) : Type 0 where
+pub record MayFollow (s : Trace) (way : Direction) (m : Machine) (t : Rows) (input : Input) (at end id : ℕ) : Type
+    0 where
   -- the ID names the state after these units
   pub on : IsOnTrace s way m t input at id
   -- the span is not done

@@ -15,8 +15,8 @@ use Rattle.automata_hybrid.specs.Machines.Machine.{Machine, quits_on}
 use Rattle.automata_hybrid.specs.Steps.Steps.{IsStepAnswer}
 
 -- a step of a search on a unit, to which it has come, makes this of the cache
-abbrev pub IsStepped : Machine → Powerset → (unit : Option ℕ) → (at : ℕ) → (old new : CacheView) → Type 0
-IsStepped m q unit at old new =
+abbrev pub StepMakes : Machine → Powerset → (unit : Option ℕ) → (at : ℕ) → (old new : CacheView) → Type 0
+StepMakes m q unit at old new =
     after_event m (Step q unit) (moved at (known_of old)) (known_of old) ≡ Some (known_of new)
 
 -- a step of a search from an ID has returned this ID
@@ -27,7 +27,7 @@ pub record HasStepped (m : Machine) (id : ℕ) (unit : Option ℕ) (at : ℕ) (o
   pub quit : quits_on m unit ≡ true → new ≡ old
   -- At any other unit the step is made from the state that the ID names.
   pub taken :
-      quits_on m unit ≡ false → (q : Powerset) → Names old.store.table id q → IsStepped m q unit at old new
+      quits_on m unit ≡ false → (q : Powerset) → Names old.store.table id q → StepMakes m q unit at old new
 
 -- a step of a search from an ID fails
 pub record FailsToStep (m : Machine) (id : ℕ) (unit : Option ℕ) (at : ℕ) (old new : CacheView) (e : SearchError) :
@@ -61,7 +61,7 @@ pub record HasRead (m : Machine) (id : ℕ) (unit : Option ℕ) (at : ℕ) (old 
   -- The state that it begins from is not dead.
   pub alive : (q : Powerset) → Names old.store.table id q → q ≡ dead → ⊥
   -- The step was made from that state.
-  pub taken : (q : Powerset) → Names old.store.table id q → IsStepped m q unit at old new
+  pub taken : (q : Powerset) → Names old.store.table id q → StepMakes m q unit at old new
 
 -- a unit was not read from an ID, which returns this error: a quit byte and the "gave up" error each have an offset
 pub record FailsToRead (m : Machine) (id : ℕ) (unit : Option ℕ) (quit_at at : ℕ) (old new : CacheView)

@@ -9,8 +9,7 @@ use Rattle.automata_config.specs.declared.error.StepError.TheVariants as step
 use Rattle.automata_config.specs.declared.error.StartError.TheVariants as start
 use Rattle.automata_hybrid.specs.Machines.Machine.{Machine}
 use Rattle.automata_hybrid.specs.Machines.StartSlots.{slot_behind, supports}
-use Rattle.automata_hybrid.specs.Steps.Starts.{MayStart, quit_behind}
-use Rattle.automata_hybrid.specs.Steps.Starts.{start_search_error}
+use Rattle.automata_hybrid.specs.Steps.Starts.{MayStart, quit_behind, start_search_error}
 use Rattle.automata_hybrid.specs.Cache.Stores.{Stored}
 use Rattle.automata_hybrid.specs.Private.Cache.Stores.{IsKnownStart}
 use Rattle.automata_hybrid.specs.Private.Cache.Usage.{GivesUpInStore}

@@ -1,6 +1,5 @@
 -- What private functions and proofs need beside `Walks/Contracts`; no contract of a public call reaches it.
-use Rattle.std.specs.Prelude.{◌≡◌, ◌<◌, Bool, List, length, Result, Err}
-use Rattle.std.specs.Prelude.{IsOk, OnOk}
+use Rattle.std.specs.Prelude.{◌≡◌, ◌<◌, Bool, List, length, Result, Err, IsOk, OnOk}
 use Rattle.automata_base.specs.Answers.Answers.{ArePatternsFound}
 use Rattle.automata_base.specs.Haystacks.Input.{Input}
 use Rattle.automata_base.specs.Nfas.Nodes.{nfa_of}
@@ -9,8 +8,7 @@ use Rattle.automata_base.specs.Haystacks.PatternSet.{members}
 use Rattle.automata_base.specs.declared.util.search.Direction.TheVariants.{Forward}
 use Rattle.automata_config.specs.declared.error.SearchError.{SearchError}
 use Rattle.automata_hybrid.specs.Machines.Machine.{Machine, engine}
-use Rattle.automata_hybrid.specs.Searches.Contracts.{IsUnsupported}
-use Rattle.automata_hybrid.specs.Searches.Contracts.{unsupported_error}
+use Rattle.automata_hybrid.specs.Searches.Contracts.{IsUnsupported, unsupported_error}
 use Rattle.automata_hybrid.specs.Walks.Contracts.{JoinsReported}
 
 -- what a set is joined with, by passes and by paths

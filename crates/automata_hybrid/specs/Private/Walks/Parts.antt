@@ -21,8 +21,7 @@ use Rattle.automata_hybrid.specs.Cache.Table.{Leads, Names, Rows}
 use Rattle.automata_hybrid.specs.Walks.Answers.{IsWalkOf, ReportsNext, WalkReads}
 use Rattle.automata_hybrid.specs.Private.Walks.Answers.{GoesOn, IsArrival}
 use Rattle.automata_hybrid.specs.Walks.State.{Ids, Keeping, Walk}
-use Rattle.automata_hybrid.specs.Private.Walks.State.{IsHeldAt, IsHeldItself}
-use Rattle.automata_hybrid.specs.Private.Walks.State.{keeping_of}
+use Rattle.automata_hybrid.specs.Private.Walks.State.{IsHeldAt, IsHeldItself, keeping_of}
 use Rattle.automata_hybrid.specs.declared.search.walk.Held.{Held}
 
 -- a walk over this input, and what is held is the state where it stands

@@ -5,8 +5,8 @@ ghost use Rattle.automata_hybrid.specs.Cache.Caches.{IsCacheOf};
 ghost use Rattle.automata_hybrid.specs.Cache.Ids.{fixed_from};
 ghost use Rattle.automata_hybrid.specs.Private.Cache.Ids.{HasOnly, IsRunTag};
 ghost use Rattle.automata_hybrid.specs.Private.Searches.PassContracts.{FollowsAlong};
-ghost use Rattle.automata_hybrid.specs.Private.Searches.PassState.{IsMatchRun, IsMetAlong, IsNextCell, IsOnTrace, IsRun};
-ghost use Rattle.automata_hybrid.specs.Private.Searches.PassState.{IsTagAt, MayFollow, MeetsMatch};
+ghost use Rattle.automata_hybrid.specs.Private.Searches.PassState.{IsMatchRun, IsMetAlong, IsNextCell, IsOnTrace};
+ghost use Rattle.automata_hybrid.specs.Private.Searches.PassState.{IsRun, IsTagAt, MayFollow, MeetsMatch};
 ghost use Rattle.automata_hybrid.specs.Searches.Traces.{Trace};
 ghost use Rattle.automata_hybrid.specs.Private.Searches.SelfLoops.{IsSelfLoop};
 ghost use Rattle.automata_hybrid.specs.Cache.Table.{IsRowId};
@@ -31,8 +31,8 @@ pub(crate) struct Stop {
 }
 
 impl DFA {
-    /// Follows cached transitions to IDs that have a tag and no other, up to a place, and a self-loop beyond it. From an ID
-    /// that has another tag it follows none.
+    /// Follows cached transitions to IDs that have a tag and no other, up to a place, and a self-loop beyond it. From
+    /// an ID that has another tag it follows none.
     #[inline(always)]
     pub(crate) fn follow(
         &self,
@@ -87,8 +87,8 @@ impl DFA {
         self.follow_rest(cache, input, way, at, id, tag, end)
     }
 
-    /// The ID that comes next at a place, if that is before another one: unknown if the transition is not cached, and if
-    /// the place is not before it.
+    /// The ID that comes next at a place, if that is before another one: unknown if the transition is not cached, and
+    /// if the place is not before it.
     #[inline(always)]
     pub(crate) fn next_known(
         &self,

@@ -14,7 +14,8 @@ use crate::id::LazyStateID;
 use crate::search::fast::lanes::{LANES, are_in, are_in_either, count_in_either};
 use automata_base::util::search::Direction;
 
-/// Where fewer bytes are left, no self-loop is looked for: a look in vain reads up to eight cells, which are read again.
+/// Where fewer bytes are left, no self-loop is looked for: a look in vain reads up to eight cells, which are read
+/// again.
 const FEW: usize = 16;
 
 /// How many bytes of a self-loop are followed eight at once before its ranges are looked for.

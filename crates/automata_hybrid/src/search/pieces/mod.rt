@@ -1,9 +1,8 @@
 //! A search forward whose haystack comes in pieces. Between two pieces it holds its powerset state, as a walk does, so
-//! that its cache may serve other searches and be cleared, and another cache of the same DFA may take over. `walk` is one
-//! that stops at each match.
+//! that its cache may serve other searches and be cleared, and another cache of the same DFA may take over. `walk` is
+//! one that stops at each match.
 ghost use Rattle.std.specs.Prelude.{ℕ, ◌≡◌, ◌+◌, ◌-◌, ◌^◌, ◌<◌, ◌≤◌, length, IfOk, IfErr, IfNone, IfSome, OnOk, OnErr};
-ghost use Rattle.std.specs.Prelude.{slice_index};
-ghost use Rattle.std.specs.Prelude.{Some, None, true, false};
+ghost use Rattle.std.specs.Prelude.{slice_index, Some, None, true, false};
 ghost use Rattle.std.specs.Result.{result_err};
 ghost use Rattle.automata_base.specs.declared.util.search.Direction.TheVariants.{Forward};
 ghost use Rattle.automata_hybrid.specs.Cache.Caches.{IsCacheOf};

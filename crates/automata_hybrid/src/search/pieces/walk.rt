@@ -7,9 +7,8 @@ ghost use Rattle.automata_hybrid.specs.Cache.Table.{IsRowId, Leads};
 ghost use Rattle.automata_hybrid.specs.Known.Pieces.{IsBeginRun, IsWalkCallRun, IsWalkEndRun};
 ghost use Rattle.automata_hybrid.specs.Known.Stores.{known_of};
 ghost use Rattle.automata_hybrid.specs.Pieces.State.{IsPiecesOf};
-ghost use Rattle.automata_hybrid.specs.Pieces.Walks.{HasBegunWalk, IsWalked};
+ghost use Rattle.automata_hybrid.specs.Pieces.Walks.{HasBegunWalk, IsWalked, EndsWith, patterns_here};
 ghost use Rattle.automata_hybrid.specs.Private.Pieces.Walks.{IsPiecesWalk, StandsInRow};
-ghost use Rattle.automata_hybrid.specs.Pieces.Walks.{EndsWith, patterns_here};
 
 use crate::cache::Cache;
 use crate::cache::handle::Handle;
@@ -175,8 +174,8 @@ impl DFA {
     /// Reads a piece up to the next offset at which patterns match, or to its end, and returns how many bytes it has
     /// read: give the rest of the piece to the next call.
     ///
-    /// Matches are delayed by one byte. So an offset is reported once the byte after it is read, and it is the number of
-    /// bytes read less one; `end_walk` reports the end of the haystack itself. Once nothing can match
+    /// Matches are delayed by one byte. So an offset is reported once the byte after it is read, and it is the number
+    /// of bytes read less one; `end_walk` reports the end of the haystack itself. Once nothing can match
     /// (`PiecesWalk::is_done`) the rest is passed over unread.
     ///
     /// It fails as `read_piece` does, and the walk stands then where it stood before the call, at the same match.

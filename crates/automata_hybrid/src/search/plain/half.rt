@@ -1,14 +1,12 @@
 //! Searches for one end of a match: one span after another, as long as offsets inside a character are skipped.
-ghost use Rattle.std.specs.Prelude.{◌≡◌, ◌+◌, ◌-◌, ◌<◌, IfOk, IfSome};
-ghost use Rattle.std.specs.Prelude.{None, Err, Ok};
+ghost use Rattle.std.specs.Prelude.{◌≡◌, ◌+◌, ◌-◌, ◌<◌, IfOk, IfSome, None, Err, Ok};
 ghost use Rattle.std.specs.Result.{result_err};
 ghost use Rattle.automata_base.specs.declared.util.search.Direction.TheVariants.{Forward, Backward};
 ghost use Rattle.automata_hybrid.specs.Cache.Caches.{IsCacheOf};
 ghost use Rattle.automata_hybrid.specs.Searches.Contracts.{IsBased, IsHalf, IsUnsupported, based_half};
-ghost use Rattle.automata_hybrid.specs.Private.Searches.Contracts.{halves};
 ghost use Rattle.automata_hybrid.specs.Searches.Contracts.{unsupported_error};
+ghost use Rattle.automata_hybrid.specs.Private.Searches.Contracts.{halves, IsSearchResult};
 ghost use Rattle.automata_hybrid.specs.Private.Searches.PassContracts.{MayBegin, input_at};
-ghost use Rattle.automata_hybrid.specs.Private.Searches.Contracts.{IsSearchResult};
 ghost use Rattle.automata_hybrid.specs.Searches.Passes.{IsFound, WithoutBase};
 ghost use Rattle.automata_hybrid.specs.Known.Passes.{HaveTried, IsSearchRun};
 ghost use Rattle.automata_hybrid.specs.Known.Stores.{known_of};

@@ -20,8 +20,8 @@ use crate::id::LazyStateID;
 use crate::search::direction::{byte_at, byte_behind, last_place, place_offset, unit_at};
 use automata_base::util::search::{Direction, HalfMatch, Input};
 
-/// How many bytes a pass follows before it leaves the others to its rest, which looks for leaps. A self-loop is followed
-/// beyond them.
+/// How many bytes a pass follows before it leaves the others to its rest, which looks for leaps. A self-loop is
+/// followed beyond them.
 const FIRST_RUN: usize = 1024;
 
 /// Why a pass over cached transitions stopped.

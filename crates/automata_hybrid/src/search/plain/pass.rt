@@ -1,6 +1,5 @@
 //! One run over the span of an input, in either direction.
-ghost use Rattle.std.specs.Prelude.{true, ℕ, ◌≡◌, ◌-◌, ◌<◌, ◌≤◌, Option};
-ghost use Rattle.std.specs.Prelude.{None, Err};
+ghost use Rattle.std.specs.Prelude.{true, ℕ, ◌≡◌, ◌-◌, ◌<◌, ◌≤◌, Option, None, Err};
 ghost use Rattle.automata_base.specs.Answers.Answers.{offset_in};
 ghost use Rattle.automata_base.specs.Haystacks.Input.{Allows};
 ghost use Rattle.automata_base.specs.Haystacks.Matches.{HalfMatch};
@@ -10,13 +9,11 @@ ghost use Rattle.automata_hybrid.specs.Known.Stores.{known_of};
 ghost use Rattle.automata_hybrid.specs.Cache.Ids.{HasMatchTag, unknown_id};
 ghost use Rattle.automata_hybrid.specs.Cache.Caches.{IsCacheOf};
 ghost use Rattle.automata_hybrid.specs.Searches.Contracts.{IsUnsupported, unsupported_error};
-ghost use Rattle.automata_hybrid.specs.Private.Searches.PassContracts.{IsKnownUpto};
-ghost use Rattle.automata_hybrid.specs.Private.Searches.PassContracts.{IsLastRead, IsPassResult, IsRest, IsTakenUp, half_if};
+ghost use Rattle.automata_hybrid.specs.Private.Searches.PassContracts.{IsKnownUpto, IsLastRead, IsPassResult, IsRest};
+ghost use Rattle.automata_hybrid.specs.Private.Searches.PassContracts.{IsTakenUp, half_if, input_at, RunsAlong};
 ghost use Rattle.automata_hybrid.specs.Searches.PassContracts.{IsUnderway};
-ghost use Rattle.automata_hybrid.specs.Private.Searches.PassContracts.{input_at};
 ghost use Rattle.automata_hybrid.specs.Searches.PassState.{IsAtAlong, half_at};
 ghost use Rattle.automata_hybrid.specs.Private.Searches.PassState.{HasRun, IsMetAlong, IsNextCell, MayFollow};
-ghost use Rattle.automata_hybrid.specs.Private.Searches.PassContracts.{RunsAlong};
 ghost use Rattle.automata_hybrid.specs.Searches.Traces.{Trace};
 ghost use Rattle.automata_hybrid.specs.Private.Searches.Traces.{IsTrace};
 ghost use Rattle.automata_hybrid.specs.Cache.Table.{IsRowId, Names};
@@ -444,8 +441,8 @@ impl DFA {
         Some(HalfMatch::new(self.first_pattern(cache, reported), offset))
     }
 
-    /// Goes on by leaps, where a run has come to the place where it looks for them; and the place where it looks for them
-    /// next.
+    /// Goes on by leaps, where a run has come to the place where it looks for them; and the place where it looks for
+    /// them next.
     #[inline(always)]
     pub(crate) fn go_far(
         &self,

@@ -1,6 +1,5 @@
 //! How a walk goes on, in either direction, to the next state whose patterns match.
-ghost use Rattle.std.specs.Prelude.{◌≡◌, ◌-◌, ◌<◌, ◌≤◌, ◌⊎◌, Some, []};
-ghost use Rattle.std.specs.Prelude.{true, false, length};
+ghost use Rattle.std.specs.Prelude.{◌≡◌, ◌-◌, ◌<◌, ◌≤◌, ◌⊎◌, Some, [], true, false, length};
 ghost use Rattle.automata_base.specs.Answers.Answers.{offset_in};
 ghost use Rattle.automata_base.specs.Powersets.Powerset.{Powerset};
 ghost use Rattle.automata_base.specs.Haystacks.Tapes.{is_split};
@@ -8,8 +7,7 @@ ghost use Rattle.automata_hybrid.specs.Cache.Caches.{IsCacheOf};
 ghost use Rattle.automata_hybrid.specs.Private.Searches.PassContracts.{FollowsTo};
 ghost use Rattle.automata_hybrid.specs.Private.Searches.PassState.{IsFollowed, IsMet};
 ghost use Rattle.automata_hybrid.specs.Private.Walks.Parts.{IsAdvanceResult, IsUnitResult, StandsAfterUnits};
-ghost use Rattle.automata_hybrid.specs.Searches.Passes.{HasReadNoQuit, Skips};
-ghost use Rattle.automata_hybrid.specs.Searches.Passes.{state_in, unit_offset};
+ghost use Rattle.automata_hybrid.specs.Searches.Passes.{HasReadNoQuit, Skips, state_in, unit_offset};
 ghost use Rattle.automata_hybrid.specs.Cache.Table.{IsRowId, Names};
 ghost use Rattle.automata_hybrid.specs.Walks.Answers.{WalkReads};
 
@@ -87,8 +85,8 @@ impl DFA {
         !self.skips_at(input, place_offset(input, way, place))
     }
 
-    /// Follows one cached transition from an ID with a tag to one without, so that a walk goes on from a match as it does
-    /// from any other state. From an ID without a tag, it follows none.
+    /// Follows one cached transition from an ID with a tag to one without, so that a walk goes on from a match as it
+    /// does from any other state. From an ID without a tag, it follows none.
     fn leave_tag(
         &self,
         cache: &Cache,
@@ -127,8 +125,8 @@ impl DFA {
         }
     }
 
-    /// Follows cached transitions to IDs without a tag, up to a place, and a self-loop beyond it: each direction has its
-    /// own loop.
+    /// Follows cached transitions to IDs without a tag, up to a place, and a self-loop beyond it: each direction has
+    /// its own loop.
     #[inline(always)]
     fn follow_walk(
         &self,
@@ -172,8 +170,8 @@ impl DFA {
         }
     }
 
-    /// Goes on by leaps, where a walk has come to the place where it looks for them; and the place where it looks for them
-    /// next.
+    /// Goes on by leaps, where a walk has come to the place where it looks for them; and the place where it looks for
+    /// them next.
     #[inline(always)]
     fn walk_far(
         &self,

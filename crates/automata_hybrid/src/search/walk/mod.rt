@@ -1,13 +1,11 @@
 //! How far an overlapping search is, and what it holds between its calls. `advance` takes it to the next match,
 //! `overlapping` is one call, and `which` collects the patterns of all.
-ghost use Rattle.std.specs.Prelude.{◌≡◌, ◌+◌, ◌<◌, ◌≤◌, ◌^◌, IfOk, OnOk, OnErr, length, true, false};
-ghost use Rattle.std.specs.Prelude.{None};
+ghost use Rattle.std.specs.Prelude.{◌≡◌, ◌+◌, ◌<◌, ◌≤◌, ◌^◌, IfOk, OnOk, OnErr, length, true, false, None};
 ghost use Rattle.automata_base.specs.Powersets.Powerset.{Powerset};
 ghost use Rattle.automata_hybrid.specs.Cache.Table.{IsRowId, Names};
-ghost use Rattle.automata_hybrid.specs.Walks.State.{At, Ended, Fresh, States, fresh_walk};
-ghost use Rattle.automata_hybrid.specs.Private.Walks.State.{ended_walk, keeping_of};
-ghost use Rattle.automata_hybrid.specs.Private.Walks.State.{Holds, HoldsNone, IsHeldItself, with_match};
-ghost use Rattle.automata_hybrid.specs.Walks.State.{without_match};
+ghost use Rattle.automata_hybrid.specs.Walks.State.{At, Ended, Fresh, States, fresh_walk, without_match};
+ghost use Rattle.automata_hybrid.specs.Private.Walks.State.{ended_walk, keeping_of, Holds, HoldsNone, IsHeldItself};
+ghost use Rattle.automata_hybrid.specs.Private.Walks.State.{with_match};
 
 mod advance;
 mod overlapping;

@@ -1,6 +1,6 @@
 //! Overlapping searches: each call reports the next match, with any cache of the DFA.
-ghost use Rattle.std.specs.Prelude.{ℕ, ◌≡◌, ◌+◌, ◌-◌, ◌<◌, ◌≤◌, ◌^◌, IfOk, IfErr, IfNone, IfSome, OnOk, OnErr};
-ghost use Rattle.std.specs.Prelude.{Some, length, slice_index};
+ghost use Rattle.std.specs.Prelude.{ℕ, ◌≡◌, ◌+◌, ◌-◌, ◌<◌, ◌≤◌, ◌^◌, IfOk, IfErr, IfNone, IfSome, OnOk, OnErr, Some};
+ghost use Rattle.std.specs.Prelude.{length, slice_index};
 ghost use Rattle.std.specs.Result.{result_err};
 ghost use Rattle.automata_base.specs.Powersets.Powerset.{Powerset};
 ghost use Rattle.automata_base.specs.declared.util.search.Direction.TheVariants.{Forward, Backward};
@@ -14,10 +14,8 @@ ghost use Rattle.automata_hybrid.specs.Private.Searches.PassState.{step_error};
 ghost use Rattle.automata_hybrid.specs.Searches.Passes.{tape_in};
 ghost use Rattle.automata_hybrid.specs.Steps.Starts.{MayStart};
 ghost use Rattle.automata_hybrid.specs.Cache.Table.{IsRowState, Names};
-ghost use Rattle.automata_hybrid.specs.Walks.Answers.{HasReported, HasReportedBy};
+ghost use Rattle.automata_hybrid.specs.Walks.Answers.{HasReported, HasReportedBy, IsWalkOf, ReportsNext};
 ghost use Rattle.automata_hybrid.specs.Private.Walks.Answers.{Arrives};
-ghost use Rattle.automata_hybrid.specs.Walks.Answers.{IsWalkOf};
-ghost use Rattle.automata_hybrid.specs.Walks.Answers.{ReportsNext};
 ghost use Rattle.automata_hybrid.specs.Walks.State.{At, Ended, States, without_match};
 ghost use Rattle.automata_hybrid.specs.Private.Walks.State.{IsHeldAt, keeping_of};
 

@@ -117,8 +117,8 @@ impl Cache {
             .saturating_add(self.reverse.memory_usage())
     }
 
-    /// The bytes that the leaps of both take now, beside the accounted ones: by them a search over a long text reads a few
-    /// bytes at a step. Each part keeps its accounted bytes and its leaps within its own capacity.
+    /// The bytes that the leaps of both take now, beside the accounted ones: by them a search over a long text reads a
+    /// few bytes at a step. Each part keeps its accounted bytes and its leaps within its own capacity.
     pub fn leap_usage(&self) -> usize
         ensures { usage (dfa_of self.now.forward) (known_of self.now.forward)
             + usage (dfa_of self.now.reverse) (known_of self.now.reverse) + result

@@ -8,7 +8,8 @@ pub returns-clause-of : goal.returns-clause-of
 returns-clause-of c = c.in_ok-id.ensures.answer.of ∙ c.requires.dfa
 
 pub returns-in_err-id-clause-of : goal.returns-in_err-id-clause-of
-returns-in_err-id-clause-of c = ap (λ (v : CacheView). v.store.table.of) c.in_err-id.ensures.refused.kept ∙ c.requires.dfa
+returns-in_err-id-clause-of c =
+    ap (λ (v : CacheView). v.store.table.of) c.in_err-id.ensures.refused.kept ∙ c.requires.dfa
 
 pub returns-clause-back : goal.returns-clause-back
 returns-clause-back c =

@@ -1,6 +1,6 @@
 use Rattle.std.proofs.Common.{◌≡◌, ◌∙◌, ◌<◌, ◌^◌, ap, inr, sym, subst}
 use Rattle.automata_base.specs.Powersets.Powerset.{Powerset}
-use Rattle.automata_hybrid.specs.Cache.Caches.{CacheView, counted}
+use Rattle.automata_hybrid.specs.Cache.Caches.{CacheView, counted_in_store}
 use Rattle.automata_hybrid.specs.Private.Cache.LookUps.{IsLookedUp}
 use Rattle.automata_hybrid.specs.Cache.Table.{Leads, Names}
 use Rattle.automata_hybrid.specs.Private.Cache.Table.{IsNewState}
@@ -16,60 +16,95 @@ use Rattle.automata_hybrid.proofs.Searches.PassState.{if_err}
 use Rattle.automata_hybrid.proofs.cache.Cache.compute_next.Goals.{After-see_bounds-in-Known, After-see_bounds-in-New}
 use Rattle.automata_hybrid.proofs.cache.Cache.compute_next.Goals as goal
 
-known : (c : After-see_bounds-in-Known) → ComputesStep c.args.dfa.now c.args.id c.args.unit c.args.self.now c.set_next.new.self c.unit_class-class.result c.in-Known.to
+known :
+    (c : After-see_bounds-in-Known)
+    → ComputesStep c.args.dfa.now c.args.id c.args.unit c.args.self.now c.set_next.new.self c.unit_class-class.result
+    c.in-Known.to
 known c =
-    let leads : Leads c.resolve.new.self.store.table c.in-Known.to c.in_ok-key.key = looked_up c.determinize.new.self c.resolve.new.self c.in_ok-key.key _ (Known c.in-Known.to) c.resolve.ensures.same c.in-Known.is c.in_ok-to.ensures.found in
-    computes_known c.args.dfa.now c.args.id c.args.unit c.args.self.now c.resolve.new.self c.set_next.new.self c.unit_class-class.result c.in-Known.to c.in_ok-key.key
+    let leads : Leads c.resolve.new.self.store.table c.in-Known.to c.in_ok-key.key =
+    looked_up c.determinize.new.self c.resolve.new.self c.in_ok-key.key _ (Known c.in-Known.to) c.resolve.ensures.same
+    c.in-Known.is c.in_ok-to.ensures.found in
+    computes_known c.args.dfa.now c.args.id c.args.unit c.args.self.now c.resolve.new.self c.set_next.new.self
+    c.unit_class-class.result c.in-Known.to c.in_ok-key.key
     (c.resolve.ensures.same ∙ c.determinize.ensures.counted) c.set_next.ensures leads c.in_ok-key.ensures.value
 
-new : (c : After-see_bounds-in-New) → ComputesStep c.args.dfa.now c.args.id c.args.unit c.args.self.now c.set_next-in-New.new.self c.unit_class-class.result c.in_ok-from-in-New.to
+new :
+    (c : After-see_bounds-in-New)
+    → ComputesStep c.args.dfa.now c.args.id c.args.unit c.args.self.now c.set_next-in-New.new.self
+    c.unit_class-class.result c.in_ok-from-in-New.to
 new c =
-    let found : IsLookedUp c.resolve.new.self.store.table c.in_ok-key.key (New c.in-New.state) = looked_up c.determinize.new.self c.resolve.new.self c.in_ok-key.key _ (New c.in-New.state) c.resolve.ensures.same c.in-New.is c.in_ok-to.ensures.found in
-    computes_new c.args.dfa.now c.args.id c.args.unit c.args.self.now c.resolve.new.self c.add_next.new.self c.set_next-in-New.new.self c.unit_class-class.result c.in_ok-from-in-New.from c.in_ok-from-in-New.to c.in-New.state c.in_ok-key.key
-    (c.resolve.ensures.same ∙ c.determinize.ensures.counted) c.in_ok-from-in-New.ensures.answer c.in_ok-from-in-New.ensures.counted c.set_next-in-New.ensures found.0 found.1 c.in_ok-key.ensures.value
+    let found : IsLookedUp c.resolve.new.self.store.table c.in_ok-key.key (New c.in-New.state) =
+    looked_up c.determinize.new.self c.resolve.new.self c.in_ok-key.key _ (New c.in-New.state) c.resolve.ensures.same
+    c.in-New.is c.in_ok-to.ensures.found in
+    computes_new c.args.dfa.now c.args.id c.args.unit c.args.self.now c.resolve.new.self c.add_next.new.self
+    c.set_next-in-New.new.self c.unit_class-class.result c.in_ok-from-in-New.from c.in_ok-from-in-New.to c.in-New.state
+    c.in_ok-key.key
+    (c.resolve.ensures.same ∙ c.determinize.ensures.counted) c.in_ok-from-in-New.ensures.answer
+    c.in_ok-from-in-New.ensures.counted c.set_next-in-New.ensures found.0 found.1 c.in_ok-key.ensures.value
 
 after_known : (c : After-see_bounds-in-Known) → c.set_next.new.self.store.table.of ≡ c.args.dfa.now
 after_known c =
-    ap (λ (v : CacheView). v.store.table.of) c.set_next.ensures ∙ (ap (λ (v : CacheView). v.store.table.of) (c.resolve.ensures.same ∙ c.determinize.ensures.counted) ∙ c.requires.of)
+    ap (λ (v : CacheView). v.store.table.of) c.set_next.ensures
+    ∙ (ap (λ (v : CacheView). v.store.table.of) (c.resolve.ensures.same ∙ c.determinize.ensures.counted)
+    ∙ c.requires.of)
 
 after_new : (c : After-see_bounds-in-New) → c.set_next-in-New.new.self.store.table.of ≡ c.args.dfa.now
 after_new c =
     ap (λ (v : CacheView). v.store.table.of) c.set_next-in-New.ensures
-    ∙ (c.in_ok-from-in-New.ensures.answer.row.of ∙ (ap (λ (v : CacheView). v.store.table.of) (c.resolve.ensures.same ∙ c.determinize.ensures.counted) ∙ c.requires.of))
+    ∙ (c.in_ok-from-in-New.ensures.answer.row.of
+    ∙ (ap (λ (v : CacheView). v.store.table.of) (c.resolve.ensures.same ∙ c.determinize.ensures.counted)
+    ∙ c.requires.of))
 
 pub set_next-requires-clause-next : goal.set_next-requires-clause-next
 set_next-requires-clause-next c =
-    let same : c.resolve.new.self ≡ counted c.args.self.now = c.resolve.ensures.same ∙ c.determinize.ensures.counted in
-    let leads : Leads c.resolve.new.self.store.table c.in-Known.to c.in_ok-key.key = looked_up c.determinize.new.self c.resolve.new.self c.in_ok-key.key _ (Known c.in-Known.to) c.resolve.ensures.same c.in-Known.is c.in_ok-to.ensures.found in (
+    let same : c.resolve.new.self ≡ counted_in_store c.args.self.now =
+    c.resolve.ensures.same ∙ c.determinize.ensures.counted in
+    let leads : Leads c.resolve.new.self.store.table c.in-Known.to c.in_ok-key.key =
+    looked_up c.determinize.new.self c.resolve.new.self c.in_ok-key.key _ (Known c.in-Known.to) c.resolve.ensures.same
+    c.in-Known.is c.in_ok-to.ensures.found in (
       c.requires.valid.0,
       subst (λ (v : CacheView). Names v.store.table c.args.id c.requires.valid.0) (sym same) c.requires.valid.1,
-      key_leads c.args.dfa.now c.resolve.new.self.store.table c.requires.valid.0 c.in_ok-key.key c.args.unit c.unit_class-class.result c.in-Known.to
+      key_leads c.args.dfa.now c.resolve.new.self.store.table c.requires.valid.0 c.in_ok-key.key c.args.unit
+          c.unit_class-class.result c.in-Known.to
           (ap (λ (v : CacheView). v.store.table.of) same ∙ c.requires.of) c.unit_class-class.ensures.value
           (c.in_ok-key.ensures.alike c.requires.valid.0 c.requires.valid.1) leads,
     )
 
 pub set_next-requires-in-New-clause-next : goal.set_next-requires-in-New-clause-next
 set_next-requires-in-New-clause-next c =
-    let same : c.resolve.new.self ≡ counted c.args.self.now = c.resolve.ensures.same ∙ c.determinize.ensures.counted in
-    let found : IsLookedUp c.resolve.new.self.store.table c.in_ok-key.key (New c.in-New.state) = looked_up c.determinize.new.self c.resolve.new.self c.in_ok-key.key _ (New c.in-New.state) c.resolve.ensures.same c.in-New.is c.in_ok-to.ensures.found in
+    let same : c.resolve.new.self ≡ counted_in_store c.args.self.now =
+    c.resolve.ensures.same ∙ c.determinize.ensures.counted in
+    let found : IsLookedUp c.resolve.new.self.store.table c.in_ok-key.key (New c.in-New.state) =
+    looked_up c.determinize.new.self c.resolve.new.self c.in_ok-key.key _ (New c.in-New.state) c.resolve.ensures.same
+    c.in-New.is c.in_ok-to.ensures.found in
     let answer = c.in_ok-from-in-New.ensures.answer in (
       c.requires.valid.0,
-      answer.saved c.requires.valid.0 (subst (λ (v : CacheView). Names v.store.table c.args.id c.requires.valid.0) (sym same) c.requires.valid.1),
-      key_leads c.args.dfa.now c.add_next.new.self.store.table c.requires.valid.0 c.in_ok-key.key c.args.unit c.unit_class-class.result c.in_ok-from-in-New.to
-          (answer.row.of ∙ (ap (λ (v : CacheView). v.store.table.of) same ∙ c.requires.of)) c.unit_class-class.ensures.value
-          (c.in_ok-key.ensures.alike c.requires.valid.0 c.requires.valid.1) (inr (subst (Names c.add_next.new.self.store.table c.in_ok-from-in-New.to) found.0 answer.row.named)),
+      answer.saved c.requires.valid.0
+          (subst (λ (v : CacheView). Names v.store.table c.args.id c.requires.valid.0) (sym same) c.requires.valid.1),
+      key_leads c.args.dfa.now c.add_next.new.self.store.table c.requires.valid.0 c.in_ok-key.key c.args.unit
+          c.unit_class-class.result c.in_ok-from-in-New.to
+          (answer.row.of ∙ (ap (λ (v : CacheView). v.store.table.of) same ∙ c.requires.of))
+          c.unit_class-class.ensures.value
+          (c.in_ok-key.ensures.alike c.requires.valid.0 c.requires.valid.1)
+          (inr (subst (Names c.add_next.new.self.store.table c.in_ok-from-in-New.to) found.0 answer.row.named)),
     )
 
 pub add_next-requires-clause-new : goal.add_next-requires-clause-new
 add_next-requires-clause-new c =
-    let found : IsLookedUp c.resolve.new.self.store.table c.in_ok-key.key (New c.in-New.state) = looked_up c.determinize.new.self c.resolve.new.self c.in_ok-key.key _ (New c.in-New.state) c.resolve.ensures.same c.in-New.is c.in_ok-to.ensures.found in
-    let of : c.resolve.new.self.store.table.of ≡ c.args.dfa.now = ap (λ (v : CacheView). v.store.table.of) (c.resolve.ensures.same ∙ c.determinize.ensures.counted) ∙ c.requires.of in
-    let key : IsNewState c.resolve.new.self.store.table c.in_ok-key.key = new_state c.args.dfa.now c.resolve.new.self.store.table c.in_ok-key.key of found.1 c.in_ok-key.ensures.cost c.in_ok-key.ensures.is_of in
+    let found : IsLookedUp c.resolve.new.self.store.table c.in_ok-key.key (New c.in-New.state) =
+    looked_up c.determinize.new.self c.resolve.new.self c.in_ok-key.key _ (New c.in-New.state) c.resolve.ensures.same
+    c.in-New.is c.in_ok-to.ensures.found in
+    let of : c.resolve.new.self.store.table.of ≡ c.args.dfa.now =
+    ap (λ (v : CacheView). v.store.table.of) (c.resolve.ensures.same ∙ c.determinize.ensures.counted) ∙ c.requires.of in
+    let key : IsNewState c.resolve.new.self.store.table c.in_ok-key.key =
+    new_state c.args.dfa.now c.resolve.new.self.store.table c.in_ok-key.key of found.1 c.in_ok-key.ensures.cost
+    c.in_ok-key.ensures.is_of in
     subst (λ (q : Powerset). IsNewState c.resolve.new.self.store.table q) (sym found.0) key
 
 pub returns-in_err-from-in-New-clause-refusal : goal.returns-in_err-from-in-New-clause-refusal
 returns-in_err-from-in-New-clause-refusal c =
-    let same : c.resolve.new.self ≡ counted c.args.self.now = c.resolve.ensures.same ∙ c.determinize.ensures.counted in
+    let same : c.resolve.new.self ≡ counted_in_store c.args.self.now =
+    c.resolve.ensures.same ∙ c.determinize.ensures.counted in
     let found : IsLookedUp c.resolve.new.self.store.table c.in_ok-key.key (New c.in-New.state) =
     looked_up c.determinize.new.self c.resolve.new.self c.in_ok-key.key _ (New c.in-New.state) c.resolve.ensures.same
     c.in-New.is c.in_ok-to.ensures.found in
@@ -86,8 +121,10 @@ returns-in_err-from-in-New-clause-refusal c =
 
 pub returns-in-Known-clause-answer : goal.returns-in-Known-clause-answer
 returns-in-Known-clause-answer c =
-    computed_answer c.args.dfa.now c.args.id c.args.unit c.args.self.now c.set_next.new.self c.unit_class-class.result c.in-Known.to (known c)
-    c.requires.valid (c.see_bounds.ensures.sound.low c.args.id c.requires.valid.0 c.requires.valid.1) c.requires.clean c.requires.unknown c.unit_class-class.ensures.value c.unit_class-class.ensures.below
+    computed_answer c.args.dfa.now c.args.id c.args.unit c.args.self.now c.set_next.new.self c.unit_class-class.result
+    c.in-Known.to (known c)
+    c.requires.valid (c.see_bounds.ensures.sound.low c.args.id c.requires.valid.0 c.requires.valid.1) c.requires.clean
+    c.requires.unknown c.unit_class-class.ensures.value c.unit_class-class.ensures.below
     (after_known c) c.see_bounds-in-Known.ensures.sound.cells (c.see_bounds-in-Known.ensures.sound.tagged c.in-Known.to)
 
 pub returns-in-Known-clause-run : goal.returns-in-Known-clause-run
@@ -97,16 +134,20 @@ returns-in-Known-clause-run c =
     c.see_machine.ensures.machine c.unit_class-class.ensures.unit
     (is_store c.args.self.now.store c.args.dfa.now c.requires.of c.see_bounds.ensures.bounds) low c.requires.clean
     (subst (λ k. k < c.args.dfa.now.stride) c.unit_class-class.ensures.value c.unit_class-class.ensures.below)
-    c.requires.unknown (is_store c.set_next.new.self.store c.args.dfa.now (after_known c) c.see_bounds-in-Known.ensures.bounds)
+    c.requires.unknown
+    (is_store c.set_next.new.self.store c.args.dfa.now (after_known c) c.see_bounds-in-Known.ensures.bounds)
     (computed_makes c.args.dfa.now c.args.id c.args.unit c.args.self.now c.set_next.new.self
     c.unit_class-class.result c.in-Known.to (known c) c.requires.valid low c.requires.clean c.requires.unknown
     c.unit_class-class.ensures.value c.unit_class-class.ensures.below)
 
 pub returns-in_ok-from-in-New-clause-answer : goal.returns-in_ok-from-in-New-clause-answer
 returns-in_ok-from-in-New-clause-answer c =
-    computed_answer c.args.dfa.now c.args.id c.args.unit c.args.self.now c.set_next-in-New.new.self c.unit_class-class.result c.in_ok-from-in-New.to (new c)
-    c.requires.valid (c.see_bounds.ensures.sound.low c.args.id c.requires.valid.0 c.requires.valid.1) c.requires.clean c.requires.unknown c.unit_class-class.ensures.value c.unit_class-class.ensures.below
-    (after_new c) c.see_bounds-in-New.ensures.sound.cells (c.see_bounds-in-New.ensures.sound.tagged c.in_ok-from-in-New.to)
+    computed_answer c.args.dfa.now c.args.id c.args.unit c.args.self.now c.set_next-in-New.new.self
+    c.unit_class-class.result c.in_ok-from-in-New.to (new c)
+    c.requires.valid (c.see_bounds.ensures.sound.low c.args.id c.requires.valid.0 c.requires.valid.1) c.requires.clean
+    c.requires.unknown c.unit_class-class.ensures.value c.unit_class-class.ensures.below
+    (after_new c) c.see_bounds-in-New.ensures.sound.cells
+    (c.see_bounds-in-New.ensures.sound.tagged c.in_ok-from-in-New.to)
 
 pub returns-in_ok-from-in-New-clause-run : goal.returns-in_ok-from-in-New-clause-run
 returns-in_ok-from-in-New-clause-run c =
@@ -115,7 +156,8 @@ returns-in_ok-from-in-New-clause-run c =
     c.see_machine.ensures.machine c.unit_class-class.ensures.unit
     (is_store c.args.self.now.store c.args.dfa.now c.requires.of c.see_bounds.ensures.bounds) low c.requires.clean
     (subst (λ k. k < c.args.dfa.now.stride) c.unit_class-class.ensures.value c.unit_class-class.ensures.below)
-    c.requires.unknown (is_store c.set_next-in-New.new.self.store c.args.dfa.now (after_new c) c.see_bounds-in-New.ensures.bounds)
+    c.requires.unknown
+    (is_store c.set_next-in-New.new.self.store c.args.dfa.now (after_new c) c.see_bounds-in-New.ensures.bounds)
     (computed_makes c.args.dfa.now c.args.id c.args.unit c.args.self.now c.set_next-in-New.new.self
     c.unit_class-class.result c.in_ok-from-in-New.to (new c) c.requires.valid low c.requires.clean c.requires.unknown
     c.unit_class-class.ensures.value c.unit_class-class.ensures.below)

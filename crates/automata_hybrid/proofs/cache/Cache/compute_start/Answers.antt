@@ -1,6 +1,6 @@
 use Rattle.std.proofs.Common.{◌≡◌, ◌∙◌, ◌<◌, ◌^◌, ap, arith, inr, sym, subst}
 use Rattle.automata_base.specs.Powersets.Powerset.{Powerset}
-use Rattle.automata_hybrid.specs.Cache.Caches.{CacheView, counted}
+use Rattle.automata_hybrid.specs.Cache.Caches.{CacheView, counted_in_store}
 use Rattle.automata_hybrid.specs.Private.Cache.Usage.{GivesUpInStore}
 use Rattle.automata_hybrid.specs.Private.Cache.LookUps.{IsLookedUp}
 use Rattle.automata_hybrid.specs.Machines.Machine.{Machine}
@@ -18,59 +18,105 @@ use Rattle.automata_hybrid.proofs.cache.Cache.compute_start.Goals.{After-see_bou
 use Rattle.automata_config.specs.Options.{Options, specialize_start_states_of}
 use Rattle.automata_hybrid.proofs.cache.Cache.compute_start.Goals as goal
 
-known : (c : After-see_bounds-in-Known) → ComputesStart c.args.dfa.now c.args.mode c.args.prev c.args.self.now c.set_start.new.self c.args.slot c.in-Known.id
+known :
+    (c : After-see_bounds-in-Known)
+    → ComputesStart c.args.dfa.now c.args.mode c.args.prev c.args.self.now c.set_start.new.self c.args.slot
+    c.in-Known.id
 known c =
-    let leads : Leads c.resolve.new.self.store.table c.in-Known.id c.in_ok-key.key = looked_up c.determinize_start.new.self c.resolve.new.self c.in_ok-key.key _ (Known c.in-Known.id) c.resolve.ensures.same c.in-Known.is c.in_ok-id.ensures.found in
-    let there = subst (λ (v : CacheView). Leads v.store.table c.in-Known.id c.in_ok-key.key) (sym c.set_start.ensures.value) leads in
-    let found : c.in-Known.id < 2 ^ 31 = Leads-known c.set_start.new.self.store.table c.in-Known.id c.in_ok-key.key c.see_bounds-in-Known.ensures.sound.low c.see_bounds-in-Known.ensures.sound.small there in
-    computes_known c.args.dfa.now c.args.mode c.args.prev c.args.self.now c.resolve.new.self c.set_start.new.self c.args.slot c.in-Known.id c.in_ok-key.key
-    (c.resolve.ensures.same ∙ c.determinize_start.ensures.counted) c.set_start.ensures.value leads c.in_ok-key.ensures.value c.set_start.ensures.written (subst (λ n. n < 2 ^ 31) (sym c.set_start.ensures.written) found)
+    let leads : Leads c.resolve.new.self.store.table c.in-Known.id c.in_ok-key.key =
+    looked_up c.determinize_start.new.self c.resolve.new.self c.in_ok-key.key _ (Known c.in-Known.id)
+    c.resolve.ensures.same c.in-Known.is c.in_ok-id.ensures.found in
+    let there =
+    subst (λ (v : CacheView). Leads v.store.table c.in-Known.id c.in_ok-key.key) (sym c.set_start.ensures.value)
+    leads in
+    let found : c.in-Known.id < 2 ^ 31 =
+    Leads-known c.set_start.new.self.store.table c.in-Known.id c.in_ok-key.key c.see_bounds-in-Known.ensures.sound.low
+    c.see_bounds-in-Known.ensures.sound.small there in
+    computes_known c.args.dfa.now c.args.mode c.args.prev c.args.self.now c.resolve.new.self c.set_start.new.self
+    c.args.slot c.in-Known.id c.in_ok-key.key
+    (c.resolve.ensures.same ∙ c.determinize_start.ensures.counted) c.set_start.ensures.value leads
+    c.in_ok-key.ensures.value c.set_start.ensures.written
+    (subst (λ n. n < 2 ^ 31) (sym c.set_start.ensures.written) found)
 
-new : (c : After-see_bounds-in-New) → ComputesStart c.args.dfa.now c.args.mode c.args.prev c.args.self.now c.set_start-in-New.new.self c.args.slot c.in_ok-id-in-New.id
+new :
+    (c : After-see_bounds-in-New)
+    → ComputesStart c.args.dfa.now c.args.mode c.args.prev c.args.self.now c.set_start-in-New.new.self c.args.slot
+    c.in_ok-id-in-New.id
 new c =
-    let found : IsLookedUp c.resolve.new.self.store.table c.in_ok-key.key (New c.in-New.state) = looked_up c.determinize_start.new.self c.resolve.new.self c.in_ok-key.key _ (New c.in-New.state) c.resolve.ensures.same c.in-New.is c.in_ok-id.ensures.found in
-    let named = subst (λ (v : CacheView). Names v.store.table c.in_ok-id-in-New.id c.in-New.state) (sym c.set_start-in-New.ensures.value) c.in_ok-id-in-New.ensures.answer.named in
-    let low : c.in_ok-id-in-New.id < 2 ^ 29 = c.see_bounds-in-New.ensures.sound.low c.in_ok-id-in-New.id c.in-New.state named in
-    computes_new c.args.dfa.now c.args.mode c.args.prev c.args.self.now c.resolve.new.self c.add_start.new.self c.set_start-in-New.new.self c.args.slot c.in_ok-id-in-New.id c.in-New.state c.in_ok-key.key c.get_specialize_start_states-started.result
-    (c.resolve.ensures.same ∙ c.determinize_start.ensures.counted) c.in_ok-id-in-New.ensures.answer c.in_ok-id-in-New.ensures.counted c.set_start-in-New.ensures.value found.0 found.1 c.in_ok-key.ensures.value (c.get_specialize_start_states-started.ensures ∙ ap (λ (o : Options). specialize_start_states_of o) c.get_config.ensures)
-    c.set_start-in-New.ensures.written (subst (λ n. n < 2 ^ 31) (sym c.set_start-in-New.ensures.written) (omega (arith, low)))
+    let found : IsLookedUp c.resolve.new.self.store.table c.in_ok-key.key (New c.in-New.state) =
+    looked_up c.determinize_start.new.self c.resolve.new.self c.in_ok-key.key _ (New c.in-New.state)
+    c.resolve.ensures.same c.in-New.is c.in_ok-id.ensures.found in
+    let named =
+    subst (λ (v : CacheView). Names v.store.table c.in_ok-id-in-New.id c.in-New.state)
+    (sym c.set_start-in-New.ensures.value) c.in_ok-id-in-New.ensures.answer.named in
+    let low : c.in_ok-id-in-New.id < 2 ^ 29 =
+    c.see_bounds-in-New.ensures.sound.low c.in_ok-id-in-New.id c.in-New.state named in
+    computes_new c.args.dfa.now c.args.mode c.args.prev c.args.self.now c.resolve.new.self c.add_start.new.self
+    c.set_start-in-New.new.self c.args.slot c.in_ok-id-in-New.id c.in-New.state c.in_ok-key.key
+    c.get_specialize_start_states-started.result
+    (c.resolve.ensures.same ∙ c.determinize_start.ensures.counted) c.in_ok-id-in-New.ensures.answer
+    c.in_ok-id-in-New.ensures.counted c.set_start-in-New.ensures.value found.0 found.1 c.in_ok-key.ensures.value
+    (c.get_specialize_start_states-started.ensures
+    ∙ ap (λ (o : Options). specialize_start_states_of o) c.get_config.ensures)
+    c.set_start-in-New.ensures.written
+    (subst (λ n. n < 2 ^ 31) (sym c.set_start-in-New.ensures.written) (omega (arith, low)))
 
 after_known : (c : After-see_bounds-in-Known) → c.set_start.new.self.store.table.of ≡ c.args.dfa.now
 after_known c =
     ap (λ (v : CacheView). v.store.table.of) c.set_start.ensures.value
-    ∙ (ap (λ (v : CacheView). v.store.table.of) (c.resolve.ensures.same ∙ c.determinize_start.ensures.counted) ∙ c.requires.of)
+    ∙ (ap (λ (v : CacheView). v.store.table.of) (c.resolve.ensures.same ∙ c.determinize_start.ensures.counted)
+    ∙ c.requires.of)
 
 after_new : (c : After-see_bounds-in-New) → c.set_start-in-New.new.self.store.table.of ≡ c.args.dfa.now
 after_new c =
     ap (λ (v : CacheView). v.store.table.of) c.set_start-in-New.ensures.value
-    ∙ (c.in_ok-id-in-New.ensures.answer.of ∙ (ap (λ (v : CacheView). v.store.table.of) (c.resolve.ensures.same ∙ c.determinize_start.ensures.counted) ∙ c.requires.of))
+    ∙ (c.in_ok-id-in-New.ensures.answer.of
+    ∙ (ap (λ (v : CacheView). v.store.table.of) (c.resolve.ensures.same ∙ c.determinize_start.ensures.counted)
+    ∙ c.requires.of))
 
 pub determinize_start-requires-clause-slot : goal.determinize_start-requires-clause-slot
 determinize_start-requires-clause-slot c = (c.args.slot, c.requires.slot)
 
 pub set_start-requires-clause-leads : goal.set_start-requires-clause-leads
 set_start-requires-clause-leads c =
-    let leads : Leads c.resolve.new.self.store.table c.in-Known.id c.in_ok-key.key = looked_up c.determinize_start.new.self c.resolve.new.self c.in_ok-key.key _ (Known c.in-Known.id) c.resolve.ensures.same c.in-Known.is c.in_ok-id.ensures.found in
-    let of : c.resolve.new.self.store.table.of ≡ c.args.dfa.now = ap (λ (v : CacheView). v.store.table.of) (c.resolve.ensures.same ∙ c.determinize_start.ensures.counted) ∙ c.requires.of in
-    slot_leads c.args.dfa.now c.args.mode c.args.prev c.args.slot c.resolve.new.self.store.table c.in-Known.id c.in_ok-key.key c.requires.slot of c.in_ok-key.ensures.value leads
+    let leads : Leads c.resolve.new.self.store.table c.in-Known.id c.in_ok-key.key =
+    looked_up c.determinize_start.new.self c.resolve.new.self c.in_ok-key.key _ (Known c.in-Known.id)
+    c.resolve.ensures.same c.in-Known.is c.in_ok-id.ensures.found in
+    let of : c.resolve.new.self.store.table.of ≡ c.args.dfa.now =
+    ap (λ (v : CacheView). v.store.table.of) (c.resolve.ensures.same ∙ c.determinize_start.ensures.counted)
+    ∙ c.requires.of in
+    slot_leads c.args.dfa.now c.args.mode c.args.prev c.args.slot c.resolve.new.self.store.table c.in-Known.id
+    c.in_ok-key.key c.requires.slot of c.in_ok-key.ensures.value leads
 
 pub set_start-requires-in-New-clause-leads : goal.set_start-requires-in-New-clause-leads
 set_start-requires-in-New-clause-leads c =
-    let found : IsLookedUp c.resolve.new.self.store.table c.in_ok-key.key (New c.in-New.state) = looked_up c.determinize_start.new.self c.resolve.new.self c.in_ok-key.key _ (New c.in-New.state) c.resolve.ensures.same c.in-New.is c.in_ok-id.ensures.found in
-    let of : c.resolve.new.self.store.table.of ≡ c.args.dfa.now = ap (λ (v : CacheView). v.store.table.of) (c.resolve.ensures.same ∙ c.determinize_start.ensures.counted) ∙ c.requires.of in
-    slot_leads c.args.dfa.now c.args.mode c.args.prev c.args.slot c.add_start.new.self.store.table c.in_ok-id-in-New.id c.in-New.state c.requires.slot (c.in_ok-id-in-New.ensures.answer.of ∙ of) (found.0 ∙ c.in_ok-key.ensures.value)
+    let found : IsLookedUp c.resolve.new.self.store.table c.in_ok-key.key (New c.in-New.state) =
+    looked_up c.determinize_start.new.self c.resolve.new.self c.in_ok-key.key _ (New c.in-New.state)
+    c.resolve.ensures.same c.in-New.is c.in_ok-id.ensures.found in
+    let of : c.resolve.new.self.store.table.of ≡ c.args.dfa.now =
+    ap (λ (v : CacheView). v.store.table.of) (c.resolve.ensures.same ∙ c.determinize_start.ensures.counted)
+    ∙ c.requires.of in
+    slot_leads c.args.dfa.now c.args.mode c.args.prev c.args.slot c.add_start.new.self.store.table c.in_ok-id-in-New.id
+    c.in-New.state c.requires.slot (c.in_ok-id-in-New.ensures.answer.of ∙ of) (found.0 ∙ c.in_ok-key.ensures.value)
     (inr c.in_ok-id-in-New.ensures.answer.named)
 
 pub add_start-requires-clause-new : goal.add_start-requires-clause-new
 add_start-requires-clause-new c =
-    let found : IsLookedUp c.resolve.new.self.store.table c.in_ok-key.key (New c.in-New.state) = looked_up c.determinize_start.new.self c.resolve.new.self c.in_ok-key.key _ (New c.in-New.state) c.resolve.ensures.same c.in-New.is c.in_ok-id.ensures.found in
-    let of : c.resolve.new.self.store.table.of ≡ c.args.dfa.now = ap (λ (v : CacheView). v.store.table.of) (c.resolve.ensures.same ∙ c.determinize_start.ensures.counted) ∙ c.requires.of in
-    let key : IsNewState c.resolve.new.self.store.table c.in_ok-key.key = new_state c.args.dfa.now c.resolve.new.self.store.table c.in_ok-key.key of found.1 c.in_ok-key.ensures.cost c.in_ok-key.ensures.is_of in
+    let found : IsLookedUp c.resolve.new.self.store.table c.in_ok-key.key (New c.in-New.state) =
+    looked_up c.determinize_start.new.self c.resolve.new.self c.in_ok-key.key _ (New c.in-New.state)
+    c.resolve.ensures.same c.in-New.is c.in_ok-id.ensures.found in
+    let of : c.resolve.new.self.store.table.of ≡ c.args.dfa.now =
+    ap (λ (v : CacheView). v.store.table.of) (c.resolve.ensures.same ∙ c.determinize_start.ensures.counted)
+    ∙ c.requires.of in
+    let key : IsNewState c.resolve.new.self.store.table c.in_ok-key.key =
+    new_state c.args.dfa.now c.resolve.new.self.store.table c.in_ok-key.key of found.1 c.in_ok-key.ensures.cost
+    c.in_ok-key.ensures.is_of in
     subst (λ (q : Powerset). IsNewState c.resolve.new.self.store.table q) (sym found.0) key
 
 pub returns-in-Known-clause-answer : goal.returns-in-Known-clause-answer
 returns-in-Known-clause-answer c =
-    computed_answer c.args.dfa.now c.args.mode c.args.prev c.args.self.now c.set_start.new.self c.args.slot c.in-Known.id (known c)
+    computed_answer c.args.dfa.now c.args.mode c.args.prev c.args.self.now c.set_start.new.self c.args.slot
+    c.in-Known.id (known c)
     c.requires.slot (c.see_bounds-in-Known.ensures.sound.tagged c.in-Known.id)
 
 pub returns-in-Known-clause-run : goal.returns-in-Known-clause-run
@@ -78,13 +124,15 @@ returns-in-Known-clause-run c =
     made_start_run c.args.dfa.now c.args.mode c.args.prev c.args.self.now c.set_start.new.self
     c.see_machine.ensures.machine
     (is_store c.args.self.now.store c.args.dfa.now c.requires.of c.see_bounds.ensures.bounds) c.requires.slot.may
-    c.requires.unknown (is_store c.set_start.new.self.store c.args.dfa.now (after_known c) c.see_bounds-in-Known.ensures.bounds)
+    c.requires.unknown
+    (is_store c.set_start.new.self.store c.args.dfa.now (after_known c) c.see_bounds-in-Known.ensures.bounds)
     (computed_makes c.args.dfa.now c.args.mode c.args.prev c.args.self.now c.set_start.new.self c.args.slot
     c.in-Known.id (known c) c.requires.slot)
 
 pub returns-in_ok-id-in-New-clause-answer : goal.returns-in_ok-id-in-New-clause-answer
 returns-in_ok-id-in-New-clause-answer c =
-    computed_answer c.args.dfa.now c.args.mode c.args.prev c.args.self.now c.set_start-in-New.new.self c.args.slot c.in_ok-id-in-New.id (new c)
+    computed_answer c.args.dfa.now c.args.mode c.args.prev c.args.self.now c.set_start-in-New.new.self c.args.slot
+    c.in_ok-id-in-New.id (new c)
     c.requires.slot (c.see_bounds-in-New.ensures.sound.tagged c.in_ok-id-in-New.id)
 
 pub returns-in_ok-id-in-New-clause-run : goal.returns-in_ok-id-in-New-clause-run
@@ -92,13 +140,14 @@ returns-in_ok-id-in-New-clause-run c =
     made_start_run c.args.dfa.now c.args.mode c.args.prev c.args.self.now c.set_start-in-New.new.self
     c.see_machine.ensures.machine
     (is_store c.args.self.now.store c.args.dfa.now c.requires.of c.see_bounds.ensures.bounds) c.requires.slot.may
-    c.requires.unknown (is_store c.set_start-in-New.new.self.store c.args.dfa.now (after_new c) c.see_bounds-in-New.ensures.bounds)
+    c.requires.unknown
+    (is_store c.set_start-in-New.new.self.store c.args.dfa.now (after_new c) c.see_bounds-in-New.ensures.bounds)
     (computed_makes c.args.dfa.now c.args.mode c.args.prev c.args.self.now c.set_start-in-New.new.self c.args.slot
     c.in_ok-id-in-New.id (new c) c.requires.slot)
 
 pub returns-in_err-id-in-New-clause-refusal : goal.returns-in_err-id-in-New-clause-refusal
 returns-in_err-id-in-New-clause-refusal c =
-    let same : c.resolve.new.self ≡ counted c.args.self.now =
+    let same : c.resolve.new.self ≡ counted_in_store c.args.self.now =
     c.resolve.ensures.same ∙ c.determinize_start.ensures.counted in
     let found : IsLookedUp c.resolve.new.self.store.table c.in_ok-key.key (New c.in-New.state) =
     looked_up c.determinize_start.new.self c.resolve.new.self c.in_ok-key.key _ (New c.in-New.state)

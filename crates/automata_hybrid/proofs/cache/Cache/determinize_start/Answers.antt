@@ -11,7 +11,8 @@ use Rattle.automata_hybrid.proofs.cache.Cache.determinize_start.Goals as goal
 
 -- the key is the start state of the mode
 from_mode : (c : goal.In_ok-key) → c.in_ok-key.key ≡ start_state_of c.args.dfa.now.nfa c.args.mode c.args.prev
-from_mode c = c.in_ok-key.ensures.made.same ∙ ap (λ (a : Automaton). start_state_of a c.args.mode c.args.prev) c.get_nfa.ensures
+from_mode c =
+    c.in_ok-key.ensures.made.same ∙ ap (λ (a : Automaton). start_state_of a c.args.mode c.args.prev) c.get_nfa.ensures
 
 pub returns-clause-is_of : goal.returns-clause-is_of
 unfolding IsOwn
@@ -25,11 +26,13 @@ returns-clause-is_of c = record {
       ∣ (
         0,
         subst (IsReachableBy c.args.dfa.now 0) (sym (from_mode c))
-            (AtStart c.args.mode c.args.prev (subst (λ n. n < c.args.dfa.now.slots) c.requires.slot.1.at c.requires.slot.1.within)),
+            (AtStart c.args.mode c.args.prev
+            (subst (λ n. n < c.args.dfa.now.slots) c.requires.slot.1.at c.requires.slot.1.within)),
       ) ∣₁;
 }
 
 pub returns-clause-cost : goal.returns-clause-cost
 returns-clause-cost c =
-    let most : max_cost c.get_nfa.result.now ≡ c.args.dfa.now.greatest = ap (λ (a : Automaton). max_cost a) c.get_nfa.ensures ∙ sym c.see_machine.ensures.machine.sizes.greatest in
+    let most : max_cost c.get_nfa.result.now ≡ c.args.dfa.now.greatest =
+    ap (λ (a : Automaton). max_cost a) c.get_nfa.ensures ∙ sym c.see_machine.ensures.machine.sizes.greatest in
     subst (λ n. cost c.in_ok-key.key ≤ n) most c.in_ok-key.ensures.made.bounded

@@ -7,6 +7,9 @@ use Rattle.automata_hybrid.proofs.cache.Cache.leaps_of.Goals as goal
 
 pub of_table-requires-clause-stride : goal.of_table-requires-clause-stride
 of_table-requires-clause-stride c =
-    let of = ap (λ (i : Inside). i.store.table.of) c.self-inside.view_is ∙ (ap (λ (v : CacheView). v.store.table.of) c.self.view_is ∙ c.requires.dfa) in
-    let same : c.args.shape.classes ≡ eoi_class c.args.dfa.now.classes = c.requires.of.classes ∙ ap (λ (m : Machine). eoi_class m.classes) c.requires.dfa in
+    let of =
+    ap (λ (i : Inside). i.store.table.of) c.self-inside.view_is
+    ∙ (ap (λ (v : CacheView). v.store.table.of) c.self.view_is ∙ c.requires.dfa) in
+    let same : c.args.shape.classes ≡ eoi_class c.args.dfa.now.classes =
+    c.requires.of.classes ∙ ap (λ (m : Machine). eoi_class m.classes) c.requires.dfa in
     subst (λ (m : Machine). c.args.shape.classes ≤ m.stride) (sym of) (omega (arith, same, c.see_machine.ensures.end))

@@ -3,16 +3,16 @@ use Rattle.std.proofs.lemmas.Grind.{common_steps}
 use Rattle.automata_hybrid.specs.Cache.Table.{IsRowId}
 use Rattle.automata_hybrid.proofs.Steps.BySteps.{stands_step}
 use Rattle.automata_hybrid.proofs.Known.Calls.{cached_run, fixed_run}
-use Rattle.automata_hybrid.proofs.Steps.Steps.{cell_known, fixed_answer, known_answer, unknown_clean}
+use Rattle.automata_hybrid.proofs.Steps.Steps.{cell_known, fixed_answer, known_answer, unknown_clean, unknown_free}
 use Rattle.automata_hybrid.proofs.Searches.Contracts.{is_store}
-use Rattle.automata_hybrid.proofs.Steps.Steps.{unknown_free}
 use Rattle.automata_hybrid.proofs.Steps.Ids.{HoldsRow-valid}
 use Rattle.automata_hybrid.proofs.cache.Cache.next.Goals as goal
 
 pub returns-then-is_fixed-clause-answer : goal.returns-then-is_fixed-clause-answer
 returns-then-is_fixed-clause-answer c =
     let high : 2 ^ 29 ≤ c.args.id = grind (arith, common_steps, c.if-is_fixed.ensures) in
-    fixed_answer c.args.dfa.now c.args.id c.args.unit c.args.self.now high (λ q n. c.see_bounds.ensures.sound.low c.args.id q n) c.requires.row
+    fixed_answer c.args.dfa.now c.args.id c.args.unit c.args.self.now high
+    (λ q n. c.see_bounds.ensures.sound.low c.args.id q n) c.requires.row
 
 pub returns-then-is_fixed-clause-run : goal.returns-then-is_fixed-clause-run
 returns-then-is_fixed-clause-run c =
@@ -24,17 +24,21 @@ returns-then-is_fixed-clause-run c =
 pub returns-then-not-is_unknown-clause-answer : goal.returns-then-not-is_unknown-clause-answer
 returns-then-not-is_unknown-clause-answer c =
     let low : c.args.id < 2 ^ 29 = grind (arith, common_steps, c.if-is_fixed.ensures) in
-    let valid : IsRowId c.args.self.now.store.table c.args.id = HoldsRow-valid c.args.self.now c.args.id c.requires.row low in
+    let valid : IsRowId c.args.self.now.store.table c.args.id =
+    HoldsRow-valid c.args.self.now c.args.id c.requires.row low in
     let known : c.cell-cell.result < 2 ^ 31 = grind (arith, common_steps, c.if-not-is_unknown.ensures.size) in
-    known_answer c.args.dfa.now c.args.id c.args.unit c.args.self.now c.unit_class-class.result c.cell-cell.result c.requires.of valid
-    c.unit_class-class.ensures.value c.unit_class-class.ensures.small c.unit_class-class.ensures.quit c.unit_class-class.ensures.free
+    known_answer c.args.dfa.now c.args.id c.args.unit c.args.self.now c.unit_class-class.result c.cell-cell.result
+    c.requires.of valid
+    c.unit_class-class.ensures.value c.unit_class-class.ensures.small c.unit_class-class.ensures.quit
+    c.unit_class-class.ensures.free
     c.cell-cell.ensures.value c.cell-cell.ensures.named low known c.cell-cell.ensures.tag
     c.unit_class-class.ensures.unit
 
 pub returns-then-not-is_unknown-clause-run : goal.returns-then-not-is_unknown-clause-run
 returns-then-not-is_unknown-clause-run c =
     let low : c.args.id < 2 ^ 29 = grind (arith, common_steps, c.if-is_fixed.ensures) in
-    let valid : IsRowId c.args.self.now.store.table c.args.id = HoldsRow-valid c.args.self.now c.args.id c.requires.row low in
+    let valid : IsRowId c.args.self.now.store.table c.args.id =
+    HoldsRow-valid c.args.self.now c.args.id c.requires.row low in
     let known : c.cell-cell.result < 2 ^ 31 = grind (arith, common_steps, c.if-not-is_unknown.ensures.size) in
     cached_run c.args.dfa.now c.args.id c.args.unit c.args.self.now c.see_machine.ensures.machine
     c.unit_class-class.ensures.unit
@@ -48,19 +52,25 @@ returns-then-not-is_unknown-clause-run c =
 pub compute_next-requires-clause-clean : goal.compute_next-requires-clause-clean
 compute_next-requires-clause-clean c =
     let low : c.args.id < 2 ^ 29 = grind (arith, common_steps, c.if-is_fixed.ensures) in
-    let valid : IsRowId c.args.self.now.store.table c.args.id = HoldsRow-valid c.args.self.now c.args.id c.requires.row low in
+    let valid : IsRowId c.args.self.now.store.table c.args.id =
+    HoldsRow-valid c.args.self.now c.args.id c.requires.row low in
     let unknown : 2 ^ 31 ≤ c.cell-cell.result = grind (arith, common_steps, c.if-not-is_unknown.ensures.size) in
-    unknown_clean c.args.dfa.now c.args.id c.args.unit c.args.self.now c.unit_class-class.result c.cell-cell.result c.requires.of valid
-    c.unit_class-class.ensures.value c.unit_class-class.ensures.small c.unit_class-class.ensures.quit c.unit_class-class.ensures.free
+    unknown_clean c.args.dfa.now c.args.id c.args.unit c.args.self.now c.unit_class-class.result c.cell-cell.result
+    c.requires.of valid
+    c.unit_class-class.ensures.value c.unit_class-class.ensures.small c.unit_class-class.ensures.quit
+    c.unit_class-class.ensures.free
     c.cell-cell.ensures.value c.cell-cell.ensures.named unknown
 
 pub compute_next-requires-clause-unknown : goal.compute_next-requires-clause-unknown
 compute_next-requires-clause-unknown c =
     let low : c.args.id < 2 ^ 29 = grind (arith, common_steps, c.if-is_fixed.ensures) in
-    let valid : IsRowId c.args.self.now.store.table c.args.id = HoldsRow-valid c.args.self.now c.args.id c.requires.row low in
+    let valid : IsRowId c.args.self.now.store.table c.args.id =
+    HoldsRow-valid c.args.self.now c.args.id c.requires.row low in
     let unknown : 2 ^ 31 ≤ c.cell-cell.result = grind (arith, common_steps, c.if-not-is_unknown.ensures.size) in
-    unknown_free c.args.dfa.now c.args.id c.args.unit c.args.self.now c.unit_class-class.result c.cell-cell.result c.requires.of valid
-    c.unit_class-class.ensures.value c.unit_class-class.ensures.small c.unit_class-class.ensures.quit c.unit_class-class.ensures.free
+    unknown_free c.args.dfa.now c.args.id c.args.unit c.args.self.now c.unit_class-class.result c.cell-cell.result
+    c.requires.of valid
+    c.unit_class-class.ensures.value c.unit_class-class.ensures.small c.unit_class-class.ensures.quit
+    c.unit_class-class.ensures.free
     c.cell-cell.ensures.value c.cell-cell.ensures.named unknown
 
 pub returns-then-is_fixed-clause-stands : goal.returns-then-is_fixed-clause-stands
@@ -81,5 +91,9 @@ pub returns-clause-stands : goal.returns-clause-stands
 returns-clause-stands c = λ input at stands unit.
     stands_step c.args.dfa.now input c.args.self.now c.compute_next.new.self at c.args.id c.in_ok-next.next c.args.unit
     (record { of = c.requires.of; low = c.see_bounds.ensures.sound.low; small = c.see_bounds.ensures.sound.small })
-    (record { of = c.in_ok-next.ensures.of; low = c.see_bounds-2.ensures.sound.low; small = c.see_bounds-2.ensures.sound.small })
+    (record {
+      of = c.in_ok-next.ensures.of;
+      low = c.see_bounds-2.ensures.sound.low;
+      small = c.see_bounds-2.ensures.sound.small;
+    })
     stands unit c.in_ok-next.ensures.answer

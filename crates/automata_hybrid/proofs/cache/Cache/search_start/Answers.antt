@@ -8,5 +8,8 @@ use Rattle.automata_hybrid.proofs.cache.Cache.search_start.Goals as goal
 pub returns-clause-value : goal.returns-clause-value
 returns-clause-value c =
     rw c.start.ensures
-    (ap (λ (i : Inside). record { store = with_searched i.store (progress_started i.store.searched c.args.at); count = i.scratch.count }) c.self-inside.view_is
-    ∙ ap (λ (v : CacheView). with_store v (with_searched v.store (progress_started v.store.searched c.args.at))) c.self.view_is)
+    (ap (λ (i : Inside).
+    record { store = with_searched i.store (progress_started i.store.searched c.args.at); count = i.scratch.count })
+    c.self-inside.view_is
+    ∙ ap (λ (v : CacheView). with_store v (with_searched v.store (progress_started v.store.searched c.args.at)))
+    c.self.view_is)

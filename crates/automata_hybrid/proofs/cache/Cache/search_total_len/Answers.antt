@@ -7,4 +7,5 @@ use Rattle.automata_hybrid.proofs.cache.Cache.search_total_len.Goals as goal
 pub returns : goal.returns
 returns c =
     c.total_len.ensures
-    ∙ (ap (λ (i : Inside). total_len i.store.searched) c.self-inside.view_is ∙ ap (λ (v : CacheView). total_len v.store.searched) c.self.view_is)
+    ∙ (ap (λ (i : Inside). total_len i.store.searched) c.self-inside.view_is
+    ∙ ap (λ (v : CacheView). total_len v.store.searched) c.self.view_is)

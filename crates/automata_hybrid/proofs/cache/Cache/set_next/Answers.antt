@@ -10,14 +10,21 @@ use Rattle.automata_hybrid.proofs.cache.Cache.set_next.Goals as goal
 pub invariant_of-self-inside : goal.invariant_of-self-inside
 invariant_of-self-inside c =
     let i = c.self-inside.inside.0.0 in
-    subst (λ (t : Rows). IsCache (record { table = t; starts = i.starts.items; clears = i.clears; searched = i.searched }) i.settings) (sym c.set_cell.ensures)
-    (cache_next (record { table = i.table; starts = i.starts.items; clears = i.clears; searched = i.searched }) i.settings c.args.id c.args.class c.args.next c.self-inside.invariant)
+    subst (λ (t : Rows). IsCache
+    (record { table = t; starts = i.starts.items; clears = i.clears; searched = i.searched }) i.settings)
+    (sym c.set_cell.ensures)
+    (cache_next (record { table = i.table; starts = i.starts.items; clears = i.clears; searched = i.searched })
+    i.settings c.args.id c.args.class c.args.next c.self-inside.invariant)
 
 pub invariant_of-self : goal.invariant_of-self
 invariant_of-self c =
     let i = c.self-inside.inside.0.0 in
-    subst (λ (t : Rows). AreCacheParts (record { table = t; starts = i.starts.items; clears = i.clears; searched = i.searched }) c.self-inside.inside.0.1.0.of c.keep_if.new.self.leaps) (sym c.set_cell.ensures)
-    (parts_written (record { table = i.table; starts = i.starts.items; clears = i.clears; searched = i.searched }) c.self-inside.inside.0.1.0.of _ c.keep_if.new.self.leaps c.args.id c.args.class c.args.next c.is_unknown.result
+    subst (λ (t : Rows). AreCacheParts
+    (record { table = t; starts = i.starts.items; clears = i.clears; searched = i.searched })
+    c.self-inside.inside.0.1.0.of c.keep_if.new.self.leaps) (sym c.set_cell.ensures)
+    (parts_written (record { table = i.table; starts = i.starts.items; clears = i.clears; searched = i.searched })
+    c.self-inside.inside.0.1.0.of _ c.keep_if.new.self.leaps c.args.id c.args.class c.args.next c.is_unknown.result
     (λ e. subst (λ k. unknown_id ≤ k) c.cell_in_row-old.ensures.value (c.is_unknown.ensures.size.0 e))
     c.keep_if.ensures.kept c.keep_if.ensures.dropped
-    (subst (λ (i : Inside). AreCacheParts i.store i.scratch.of i.leaping.leaps) (sym c.self-inside.view_is) c.self.invariant))
+    (subst (λ (i : Inside). AreCacheParts i.store i.scratch.of i.leaping.leaps) (sym c.self-inside.view_is)
+    c.self.invariant))

@@ -16,9 +16,11 @@ returns-clause-row c =
     record {
       own = subst (λ (p : Powerset). IsStateOf c.args.self.now.store.table.of p) (sym c.of.ensures)
           (subst (λ (v : CacheView). IsStateOf v.store.table.of c.state.result.now) c.self.view_is
-          (subst (λ (i : Inside). IsStateOf i.store.table.of c.state.result.now) c.self-inside.view_is c.state.ensures.of));
+          (subst (λ (i : Inside). IsStateOf i.store.table.of c.state.result.now) c.self-inside.view_is
+          c.state.ensures.of));
       cheap = subst (λ (p : Powerset). cost p ≤ c.args.self.now.store.table.of.greatest) (sym c.of.ensures)
           (subst (λ (v : CacheView). cost c.state.result.now ≤ v.store.table.of.greatest) c.self.view_is
-          (subst (λ (i : Inside). cost c.state.result.now ≤ i.store.table.of.greatest) c.self-inside.view_is c.state.ensures.cost));
+          (subst (λ (i : Inside). cost c.state.result.now ≤ i.store.table.of.greatest) c.self-inside.view_is
+          c.state.ensures.cost));
       alive = λ dies. c.see_bounds.ensures.sound.alive c.args.id q c.requires.1 (sym named ∙ (sym c.of.ensures ∙ dies));
     }

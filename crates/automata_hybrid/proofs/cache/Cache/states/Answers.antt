@@ -9,4 +9,5 @@ returns-clause-held c =
     let store = c.args.self.now.store in
     let same : c.states.result ≡ held_states c.args.self.now.store.table = search rules in
     subst (All (IsHeldState store)) (sym same)
-    (All-from_recursion (IsHeldState store) (held_states store.table) (all_held store c.see_bounds.ensures.bounds.rows c.see_bounds.ensures.sound.own))
+    (All-from_recursion (IsHeldState store) (held_states store.table)
+    (all_held store c.see_bounds.ensures.bounds.rows c.see_bounds.ensures.sound.own))

@@ -17,6 +17,7 @@ keep_row-requires-clause-valid c =
 pub returns : goal.returns
 returns c =
     let below : c.args.id < 2 ^ 29 = grind (arith, common_steps, c.if-is_fixed.ensures) in
-    keeps_row c.args.old.now c.args.kept.now c.keep_row.new.kept c.args.slots.now.items c.push-2.new.self.items c.args.id c.in_ok-new.new
+    keeps_row c.args.old.now c.args.kept.now c.keep_row.new.kept c.args.slots.now.items c.push-2.new.self.items
+    c.args.id c.in_ok-new.new
     below c.see_rows-2.ensures.low c.in_ok-push-2.ensures.items c.requires.of c.requires.named c.requires.leads
     c.in_ok-new.ensures.row c.in_ok-new.ensures.named c.in_ok-new.ensures.absent

@@ -1,14 +1,15 @@
 use Rattle.std.proofs.Common.{None, ◌≡◌, ℕ, ◌≤◌, ◌<◌, ◌^◌, get_or, take, length, []}
 use Rattle.automata_hybrid.specs.Cache.Table.{fresh, id_of}
 use Rattle.automata_base.specs.Powersets.Powerset.{Powerset}
-use Rattle.automata_hybrid.specs.Private.Cache.Clears.{AllStarts}
-use Rattle.automata_hybrid.specs.Private.Cache.Clears.{keep_slots}
+use Rattle.automata_hybrid.specs.Private.Cache.Clears.{AllStarts, keep_slots}
 use Rattle.automata_hybrid.proofs.cache.clears.keep_starts.Given as goal
 
 abbrev pub invariant-loop-id : goal.invariant-loop-id
 invariant-loop-id l = record {
   kept : l.table ≡ (keep_slots l.old (record { table = fresh l.old.of; starts = [] }) (take l.id-index l.starts)).table;
-  slots : l.slots.items ≡ (keep_slots l.old (record { table = fresh l.old.of; starts = [] }) (take l.id-index l.starts)).starts;
+  slots :
+      l.slots.items
+      ≡ (keep_slots l.old (record { table = fresh l.old.of; starts = [] }) (take l.id-index l.starts)).starts;
   few : length l.table.rows ≤ l.id-index;
   length : length l.slots.items ≡ l.id-index;
   named : AllStarts l.table l.slots.items;

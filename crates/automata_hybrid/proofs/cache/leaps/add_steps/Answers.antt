@@ -8,7 +8,9 @@ loop-class-preserved c = record {
   long = omega (arith, c.in_ok-push.ensures.len, c.loop-class.invariant.long);
   steps =
       subst (AreLeapSteps c.args.table.now c.args.classes) (sym c.in_ok-push.ensures.items)
-      (steps_more c.args.table.now c.args.classes c.loop-class.steps.items c.args.row c.loop-class.class c.row_after.result
-      c.loop-class.invariant.long c.loop-class-test.true c.requires.row c.row_after.ensures.upto c.row_after.ensures.leads
+      (steps_more c.args.table.now c.args.classes c.loop-class.steps.items c.args.row c.loop-class.class
+      c.row_after.result
+      c.loop-class.invariant.long c.loop-class-test.true c.requires.row c.row_after.ensures.upto
+      c.row_after.ensures.leads
       c.loop-class.invariant.steps);
 }

@@ -10,21 +10,28 @@ loop-init c =
     let all : c.args.shape.rows * c.args.shape.classes ≤ (length c.args.table.now.rows + 1) * c.args.shape.classes =
     mul-le-mul_right c.args.shape.classes (omega (arith, c.requires.rows)) in
     let long : length c.in_ok-level.level.items ≡ c.args.shape.rows * c.args.shape.classes =
-    ap length c.in_ok-level.ensures.items ∙ length-take-le (c.args.shape.rows * c.args.shape.classes) c.args.steps.now (omega (arith, all, c.requires.long)) in
-    let one : c.args.shape.classes ^ 1 ≡ c.args.shape.classes = omega (arith, pow-suc c.args.shape.classes 0, ap (λ k. k * c.args.shape.classes) (pow-zero c.args.shape.classes)) in
+    ap length c.in_ok-level.ensures.items
+    ∙ length-take-le (c.args.shape.rows * c.args.shape.classes) c.args.steps.now
+    (omega (arith, all, c.requires.long)) in
+    let one : c.args.shape.classes ^ 1 ≡ c.args.shape.classes =
+    omega (arith, pow-suc c.args.shape.classes 0, ap (λ k. k * c.args.shape.classes) (pow-zero c.args.shape.classes)) in
     record {
       long = long ∙ ap (λ k. c.args.shape.rows * k) (sym one);
       level =
-          level_one c.args.table.now c.args.shape.classes c.args.steps.now c.in_ok-level.level.items (omega (arith, long, all, c.requires.long))
-          (λ k l. ap (λ (xs : List ℕ). slice_index xs k) c.in_ok-level.ensures.items ∙ get_or-take (c.args.shape.rows * c.args.shape.classes) c.args.steps.now k 0 (omega (arith, l, long)))
+          level_one c.args.table.now c.args.shape.classes c.args.steps.now c.in_ok-level.level.items
+          (omega (arith, long, all, c.requires.long))
+          (λ k l. ap (λ (xs : List ℕ). slice_index xs k) c.in_ok-level.ensures.items
+          ∙ get_or-take (c.args.shape.rows * c.args.shape.classes) c.args.steps.now k 0 (omega (arith, l, long)))
           c.requires.steps;
     }
 
 pub next_level-requires-clause-room : goal.next_level-requires-clause-room
 next_level-requires-clause-room c =
     let l : c.args.shape.rows * c.args.shape.classes ^ c.loop.counter * c.args.shape.classes ≤ 2 ^ 43 =
-    level_fits c.args.shape.rows c.args.shape.classes c.loop.counter c.requires.shape.rows c.requires.shape.few (omega (arith, c.loop-test.true, c.requires.shape.short)) in
-    let e : length c.as_slice.result.now * c.args.shape.classes ≡ c.args.shape.rows * c.args.shape.classes ^ c.loop.counter * c.args.shape.classes =
+    level_fits c.args.shape.rows c.args.shape.classes c.loop.counter c.requires.shape.rows c.requires.shape.few
+    (omega (arith, c.loop-test.true, c.requires.shape.short)) in
+    let e : length c.as_slice.result.now * c.args.shape.classes
+    ≡ c.args.shape.rows * c.args.shape.classes ^ c.loop.counter * c.args.shape.classes =
     ap (λ k. k * c.args.shape.classes) (ap length c.as_slice.ensures.value ∙ c.loop.invariant.long) in
     omega (arith, l, e)
 
@@ -40,7 +47,10 @@ loop-preserved c =
           c.in_ok-level-2.ensures.long
           ∙ (ap (λ k. k * c.args.shape.classes) (ap length same ∙ c.loop.invariant.long)
           ∙ (moved c.args.shape.rows (c.args.shape.classes ^ c.loop.counter) c.args.shape.classes
-          ∙ (ap (λ k. c.args.shape.rows * k) (sym (pow-suc c.args.shape.classes c.loop.counter)) ∙ ap (λ k. c.args.shape.rows * c.args.shape.classes ^ k) next)));
+          ∙ (ap (λ k. c.args.shape.rows * k) (sym (pow-suc c.args.shape.classes c.loop.counter))
+          ∙ ap (λ k. c.args.shape.rows * c.args.shape.classes ^ k) next)));
       level = subst (λ k. IsLevel c.args.table.now c.args.shape.classes k c.in_ok-level-2.level.items) next
-          (c.in_ok-level-2.ensures.level c.loop.counter (subst (λ (xs : List ℕ). IsLevel c.args.table.now c.args.shape.classes c.loop.counter xs) (sym same) c.loop.invariant.level));
+          (c.in_ok-level-2.ensures.level c.loop.counter
+          (subst (λ (xs : List ℕ). IsLevel c.args.table.now c.args.shape.classes c.loop.counter xs) (sym same)
+          c.loop.invariant.level));
     }

@@ -72,17 +72,28 @@ loop-read-preserved c =
     let p = (goal.at.loop-read-preserved c).After-walk_far-stop in
     let f = followed p in
     let more : suc k ≡ k + 1 = omega arith in
-    let named : Names c.read_unit.new.cache.store.table c.in_ok-next.next (state_in d c.args.self.now c.args.input.now (suc k)) = (dead_tagged c.read_unit.new.cache.store.table c.in_ok-next.next (c.see_bounds-in-loop-read.ensures.sound.low c.in_ok-next.next) c.see_bounds-in-loop-read.ensures.sound.small _ c.in_ok-next.ensures.unit.leads).1 (λ b. false_true (c.if-is_dead.ensures.1 b)) in
-    let clean : HasReadNoQuit d c.args.self.now c.args.input.now (suc k) = clean_more d c.args.self.now c.args.input.now k (followed_clean f c.loop-read.invariant.clean) c.in_ok-next.ensures.unit.clean in
+    let named : Names c.read_unit.new.cache.store.table c.in_ok-next.next
+    (state_in d c.args.self.now c.args.input.now (suc k)) =
+    (dead_tagged c.read_unit.new.cache.store.table c.in_ok-next.next
+    (c.see_bounds-in-loop-read.ensures.sound.low c.in_ok-next.next) c.see_bounds-in-loop-read.ensures.sound.small _
+    c.in_ok-next.ensures.unit.leads).1 (λ b. false_true (c.if-is_dead.ensures.1 b)) in
+    let clean : HasReadNoQuit d c.args.self.now c.args.input.now (suc k) =
+    clean_more d c.args.self.now c.args.input.now k (followed_clean f c.loop-read.invariant.clean)
+    c.in_ok-next.ensures.unit.clean in
     let silent : IsSilent d c.args.self.now c.args.input.now c.args.units (suc k) =
     silent_step d c.args.self.now c.args.input.now c.args.units k (followed_silent f c.loop-read.invariant.silent)
-    (⊎_elim (λ s. inl s) (λ none. inr (none (state_in d c.args.self.now c.args.input.now (suc k)) named)) (c.reports.ensures.no c.if-reports.false)) in
+    (⊎_elim (λ s. inl s) (λ none. inr (none (state_in d c.args.self.now c.args.input.now (suc k)) named))
+    (c.reports.ensures.no c.if-reports.false)) in
     record {
       of = c.in_ok-next.ensures.of;
-      sound = is_store c.read_unit.new.cache.store c.args.self.now c.in_ok-next.ensures.of c.see_bounds-in-loop-read.ensures.bounds;
+      sound =
+          is_store c.read_unit.new.cache.store c.args.self.now c.in_ok-next.ensures.of
+          c.see_bounds-in-loop-read.ensures.bounds;
       from = omega (arith, c.loop-read.invariant.from, f.more);
       within = omega (arith, c.walk_far-stop.ensures.far.within);
-      named = subst (λ n. Names c.read_unit.new.cache.store.table c.in_ok-next.next (state_in d c.args.self.now c.args.input.now n)) more named;
+      named =
+          subst (λ n. Names c.read_unit.new.cache.store.table c.in_ok-next.next
+          (state_in d c.args.self.now c.args.input.now n)) more named;
       clean = subst (HasReadNoQuit d c.args.self.now c.args.input.now) more clean;
       silent = subst (IsSilent d c.args.self.now c.args.input.now c.args.units) more silent;
       progress =
@@ -111,7 +122,9 @@ returns-in_err-next-clause-advanced c =
     let d : Direction = c.args.way in
     let k : ℕ = c.walk_far-stop.result.0.at in
     let p = (goal.at.returns-in_err-next-clause-advanced c).After-walk_far-stop in
-    at_err c.from_residual.result _ (λ (r : Result Arrival SearchError). IsAdvanceResult d c.args.self.now c.args.input.now c.args.units c.args.cache.now c.read_unit.new.cache r) c.from_residual.ensures.1
+    at_err c.from_residual.result _
+    (λ (r : Result Arrival SearchError). IsAdvanceResult d c.args.self.now c.args.input.now c.args.units
+    c.args.cache.now c.read_unit.new.cache r) c.from_residual.ensures.1
     (call_stopped d c.args.self.now c.args.input.now c.args.units k (known_of c.args.cache.now)
     (known_of c.walk_far-stop.new.cache) (known_of c.read_unit.new.cache) c.in_err-next.field-0.0
     c.in_err-next.ensures.reads (followed_clean (followed p) c.loop-read.invariant.clean)
@@ -123,13 +136,21 @@ returns-then-is_dead-clause-advanced c =
     let k : ℕ = c.walk_far-stop.result.0.at in
     let p = (goal.at.returns-then-is_dead-clause-advanced c).After-walk_far-stop in
     let f = followed p in
-    let units : c.args.input.now.end - c.args.input.now.start ≡ length (tape_in d c.args.input.now).bytes = units_in d c.args.input.now c.requires.from.undone c.last_place-last.ensures.inside in
-    let dies : state_in d c.args.self.now c.args.input.now (suc k) ≡ dead = (dead_tagged c.read_unit.new.cache.store.table c.in_ok-next.next (c.see_bounds-in-loop-read.ensures.sound.low c.in_ok-next.next) c.see_bounds-in-loop-read.ensures.sound.small _ c.in_ok-next.ensures.unit.leads).0 (c.if-is_dead.ensures.0 refl) in
-    has_advanced d c.args.self.now c.args.input.now c.args.units k (record { id = None; units = k + 1 }) c.args.cache.now c.read_unit.new.cache (omega (arith, c.loop-read.invariant.from, f.more)) (omega arith) c.in_ok-next.ensures.reads
+    let units : c.args.input.now.end - c.args.input.now.start ≡ length (tape_in d c.args.input.now).bytes =
+    units_in d c.args.input.now c.requires.from.undone c.last_place-last.ensures.inside in
+    let dies : state_in d c.args.self.now c.args.input.now (suc k) ≡ dead =
+    (dead_tagged c.read_unit.new.cache.store.table c.in_ok-next.next
+    (c.see_bounds-in-loop-read.ensures.sound.low c.in_ok-next.next) c.see_bounds-in-loop-read.ensures.sound.small _
+    c.in_ok-next.ensures.unit.leads).0 (c.if-is_dead.ensures.0 refl) in
+    has_advanced d c.args.self.now c.args.input.now c.args.units k (record { id = None; units = k + 1 })
+    c.args.cache.now c.read_unit.new.cache (omega (arith, c.loop-read.invariant.from, f.more)) (omega arith)
+    c.in_ok-next.ensures.reads
     (goes_more d c.args.self.now c.args.input.now c.args.units (known_of c.args.cache.now) k
     (known_of c.walk_far-stop.new.cache) (known_of c.read_unit.new.cache) (goes p) c.in_ok-next.ensures.unit.read)
-    (finish_dead d c.args.self.now c.args.input.now c.args.units k _ (omega (arith, c.loop-read.invariant.from, f.more)) (omega (arith, units, c.walk_far-stop.ensures.far.within)) (omega arith)
-    (clean_more d c.args.self.now c.args.input.now k (followed_clean f c.loop-read.invariant.clean) c.in_ok-next.ensures.unit.clean) dies (followed_silent f c.loop-read.invariant.silent))
+    (finish_dead d c.args.self.now c.args.input.now c.args.units k _ (omega (arith, c.loop-read.invariant.from, f.more))
+    (omega (arith, units, c.walk_far-stop.ensures.far.within)) (omega arith)
+    (clean_more d c.args.self.now c.args.input.now k (followed_clean f c.loop-read.invariant.clean)
+    c.in_ok-next.ensures.unit.clean) dies (followed_silent f c.loop-read.invariant.silent))
 
 pub returns-then-reports-clause-advanced : goal.returns-then-reports-clause-advanced
 returns-then-reports-clause-advanced c =
@@ -137,11 +158,18 @@ returns-then-reports-clause-advanced c =
     let k : ℕ = c.walk_far-stop.result.0.at in
     let p = (goal.at.returns-then-reports-clause-advanced c).After-walk_far-stop in
     let f = followed p in
-    let units : c.args.input.now.end - c.args.input.now.start ≡ length (tape_in d c.args.input.now).bytes = units_in d c.args.input.now c.requires.from.undone c.last_place-last.ensures.inside in
+    let units : c.args.input.now.end - c.args.input.now.start ≡ length (tape_in d c.args.input.now).bytes =
+    units_in d c.args.input.now c.requires.from.undone c.last_place-last.ensures.inside in
     let more : suc k ≡ k + 1 = omega arith in
-    let named : Names c.read_unit.new.cache.store.table c.in_ok-next.next (state_in d c.args.self.now c.args.input.now (suc k)) = (dead_tagged c.read_unit.new.cache.store.table c.in_ok-next.next (c.see_bounds-in-loop-read.ensures.sound.low c.in_ok-next.next) c.see_bounds-in-loop-read.ensures.sound.small _ c.in_ok-next.ensures.unit.leads).1 (λ b. false_true (c.if-is_dead.ensures.1 b)) in
+    let named : Names c.read_unit.new.cache.store.table c.in_ok-next.next
+    (state_in d c.args.self.now c.args.input.now (suc k)) =
+    (dead_tagged c.read_unit.new.cache.store.table c.in_ok-next.next
+    (c.see_bounds-in-loop-read.ensures.sound.low c.in_ok-next.next) c.see_bounds-in-loop-read.ensures.sound.small _
+    c.in_ok-next.ensures.unit.leads).1 (λ b. false_true (c.if-is_dead.ensures.1 b)) in
     let yes = c.reports.ensures.yes c.if-reports.true in
-    has_advanced d c.args.self.now c.args.input.now c.args.units k (record { id = Some c.in_ok-next.next; units = k + 1 }) c.args.cache.now c.read_unit.new.cache (omega (arith, c.loop-read.invariant.from, f.more)) (omega arith) c.in_ok-next.ensures.reads
+    has_advanced d c.args.self.now c.args.input.now c.args.units k
+    (record { id = Some c.in_ok-next.next; units = k + 1 }) c.args.cache.now c.read_unit.new.cache
+    (omega (arith, c.loop-read.invariant.from, f.more)) (omega arith) c.in_ok-next.ensures.reads
     (goes_more d c.args.self.now c.args.input.now c.args.units (known_of c.args.cache.now) k
     (known_of c.walk_far-stop.new.cache) (known_of c.read_unit.new.cache) (goes p) c.in_ok-next.ensures.unit.read)
     (record {
@@ -149,8 +177,13 @@ returns-then-reports-clause-advanced c =
       one_after = sym more;
       more = omega (arith, c.loop-read.invariant.from, f.more);
       within = omega (arith, units, c.walk_far-stop.ensures.far.within);
-      named = subst (λ n. Names c.read_unit.new.cache.store.table c.in_ok-next.next (state_in d c.args.self.now c.args.input.now n)) more named;
-      clean = subst (HasReadNoQuit d c.args.self.now c.args.input.now) more (clean_more d c.args.self.now c.args.input.now k (followed_clean f c.loop-read.invariant.clean) c.in_ok-next.ensures.unit.clean);
+      named =
+          subst (λ n. Names c.read_unit.new.cache.store.table c.in_ok-next.next
+          (state_in d c.args.self.now c.args.input.now n)) more named;
+      clean =
+          subst (HasReadNoQuit d c.args.self.now c.args.input.now) more
+          (clean_more d c.args.self.now c.args.input.now k (followed_clean f c.loop-read.invariant.clean)
+          c.in_ok-next.ensures.unit.clean);
       reports = yes.1;
       unskipped = yes.0;
       silent = followed_silent f c.loop-read.invariant.silent;
@@ -159,16 +192,24 @@ returns-then-reports-clause-advanced c =
 pub returns-clause-advanced : goal.returns-clause-advanced
 returns-clause-advanced c =
     let d : Direction = c.args.way in
-    let units : c.args.input.now.end - c.args.input.now.start ≡ length (tape_in d c.args.input.now).bytes = units_in d c.args.input.now c.requires.from.undone c.last_place-last.ensures.inside in
-    let all : c.loop-read.read ≡ suc (length (tape_in d c.args.input.now).bytes) = omega (arith, units, c.loop-read-test.false, c.last_place-last.ensures.place, c.loop-read.invariant.within) in
-    let less : c.args.units < c.loop-read.read = omega (arith, c.requires.from.left, c.loop-read-test.false, c.last_place-last.ensures.place) in
-    let last : (k : ℕ) × (c.loop-read.read ≡ suc k) × WalkReads d c.args.self.now c.args.input.now k = c.loop-read.invariant.reads less in
-    has_advanced d c.args.self.now c.args.input.now c.args.units last.0 (record { id = None; units = c.loop-read.read }) c.args.cache.now c.loop-read.cache (omega (arith, less, last.1)) (sym last.1) last.2
+    let units : c.args.input.now.end - c.args.input.now.start ≡ length (tape_in d c.args.input.now).bytes =
+    units_in d c.args.input.now c.requires.from.undone c.last_place-last.ensures.inside in
+    let all : c.loop-read.read ≡ suc (length (tape_in d c.args.input.now).bytes) =
+    omega (arith, units, c.loop-read-test.false, c.last_place-last.ensures.place, c.loop-read.invariant.within) in
+    let less : c.args.units < c.loop-read.read =
+    omega (arith, c.requires.from.left, c.loop-read-test.false, c.last_place-last.ensures.place) in
+    let last : (k : ℕ) × (c.loop-read.read ≡ suc k) × WalkReads d c.args.self.now c.args.input.now k =
+    c.loop-read.invariant.reads less in
+    has_advanced d c.args.self.now c.args.input.now c.args.units last.0 (record { id = None; units = c.loop-read.read })
+    c.args.cache.now c.loop-read.cache (omega (arith, less, last.1)) (sym last.1) last.2
     (subst
-    (λ n. GoesTo d c.args.self.now c.args.input.now c.args.units n (known_of c.args.cache.now) (known_of c.loop-read.cache))
+    (λ n. GoesTo d c.args.self.now c.args.input.now c.args.units n (known_of c.args.cache.now)
+    (known_of c.loop-read.cache))
     last.1 c.loop-read.invariant.progress)
-    (finish_read d c.args.self.now c.args.input.now c.args.units c.loop-read.read all c.loop-read.invariant.from c.loop-read.invariant.clean c.loop-read.invariant.silent)
+    (finish_read d c.args.self.now c.args.input.now c.args.units c.loop-read.read all c.loop-read.invariant.from
+    c.loop-read.invariant.clean c.loop-read.invariant.silent)
 
 pub walk_far-stop-requires-clause-near : goal.walk_far-stop-requires-clause-near
 walk_far-stop-requires-clause-near c =
-    follows_none c.follow_walk-near.result c.follow_walk-near.ensures.within c.follow_walk-near.ensures.followed.named c.follow_walk-near.ensures.met
+    follows_none c.follow_walk-near.result c.follow_walk-near.ensures.within c.follow_walk-near.ensures.followed.named
+    c.follow_walk-near.ensures.met

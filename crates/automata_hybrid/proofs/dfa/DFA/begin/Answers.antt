@@ -14,8 +14,7 @@ use Rattle.automata_hybrid.proofs.Searches.Directions.{begins_alive, begins_dead
 use Rattle.automata_hybrid.proofs.Searches.PassContracts.{same_input}
 use Rattle.automata_hybrid.proofs.Searches.Reads.{at_err}
 use Rattle.automata_hybrid.proofs.Searches.Goes.{begun_here, ended_here, pass_dies, rest_passes, start_fails_pass}
-use Rattle.automata_hybrid.proofs.Searches.PassState.{clean_start, false_true, starts_at}
-use Rattle.automata_hybrid.proofs.Searches.PassState.{starts_dead, stops_start}
+use Rattle.automata_hybrid.proofs.Searches.PassState.{clean_start, false_true, starts_at, starts_dead, stops_start}
 use Rattle.automata_hybrid.proofs.dfa.DFA.begin.Goals as goal
 use Rattle.automata_hybrid.proofs.dfa.DFA.begin.Goals.{After-get_earliest, After-rest, After-search_start}
 

@@ -43,4 +43,5 @@ returns-clause-value c =
 
 pub returns-clause-below : goal.returns-clause-below
 returns-clause-below c =
-    subst (λ n. n < 6) (sym (here c)) (kind_below (eqb c.in-Some.byte 10) (eqb c.in-Some.byte 13) (is_word_byte c.in-Some.byte))
+    subst (λ n. n < 6) (sym (here c))
+    (kind_below (eqb c.in-Some.byte 10) (eqb c.in-Some.byte 13) (is_word_byte c.in-Some.byte))

@@ -21,17 +21,25 @@ use Rattle.automata_hybrid.proofs.dfa.DFA.call_held.Goals as goal
 
 pub go_on-requires-clause-walk : goal.go_on-requires-clause-walk
 go_on-requires-clause-walk c =
-    record { reported = c.requires.walk.reported; holds = (held_itself c.args.cache.now.store.table c.args.walk.now.stage c.args.held.now c.requires.walk.itself).0 }
+    record {
+      reported = c.requires.walk.reported;
+      holds =
+          (held_itself c.args.cache.now.store.table c.args.walk.now.stage c.args.held.now c.requires.walk.itself).0;
+    }
 
 pub release-requires : goal.release-requires
 release-requires c =
     itself_held c.go_on.new.cache.store.table c.go_on.new.walk.stage c.go_on.new.held c.in-Ok.ensures.held.holds
-    (c.in-Ok.ensures.held.keeping ∙ (held_itself c.args.cache.now.store.table c.args.walk.now.stage c.args.held.now c.requires.walk.itself).1)
+    (c.in-Ok.ensures.held.keeping
+    ∙ (held_itself c.args.cache.now.store.table c.args.walk.now.stage c.args.held.now c.requires.walk.itself).1)
 
 pub returns-in-Ok-clause-walk : goal.returns-in-Ok-clause-walk
 returns-in-Ok-clause-walk c =
     let walk = c.requires.walk.reported in
-    record { reported = (suc walk.0, (c.in-Ok.ensures.called.answer.reports walk.0 walk.1).0); itself = c.release.ensures }
+    record {
+      reported = (suc walk.0, (c.in-Ok.ensures.called.answer.reports walk.0 walk.1).0);
+      itself = c.release.ensures;
+    }
 
 pub returns-in-Ok-clause-call : goal.returns-in-Ok-clause-call
 returns-in-Ok-clause-call c =
@@ -41,11 +49,13 @@ returns-in-Ok-clause-call c =
     let reports = c.in-Ok.ensures.called.answer.reports in
     let answered : Result (Unit {0}) SearchError = Ok tt in
     let haystack = c.haystack-haystack.ensures in
-    let law : OverlappingIsReported m.nfa = subst OverlappingIsReported c.get_nfa.ensures c.walk_is_right.ensures.overlapping in
+    let law : OverlappingIsReported m.nfa =
+    subst OverlappingIsReported c.get_nfa.ensures c.walk_is_right.ensures.overlapping in
     record {
       reports = reports;
       paths = λ free k pairs reported overlapping.
-          ((reports k reported).1 pairs (law d (match_kind_of m.config) input pairs free (haystack.bytes, haystack.within.1) overlapping)).0;
+          ((reports k reported).1 pairs
+          (law d (match_kind_of m.config) input pairs free (haystack.bytes, haystack.within.1) overlapping)).0;
       within =
           reported_lies d m input (subst WalksAreReported c.get_nfa.ensures c.walk_is_right.ensures.reported)
           (subst WalkLiesWithin c.get_nfa.ensures c.walk_is_right.ensures.within) haystack.within.1
@@ -56,7 +66,9 @@ returns-in-Ok-clause-call c =
         | ReportsOneMore on same more ↦ absurd (on over)
       ];
       refused = tt;
-      unsupported = λ fresh u. absurd (supported_call d m input c.args.walk.now c.go_on.new.walk c.requires.walk.reported reports u);
+      unsupported =
+          λ fresh u. absurd
+          (supported_call d m input c.args.walk.now c.go_on.new.walk c.requires.walk.reported reports u);
       free = λ f. tt;
       ready = λ none. tt;
     }
@@ -69,11 +81,13 @@ pub returns-in-Err-clause-walk : goal.returns-in-Err-clause-walk
 returns-in-Err-clause-walk c =
     record {
       reported =
-          still_walk c.args.way c.args.self.now c.args.input.now c.args.walk.now SearchError (Err c.in-Err.error) c.go_on.new.walk
+          still_walk c.args.way c.args.self.now c.args.input.now c.args.walk.now SearchError (Err c.in-Err.error)
+          c.go_on.new.walk
           c.requires.walk.reported tt c.in-Err.ensures.err.0;
       itself =
           subst (λ (h : Held). IsHeldItself c.go_on.new.walk.stage h) (sym c.in-Err.ensures.err.1)
-          (subst (λ (w : Walk). IsHeldItself w.stage c.args.held.now) (sym c.in-Err.ensures.err.0) c.requires.walk.itself);
+          (subst (λ (w : Walk). IsHeldItself w.stage c.args.held.now) (sym c.in-Err.ensures.err.0)
+          c.requires.walk.itself);
     }
 
 pub returns-in-Err-clause-effect : goal.returns-in-Err-clause-effect

@@ -15,8 +15,8 @@ use Rattle.automata_hybrid.specs.Searches.Passes.{HasReadNoQuit, Reads, given_up
 use Rattle.automata_hybrid.proofs.Searches.PassContracts.{dead_answer, dead_stops, first_answer, first_stops}
 use Rattle.automata_hybrid.proofs.Searches.Goes.{GoesTo, ended_here, goes_known, goes_more, goes_none, last_rest}
 use Rattle.automata_hybrid.proofs.Searches.Goes.{left_here, pass_last, pass_stopped, taken_here}
-use Rattle.automata_hybrid.proofs.Searches.PassState.{at_reads, more_at, more_clean, more_leads}
-use Rattle.automata_hybrid.proofs.Searches.PassState.{false_true, none_is, some_is}
+use Rattle.automata_hybrid.proofs.Searches.PassState.{at_reads, more_at, more_clean, more_leads, false_true, none_is}
+use Rattle.automata_hybrid.proofs.Searches.PassState.{some_is}
 use Rattle.automata_hybrid.proofs.Searches.Traces.{pass_is_trace}
 use Rattle.automata_hybrid.proofs.Searches.Directions.{quit_free, span_unit, units_in}
 use Rattle.automata_hybrid.proofs.Searches.Units as units

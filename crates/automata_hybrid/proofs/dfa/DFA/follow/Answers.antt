@@ -8,12 +8,15 @@ pub returns-then-not-has_only-clause-to : goal.returns-then-not-has_only-clause-
 returns-then-not-has_only-clause-to g c =
     record {
       within = c.requires.1.0.within;
-      followed = followed_none c.args.way c.args.self.now c.args.cache.now.store c.args.input.now c.args.tag c.args.start c.args.from c.requires.1.0.on.named;
+      followed =
+          followed_none c.args.way c.args.self.now c.args.cache.now.store c.args.input.now c.args.tag c.args.start
+          c.args.from c.requires.1.0.on.named;
       met = c.next_known.ensures.met;
     }
 
 pub returns-then-not-has_only-clause-only : goal.returns-then-not-has_only-clause-only
-returns-then-not-has_only-clause-only g c = λ only. absurd (false_true (sym c.if-not-has_only.true ∙ c.has_only.ensures.1 only))
+returns-then-not-has_only-clause-only g c =
+    λ only. absurd (false_true (sym c.if-not-has_only.true ∙ c.has_only.ensures.1 only))
 
 pub next_known-requires : goal.next_known-requires
 next_known-requires g c = (c.requires.0, c.requires.1.0)
@@ -26,7 +29,11 @@ follow_rest-requires g c = (
 
 pub returns-then-start-end-clause-to : goal.returns-then-start-end-clause-to
 returns-then-start-end-clause-to g c =
-    record { within = c.follow_rest.ensures.within; followed = c.follow_rest.ensures.run.followed; met = c.follow_rest.ensures.met }
+    record {
+      within = c.follow_rest.ensures.within;
+      followed = c.follow_rest.ensures.run.followed;
+      met = c.follow_rest.ensures.met;
+    }
 
 pub returns-then-start-end-clause-only : goal.returns-then-start-end-clause-only
 returns-then-start-end-clause-only g c = λ only. c.follow_rest.ensures.run.only
@@ -35,7 +42,13 @@ pub eights-init : goal.eights-init
 eights-init g c =
     record {
       within = omega (arith, c.requires.1.0.within);
-      run = run_none (record { kind = c.requires.1.1; only = c.has_only.ensures.0 c.if-not-has_only.false; on = c.requires.1.0.on });
+      run =
+          run_none
+          (record {
+            kind = c.requires.1.1;
+            only = c.has_only.ensures.0 c.if-not-has_only.false;
+            on = c.requires.1.0.on;
+          });
     }
 
 pub follow_eight-eight-requires : goal.follow_eight-eight-requires

@@ -11,5 +11,7 @@ eights-init c = record {
 pub eights-preserved : goal.eights-preserved
 eights-preserved c = record {
   upto = omega (arith, c.eights-test.true);
-  run = run_over 8 (omega (arith, c.eights-test.true, c.requires.inside)) (c.if-not-loops_on_eight.ensures refl) c.eights.invariant.run;
+  run =
+      run_over 8 (omega (arith, c.eights-test.true, c.requires.inside)) (c.if-not-loops_on_eight.ensures refl)
+      c.eights.invariant.run;
 }

@@ -5,4 +5,8 @@ use Rattle.automata_hybrid.proofs.Searches.PassState.{false_true}
 use Rattle.automata_hybrid.proofs.dfa.DFA.found_at.Goals as goal
 
 pub returns : goal.returns
-returns c = λ q l. sym (ap (λ ps. half_at ps c.args.at c.args.found) (Leads-untagged c.args.cache.now.store.table c.args.id q l (c.see_bounds.ensures.sound.tagged c.args.id q) (λ b. absurd (false_true (c.if-is_match.ensures.1 b)))))
+returns c =
+    λ q l. sym
+    (ap (λ ps. half_at ps c.args.at c.args.found)
+    (Leads-untagged c.args.cache.now.store.table c.args.id q l (c.see_bounds.ensures.sound.tagged c.args.id q)
+    (λ b. absurd (false_true (c.if-is_match.ensures.1 b)))))

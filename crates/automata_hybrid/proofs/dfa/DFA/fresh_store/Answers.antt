@@ -28,7 +28,8 @@ new_row-requires-clause-classes c =
 pub new-requires-clause-whole : goal.new-requires-clause-whole
 new-requires-clause-whole c =
     subst (λ n. IsTemplate n c.in_ok-template.template.items) (sym c.stride-stride.ensures.number)
-    (subst (λ (xs : List ℕ). IsTemplate (machine_of c.self.inside).stride xs) (sym (row_is c)) c.self.invariant.template)
+    (subst (λ (xs : List ℕ). IsTemplate (machine_of c.self.inside).stride xs) (sym (row_is c))
+    c.self.invariant.template)
 
 pub new-requires-clause-stride : goal.new-requires-clause-stride
 new-requires-clause-stride c = stride_is c
@@ -43,11 +44,13 @@ pub new-requires-clause-enough : goal.new-requires-clause-enough
 new-requires-clause-enough c =
     let m : Machine = c.args.self.now in
     let enough : minimum_capacity m.stride m.slots m.greatest m.fixed ≤ m.capacity =
-    subst (λ (n : Machine). minimum_capacity n.stride n.slots n.greatest n.fixed ≤ n.capacity) c.self.view_is c.self.invariant.enough in
+    subst (λ (n : Machine). minimum_capacity n.stride n.slots n.greatest n.fixed ≤ n.capacity) c.self.view_is
+    c.self.invariant.enough in
     let given : minimum_capacity c.stride-stride.result c.start_slots-slots.result m.greatest m.fixed ≤ m.capacity =
     subst (λ s. minimum_capacity s c.start_slots-slots.result m.greatest m.fixed ≤ m.capacity) (sym (stride_is c))
     (subst (λ k. minimum_capacity m.stride k m.greatest m.fixed ≤ m.capacity) (sym (slots_are c)) enough) in
-    subst (λ (s : Settings). minimum_capacity c.stride-stride.result c.start_slots-slots.result m.greatest s.fixed ≤ s.capacity) (sym c.settings.ensures) given
+    subst (λ (s : Settings). minimum_capacity c.stride-stride.result c.start_slots-slots.result m.greatest s.fixed
+    ≤ s.capacity) (sym c.settings.ensures) given
 
 pub new-requires-clause-offsets : goal.new-requires-clause-offsets
 new-requires-clause-offsets c =

@@ -19,14 +19,20 @@ found_at-found-requires-clause-leads c =
     let d : Direction = c.args.way in
     let k : ℕ = c.run-run.result.at in
     let low : c.known_next-next.result < 2 ^ 31 = grind (arith, common_steps, c.if-is_unknown.ensures.size) in
-    let upto : IsKnownUpto d c.args.self.now c.args.cache.now.store c.args.input.now k c.run-run.result.id c.run-run.result.found = record {
+    let upto : IsKnownUpto d c.args.self.now c.args.cache.now.store c.args.input.now k c.run-run.result.id
+    c.run-run.result.found = record {
       within = c.run-run.ensures.runs.run.within;
       at = record { undone = c.requires.at.undone; may = c.requires.at.may; at = c.run-run.ensures.runs.at };
       known = λ j below. c.run-run.ensures.runs.run.known j (omega arith) below;
     } in
-    let few : k ≤ length (tape_in d c.args.input.now).bytes = (let u = units_in d c.args.input.now c.requires.at.undone c.last_place-last.ensures.inside in omega (arith, u, upto.within)) in (
+    let few : k ≤ length (tape_in d c.args.input.now).bytes =
+    (let u = units_in d c.args.input.now c.requires.at.undone c.last_place-last.ensures.inside in
+    omega (arith, u, upto.within)) in (
       _,
-      known_leads d c.args.self.now c.args.input.now k c.run-run.result.id c.args.cache.now c.run-run.result.found c.known_next-next.result c.requires.of c.see_bounds.ensures.sound upto few (subst (λ n. n < 2 ^ 31) (c.known_next-next.ensures.value low) low) (c.known_next-next.ensures.answer low) (c.known_next-next.ensures.below low) (λ b. false_true (c.if-is_quit.ensures.1 b)),
+      known_leads d c.args.self.now c.args.input.now k c.run-run.result.id c.args.cache.now c.run-run.result.found
+          c.known_next-next.result c.requires.of c.see_bounds.ensures.sound upto few
+          (subst (λ n. n < 2 ^ 31) (c.known_next-next.ensures.value low) low) (c.known_next-next.ensures.answer low)
+          (c.known_next-next.ensures.below low) (λ b. false_true (c.if-is_quit.ensures.1 b)),
     )
 
 pub returns-then-is_dead-clause-ended : goal.returns-then-is_dead-clause-ended
@@ -34,94 +40,147 @@ returns-then-is_dead-clause-ended c =
     let d : Direction = c.args.way in
     let k : ℕ = c.run-run.result.at in
     let low : c.known_next-next.result < 2 ^ 31 = grind (arith, common_steps, c.if-is_unknown.ensures.size) in
-    let upto : IsKnownUpto d c.args.self.now c.args.cache.now.store c.args.input.now k c.run-run.result.id c.run-run.result.found = record {
+    let upto : IsKnownUpto d c.args.self.now c.args.cache.now.store c.args.input.now k c.run-run.result.id
+    c.run-run.result.found = record {
       within = c.run-run.ensures.runs.run.within;
       at = record { undone = c.requires.at.undone; may = c.requires.at.may; at = c.run-run.ensures.runs.at };
       known = λ j below. c.run-run.ensures.runs.run.known j (omega arith) below;
     } in
-    let few : k ≤ length (tape_in d c.args.input.now).bytes = (let u = units_in d c.args.input.now c.requires.at.undone c.last_place-last.ensures.inside in omega (arith, u, upto.within)) in
-    subst (λ (r : Known). r.stop ≡ Ended → IsKnownEnd d c.args.self.now c.args.cache.now c.args.input.now r.at r.id r.found) (sym c.new-then-is_dead.ensures)
-    (λ _. known_dead d c.args.self.now c.args.input.now k c.run-run.result.id c.args.cache.now c.run-run.result.found c.known_next-next.result c.requires.of c.see_bounds.ensures.sound upto few (subst (λ n. n < 2 ^ 31) (c.known_next-next.ensures.value low) low) (c.known_next-next.ensures.answer low) (c.known_next-next.ensures.below low) (dead_clear c.args.cache.now c.known_next-next.result (c.known_next-next.ensures.answer low).row (c.see_bounds.ensures.sound.low c.known_next-next.result) c.see_bounds.ensures.sound.small (c.if-is_dead.ensures.0 refl)) (c.if-is_dead.ensures.0 refl))
+    let few : k ≤ length (tape_in d c.args.input.now).bytes =
+    (let u = units_in d c.args.input.now c.requires.at.undone c.last_place-last.ensures.inside in
+    omega (arith, u, upto.within)) in
+    subst (λ (r : Known). r.stop ≡ Ended
+    → IsKnownEnd d c.args.self.now c.args.cache.now c.args.input.now r.at r.id r.found) (sym c.new-then-is_dead.ensures)
+    (λ _. known_dead d c.args.self.now c.args.input.now k c.run-run.result.id c.args.cache.now c.run-run.result.found
+    c.known_next-next.result c.requires.of c.see_bounds.ensures.sound upto few
+    (subst (λ n. n < 2 ^ 31) (c.known_next-next.ensures.value low) low) (c.known_next-next.ensures.answer low)
+    (c.known_next-next.ensures.below low)
+    (dead_clear c.args.cache.now c.known_next-next.result (c.known_next-next.ensures.answer low).row
+    (c.see_bounds.ensures.sound.low c.known_next-next.result) c.see_bounds.ensures.sound.small
+    (c.if-is_dead.ensures.0 refl)) (c.if-is_dead.ensures.0 refl))
 
 pub returns-then-run-last-2-clause-ended : goal.returns-then-run-last-2-clause-ended
 returns-then-run-last-2-clause-ended c =
     let d : Direction = c.args.way in
     let k : ℕ = c.run-run.result.at in
     let low : c.known_next-next.result < 2 ^ 31 = grind (arith, common_steps, c.if-is_unknown.ensures.size) in
-    let upto : IsKnownUpto d c.args.self.now c.args.cache.now.store c.args.input.now k c.run-run.result.id c.run-run.result.found = record {
+    let upto : IsKnownUpto d c.args.self.now c.args.cache.now.store c.args.input.now k c.run-run.result.id
+    c.run-run.result.found = record {
       within = c.run-run.ensures.runs.run.within;
       at = record { undone = c.requires.at.undone; may = c.requires.at.may; at = c.run-run.ensures.runs.at };
       known = λ j below. c.run-run.ensures.runs.run.known j (omega arith) below;
     } in
-    let few : k ≤ length (tape_in d c.args.input.now).bytes = (let u = units_in d c.args.input.now c.requires.at.undone c.last_place-last.ensures.inside in omega (arith, u, upto.within)) in
-    subst (λ (r : Known). r.stop ≡ Ended → IsKnownEnd d c.args.self.now c.args.cache.now c.args.input.now r.at r.id r.found) (sym c.new-then-run-last-2.ensures)
-    (λ _. known_last d c.args.self.now c.args.input.now k c.run-run.result.id c.args.cache.now c.run-run.result.found c.known_next-next.result c.requires.of c.see_bounds.ensures.sound upto few (subst (λ n. n < 2 ^ 31) (c.known_next-next.ensures.value low) low) (c.known_next-next.ensures.answer low) (c.known_next-next.ensures.below low) (λ b. false_true (c.if-is_quit.ensures.1 b)) c.found_at-found.result c.place_offset.result c.place_offset.ensures.value c.found_at-found.ensures (let u = units_in d c.args.input.now c.requires.at.undone c.last_place-last.ensures.inside in omega (arith, u, upto.within, c.if-run-last-2.true, c.last_place-last.ensures.place)))
+    let few : k ≤ length (tape_in d c.args.input.now).bytes =
+    (let u = units_in d c.args.input.now c.requires.at.undone c.last_place-last.ensures.inside in
+    omega (arith, u, upto.within)) in
+    subst (λ (r : Known). r.stop ≡ Ended
+    → IsKnownEnd d c.args.self.now c.args.cache.now c.args.input.now r.at r.id r.found)
+    (sym c.new-then-run-last-2.ensures)
+    (λ _. known_last d c.args.self.now c.args.input.now k c.run-run.result.id c.args.cache.now c.run-run.result.found
+    c.known_next-next.result c.requires.of c.see_bounds.ensures.sound upto few
+    (subst (λ n. n < 2 ^ 31) (c.known_next-next.ensures.value low) low) (c.known_next-next.ensures.answer low)
+    (c.known_next-next.ensures.below low) (λ b. false_true (c.if-is_quit.ensures.1 b)) c.found_at-found.result
+    c.place_offset.result c.place_offset.ensures.value c.found_at-found.ensures
+    (let u = units_in d c.args.input.now c.requires.at.undone c.last_place-last.ensures.inside in
+    omega (arith, u, upto.within, c.if-run-last-2.true, c.last_place-last.ensures.place)))
 
 pub returns-then-is_some-clause-ended : goal.returns-then-is_some-clause-ended
 returns-then-is_some-clause-ended c =
     let d : Direction = c.args.way in
     let k : ℕ = c.run-run.result.at in
     let low : c.known_next-next.result < 2 ^ 31 = grind (arith, common_steps, c.if-is_unknown.ensures.size) in
-    let upto : IsKnownUpto d c.args.self.now c.args.cache.now.store c.args.input.now k c.run-run.result.id c.run-run.result.found = record {
+    let upto : IsKnownUpto d c.args.self.now c.args.cache.now.store c.args.input.now k c.run-run.result.id
+    c.run-run.result.found = record {
       within = c.run-run.ensures.runs.run.within;
       at = record { undone = c.requires.at.undone; may = c.requires.at.may; at = c.run-run.ensures.runs.at };
       known = λ j below. c.run-run.ensures.runs.run.known j (omega arith) below;
     } in
-    let few : k ≤ length (tape_in d c.args.input.now).bytes = (let u = units_in d c.args.input.now c.requires.at.undone c.last_place-last.ensures.inside in omega (arith, u, upto.within)) in
-    subst (λ (r : Known). r.stop ≡ Ended → IsKnownEnd d c.args.self.now c.args.cache.now c.args.input.now r.at r.id r.found) (sym c.new-then-is_some.ensures)
-    (λ _. known_first d c.args.self.now c.args.input.now k c.run-run.result.id c.args.cache.now c.run-run.result.found c.known_next-next.result c.requires.of c.see_bounds.ensures.sound upto few (subst (λ n. n < 2 ^ 31) (c.known_next-next.ensures.value low) low) (c.known_next-next.ensures.answer low) (c.known_next-next.ensures.below low) (λ b. false_true (c.if-is_quit.ensures.1 b)) c.found_at-found.result c.place_offset.result c.place_offset.ensures.value c.found_at-found.ensures (sym c.get_earliest.ensures ∙ c.if-get_earliest.true) (some_is c.found_at-found.result c.if-is_some.ensures))
+    let few : k ≤ length (tape_in d c.args.input.now).bytes =
+    (let u = units_in d c.args.input.now c.requires.at.undone c.last_place-last.ensures.inside in
+    omega (arith, u, upto.within)) in
+    subst (λ (r : Known). r.stop ≡ Ended
+    → IsKnownEnd d c.args.self.now c.args.cache.now c.args.input.now r.at r.id r.found) (sym c.new-then-is_some.ensures)
+    (λ _. known_first d c.args.self.now c.args.input.now k c.run-run.result.id c.args.cache.now c.run-run.result.found
+    c.known_next-next.result c.requires.of c.see_bounds.ensures.sound upto few
+    (subst (λ n. n < 2 ^ 31) (c.known_next-next.ensures.value low) low) (c.known_next-next.ensures.answer low)
+    (c.known_next-next.ensures.below low) (λ b. false_true (c.if-is_quit.ensures.1 b)) c.found_at-found.result
+    c.place_offset.result c.place_offset.ensures.value c.found_at-found.ensures
+    (sym c.get_earliest.ensures ∙ c.if-get_earliest.true) (some_is c.found_at-found.result c.if-is_some.ensures))
 
 pub returns-clause-left : goal.returns-clause-left
 returns-clause-left c =
     let d : Direction = c.args.way in
     let k : ℕ = c.run-run.result.at in
     let low : c.known_next-next.result < 2 ^ 31 = grind (arith, common_steps, c.if-is_unknown.ensures.size) in
-    let upto : IsKnownUpto d c.args.self.now c.args.cache.now.store c.args.input.now k c.run-run.result.id c.run-run.result.found = record {
+    let upto : IsKnownUpto d c.args.self.now c.args.cache.now.store c.args.input.now k c.run-run.result.id
+    c.run-run.result.found = record {
       within = c.run-run.ensures.runs.run.within;
       at = record { undone = c.requires.at.undone; may = c.requires.at.may; at = c.run-run.ensures.runs.at };
       known = λ j below. c.run-run.ensures.runs.run.known j (omega arith) below;
     } in
-    let few : k ≤ length (tape_in d c.args.input.now).bytes = (let u = units_in d c.args.input.now c.requires.at.undone c.last_place-last.ensures.inside in omega (arith, u, upto.within)) in
-    let less : k < c.args.input.now.end - c.args.input.now.start = omega (arith, c.if-run-last-2.false, c.last_place-last.ensures.place) in
+    let few : k ≤ length (tape_in d c.args.input.now).bytes =
+    (let u = units_in d c.args.input.now c.requires.at.undone c.last_place-last.ensures.inside in
+    omega (arith, u, upto.within)) in
+    let less : k < c.args.input.now.end - c.args.input.now.start =
+    omega (arith, c.if-run-last-2.false, c.last_place-last.ensures.place) in
     let more : suc k ≡ c.run-run.result.at + 1 = omega arith in
     let first : c.args.input.now.earliest ≡ true → c.found_at-found.result ≡ None =
     elim c.else-get_earliest.branch [
-      | else-get_earliest-via-then-get_earliest+else-is_some w ↦ λ e. none_is c.found_at-found.result (sym w.is_some.ensures ∙ w.if-is_some.false)
-      | else-get_earliest-via-else-get_earliest w ↦ λ e. absurd (false_true (sym w.if-get_earliest.false ∙ (c.get_earliest.ensures ∙ e)))
+      | else-get_earliest-via-then-get_earliest+else-is_some w ↦ λ e. none_is c.found_at-found.result
+          (sym w.is_some.ensures ∙ w.if-is_some.false)
+      | else-get_earliest-via-else-get_earliest w ↦ λ e. absurd
+          (false_true (sym w.if-get_earliest.false ∙ (c.get_earliest.ensures ∙ e)))
     ] in
-    subst (λ (r : Known). (r.stop ≡ Ended → ⊥) → IsKnownUpto d c.args.self.now c.args.cache.now.store c.args.input.now r.at r.id r.found) (sym c.new-2.ensures)
-    (λ _. subst (λ n. IsKnownUpto d c.args.self.now c.args.cache.now.store c.args.input.now n c.known_next-next.result c.found_at-found.result) more
-    (known_more d c.args.self.now c.args.input.now k c.run-run.result.id c.args.cache.now c.run-run.result.found c.known_next-next.result c.requires.of c.see_bounds.ensures.sound upto few (subst (λ n. n < 2 ^ 31) (c.known_next-next.ensures.value low) low) (c.known_next-next.ensures.answer low) (c.known_next-next.ensures.below low) (λ b. false_true (c.if-is_quit.ensures.1 b)) c.found_at-found.result c.place_offset.result c.place_offset.ensures.value c.found_at-found.ensures (λ b. false_true (c.if-is_dead.ensures.1 b)) first less))
+    subst (λ (r : Known). (r.stop ≡ Ended → ⊥)
+    → IsKnownUpto d c.args.self.now c.args.cache.now.store c.args.input.now r.at r.id r.found) (sym c.new-2.ensures)
+    (λ _. subst
+    (λ n. IsKnownUpto d c.args.self.now c.args.cache.now.store c.args.input.now n c.known_next-next.result
+    c.found_at-found.result) more
+    (known_more d c.args.self.now c.args.input.now k c.run-run.result.id c.args.cache.now c.run-run.result.found
+    c.known_next-next.result c.requires.of c.see_bounds.ensures.sound upto few
+    (subst (λ n. n < 2 ^ 31) (c.known_next-next.ensures.value low) low) (c.known_next-next.ensures.answer low)
+    (c.known_next-next.ensures.below low) (λ b. false_true (c.if-is_quit.ensures.1 b)) c.found_at-found.result
+    c.place_offset.result c.place_offset.ensures.value c.found_at-found.ensures
+    (λ b. false_true (c.if-is_dead.ensures.1 b)) first less))
 
 pub returns-then-is_unknown-clause-left : goal.returns-then-is_unknown-clause-left
 returns-then-is_unknown-clause-left c =
     let d : Direction = c.args.way in
-    let upto : IsKnownUpto d c.args.self.now c.args.cache.now.store c.args.input.now c.run-run.result.at c.run-run.result.id c.run-run.result.found = record {
+    let upto : IsKnownUpto d c.args.self.now c.args.cache.now.store c.args.input.now c.run-run.result.at
+    c.run-run.result.id c.run-run.result.found = record {
       within = c.run-run.ensures.runs.run.within;
       at = record { undone = c.requires.at.undone; may = c.requires.at.may; at = c.run-run.ensures.runs.at };
       known = λ j below. c.run-run.ensures.runs.run.known j (omega arith) below;
     } in
-    subst (λ (r : Known). (r.stop ≡ Ended → ⊥) → IsKnownUpto d c.args.self.now c.args.cache.now.store c.args.input.now r.at r.id r.found) (sym c.new-then-is_unknown.ensures) (λ _. upto)
+    subst (λ (r : Known). (r.stop ≡ Ended → ⊥)
+    → IsKnownUpto d c.args.self.now c.args.cache.now.store c.args.input.now r.at r.id r.found)
+    (sym c.new-then-is_unknown.ensures) (λ _. upto)
 
 pub returns-then-run-last-clause-left : goal.returns-then-run-last-clause-left
 returns-then-run-last-clause-left c =
     let d : Direction = c.args.way in
-    let upto : IsKnownUpto d c.args.self.now c.args.cache.now.store c.args.input.now c.run-run.result.at c.run-run.result.id c.run-run.result.found = record {
+    let upto : IsKnownUpto d c.args.self.now c.args.cache.now.store c.args.input.now c.run-run.result.at
+    c.run-run.result.id c.run-run.result.found = record {
       within = c.run-run.ensures.runs.run.within;
       at = record { undone = c.requires.at.undone; may = c.requires.at.may; at = c.run-run.ensures.runs.at };
       known = λ j below. c.run-run.ensures.runs.run.known j (omega arith) below;
     } in
-    subst (λ (r : Known). (r.stop ≡ Ended → ⊥) → IsKnownUpto d c.args.self.now c.args.cache.now.store c.args.input.now r.at r.id r.found) (sym c.new.ensures) (λ _. upto)
+    subst (λ (r : Known). (r.stop ≡ Ended → ⊥)
+    → IsKnownUpto d c.args.self.now c.args.cache.now.store c.args.input.now r.at r.id r.found) (sym c.new.ensures)
+    (λ _. upto)
 
 pub returns-then-is_quit-clause-left : goal.returns-then-is_quit-clause-left
 returns-then-is_quit-clause-left c =
     let d : Direction = c.args.way in
-    let upto : IsKnownUpto d c.args.self.now c.args.cache.now.store c.args.input.now c.run-run.result.at c.run-run.result.id c.run-run.result.found = record {
+    let upto : IsKnownUpto d c.args.self.now c.args.cache.now.store c.args.input.now c.run-run.result.at
+    c.run-run.result.id c.run-run.result.found = record {
       within = c.run-run.ensures.runs.run.within;
       at = record { undone = c.requires.at.undone; may = c.requires.at.may; at = c.run-run.ensures.runs.at };
       known = λ j below. c.run-run.ensures.runs.run.known j (omega arith) below;
     } in
-    subst (λ (r : Known). (r.stop ≡ Ended → ⊥) → IsKnownUpto d c.args.self.now c.args.cache.now.store c.args.input.now r.at r.id r.found) (sym c.new-then-is_quit.ensures) (λ _. upto)
+    subst (λ (r : Known). (r.stop ≡ Ended → ⊥)
+    → IsKnownUpto d c.args.self.now c.args.cache.now.store c.args.input.now r.at r.id r.found)
+    (sym c.new-then-is_quit.ensures) (λ _. upto)
 
 pub run-run-requires : goal.run-run-requires
 run-run-requires c =

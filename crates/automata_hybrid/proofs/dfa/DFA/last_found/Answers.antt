@@ -9,7 +9,8 @@ use Rattle.automata_hybrid.proofs.dfa.DFA.last_found.Goals as goal
 
 pub first_pattern-requires : goal.first_pattern-requires
 first_pattern-requires c =
-    let reports = c.requires.reports (below_not c.args.reported unknown_id (λ h. false_true (c.if-is_unknown.ensures.size.1 h))) in
+    let reports =
+    c.requires.reports (below_not c.args.reported unknown_id (λ h. false_true (c.if-is_unknown.ensures.size.1 h))) in
     record { of = c.requires.of; valid = reports.0; tagged = reports.1 }
 
 pub returns-then-is_unknown-clause-some : goal.returns-then-is_unknown-clause-some

@@ -15,13 +15,16 @@ column-requires-clause-classes c = c.requires.leaps.of.classes ∙ ap (λ (m : M
 
 pub cell-next-requires : goal.cell-next-requires
 cell-next-requires c =
-    cell_within c.args.way c.args.bytes.now c.requires.of c.see_machine.ensures.rising (byte_small c.args.way c.args.bytes.now (λ k. (c.type_inv.bytes k).fits)) c.requires.leaps c.requires.reach
+    cell_within c.args.way c.args.bytes.now c.requires.of c.see_machine.ensures.rising
+    (byte_small c.args.way c.args.bytes.now (λ k. (c.type_inv.bytes k).fits)) c.requires.leaps c.requires.reach
     c.column.ensures.value c.column.ensures.below c.leaps.invariant.leapt
 
 pub leaps-preserved : goal.leaps-preserved
 leaps-preserved c = record {
   leapt =
-      leapt_more c.args.way c.args.bytes.now c.requires.of c.see_machine.ensures.rising (byte_small c.args.way c.args.bytes.now (λ k. (c.type_inv.bytes k).fits)) c.requires.leaps c.requires.reach
-      c.column.ensures.value c.column.ensures.below c.leaps.invariant.leapt c.cell-next.result c.leaps-test.true c.cell-next.ensures c.if-next.false;
+      leapt_more c.args.way c.args.bytes.now c.requires.of c.see_machine.ensures.rising
+      (byte_small c.args.way c.args.bytes.now (λ k. (c.type_inv.bytes k).fits)) c.requires.leaps c.requires.reach
+      c.column.ensures.value c.column.ensures.below c.leaps.invariant.leapt c.cell-next.result c.leaps-test.true
+      c.cell-next.ensures c.if-next.false;
   few = c.again_after-again.ensures;
 }

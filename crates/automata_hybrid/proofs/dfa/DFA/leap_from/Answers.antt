@@ -6,7 +6,8 @@ use Rattle.automata_hybrid.proofs.dfa.DFA.leap_from.Goals as goal
 pub returns-then-index-leaps-clause-leads : goal.returns-then-index-leaps-clause-leads
 returns-then-index-leaps-clause-leads c =
     let begins : c.args.id ≡ (c.row_index-index.result + 3) * c.args.cache.now.store.table.of.stride =
-    row_of_id c.args.cache.now.store.table c.args.id c.row_index-index.result c.requires.valid.0 c.see_bounds.ensures.bounds.rows
+    row_of_id c.args.cache.now.store.table c.args.id c.row_index-index.result c.requires.valid.0
+    c.see_bounds.ensures.bounds.rows
     c.requires.valid.1 c.requires.untagged (c.row_index-index.ensures.row c.requires.valid.0 c.requires.valid.1) in
     record {
       row = c.row_index-index.result;
@@ -20,7 +21,12 @@ returns-then-index-leaps-clause-leads c =
 pub nonzero_div-leapt : goal.nonzero_div-leapt
 nonzero_div-leapt c =
     let some : 1 ≤ c.args.leaps.now.shape.classes = omega (arith, c.requires.leaps.of.classes) in
-    omega (arith, c.requires.leaps.of.shape.width, one-le-pow c.args.leaps.now.shape.reach c.args.leaps.now.shape.classes some)
+    omega (
+      arith,
+      c.requires.leaps.of.shape.width,
+      one-le-pow c.args.leaps.now.shape.reach
+          c.args.leaps.now.shape.classes some,
+    )
 
 pub row_at-requires : goal.row_at-requires
 row_at-requires c =
@@ -31,7 +37,8 @@ pub returns-clause-leads : goal.returns-clause-leads
 returns-clause-leads c =
     let here = row_of_place c.requires.leaps c.leap-leapt.ensures in
     let begins : c.args.id ≡ (c.row_index-index.result + 3) * c.args.cache.now.store.table.of.stride =
-    row_of_id c.args.cache.now.store.table c.args.id c.row_index-index.result c.requires.valid.0 c.see_bounds.ensures.bounds.rows
+    row_of_id c.args.cache.now.store.table c.args.id c.row_index-index.result c.requires.valid.0
+    c.see_bounds.ensures.bounds.rows
     c.requires.valid.1 c.requires.untagged (c.row_index-index.ensures.row c.requires.valid.0 c.requires.valid.1) in
     record {
       row = c.row_index-index.result;

@@ -29,6 +29,8 @@ pub returns-clause-far : goal.returns-clause-far
 returns-clause-far g c =
     record {
       within = c.requires.1.1.0;
-      followed = followed_none c.args.way c.args.self.now c.args.cache.now.store c.args.input.now 0 c.args.start c.args.from c.requires.1.0.named;
+      followed =
+          followed_none c.args.way c.args.self.now c.args.cache.now.store c.args.input.now 0 c.args.start c.args.from
+          c.requires.1.0.named;
       met = c.next_known.ensures.met;
     }

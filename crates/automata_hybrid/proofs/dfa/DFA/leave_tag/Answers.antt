@@ -12,15 +12,22 @@ no_tag = record { upto = omega arith; whole = refl }
 pub returns-then-has_only-2-clause-followed : goal.returns-then-has_only-2-clause-followed
 returns-then-has_only-2-clause-followed c =
     let only = c.if-has_only-2.ensures.0 refl in
-    let met = met_at c.args.way c.args.self.now c.args.cache.now.store c.args.input.now c.args.start c.args.from c.next_state_known-next.result c.byte_at.result
+    let met =
+    met_at c.args.way c.args.self.now c.args.cache.now.store c.args.input.now c.args.start c.args.from
+    c.next_state_known-next.result c.byte_at.result
     (omega (arith, c.last_place.ensures.place)) c.byte_at.ensures c.next_state_known-next.ensures.value
-    (subst (λ (m : Machine). class_in c.args.self.now.classes c.byte_at.result < m.stride) (sym c.requires.of) c.next_state_known-next.ensures.below)
-    c.next_state_known-next.ensures.quit c.next_state_known-next.ensures.named (record { trace = pass_is_trace c.args.way c.args.self.now c.args.input.now; named = c.requires.named }) in
+    (subst (λ (m : Machine). class_in c.args.self.now.classes c.byte_at.result < m.stride) (sym c.requires.of)
+    c.next_state_known-next.ensures.below)
+    c.next_state_known-next.ensures.quit c.next_state_known-next.ensures.named
+    (record { trace = pass_is_trace c.args.way c.args.self.now c.args.input.now; named = c.requires.named }) in
     ((met (omega (arith, only.below))).run 0 no_tag only).followed
 
 pub returns-clause-met : goal.returns-clause-met
 returns-clause-met c =
-    met_at c.args.way c.args.self.now c.args.cache.now.store c.args.input.now c.args.start c.args.from c.next_state_known-next.result c.byte_at.result
+    met_at c.args.way c.args.self.now c.args.cache.now.store c.args.input.now c.args.start c.args.from
+    c.next_state_known-next.result c.byte_at.result
     (omega (arith, c.last_place.ensures.place)) c.byte_at.ensures c.next_state_known-next.ensures.value
-    (subst (λ (m : Machine). class_in c.args.self.now.classes c.byte_at.result < m.stride) (sym c.requires.of) c.next_state_known-next.ensures.below)
-    c.next_state_known-next.ensures.quit c.next_state_known-next.ensures.named (record { trace = pass_is_trace c.args.way c.args.self.now c.args.input.now; named = c.requires.named })
+    (subst (λ (m : Machine). class_in c.args.self.now.classes c.byte_at.result < m.stride) (sym c.requires.of)
+    c.next_state_known-next.ensures.below)
+    c.next_state_known-next.ensures.quit c.next_state_known-next.ensures.named
+    (record { trace = pass_is_trace c.args.way c.args.self.now c.args.input.now; named = c.requires.named })

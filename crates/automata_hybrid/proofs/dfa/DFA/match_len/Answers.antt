@@ -11,5 +11,7 @@ returns-clause-number c = c.match_len.ensures
 
 pub returns-clause-some : goal.returns-clause-some
 returns-clause-some c =
-    let row = HoldsRow-matched c.args.cache.now c.args.id c.see_bounds.ensures.sound.small c.requires.row c.requires.tagged in
-    subst (λ n. 0 < n) (sym (c.match_len.ensures row.0 row.1)) ((c.see_bounds.ensures.sound.tagged c.args.id row.0 row.1).0 c.requires.tagged)
+    let row =
+    HoldsRow-matched c.args.cache.now c.args.id c.see_bounds.ensures.sound.small c.requires.row c.requires.tagged in
+    subst (λ n. 0 < n) (sym (c.match_len.ensures row.0 row.1))
+    ((c.see_bounds.ensures.sound.tagged c.args.id row.0 row.1).0 c.requires.tagged)

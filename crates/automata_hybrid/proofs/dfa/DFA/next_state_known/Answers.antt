@@ -9,4 +9,5 @@ pub returns-clause-row : goal.returns-clause-row
 returns-clause-row c = λ low.
     let valid : IsRowId c.args.cache.now.store.table c.args.id = c.requires.valid in
     cell_row c.args.cache.now valid.0 c.class_of.result c.cell.result (Some c.args.byte) (omega arith)
-    (ap (λ (d : Machine). class_in d.classes c.args.byte) c.requires.of ∙ sym c.class_of.ensures.value) (c.cell.ensures.named valid.0 valid.1) low
+    (ap (λ (d : Machine). class_in d.classes c.args.byte) c.requires.of ∙ sym c.class_of.ensures.value)
+    (c.cell.ensures.named valid.0 valid.1) low

@@ -8,8 +8,7 @@ use Rattle.automata_config.specs.declared.error.SearchError.{SearchError}
 use Rattle.automata_hybrid.specs.Cache.Caches.{CacheView, with_store}
 use Rattle.automata_hybrid.specs.Cache.Progress.{saturated, total_len}
 use Rattle.automata_hybrid.specs.Cache.Stores.{with_searched}
-use Rattle.automata_hybrid.specs.Private.Searches.PassContracts.{IsKnownUpto, IsPassResult, IsRest, half_if}
-use Rattle.automata_hybrid.specs.Private.Searches.PassContracts.{input_at}
+use Rattle.automata_hybrid.specs.Private.Searches.PassContracts.{IsKnownUpto, IsPassResult, IsRest, half_if, input_at}
 use Rattle.automata_hybrid.specs.Known.Known.{begun}
 use Rattle.automata_hybrid.specs.Known.Stores.{known_of}
 use Rattle.automata_hybrid.specs.Searches.Passes.{given_up_offset}

@@ -12,16 +12,21 @@ use Rattle.automata_hybrid.proofs.dfa.DFA.read_met.Goals as goal
 
 pub returns-in_err-next-clause-read : goal.returns-in_err-next-clause-read
 returns-in_err-next-clause-read c =
-    at_err c.from_residual.result _ (IsRead c.args.self.now c.args.id c.args.unit c.args.quit_at c.args.at c.args.cache.now c.step.new.cache)
+    at_err c.from_residual.result _
+    (IsRead c.args.self.now c.args.id c.args.unit c.args.quit_at c.args.at c.args.cache.now c.step.new.cache)
     c.from_residual.ensures.1
-    (unit_left c.args.self.now c.args.id c.args.unit c.args.at c.args.cache.now (c.see_bounds.ensures.sound.alive c.args.id)
+    (unit_left c.args.self.now c.args.id c.args.unit c.args.at c.args.cache.now
+    (c.see_bounds.ensures.sound.alive c.args.id)
     c.args.quit_at c.step.new.cache c.in_err-next.field-0.0 c.in_err-next.ensures.step)
 
 pub returns-in-None-clause-read : goal.returns-in-None-clause-read
 returns-in-None-clause-read c =
-    let clean : quits_on c.args.self.now c.args.unit ≡ false = subst (λ u. quits_on c.args.self.now u ≡ false) (sym c.in-None.is) refl in
-    unit_read c.args.self.now c.args.id c.args.unit c.args.at c.args.cache.now (c.see_bounds.ensures.sound.alive c.args.id)
-    c.in_ok-next.next c.step.new.cache (record { clean = clean; named = c.in_ok-next.ensures.step.answer.named clean }) c.in_ok-next.ensures.step
+    let clean : quits_on c.args.self.now c.args.unit ≡ false =
+    subst (λ u. quits_on c.args.self.now u ≡ false) (sym c.in-None.is) refl in
+    unit_read c.args.self.now c.args.id c.args.unit c.args.at c.args.cache.now
+    (c.see_bounds.ensures.sound.alive c.args.id)
+    c.in_ok-next.next c.step.new.cache (record { clean = clean; named = c.in_ok-next.ensures.step.answer.named clean })
+    c.in_ok-next.ensures.step
 
 pub returns-then-is_quit-clause-read : goal.returns-then-is_quit-clause-read
 returns-then-is_quit-clause-read c =
@@ -38,7 +43,12 @@ returns-then-is_quit-clause-read c =
 pub returns-else-is_quit-clause-read : goal.returns-else-is_quit-clause-read
 returns-else-is_quit-clause-read c =
     let clean : quits_on c.args.self.now c.args.unit ≡ false =
-    clean_unit c.args.self.now c.step.new.cache.store.table c.in_ok-next.next c.args.unit c.in_ok-next.ensures.of c.see_bounds-2.ensures.sound.small
-    (λ b. false_true (c.if-is_quit.ensures.1 b)) (c.in_ok-next.ensures.step.answer.quit (c.see_bounds.ensures.sound.low c.args.id c.requires.valid.0 c.requires.valid.1)) in
-    unit_read c.args.self.now c.args.id c.args.unit c.args.at c.args.cache.now (c.see_bounds.ensures.sound.alive c.args.id)
-    c.in_ok-next.next c.step.new.cache (record { clean = clean; named = c.in_ok-next.ensures.step.answer.named clean }) c.in_ok-next.ensures.step
+    clean_unit c.args.self.now c.step.new.cache.store.table c.in_ok-next.next c.args.unit c.in_ok-next.ensures.of
+    c.see_bounds-2.ensures.sound.small
+    (λ b. false_true (c.if-is_quit.ensures.1 b))
+    (c.in_ok-next.ensures.step.answer.quit
+    (c.see_bounds.ensures.sound.low c.args.id c.requires.valid.0 c.requires.valid.1)) in
+    unit_read c.args.self.now c.args.id c.args.unit c.args.at c.args.cache.now
+    (c.see_bounds.ensures.sound.alive c.args.id)
+    c.in_ok-next.next c.step.new.cache (record { clean = clean; named = c.in_ok-next.ensures.step.answer.named clean })
+    c.in_ok-next.ensures.step

@@ -8,12 +8,15 @@ use Rattle.automata_hybrid.proofs.dfa.DFA.read_unit.Goals as goal
 
 pub read-requires-clause-met : goal.read-requires-clause-met
 read-requires-clause-met c = λ low.
-    (c.requires.met low).cached ∙ ap (known_step c.args.self.now c.args.cache.now.store c.args.id) (sym c.unit_at.ensures)
+    (c.requires.met low).cached
+    ∙ ap (known_step c.args.self.now c.args.cache.now.store c.args.id) (sym c.unit_at.ensures)
 
 pub returns-clause-unit : goal.returns-clause-unit
 returns-clause-unit c =
-    unit_result c.args.way c.args.self.now c.args.input.now c.args.place c.args.id c.unit_offset-quit_at.result c.span_offset-at.result c.unit_at.result
-    c.args.cache.now c.read.new.cache c.read.result (sym c.unit_at.ensures) (sym c.unit_offset-quit_at.ensures) (sym c.span_offset-at.ensures.value)
+    unit_result c.args.way c.args.self.now c.args.input.now c.args.place c.args.id c.unit_offset-quit_at.result
+    c.span_offset-at.result c.unit_at.result
+    c.args.cache.now c.read.new.cache c.read.result (sym c.unit_at.ensures) (sym c.unit_offset-quit_at.ensures)
+    (sym c.span_offset-at.ensures.value)
     c.requires.at.named c.read.ensures.read
 
 pub returns-clause-reads : goal.returns-clause-reads
@@ -21,6 +24,7 @@ returns-clause-reads c =
     let d : Direction = c.args.way in
     let units = units_in d c.args.input.now c.requires.at.undone c.span_offset-at.ensures.inside in (
       omega (arith, units, c.requires.at.left),
-      read_alive c.args.self.now c.args.id c.unit_at.result c.unit_offset-quit_at.result c.span_offset-at.result c.args.cache.now c.read.new.cache c.read.result
+      read_alive c.args.self.now c.args.id c.unit_at.result c.unit_offset-quit_at.result c.span_offset-at.result
+          c.args.cache.now c.read.new.cache c.read.result
           c.read.ensures.read (state_in d c.args.self.now c.args.input.now c.args.place) c.requires.at.named,
     )

@@ -37,7 +37,8 @@ returns-in-Ok-clause-resumed c =
     back_resumed c.args.way c.args.self.now c.args.input.now c.args.cache.now.store.table c.args.walk.now
     c.args.held.now c.in-State-Some.handle (known_of c.args.cache.now) (known_of c.put_back.new.cache)
     (c.is_fresh.ensures.no c.if-is_fresh.false) c.requires.walk.reads.on c.requires.walk.holds
-    (c.in-State-Some.is ∙ ap (λ (h : Option Handle). held.State h) (rw c.in-State-Some.is at c.in-State-Some.field-0-is))
+    (c.in-State-Some.is
+    ∙ ap (λ (h : Option Handle). held.State h) (rw c.in-State-Some.is at c.in-State-Some.field-0-is))
     c.in-Ok.ensures.row
 
 pub returns-in-Err-clause-refusal : goal.returns-in-Err-clause-refusal
@@ -45,7 +46,8 @@ returns-in-Err-clause-refusal c =
     back_refusal c.args.way c.args.self.now c.args.input.now c.args.cache.now.store.table c.args.walk.now
     c.args.held.now c.in-State-Some.handle (known_of c.args.cache.now) (known_of c.put_back.new.cache)
     (c.is_fresh.ensures.no c.if-is_fresh.false) c.requires.walk.reads.on c.requires.walk.holds
-    (c.in-State-Some.is ∙ ap (λ (h : Option Handle). held.State h) (rw c.in-State-Some.is at c.in-State-Some.field-0-is))
+    (c.in-State-Some.is
+    ∙ ap (λ (h : Option Handle). held.State h) (rw c.in-State-Some.is at c.in-State-Some.field-0-is))
     c.in-Err.error c.step_error.result c.in-Err.ensures.refused
     (c.step_error.ensures
     ∙ ap (step_error c.in-Err.error)

@@ -2,8 +2,7 @@ use Rattle.std.proofs.Common.{suc, ◌≡◌, ◌∙◌, ◌-◌, Some, ap, refl
 use Rattle.automata_base.specs.Haystacks.Matches.{HalfMatch}
 use Rattle.automata_hybrid.specs.Private.Cache.Ids.{IsRunTag}
 use Rattle.automata_hybrid.specs.Cache.Table.{Rows}
-use Rattle.automata_hybrid.proofs.Searches.Runs.{first_half, followed_at, followed_known, known_after}
-use Rattle.automata_hybrid.proofs.Searches.Runs.{matched_at}
+use Rattle.automata_hybrid.proofs.Searches.Runs.{first_half, followed_at, followed_known, known_after, matched_at}
 use Rattle.automata_hybrid.proofs.Steps.Ids.{Leads-Names}
 use Rattle.automata_hybrid.proofs.dfa.DFA.run.Goals as goal
 
@@ -57,9 +56,15 @@ returns-clause-runs g c =
         known = known_after followed matches;
       };
       at =
-          matched_at matches (c.follow_matches-stop.result.at - 1) c.place_offset-offset.result c.requires.1.0.on.trace (sym c.get_earliest.ensures ∙ c.if-get_earliest.false) here c.place_offset-offset.ensures.value
+          matched_at matches (c.follow_matches-stop.result.at - 1) c.place_offset-offset.result c.requires.1.0.on.trace
+          (sym c.get_earliest.ensures ∙ c.if-get_earliest.false) here c.place_offset-offset.ensures.value
           ((c.see_bounds.ensures.sound.tagged _ _ matches.named).0 c.follow_matches-stop.ensures.run.reports)
-          (λ q l. ap (λ (h : HalfMatch). Some h) c.new.ensures ∙ first_half q.patterns c.first_pattern-pattern.result c.place_offset-offset.result c.args.found ((c.see_bounds.ensures.sound.tagged _ q (Leads-Names t _ q l (c.see_bounds.ensures.sound.low _ _ matches.named))).0 c.follow_matches-stop.ensures.run.reports) (c.first_pattern-pattern.ensures q (Leads-Names t _ q l (c.see_bounds.ensures.sound.low _ _ matches.named))))
+          (λ q l. ap (λ (h : HalfMatch). Some h) c.new.ensures
+          ∙ first_half q.patterns c.first_pattern-pattern.result c.place_offset-offset.result c.args.found
+          ((c.see_bounds.ensures.sound.tagged _ q
+          (Leads-Names t _ q l (c.see_bounds.ensures.sound.low _ _ matches.named))).0
+          c.follow_matches-stop.ensures.run.reports)
+          (c.first_pattern-pattern.ensures q (Leads-Names t _ q l (c.see_bounds.ensures.sound.low _ _ matches.named))))
           (followed_at followed c.requires.1.0.on.trace c.requires.1.1);
       met = c.follow_matches-stop.ensures.met;
     }

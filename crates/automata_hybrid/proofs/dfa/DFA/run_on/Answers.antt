@@ -6,7 +6,12 @@ use Rattle.automata_hybrid.proofs.dfa.DFA.run_on.Goals.{then-has_only, else-has_
 
 pub returns-then-not-is_plain-clause-run : goal.returns-then-not-is_plain-clause-run
 returns-then-not-is_plain-clause-run g c =
-    record { more = omega arith; within = omega (arith, c.requires.1.1.1.0); known = λ k more less. absurd (omega (arith, more, less)) }
+    record {
+      more = omega arith;
+      within = omega (arith, c.requires.1.1.1.0);
+      known = λ k more less. absurd
+          (omega (arith, more, less));
+    }
 
 pub mixed-init : goal.mixed-init
 mixed-init g c =
@@ -37,14 +42,16 @@ mixed-preserved g c =
           rw w.reported-is (rw w.reported_at-is (record {
             mark = omega (arith, inside);
             here =
-                run_on_match trace inside met here (λ e. some_is c.args.from.found (sym c.if-is_none.ensures) (c.requires.1.1.0.nothing e))
+                run_on_match trace inside met here
+                (λ e. some_is c.args.from.found (sym c.if-is_none.ensures) (c.requires.1.1.0.nothing e))
                 (w.if-has_only.ensures.0 refl);
             within = within;
           }))
       | else-has_only w ↦
           let plain : c.next_known-next.result < 2 ^ 28 = c.if-not-is_plain-2.ensures.0 refl in
           let low : c.next_known-next.result < 2 ^ 27 =
-          below_not c.next_known-next.result (2 ^ 27) (λ high. false_true (w.if-has_only.ensures.1 (record { from = high; below = omega (arith, plain) }))) in
+          below_not c.next_known-next.result (2 ^ 27)
+          (λ high. false_true (w.if-has_only.ensures.1 (record { from = high; below = omega (arith, plain) }))) in
           rw w.reported-is (rw w.reported_at-is (record {
             mark = c.mixed.invariant.mark;
             here = run_on_quiet trace inside met here low;
@@ -77,11 +84,13 @@ returns-clause-run g c = c.mixed.invariant.here.run
 
 pub returns-clause-at : goal.returns-clause-at
 returns-clause-at g c =
-    run_on_at (λ e. some_is c.args.from.found (sym c.if-is_none.ensures) (c.requires.1.1.0.nothing e)) c.mixed.invariant.here
+    run_on_at (λ e. some_is c.args.from.found (sym c.if-is_none.ensures) (c.requires.1.1.0.nothing e))
+    c.mixed.invariant.here
     c.last_found.ensures.none c.last_found.ensures.some
 
 pub returns-clause-within : goal.returns-clause-within
 returns-clause-within g c = c.mixed.invariant.within
 
 pub returns-clause-next : goal.returns-clause-next
-returns-clause-next g c = c.next_known.ensures.read (omega (arith, c.mixed.invariant.within, c.last_place-last.ensures.place))
+returns-clause-next g c =
+    c.next_known.ensures.read (omega (arith, c.mixed.invariant.within, c.last_place-last.ensures.place))

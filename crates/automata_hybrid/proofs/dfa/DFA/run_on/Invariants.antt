@@ -5,7 +5,9 @@ use Rattle.automata_hybrid.proofs.dfa.DFA.run_on.Given as goal
 abbrev pub invariant-mixed : goal.invariant-mixed
 invariant-mixed g l = record {
   mark : l.reported_at ≤ l.input.end - l.input.start;
-  here : HasRunOn g.trace l.way l.self l.cache.store l.input l.fn.from.at l.at l.id l.fn.from.found l.reported l.reported_at;
+  here :
+      HasRunOn g.trace l.way l.self l.cache.store l.input l.fn.from.at l.at l.id l.fn.from.found l.reported
+      l.reported_at;
   within : l.at < l.input.end - l.input.start;
 }
 

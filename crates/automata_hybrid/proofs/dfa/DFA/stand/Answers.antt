@@ -18,11 +18,17 @@ pub returns-clause-reports : goal.returns-clause-reports
 returns-clause-reports c =
     let d : Direction = c.args.way in
     let q : Powerset = c.snapshot.result.value in
-    let state : q ≡ state_in d c.args.self.now c.args.input.now c.args.units = c.snapshot.ensures.state _ c.requires.arrives.named in
-    let row : IsRowState c.args.self.now q = subst (λ (m : Machine). IsRowState m q) c.requires.of c.snapshot.ensures.row in
-    let pattern = c.match_pattern.ensures (state_in d c.args.self.now c.args.input.now c.args.units) c.requires.arrives.named ∙ ap (λ (x : Powerset). get_or x.patterns 0 0) (sym state) in
+    let state : q ≡ state_in d c.args.self.now c.args.input.now c.args.units =
+    c.snapshot.ensures.state _ c.requires.arrives.named in
+    let row : IsRowState c.args.self.now q =
+    subst (λ (m : Machine). IsRowState m q) c.requires.of c.snapshot.ensures.row in
+    let pattern =
+    c.match_pattern.ensures (state_in d c.args.self.now c.args.input.now c.args.units) c.requires.arrives.named
+    ∙ ap (λ (x : Powerset). get_or x.patterns 0 0) (sym state) in
     let now = c.report.ensures ∙ ap (λ (w : Walk). with_match w c.new-half.result) c.go_to.ensures in
     subst (ReportsNext d c.args.self.now c.args.input.now c.args.walk.now) (sym now)
-    (next_arrives d c.args.self.now c.args.input.now c.args.walk.now c.args.cache.now.store.table c.args.id c.args.units q c.new-half.result
+    (next_arrives d c.args.self.now c.args.input.now c.args.walk.now c.args.cache.now.store.table c.args.id c.args.units
+    q c.new-half.result
     c.requires.«open» c.requires.may c.requires.here c.requires.arrives state row
-    (ap (λ (h : HalfMatch). h.pattern) c.new-half.ensures ∙ pattern) (ap (λ (h : HalfMatch). h.offset) c.new-half.ensures ∙ c.place_offset-at.ensures.value))
+    (ap (λ (h : HalfMatch). h.pattern) c.new-half.ensures ∙ pattern)
+    (ap (λ (h : HalfMatch). h.offset) c.new-half.ensures ∙ c.place_offset-at.ensures.value))

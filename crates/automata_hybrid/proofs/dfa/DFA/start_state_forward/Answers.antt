@@ -8,7 +8,8 @@ use Rattle.automata_hybrid.proofs.dfa.DFA.start_state_forward.Goals as goal
 
 pub returns-in-Ok-clause-answer : goal.returns-in-Ok-clause-answer
 returns-in-Ok-clause-answer c =
-    subst (λ (s : StartConfig). IsStartAnswer c.args.self.now s.anchored s.look_behind c.args.cache.now c.start_state.new.cache c.in-Ok.id)
+    subst (λ (s : StartConfig). IsStartAnswer c.args.self.now s.anchored s.look_behind c.args.cache.now
+    c.start_state.new.cache c.in-Ok.id)
     c.from_input_forward-config.ensures c.in-Ok.ensures.answer
 
 pub returns-in-Ok-clause-run : goal.returns-in-Ok-clause-run
@@ -20,7 +21,8 @@ returns-in-Ok-clause-run c =
 pub returns-in-Err-clause-refusal : goal.returns-in-Err-clause-refusal
 returns-in-Err-clause-refusal c =
     let e = c.in-Err.error in
-    let behind : c.saturating_sub.result ≡ c.args.input.now.start - 1 = c.saturating_sub.ensures ∙ ap (λ (n : ℕ). n - 1) c.start.ensures.start in
+    let behind : c.saturating_sub.result ≡ c.args.input.now.start - 1 =
+    c.saturating_sub.ensures ∙ ap (λ (n : ℕ). n - 1) c.start.ensures.start in
     record {
       error = e;
       fails =
@@ -29,7 +31,8 @@ returns-in-Err-clause-refusal c =
           c.from_input_forward-config.ensures c.in-Err.ensures.refusal;
       reported =
           c.start_search_error.ensures
-          ∙ (ap (λ (n : ℕ). start_search_error e n c.start-in-Err.result) behind ∙ ap (start_search_error e (c.args.input.now.start - 1)) c.start-in-Err.ensures.start);
+          ∙ (ap (λ (n : ℕ). start_search_error e n c.start-in-Err.result) behind
+          ∙ ap (start_search_error e (c.args.input.now.start - 1)) c.start-in-Err.ensures.start);
     }
 
 pub returns-in-Ok-clause-stands : goal.returns-in-Ok-clause-stands
@@ -37,5 +40,6 @@ returns-in-Ok-clause-stands c = λ early undone.
     stands_first c.args.self.now c.args.input.now c.args.cache.now c.start_state.new.cache c.in-Ok.id
     (record { of = c.in-Ok.ensures.of; low = c.see_bounds.ensures.sound.low; small = c.see_bounds.ensures.sound.small })
     early undone c.haystack-haystack.ensures.within.1
-    (subst (λ (s : StartConfig). IsStartAnswer c.args.self.now s.anchored s.look_behind c.args.cache.now c.start_state.new.cache c.in-Ok.id)
+    (subst (λ (s : StartConfig). IsStartAnswer c.args.self.now s.anchored s.look_behind c.args.cache.now
+    c.start_state.new.cache c.in-Ok.id)
     c.from_input_forward-config.ensures c.in-Ok.ensures.answer)

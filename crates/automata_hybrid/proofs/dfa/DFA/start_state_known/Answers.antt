@@ -21,15 +21,25 @@ supported :
     (o : Option ℕ) (mode : Anchored) (b : Bool)
     → (b ≡ false → ◌≡◌ {A = Result (Option ℕ) StartError} (Ok o) (Err (UnsupportedAnchored mode))) → b ≡ true
 supported o mode true refused = refl
-supported o mode false refused = let bad : ◌≡◌ {A = Result (Option ℕ) StartError} (Ok o) (Err (UnsupportedAnchored mode)) = refused refl in cc
+supported o mode false refused =
+    let bad : ◌≡◌ {A = Result (Option ℕ) StartError} (Ok o) (Err (UnsupportedAnchored mode)) = refused refl in cc
 
 slot_here : (c : goal.After-start_slot) → IsStartSlot c.args.self.now c.args.mode c.args.prev c.in-Ok-Some.slot
 slot_here c =
-    let none : quit_behind c.args.self.now c.args.prev ≡ None = sym c.quits_behind.ensures ∙ is_none c.quits_behind.result (sym c.is_some.ensures ∙ c.if-is_some.false) in
+    let none : quit_behind c.args.self.now c.args.prev ≡ None =
+    sym c.quits_behind.ensures ∙ is_none c.quits_behind.result (sym c.is_some.ensures ∙ c.if-is_some.false) in
     record {
-      may = (none, supported c.in-Ok-Some.field-0 c.args.mode (supports c.args.self.now c.args.mode) c.in-Ok-Some.ensures.refused.1);
-      at = subst (λ (o : Option ℕ). IfSome o (λ n. n ≡ slot_behind c.args.self.now c.args.mode c.args.prev)) c.in-Ok-Some.field-0-is c.in-Ok-Some.ensures.slot;
-      within = subst (λ (o : Option ℕ). IfSome o (λ n. n < c.args.self.now.slots)) c.in-Ok-Some.field-0-is c.in-Ok-Some.ensures.within;
+      may = (
+        none,
+        supported c.in-Ok-Some.field-0 c.args.mode (supports c.args.self.now c.args.mode)
+            c.in-Ok-Some.ensures.refused.1,
+      );
+      at =
+          subst (λ (o : Option ℕ). IfSome o (λ n. n ≡ slot_behind c.args.self.now c.args.mode c.args.prev))
+          c.in-Ok-Some.field-0-is c.in-Ok-Some.ensures.slot;
+      within =
+          subst (λ (o : Option ℕ). IfSome o (λ n. n < c.args.self.now.slots)) c.in-Ok-Some.field-0-is
+          c.in-Ok-Some.ensures.within;
     }
 
 pub returns-clause-answer : goal.returns-clause-answer

@@ -7,7 +7,8 @@ use Rattle.automata_hybrid.proofs.dfa.DFA.start_state_reverse.Goals as goal
 
 pub returns-in-Ok-clause-answer : goal.returns-in-Ok-clause-answer
 returns-in-Ok-clause-answer c =
-    subst (λ (s : StartConfig). IsStartAnswer c.args.self.now s.anchored s.look_behind c.args.cache.now c.start_state.new.cache c.in-Ok.id)
+    subst (λ (s : StartConfig). IsStartAnswer c.args.self.now s.anchored s.look_behind c.args.cache.now
+    c.start_state.new.cache c.in-Ok.id)
     c.from_input_reverse-config.ensures c.in-Ok.ensures.answer
 
 pub returns-in-Ok-clause-run : goal.returns-in-Ok-clause-run
@@ -27,5 +28,6 @@ returns-in-Err-clause-refusal c =
           c.from_input_reverse-config.ensures c.in-Err.ensures.refusal;
       reported =
           c.start_search_error.ensures
-          ∙ (ap (λ (n : ℕ). start_search_error e n c.end-in-Err.result) c.end.ensures.end ∙ ap (start_search_error e c.args.input.now.end) c.end-in-Err.ensures.end);
+          ∙ (ap (λ (n : ℕ). start_search_error e n c.end-in-Err.result) c.end.ensures.end
+          ∙ ap (start_search_error e c.args.input.now.end) c.end-in-Err.ensures.end);
     }

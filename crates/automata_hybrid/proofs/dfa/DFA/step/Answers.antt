@@ -1,7 +1,7 @@
 use Rattle.std.proofs.Common.{ℕ, ◌≡◌, ◌<◌, ◌≤◌, ◌^◌, ◌∙◌, ◌⊎◌, Option, false, ap, inl, inr, refl, sym, subst, arith}
 use Rattle.std.proofs.lemmas.Bool.{cases_lt}
 use Rattle.automata_hybrid.specs.Cache.Caches.{CacheView}
-use Rattle.automata_hybrid.specs.Machines.Machine.{Machine}
+use Rattle.automata_hybrid.specs.Machines.Machine.{Machine, quits_on}
 use Rattle.std.proofs.lemmas.Grind.{common_steps}
 use Rattle.automata_hybrid.specs.Steps.Steps.{IsStepAnswer, known_step}
 use Rattle.automata_hybrid.specs.Private.Steps.Steps.{KnowsStep}
@@ -13,7 +13,6 @@ use Rattle.automata_hybrid.specs.Known.Known.{moved}
 use Rattle.automata_hybrid.specs.Known.Passes.{EventFails}
 use Rattle.automata_hybrid.specs.Known.Steps.{IsStepRun, StepFails}
 use Rattle.automata_hybrid.specs.Known.Stores.{known_of}
-use Rattle.automata_hybrid.specs.Machines.Machine.{quits_on}
 use Rattle.automata_hybrid.proofs.Known.Calls.{after_cached, cached_step, names_in, reported_failure, stepped}
 use Rattle.automata_hybrid.proofs.Searches.PassState.{false_true}
 use Rattle.automata_hybrid.proofs.Steps.Steps.{known_answer, moved_answer, unknown_clean}
@@ -22,7 +21,8 @@ use Rattle.automata_hybrid.proofs.dfa.DFA.step.Goals as goal
 
 -- a cell whose transition is not cached
 unread :
-    (m : Machine) (id : ℕ) (unit : Option ℕ) (c : CacheView) (cell : ℕ) → cell ≡ known_step m c.store id unit → (KnowsStep m c.store id unit → ⊥)
+    (m : Machine) (id : ℕ) (unit : Option ℕ) (c : CacheView) (cell : ℕ) → cell ≡ known_step m c.store id unit
+    → (KnowsStep m c.store id unit → ⊥)
     → 2 ^ 31 ≤ cell
 unread m id unit c cell same unknown = go (cases_lt cell (2 ^ 31)) where
   go : (cell < 2 ^ 31) ⊎ (2 ^ 31 ≤ cell) → 2 ^ 31 ≤ cell
@@ -33,13 +33,17 @@ pub returns-then-not-is_unknown-clause-step : goal.returns-then-not-is_unknown-c
 returns-then-not-is_unknown-clause-step c =
     let known : c.args.cell < 2 ^ 31 = grind (arith, common_steps, c.if-not-is_unknown.ensures.size) in
     let same : c.cell-cell.result ≡ c.args.cell =
-    c.cell-cell.ensures.value ∙ (ap (cell_of c.args.cache.now.store c.args.id) c.unit_class.ensures.value ∙ sym (c.requires.cell.0 known)) in
+    c.cell-cell.ensures.value
+    ∙ (ap (cell_of c.args.cache.now.store c.args.id) c.unit_class.ensures.value ∙ sym (c.requires.cell.0 known)) in
     record {
       answer =
           subst (IsStepAnswer c.args.self.now c.args.id c.args.unit c.args.cache.now c.args.cache.now) same
-          (known_answer c.args.self.now c.args.id c.args.unit c.args.cache.now c.unit_class.result c.cell-cell.result c.requires.of c.requires.valid
+          (known_answer c.args.self.now c.args.id c.args.unit c.args.cache.now c.unit_class.result c.cell-cell.result
+          c.requires.of c.requires.valid
           c.unit_class.ensures.value c.unit_class.ensures.small c.unit_class.ensures.quit c.unit_class.ensures.free
-          c.cell-cell.ensures.value c.cell-cell.ensures.named (c.see_bounds.ensures.sound.low c.args.id c.requires.valid.0 c.requires.valid.1) (omega (arith, known, same)) c.cell-cell.ensures.tag
+          c.cell-cell.ensures.value c.cell-cell.ensures.named
+          (c.see_bounds.ensures.sound.low c.args.id c.requires.valid.0 c.requires.valid.1) (omega (arith, known, same))
+          c.cell-cell.ensures.tag
           c.unit_class.ensures.unit);
       quit = λ on. refl;
       taken = λ clean q n.
@@ -55,16 +59,19 @@ returns-then-not-is_unknown-clause-step c =
 pub compute_next-requires-clause-unknown : goal.compute_next-requires-clause-unknown
 compute_next-requires-clause-unknown c =
     let free : 2 ^ 31 ≤ c.args.cell = grind (arith, common_steps, c.if-not-is_unknown.ensures.size) in
-    subst (λ (v : CacheView). KnowsStep c.args.self.now v.store c.args.id c.args.unit → ⊥) (sym c.move_search.ensures.value) (c.requires.cell.1 free)
+    subst (λ (v : CacheView). KnowsStep c.args.self.now v.store c.args.id c.args.unit → ⊥)
+    (sym c.move_search.ensures.value) (c.requires.cell.1 free)
 
 pub compute_next-requires-clause-clean : goal.compute_next-requires-clause-clean
 compute_next-requires-clause-clean c =
     let free : 2 ^ 31 ≤ c.args.cell = grind (arith, common_steps, c.if-not-is_unknown.ensures.size) in
-    unknown_clean c.args.self.now c.args.id c.args.unit c.args.cache.now c.unit_class.result c.cell-cell.result c.requires.of c.requires.valid
+    unknown_clean c.args.self.now c.args.id c.args.unit c.args.cache.now c.unit_class.result c.cell-cell.result
+    c.requires.of c.requires.valid
     c.unit_class.ensures.value c.unit_class.ensures.small c.unit_class.ensures.quit c.unit_class.ensures.free
     c.cell-cell.ensures.value c.cell-cell.ensures.named
     (unread c.args.self.now c.args.id c.args.unit c.args.cache.now c.cell-cell.result
-    (c.cell-cell.ensures.value ∙ ap (cell_of c.args.cache.now.store c.args.id) c.unit_class.ensures.value) (c.requires.cell.1 free))
+    (c.cell-cell.ensures.value ∙ ap (cell_of c.args.cache.now.store c.args.id) c.unit_class.ensures.value)
+    (c.requires.cell.1 free))
 
 pub compute_next-requires-clause-valid : goal.compute_next-requires-clause-valid
 compute_next-requires-clause-valid c =

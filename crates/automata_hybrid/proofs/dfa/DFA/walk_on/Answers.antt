@@ -59,24 +59,39 @@ returns-then-is_dead-clause-called c =
     let input : Input = c.args.input.now in
     let w : Walk = c.args.walk.now in
     let r = c.requires.walk.reads in
-    let first : c.span_offset-place.result ≡ given_up_offset d input w.units = c.span_offset-place.ensures.value ∙ ap (given_up_offset d input) c.units.ensures in
+    let first : c.span_offset-place.result ≡ given_up_offset d input w.units =
+    c.span_offset-place.ensures.value ∙ ap (given_up_offset d input) c.units.ensures in
     let new : CacheView = c.end_search.new.self in
     let same : c.end.new.self ≡ ended_walk w w.units = c.end.ensures ∙ ap (ended_walk w) c.units-then-is_dead.ensures in
-    let leads : Leads c.search_start.new.self.store.table c.in_ok-from.from (state_in d m input w.units) = subst (λ (t : Rows). Leads t c.in_ok-from.from (state_in d m input w.units)) (sym c.search_start.ensures.table) c.in_ok-from.ensures.answer.leads in
-    let dies : state_in d m input w.units ≡ dead = (dead_tagged c.search_start.new.self.store.table c.in_ok-from.from (c.see_bounds.ensures.sound.low c.in_ok-from.from) c.see_bounds.ensures.sound.small _ leads).0 (c.if-is_dead.ensures.0 refl) in
-    let units : input.end - input.start ≡ length (tape_in d input).bytes = units_in d input r.undone c.span_offset-place.ensures.inside in
-    let clean : HasReadNoQuit d m input w.units = clean_here d m input w c.requires.walk.reported.0 c.requires.walk.reported.1 r.on in
-    let ends : Finishes d m input w.units w.units = finish_start d m input w.units (omega (arith, units, r.left)) clean dies in
+    let leads : Leads c.search_start.new.self.store.table c.in_ok-from.from (state_in d m input w.units) =
+    subst (λ (t : Rows). Leads t c.in_ok-from.from (state_in d m input w.units)) (sym c.search_start.ensures.table)
+    c.in_ok-from.ensures.answer.leads in
+    let dies : state_in d m input w.units ≡ dead =
+    (dead_tagged c.search_start.new.self.store.table c.in_ok-from.from
+    (c.see_bounds.ensures.sound.low c.in_ok-from.from) c.see_bounds.ensures.sound.small _ leads).0
+    (c.if-is_dead.ensures.0 refl) in
+    let units : input.end - input.start ≡ length (tape_in d input).bytes =
+    units_in d input r.undone c.span_offset-place.ensures.inside in
+    let clean : HasReadNoQuit d m input w.units =
+    clean_here d m input w c.requires.walk.reported.0 c.requires.walk.reported.1 r.on in
+    let ends : Finishes d m input w.units w.units =
+    finish_start d m input w.units (omega (arith, units, r.left)) clean dies in
     subst (λ (x : Walk). AnswersCall d m input w x (known_of c.args.cache.now) (known_of new)) (sym same)
     (record {
       answer =
           record {
-            reports = next_finishes d m input w w w.units r.undone c.in_ok-from.ensures.answer.may (λ k t. reported_here d m input w k (skips_or_not c.skips-skips.result c.skips-skips.ensures.yes c.skips-skips.ensures.no) t r.on r.all_reported) ends;
+            reports =
+                next_finishes d m input w w w.units r.undone c.in_ok-from.ensures.answer.may
+                (λ k t. reported_here d m input w k
+                (skips_or_not c.skips-skips.result c.skips-skips.ensures.yes c.skips-skips.ensures.no) t r.on
+                r.all_reported) ends;
             goes_on = FindsNone refl;
           };
       effect =
           run_dead d m input w (known_of c.args.cache.now) c.search_start.new.self r
-          (λ fresh. c.in_ok-from.ensures.answer.may) (begun (goal.at.returns-then-is_dead-clause-called c).After-see_bounds) dies new c.span_offset-place.result first
+          (λ fresh. c.in_ok-from.ensures.answer.may)
+          (begun (goal.at.returns-then-is_dead-clause-called c).After-see_bounds) dies new c.span_offset-place.result
+          first
           c.end_search.ensures.value;
     })
 
@@ -95,7 +110,8 @@ returns-in_err-arrival-clause-called c =
     (λ (x : Result (Unit {0}) SearchError). IsCallResult (keeping_of c.args.held.now) d m input w w
     (known_of c.args.cache.now) new x)
     c.from_residual-in_err-arrival.ensures.1
-    (FailsOnItsWay (reads_some input w c.requires.walk.reads) (λ fresh. c.in_ok-from.ensures.answer.may) first (begun (goal.at.returns-in_err-arrival-clause-called c).After-see_bounds)
+    (FailsOnItsWay (reads_some input w c.requires.walk.reads) (λ fresh. c.in_ok-from.ensures.answer.may) first
+    (begun (goal.at.returns-in_err-arrival-clause-called c).After-see_bounds)
     (call_leaves (keeping_of c.args.held.now) d m input w.units first new c.in_err-arrival.field-0.0 left))
 
 -- it has come to where it reports patterns, or to its end
@@ -118,17 +134,26 @@ returns-in_default-clause-called c =
     let r = c.requires.walk.reads in
     let arrival : Arrival = c.in_ok-arrival.arrival in
     let advanced = arrived (goal.at.returns-in_default-clause-called c).In_ok-arrival in
-    let finish : Finishes d m input w.units arrival.units = subst (λ (o : Option ℕ). IsArrival d m c.advance.new.cache.store.table input w.units o arrival.units) c.in_default.«is» advanced.arrives in
-    subst (λ (x : Walk). AnswersCall d m input w x (known_of c.args.cache.now) (known_of c.end_search-in_default.new.self)) (sym c.end-in_default.ensures)
+    let finish : Finishes d m input w.units arrival.units =
+    subst (λ (o : Option ℕ). IsArrival d m c.advance.new.cache.store.table input w.units o arrival.units)
+    c.in_default.«is» advanced.arrives in
+    subst (λ (x : Walk). AnswersCall d m input w x (known_of c.args.cache.now)
+    (known_of c.end_search-in_default.new.self)) (sym c.end-in_default.ensures)
     (record {
       answer =
           record {
-            reports = next_finishes d m input w w arrival.units r.undone c.in_ok-from.ensures.answer.may (λ k t. reported_here d m input w k (skips_or_not c.skips-skips.result c.skips-skips.ensures.yes c.skips-skips.ensures.no) t r.on r.all_reported) finish;
+            reports =
+                next_finishes d m input w w arrival.units r.undone c.in_ok-from.ensures.answer.may
+                (λ k t. reported_here d m input w k
+                (skips_or_not c.skips-skips.result c.skips-skips.ensures.yes c.skips-skips.ensures.no) t r.on
+                r.all_reported) finish;
             goes_on = FindsNone refl;
           };
       effect =
           run_on d m input w (known_of c.args.cache.now) c.search_start.new.self c.advance.new.cache r
-          (λ fresh. c.in_ok-from.ensures.answer.may) (begun (goal.at.returns-in_default-clause-called c).After-see_bounds) arrival advanced (ended_walk w arrival.units)
+          (λ fresh. c.in_ok-from.ensures.answer.may)
+          (begun (goal.at.returns-in_default-clause-called c).After-see_bounds) arrival advanced
+          (ended_walk w arrival.units)
           c.end_search-in_default.new.self c.span_offset-last.result refl c.span_offset-last.ensures.value
           c.end_search-in_default.ensures.value (λ over. (refl, finish.stops arrival.units (omega arith)));
     })
@@ -141,7 +166,9 @@ returns-in_err-move_to-clause-called c =
     let w : Walk = c.args.walk.now in
     let arrival : Arrival = c.in_ok-arrival.arrival in
     let advanced = arrived (goal.at.returns-in_err-move_to-clause-called c).In_ok-arrival in
-    let there : Arrives d m c.advance.new.cache.store.table input w.units c.in-Some.id arrival.units = subst (λ (o : Option ℕ). IsArrival d m c.advance.new.cache.store.table input w.units o arrival.units) c.in-Some.«is» advanced.arrives in
+    let there : Arrives d m c.advance.new.cache.store.table input w.units c.in-Some.id arrival.units =
+    subst (λ (o : Option ℕ). IsArrival d m c.advance.new.cache.store.table input w.units o arrival.units) c.in-Some.«is»
+    advanced.arrives in
     at_err c.from_residual-in_err-move_to.result search.OutOfMemory
     (λ (x : Result (Unit {0}) SearchError). IsCallResult (keeping_of c.args.held.now) d m input w w
     (known_of c.args.cache.now) (known_of c.advance.new.cache) x)
@@ -150,11 +177,14 @@ returns-in_err-move_to-clause-called c =
     (λ k. LeavesCall k d m input w (known_of c.args.cache.now) (known_of c.advance.new.cache) search.OutOfMemory)
     (sym c.in_err-move_to.ensures.refused)
     (run_unheld d m input w (known_of c.args.cache.now) c.search_start.new.self c.advance.new.cache
-    c.requires.walk.reads (λ fresh. c.in_ok-from.ensures.answer.may) (begun (goal.at.returns-in_err-move_to-clause-called c).After-see_bounds) arrival advanced c.in-Some.id there))
+    c.requires.walk.reads (λ fresh. c.in_ok-from.ensures.answer.may)
+    (begun (goal.at.returns-in_err-move_to-clause-called c).After-see_bounds) arrival advanced c.in-Some.id there))
 
 pub stand-requires-clause-here : goal.stand-requires-clause-here
 stand-requires-clause-here c = λ k t.
-    reported_here c.args.way c.args.self.now c.args.input.now c.args.walk.now k (skips_or_not c.skips-skips.result c.skips-skips.ensures.yes c.skips-skips.ensures.no) t c.requires.walk.reads.on c.requires.walk.reads.all_reported
+    reported_here c.args.way c.args.self.now c.args.input.now c.args.walk.now k
+    (skips_or_not c.skips-skips.result c.skips-skips.ensures.yes c.skips-skips.ensures.no) t c.requires.walk.reads.on
+    c.requires.walk.reads.all_reported
 
 pub stand-requires-clause-arrives : goal.stand-requires-clause-arrives
 stand-requires-clause-arrives c =
@@ -165,9 +195,11 @@ stand-requires-clause-arrives c =
     let r = c.requires.walk.reads in
     let arrival : Arrival = c.in_ok-arrival.arrival in
     let arrives : IsArrival d m c.advance.new.cache.store.table input w.units arrival.id arrival.units =
-    subst (λ n. IsArrival d m c.advance.new.cache.store.table input n arrival.id arrival.units) c.units-2.ensures c.in_ok-arrival.ensures.advanced.arrives in
+    subst (λ n. IsArrival d m c.advance.new.cache.store.table input n arrival.id arrival.units) c.units-2.ensures
+    c.in_ok-arrival.ensures.advanced.arrives in
     subst (λ (t : Rows). Arrives d m t input w.units c.in-Some.id arrival.units) (sym c.end_search-2.ensures.table)
-    (subst (λ (o : Option ℕ). IsArrival d m c.advance.new.cache.store.table input w.units o arrival.units) c.in-Some.«is» arrives)
+    (subst (λ (o : Option ℕ). IsArrival d m c.advance.new.cache.store.table input w.units o arrival.units)
+    c.in-Some.«is» arrives)
 
 pub returns-clause-called : goal.returns-clause-called
 returns-clause-called c =
@@ -178,17 +210,21 @@ returns-clause-called c =
     let arrival : Arrival = c.in_ok-arrival.arrival in
     let advanced = arrived (goal.at.returns-clause-called c).In_ok-arrival in
     let s = c.stand.ensures in
-    let there : Arrives d m c.advance.new.cache.store.table input w.units c.in-Some.id arrival.units = subst (λ (o : Option ℕ). IsArrival d m c.advance.new.cache.store.table input w.units o arrival.units) c.in-Some.«is» advanced.arrives in
+    let there : Arrives d m c.advance.new.cache.store.table input w.units c.in-Some.id arrival.units =
+    subst (λ (o : Option ℕ). IsArrival d m c.advance.new.cache.store.table input w.units o arrival.units) c.in-Some.«is»
+    advanced.arrives in
     record {
       answer =
           record {
             reports = s.reports;
             goes_on =
-                ReadsMore (λ ended. ended_at s.at.0 (sym ended ∙ s.at.1)) (omega (arith, s.units, there.one_after, there.more));
+                ReadsMore (λ ended. ended_at s.at.0 (sym ended ∙ s.at.1))
+                (omega (arith, s.units, there.one_after, there.more));
           };
       effect =
           run_on d m input w (known_of c.args.cache.now) c.search_start.new.self c.advance.new.cache
-          c.requires.walk.reads (λ fresh. c.in_ok-from.ensures.answer.may) (begun (goal.at.returns-clause-called c).After-see_bounds) arrival advanced c.stand.new.walk
+          c.requires.walk.reads (λ fresh. c.in_ok-from.ensures.answer.may)
+          (begun (goal.at.returns-clause-called c).After-see_bounds) arrival advanced c.stand.new.walk
           c.end_search-2.new.self c.span_offset-last.result s.units c.span_offset-last.ensures.value
           c.end_search-2.ensures.value (λ ended. absurd (ended_at s.at.0 (sym ended ∙ s.at.1)));
     }
@@ -199,6 +235,7 @@ returns-clause-held c =
     record {
       holds = subst (λ (x : Stage). IsHeldAt c.end_search-2.new.self.store.table x c.move_to.new.self) (sym s.at.1)
           (subst (λ (t : Rows). Holds t c.move_to.new.self s.at.0) (sym c.end_search-2.ensures.table)
-          (c.in_ok-move_to.ensures.holds s.at.0 (subst (λ (t : Rows). Names t c.in-Some.id s.at.0) c.end_search-2.ensures.table s.at.2)));
+          (c.in_ok-move_to.ensures.holds s.at.0
+          (subst (λ (t : Rows). Names t c.in-Some.id s.at.0) c.end_search-2.ensures.table s.at.2)));
       keeping = c.in_ok-move_to.ensures.keeping;
     }

@@ -11,17 +11,24 @@ use Rattle.automata_hybrid.proofs.dfa.DFA.walk_start.Goals as goal
 
 pub returns-in-Forward-clause-answer : goal.returns-in-Forward-clause-answer
 returns-in-Forward-clause-answer c =
-    subst (λ (w : Direction). IfOk c.start_state_forward.result (IsStartAnswer c.args.self.now c.args.input.now.anchored (tape_in w c.args.input.now).before c.args.cache.now c.start_state_forward.new.cache))
+    subst (λ (w : Direction). IfOk c.start_state_forward.result
+    (IsStartAnswer c.args.self.now c.args.input.now.anchored (tape_in w c.args.input.now).before c.args.cache.now
+    c.start_state_forward.new.cache))
     (sym c.in-Forward.is)
     c.start_state_forward.ensures.answer
 
 pub returns-in-Forward-clause-refusal : goal.returns-in-Forward-clause-refusal
 returns-in-Forward-clause-refusal c =
     let at : c.args.input.now.start ≡ c.args.input.now.start + 0 = omega arith in
-    subst (λ (w : Direction). IfErr c.start_state_forward.result (StartFailsAt c.args.self.now c.args.input.now.anchored (tape_in w c.args.input.now).before (behind_offset w c.args.input.now)
+    subst (λ (w : Direction). IfErr c.start_state_forward.result
+    (StartFailsAt c.args.self.now c.args.input.now.anchored (tape_in w c.args.input.now).before
+    (behind_offset w c.args.input.now)
     (offset_in w c.args.input.now 0) (known_of c.args.cache.now) (known_of c.start_state_forward.new.cache)))
     (sym c.in-Forward.is)
-    (subst (λ (n : ℕ). IfErr c.start_state_forward.result (StartFailsAt c.args.self.now c.args.input.now.anchored (byte_before c.args.input.now.haystack c.args.input.now.start) (c.args.input.now.start - 1) n (known_of c.args.cache.now)
+    (subst (λ (n : ℕ). IfErr c.start_state_forward.result
+    (StartFailsAt c.args.self.now c.args.input.now.anchored
+    (byte_before c.args.input.now.haystack c.args.input.now.start) (c.args.input.now.start - 1) n
+    (known_of c.args.cache.now)
     (known_of c.start_state_forward.new.cache)))
     at
     c.start_state_forward.ensures.refusal)
@@ -35,17 +42,23 @@ returns-in-Forward-clause-run c =
 
 pub returns-in-Backward-clause-answer : goal.returns-in-Backward-clause-answer
 returns-in-Backward-clause-answer c =
-    subst (λ (w : Direction). IfOk c.start_state_reverse.result (IsStartAnswer c.args.self.now c.args.input.now.anchored (tape_in w c.args.input.now).before c.args.cache.now c.start_state_reverse.new.cache))
+    subst (λ (w : Direction). IfOk c.start_state_reverse.result
+    (IsStartAnswer c.args.self.now c.args.input.now.anchored (tape_in w c.args.input.now).before c.args.cache.now
+    c.start_state_reverse.new.cache))
     (sym c.in-Backward.is)
     c.start_state_reverse.ensures.answer
 
 pub returns-in-Backward-clause-refusal : goal.returns-in-Backward-clause-refusal
 returns-in-Backward-clause-refusal c =
     let at : c.args.input.now.end ≡ c.args.input.now.end - 0 = omega arith in
-    subst (λ (w : Direction). IfErr c.start_state_reverse.result (StartFailsAt c.args.self.now c.args.input.now.anchored (tape_in w c.args.input.now).before (behind_offset w c.args.input.now)
+    subst (λ (w : Direction). IfErr c.start_state_reverse.result
+    (StartFailsAt c.args.self.now c.args.input.now.anchored (tape_in w c.args.input.now).before
+    (behind_offset w c.args.input.now)
     (offset_in w c.args.input.now 0) (known_of c.args.cache.now) (known_of c.start_state_reverse.new.cache)))
     (sym c.in-Backward.is)
-    (subst (λ (n : ℕ). IfErr c.start_state_reverse.result (StartFailsAt c.args.self.now c.args.input.now.anchored (slice_get c.args.input.now.haystack c.args.input.now.end) c.args.input.now.end n (known_of c.args.cache.now)
+    (subst (λ (n : ℕ). IfErr c.start_state_reverse.result
+    (StartFailsAt c.args.self.now c.args.input.now.anchored (slice_get c.args.input.now.haystack c.args.input.now.end)
+    c.args.input.now.end n (known_of c.args.cache.now)
     (known_of c.start_state_reverse.new.cache)))
     at
     c.start_state_reverse.ensures.refusal)

@@ -11,8 +11,18 @@ use Rattle.automata_hybrid.proofs.cache.store.Store.add_row.Goals as goal
 
 pub invariant_of-self-2 : goal.invariant_of-self-2
 invariant_of-self-2 c =
-    let old : Stored = record { table = c.self.inside.table; starts = c.self.inside.starts.items; clears = c.self.inside.clears; searched = c.self.inside.searched } in
-    let fits : Fits old (cost c.args.state) = subst (λ (v : Stored). Fits v (cost c.args.state)) (sym c.self.view_is) c.requires.fits in
+    let old : Stored =
+    record {
+      table = c.self.inside.table;
+      starts = c.self.inside.starts.items;
+      clears = c.self.inside.clears;
+      searched = c.self.inside.searched;
+    } in
+    let fits : Fits old (cost c.args.state) =
+    subst (λ (v : Stored). Fits v (cost c.args.state)) (sym c.self.view_is) c.requires.fits in
     let r : Row = record { state = c.args.state; started = c.args.started } in
-    let starts : AllStarts c.add.new.self old.starts = subst (λ (t : Rows). AllStarts t old.starts) (sym c.in_ok-added.ensures.ok) (AllStarts-more c.self.inside.table r old.starts c.self.invariant.named) in
-    IsCache-grown old c.self.inside.settings c.add.new.self r c.self.invariant c.see_rows.ensures.template.whole starts c.in_ok-added.ensures.ok fits
+    let starts : AllStarts c.add.new.self old.starts =
+    subst (λ (t : Rows). AllStarts t old.starts) (sym c.in_ok-added.ensures.ok)
+    (AllStarts-more c.self.inside.table r old.starts c.self.invariant.named) in
+    IsCache-grown old c.self.inside.settings c.add.new.self r c.self.invariant c.see_rows.ensures.template.whole starts
+    c.in_ok-added.ensures.ok fits

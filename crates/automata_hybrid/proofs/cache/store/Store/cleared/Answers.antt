@@ -1,32 +1,56 @@
 use Rattle.std.proofs.Common.{◌≡◌, ◌+◌, ◌≤◌, ◌∙◌, ap, sym, subst, length, List, ℕ, rules, arith}
 use Rattle.automata_hybrid.specs.Private.Cache.Clears.{KeepsAllStarts}
 use Rattle.automata_hybrid.specs.Cache.Stores.{Stored}
-use Rattle.automata_hybrid.specs.Private.Cache.Usage.{cleared}
+use Rattle.automata_hybrid.specs.Private.Cache.Usage.{cleared_in_store}
 use Rattle.automata_hybrid.proofs.Caches.Usage.{Fits-few, IsCache-cleared}
 use Rattle.automata_hybrid.proofs.cache.store.Store.cleared.Goals as goal
 
 pub invariant_of-result : goal.invariant_of-result
 invariant_of-result c =
     let e = c.in_ok-table.ensures in
-    let n : length c.in_ok-table.starts.items ≡ length c.self.inside.starts.items = e.slots ∙ ap (λ (xs : List ℕ). length xs) c.as_slice.ensures.value in
-    IsCache-cleared (record { table = c.self.inside.table; starts = c.self.inside.starts.items; clears = c.self.inside.clears; searched = c.self.inside.searched }) c.self.inside.settings c.in_ok-table.table c.in_ok-table.starts.items c.saturating_add.result c.cleared.result c.self.invariant e.named e.of n (subst (λ k. length c.in_ok-table.table.rows ≤ k) (sym e.slots) e.few) c.see_rows.ensures.rows.whole c.see_rows.ensures.costs
+    let n : length c.in_ok-table.starts.items ≡ length c.self.inside.starts.items =
+    e.slots ∙ ap (λ (xs : List ℕ). length xs) c.as_slice.ensures.value in
+    IsCache-cleared
+    (record {
+      table = c.self.inside.table;
+      starts = c.self.inside.starts.items;
+      clears = c.self.inside.clears;
+      searched =
+          c.self.inside.searched;
+    }) c.self.inside.settings c.in_ok-table.table c.in_ok-table.starts.items
+    c.saturating_add.result c.cleared.result c.self.invariant e.named e.of n
+    (subst (λ k. length c.in_ok-table.table.rows ≤ k) (sym e.slots) e.few) c.see_rows.ensures.rows.whole
+    c.see_rows.ensures.costs
 
 pub returns-clause-cleared : goal.returns-clause-cleared
 returns-clause-cleared c =
     let e = c.in_ok-table.ensures in
-    let table : c.in_ok-table.table ≡ (cleared c.args.self.now).table = search rules in
-    let starts : c.in_ok-table.starts.items ≡ (cleared c.args.self.now).starts = search rules in
-    let clears : c.saturating_add.result ≡ (cleared c.args.self.now).clears = search rules in
-    let searched : c.cleared.result ≡ (cleared c.args.self.now).searched = search rules in
-    let old : KeepsAllStarts c.self.inside.table c.self.inside.starts.items (record { table = c.in_ok-table.table; starts = c.in_ok-table.starts.items }) =
-    subst (λ (xs : List ℕ). KeepsAllStarts c.self.inside.table xs (record { table = c.in_ok-table.table; starts = c.in_ok-table.starts.items })) c.as_slice.ensures.value e in
+    let table : c.in_ok-table.table ≡ (cleared_in_store c.args.self.now).table = search rules in
+    let starts : c.in_ok-table.starts.items ≡ (cleared_in_store c.args.self.now).starts = search rules in
+    let clears : c.saturating_add.result ≡ (cleared_in_store c.args.self.now).clears = search rules in
+    let searched : c.cleared.result ≡ (cleared_in_store c.args.self.now).searched = search rules in
+    let old : KeepsAllStarts c.self.inside.table c.self.inside.starts.items
+    (record { table = c.in_ok-table.table; starts = c.in_ok-table.starts.items }) =
+    subst (λ (xs : List ℕ). KeepsAllStarts c.self.inside.table xs
+    (record { table = c.in_ok-table.table; starts = c.in_ok-table.starts.items })) c.as_slice.ensures.value e in
     record {
       allowed = search rules;
       value = λ i. record { table = table i; starts = starts i; clears = clears i; searched = searched i };
-      kept = subst (λ (v : Stored). KeepsAllStarts v.table v.starts (record { table = c.in_ok-table.table; starts = c.in_ok-table.starts.items })) c.self.view_is old;
+      kept =
+          subst (λ (v : Stored). KeepsAllStarts v.table v.starts
+          (record { table = c.in_ok-table.table; starts = c.in_ok-table.starts.items })) c.self.view_is old;
     }
 
 pub returns-clause-room : goal.returns-clause-room
 returns-clause-room c =
     let e = c.in_ok-table.ensures in
-    Fits-few (record { table = c.in_ok-table.table; starts = c.in_ok-table.starts.items; clears = c.saturating_add.result; searched = c.cleared.result }) c.self.inside.settings (invariant_of-result c) (subst (λ k. length c.in_ok-table.table.rows ≤ k + 1) (sym e.slots) (omega (arith, e.few))) c.see_rows.ensures.rows.whole c.see_rows.ensures.costs
+    Fits-few
+    (record {
+      table = c.in_ok-table.table;
+      starts = c.in_ok-table.starts.items;
+      clears = c.saturating_add.result;
+      searched =
+          c.cleared.result;
+    }) c.self.inside.settings (invariant_of-result c)
+    (subst (λ k. length c.in_ok-table.table.rows ≤ k + 1) (sym e.slots) (omega (arith, e.few)))
+    c.see_rows.ensures.rows.whole c.see_rows.ensures.costs

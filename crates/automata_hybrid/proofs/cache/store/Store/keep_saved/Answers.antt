@@ -10,22 +10,34 @@ use Rattle.automata_hybrid.proofs.Caches.Clears.{AllStarts-put, IsPut-length, Is
 use Rattle.automata_hybrid.proofs.cache.store.Store.keep_saved.Goals as goal
 
 kept_of : (c : goal.After-see_rows-2) → c.keep_row.new.kept.of ≡ c.self.inside.table.of
-kept_of c = IsPut-of c.args.old.now c.self.inside.table c.keep_row.new.kept c.args.id c.in_ok-kept.kept c.in_ok-kept.ensures.row
+kept_of c =
+    IsPut-of c.args.old.now c.self.inside.table c.keep_row.new.kept c.args.id c.in_ok-kept.kept c.in_ok-kept.ensures.row
 
 kept_few : (c : goal.After-see_rows-2) → length c.keep_row.new.kept.rows ≤ length c.self.inside.starts.items + 1
 kept_few c =
-    let more = IsPut-length c.args.old.now c.self.inside.table c.keep_row.new.kept c.args.id c.in_ok-kept.kept c.in_ok-kept.ensures.row in
+    let more =
+    IsPut-length c.args.old.now c.self.inside.table c.keep_row.new.kept c.args.id c.in_ok-kept.kept
+    c.in_ok-kept.ensures.row in
     grind (arith, common_steps, more, c.requires.few, c.self.view_is)
 
 before : (c : goal.After-see_rows-2) → Stored
-before c = record { table = c.self.inside.table; starts = c.self.inside.starts.items; clears = c.self.inside.clears; searched = c.self.inside.searched }
+before c =
+    record {
+      table = c.self.inside.table;
+      starts = c.self.inside.starts.items;
+      clears = c.self.inside.clears;
+      searched = c.self.inside.searched;
+    }
 
 kept : (c : goal.After-see_rows-2) → IsCache (with_table (before c) c.keep_row.new.kept) c.self.inside.settings
 unfolding before
 kept c =
     let n = c.in_ok-kept.ensures in
-    let named : AllStarts c.keep_row.new.kept c.self.inside.starts.items = subst (λ (t : Rows). AllStarts t c.self.inside.starts.items) (sym n.row.put_there) (AllStarts-put c.self.inside.table n.row.row c.self.inside.starts.items c.self.invariant.named) in
-    IsCache-few (before c) c.self.inside.settings c.keep_row.new.kept c.self.invariant named (kept_of c) (kept_few c) c.see_rows-2.ensures.rows.whole c.see_rows-2.ensures.costs
+    let named : AllStarts c.keep_row.new.kept c.self.inside.starts.items =
+    subst (λ (t : Rows). AllStarts t c.self.inside.starts.items) (sym n.row.put_there)
+    (AllStarts-put c.self.inside.table n.row.row c.self.inside.starts.items c.self.invariant.named) in
+    IsCache-few (before c) c.self.inside.settings c.keep_row.new.kept c.self.invariant named (kept_of c) (kept_few c)
+    c.see_rows-2.ensures.rows.whole c.see_rows-2.ensures.costs
 
 pub invariant_of-self-2 : goal.invariant_of-self-2
 unfolding before
@@ -37,4 +49,5 @@ returns-clause-of c = kept_of c ∙ ap (λ (v : Stored). v.table.of) c.self.view
 pub returns-clause-room : goal.returns-clause-room
 unfolding before
 returns-clause-room c =
-    Fits-few (with_table (before c) c.keep_row.new.kept) c.self.inside.settings (kept c) (kept_few c) c.see_rows-2.ensures.rows.whole c.see_rows-2.ensures.costs
+    Fits-few (with_table (before c) c.keep_row.new.kept) c.self.inside.settings (kept c) (kept_few c)
+    c.see_rows-2.ensures.rows.whole c.see_rows-2.ensures.costs

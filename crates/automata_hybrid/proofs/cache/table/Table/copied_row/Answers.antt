@@ -11,7 +11,8 @@ at : (c : goal.In_ok-copy) → slice_get c.args.self.now.rows c.args.row ≡ Som
 at c =
     let t : Rows = c.args.self.now in
     let r : Row = c.index-row.result.now in
-    let e : r ≡ get_or t.rows c.args.row r = c.index-row.ensures ∙ ap (λ (v : Rows). get_or v.rows c.args.row r) c.self.view_is in
+    let e : r ≡ get_or t.rows c.args.row r =
+    c.index-row.ensures ∙ ap (λ (v : Rows). get_or v.rows c.args.row r) c.self.view_is in
     slice_get_read t.rows (length t.rows) c.args.row r refl c.requires e
 
 pub returns-clause-had : goal.returns-clause-had
@@ -20,7 +21,8 @@ returns-clause-had c = λ n.
     let r : Row = c.index-row.result.now in
     let i : RowsFitCells t = subst RowsFitCells c.self.view_is c.self.invariant.rows in
     let d = (i.ids c.args.row r (at c)).0 in
-    let m : id_of t r.state ≡ None = subst (λ q. id_of t q ≡ None) (ap (λ (v : Row). v.state) c.in_ok-copy.ensures.cases) n in
+    let m : id_of t r.state ≡ None =
+    subst (λ q. id_of t q ≡ None) (ap (λ (v : Row). v.state) c.in_ok-copy.ensures.cases) n in
     let clash : None ≡ Some (row_id ((c.args.row + 3) * t.of.stride) r) = sym m ∙ d in
     cc
 
@@ -28,16 +30,19 @@ pub returns-clause-alive : goal.returns-clause-alive
 returns-clause-alive c =
     let t : Rows = c.args.self.now in
     let i : RowsFitCells t = subst RowsFitCells c.self.view_is c.self.invariant.rows in
-    subst (λ (q : Powerset). q ≡ dead → ⊥) (sym (ap (λ (v : Row). v.state) c.in_ok-copy.ensures.cases)) (i.states c.args.row c.index-row.result.now (at c)).alive
+    subst (λ (q : Powerset). q ≡ dead → ⊥) (sym (ap (λ (v : Row). v.state) c.in_ok-copy.ensures.cases))
+    (i.states c.args.row c.index-row.result.now (at c)).alive
 
 pub returns-clause-cost : goal.returns-clause-cost
 returns-clause-cost c =
     let t : Rows = c.args.self.now in
     let i : RowsFitCells t = subst RowsFitCells c.self.view_is c.self.invariant.rows in
-    subst (λ q. cost q ≤ t.of.greatest) (sym (ap (λ (v : Row). v.state) c.in_ok-copy.ensures.cases)) (i.states c.args.row c.index-row.result.now (at c)).cheap
+    subst (λ q. cost q ≤ t.of.greatest) (sym (ap (λ (v : Row). v.state) c.in_ok-copy.ensures.cases))
+    (i.states c.args.row c.index-row.result.now (at c)).cheap
 
 pub returns-clause-of : goal.returns-clause-of
 returns-clause-of c =
     let t : Rows = c.args.self.now in
     let i : RowsFitCells t = subst RowsFitCells c.self.view_is c.self.invariant.rows in
-    subst (λ (q : Powerset). IsStateOf t.of q) (sym (ap (λ (v : Row). v.state) c.in_ok-copy.ensures.cases)) (i.states c.args.row c.index-row.result.now (at c)).own
+    subst (λ (q : Powerset). IsStateOf t.of q) (sym (ap (λ (v : Row). v.state) c.in_ok-copy.ensures.cases))
+    (i.states c.args.row c.index-row.result.now (at c)).own

@@ -5,6 +5,8 @@ use Rattle.automata_hybrid.proofs.cache.table.Table.row_at.Goals as goal
 
 pub overflow_add-index : goal.overflow_add-index
 overflow_add-index c =
-    let low : (c.args.index + 3) * c.args.self.now.of.stride < 2 ^ 27 = row_low c.args.self.now c.args.index c.see_rows.ensures.rows c.requires in
-    let l : (c.args.index + 3) * 1 ≤ (c.args.index + 3) * c.args.self.now.of.stride = mul-le-mul_left (c.args.index + 3) c.see_rows.ensures.template.positive in
+    let low : (c.args.index + 3) * c.args.self.now.of.stride < 2 ^ 27 =
+    row_low c.args.self.now c.args.index c.see_rows.ensures.rows c.requires in
+    let l : (c.args.index + 3) * 1 ≤ (c.args.index + 3) * c.args.self.now.of.stride =
+    mul-le-mul_left (c.args.index + 3) c.see_rows.ensures.template.positive in
     omega (arith, low, l)

@@ -12,7 +12,8 @@ returns-clause-of c =
     let k = c.row_index-index.result in
     let i : RowsFitCells t = subst RowsFitCells c.self.view_is c.self.invariant.rows in
     let e : r ≡ get_or t.rows k r = c.index-row.ensures ∙ ap (λ (v : Rows). get_or v.rows k r) c.self.view_is in
-    let has : slice_get t.rows k ≡ Some r = slice_get_read t.rows (length t.rows) k r refl c.row_index-index.ensures.within e in
+    let has : slice_get t.rows k ≡ Some r =
+    slice_get_read t.rows (length t.rows) k r refl c.row_index-index.ensures.within e in
     (i.states k r has).own
 
 pub returns-clause-cost : goal.returns-clause-cost
@@ -22,5 +23,6 @@ returns-clause-cost c =
     let k = c.row_index-index.result in
     let i : RowsFitCells t = subst RowsFitCells c.self.view_is c.self.invariant.rows in
     let e : r ≡ get_or t.rows k r = c.index-row.ensures ∙ ap (λ (v : Rows). get_or v.rows k r) c.self.view_is in
-    let has : slice_get t.rows k ≡ Some r = slice_get_read t.rows (length t.rows) k r refl c.row_index-index.ensures.within e in
+    let has : slice_get t.rows k ≡ Some r =
+    slice_get_read t.rows (length t.rows) k r refl c.row_index-index.ensures.within e in
     (i.states k r has).cheap

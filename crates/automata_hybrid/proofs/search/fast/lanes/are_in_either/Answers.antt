@@ -5,5 +5,6 @@ use Rattle.automata_hybrid.proofs.search.fast.lanes.are_in_either.Goals as goal
 
 pub returns : goal.returns
 returns c = λ none.
-    all_near c.args.way (HasEither c.args.first c.args.second) c.args.at c.outside_both.result c.args.bytes.now c.outside_both.ensures.near
+    all_near c.args.way (HasEither c.args.first c.args.second) c.args.at c.outside_both.result c.args.bytes.now
+    c.outside_both.ensures.near
     (eqb-true c.outside_both.result 0 none)

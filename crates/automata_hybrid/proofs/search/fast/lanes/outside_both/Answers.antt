@@ -11,5 +11,6 @@ returns-clause-small c = omega (arith, and_le_l c.outside_at.result c.outside_at
 pub returns-clause-near : goal.returns-clause-near
 returns-clause-near c = λ k few clear. ⊎_elim
     (λ (first : bit_at c.outside_at.result (lane_of c.args.way k) ≡ 0). inl (c.outside_at.ensures.near k few first))
-    (λ (second : bit_at c.outside_at-2.result (lane_of c.args.way k) ≡ 0). inr (c.outside_at-2.ensures.near k few second))
+    (λ (second : bit_at c.outside_at-2.result (lane_of c.args.way k) ≡ 0). inr
+    (c.outside_at-2.ensures.near k few second))
     (both_clear c.outside_at.result c.outside_at-2.result (lane_of c.args.way k) clear)

@@ -6,11 +6,13 @@ use Rattle.automata_hybrid.proofs.search.walk.OverlappingStateClone.clone.Goals 
 
 pub copy-requires : goal.copy-requires
 copy-requires c =
-    shared_itself c.self.inside.cursor.stage c.self.inside.held c.in_ok-held.held c.in_ok-held.ensures.keeping c.in_ok-held.ensures.none
+    shared_itself c.self.inside.cursor.stage c.self.inside.held c.in_ok-held.held c.in_ok-held.ensures.keeping
+    c.in_ok-held.ensures.none
     c.in_ok-held.ensures.itself c.self.invariant
 
 pub invariant_of-result : goal.invariant_of-result
 invariant_of-result c =
     subst (λ (w : Walk). IsHeldItself w.stage c.in_ok-held.held) (sym c.copy.ensures)
-    (shared_itself c.self.inside.cursor.stage c.self.inside.held c.in_ok-held.held c.in_ok-held.ensures.keeping c.in_ok-held.ensures.none
+    (shared_itself c.self.inside.cursor.stage c.self.inside.held c.in_ok-held.held c.in_ok-held.ensures.keeping
+    c.in_ok-held.ensures.none
     c.in_ok-held.ensures.itself c.self.invariant)
