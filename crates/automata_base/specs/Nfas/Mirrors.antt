@@ -85,9 +85,10 @@ IsLed n q (r ∷ way) z = ((l : Label) × HasArc n q l r) × IsLed n r way z
 abbrev pub LeadsTo : Nfa → (q z : ℕ) → Type 0
 LeadsTo n q z = (way : List ℕ) × IsLed n q way z
 
--- The part for the pattern `p` keeps the state: edges lead from `first` to it, and from it to a match of the pattern.
-abbrev pub IsKept : Nfa → (first p q : ℕ) → Type 0
-IsKept n first p q = LeadsTo n first q × ((z : ℕ) × LeadsTo n q z × (accepts n z ≡ Some p))
+-- The state is useful for the pattern `p`: edges lead from `first` to it, and from it to a match of the pattern. The
+-- part for the pattern keeps these states.
+abbrev pub IsUseful : Nfa → (first p q : ℕ) → Type 0
+IsUseful n first p q = LeadsTo n first q × ((z : ℕ) × LeadsTo n q z × (accepts n z ≡ Some p))
 
 -- The edge reads a byte or tests a look.
 abbrev pub IsAsking : Label → Type 0
@@ -105,7 +106,7 @@ IsUnion (Accept p) = ⊥
 -- The state stands for an edge to `t` that reads a byte or asks a look, or for the match where paths begin.
 abbrev pub IsEdgeTo : (n m : Nfa) → (first p : ℕ) → (place : ℕ → ℕ) → (t x : ℕ) → Type 0
 IsEdgeTo n m first p place t x =
-    ((s : ℕ) × (l : Label) × IsKept n first p s × HasArc n s l t × IsAsking l × IsReversedArc m x l (place s))
+    ((s : ℕ) × (l : Label) × IsUseful n first p s × HasArc n s l t × IsAsking l × IsReversedArc m x l (place s))
     ⊎ ((t ≡ first) × (node m x ≡ Accept p))
 
 -- Among the states for the pattern `p`, where `place q` stands for `q`: the state that stands for `t` is the union of
@@ -117,11 +118,11 @@ pub record IsReversedAt (n m : Nfa) (first p : ℕ) (place : ℕ → ℕ) (t : �
   -- each of them is a reversed edge to `t`, or a match if paths begin at `t`
   pub sound :
       (x : ℕ) → In x xs
-      → ((s : ℕ) × (l : Label) × IsKept n first p s × HasArc n s l t × IsReversedArc m x l (place s))
+      → ((s : ℕ) × (l : Label) × IsUseful n first p s × HasArc n s l t × IsReversedArc m x l (place s))
       ⊎ ((t ≡ first) × (node m x ≡ Accept p))
   -- each edge to `t` from a state that is kept is reversed to one of them
   pub arcs :
-      (s : ℕ) (l : Label) → IsKept n first p s → HasArc n s l t
+      (s : ℕ) (l : Label) → IsUseful n first p s → HasArc n s l t
       → (x : ℕ) × In x xs × IsReversedArc m x l (place s)
   -- if paths begin at `t`, one of them is a match of the pattern
   pub reported : t ≡ first → (x : ℕ) × In x xs × (node m x ≡ Accept p)
@@ -135,7 +136,7 @@ pub record IsEntry (n m : Nfa) (first p entry : ℕ) (place : ℕ → ℕ) (xs :
   -- the entry is the union of these states
   pub union : node m entry ≡ Split xs
   -- each of them stands for a match state of the pattern that is kept
-  pub sound : (x : ℕ) → In x xs → (q : ℕ) × IsKept n first p q × (accepts n q ≡ Some p) × (x ≡ place q)
+  pub sound : (x : ℕ) → In x xs → (q : ℕ) × IsUseful n first p q × (accepts n q ≡ Some p) × (x ≡ place q)
   -- each match state of the pattern that edges reach from the first state has its state among them
   pub matches : (q : ℕ) → LeadsTo n first q → accepts n q ≡ Some p → In (place q) xs
   -- none of them repeats
@@ -146,13 +147,13 @@ pub record IsPart (n m : Nfa) (first p entry : ℕ) (place : ℕ → ℕ) : Type
   -- backward paths begin at the entry, which goes on to the states for the matches
   pub enters : (xs : List ℕ) × IsEntry n m first p entry place xs
   -- each state that is kept has its state, with the reversed edges
-  pub turned : (t : ℕ) → IsKept n first p t → (xs : List ℕ) × IsReversedAt n m first p place t xs
+  pub turned : (t : ℕ) → IsUseful n first p t → (xs : List ℕ) × IsReversedAt n m first p place t xs
 
 -- The state is the entry, or stands for a state that is kept, or is an alternate of one that does.
 abbrev pub IsOfPart : (n m : Nfa) → (first p entry : ℕ) → (place : ℕ → ℕ) → (x : ℕ) → Type 0
 IsOfPart n m first p entry place x =
     (x ≡ entry)
-    ⊎ ((t : ℕ) × IsKept n first p t
+    ⊎ ((t : ℕ) × IsUseful n first p t
     × ((x ≡ place t) ⊎ ((xs : List ℕ) × (node m (place t) ≡ Split xs) × In x xs)))
 
 -- `m` is `n` reversed: it has a part for each pattern, whose paths begin at its entry, and at the root those of all.
@@ -192,12 +193,12 @@ pub record IsReversed (a b : Automaton) : Type 0 where
   pub mirror : IsMirror (ranged_nfa a) (nfa_of b) a.start_anchored b.start_pattern b.start_anchored
 
 -- Searches of the NFA begin at the state.
-abbrev pub IsStart : Automaton → ℕ → Type 0
-IsStart a start = (start ≡ a.start_anchored) ⊎ ((start ≡ a.start_unanchored) ⊎ In start a.start_pattern)
+abbrev pub BeginsAt : Automaton → ℕ → Type 0
+BeginsAt a start = (start ≡ a.start_anchored) ⊎ ((start ≡ a.start_unanchored) ⊎ In start a.start_pattern)
 
 -- A path accepts the pattern at place `i` of the tape.
-abbrev pub Reaches : Automaton → Tape → (start i pattern : ℕ) → Type 0
-Reaches a t start i pattern = (path : List ℕ) × Accepts (nfa_of a) t start i pattern path
+abbrev pub AcceptsFrom : Automaton → Tape → (start i pattern : ℕ) → Type 0
+AcceptsFrom a t start i pattern = (path : List ℕ) × Accepts (nfa_of a) t start i pattern path
 
 -- The NFAs have the same starts and flags, and from each start the same patterns are accepted at the same places. Their
 -- states may differ.
@@ -212,8 +213,8 @@ pub record ReadsAlike (a b : Automaton) : Type 0 where
   pub patterns : b.start_pattern ≡ a.start_pattern
   -- from each start the one accepts what the other accepts
   pub accepts :
-      (start : ℕ) → IsStart a start → (t : Tape) (i pattern : ℕ)
-      → Reaches a t start i pattern ↔ Reaches b t start i pattern
+      (start : ℕ) → BeginsAt a start → (t : Tape) (i pattern : ℕ)
+      → AcceptsFrom a t start i pattern ↔ AcceptsFrom b t start i pattern
   -- both or neither have the empty match, looks taken as true
   pub empty : MatchesEmpty (nfa_of a) a.start_pattern ↔ MatchesEmpty (nfa_of b) b.start_pattern
 

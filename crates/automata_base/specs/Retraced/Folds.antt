@@ -15,8 +15,8 @@ use Rattle.automata_base.specs.Nfas.Nfa.{Nfa, Node, Range, Split, Assert, Read, 
 use Rattle.automata_base.specs.Nfas.Nfa.{hop_at, node, takes, takes_in}
 
 -- The state is none of the free ones, which are made anew.
-abbrev pub IsKept : (free : List ℕ) → (state : ℕ) → Type 0
-IsKept free state = In state free → ⊥
+abbrev pub IsNotFree : (free : List ℕ) → (state : ℕ) → Type 0
+IsNotFree free state = In state free → ⊥
 
 -- The state is a free one, and this is made of it.
 abbrev pub IsMade : (free : List ℕ) → (made : List Node) → (state : ℕ) → Node → Type 0
@@ -31,9 +31,9 @@ AreTargetsOf Stands (x ∷ xs) targets =
 -- The state is kept and is the only target; or it is a union that was made, and its alternates stand for the targets,
 -- in at most `depth` steps.
 abbrev pub StandsFor : (free : List ℕ) → (made : List Node) → (depth state : ℕ) → (targets : List ℕ) → Type 0
-StandsFor free made zero state targets = IsKept free state × (targets ≡ state ∷ [])
+StandsFor free made zero state targets = IsNotFree free state × (targets ≡ state ∷ [])
 StandsFor free made (suc depth) state targets =
-    (IsKept free state × (targets ≡ state ∷ []))
+    (IsNotFree free state × (targets ≡ state ∷ []))
     ⊎ ((xs : List ℕ) × IsMade free made state (Split xs) × AreTargetsOf (StandsFor free made depth) xs targets)
 
 -- No state stands for no targets, and a state for those that it leads to in some number of steps.
@@ -58,7 +58,7 @@ pub record IsFoldedUnion (n : Nfa) (free : List ℕ) (made : List Node) (xs : Li
   -- the state that reads was made, with these ranges
   pub reads : IsMade free made reader (Read ranges)
   -- the alternates that stay are alternates of the union, and are kept
-  pub kept : (x : ℕ) → In x stay → In x xs × IsKept free x
+  pub kept : (x : ℕ) → In x stay → In x xs × IsNotFree free x
   -- for each byte the targets of the state that reads
   pub targets : ℕ → List ℕ
   -- on each byte it leads to a state that stands for its targets
@@ -74,17 +74,17 @@ pub record IsFoldedUnion (n : Nfa) (free : List ℕ) (made : List Node) (xs : Li
 -- The node is as it was and leads to none of the free states without reading, or it was a union and is folded.
 abbrev pub IsFoldedNode : Nfa → (free : List ℕ) → (made : List Node) → (old new : Node) → Type 0
 IsFoldedNode n free made old new =
-    ((new ≡ old) × ((A : Truth) (e y : ℕ) → hop_at old A e ≡ Some y → IsKept free y))
+    ((new ≡ old) × ((A : Truth) (e y : ℕ) → hop_at old A e ≡ Some y → IsNotFree free y))
     ⊎ ((xs : List ℕ) × (old ≡ Split xs) × IsFoldedUnion n free made xs new)
 
 -- The states of `m` are those of `n`, of which some unions are folded, and the free ones are made anew.
 pub record IsFolded (n m : Nfa) (free : List ℕ) (made : List Node) : Type 0 where
   -- each state that is kept is as it was, or it was a union and is folded
-  pub each : (x : ℕ) → IsKept free x → IsFoldedNode n free made (node n x) (node m x)
+  pub each : (x : ℕ) → IsNotFree free x → IsFoldedNode n free made (node n x) (node m x)
   -- the free states are what is made of them
   pub more : (x : ℕ) (new : Node) → IsMade free made x new → node m x ≡ new
   -- no byte leads to a free state
-  pub moves : (x u y : ℕ) → takes n x u ≡ Some y → IsKept free y
+  pub moves : (x u y : ℕ) → takes n x u ≡ Some y → IsNotFree free y
 
 -- The range of a state that reads one.
 abbrev pub range_read : State → Option Transition
@@ -116,9 +116,9 @@ is_large (Read ranges) = false
 is_large (Accept p) = false
 
 -- Each of the first `count` nodes of a tree has a head that stands for the states in the lists on its way.
-abbrev pub AreHeads :
+abbrev pub AreTreeHeads :
     (free : List ℕ) → (made : List Node) → (lists : List (List ℕ)) → (heads : List (Option ℕ)) → (count : ℕ) → Type 0
-AreHeads free made lists heads count =
+AreTreeHeads free made lists heads count =
     (k : ℕ) → k < count
     → (targets : List ℕ) × StandsIfAny free made (head_or_none (slice_get heads k)) targets
     × ((t : ℕ) → In t targets ↔ IsOnWay lists k t)
@@ -166,19 +166,19 @@ IsUnionOf state list = (alternates : Vec ℕ Global) × (state ≡ is.Union alte
 -- Some unions of the old states are folded, and the free ones are made anew.
 pub record AreFolded (old new : List State) (free : List ℕ) (made : List Node) : Type 0 where
   -- each state that is kept is as it was, or it was a union and is folded
-  pub each : (x : ℕ) → IsKept free x → IsFoldedState old free made (slice_get old x) (slice_get new x)
+  pub each : (x : ℕ) → IsNotFree free x → IsFoldedState old free made (slice_get old x) (slice_get new x)
   -- the free states are what is made of them
   pub more : (x : ℕ) (node : Node) → IsMade free made x node → node_in new x ≡ node
   -- no state but a large union leads to a free one
-  pub led : (q t : ℕ) → is_large (node_in old q) ≡ false → In t (targets_of Every old q) → IsKept free t
+  pub led : (q t : ℕ) → is_large (node_in old q) ≡ false → In t (targets_of Every old q) → IsNotFree free t
   -- the free states read a range
   pub reads : (x : ℕ) → In x free → (range : Transition) × ReadsRange old x range
 
 -- The new states are the old ones with unions folded, and the root and the entries are kept.
 abbrev pub IsFoldedFrom : (old new : List State) → (root : ℕ) → (entries : List ℕ) → Type 0
 IsFoldedFrom old new root entries =
-    (free : List ℕ) × (made : List Node) × AreFolded old new free made × IsKept free root
-    × ((e : ℕ) → In e entries → IsKept free e)
+    (free : List ℕ) × (made : List Node) × AreFolded old new free made × IsNotFree free root
+    × ((e : ℕ) → In e entries → IsNotFree free e)
 
 -- If the state of this number is a union, its alternates are states.
 abbrev pub IsUnionBelow : List State → (x : ℕ) → Type 0

@@ -19,7 +19,7 @@ use Rattle.automata_base.specs.Paths.Paths.{all_true}
 use Rattle.automata_base.specs.Powersets.Closure.{children_at}
 use Rattle.automata_base.specs.Retraced.Folds.{AreFolded, IsFolded, IsFoldedFrom, IsFoldedNode, IsFoldedState}
 use Rattle.automata_base.specs.Retraced.Folds.{IsFoldedUnion, IsFoldOf}
-use Rattle.automata_base.specs.Retraced.Folds.{IsKept, ReadsRange, SomeReads, SomeTakes, is_large, is_large_state}
+use Rattle.automata_base.specs.Retraced.Folds.{IsNotFree, ReadsRange, SomeReads, SomeTakes, is_large, is_large_state}
 use Rattle.automata_base.specs.Retraced.Folds.{range_read}
 use Rattle.automata_base.specs.Retraced.Once.{once_from}
 use Rattle.automata_base.specs.Retraced.Reach.{node_in, nexts, byte_targets, targets_at, targets_of}
@@ -68,9 +68,9 @@ read_node states x range r = node_some states x r.0 r.1 ∙ range_node r.0 range
 -- Where a state that reads a range leads.
 pub range_kept :
     (states : List State) (free : List ℕ)
-    → ((q t : ℕ) → is_large (node_in states q) ≡ false → In t (targets_of Every states q) → IsKept free t)
+    → ((q t : ℕ) → is_large (node_in states q) ≡ false → In t (targets_of Every states q) → IsNotFree free t)
     → (q : ℕ) (range : Transition)
-    → ReadsRange states q range → IsKept free range.next
+    → ReadsRange states q range → IsNotFree free range.next
 range_kept states free led q range r =
     let e = read_node states q range r in
     led q range.next (ap (λ v. is_large v) e) (subst (λ v. In range.next (targets_at Every v)) (sym e) (inl refl))
@@ -199,7 +199,7 @@ pub folded_from :
     → led1 ≡ once_from led0 (root ∷ []) → led2 ≡ once_from led1 entries
     → ((x : ℕ) → In x free → (range : Transition) × ReadsRange old x range) → ((x : ℕ) → In x free → In x led2 → ⊥)
     → ((x : ℕ) → IsFoldedState old free (nodes_of made) (slice_get old x) (slice_get mid x))
-    → ((x : ℕ) → IsKept free x → slice_get new x ≡ slice_get mid x)
+    → ((x : ℕ) → IsNotFree free x → slice_get new x ≡ slice_get mid x)
     → ((k x : ℕ) (s : State) → slice_get free k ≡ Some x → slice_get made k ≡ Some s → slice_get new x ≡ Some s)
     → IsFoldedFrom old new root entries
 folded_from old mid new made led0 led1 led2 free entries root led e f reads fresh each kept done = (
@@ -213,7 +213,7 @@ folded_from old mid new made led0 led1 led2 free entries root led e f reads fres
     reads = reads;
   },
   (λ k. fresh root k
-  (keep1 root (subst (λ (v : List ℕ). In root v) (sym e) (once_has root led0 (root ∷ []) (inl refl))))),
+      (keep1 root (subst (λ (v : List ℕ). In root v) (sym e) (once_has root led0 (root ∷ []) (inl refl))))),
   λ x i k. fresh x k (subst (λ (v : List ℕ). In x v) (sym f) (once_has x led1 entries i)),
 )
   where

@@ -4,7 +4,7 @@ use Rattle.std.proofs.Common.{ap, ◌∙◌, subst, arith, length}
 use Rattle.automata_base.specs.Lists.{In}
 use Rattle.automata_base.specs.Nfas.Nfa.{Nfa, Node, Range, Split, Read, Truth, node, hop, hop_at, takes, takes_at}
 use Rattle.automata_base.specs.Nfas.Nfa.{takes_in, accepts, accepts_at}
-use Rattle.automata_base.specs.Retraced.Folds.{IsKept, AreTargetsOf, StandsFor, StandsIfAny, IsFoldedUnion}
+use Rattle.automata_base.specs.Retraced.Folds.{IsNotFree, AreTargetsOf, StandsFor, StandsIfAny, IsFoldedUnion}
 use Rattle.automata_base.specs.Retraced.Folds.{IsFoldedNode, IsFolded}
 use Rattle.automata_base.proofs.Nfas.Mirrors.Ways.{Bytes, IsWay, HasWay, join, hop_way, move_way}
 use Rattle.automata_base.proofs.Paths.Orders.{none_some}
@@ -114,11 +114,11 @@ module _ (n m : Nfa) (free : List ℕ) (made : List Node) (f : IsFolded n m free
 
   -- Ways of the NFA, one edge after another.
   module _ (k j q p : ℕ) (a : accepts n q ≡ Some p)
-      (on : (rest : List ℕ) (i y : ℕ) → length rest ≤ k → IsKept free y → IsWay n A b i y rest j q
+      (on : (rest : List ℕ) (i y : ℕ) → length rest ≤ k → IsNotFree free y → IsWay n A b i y rest j q
       → There m i y j p) where
     forth_same :
         (path : List ℕ) (i x e : ℕ) → length path ≤ k → node m x ≡ node n x
-        → ((A : Truth) (e y : ℕ) → hop n A x e ≡ Some y → IsKept free y) → IsWay n A b i x (e ∷ path) j q
+        → ((A : Truth) (e y : ℕ) → hop n A x e ≡ Some y → IsNotFree free y) → IsWay n A b i x (e ∷ path) j q
         → There m i x j p
     forth_same path i x e few same leads (inl w) =
         before m i x i w.0 j p (hop_way m A b i x e w.0 (ap (λ (v : Node). hop_at v (A i) e) same ∙ w.1))
@@ -164,7 +164,7 @@ module _ (n m : Nfa) (free : List ℕ) (made : List Node) (f : IsFolded n m free
         go (inr h) = forth_read path i x w.0 xs h.0 few u h.1 h.2 w.2
 
   here_forth :
-      (i x j q p : ℕ) → IsKept free x → IsWay n A b i x [] j q → accepts n q ≡ Some p → There m i x j p
+      (i x j q p : ℕ) → IsNotFree free x → IsWay n A b i x [] j q → accepts n q ≡ Some p → There m i x j p
   here_forth i x j q p low w a = go (f.each x low)
     where
       go : IsFoldedNode n free made (node n x) (node m x) → There m i x j p
@@ -173,7 +173,7 @@ module _ (n m : Nfa) (free : List ℕ) (made : List Node) (f : IsFolded n m free
       go (inr h) = absurd (none_some (sym (ap (λ (v : Node). accepts_at v) h.1) ∙ (ap (λ v. accepts n v) w.1 ∙ a)))
 
   forth :
-      (k : ℕ) (path : List ℕ) (i x j q p : ℕ) → length path ≤ k → IsKept free x → IsWay n A b i x path j q
+      (k : ℕ) (path : List ℕ) (i x j q p : ℕ) → length path ≤ k → IsNotFree free x → IsWay n A b i x path j q
       → accepts n q ≡ Some p → There m i x j p
   forth k [] i x j q p few low w a = here_forth i x j q p low w a
   forth zero (e ∷ path) i x j q p few low w a = absurd (omega (arith, few))
@@ -184,18 +184,18 @@ module _ (n m : Nfa) (free : List ℕ) (made : List Node) (f : IsFolded n m free
       short = omega (arith, few)
 
       go :
-          ((rest : List ℕ) (i y : ℕ) → length rest ≤ k → IsKept free y → IsWay n A b i y rest j q → There m i y j p)
+          ((rest : List ℕ) (i y : ℕ) → length rest ≤ k → IsNotFree free y → IsWay n A b i y rest j q → There m i y j p)
           → IsFoldedNode n free made (node n x) (node m x) → There m i x j p
       go on (inl same) = forth_same k j q p a on path i x e short same.0 same.1 w
       go on (inr h) = forth_folded k j q p a on path i x e h.0 short h.1 h.2 w
 
   -- Ways of the folded one.
   module _ (k j q p : ℕ) (a : accepts m q ≡ Some p)
-      (on : (rest : List ℕ) (i y : ℕ) → length rest ≤ k → IsKept free y → IsWay m A b i y rest j q
+      (on : (rest : List ℕ) (i y : ℕ) → length rest ≤ k → IsNotFree free y → IsWay m A b i y rest j q
       → There n i y j p) where
     back_same :
         (path : List ℕ) (i x e : ℕ) → length path ≤ k → node m x ≡ node n x
-        → ((A : Truth) (e y : ℕ) → hop n A x e ≡ Some y → IsKept free y) → IsWay m A b i x (e ∷ path) j q
+        → ((A : Truth) (e y : ℕ) → hop n A x e ≡ Some y → IsNotFree free y) → IsWay m A b i x (e ∷ path) j q
         → There n i x j p
     back_same path i x e few same leads (inl w) =
         let h = sym (ap (λ (v : Node). hop_at v (A i) e) same) ∙ w.1 in
@@ -257,7 +257,7 @@ module _ (n m : Nfa) (free : List ℕ) (made : List Node) (f : IsFolded n m free
         go (inr (inr h)) = absurd h
 
   here_back :
-      (i x j q p : ℕ) → IsKept free x → IsWay m A b i x [] j q → accepts m q ≡ Some p → There n i x j p
+      (i x j q p : ℕ) → IsNotFree free x → IsWay m A b i x [] j q → accepts m q ≡ Some p → There n i x j p
   here_back i x j q p low w a = go (f.each x low)
     where
       go : IsFoldedNode n free made (node n x) (node m x) → There n i x j p
@@ -267,7 +267,7 @@ module _ (n m : Nfa) (free : List ℕ) (made : List Node) (f : IsFolded n m free
           absurd (none_some (sym (ap (λ (v : Node). accepts_at v) h.2.union) ∙ (ap (λ v. accepts m v) w.1 ∙ a)))
 
   back :
-      (k : ℕ) (path : List ℕ) (i x j q p : ℕ) → length path ≤ k → IsKept free x → IsWay m A b i x path j q
+      (k : ℕ) (path : List ℕ) (i x j q p : ℕ) → length path ≤ k → IsNotFree free x → IsWay m A b i x path j q
       → accepts m q ≡ Some p → There n i x j p
   back k [] i x j q p few low w a = here_back i x j q p low w a
   back zero (e ∷ path) i x j q p few low w a = absurd (omega (arith, few))
@@ -278,14 +278,14 @@ module _ (n m : Nfa) (free : List ℕ) (made : List Node) (f : IsFolded n m free
       short = omega (arith, few)
 
       go :
-          ((rest : List ℕ) (i y : ℕ) → length rest ≤ k → IsKept free y → IsWay m A b i y rest j q → There n i y j p)
+          ((rest : List ℕ) (i y : ℕ) → length rest ≤ k → IsNotFree free y → IsWay m A b i y rest j q → There n i y j p)
           → IsFoldedNode n free made (node n x) (node m x) → There n i x j p
       go on (inl same) = back_same k j q p a on path i x e short same.0 same.1 w
       go on (inr h) = back_folded k j q p a on path i x e h.0 short h.1 h.2 w
 
   -- The two reach the same matches from each state that is kept.
-  pub forth_there : (i x j p : ℕ) → IsKept free x → There n i x j p → There m i x j p
+  pub forth_there : (i x j p : ℕ) → IsNotFree free x → There n i x j p → There m i x j p
   forth_there i x j p low w = forth (length w.1.0) w.1.0 i x j w.0 p (omega arith) low w.1.1 w.2
 
-  pub back_there : (i x j p : ℕ) → IsKept free x → There m i x j p → There n i x j p
+  pub back_there : (i x j p : ℕ) → IsNotFree free x → There m i x j p → There n i x j p
   back_there i x j p low w = back (length w.1.0) w.1.0 i x j w.0 p (omega arith) low w.1.1 w.2

@@ -11,7 +11,7 @@ use Rattle.automata_base.specs.Nfas.Accepted.{IsChecked}
 use Rattle.automata_base.specs.Lists.{In, Distinct}
 use Rattle.std.specs.Prelude.{slice_get}
 use Rattle.automata_base.specs.Nfas.Mirrors.{flip, Label, Free, Asks, Reads, HasArcAt, HasArc, IsAsking, IsUnion}
-use Rattle.automata_base.specs.Nfas.Mirrors.{IsEdgeTo, IsReversedArc, IsLed, LeadsTo, IsKept, IsReversedAt, IsEntry}
+use Rattle.automata_base.specs.Nfas.Mirrors.{IsEdgeTo, IsReversedArc, IsLed, LeadsTo, IsUseful, IsReversedAt, IsEntry}
 use Rattle.automata_base.specs.Nfas.Mirrors.{IsPart, IsOfPart, IsMirror, IsReversed}
 use Rattle.automata_base.specs.Nfas.Nfa.{Nfa, Node, Split, Accept, node, node_or_fail, accepts, accepts_at}
 use Rattle.automata_base.specs.Nfas.Nodes.{Automaton, nfa_of, node_of}
@@ -147,7 +147,7 @@ module _ (a : Automaton) (turned : List State) (reached : List ℕ) (m : Nfa)
         (closed y s (is.ByteRange lo hi s) i e (inl refl), copy_is y (is.ByteRange lo hi s) i e)
 
     abbrev Kept : ℕ → Type 0
-    Kept q = IsKept (ranged_nfa a) a.start_anchored p q
+    Kept q = IsUseful (ranged_nfa a) a.start_anchored p q
 
     inside : (s : ℕ) (l : Label) (k : ℕ) → HasArc (ranged_nfa a) s l k → s < length a.states
     inside s l k h = let w = arc_inside (ranged_nfa a) s l k h in omega (arith, w, size_is)
@@ -354,7 +354,7 @@ module _ (a : Automaton) (turned : List State) (reached : List ℕ) (m : Nfa)
               f,
               refl,
               helper_plain y (length t.lists + j) j (get_or turned y is.Fail)
-              (graph.sound y (length t.lists + j) (sole y j e)) refl f,
+                  (graph.sound y (length t.lists + j) (sole y j e)) refl f,
               inr (l, e),
             )
 
@@ -549,7 +549,7 @@ module _ (a : Automaton) (turned : List State) (reached : List ℕ) (m : Nfa)
               source_kept s l k (inr b) kk,
               is_arc s l k b.1,
               subst (λ v. IsReversedArc m v l (copy_of base items s)) (sym e)
-              (edge s l (source_inside s l k (inr b)) h).1,
+                  (edge s l (source_inside s l k (inr b)) h).1,
             )
         sound x e (inr h) = inr (h.0, ap (λ v. node m v) e ∙ copy_is k (is.Match 0) kept (is_helper (is.Match 0) h.1))
 
@@ -567,7 +567,7 @@ module _ (a : Automaton) (turned : List State) (reached : List ℕ) (m : Nfa)
           copy_of base items k,
           inl refl,
           copy_is k (is.Match 0) kept
-          (is_helper (is.Match 0) (subst (λ v. IsHelper t v (is.Match 0)) (only w.0 w.1) w.2)),
+              (is_helper (is.Match 0) (subst (λ v. IsHelper t v (is.Match 0)) (only w.0 w.1) w.2)),
         )
 
     turned_at : (k : ℕ) → Kept k → (xs : List ℕ) × At k xs
@@ -680,7 +680,7 @@ module _ (a : Automaton) (turned : List State) (reached : List ℕ) (m : Nfa)
             w.1,
             w.2,
             part_only w.0 w.1 (part_at copies.parts w.0).base (part_at copies.parts w.0).items (copied_at w.0 w.1 w.2) x
-            w.3 w.4,
+                w.3 w.4,
           )
       only x false f l = let more = ltb-false x (length nodes) f in inl (omega (arith, more, l, long, r))
 

@@ -7,7 +7,7 @@ use Rattle.automata_base.specs.Haystacks.Looks.{Look, within}
 use Rattle.automata_base.specs.Nfas.Nfa.{Nfa, Node, Range, Split, Assert, Read, Accept, Truth, node, node_or_fail, hop}
 use Rattle.automata_base.specs.Nfas.Nfa.{hop_at, takes, takes_at, takes_in, accepts, accepts_at}
 use Rattle.automata_base.specs.Nfas.Mirrors.{flip, Label, Free, Asks, Reads, HasRange, HasArcAt, HasArc, IsAsking}
-use Rattle.automata_base.specs.Nfas.Mirrors.{IsEdgeTo, IsReversedArc, IsKept, IsReversedAt, IsPart, IsMirror, LeadsTo}
+use Rattle.automata_base.specs.Nfas.Mirrors.{IsEdgeTo, IsReversedArc, IsUseful, IsReversedAt, IsPart, IsMirror, LeadsTo}
 use Rattle.automata_base.proofs.Paths.Orders.{none_some, some_inj}
 use Rattle.automata_base.proofs.Paths.Sets.{nth_in, in_nth}
 use Rattle.automata_base.proofs.Nfas.Mirrors.Leads.{kept_back, kept_match, leads_here, leads_on}
@@ -152,7 +152,7 @@ module _ (n m : Nfa) (first root : ℕ) (entries : List ℕ)
 
     -- From an edge's target back to its source.
     back_hop :
-        (s t : ℕ) (l : Label) (k k' : ℕ) → IsKept n first p s → IsKept n first p t → k + k' ≡ J → HasArc n s l t
+        (s t : ℕ) (l : Label) (k k' : ℕ) → IsUseful n first p s → IsUseful n first p t → k + k' ≡ J → HasArc n s l t
         → Holds (A k) l → HasWay m B c k' (place t) k' (place s)
     back_hop s t l k k' ks kt e arc holds = go l arc holds (at.1.arcs s l ks arc)
       where
@@ -170,7 +170,7 @@ module _ (n m : Nfa) (first root : ℕ) (entries : List ℕ)
         go (Reads lo hi) arc holds w = absurd holds
 
     back_move :
-        (s t u lo hi k k' : ℕ) → IsKept n first p s → IsKept n first p t → suc (k + k') ≡ J → b k ≡ Some u
+        (s t u lo hi k k' : ℕ) → IsUseful n first p s → IsUseful n first p t → suc (k + k') ≡ J → b k ≡ Some u
         → HasArc n s (Reads lo hi) t → within lo hi u ≡ true → HasWay m B c k' (place t) (suc k') (place s)
     back_move s t u lo hi k k' ks kt e byte arc has =
         join m B c k' (place t) k' w.0 (suc k') (place s) (enters t k' w.0 at.0 at.1 w.1)
@@ -185,13 +185,13 @@ module _ (n m : Nfa) (first root : ℕ) (entries : List ℕ)
 
     -- A way forth to a kept state gives a way back.
     abbrev pub GoesBack : ℕ → ℕ → ℕ → ℕ → Type 0
-    GoesBack j' z i' q = IsKept n first p q × HasWay m B c j' (place z) i' (place q)
+    GoesBack j' z i' q = IsUseful n first p q × HasWay m B c j' (place z) i' (place q)
 
     pub turned_back :
-        (i q : ℕ) (path : List ℕ) (j z i' j' : ℕ) → LeadsTo n first q → IsKept n first p z → i + i' ≡ J → j + j' ≡ J
+        (i q : ℕ) (path : List ℕ) (j z i' j' : ℕ) → LeadsTo n first q → IsUseful n first p z → i + i' ≡ J → j + j' ≡ J
         → IsWay n A b i q path j z → GoesBack j' z i' q
     turned_back i q [] j z i' j' rq kz e f h = (
-      subst (λ v. IsKept n first p v) (sym h.1) kz,
+      subst (λ v. IsUseful n first p v) (sym h.1) kz,
       ([], (omega (arith, e, f, h.0), ap place (sym h.1))),
     )
     turned_back i q (e ∷ path) j z i' j' rq kz d f (inl h) =
@@ -203,7 +203,7 @@ module _ (n m : Nfa) (first root : ℕ) (entries : List ℕ)
         on : GoesBack j' z i' h.0 → GoesBack j' z i' q
         on g = (kq, join m B c j' (place z) i' (place h.0) i' (place q) g.1 (back_hop q h.0 l.0 i i' kq g.0 d l.1 l.2))
           where
-            kq : IsKept n first p q
+            kq : IsUseful n first p q
             kq = kept_back n first p q h.0 l.0 rq l.1 g.0
     turned_back i q (e ∷ path) j z i' j' rq kz d f (inr h) =
         go i' d (λ k g. turned_back (suc i) h.0 path j z k j' (leads_on n first q h.0 (Reads arc.0 arc.1) rq arc.2) kz g
@@ -226,14 +226,14 @@ module _ (n m : Nfa) (first root : ℕ) (entries : List ℕ)
             g : GoesBack j' z k h.0
             g = ih k (omega (arith, d))
 
-            kq : IsKept n first p q
+            kq : IsUseful n first p q
             kq = kept_back n first p q h.0 (Reads arc.0 arc.1) rq arc.2 g.0
 
     -- What a state of the part stands for: the state `t`, an edge that leads to `t`, or the match where paths begin.
     abbrev pub Stands : ℕ → ℕ → Type 0
     Stands x t =
         (x ≡ place t)
-        ⊎ (((s : ℕ) × (l : Label) × IsKept n first p s × HasArc n s l t × IsReversedArc m x l (place s))
+        ⊎ (((s : ℕ) × (l : Label) × IsUseful n first p s × HasArc n s l t × IsReversedArc m x l (place s))
         ⊎ ((t ≡ first) × (node m x ≡ Accept p)))
 
     abbrev pub Comes : ℕ → ℕ → ℕ → ℕ → Type 0
@@ -249,13 +249,13 @@ module _ (n m : Nfa) (first root : ℕ) (entries : List ℕ)
 
     abbrev pub Goes : List ℕ → Type 0
     Goes path =
-        (i x j z i' j' t p' : ℕ) → IsKept n first p t → i + i' ≡ J → j + j' ≡ J → Stands x t
+        (i x j z i' j' t p' : ℕ) → IsUseful n first p t → i + i' ≡ J → j + j' ≡ J → Stands x t
         → IsWay m B c i x path j z → accepts m z ≡ Some p' → Comes p' j' i' t
 
     -- From a state that stands for an edge that reads or asks.
     from_asking :
         (path : List ℕ) (e : ℕ) → Goes path → (l : Label)
-        → (i x j z i' j' s t p' : ℕ) → IsKept n first p s → i + i' ≡ J → j + j' ≡ J → HasArc n s l t → IsAsking l
+        → (i x j z i' j' s t p' : ℕ) → IsUseful n first p s → i + i' ≡ J → j + j' ≡ J → HasArc n s l t → IsAsking l
         → IsReversedArc m x l (place s) → IsWay m B c i x (e ∷ path) j z → accepts m z ≡ Some p' → Comes p' j' i' t
     from_asking path e ih Free i x j z i' j' s t p' ks d f arc asks turned w a = absurd asks
     from_asking path e ih (Asks look) i x j z i' j' s t p' ks d f arc asks turned (inl h) a =
@@ -294,7 +294,7 @@ module _ (n m : Nfa) (first root : ℕ) (entries : List ℕ)
     -- From a state that stands for `t`, once the first edge is known.
     from_place :
         (path : List ℕ) (e : ℕ) → Goes path
-        → (i x j z i' j' t p' : ℕ) → IsKept n first p t → i + i' ≡ J → j + j' ≡ J → x ≡ place t
+        → (i x j z i' j' t p' : ℕ) → IsUseful n first p t → i + i' ≡ J → j + j' ≡ J → x ≡ place t
         → IsWay m B c i x (e ∷ path) j z → accepts m z ≡ Some p' → Comes p' j' i' t
     from_place path e ih i x j z i' j' t p' kt d f same w a = go at.1.stands
       where
@@ -321,7 +321,7 @@ module _ (n m : Nfa) (first root : ℕ) (entries : List ℕ)
 
     from_edge :
         (path : List ℕ) (e : ℕ) → Goes path → (l : Label)
-        → (i x j z i' j' s t p' : ℕ) → IsKept n first p s → i + i' ≡ J → j + j' ≡ J → HasArc n s l t
+        → (i x j z i' j' s t p' : ℕ) → IsUseful n first p s → i + i' ≡ J → j + j' ≡ J → HasArc n s l t
         → IsReversedArc m x l (place s) → IsWay m B c i x (e ∷ path) j z → accepts m z ≡ Some p' → Comes p' j' i' t
     from_edge path e ih Free i x j z i' j' s t p' ks d f arc turned w a =
         comes_hop p' j' i i' s t Free d arc tt (from_place path e ih i x j z i' j' s p' ks d f turned w a)
@@ -347,7 +347,7 @@ module _ (n m : Nfa) (first root : ℕ) (entries : List ℕ)
         absurd (none_some (sym (ap accepts_at (ap (λ v. node m v) (sym same) ∙ turned)) ∙ a))
 
     stop_place :
-        (i j z i' j' t p' : ℕ) → IsKept n first p t → i + i' ≡ J → j + j' ≡ J → i ≡ j → place t ≡ z
+        (i j z i' j' t p' : ℕ) → IsUseful n first p t → i + i' ≡ J → j + j' ≡ J → i ≡ j → place t ≡ z
         → accepts m z ≡ Some p'
         → Comes p' j' i' t
     stop_place i j z i' j' t p' kt d f same here a = go at.1.stands
@@ -404,7 +404,7 @@ module _ (n m : Nfa) (first root : ℕ) (entries : List ℕ)
         lq : LeadsTo n first q
         lq = along 0 first w.0 J q (leads_here n first) w.1
 
-        kq : IsKept n first p q
+        kq : IsUseful n first p q
         kq = kept_match n first p q lq a
 
         goes : GoesBack 0 q J first
@@ -434,7 +434,7 @@ module _ (n m : Nfa) (first root : ℕ) (entries : List ℕ)
         absurd (not_split z part.enters.0 p' (ap (λ v. node m v) (sym w.1) ∙ part.enters.1.union) a)
     entry_forth (e ∷ path) p' z (inl h) a = (g.0, (q.0, g.1, q.2 ∙ ap Some (sym g.0)))
       where
-        q : (q : ℕ) × IsKept n first p q × (accepts n q ≡ Some p) × (h.0 ≡ place q)
+        q : (q : ℕ) × IsUseful n first p q × (accepts n q ≡ Some p) × (h.0 ≡ place q)
         q = part.enters.1.sound h.0 (hop_split m (B 0) entry part.enters.0 e h.0 part.enters.1.union h.1)
 
         g : Comes p' 0 J q.0
