@@ -249,16 +249,20 @@ module _ (a b : Automaton) (kind : MatchKind) (checked : IsChecked a) (into : Is
   both_alike = record {
     searches = record {
       answer =
-          λ way input o bytes.
-          (answer_carried d e There carried_there way input o bytes, answer_carried e d Back carried_back way input o
-          bytes);
+          λ way input o bytes. (
+            answer_carried d e There carried_there way input o bytes,
+            answer_carried e d Back carried_back way input o
+                bytes,
+          );
       truth =
           λ input o bytes.
           (match_carried d e There carried_there input o bytes, match_carried e d Back carried_back input o bytes);
       nearest =
-          λ way input o bytes.
-          (near_carried d e There carried_there way input o bytes, near_carried e d Back carried_back way input o
-          bytes);
+          λ way input o bytes. (
+            near_carried d e There carried_there way input o bytes,
+            near_carried e d Back carried_back way input o
+                bytes,
+          );
       farthest =
           λ way input o bytes.
           (far_carried d e There carried_there way input o bytes, far_carried e d Back carried_back way input o bytes);
@@ -271,13 +275,17 @@ module _ (a b : Automaton) (kind : MatchKind) (checked : IsChecked a) (into : Is
           λ input ms bytes.
           (spans_carried d e There carried_there input ms bytes, spans_carried e d Back carried_back input ms bytes);
       overlapping =
-          λ way input found bytes.
-          (walk_carried d e There carried_there way input found bytes, walk_carried e d Back carried_back way input
-          found bytes);
+          λ way input found bytes. (
+            walk_carried d e There carried_there way input found bytes,
+            walk_carried e d Back carried_back way input
+                found bytes,
+          );
       patterns =
-          λ input capacity given found bytes.
-          (set_carried d e There carried_there input capacity given found bytes, set_carried e d Back carried_back input
-          capacity given found bytes);
+          λ input capacity given found bytes. (
+            set_carried d e There carried_there input capacity given found bytes,
+            set_carried e d Back carried_back input
+                capacity given found bytes,
+          );
     };
     skipping = skipping_alike;
   }

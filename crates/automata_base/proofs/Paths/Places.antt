@@ -69,8 +69,13 @@ pub path_extend :
     → IsPathFrom n t i seen q p j b → Moves n t j b r → IsPathFrom n t (suc j) [] r s k z
     → IsPathFrom n t i seen q (p ++ (0 ∷ s)) k z
 path_extend n t i seen q [] j b r s k z h m g =
-    inr (r, refl, subst (λ v. Moves n t v q r) (sym h.0) (subst (λ v. Moves n t j v r) (sym h.1) m), subst
-    (λ v. IsPathFrom n t (suc v) [] r s k z) (sym h.0) g)
+    inr (
+      r,
+      refl,
+      subst (λ v. Moves n t v q r) (sym h.0) (subst (λ v. Moves n t j v r) (sym h.1) m),
+      subst
+          (λ v. IsPathFrom n t (suc v) [] r s k z) (sym h.0) g,
+    )
 path_extend n t i seen q (e ∷ p) j b r s k z (inl h) m g =
     inl (h.0, h.1, h.2, path_extend n t i (q ∷ seen) h.0 p j b r s k z h.3 m g)
 path_extend n t i seen q (e ∷ p) j b r s k z (inr h) m g =

@@ -21,9 +21,13 @@ pub pairs_map :
     (At At' : ℕ → List ℕ → Type 0) (k : ℕ) (pairs : List Pair)
     → ((i : ℕ) (patterns : List ℕ) → i < k → At i patterns → At' i patterns) → Pairs At k pairs → Pairs At' k pairs
 pairs_map At At' zero pairs f p = p
-pairs_map At At' (suc k) pairs f p =
-    (p.0, p.1, pairs_map At At' k p.0 (λ i patterns l. f i patterns (omega (arith, l))) p.2, f k p.1 (omega arith) p.3,
-    p.4)
+pairs_map At At' (suc k) pairs f p = (
+  p.0,
+  p.1,
+  pairs_map At At' k p.0 (λ i patterns l. f i patterns (omega (arith, l))) p.2,
+  f k p.1 (omega arith) p.3,
+  p.4,
+)
 
 -- The whole list of a walk.
 pub walk_right :
@@ -175,7 +179,7 @@ sel_first n t start pair rest (ReportsLeast p path one h) f = (
   path,
   subst (λ v. Accepts n t start pair.place v path) (sym (cons_head one)) h.accepted,
   λ j pattern other a. upto n t start pair.place p path f h (suc (length t.bytes)) j pattern other
-  (let k = accepting_inside n t start j pattern other a in omega (arith, k)) a,
+      (let k = accepting_inside n t start j pattern other a in omega (arith, k)) a,
 )
 
 -- A plain search.

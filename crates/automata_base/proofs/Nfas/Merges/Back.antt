@@ -143,8 +143,13 @@ module _ (n m : Nfa) (anchored : ℕ) (lists : List (List ℕ)) (t : Tape)
           subst (λ v. v < length n.nodes) (sym next) (assert_old n m anchored lists merged ranged z look r is) in
           let one = old_one (length n.nodes) lists h.0 c.0 c.1 l2 c.3 in (
             0 ∷ c.2,
-            (c.2, refl, refl, subst (λ v. Corresponds n m lists t other i v 0 c.2) next
-            (subst (λ v. Corresponds n m lists t other i h.0 v c.2) one.0 c.4)),
+            (
+              c.2,
+              refl,
+              refl,
+              subst (λ v. Corresponds n m lists t other i v 0 c.2) next
+                  (subst (λ v. Corresponds n m lists t other i h.0 v c.2) one.0 c.4),
+            ),
             inl (
               h.0,
               subst (λ v. hop_at v (truth n t i) 0 ≡ Some h.0) (sym is) f,
@@ -161,8 +166,17 @@ module _ (n m : Nfa) (anchored : ℕ) (lists : List (List ℕ)) (t : Tape)
       let c = ih (suc i) h.0 [] [] j w ends (λ q r i. absurd i) (λ q l. ((λ i. i), (λ i. i))) h.3 in
       let one = old_one (length n.nodes) lists h.0 c.0 c.1 (ranged.1 z h.2.0 h.0 took) c.3 in (
         0 ∷ c.2,
-        (h.2.0, h.0, c.2, h.1, refl, h.2.1, read, subst (λ v. Corresponds n m lists t other (suc i) h.0 v c.2) one.0
-        c.4),
+        (
+          h.2.0,
+          h.0,
+          c.2,
+          h.1,
+          refl,
+          h.2.1,
+          read,
+          subst (λ v. Corresponds n m lists t other (suc i) h.0 v c.2) one.0
+              c.4,
+        ),
         inr (h.0, refl, (h.2.0, h.2.1, took), subst (λ v. IsPathFrom n t (suc i) [] v c.2 j w) one.1 c.5),
       )
     where

@@ -151,7 +151,7 @@ module _ (n m : Nfa) (anchored : ℕ) (lists : List (List ℕ)) (t : Tape)
             inl (
               h.0,
               subst (λ v. hop_at v (truth m t i) 0 ≡ Some h.0) (sym (own ∙ is))
-              (hops_alike n m anchored lists merged (Assert look r) t i 0 ∙ f),
+                  (hops_alike n m anchored lists merged (Assert look r) t i 0 ∙ f),
               (λ i. h.2 ((same_cons (length n.nodes) seen met z same h.0 l2).1 i)),
               c.2,
             ),
@@ -221,10 +221,18 @@ module _ (n m : Nfa) (anchored : ℕ) (lists : List (List ℕ)) (t : Tape)
           read i y o s reads.0 (stood_for (length n.nodes) lists y) seen (z ∷ met) j w reads.1 for_list ends of h in (
             e,
             c.0 ∷ c.1,
-            (y, o, edge, part, inr
-            (far, subst
-            (λ v. Turns n m lists t (Corresponds n m lists t c.1) i v (stood_for (length n.nodes) lists y) o path c.0)
-            (sym reads.1) c.2)),
+            (
+              y,
+              o,
+              edge,
+              part,
+              inr (
+                far,
+                subst
+                    (λ v. Turns n m lists t (Corresponds n m lists t c.1) i v (stood_for (length n.nodes) lists y) o path c.0)
+                    (sym reads.1) c.2,
+              ),
+            ),
             inl (
               y,
               subst (λ v. hop_at v (truth m t i) e ≡ Some y) (sym is) edge,

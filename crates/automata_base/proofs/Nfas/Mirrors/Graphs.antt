@@ -184,9 +184,11 @@ step_free P M size t from to small i = record {
   sound = λ k x m. go k x (in_put t.lists to from k x m);
   arcs = on;
   reported = λ k m.
-      let w = i.reported k m in
-      (w.0, put_old t.lists to from k w.0 w.1,
-      (w.2.0, w.2.1 ∙ ap (λ n. n + w.2.0) (sym (put_length t.lists to from)), w.2.2));
+      let w = i.reported k m in (
+        w.0,
+        put_old t.lists to from k w.0 w.1,
+        (w.2.0, w.2.1 ∙ ap (λ n. n + w.2.0) (sym (put_length t.lists to from)), w.2.2),
+      );
 }
   where
     old :
@@ -211,7 +213,7 @@ step_free P M size t from to small i = record {
     on s k l (inr e) = (
       from,
       subst (λ v. InAt (put_at t.lists to from) v from) (sym e.2)
-      (put_new t.lists to from (subst (λ v. to < v) (sym i.whole) small)),
+          (put_new t.lists to from (subst (λ v. to < v) (sym i.whole) small)),
       subst (λ v. Stand (turn_free t from to) from v s) (sym e.1) (sym e.0),
     )
 
@@ -225,7 +227,7 @@ step_by P M size t from to label g small stands i = record {
   arcs = on;
   reported =
       λ k m. let w =
-          i.reported k m in (w.0, push_old t.lists to (next_of t) k w.0 w.1, helper_by t g to w.0 (is.Match 0) w.2);
+      i.reported k m in (w.0, push_old t.lists to (next_of t) k w.0 w.1, helper_by t g to w.0 (is.Match 0) w.2);
 }
   where
     old :
@@ -241,8 +243,13 @@ step_by P M size t from to label g small stands i = record {
         ⊎ (M k × IsHelper (turn_by t g to) x (is.Match 0))
     go k x (inl m) = old k x (i.sound k x m)
     go k x (inr e) =
-        inl (from, label, inr (refl, refl, e.0), stands (turn_by t g to) x
-        (subst (λ v. IsHelper (turn_by t g to) v g) (sym e.1) (helper_new t g to)))
+        inl (
+          from,
+          label,
+          inr (refl, refl, e.0),
+          stands (turn_by t g to) x
+              (subst (λ v. IsHelper (turn_by t g to) v g) (sym e.1) (helper_new t g to)),
+        )
 
     on :
         (s k : ℕ) (l : Label) → And P from label to s l k
@@ -252,7 +259,7 @@ step_by P M size t from to label g small stands i = record {
     on s k l (inr e) = (
       (next_of t),
       subst (λ v. InAt (push_at t.lists to (next_of t)) v (next_of t)) (sym e.2)
-      (push_new t.lists to (next_of t) (subst (λ v. to < v) (sym i.whole) small)),
+          (push_new t.lists to (next_of t) (subst (λ v. to < v) (sym i.whole) small)),
       subst (λ v. Stand (turn_by t g to) (next_of t) v s) (sym e.1)
           (subst (λ v. Stand (turn_by t g to) (next_of t) label v) (sym e.0)
           (stands (turn_by t g to) (next_of t) (helper_new t g to))),
@@ -502,5 +509,8 @@ graph_report P size t first small i = record {
         ⊎ ((k ≡ first) × IsHelper (turn_by t (is.Match 0) first) x (is.Match 0))
     go k x (inl m) = old k x (i.sound k x m)
     go k x (inr e) =
-        inr (e.0, subst (λ v. IsHelper (turn_by t (is.Match 0) first) v (is.Match 0)) (sym e.1)
-        (helper_new t (is.Match 0) first))
+        inr (
+          e.0,
+          subst (λ v. IsHelper (turn_by t (is.Match 0) first) v (is.Match 0)) (sym e.1)
+              (helper_new t (is.Match 0) first),
+        )

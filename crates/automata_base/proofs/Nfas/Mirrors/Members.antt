@@ -201,9 +201,11 @@ module _ (states : List State) (p : ℕ) where
           (b : Bool) → reported_by x ≡ b → In q (cond b (x ∷ matches_in states p xs) (matches_in states p xs))
           → (In q (matches_in states p xs) → In q xs × (accepts_at (node_of (get_or states q is.Fail)) ≡ Some p))
           → In q (x ∷ xs) × (accepts_at (node_of (get_or states q is.Fail)) ≡ Some p)
-      go true t (inl e) ih =
-          (inl e, ap (λ v. accepts_at (node_of (get_or states v is.Fail))) e
-          ∙ one_is (accepts_at (node_of (get_or states x is.Fail))) t)
+      go true t (inl e) ih = (
+        inl e,
+        ap (λ v. accepts_at (node_of (get_or states v is.Fail))) e
+            ∙ one_is (accepts_at (node_of (get_or states x is.Fail))) t,
+      )
       go true t (inr j) ih = let w = ih j in (inr w.0, w.1)
       go false t j ih = let w = ih j in (inr w.0, w.1)
 

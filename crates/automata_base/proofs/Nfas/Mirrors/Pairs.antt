@@ -229,9 +229,11 @@ module _ (a b : Automaton) (kind : MatchKind) (checked : IsChecked a) (reversed 
             back_root_of a b checked reversed
             (truth (nfa_of a) (forward_tape h i j)) (truth (nfa_of b) (reverse_tape h i j))
             (slice_get (forward_tape h i j).bytes) (slice_get (reverse_tape h i j).bytes) (j - i)
-            turn p (entry s.1.0 p s.1.2).0 (entry s.1.0 p s.1.2).1
-            (s.1.0, (s.0, path_way (nfa_of a) (forward_tape h i j) 0 [] a.start_anchored s.0 (j - i) s.1.0 s.1.1),
-            s.1.2)
+            turn p (entry s.1.0 p s.1.2).0 (entry s.1.0 p s.1.2).1 (
+              s.1.0,
+              (s.0, path_way (nfa_of a) (forward_tape h i j) 0 [] a.start_anchored s.0 (j - i) s.1.0 s.1.1),
+              s.1.2,
+            )
 
         path : HasPath (nfa_of b) (reverse_tape h i j) 0 b.start_anchored (j - i) back.0
         path = way_path (nfa_of b) (reverse_tape h i j) 0 b.start_anchored back.1.0 (j - i) back.0 back.1.1
@@ -364,15 +366,18 @@ module _ (a b : Automaton) (checked : IsChecked a) (reversed : IsReversed a b) (
           back_entry_of a b checked reversed
           (truth (nfa_of a) (forward_tape h i j)) (truth (nfa_of b) (reverse_tape h i j))
           (slice_get (forward_tape h i j).bytes) (slice_get (reverse_tape h i j).bytes) (j - i)
-          pattern_turn pattern entry (ap (λ v. slice_get b.start_pattern v) s.0 ∙ at)
-          (s.1.1.0,
-          (s.1.0, path_way (nfa_of a) (forward_tape h i j) 0 [] a.start_anchored s.1.0 (j - i) s.1.1.0 s.1.1.1),
-          s.1.1.2)
+          pattern_turn pattern entry (ap (λ v. slice_get b.start_pattern v) s.0 ∙ at) (
+            s.1.1.0,
+            (s.1.0, path_way (nfa_of a) (forward_tape h i j) 0 [] a.start_anchored s.1.0 (j - i) s.1.1.0 s.1.1.1),
+            s.1.1.2,
+          )
 
       path : HasPath (nfa_of b) (reverse_tape h i j) 0 entry (j - i) back.0
       path = way_path (nfa_of b) (reverse_tape h i j) 0 entry back.1.0 (j - i) back.0 back.1.1
 
 pub mirror_patterns : (a b : Automaton) → IsChecked a → IsReversed a b → IsReversedByPattern a b
-mirror_patterns a b checked reversed k entry at h i j pattern l w =
-    (pattern_forth a b checked reversed k entry at h i j pattern l w, pattern_back a b checked reversed k entry at h i j
-    pattern l w)
+mirror_patterns a b checked reversed k entry at h i j pattern l w = (
+  pattern_forth a b checked reversed k entry at h i j pattern l w,
+  pattern_back a b checked reversed k entry at h i j
+      pattern l w,
+)
