@@ -29,7 +29,7 @@ use Rattle.automata_base.proofs.Answers.Carried.{IsCarried, tape_bytes, answer_c
 use Rattle.automata_base.proofs.Answers.Carried.{far_carried}
 use Rattle.automata_base.proofs.Answers.Carried.{walk_carried, set_carried, span_carried, spans_carried}
 use Rattle.automata_base.proofs.Nfas.Merges.Back.{path_back}
-use Rattle.automata_base.proofs.Nfas.Merges.Comparing.{Compares, IsBeginning, IsHead, before_from, before_to}
+use Rattle.automata_base.proofs.Nfas.Merges.Comparing.{Compares, IsBeginning, IsPrefix, before_from, before_to}
 use Rattle.automata_base.proofs.Nfas.Merges.Comparing.{begins_from}
 use Rattle.automata_base.proofs.Nfas.Merges.Comparing.{begins_to, both_ways, equal_from, equal_to, head_from, head_to}
 use Rattle.automata_base.proofs.Nfas.Merges.Comparing.{same_head}
@@ -52,7 +52,7 @@ IsFirstOn n t start on path place =
 module _ (n m : Nfa) (t : Tape) (start on : ℕ) (R : List ℕ → List ℕ → Type 0)
     (there : (i : ℕ) (a : List ℕ) → IsPath n t start i on a → (b : List ℕ) × R a b × IsPath m t start i on b)
     (back : (i : ℕ) (b : List ℕ) → IsPath m t start i on b → (a : List ℕ) × R a b × IsPath n t start i on a)
-    (heads : (a b c d : List ℕ) → R a b → R c d → IsHead a c → IsHead b d)
+    (heads : (a b c d : List ℕ) → R a b → R c d → IsPrefix a c → IsPrefix b d)
     (beginnings : (a b c d : List ℕ) → R a b → R c d → IsBeginning b d → IsBeginning a c) where
   first_on : (a b : List ℕ) (place : ℕ) → R a b → IsFirstOn n t start on a place → IsFirstOn m t start on b place
   first_on a b place r (head, rest, e, path, none) =

@@ -48,8 +48,7 @@ pub data Label : Type 0 where
 
 -- One of the ranges is this one.
 abbrev pub HasRange : List Range → (lo hi next : ℕ) → Type 0
-HasRange [] lo hi next = ⊥
-HasRange (r ∷ rs) lo hi next = ((r.lo ≡ lo) × (r.hi ≡ hi) × (r.next ≡ next)) ⊎ HasRange rs lo hi next
+HasRange ranges lo hi next = (k : ℕ) × (slice_get ranges k ≡ Some (record { lo = lo; hi = hi; next = next }))
 
 -- The node has an edge with that label to `next`.
 abbrev pub HasArcAt : Node → Label → ℕ → Type 0
@@ -96,6 +95,10 @@ IsAsking Free = ⊥
 IsAsking (Asks look) = Unit {0}
 IsAsking (Reads lo hi) = Unit {0}
 
+-- The edge may be of any kind.
+abbrev pub IsAnyLabel : Label → Type 0
+IsAnyLabel l = Unit {0}
+
 -- The node is a union, or a capture or a fail state, which paths see as unions.
 abbrev pub IsUnion : Node → Type 0
 IsUnion (Split alternates) = Unit {0}
@@ -103,23 +106,31 @@ IsUnion (Assert look next) = ⊥
 IsUnion (Read ranges) = ⊥
 IsUnion (Accept p) = ⊥
 
--- The state stands for an edge to `t` that reads a byte or asks a look, or for the match where paths begin.
-abbrev pub IsEdgeTo : (n m : Nfa) → (first p : ℕ) → (place : ℕ → ℕ) → (t x : ℕ) → Type 0
-IsEdgeTo n m first p place t x =
-    ((s : ℕ) × (l : Label) × IsUseful n first p s × HasArc n s l t × IsAsking l × IsReversedArc m x l (place s))
-    ⊎ ((t ≡ first) × (node m x ≡ Accept p))
+-- The state stands for an edge to `t`, or for the match where paths begin. `Kind` says which edges are meant.
+pub data IsEdgeTo (n m : Nfa) (first p : ℕ) (place : ℕ → ℕ) (Kind : Label → Type 0) (t x : ℕ) : Type 0 where
+  -- it stands for an edge of that kind, from a useful state to `t`
+  TurnsArc :
+      (s : ℕ) (l : Label) → IsUseful n first p s → HasArc n s l t → Kind l → IsReversedArc m x l (place s)
+      → IsEdgeTo n m first p place Kind t x
+  -- paths begin at `t`, and it is a match of the pattern
+  EndsPath : t ≡ first → node m x ≡ Accept p → IsEdgeTo n m first p place Kind t x
+
+-- What the state for `t` has to do with those that its reversed edges make.
+pub data IsOfEdges (n m : Nfa) (first p : ℕ) (place : ℕ → ℕ) (t : ℕ) (xs : List ℕ) : Type 0 where
+  -- it is the union of them
+  JoinsEdges : node m (place t) ≡ Split xs → IsOfEdges n m first p place t xs
+  -- it is the only one of them
+  IsOnlyEdge :
+      xs ≡ place t ∷ [] → IsEdgeTo n m first p place IsAsking t (place t) → IsOfEdges n m first p place t xs
 
 -- Among the states for the pattern `p`, where `place q` stands for `q`: the state that stands for `t` is the union of
 -- the reversed edges to `t`, and of a match where paths begin at `t`; or it is the only one of these itself. None of
 -- them repeats, and no two of them read, test or match the same and go on to the same state.
 pub record IsReversedAt (n m : Nfa) (first p : ℕ) (place : ℕ → ℕ) (t : ℕ) (xs : List ℕ) : Type 0 where
   -- the state for `t` is the union of these states, or is the only one of them
-  pub stands : (node m (place t) ≡ Split xs) ⊎ ((xs ≡ place t ∷ []) × IsEdgeTo n m first p place t (place t))
+  pub stands : IsOfEdges n m first p place t xs
   -- each of them is a reversed edge to `t`, or a match if paths begin at `t`
-  pub sound :
-      (x : ℕ) → In x xs
-      → ((s : ℕ) × (l : Label) × IsUseful n first p s × HasArc n s l t × IsReversedArc m x l (place s))
-      ⊎ ((t ≡ first) × (node m x ≡ Accept p))
+  pub sound : (x : ℕ) → In x xs → IsEdgeTo n m first p place IsAnyLabel t x
   -- each edge to `t` from a state that is kept is reversed to one of them
   pub arcs :
       (s : ℕ) (l : Label) → IsUseful n first p s → HasArc n s l t
@@ -149,12 +160,26 @@ pub record IsPart (n m : Nfa) (first p entry : ℕ) (place : ℕ → ℕ) : Type
   -- each state that is kept has its state, with the reversed edges
   pub turned : (t : ℕ) → IsUseful n first p t → (xs : List ℕ) × IsReversedAt n m first p place t xs
 
--- The state is the entry, or stands for a state that is kept, or is an alternate of one that does.
-abbrev pub IsOfPart : (n m : Nfa) → (first p entry : ℕ) → (place : ℕ → ℕ) → (x : ℕ) → Type 0
-IsOfPart n m first p entry place x =
-    (x ≡ entry)
-    ⊎ ((t : ℕ) × IsUseful n first p t
-    × ((x ≡ place t) ⊎ ((xs : List ℕ) × (node m (place t) ≡ Split xs) × In x xs)))
+-- What a state of the part for the pattern `p` is.
+pub data IsOfPart (n m : Nfa) (first p entry : ℕ) (place : ℕ → ℕ) (x : ℕ) : Type 0 where
+  -- the entry
+  IsEntryOf : x ≡ entry → IsOfPart n m first p entry place x
+  -- the one that stands for a useful state
+  IsPlaceOf : (t : ℕ) → IsUseful n first p t → x ≡ place t → IsOfPart n m first p entry place x
+  -- an alternate of one that does
+  IsAlternateOf :
+      (t : ℕ) (xs : List ℕ) → IsUseful n first p t → node m (place t) ≡ Split xs → In x xs
+      → IsOfPart n m first p entry place x
+
+-- What a state of a reversed NFA is. `place p q` is the state for `q` in the part for the pattern `p`.
+pub data IsOfMirror (n m : Nfa) (first : ℕ) (entries : List ℕ) (root : ℕ) (place : (p q : ℕ) → ℕ) (x : ℕ) : Type 0
+  where
+    -- the root
+    IsRootOf : x ≡ root → IsOfMirror n m first entries root place x
+    -- a state of the part for a pattern
+    IsInPart :
+        (p entry : ℕ) → slice_get entries p ≡ Some entry → IsOfPart n m first p entry (place p) x
+        → IsOfMirror n m first entries root place x
 
 -- `m` is `n` reversed: it has a part for each pattern, whose paths begin at its entry, and at the root those of all.
 -- `place p q` is the state for `q` in the part for the pattern `p`. There are no other states.
@@ -172,10 +197,7 @@ pub record IsMirror (n m : Nfa) (first : ℕ) (entries : List ℕ) (root : ℕ) 
   -- each pattern has a part, whose backward paths begin at its entry
   pub parts : (p entry : ℕ) → slice_get entries p ≡ Some entry → IsPart n m first p entry (place p)
   -- there are no other states than the root and those of the parts
-  pub only :
-      (x : ℕ) → x < length m.nodes
-      → (x ≡ root)
-      ⊎ ((p entry : ℕ) × (slice_get entries p ≡ Some entry) × IsOfPart n m first p entry (place p) x)
+  pub only : (x : ℕ) → x < length m.nodes → IsOfMirror n m first entries root place x
 
 -- The flags of the reversed NFA.
 abbrev pub reversed_flags : Flags → Flags
@@ -193,8 +215,13 @@ pub record IsReversed (a b : Automaton) : Type 0 where
   pub mirror : IsMirror (ranged_nfa a) (nfa_of b) a.start_anchored b.start_pattern b.start_anchored
 
 -- Searches of the NFA begin at the state.
-abbrev pub BeginsAt : Automaton → ℕ → Type 0
-BeginsAt a start = (start ≡ a.start_anchored) ⊎ ((start ≡ a.start_unanchored) ⊎ In start a.start_pattern)
+pub data BeginsAt (a : Automaton) (start : ℕ) : Type 0 where
+  -- anchored ones
+  BeginsHere : start ≡ a.start_anchored → BeginsAt a start
+  -- unanchored ones
+  BeginsAnywhere : start ≡ a.start_unanchored → BeginsAt a start
+  -- those for one pattern
+  BeginsByPattern : In start a.start_pattern → BeginsAt a start
 
 -- A path accepts the pattern at place `i` of the tape.
 abbrev pub AcceptsFrom : Automaton → Tape → (start i pattern : ℕ) → Type 0

@@ -28,13 +28,20 @@ AreTargetsOf Stands [] targets = targets ≡ []
 AreTargetsOf Stands (x ∷ xs) targets =
     (own rest : List ℕ) × Stands x own × AreTargetsOf Stands xs rest × (targets ≡ own ++ rest)
 
--- The state is kept and is the only target; or it is a union that was made, and its alternates stand for the targets,
--- in at most `depth` steps.
+-- How a state stands for the targets, where `Stand` says which states stand for them together.
+pub data IsStandIn (free : List ℕ) (made : List Node) (Stand : List ℕ → Type 0) (state : ℕ) (targets : List ℕ) : Type 0
+  where
+    -- it is none of the free ones, and the only target
+    IsTheTarget : IsNotFree free state → targets ≡ state ∷ [] → IsStandIn free made Stand state targets
+    -- it is a union that was made, and its alternates stand for them
+    JoinsStandIns :
+        (xs : List ℕ) → IsMade free made state (Split xs) → Stand xs → IsStandIn free made Stand state targets
+
+-- The state stands for the targets: it leads to them over unions that were made, in at most `depth` steps.
 abbrev pub StandsFor : (free : List ℕ) → (made : List Node) → (depth state : ℕ) → (targets : List ℕ) → Type 0
-StandsFor free made zero state targets = IsNotFree free state × (targets ≡ state ∷ [])
+StandsFor free made zero state targets = IsStandIn free made (λ xs. ⊥) state targets
 StandsFor free made (suc depth) state targets =
-    (IsNotFree free state × (targets ≡ state ∷ []))
-    ⊎ ((xs : List ℕ) × IsMade free made state (Split xs) × AreTargetsOf (StandsFor free made depth) xs targets)
+    IsStandIn free made (λ xs. AreTargetsOf (StandsFor free made depth) xs targets) state targets
 
 -- No state stands for no targets, and a state for those that it leads to in some number of steps.
 abbrev pub StandsIfAny : (free : List ℕ) → (made : List Node) → Option ℕ → (targets : List ℕ) → Type 0
@@ -71,11 +78,14 @@ pub record IsFoldedUnion (n : Nfa) (free : List ℕ) (made : List Node) (xs : Li
       → In x stay
       ⊎ ((own : List Range) × (node n x ≡ Read own) × ((u t : ℕ) → takes_in own u ≡ Some t → In t (targets u)))
 
--- The node is as it was and leads to none of the free states without reading, or it was a union and is folded.
-abbrev pub IsFoldedNode : Nfa → (free : List ℕ) → (made : List Node) → (old new : Node) → Type 0
-IsFoldedNode n free made old new =
-    ((new ≡ old) × ((A : Truth) (e y : ℕ) → hop_at old A e ≡ Some y → IsNotFree free y))
-    ⊎ ((xs : List ℕ) × (old ≡ Split xs) × IsFoldedUnion n free made xs new)
+-- What becomes of a node.
+pub data IsFoldedNode (n : Nfa) (free : List ℕ) (made : List Node) (old new : Node) : Type 0 where
+  -- it is as it was, and leads to none of the free states without reading
+  StaysNode :
+      new ≡ old → ((A : Truth) (e y : ℕ) → hop_at old A e ≡ Some y → IsNotFree free y)
+      → IsFoldedNode n free made old new
+  -- it was a union and is folded
+  FoldsNode : (xs : List ℕ) → old ≡ Split xs → IsFoldedUnion n free made xs new → IsFoldedNode n free made old new
 
 -- The states of `m` are those of `n`, of which some unions are folded, and the free ones are made anew.
 pub record IsFolded (n m : Nfa) (free : List ℕ) (made : List Node) : Type 0 where
@@ -103,10 +113,21 @@ abbrev pub ReadsRange : List State → (x : ℕ) → Transition → Type 0
 ReadsRange states x range = (state : State) × (slice_get states x ≡ Some state) × (range_read state ≡ Some range)
 
 -- One of the states `xs` reads a range that has the byte, and leads to the target.
-abbrev pub SomeReads : List State → (xs : List ℕ) → (u target : ℕ) → Type 0
-SomeReads states xs u target =
-    (x : ℕ) × (range : Transition) × In x xs × ReadsRange states x range × (range.next ≡ target) × (range.lo ≤ u)
-    × (u ≤ range.hi)
+pub record SomeReads (states : List State) (xs : List ℕ) (u target : ℕ) : Type 0 where
+  -- the state
+  pub state : ℕ
+  -- the range that it reads
+  pub range : Transition
+  -- it is one of them
+  pub among : In state xs
+  -- it reads that range
+  pub reads : ReadsRange states state range
+  -- which leads to the target
+  pub leads : range.next ≡ target
+  -- the range begins no later than the byte
+  pub begins : range.lo ≤ u
+  -- and ends no sooner
+  pub ends : u ≤ range.hi
 
 -- Whether a state is a union that may be folded: it has many alternates.
 abbrev pub is_large : Node → Bool
@@ -151,13 +172,15 @@ abbrev pub is_large_state : Option State → Bool
 is_large_state None = false
 is_large_state (Some state) = is_large (node_of state)
 
--- The state is as it was, or it was a union and is folded.
-abbrev pub IsFoldedState :
-    (states : List State) → (free : List ℕ) → (made : List Node) → (old new : Option State) → Type 0
-IsFoldedState states free made old new =
-    ((new ≡ old) × (is_large_state old ≡ false))
-    ⊎ ((alternates : Vec ℕ Global) × (folded : State) × (old ≡ Some (is.Union alternates)) × (new ≡ Some folded)
-    × IsFoldOf states free made alternates.items (node_of folded) × (range_read folded ≡ None))
+-- What becomes of a state.
+pub data IsFoldedState (states : List State) (free : List ℕ) (made : List Node) (old new : Option State) : Type 0 where
+  -- it is as it was, and no union that may be folded
+  StaysState : new ≡ old → is_large_state old ≡ false → IsFoldedState states free made old new
+  -- it was a union and is folded, to a state that reads no range
+  FoldsState :
+      (alternates : Vec ℕ Global) (folded : State) → old ≡ Some (is.Union alternates) → new ≡ Some folded
+      → IsFoldOf states free made alternates.items (node_of folded) → range_read folded ≡ None
+      → IsFoldedState states free made old new
 
 -- The state is the union of these.
 abbrev pub IsUnionOf : State → (list : List ℕ) → Type 0
@@ -175,10 +198,17 @@ pub record AreFolded (old new : List State) (free : List ℕ) (made : List Node)
   pub reads : (x : ℕ) → In x free → (range : Transition) × ReadsRange old x range
 
 -- The new states are the old ones with unions folded, and the root and the entries are kept.
-abbrev pub IsFoldedFrom : (old new : List State) → (root : ℕ) → (entries : List ℕ) → Type 0
-IsFoldedFrom old new root entries =
-    (free : List ℕ) × (made : List Node) × AreFolded old new free made × IsNotFree free root
-    × ((e : ℕ) → In e entries → IsNotFree free e)
+pub record IsFoldedFrom (old new : List State) (root : ℕ) (entries : List ℕ) : Type 0 where
+  -- the states that are made anew
+  pub free : List ℕ
+  -- what is made of them
+  pub made : List Node
+  -- unions are folded over these
+  pub folded : AreFolded old new free made
+  -- the root is kept
+  pub rooted : IsNotFree free root
+  -- and so is each entry
+  pub entered : (e : ℕ) → In e entries → IsNotFree free e
 
 -- If the state of this number is a union, its alternates are states.
 abbrev pub IsUnionBelow : List State → (x : ℕ) → Type 0

@@ -1,12 +1,13 @@
 -- What reads like a reversed NFA is its other half of a true pair.
-use Rattle.std.proofs.Common.{ℕ, ◌≡◌, ◌-◌, ◌↔◌, List, [], Some, inl, inr, refl, sym, ap, ◌∙◌, subst}
+use Rattle.std.proofs.Common.{ℕ, ◌≡◌, ◌-◌, ◌↔◌, List, [], Some, refl, sym, ap, ◌∙◌, subst}
 use Rattle.std.specs.Prelude.{slice_get}
 use Rattle.automata_base.specs.declared.nfa.thompson.Flags.{Flags}
 use Rattle.automata_base.specs.declared.nfa.thompson.State.{State}
 use Rattle.automata_base.specs.Lists.{In}
 use Rattle.automata_base.specs.Nfas.Automata.{automaton}
 use Rattle.automata_base.specs.Nfas.Engines.{MatchesEmpty, engine_of}
-use Rattle.automata_base.specs.Nfas.Mirrors.{ReadsAlike, AcceptsFrom, BeginsAt}
+use Rattle.automata_base.specs.Nfas.Mirrors.{ReadsAlike, AcceptsFrom, BeginsAt, BeginsHere, BeginsAnywhere}
+use Rattle.automata_base.specs.Nfas.Mirrors.{BeginsByPattern}
 use Rattle.automata_base.specs.Nfas.Mirrors.{PatternsAreReversed, ReversedIsTrue}
 use Rattle.automata_base.specs.Nfas.Nfa.{Node}
 use Rattle.automata_base.specs.Nfas.Nodes.{Automaton, nfa_of}
@@ -40,13 +41,13 @@ reversed_true a b kind checked r alike lazy = record {
         → Joins Backward (engine_of b All) h i j p
     forth h i j p s =
         subst (λ v. AcceptsFrom b (reverse_tape h i j) v (j - i) p) (sym r.alike.anchored)
-        ((r.alike.accepts r.mirror.start_anchored (inl refl) (reverse_tape h i j) (j - i) p).0 s)
+        ((r.alike.accepts r.mirror.start_anchored (BeginsHere refl) (reverse_tape h i j) (j - i) p).0 s)
 
     back :
         (h : List ℕ) (i j p : ℕ) → Joins Backward (engine_of b All) h i j p
         → Joins Backward (engine_of r.mirror All) h i j p
     back h i j p s =
-        (r.alike.accepts r.mirror.start_anchored (inl refl) (reverse_tape h i j) (j - i) p).1
+        (r.alike.accepts r.mirror.start_anchored (BeginsHere refl) (reverse_tape h i j) (j - i) p).1
         (subst (λ v. AcceptsFrom b (reverse_tape h i j) v (j - i) p) r.alike.anchored s)
 
 pub patterns_turned : PatternsAreReversed
@@ -67,7 +68,8 @@ patterns_turned a b checked r k entry at h i j pattern l w = (
         AcceptsFrom r.mirror (reverse_tape h i j) entry (j - i) pattern
         ↔ AcceptsFrom b (reverse_tape h i j) entry (j - i) pattern
     reads =
-        r.alike.accepts entry (inr (inr (nth_in r.mirror.start_pattern k entry mirrored))) (reverse_tape h i j) (j - i)
+        r.alike.accepts entry (BeginsByPattern (nth_in r.mirror.start_pattern k entry mirrored))
+        (reverse_tape h i j) (j - i)
         pattern
 
 -- The NFA itself reads like it.
@@ -94,9 +96,9 @@ module _ (states folded : List State) (root : ℕ) (entries : List ℕ) (flags :
   Folded = automaton folded root root entries flags
 
   below : (start : ℕ) → BeginsAt Plain start → IsNotFree free start
-  below start (inl e) = subst (λ v. IsNotFree free v) (sym e) low
-  below start (inr (inl e)) = subst (λ v. IsNotFree free v) (sym e) low
-  below start (inr (inr k)) = entered start k
+  below start (BeginsHere e) = subst (λ v. IsNotFree free v) (sym e) low
+  below start (BeginsAnywhere e) = subst (λ v. IsNotFree free v) (sym e) low
+  below start (BeginsByPattern k) = entered start k
 
   reach :
       (start : ℕ) → IsNotFree free start → (t : Tape) (i p : ℕ) → AcceptsFrom Plain t start i p

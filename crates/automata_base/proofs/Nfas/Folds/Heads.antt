@@ -11,6 +11,7 @@ use Rattle.automata_base.proofs.Powersets.Walking.{nodes_length}
 use Rattle.automata_base.specs.Lists.{In, cons_some}
 use Rattle.automata_base.specs.Nfas.Nfa.{Node, Split}
 use Rattle.automata_base.specs.Retraced.Folds.{AreTreeHeads, AreTargetsOf, IsNotFree, IsMade, StandsFor, StandsIfAny}
+use Rattle.automata_base.specs.Retraced.Folds.{IsTheTarget, JoinsStandIns}
 use Rattle.automata_base.specs.Retraced.ReversedEdges.{list_at}
 use Rattle.automata_base.specs.Retraced.Segments.{above, IsOnWay, head_or_none}
 use Rattle.automata_base.proofs.Nfas.Mirrors.Copies.{nth_more, nth_last}
@@ -31,14 +32,13 @@ targets_more S T (x ∷ xs) ts f h = (h.0, h.1, f x h.0 h.2, targets_more S T xs
 pub stands_more :
     (free : List ℕ) (made more : List Node) (d z : ℕ) (ts : List ℕ) → StandsFor free made d z ts
     → StandsFor free (made ++ more) d z ts
-stands_more free made more zero z ts h = h
-stands_more free made more (suc d) z ts (inl h) = inl h
-stands_more free made more (suc d) z ts (inr h) = inr (
-  h.0,
-  made_more free made more z (Split h.0) h.1,
-  targets_more (StandsFor free made d) (StandsFor free (made ++ more) d) h.0 ts
-      (λ x own k. stands_more free made more d x own k) h.2,
-)
+stands_more free made more zero z ts (IsTheTarget k e) = IsTheTarget k e
+stands_more free made more zero z ts (JoinsStandIns xs m h) = absurd h
+stands_more free made more (suc d) z ts (IsTheTarget k e) = IsTheTarget k e
+stands_more free made more (suc d) z ts (JoinsStandIns xs m h) =
+    JoinsStandIns xs (made_more free made more z (Split xs) m)
+    (targets_more (StandsFor free made d) (StandsFor free (made ++ more) d) xs ts
+    (λ x own k. stands_more free made more d x own k) h)
 
 pub any_more :
     (free : List ℕ) (made more : List Node) (o : Option ℕ) (ts : List ℕ) → StandsIfAny free made o ts
@@ -48,8 +48,8 @@ any_more free made more (Some z) ts h = (h.0, stands_more free made more h.0 z t
 
 -- A kept state stands for itself.
 kept_stands : (free : List ℕ) (made : List Node) (d z : ℕ) → IsNotFree free z → StandsFor free made d z (z ∷ [])
-kept_stands free made zero z k = (k, refl)
-kept_stands free made (suc d) z k = inl (k, refl)
+kept_stands free made zero z k = IsTheTarget k refl
+kept_stands free made (suc d) z k = IsTheTarget k refl
 
 -- Kept states, and a state that stands for others.
 kept_then :
@@ -89,13 +89,10 @@ pub union_stands :
     → IsMade free new id x → AreTargetsOf (StandsFor free made d) xs ts → StandsIfAny free new (Some id) ts
 union_stands free made new x d id xs ts e s m h = (
   suc d,
-  inr (
-    xs,
-    subst (λ v. IsMade free new id v) s m,
-    subst (λ v. AreTargetsOf (StandsFor free v d) xs ts) (sym e)
-        (targets_more (StandsFor free made d) (StandsFor free (made ++ x ∷ []) d) xs ts
-        (λ y own k. stands_more free made (x ∷ []) d y own k) h),
-  ),
+  JoinsStandIns xs (subst (λ v. IsMade free new id v) s m)
+      (subst (λ v. AreTargetsOf (StandsFor free v d) xs ts) (sym e)
+      (targets_more (StandsFor free made d) (StandsFor free (made ++ x ∷ []) d) xs ts
+      (λ y own k. stands_more free made (x ∷ []) d y own k) h)),
 )
 
 -- The way of a node is the node, and the way of the one above it.

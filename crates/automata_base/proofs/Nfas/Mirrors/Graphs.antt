@@ -17,6 +17,7 @@ use Rattle.automata_base.specs.Retraced.ReversedEdges.{turn_by, turn_all}
 use Rattle.automata_base.specs.Retraced.ReversedEdges.{turn_ranges, turn_state, turn_states}
 use Rattle.automata_base.proofs.Nfas.Mirrors.Lists.{push_length, put_length, ends_member}
 use Rattle.automata_base.proofs.Nfas.Mirrors.Runs.{runs_below}
+use Rattle.automata_base.proofs.Paths.Orders.{none_some, some_inj}
 use Rattle.automata_base.proofs.Paths.Walks.{in_left, in_either}
 use Rattle.std.proofs.lemmas.Bool.{ltb-true}
 use Rattle.std.specs.Prelude.{Bool, true, false, cond, ltb, ◌&&◌, slice_index_or, slice_get}
@@ -347,7 +348,7 @@ module _ (M : ℕ → Type 0) (size from : ℕ) where
   no_read : (l : Label) (k : ℕ) → HasArcAt (Read []) l k → ⊥
   no_read Free k h = h
   no_read (Asks look) k h = h
-  no_read (Reads lo hi) k h = h
+  no_read (Reads lo hi) k h = none_some h.1
 
   read_apart :
       (a b next : ℕ) (rs : List Range) (l : Label) (k : ℕ)
@@ -355,15 +356,20 @@ module _ (M : ℕ → Type 0) (size from : ℕ) where
       → HasArcAt (Read rs) l k ⊎ ((l ≡ Reads a b) × (k ≡ next))
   read_apart a b next rs Free k h = absurd h
   read_apart a b next rs (Asks look) k h = absurd h
-  read_apart a b next rs (Reads lo hi) k (inl e) = inr (ap₂ Reads (sym e.0) (sym e.1), sym e.2)
-  read_apart a b next rs (Reads lo hi) k (inr h) = inl h
+  read_apart a b next rs (Reads lo hi) k (zero, e) =
+      let r = some_inj e in
+      inr (
+        ap₂ Reads (sym (ap (λ (v : Range). v.lo) r)) (sym (ap (λ (v : Range). v.hi) r)),
+        sym (ap (λ (v : Range). v.next) r),
+      )
+  read_apart a b next rs (Reads lo hi) k (suc x, e) = inl (x, e)
 
   read_more :
       (a b next : ℕ) (rs : List Range) (l : Label) (k : ℕ) → HasArcAt (Read rs) l k
       → HasArcAt (Read (record { lo = a; hi = b; next = next } ∷ rs)) l k
   read_more a b next rs Free k h = h
   read_more a b next rs (Asks look) k h = h
-  read_more a b next rs (Reads lo hi) k h = inr h
+  read_more a b next rs (Reads lo hi) k h = (suc h.0, h.1)
 
   step_read :
       (P : ℕ → Label → ℕ → Type 0) (t : Turns) (lo hi to : ℕ) → to < size → IsGraph P M size t
@@ -378,7 +384,7 @@ module _ (M : ℕ → Type 0) (size from : ℕ) where
   graph_ranges (r ∷ rs) P t b i =
       one_more P (turn_ranges (turn_by t (is.ByteRange r.lo r.hi from) r.next) from rs) (Read (ranges_of rs))
       (Read (ranges_of (r ∷ rs))) (Reads r.lo r.hi) r.next (read_apart r.lo r.hi r.next (ranges_of rs))
-      (read_more r.lo r.hi r.next (ranges_of rs)) (inl (refl, refl, refl))
+      (read_more r.lo r.hi r.next (ranges_of rs)) (0, refl)
       (graph_ranges rs (And P from (Reads r.lo r.hi) r.next) (turn_by t (is.ByteRange r.lo r.hi from) r.next) c.1
       (step_read P t r.lo r.hi r.next (ltb-true r.next size c.0) i))
     where
@@ -405,7 +411,7 @@ module _ (M : ℕ → Type 0) (size from : ℕ) where
       (Reads lo hi) next
       (λ l k a. ⊎_elim (λ (h : HasArcAt (Read []) l k). absurd (no_read l k h))
       (λ (h : (l ≡ Reads lo hi) × (k ≡ next)). h) (read_apart lo hi next [] l k a))
-      (inl (refl, refl, refl)) (step_read P t lo hi next (ltb-true next size b) i)
+      (0, refl) (step_read P t lo hi next (ltb-true next size b) i)
   graph_state (is.Sparse ts) P t b i = graph_ranges ts.items P t b i
   graph_state (is.Dense targets) P t b i =
       graph_ranges (runs_from 0 0 targets.value) P t (runs_below size targets.value 0 0 b) i

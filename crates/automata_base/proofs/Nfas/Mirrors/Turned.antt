@@ -1,13 +1,15 @@
 -- A reversed NFA goes back along the edges of the other.
 use Rattle.std.proofs.Common.{ℕ, zero, suc, ◌≡◌, ◌<◌, ◌≤◌, ◌+◌, Bool, true, false, cond, List, [], ◌∷◌, ◌⊎◌, length}
-use Rattle.std.proofs.Common.{Some, None, inl, inr, refl, sym, ap, ◌∙◌, subst, arith}
+use Rattle.std.proofs.Common.{Option, Some, None, inl, inr, refl, sym, ap, ◌∙◌, subst, arith}
 use Rattle.automata_base.specs.Lists.{In}
 use Rattle.std.specs.Prelude.{slice_get}
 use Rattle.automata_base.specs.Haystacks.Looks.{Look, within}
 use Rattle.automata_base.specs.Nfas.Nfa.{Nfa, Node, Range, Split, Assert, Read, Accept, Truth, node, node_or_fail, hop}
 use Rattle.automata_base.specs.Nfas.Nfa.{hop_at, takes, takes_at, takes_in, accepts, accepts_at}
 use Rattle.automata_base.specs.Nfas.Mirrors.{flip, Label, Free, Asks, Reads, HasRange, HasArcAt, HasArc, IsAsking}
-use Rattle.automata_base.specs.Nfas.Mirrors.{IsEdgeTo, IsReversedArc, IsUseful, IsReversedAt, IsPart, IsMirror, LeadsTo}
+use Rattle.automata_base.specs.Nfas.Mirrors.{IsEdgeTo, TurnsArc, EndsPath, IsOfEdges, JoinsEdges, IsOnlyEdge}
+use Rattle.automata_base.specs.Nfas.Mirrors.{IsAnyLabel, IsReversedArc, IsUseful, IsReversedAt, IsPart, IsMirror}
+use Rattle.automata_base.specs.Nfas.Mirrors.{LeadsTo}
 use Rattle.automata_base.proofs.Paths.Orders.{none_some, some_inj}
 use Rattle.automata_base.proofs.Paths.Sets.{nth_in, in_nth}
 use Rattle.automata_base.proofs.Nfas.Mirrors.Leads.{kept_back, kept_match, leads_here, leads_on}
@@ -68,8 +70,13 @@ range_of_takes (x ∷ xs) u r h = go (within x.lo x.hi u) refl h (range_of_takes
         (b : Bool) → within x.lo x.hi u ≡ b → cond b (Some x.next) (takes_in xs u) ≡ Some r
         → (takes_in xs u ≡ Some r → (lo hi : ℕ) × HasRange xs lo hi r × (within lo hi u ≡ true))
         → (lo hi : ℕ) × HasRange (x ∷ xs) lo hi r × (within lo hi u ≡ true)
-    go true w h ih = (x.lo, x.hi, inl (refl, refl, some_inj h), w)
-    go false w h ih = let k = ih h in (k.0, k.1, inr k.2, k.3)
+    go true w h ih =
+        let same =
+        subst
+        (λ (v : ℕ). ◌≡◌ {A = Option Range} (Some x) (Some (record { lo = x.lo; hi = x.hi; next = v })))
+        (some_inj h) refl in
+        (x.lo, x.hi, (0, same), w)
+    go false w h ih = let k = ih h in (k.0, k.1, (suc k.2.0, k.2.1), k.3)
 
 takes_arc_at :
     (x : Node) (u r : ℕ) → takes_at x u ≡ Some r → (lo hi : ℕ) × HasArcAt x (Reads lo hi) r × (within lo hi u ≡ true)
@@ -144,11 +151,9 @@ module _ (n m : Nfa) (first root : ℕ) (entries : List ℕ)
         one y (inl e) = e
         one y (inr j) = absurd j
 
-        go :
-            (node m (place t) ≡ Split xs) ⊎ ((xs ≡ place t ∷ []) × IsEdgeTo n m first p place t (place t))
-            → HasWay m B c k (place t) k x
-        go (inl s) = let h = split_hop m (B k) (place t) xs x s i in hop_way m B c k (place t) h.0 x h.1
-        go (inr e) = ([], (refl, sym (one (place t) (subst (λ v. In x v) e.0 i))))
+        go : IsOfEdges n m first p place t xs → HasWay m B c k (place t) k x
+        go (JoinsEdges s) = let h = split_hop m (B k) (place t) xs x s i in hop_way m B c k (place t) h.0 x h.1
+        go (IsOnlyEdge e f) = ([], (refl, sym (one (place t) (subst (λ v. In x v) e i))))
 
     -- From an edge's target back to its source.
     back_hop :
@@ -231,10 +236,7 @@ module _ (n m : Nfa) (first root : ℕ) (entries : List ℕ)
 
     -- What a state of the part stands for: the state `t`, an edge that leads to `t`, or the match where paths begin.
     abbrev pub Stands : ℕ → ℕ → Type 0
-    Stands x t =
-        (x ≡ place t)
-        ⊎ (((s : ℕ) × (l : Label) × IsUseful n first p s × HasArc n s l t × IsReversedArc m x l (place s))
-        ⊎ ((t ≡ first) × (node m x ≡ Accept p)))
+    Stands x t = (x ≡ place t) ⊎ IsEdgeTo n m first p place IsAnyLabel t x
 
     abbrev pub Comes : ℕ → ℕ → ℕ → ℕ → Type 0
     Comes p' j' i' t = (p' ≡ p) × HasWay n A b j' first i' t
@@ -307,17 +309,15 @@ module _ (n m : Nfa) (first root : ℕ) (entries : List ℕ)
             (inr (at.1.sound h.0 (hop_split m (B i) x at.0 e h.0 is h.1))) h.2 a
         by_union is (inr h) = absurd (none_some (sym (ap (λ v. takes_at v h.1) is) ∙ h.3))
 
-        by_edge : IsEdgeTo n m first p place t (place t) → Comes p' j' i' t
-        by_edge (inl g) =
-            from_asking path e ih g.1 i x j z i' j' g.0 t p' g.2 d f g.3 g.4
-            (subst (λ v. IsReversedArc m v g.1 (place g.0)) (sym same) g.5) w a
-        by_edge (inr g) = from_match path e i x j z (Comes p' j' i' t) (ap (λ v. node m v) same ∙ g.1) w
+        by_edge : IsEdgeTo n m first p place IsAsking t (place t) → Comes p' j' i' t
+        by_edge (TurnsArc s l ks arc asks turned) =
+            from_asking path e ih l i x j z i' j' s t p' ks d f arc asks
+            (subst (λ v. IsReversedArc m v l (place s)) (sym same) turned) w a
+        by_edge (EndsPath begins is) = from_match path e i x j z (Comes p' j' i' t) (ap (λ v. node m v) same ∙ is) w
 
-        go :
-            (node m (place t) ≡ Split at.0) ⊎ ((at.0 ≡ place t ∷ []) × IsEdgeTo n m first p place t (place t))
-            → Comes p' j' i' t
-        go (inl is) = by_union (ap (λ v. node m v) same ∙ is) w
-        go (inr g) = by_edge g.1
+        go : IsOfEdges n m first p place t at.0 → Comes p' j' i' t
+        go (JoinsEdges is) = by_union (ap (λ v. node m v) same ∙ is) w
+        go (IsOnlyEdge is g) = by_edge g
 
     from_edge :
         (path : List ℕ) (e : ℕ) → Goes path → (l : Label)
@@ -355,37 +355,35 @@ module _ (n m : Nfa) (first root : ℕ) (entries : List ℕ)
         at : (xs : List ℕ) × IsReversedAt n m first p place t xs
         at = part.turned t kt
 
-        by_edge : IsEdgeTo n m first p place t (place t) → Comes p' j' i' t
-        by_edge (inl g) = stop_asking g.1 (place t) z (place g.0) p' (Comes p' j' i' t) g.4 g.5 here a
-        by_edge (inr g) =
-            stop_reported i j z i' j' t p' d f same g.0 (ap (λ v. node m v) (sym here) ∙ g.1) a
+        by_edge : IsEdgeTo n m first p place IsAsking t (place t) → Comes p' j' i' t
+        by_edge (TurnsArc s l ks arc asks turned) =
+            stop_asking l (place t) z (place s) p' (Comes p' j' i' t) asks turned here a
+        by_edge (EndsPath begins is) =
+            stop_reported i j z i' j' t p' d f same begins (ap (λ v. node m v) (sym here) ∙ is) a
 
-        go :
-            (node m (place t) ≡ Split at.0) ⊎ ((at.0 ≡ place t ∷ []) × IsEdgeTo n m first p place t (place t))
-            → Comes p' j' i' t
-        go (inl is) = absurd (not_split z at.0 p' (ap (λ v. node m v) (sym here) ∙ is) a)
-        go (inr g) = by_edge g.1
+        go : IsOfEdges n m first p place t at.0 → Comes p' j' i' t
+        go (JoinsEdges is) = absurd (not_split z at.0 p' (ap (λ v. node m v) (sym here) ∙ is) a)
+        go (IsOnlyEdge is g) = by_edge g
 
     -- A way back to a match gives a way forth.
     pub turned_forth : (path : List ℕ) → Goes path
     turned_forth [] i x j z i' j' t p' kt d f (inl same) w a =
         stop_place i j z i' j' t p' kt d f w.0 (sym same ∙ w.1) a
-    turned_forth [] i x j z i' j' t p' kt d f (inr (inl edge)) w a = go edge.1 edge.3 edge.4
+    turned_forth [] i x j z i' j' t p' kt d f (inr (TurnsArc s l ks arc any turned)) w a = go l arc turned
       where
-        go : (l : Label) → HasArc n edge.0 l t → IsReversedArc m x l (place edge.0) → Comes p' j' i' t
+        go : (l : Label) → HasArc n s l t → IsReversedArc m x l (place s) → Comes p' j' i' t
         go Free arc turned =
-            comes_hop p' j' i i' edge.0 t Free d arc tt
-            (stop_place i j z i' j' edge.0 p' edge.2 d f w.0 (sym turned ∙ w.1) a)
-        go (Asks look) arc turned = stop_asking (Asks look) x z (place edge.0) p' (Comes p' j' i' t) tt turned w.1 a
-        go (Reads lo hi) arc turned = stop_asking (Reads lo hi) x z (place edge.0) p' (Comes p' j' i' t) tt turned w.1 a
-    turned_forth [] i x j z i' j' t p' kt d f (inr (inr reported)) w a =
-        stop_reported i j z i' j' t p' d f w.0 reported.0 (ap (λ v. node m v) (sym w.1) ∙ reported.1) a
+            comes_hop p' j' i i' s t Free d arc tt (stop_place i j z i' j' s p' ks d f w.0 (sym turned ∙ w.1) a)
+        go (Asks look) arc turned = stop_asking (Asks look) x z (place s) p' (Comes p' j' i' t) tt turned w.1 a
+        go (Reads lo hi) arc turned = stop_asking (Reads lo hi) x z (place s) p' (Comes p' j' i' t) tt turned w.1 a
+    turned_forth [] i x j z i' j' t p' kt d f (inr (EndsPath begins is)) w a =
+        stop_reported i j z i' j' t p' d f w.0 begins (ap (λ v. node m v) (sym w.1) ∙ is) a
     turned_forth (e ∷ path) i x j z i' j' t p' kt d f (inl same) w a =
         from_place path e (turned_forth path) i x j z i' j' t p' kt d f same w a
-    turned_forth (e ∷ path) i x j z i' j' t p' kt d f (inr (inl edge)) w a =
-        from_edge path e (turned_forth path) edge.1 i x j z i' j' edge.0 t p' edge.2 d f edge.3 edge.4 w a
-    turned_forth (e ∷ path) i x j z i' j' t p' kt d f (inr (inr reported)) w a =
-        from_match path e i x j z (Comes p' j' i' t) reported.1 w
+    turned_forth (e ∷ path) i x j z i' j' t p' kt d f (inr (TurnsArc s l ks arc any turned)) w a =
+        from_edge path e (turned_forth path) l i x j z i' j' s t p' ks d f arc turned w a
+    turned_forth (e ∷ path) i x j z i' j' t p' kt d f (inr (EndsPath begins is)) w a =
+        from_match path e i x j z (Comes p' j' i' t) is w
 
     -- From the entry.
     entry_back :
