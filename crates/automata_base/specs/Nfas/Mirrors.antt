@@ -172,14 +172,14 @@ pub data IsOfPart (n m : Nfa) (first p entry : ℕ) (place : ℕ → ℕ) (x : �
       → IsOfPart n m first p entry place x
 
 -- What a state of a reversed NFA is. `place p q` is the state for `q` in the part for the pattern `p`.
-pub data IsOfMirror (n m : Nfa) (first : ℕ) (entries : List ℕ) (root : ℕ) (place : (p q : ℕ) → ℕ) (x : ℕ) : Type 0
-  where
-    -- the root
-    IsRootOf : x ≡ root → IsOfMirror n m first entries root place x
-    -- a state of the part for a pattern
-    IsInPart :
-        (p entry : ℕ) → slice_get entries p ≡ Some entry → IsOfPart n m first p entry (place p) x
-        → IsOfMirror n m first entries root place x
+pub data IsOfMirror (n m : Nfa) (first : ℕ) (entries : List ℕ) (root : ℕ) (place : (p q : ℕ) → ℕ) (x : ℕ) :
+    Type 0 where
+  -- the root
+  IsRootOf : x ≡ root → IsOfMirror n m first entries root place x
+  -- a state of the part for a pattern
+  IsInPart :
+      (p entry : ℕ) → slice_get entries p ≡ Some entry → IsOfPart n m first p entry (place p) x
+      → IsOfMirror n m first entries root place x
 
 -- `m` is `n` reversed: it has a part for each pattern, whose paths begin at its entry, and at the root those of all.
 -- `place p q` is the state for `q` in the part for the pattern `p`. There are no other states.

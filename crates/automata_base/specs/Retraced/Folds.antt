@@ -29,13 +29,13 @@ AreTargetsOf Stands (x ∷ xs) targets =
     (own rest : List ℕ) × Stands x own × AreTargetsOf Stands xs rest × (targets ≡ own ++ rest)
 
 -- How a state stands for the targets, where `Stand` says which states stand for them together.
-pub data IsStandIn (free : List ℕ) (made : List Node) (Stand : List ℕ → Type 0) (state : ℕ) (targets : List ℕ) : Type 0
-  where
-    -- it is none of the free ones, and the only target
-    IsTheTarget : IsNotFree free state → targets ≡ state ∷ [] → IsStandIn free made Stand state targets
-    -- it is a union that was made, and its alternates stand for them
-    JoinsStandIns :
-        (xs : List ℕ) → IsMade free made state (Split xs) → Stand xs → IsStandIn free made Stand state targets
+pub data IsStandIn (free : List ℕ) (made : List Node) (Stand : List ℕ → Type 0) (state : ℕ) (targets : List ℕ) :
+    Type 0 where
+  -- it is none of the free ones, and the only target
+  IsTheTarget : IsNotFree free state → targets ≡ state ∷ [] → IsStandIn free made Stand state targets
+  -- it is a union that was made, and its alternates stand for them
+  JoinsStandIns :
+      (xs : List ℕ) → IsMade free made state (Split xs) → Stand xs → IsStandIn free made Stand state targets
 
 -- The state stands for the targets: it leads to them over unions that were made, in at most `depth` steps.
 abbrev pub StandsFor : (free : List ℕ) → (made : List Node) → (depth state : ℕ) → (targets : List ℕ) → Type 0
