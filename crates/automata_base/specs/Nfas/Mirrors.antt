@@ -115,23 +115,23 @@ pub data IsEdgeTo (n m : Nfa) (first p : ℕ) (place : ℕ → ℕ) (Kind : Labe
   -- paths begin at `t`, and it is a match of the pattern
   EndsPath : t ≡ first → node m x ≡ Accept p → IsEdgeTo n m first p place Kind t x
 
--- What the state for `t` has to do with those that its reversed edges make.
-pub data IsOfEdges (n m : Nfa) (first p : ℕ) (place : ℕ → ℕ) (t : ℕ) (xs : List ℕ) : Type 0 where
-  -- it is the union of them
-  JoinsEdges : node m (place t) ≡ Split xs → IsOfEdges n m first p place t xs
+-- How the state for `t` stands for the edges to `t`, which are reversed to the states `xs`.
+pub data StandsForEdges (n m : Nfa) (first p : ℕ) (place : ℕ → ℕ) (t : ℕ) (xs : List ℕ) : Type 0 where
+  -- it is the union of these states
+  JoinsEdges : node m (place t) ≡ Split xs → StandsForEdges n m first p place t xs
   -- it is the only one of them
   IsOnlyEdge :
-      xs ≡ place t ∷ [] → IsEdgeTo n m first p place IsAsking t (place t) → IsOfEdges n m first p place t xs
+      xs ≡ place t ∷ [] → IsEdgeTo n m first p place IsAsking t (place t) → StandsForEdges n m first p place t xs
 
 -- Among the states for the pattern `p`, where `place q` stands for `q`: the state that stands for `t` is the union of
 -- the reversed edges to `t`, and of a match where paths begin at `t`; or it is the only one of these itself. None of
 -- them repeats, and no two of them read, test or match the same and go on to the same state.
 pub record IsReversedAt (n m : Nfa) (first p : ℕ) (place : ℕ → ℕ) (t : ℕ) (xs : List ℕ) : Type 0 where
   -- the state for `t` is the union of these states, or is the only one of them
-  pub stands : IsOfEdges n m first p place t xs
+  pub stands : StandsForEdges n m first p place t xs
   -- each of them is a reversed edge to `t`, or a match if paths begin at `t`
   pub sound : (x : ℕ) → In x xs → IsEdgeTo n m first p place IsAnyLabel t x
-  -- each edge to `t` from a state that is kept is reversed to one of them
+  -- each edge to `t` from a useful state is reversed to one of them
   pub arcs :
       (s : ℕ) (l : Label) → IsUseful n first p s → HasArc n s l t
       → (x : ℕ) × In x xs × IsReversedArc m x l (place s)
@@ -146,18 +146,18 @@ pub record IsReversedAt (n m : Nfa) (first p : ℕ) (place : ℕ → ℕ) (t : �
 pub record IsEntry (n m : Nfa) (first p entry : ℕ) (place : ℕ → ℕ) (xs : List ℕ) : Type 0 where
   -- the entry is the union of these states
   pub union : node m entry ≡ Split xs
-  -- each of them stands for a match state of the pattern that is kept
+  -- each of them stands for a useful match state of the pattern
   pub sound : (x : ℕ) → In x xs → (q : ℕ) × IsUseful n first p q × (accepts n q ≡ Some p) × (x ≡ place q)
   -- each match state of the pattern that edges reach from the first state has its state among them
   pub matches : (q : ℕ) → LeadsTo n first q → accepts n q ≡ Some p → In (place q) xs
   -- none of them repeats
   pub distinct : Distinct xs
 
--- The part for the pattern `p` has a state for each state of `n` that it keeps. Its backward paths begin at `entry`.
+-- The part for the pattern `p` has a state for each useful state of `n`. Its backward paths begin at `entry`.
 pub record IsPart (n m : Nfa) (first p entry : ℕ) (place : ℕ → ℕ) : Type 0 where
   -- backward paths begin at the entry, which goes on to the states for the matches
   pub enters : (xs : List ℕ) × IsEntry n m first p entry place xs
-  -- each state that is kept has its state, with the reversed edges
+  -- each useful state has its state, with the reversed edges
   pub turned : (t : ℕ) → IsUseful n first p t → (xs : List ℕ) × IsReversedAt n m first p place t xs
 
 -- What a state of the part for the pattern `p` is.

@@ -7,7 +7,7 @@ use Rattle.automata_base.specs.Haystacks.Looks.{Look, within}
 use Rattle.automata_base.specs.Nfas.Nfa.{Nfa, Node, Range, Split, Assert, Read, Accept, Truth, node, node_or_fail, hop}
 use Rattle.automata_base.specs.Nfas.Nfa.{hop_at, takes, takes_at, takes_in, accepts, accepts_at}
 use Rattle.automata_base.specs.Nfas.Mirrors.{flip, Label, Free, Asks, Reads, HasRange, HasArcAt, HasArc, IsAsking}
-use Rattle.automata_base.specs.Nfas.Mirrors.{IsEdgeTo, TurnsArc, EndsPath, IsOfEdges, JoinsEdges, IsOnlyEdge}
+use Rattle.automata_base.specs.Nfas.Mirrors.{IsEdgeTo, TurnsArc, EndsPath, StandsForEdges, JoinsEdges, IsOnlyEdge}
 use Rattle.automata_base.specs.Nfas.Mirrors.{IsAnyLabel, IsReversedArc, IsUseful, IsReversedAt, IsPart, IsMirror}
 use Rattle.automata_base.specs.Nfas.Mirrors.{LeadsTo}
 use Rattle.automata_base.proofs.Paths.Orders.{none_some, some_inj}
@@ -151,7 +151,7 @@ module _ (n m : Nfa) (first root : ℕ) (entries : List ℕ)
         one y (inl e) = e
         one y (inr j) = absurd j
 
-        go : IsOfEdges n m first p place t xs → HasWay m B c k (place t) k x
+        go : StandsForEdges n m first p place t xs → HasWay m B c k (place t) k x
         go (JoinsEdges s) = let h = split_hop m (B k) (place t) xs x s i in hop_way m B c k (place t) h.0 x h.1
         go (IsOnlyEdge e f) = ([], (refl, sym (one (place t) (subst (λ v. In x v) e i))))
 
@@ -315,7 +315,7 @@ module _ (n m : Nfa) (first root : ℕ) (entries : List ℕ)
             (subst (λ v. IsReversedArc m v l (place s)) (sym same) turned) w a
         by_edge (EndsPath begins is) = from_match path e i x j z (Comes p' j' i' t) (ap (λ v. node m v) same ∙ is) w
 
-        go : IsOfEdges n m first p place t at.0 → Comes p' j' i' t
+        go : StandsForEdges n m first p place t at.0 → Comes p' j' i' t
         go (JoinsEdges is) = by_union (ap (λ v. node m v) same ∙ is) w
         go (IsOnlyEdge is g) = by_edge g
 
@@ -361,7 +361,7 @@ module _ (n m : Nfa) (first root : ℕ) (entries : List ℕ)
         by_edge (EndsPath begins is) =
             stop_reported i j z i' j' t p' d f same begins (ap (λ v. node m v) (sym here) ∙ is) a
 
-        go : IsOfEdges n m first p place t at.0 → Comes p' j' i' t
+        go : StandsForEdges n m first p place t at.0 → Comes p' j' i' t
         go (JoinsEdges is) = absurd (not_split z at.0 p' (ap (λ v. node m v) (sym here) ∙ is) a)
         go (IsOnlyEdge is g) = by_edge g
 
