@@ -52,6 +52,15 @@ StandsIfAny free made (Some state) targets = (depth : ℕ) × StandsFor free mad
 abbrev pub SomeTakes : Nfa → (states : List ℕ) → (u target : ℕ) → Type 0
 SomeTakes n states u target = (x : ℕ) × In x states × (takes n x u ≡ Some target)
 
+-- What becomes of an alternate of a union that is folded.
+pub data IsFoldedAlternate (n : Nfa) (stay : List ℕ) (targets : ℕ → List ℕ) (x : ℕ) : Type 0 where
+  -- it stays
+  StaysAlternate : In x stay → IsFoldedAlternate n stay targets x
+  -- it reads bytes, and leads to these targets
+  FoldsAlternate :
+      (own : List Range) → node n x ≡ Read own → ((u t : ℕ) → takes_in own u ≡ Some t → In t (targets u))
+      → IsFoldedAlternate n stay targets x
+
 -- A union of the states `xs` becomes one of some of them, and of a state that reads what the others read.
 pub record IsFoldedUnion (n : Nfa) (free : List ℕ) (made : List Node) (xs : List ℕ) (folded : Node) : Type 0 where
   -- the alternates that stay
@@ -73,10 +82,7 @@ pub record IsFoldedUnion (n : Nfa) (free : List ℕ) (made : List Node) (xs : Li
   -- an alternate of the union leads to each of these targets
   pub sound : (u t : ℕ) → In t (targets u) → SomeTakes n xs u t
   -- an alternate of the union stays, or it reads bytes and leads to these targets
-  pub all :
-      (x : ℕ) → In x xs
-      → In x stay
-      ⊎ ((own : List Range) × (node n x ≡ Read own) × ((u t : ℕ) → takes_in own u ≡ Some t → In t (targets u)))
+  pub all : (x : ℕ) → In x xs → IsFoldedAlternate n stay targets x
 
 -- What becomes of a node.
 pub data IsFoldedNode (n : Nfa) (free : List ℕ) (made : List Node) (old new : Node) : Type 0 where

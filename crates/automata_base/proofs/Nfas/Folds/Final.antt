@@ -18,6 +18,7 @@ use Rattle.automata_base.specs.Nfas.Nodes.{nfa_of, node_of, nodes_of, range_of}
 use Rattle.automata_base.specs.Paths.Paths.{all_true}
 use Rattle.automata_base.specs.Powersets.Closure.{children_at}
 use Rattle.automata_base.specs.Retraced.Folds.{AreFolded, IsFolded, IsFoldedFrom, IsFoldedNode, StaysNode, FoldsNode}
+use Rattle.automata_base.specs.Retraced.Folds.{IsFoldedAlternate, StaysAlternate, FoldsAlternate}
 use Rattle.automata_base.specs.Retraced.Folds.{IsFoldedState, StaysState, FoldsState}
 use Rattle.automata_base.specs.Retraced.Folds.{IsFoldedUnion, IsFoldOf}
 use Rattle.automata_base.specs.Retraced.Folds.{IsNotFree, ReadsRange, SomeReads, SomeTakes, is_large, is_large_state}
@@ -156,25 +157,21 @@ module _ (old new : List State) (root : ℕ) (entries : List ℕ) (flags : Flags
 
       all :
           (y : ℕ) → In y xs → In y o.stay ⊎ ((range : Transition) × ReadsRange old y range)
-          → In y o.stay
-          ⊎ ((own : List Range) × (node Plain y ≡ Read own)
-          × ((u t : ℕ) → takes_in own u ≡ Some t → In t (o.stands u).0))
-      all y i (inl k) = inl k
-      all y i (inr k) = inr (
-        range_of k.0 ∷ [],
-        read_node old y k.0 k.1,
-        λ u t h.
-            let g = one_taken k.0 u t h in
-            ((o.stands u).2 t).1 (record {
-              state = y;
-              range = k.0;
-              among = i;
-              reads = k.1;
-              leads = g.0;
-              begins = g.1;
-              ends = g.2;
-            }),
-      )
+          → IsFoldedAlternate Plain o.stay (λ u. (o.stands u).0) y
+      all y i (inl k) = StaysAlternate k
+      all y i (inr k) =
+          FoldsAlternate (range_of k.0 ∷ []) (read_node old y k.0 k.1)
+          (λ u t h.
+          let g = one_taken k.0 u t h in
+          ((o.stands u).2 t).1 (record {
+            state = y;
+            range = k.0;
+            among = i;
+            reads = k.1;
+            leads = g.0;
+            begins = g.1;
+            ends = g.2;
+          }))
 
   each_of :
       (x : ℕ) → IsFoldedState old free made (slice_get old x) (slice_get new x)

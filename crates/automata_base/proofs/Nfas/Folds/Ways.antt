@@ -5,6 +5,7 @@ use Rattle.automata_base.specs.Lists.{In}
 use Rattle.automata_base.specs.Nfas.Nfa.{Nfa, Node, Range, Split, Read, Truth, node, hop, hop_at, takes, takes_at}
 use Rattle.automata_base.specs.Nfas.Nfa.{takes_in, accepts, accepts_at}
 use Rattle.automata_base.specs.Retraced.Folds.{IsNotFree, AreTargetsOf, StandsFor, StandsIfAny, IsFoldedUnion}
+use Rattle.automata_base.specs.Retraced.Folds.{IsFoldedAlternate, StaysAlternate, FoldsAlternate}
 use Rattle.automata_base.specs.Retraced.Folds.{IsFoldedNode, StaysNode, FoldsNode, IsTheTarget, JoinsStandIns, IsFolded}
 use Rattle.automata_base.proofs.Nfas.Mirrors.Ways.{Bytes, IsWay, HasWay, join, hop_way, move_way}
 use Rattle.automata_base.proofs.Paths.Orders.{none_some}
@@ -155,15 +156,11 @@ module _ (n m : Nfa) (free : List ℕ) (made : List Node) (f : IsFolded n m free
     forth_folded path i x e xs few s u (inl w) =
         go (u.all w.0 (nth_in xs e w.0 (sym (ap (λ (v : Node). hop_at v (A i) e) s) ∙ w.1)))
       where
-        go :
-            In w.0 u.stay
-            ⊎ ((own : List Range) × (node n w.0 ≡ Read own)
-            × ((v t : ℕ) → takes_in own v ≡ Some t → In t (u.targets v)))
-            → There m i x j p
-        go (inl h) =
+        go : IsFoldedAlternate n u.stay u.targets w.0 → There m i x j p
+        go (StaysAlternate h) =
             before m i x i w.0 j p (union_hop xs x w.0 i u (in_left w.0 u.stay (u.reader ∷ []) h))
             (on path i w.0 few (u.kept w.0 h).1 w.2)
-        go (inr h) = forth_read path i x w.0 xs h.0 few u h.1 h.2 w.2
+        go (FoldsAlternate own reads leads) = forth_read path i x w.0 xs own few u reads leads w.2
 
   here_forth :
       (i x j q p : ℕ) → IsNotFree free x → IsWay n A b i x [] j q → accepts n q ≡ Some p → There m i x j p
