@@ -76,9 +76,11 @@ module _ (hay : List ℕ) (ascii : All (λ b. b < 128) hay) where
   before zero l = (char_before-zero hay, tt)
   before (suc i) l =
       let small : i < length hay = omega (arith, l) in
-      let w = inside i small in
-      (char_before_ascii hay (suc i) (get_or hay i 0) (before_is hay (suc i) ∙ w.0) w.1
-      ∙ sym w.0, subst IsAsciiSide (sym w.0) w.1)
+      let w = inside i small in (
+        char_before_ascii hay (suc i) (get_or hay i 0) (before_is hay (suc i) ∙ w.0) w.1
+            ∙ sym w.0,
+        subst IsAsciiSide (sym w.0) w.1,
+      )
 
   looks_agree_ascii : (l : kit_look.Look) (i : ℕ) → i ≤ length hay →
       kit_looks.holds l hay i ≡ our.holds 10 false (look_of l) (byte_before hay i) (slice_get hay i)

@@ -9,6 +9,7 @@ use Rattle.automata_base.specs.Lists.{In}
 use Rattle.automata_base.specs.Nfas.Nfa.{Nfa, hop, takes, accepts}
 use Rattle.automata_base.specs.Paths.Order.{Before, Upto}
 use Rattle.automata_base.specs.Paths.Paths.{Tape, IsPathFrom, Moves, truth}
+use Rattle.automata_base.specs.Paths.Paths.{StaysHere, ReadsByte}
 use Rattle.automata_base.proofs.Paths.Orders.{some_inj, none_some}
 use Rattle.meaning.specs.Agreeing.{IsLeastEnd}
 
@@ -46,8 +47,10 @@ module _ (n : Nfa) (t : Tape) (s p : ℕ) (seen : List ℕ) (q : ℕ) where
   first_edge : (path : List ℕ) (j z pattern : ℕ) → AcceptsNot → IsPathFrom n t p seen q path j z →
       accepts n z ≡ Some pattern → IsPast 0 path j z ⊎ Reads path j z
   first_edge [] j z pattern not h acc = absurd (not pattern (ap (λ v. accepts n v) h.1 ∙ acc))
-  first_edge (e ∷ rest) j z pattern not (inl h) acc = inl (e, h.0, omega arith, h.1, (rest, refl, h.3))
-  first_edge (e ∷ rest) j z pattern not (inr h) acc = inr (h.0, rest, ap (λ v. v ∷ rest) h.1, h.2, h.3)
+  first_edge (e ∷ rest) j z pattern not (StaysHere r hops new on) acc =
+      inl (e, r, omega arith, hops, (rest, refl, on))
+  first_edge (e ∷ rest) j z pattern not (ReadsByte r edge moves on) acc =
+      inr (r, rest, ap (λ v. v ∷ rest) edge, moves, on)
 
   -- the least accepting path by the edges from this number on
   abbrev pub IsLeastPast : ℕ → Option HalfMatch → Type 0
@@ -73,8 +76,12 @@ module _ (n : Nfa) (t : Tape) (s p : ℕ) (seen : List ℕ) (q : ℕ) where
           (λ (l : w.0 ≤ e).
           let same : w.0 ≡ e = omega (arith, l, w.2) in
           let target : w.1 ≡ r = some_inj (sym w.3 ∙ ap (λ v. hop n (truth n t p) q v) same ∙ leads) in
-          inl (w.4.0, w.4.1
-          ∙ ap (λ v. v ∷ w.4.0) same, subst (λ v. IsPathFrom n t p (q ∷ seen) v w.4.0 j z) target w.4.2))
+          inl (
+            w.4.0,
+            w.4.1
+                ∙ ap (λ v. v ∷ w.4.0) same,
+            subst (λ v. IsPathFrom n t p (q ∷ seen) v w.4.0 j z) target w.4.2,
+          ))
           (cases_lt e w.0)
 
       go :
@@ -100,7 +107,7 @@ module _ (n : Nfa) (t : Tape) (s p : ℕ) (seen : List ℕ) (q : ℕ) where
         e ∷ b.0,
         b.1,
         b.2,
-        inl (r, leads, new, b.3),
+        StaysHere r leads new b.3,
         b.4,
         b.5,
         λ other j z pattern h acc. ⊎_elim
@@ -160,7 +167,7 @@ module _ (n : Nfa) (t : Tape) (s p : ℕ) (seen : List ℕ) (q : ℕ) where
         0 ∷ b.0,
         b.1,
         b.2,
-        inr (r, refl, (u, here, leads), b.3),
+        ReadsByte r refl (u, here, leads) b.3,
         b.4,
         b.5,
         λ other j z pattern h acc. let w = inner other j z pattern h acc in

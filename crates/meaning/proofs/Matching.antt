@@ -46,7 +46,7 @@ module _ (d : Engine) (all : IsSkipping d → ⊥) (hay : List ℕ) (s stop : �
     a.2.pair.pattern,
     a.2.reported.0,
     subst (λ v. Accepts d.nfa (forward_tape hay v stop) d.unanchored a.2.pair.place a.2.pair.pattern a.2.reported.0)
-    (once e a.0 a.1) a.2.reported.1,
+        (once e a.0 a.1) a.2.reported.1,
   )
 
   -- earliest or not, all searches agree whether there is a match

@@ -125,7 +125,7 @@ module _ (ks : List kit_nfa.Nfa) (res : List Re) (is : ImplementAll ks res) (hay
       let still : own.1 ≡ 0 = let f = own.5 in omega (arith, f, empty) in (
         refl,
         empty_start (joined_nfa ks) (forward_tape hay i (length hay)) 0 (size_of ks) (starts_of 0 ks) (union_is ks)
-        own.0 own.2
+            own.0 own.2
             (first_at res hay i)
             (subst (λ v. IsPathFrom (joined_nfa ks) (forward_tape hay i (length hay)) 0 [] (size_of ks) own.0 v own.2)
             still own.3) own.4,

@@ -103,9 +103,12 @@ alternate_at (re ∷ res) hay i trace e =
 at_alternate : (res : List Re) (hay : List ℕ) (i p : ℕ) → MatchesAt hay i res p →
     (trace : Trace) × (attempt hay (any_of res) accept i ≡ Some trace)
 at_alternate [] hay i p m = absurd (none_some m.2)
-at_alternate (re ∷ res) hay i zero m =
-    (m.1, either re res hay i
-    ∙ ap (λ o. option_or o (attempt hay (any_of res) accept i)) (ap (λ v. attempt hay v accept i) (some_inj m.2) ∙ m.3))
+at_alternate (re ∷ res) hay i zero m = (
+  m.1,
+  either re res hay i
+      ∙ ap (λ o. option_or o (attempt hay (any_of res) accept i))
+      (ap (λ v. attempt hay v accept i) (some_inj m.2) ∙ m.3),
+)
 at_alternate (re ∷ res) hay i (suc p) m =
     let rest = at_alternate res hay i p m in
     ⊎_elim

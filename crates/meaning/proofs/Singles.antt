@@ -2,7 +2,7 @@
 -- one
 -- of that pattern alone.
 use Rattle.std.proofs.Common.{ℕ, zero, suc, ◌≡◌, ◌+◌, ◌<◌, ◌≤◌, List, [], ◌∷◌, Option, Some, None, length, option_map}
-use Rattle.std.proofs.Common.{refl, sym, ap, ◌∙◌, subst, ⊎_elim, inl, inr, arith}
+use Rattle.std.proofs.Common.{refl, sym, ap, ◌∙◌, subst, ⊎_elim, arith}
 use Rattle.std.specs.Prelude.{slice_get}
 use Rattle.regex_hir.specs.Re.{Re, Trace, accept, attempt}
 use Rattle.regex_hir.specs.Matches.{Matches}
@@ -16,6 +16,7 @@ use Rattle.automata_base.specs.Haystacks.Tapes.{forward_tape}
 use Rattle.automata_base.specs.Lists.{In}
 use Rattle.automata_base.specs.Nfas.Nfa.{Nfa, accepts, accepts_at, hop_at}
 use Rattle.automata_base.specs.Paths.Paths.{IsPathFrom, Tape, all_true, truth}
+use Rattle.automata_base.specs.Paths.Paths.{StaysHere, ReadsByte}
 use Rattle.automata_base.proofs.Paths.Orders.{some_inj, none_some}
 use Rattle.automata_base.proofs.Paths.Walks.{hop_more}
 use Rattle.meaning.specs.Translated.{joined_nfa, node_of, size_of, starts_of}
@@ -37,18 +38,17 @@ module _ (n : Nfa) (b p : ℕ) (k : kit_nfa.Nfa) (holds : HasStatesOf n b p k) w
   path_stays : (t : Tape) (i : ℕ) (seen : List ℕ) (q : ℕ) (path : List ℕ) (j z : ℕ) → q < length k.states.items →
       IsPathFrom n t i seen (b + q) path j z → (y : ℕ) × (z ≡ b + y) × (y < length k.states.items)
   path_stays t i seen q [] j z l h = (q, sym h.1, l)
-  path_stays t i seen q (e ∷ path) j z l (inl h) =
-      let step = hop_falls k b p q _ refl e h.0
+  path_stays t i seen q (e ∷ path) j z l (StaysHere r hops new on) =
+      let step = hop_falls k b p q _ refl e r
       (sym (ap (λ v. hop_at v all_true e) (node_known n b p k holds q l _ refl))
-      ∙ hop_more n (truth n t i) all_true (b + q) e h.0 (λ look a. refl) h.1) in
+      ∙ hop_more n (truth n t i) all_true (b + q) e r (λ look a. refl) hops) in
       path_stays t i ((b + q) ∷ seen) step.0 path j z (let low = step.2.0 in omega (arith, low, k.ranks_len))
-      (subst (λ v. IsPathFrom n t i ((b + q) ∷ seen) v path j z) step.1 h.3)
-  path_stays t i seen q (e ∷ path) j z l (inr h) =
-      let byte = h.2 in
-      let step = raised_from b h.0 (next_on k.transitions.items (state_of k q) byte.0)
-      (sym (takes_known n b p k holds q l _ refl byte.0) ∙ byte.2) in
-      path_stays t (suc i) [] step.0 path j z (let low = next_on_within k q byte.0 step.0 step.1 in omega (arith, low))
-      (subst (λ v. IsPathFrom n t (suc i) [] v path j z) step.2 h.3)
+      (subst (λ v. IsPathFrom n t i ((b + q) ∷ seen) v path j z) step.1 on)
+  path_stays t i seen q (e ∷ path) j z l (ReadsByte r edge moves on) =
+      let step = raised_from b r (next_on k.transitions.items (state_of k q) moves.0)
+      (sym (takes_known n b p k holds q l _ refl moves.0) ∙ moves.2) in
+      path_stays t (suc i) [] step.0 path j z (let low = next_on_within k q moves.0 step.0 step.1 in omega (arith, low))
+      (subst (λ v. IsPathFrom n t (suc i) [] v path j z) step.2 on)
 
   match_is :
       (x : kit_state.State) (pattern : ℕ) → accepts_at (node_of b p k.transitions.items x) ≡ Some pattern → pattern ≡ p
@@ -177,16 +177,16 @@ module _ (ks : List kit_nfa.Nfa) (res : List Re) (is : ImplementAll ks res) (hay
       absurd (accepts_none (joined_nfa ks) (forward_tape hay s (length hay)) place (size_of ks) _ (union_is ks) refl
       pattern
       (ap (λ v. accepts (joined_nfa ks) v) h.1 ∙ acc))
-  union_matches (e ∷ path) j z pattern (inl h) acc =
+  union_matches (e ∷ path) j z pattern (StaysHere r hops new on) acc =
       let own =
-      path_matches (joined_nfa ks) hay s (size_of ks) place inside 0 0 ks res (holds_all ks) is same (omega arith) e h.0
-      (sym (ap (λ v. hop_at v (truth (joined_nfa ks) (forward_tape hay s (length hay)) place) e) (union_is ks)) ∙ h.1)
-      pattern (s + j) (path, j, z, h.3, acc, refl) in
+      path_matches (joined_nfa ks) hay s (size_of ks) place inside 0 0 ks res (holds_all ks) is same (omega arith) e r
+      (sym (ap (λ v. hop_at v (truth (joined_nfa ks) (forward_tape hay s (length hay)) place) e) (union_is ks)) ∙ hops)
+      pattern (s + j) (path, j, z, on, acc, refl) in
       let number : e ≡ pattern = let f = own.0 in omega (arith, f) in
       subst (MatchesAt hay (s + place) res) number own.1
-  union_matches (e ∷ path) j z pattern (inr h) acc =
+  union_matches (e ∷ path) j z pattern (ReadsByte r edge moves on) acc =
       absurd (moves_none (joined_nfa ks) (forward_tape hay s (length hay)) place (size_of ks) _ (union_is ks)
-      (λ v r m. none_some m) h.0 h.2)
+      (λ v r m. none_some m) r moves)
 
   -- a path from the start of a pattern is one from the union
   from_union :
@@ -200,12 +200,10 @@ module _ (ks : List kit_nfa.Nfa) (res : List Re) (is : ImplementAll ks res) (hay
         e ∷ w.0,
         w.1,
         w.2,
-        inl (
-          r,
-          ap (λ v. hop_at v (truth (joined_nfa ks) (forward_tape hay s (length hay)) place) e) (union_is ks) ∙ begins,
-          apart,
-          w.3,
-        ),
+        StaysHere r
+            (ap (λ v. hop_at v (truth (joined_nfa ks) (forward_tape hay s (length hay)) place) e) (union_is ks)
+            ∙ begins)
+            apart w.3,
         w.4 ∙ ap (λ v. Some v) (omega arith),
         w.5,
       )

@@ -15,6 +15,7 @@ use Rattle.automata_base.specs.declared.util.search.Direction.TheVariants.{Forwa
 use Rattle.automata_base.specs.Nfas.Engines.{Engine, MatchesEmpty}
 use Rattle.automata_base.specs.Nfas.Nfa.{Nfa, Split, accepts, hop_at, accepts_at, node}
 use Rattle.automata_base.specs.Paths.Paths.{HasEpsilonPath, IsPathFrom, Tape, all_true, truth}
+use Rattle.automata_base.specs.Paths.Paths.{StaysHere, ReadsByte}
 use Rattle.automata_base.specs.declared.util.search.Anchored.TheVariants.{Yes}
 use Rattle.automata_base.proofs.Answers.Backs.{narrow}
 use Rattle.automata_base.proofs.Answers.Bytes.{drop_length, nth_drop}
@@ -97,11 +98,11 @@ still :
     (n : Nfa) (t : Tape) (i : ℕ) (seen : List ℕ) (q : ℕ) (path : List ℕ) (z : ℕ) → IsPathFrom n t i seen q path i z
     → HasEpsilonPath n q z
 still n t i seen q [] z h = ([], h.1)
-still n t i seen q (e ∷ path) z (inl h) =
-    let w = still n t i (q ∷ seen) h.0 path z h.3 in
-    (e ∷ w.0, (h.0, hop_more n (truth n t i) all_true q e h.0 (λ look a. refl) h.1, w.1))
-still n t i seen q (e ∷ path) z (inr h) =
-    absurd (let g = path_grows n t (suc i) [] h.0 path i z h.3 in omega (arith, g))
+still n t i seen q (e ∷ path) z (StaysHere r hops new on) =
+    let w = still n t i (q ∷ seen) r path z on in
+    (e ∷ w.0, (r, hop_more n (truth n t i) all_true q e r (λ look a. refl) hops, w.1))
+still n t i seen q (e ∷ path) z (ReadsByte r edge moves on) =
+    absurd (let g = path_grows n t (suc i) [] r path i z on in omega (arith, g))
 
 -- So if a match from a union of starts is empty, the empty match is one of a start.
 pub empty_start :
@@ -109,13 +110,13 @@ pub empty_start :
     IsPathFrom n t i [] u path i z → accepts n z ≡ Some pattern → MatchesEmpty n starts
 empty_start n t i u starts is [] z pattern h acc =
     absurd (none_some (sym (ap accepts_at is) ∙ ap (λ v. accepts n v) h.1 ∙ acc))
-empty_start n t i u starts is (e ∷ path) z pattern (inl h) acc = (
-  h.0,
+empty_start n t i u starts is (e ∷ path) z pattern (StaysHere r hops new on) acc = (
+  r,
   z,
   pattern,
-  nth_in starts e h.0 (sym (ap (λ v. hop_at v (truth n t i) e) is) ∙ h.1),
-  still n t i (u ∷ []) h.0 path z h.3,
+  nth_in starts e r (sym (ap (λ v. hop_at v (truth n t i) e) is) ∙ hops),
+  still n t i (u ∷ []) r path z on,
   acc,
 )
-empty_start n t i u starts is (e ∷ path) z pattern (inr h) acc =
-    absurd (let g = path_grows n t (suc i) [] h.0 path i z h.3 in omega (arith, g))
+empty_start n t i u starts is (e ∷ path) z pattern (ReadsByte r edge moves on) acc =
+    absurd (let g = path_grows n t (suc i) [] r path i z on in omega (arith, g))

@@ -1,6 +1,6 @@
 -- Each path of the NFA of a pattern, be it the first or not, is one of the joined NFA.
 use Rattle.std.proofs.Common.{ℕ, suc, ◌≡◌, ◌+◌, ◌<◌, ◌≤◌, List, [], ◌∷◌, Some, None, cond, length, option_map, refl}
-use Rattle.std.proofs.Common.{sym, ap, ◌∙◌, inl, inr, arith}
+use Rattle.std.proofs.Common.{sym, ap, ◌∙◌, arith}
 use Rattle.regex_nfa.specs.Paths.{Accepts, EmptyEdge, by_first, by_second, by_save, by_look, consumed, matched, skipped}
 use Rattle.regex_nfa.specs.States.{IsBelow}
 use Rattle.regex_nfa.specs.declared.nfa.Nfa as kit_nfa
@@ -10,6 +10,7 @@ use Rattle.automata_base.specs.Haystacks.Tapes.{forward_tape}
 use Rattle.automata_base.specs.Lists.{In}
 use Rattle.automata_base.specs.Nfas.Nfa.{Nfa, accepts, accepts_at, hop, hop_at}
 use Rattle.automata_base.specs.Paths.Paths.{IsPathFrom, Tape, truth}
+use Rattle.automata_base.specs.Paths.Paths.{StaysHere, ReadsByte}
 use Rattle.meaning.specs.Agreeing.{HasSameLooks, HasStatesOf}
 use Rattle.meaning.proofs.Nodes.{node_known, takes_known}
 use Rattle.meaning.proofs.Ranks.{IsAbove, above_new, above_next}
@@ -52,7 +53,7 @@ module _ (n : Nfa) (b pat : ℕ) (k : kit_nfa.Nfa) (holds : HasStatesOf n b pat 
       let own = within n b pat k holds hay s stop fits same r q low in
       let new : In (b + r) ((b + q) ∷ seen) → ⊥ = above_new k b seen q r own above low.1 in
       let w = path_of end r i rest p ((b + q) ∷ seen) own at inside (above_next k b seen q r above low.1) in
-      (h.0 ∷ w.0, w.1, w.2, inl (b + r, h.1, new, w.3), w.4, w.5)
+      (h.0 ∷ w.0, w.1, w.2, StaysHere (b + r) h.1 new w.3, w.4, w.5)
   path_of end q i (consumed _ _ r edge rest) p seen l at inside above =
       let here = (byte_below_some hay stop i edge.0 edge.1).0 in
       let own = next_on_within k q edge.0 r edge.2 in
@@ -62,16 +63,12 @@ module _ (n : Nfa) (b pat : ℕ) (k : kit_nfa.Nfa) (holds : HasStatesOf n b pat 
         0 ∷ w.0,
         w.1,
         w.2,
-        inr (
-          b + r,
-          refl,
-          (
-            edge.0,
-            tape_byte hay s stop p (omega (arith, at, inside)) fits ∙ ap (byte_below hay stop) (sym at) ∙ edge.1,
-            takes_known n b pat k holds q l _ refl edge.0 ∙ ap (option_map (λ v. b + v)) edge.2,
-          ),
-          w.3,
-        ),
+        ReadsByte (b + r) refl (
+          edge.0,
+          tape_byte hay s stop p (omega (arith, at, inside)) fits ∙ ap (byte_below hay stop) (sym at) ∙ edge.1,
+          takes_known n b pat k holds q l _ refl edge.0 ∙ ap (option_map (λ v. b + v)) edge.2,
+        )
+            w.3,
         w.4,
         w.5,
       )

@@ -1,10 +1,11 @@
 -- A path of one tape is one of another that has the same bytes as far as the path goes.
-use Rattle.std.proofs.Common.{ℕ, suc, ◌≡◌, ◌<◌, ◌≤◌, ◌+◌, ◌-◌, true, List, [], ◌∷◌, length, inl, inr, sym, ap, ◌∙◌}
+use Rattle.std.proofs.Common.{ℕ, suc, ◌≡◌, ◌<◌, ◌≤◌, ◌+◌, ◌-◌, true, List, [], ◌∷◌, length, sym, ap, ◌∙◌}
 use Rattle.std.proofs.Common.{subst, arith}
 use Rattle.automata_base.specs.Haystacks.Looks.{holds}
 use Rattle.std.specs.Prelude.{slice_get}
 use Rattle.automata_base.specs.Nfas.Nfa.{Nfa}
 use Rattle.automata_base.specs.Paths.Paths.{Tape, prev, next, truth, IsPathFrom}
+use Rattle.automata_base.specs.Paths.Paths.{StaysHere, ReadsByte}
 use Rattle.automata_base.proofs.Paths.Walks.{hop_more}
 use Rattle.automata_base.proofs.Paths.Places.{path_grows}
 use Rattle.automata_base.specs.Haystacks.Tapes.{forward_tape, reverse_tape, byte_before}
@@ -31,24 +32,16 @@ pub path_alike :
     → a + i ≡ b + i' → a + j ≡ b + j' → j ≤ m
     → IsPathFrom n t i seen q p j z → IsPathFrom n t' i' seen q p j' z
 path_alike n t t' a b m f i i' seen q [] j j' z c d l h = (let k = h.0 in omega (arith, c, d, k), h.1)
-path_alike n t t' a b m f i i' seen q (e ∷ p) j j' z c d l (inl h) =
-    let g = path_grows n t i (q ∷ seen) h.0 p j z h.3 in
+path_alike n t t' a b m f i i' seen q (e ∷ p) j j' z c d l (StaysHere r hops new on) =
+    let g = path_grows n t i (q ∷ seen) r p j z on in
     let s = f i i' c (omega (arith, l, g)) in
-    inl (
-      h.0,
-      hop_more n (truth n t i) (truth n t' i') q e h.0 (truth_same n t t' i i' s.0 s.1) h.1,
-      h.2,
-      path_alike n t t' a b m f i i' (q ∷ seen) h.0 p j j' z c d l h.3,
-    )
-path_alike n t t' a b m f i i' seen q (e ∷ p) j j' z c d l (inr h) =
-    let g = path_grows n t (suc i) [] h.0 p j z h.3 in
+    StaysHere r (hop_more n (truth n t i) (truth n t' i') q e r (truth_same n t t' i i' s.0 s.1) hops) new
+    (path_alike n t t' a b m f i i' (q ∷ seen) r p j j' z c d l on)
+path_alike n t t' a b m f i i' seen q (e ∷ p) j j' z c d l (ReadsByte r edge moves on) =
+    let g = path_grows n t (suc i) [] r p j z on in
     let s = f i i' c (omega (arith, l, g)) in
-    inr (
-      h.0,
-      h.1,
-      (h.2.0, sym (s.2 (omega (arith, l, g))) ∙ h.2.1, h.2.2),
-      path_alike n t t' a b m f (suc i) (suc i') [] h.0 p j j' z (omega (arith, c)) d l h.3,
-    )
+    ReadsByte r edge (moves.0, sym (s.2 (omega (arith, l, g))) ∙ moves.1, moves.2)
+    (path_alike n t t' a b m f (suc i) (suc i') [] r p j j' z (omega (arith, c)) d l on)
 
 -- Two forward tapes of a haystack, up to the offset `m` to which both go.
 pub forward_alike :

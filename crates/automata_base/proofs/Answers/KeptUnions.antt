@@ -1,5 +1,5 @@
 -- What paths accept does not depend on whether powerset states keep unions.
-use Rattle.std.proofs.Common.{ℕ, suc, ◌≡◌, ◌-◌, ◌∙◌, Bool, List, [], ◌∷◌, inl, inr, refl}
+use Rattle.std.proofs.Common.{ℕ, suc, ◌≡◌, ◌-◌, ◌∙◌, Bool, List, [], ◌∷◌, refl}
 use Rattle.automata_base.specs.declared.util.search.MatchKind.{MatchKind}
 use Rattle.automata_base.specs.Answers.TruePairs.{IsTruePair, Joins, KeepsUtf8}
 use Rattle.automata_base.specs.Haystacks.Tapes.{Direction, Forward, tape_of}
@@ -9,6 +9,7 @@ use Rattle.automata_base.specs.Nfas.Engines.{ByteEdge, FreeEdge, LazyLoop, Share
 use Rattle.automata_base.specs.Nfas.Nfa.{Nfa, Node}
 use Rattle.automata_base.specs.Nfas.Nodes.{Automaton, nfa_of, nodes_of}
 use Rattle.automata_base.specs.Paths.Paths.{Tape, IsPathFrom, Run}
+use Rattle.automata_base.specs.Paths.Paths.{StaysHere, ReadsByte}
 use Rattle.automata_base.specs.Paths.Selections.{Accepts}
 
 module _ (nodes : List Node) (terminator : ℕ) (reverse : Bool) where
@@ -19,8 +20,10 @@ module _ (nodes : List Node) (terminator : ℕ) (reverse : Bool) where
       (v w : Bool) (t : Tape) (i : ℕ) (seen : List ℕ) (q : ℕ) (path : List ℕ) (j z : ℕ)
       → IsPathFrom (n v) t i seen q path j z → IsPathFrom (n w) t i seen q path j z
   path_with v w t i seen q [] j z p = p
-  path_with v w t i seen q (e ∷ path) j z (inl p) = inl (p.0, p.1, p.2, path_with v w t i (q ∷ seen) p.0 path j z p.3)
-  path_with v w t i seen q (e ∷ path) j z (inr p) = inr (p.0, p.1, p.2, path_with v w t (suc i) [] p.0 path j z p.3)
+  path_with v w t i seen q (e ∷ path) j z (StaysHere r hops new on) =
+      StaysHere r hops new (path_with v w t i (q ∷ seen) r path j z on)
+  path_with v w t i seen q (e ∷ path) j z (ReadsByte r edge moves on) =
+      ReadsByte r edge moves (path_with v w t (suc i) [] r path j z on)
 
   pub accepts_with :
       (v w : Bool) (t : Tape) (start i pattern : ℕ) (path : List ℕ)

@@ -7,6 +7,7 @@ use Rattle.automata_base.specs.Lists.{In}
 use Rattle.std.specs.Prelude.{slice_get}
 use Rattle.automata_base.specs.Nfas.Nfa.{Nfa, Split, Truth, node, hop, hop_at, takes, takes_at, accepts, accepts_at}
 use Rattle.automata_base.specs.Paths.Paths.{Tape, truth, IsPathFrom, all_true}
+use Rattle.automata_base.specs.Paths.Paths.{StaysHere, ReadsByte}
 use Rattle.automata_base.proofs.Paths.Orders.{some_inj, none_some, cons_head, cons_tail, nil_cons}
 use Rattle.automata_base.proofs.Paths.Walks.{hop_more, in_left, in_either}
 use Rattle.automata_base.specs.Nfas.Engines.{ByteEdge, FreeEdge, HasEdge, Reaches, any_byte}
@@ -20,28 +21,29 @@ pub path_forget :
     (n : Nfa) (t : Tape) (i : ℕ) (seen more : List ℕ) (q : ℕ) (p : List ℕ) (j z : ℕ)
     → IsPathFrom n t i (seen ++ more) q p j z → IsPathFrom n t i seen q p j z
 path_forget n t i seen more q [] j z h = h
-path_forget n t i seen more q (e ∷ p) j z (inl h) =
-    inl (h.0, h.1, λ k. h.2 (in_left h.0 (q ∷ seen) more k), path_forget n t i (q ∷ seen) more h.0 p j z h.3)
-path_forget n t i seen more q (e ∷ p) j z (inr h) = inr h
+path_forget n t i seen more q (e ∷ p) j z (StaysHere r hops new on) =
+    StaysHere r hops (λ k. new (in_left r (q ∷ seen) more k)) (path_forget n t i (q ∷ seen) more r p j z on)
+path_forget n t i seen more q (e ∷ p) j z (ReadsByte r edge moves on) = ReadsByte r edge moves on
 
 -- A state that is not reached is no obstacle.
 pub path_past :
     (n : Nfa) (t : Tape) (i : ℕ) (seen : List ℕ) (u q : ℕ) (p : List ℕ) (j z : ℕ)
     → (Reaches n q u → ⊥) → IsPathFrom n t i seen q p j z → IsPathFrom n t i (seen ++ (u ∷ [])) q p j z
 path_past n t i seen u q [] j z f h = h
-path_past n t i seen u q (e ∷ p) j z f (inl h) = inl (h.0, h.1, fresh, path_past n t i (q ∷ seen) u h.0 p j z on h.3)
+path_past n t i seen u q (e ∷ p) j z f (StaysHere r hops new on) =
+    StaysHere r hops fresh (path_past n t i (q ∷ seen) u r p j z past on)
   where
-    edge : HasEdge n q h.0
-    edge = FreeEdge e (hop_more n (truth n t i) all_true q e h.0 (λ look a. refl) h.1)
+    edge : HasEdge n q r
+    edge = FreeEdge e (hop_more n (truth n t i) all_true q e r (λ look a. refl) hops)
 
-    on : Reaches n h.0 u → ⊥
-    on r = f (h.0 ∷ r.0, (edge, r.1))
+    past : Reaches n r u → ⊥
+    past w = f (r ∷ w.0, (edge, w.1))
 
-    fresh : In h.0 (q ∷ (seen ++ (u ∷ []))) → ⊥
-    fresh k = ⊎_elim (λ (b : In h.0 (q ∷ seen)). h.2 b)
-        (λ (b : In h.0 (u ∷ [])). ⊎_elim (λ (c : h.0 ≡ u). on ([], c)) (λ (c : ⊥). c) b)
-        (in_either h.0 (q ∷ seen) (u ∷ []) k)
-path_past n t i seen u q (e ∷ p) j z f (inr h) = inr h
+    fresh : In r (q ∷ (seen ++ (u ∷ []))) → ⊥
+    fresh k = ⊎_elim (λ (b : In r (q ∷ seen)). new b)
+        (λ (b : In r (u ∷ [])). ⊎_elim (λ (c : r ≡ u). past ([], c)) (λ (c : ⊥). c) b)
+        (in_either r (q ∷ seen) (u ∷ []) k)
+path_past n t i seen u q (e ∷ p) j z f (ReadsByte r edge moves on) = ReadsByte r edge moves on
 
 -- The edges of the two states of the loop.
 union_hop :
@@ -84,19 +86,20 @@ pub lazily :
     → Lazily n t i a path j z
 lazily n t u a x c d i [] j z p m h =
     absurd (union_accepts n u a x p c (subst (λ v. accepts n v ≡ Some p) (sym h.1) m))
-lazily n t u a x c d i (e ∷ []) j z p m (inl h) = go (union_hop n (truth n t i) u a x e h.0 c h.1)
+lazily n t u a x c d i (e ∷ []) j z p m (StaysHere r hops new on) = go (union_hop n (truth n t i) u a x e r c hops)
   where
-    go : ((e ≡ 0) × (h.0 ≡ a)) ⊎ ((e ≡ 1) × (h.0 ≡ x)) → Lazily n t i a (e ∷ []) j z
+    go : ((e ≡ 0) × (r ≡ a)) ⊎ ((e ≡ 1) × (r ≡ x)) → Lazily n t i a (e ∷ []) j z
     go (inl k) =
-        (0, [], ap (λ v. v ∷ []) k.0, (let b = h.3.0 in omega (arith, b), sym k.1 ∙ h.3.1))
-    go (inr k) = absurd (byte_accepts n x u p d (subst (λ v. accepts n v ≡ Some p) (sym h.3.1 ∙ k.1) m))
-lazily n t u a x c d i (e ∷ []) j z p m (inr h) = absurd (union_takes n u a x h.2.0 h.0 c h.2.2)
-lazily n t u a x c d i (e ∷ e' ∷ path) j z p m (inr h) = absurd (union_takes n u a x h.2.0 h.0 c h.2.2)
-lazily n t u a x c d i (e ∷ e' ∷ path) j z p m (inl h) =
-    go (union_hop n (truth n t i) u a x e h.0 c h.1) (lazily n t u a x c d (suc i) path j z p m)
+        (0, [], ap (λ v. v ∷ []) k.0, (let b = on.0 in omega (arith, b), sym k.1 ∙ on.1))
+    go (inr k) = absurd (byte_accepts n x u p d (subst (λ v. accepts n v ≡ Some p) (sym on.1 ∙ k.1) m))
+lazily n t u a x c d i (e ∷ []) j z p m (ReadsByte r edge moves on) = absurd (union_takes n u a x moves.0 r c moves.2)
+lazily n t u a x c d i (e ∷ e' ∷ path) j z p m (ReadsByte r edge moves on) =
+    absurd (union_takes n u a x moves.0 r c moves.2)
+lazily n t u a x c d i (e ∷ e' ∷ path) j z p m (StaysHere r hops new on) =
+    go (union_hop n (truth n t i) u a x e r c hops) (lazily n t u a x c d (suc i) path j z p m)
   where
     go :
-        ((e ≡ 0) × (h.0 ≡ a)) ⊎ ((e ≡ 1) × (h.0 ≡ x))
+        ((e ≡ 0) × (r ≡ a)) ⊎ ((e ≡ 1) × (r ≡ x))
         → (IsPathFrom n t (suc i) [] u path j z → Lazily n t (suc i) a path j z)
         → Lazily n t i a (e ∷ e' ∷ path) j z
     go (inl k) ih = (
@@ -105,17 +108,18 @@ lazily n t u a x c d i (e ∷ e' ∷ path) j z p m (inl h) =
       ap (λ v. v ∷ (e' ∷ path)) k.0,
       subst (λ v. IsPathFrom n t v [] a (e' ∷ path) j z) (omega arith)
           (path_forget n t i [] (u ∷ []) a (e' ∷ path) j z
-          (subst (λ v. IsPathFrom n t i (u ∷ []) v (e' ∷ path) j z) k.1 h.3)),
+          (subst (λ v. IsPathFrom n t i (u ∷ []) v (e' ∷ path) j z) k.1 on)),
     )
-    go (inr k) ih = step (subst (λ v. IsPathFrom n t i (u ∷ []) v (e' ∷ path) j z) k.1 h.3)
+    go (inr k) ih = step (subst (λ v. IsPathFrom n t i (u ∷ []) v (e' ∷ path) j z) k.1 on)
       where
         step : IsPathFrom n t i (u ∷ []) x (e' ∷ path) j z → Lazily n t i a (e ∷ e' ∷ path) j z
-        step (inl g) = absurd (byte_hop n (truth n t i) x u e' g.0 d g.1)
-        step (inr g) =
-            let w = ih (subst (λ v. IsPathFrom n t (suc i) [] v path j z) (byte_takes n x u g.2.0 g.0 d g.2.2) g.3) in (
+        step (StaysHere s hops' new' on') = absurd (byte_hop n (truth n t i) x u e' s d hops')
+        step (ReadsByte s edge moves on') =
+            let same = byte_takes n x u moves.0 s d moves.2 in
+            let w = ih (subst (λ v. IsPathFrom n t (suc i) [] v path j z) same on') in (
               suc w.0,
               w.1,
-              ap₂ (λ v w. v ∷ w) k.0 (ap₂ (λ v w. v ∷ w) g.1 w.2),
+              ap₂ (λ v w. v ∷ w) k.0 (ap₂ (λ v w. v ∷ w) edge w.2),
               subst (λ v. IsPathFrom n t v [] a w.1 j z) (omega arith) w.3,
             )
 
@@ -151,25 +155,15 @@ pub skipping :
     → (k i : ℕ) (rest : List ℕ) (j z : ℕ) → i + k ≤ length t.bytes → IsPathFrom n t (i + k) [] a rest j z
     → IsPathFrom n t i [] u (skips k (0 ∷ rest)) j z
 skipping n t u a x c d f bytes zero i rest j z l h =
-    inl (
-      a,
-      subst (λ v. hop_at v (truth n t i) 0 ≡ Some a) (sym c) refl,
-      (λ k. ⊎_elim (λ (b : a ≡ u). f ([], b)) (λ (b : ⊥). b) k),
-      path_past n t i [] u a rest j z f (subst (λ v. IsPathFrom n t v [] a rest j z) (omega arith) h),
-    )
+    StaysHere a (subst (λ v. hop_at v (truth n t i) 0 ≡ Some a) (sym c) refl)
+    (λ k. ⊎_elim (λ (b : a ≡ u). f ([], b)) (λ (b : ⊥). b) k)
+    (path_past n t i [] u a rest j z f (subst (λ v. IsPathFrom n t v [] a rest j z) (omega arith) h))
 skipping n t u a x c d f bytes (suc k) i rest j z l h =
-    inl (
-      x,
-      subst (λ v. hop_at v (truth n t i) 1 ≡ Some x) (sym c) refl,
-      (λ k. ⊎_elim (λ (b : x ≡ u). union_apart n u a x c d b) (λ (b : ⊥). b) k),
-      inr (
-        u,
-        refl,
-        (b.0, b.1, any_takes n x u b.0 d (bytes i b.0 b.1)),
-        skipping n t u a x c d f bytes k (suc i) rest j z (omega (arith, l))
-            (subst (λ v. IsPathFrom n t v [] a rest j z) (omega arith) h),
-      ),
-    )
+    StaysHere x (subst (λ v. hop_at v (truth n t i) 1 ≡ Some x) (sym c) refl)
+    (λ k. ⊎_elim (λ (b : x ≡ u). union_apart n u a x c d b) (λ (b : ⊥). b) k)
+    (ReadsByte u refl (b.0, b.1, any_takes n x u b.0 d (bytes i b.0 b.1))
+    (skipping n t u a x c d f bytes k (suc i) rest j z (omega (arith, l))
+    (subst (λ v. IsPathFrom n t v [] a rest j z) (omega arith) h)))
   where
     b : (v : ℕ) × (slice_get t.bytes i ≡ Some v)
     b = nth_some t.bytes i (omega (arith, l))
@@ -185,26 +179,27 @@ not_sooner n t u a x c d f zero i (e ∷ s) m b h = end s (cons_tail b.2)
     end : (s : List ℕ) → ◌≡◌ {A = List ℕ} [] (s ++ (b.0 ∷ b.1)) → ⊥
     end [] g = nil_cons g
     end (y ∷ s) g = nil_cons g
-not_sooner n t u a x c d f (suc k) i (e ∷ []) m b (inr h) = union_takes n u a x h.2.0 h.0 c h.2.2
-not_sooner n t u a x c d f (suc k) i (e ∷ []) m b (inl h) =
-    ⊎_elim (λ (g : (e ≡ 0) × (h.0 ≡ a)). absurd (omega (arith, g.0, cons_head b.2)))
-    (λ (g : (e ≡ 1) × (h.0 ≡ x)). skip_apart n u a x d f (sym g.1 ∙ h.3.1))
-    (union_hop n (truth n t i) u a x e h.0 c h.1)
-not_sooner n t u a x c d f (suc k) i (e ∷ e' ∷ s) m b (inr h) = union_takes n u a x h.2.0 h.0 c h.2.2
-not_sooner n t u a x c d f (suc k) i (e ∷ e' ∷ s) m b (inl h) =
-    go (union_hop n (truth n t i) u a x e h.0 c h.1) (not_sooner n t u a x c d f k (suc i) s m)
+not_sooner n t u a x c d f (suc k) i (e ∷ []) m b (ReadsByte r edge moves on) = union_takes n u a x moves.0 r c moves.2
+not_sooner n t u a x c d f (suc k) i (e ∷ []) m b (StaysHere r hops new on) =
+    ⊎_elim (λ (g : (e ≡ 0) × (r ≡ a)). absurd (omega (arith, g.0, cons_head b.2)))
+    (λ (g : (e ≡ 1) × (r ≡ x)). skip_apart n u a x d f (sym g.1 ∙ on.1))
+    (union_hop n (truth n t i) u a x e r c hops)
+not_sooner n t u a x c d f (suc k) i (e ∷ e' ∷ s) m b (ReadsByte r edge moves on) =
+    union_takes n u a x moves.0 r c moves.2
+not_sooner n t u a x c d f (suc k) i (e ∷ e' ∷ s) m b (StaysHere r hops new on) =
+    go (union_hop n (truth n t i) u a x e r c hops) (not_sooner n t u a x c d f k (suc i) s m)
   where
     go :
-        ((e ≡ 0) × (h.0 ≡ a)) ⊎ ((e ≡ 1) × (h.0 ≡ x))
+        ((e ≡ 0) × (r ≡ a)) ⊎ ((e ≡ 1) × (r ≡ x))
         → (Begins s (skips k (0 ∷ [])) → IsPathFrom n t (suc i) [] u s m a → ⊥) → ⊥
     go (inl g) ih = absurd (omega (arith, g.0, cons_head b.2))
-    go (inr g) ih = step (subst (λ v. IsPathFrom n t i (u ∷ []) v (e' ∷ s) m a) g.1 h.3)
+    go (inr g) ih = step (subst (λ v. IsPathFrom n t i (u ∷ []) v (e' ∷ s) m a) g.1 on)
       where
         step : IsPathFrom n t i (u ∷ []) x (e' ∷ s) m a → ⊥
-        step (inl g) = byte_hop n (truth n t i) x u e' g.0 d g.1
-        step (inr g) =
+        step (StaysHere r' hops' new' on') = byte_hop n (truth n t i) x u e' r' d hops'
+        step (ReadsByte r' edge moves on') =
             ih (b.0, b.1, cons_tail (cons_tail b.2))
-            (subst (λ v. IsPathFrom n t (suc i) [] v s m a) (byte_takes n x u g.2.0 g.0 d g.2.2) g.3)
+            (subst (λ v. IsPathFrom n t (suc i) [] v s m a) (byte_takes n x u moves.0 r' d moves.2) on')
 
 pub skips_join : (k : ℕ) (rest : List ℕ) → skips k (0 ∷ rest) ≡ skips k (0 ∷ []) ++ rest
 skips_join zero rest = refl

@@ -29,7 +29,7 @@ use Rattle.automata_base.proofs.Answers.Carried.{IsCarried, tape_bytes, answer_c
 use Rattle.automata_base.proofs.Answers.Carried.{far_carried}
 use Rattle.automata_base.proofs.Answers.Carried.{walk_carried, set_carried, span_carried, spans_carried}
 use Rattle.automata_base.proofs.Nfas.Merges.Back.{path_back}
-use Rattle.automata_base.proofs.Nfas.Merges.Comparing.{Compares, IsBeginning, IsHead, before_from, before_to}
+use Rattle.automata_base.proofs.Nfas.Merges.Comparing.{Compares, IsBeginning, IsPrefix, before_from, before_to}
 use Rattle.automata_base.proofs.Nfas.Merges.Comparing.{begins_from}
 use Rattle.automata_base.proofs.Nfas.Merges.Comparing.{begins_to, both_ways, equal_from, equal_to, head_from, head_to}
 use Rattle.automata_base.proofs.Nfas.Merges.Comparing.{same_head}
@@ -52,7 +52,7 @@ IsFirstOn n t start on path place =
 module _ (n m : Nfa) (t : Tape) (start on : ℕ) (R : List ℕ → List ℕ → Type 0)
     (there : (i : ℕ) (a : List ℕ) → IsPath n t start i on a → (b : List ℕ) × R a b × IsPath m t start i on b)
     (back : (i : ℕ) (b : List ℕ) → IsPath m t start i on b → (a : List ℕ) × R a b × IsPath n t start i on a)
-    (heads : (a b c d : List ℕ) → R a b → R c d → IsHead a c → IsHead b d)
+    (heads : (a b c d : List ℕ) → R a b → R c d → IsPrefix a c → IsPrefix b d)
     (beginnings : (a b c d : List ℕ) → R a b → R c d → IsBeginning b d → IsBeginning a c) where
   first_on : (a b : List ℕ) (place : ℕ) → R a b → IsFirstOn n t start on a place → IsFirstOn m t start on b place
   first_on a b place r (head, rest, e, path, none) =
@@ -249,16 +249,20 @@ module _ (a b : Automaton) (kind : MatchKind) (checked : IsChecked a) (into : Is
   both_alike = record {
     searches = record {
       answer =
-          λ way input o bytes.
-          (answer_carried d e There carried_there way input o bytes, answer_carried e d Back carried_back way input o
-          bytes);
+          λ way input o bytes. (
+            answer_carried d e There carried_there way input o bytes,
+            answer_carried e d Back carried_back way input o
+                bytes,
+          );
       truth =
           λ input o bytes.
           (match_carried d e There carried_there input o bytes, match_carried e d Back carried_back input o bytes);
       nearest =
-          λ way input o bytes.
-          (near_carried d e There carried_there way input o bytes, near_carried e d Back carried_back way input o
-          bytes);
+          λ way input o bytes. (
+            near_carried d e There carried_there way input o bytes,
+            near_carried e d Back carried_back way input o
+                bytes,
+          );
       farthest =
           λ way input o bytes.
           (far_carried d e There carried_there way input o bytes, far_carried e d Back carried_back way input o bytes);
@@ -271,13 +275,17 @@ module _ (a b : Automaton) (kind : MatchKind) (checked : IsChecked a) (into : Is
           λ input ms bytes.
           (spans_carried d e There carried_there input ms bytes, spans_carried e d Back carried_back input ms bytes);
       overlapping =
-          λ way input found bytes.
-          (walk_carried d e There carried_there way input found bytes, walk_carried e d Back carried_back way input
-          found bytes);
+          λ way input found bytes. (
+            walk_carried d e There carried_there way input found bytes,
+            walk_carried e d Back carried_back way input
+                found bytes,
+          );
       patterns =
-          λ input capacity given found bytes.
-          (set_carried d e There carried_there input capacity given found bytes, set_carried e d Back carried_back input
-          capacity given found bytes);
+          λ input capacity given found bytes. (
+            set_carried d e There carried_there input capacity given found bytes,
+            set_carried e d Back carried_back input
+                capacity given found bytes,
+          );
     };
     skipping = skipping_alike;
   }

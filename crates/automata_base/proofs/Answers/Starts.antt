@@ -56,7 +56,7 @@ answered d input half a = go (first_state d input.anchored) refl a.2.reported
         e,
         a.2.offset ∙ ap (λ v. v + a.2.pair.place) (sym a.2.base),
         subst (λ v. Chooses d input.earliest (forward_tape input.haystack v input.end) q a.2.pair.place half.pattern
-        s.0) (sym a.2.base)
+            s.0) (sym a.2.base)
             (subst (λ v. Chooses d input.earliest (forward_tape input.haystack (input.start + a.0) input.end) q
             a.2.pair.place v s.0) (sym a.2.pattern) (s.1, s.2)),
         omega (arith, a.2.base),

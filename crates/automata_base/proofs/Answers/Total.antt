@@ -201,9 +201,10 @@ try_exists f r input sf sr b kf kr = go (answer_exists Forward f input sf b kf)
             found_at :
                 (start : ℕ) → HasStartBy (IsAnswer Backward r) f input half start
                 → (outcome : Outcome) × IsTrySearch f r input outcome
-            found_at start begins =
-                (Found (Some (match_of half start)),
-                record { half = half; front = a; start = begins; pattern = refl; end = refl })
+            found_at start begins = (
+              Found (Some (match_of half start)),
+              record { half = half; front = a; start = begins; pattern = refl; end = refl },
+            )
 
             start :
                 IsShort f input half ⊎ (IsShort f input half → ⊥) → (outcome : Outcome) × IsTrySearch f r input outcome

@@ -112,11 +112,11 @@ module _ (kind : MatchKind) (a : Automaton) (mode : Anchored) (t : Tape) (pair :
   last_below (suc k) e =
       go (λ before. last_below k before)
       (pair_reported (reported_at a kind mode t k) k (last_reported a kind mode t k) pair e) where
-    go :
-        (last_reported a kind mode t k ≡ Some pair → ReportedBelow k) → (last_reported a kind mode t k ≡ Some pair)
-        ⊎ IsReportedAt (reported_at a kind mode t k) k pair → ReportedBelow (suc k)
-    go sooner (inl before) = below_more k (sooner before)
-    go sooner (inr s) = here k s
+        go :
+            (last_reported a kind mode t k ≡ Some pair → ReportedBelow k) → (last_reported a kind mode t k ≡ Some pair)
+            ⊎ IsReportedAt (reported_at a kind mode t k) k pair → ReportedBelow (suc k)
+        go sooner (inl before) = below_more k (sooner before)
+        go sooner (inr s) = here k s
 
   pub first_below : (k : ℕ) → first_reported a kind mode t k ≡ Some pair → ReportedBelow k
   unfolding first_reported
@@ -124,18 +124,18 @@ module _ (kind : MatchKind) (a : Automaton) (mode : Anchored) (t : Tape) (pair :
   first_below (suc k) e =
       go (λ before. first_below k before)
       (earlier_reported (first_reported a kind mode t k) (pair_at (reported_at a kind mode t k) k None) pair e) where
-    next :
-        (◌≡◌ {A = Option Pair} None (Some pair)) ⊎ IsReportedAt (reported_at a kind mode t k) k pair
-        → ReportedBelow (suc k)
-    next (inl n) = absurd (none_some n)
-    next (inr s) = here k s
+        next :
+            (◌≡◌ {A = Option Pair} None (Some pair)) ⊎ IsReportedAt (reported_at a kind mode t k) k pair
+            → ReportedBelow (suc k)
+        next (inl n) = absurd (none_some n)
+        next (inr s) = here k s
 
-    go : (first_reported a kind mode t k ≡ Some pair → ReportedBelow k)
-        → (first_reported a kind mode t k ≡ Some pair)
-        ⊎ ((first_reported a kind mode t k ≡ None) × (pair_at (reported_at a kind mode t k) k None ≡ Some pair))
-        → ReportedBelow (suc k)
-    go sooner (inl before) = below_more k (sooner before)
-    go sooner (inr now) = next (pair_reported (reported_at a kind mode t k) k None pair now.1)
+        go : (first_reported a kind mode t k ≡ Some pair → ReportedBelow k)
+            → (first_reported a kind mode t k ≡ Some pair)
+            ⊎ ((first_reported a kind mode t k ≡ None) × (pair_at (reported_at a kind mode t k) k None ≡ Some pair))
+            → ReportedBelow (suc k)
+        go sooner (inl before) = below_more k (sooner before)
+        go sooner (inr now) = next (pair_reported (reported_at a kind mode t k) k None pair now.1)
 
   pub reported_below : (earliest : Bool) (k : ℕ) → reported_upto kind earliest a mode t k ≡ Some pair → ReportedBelow k
   reported_below true k e = first_below k e
@@ -181,15 +181,22 @@ pub reported_within :
     → IsInSpan input half.offset × (input.start ≤ half.base) × (half.base ≤ half.offset)
 reported_within Forward a kind input half few f =
     let b = over_below Forward a kind (later Forward f.0 input) f.2.pair (sym f.2.reported) in
-    let w = place_in Forward (later Forward f.0 input) f.2.pair.place f.2.within few b.0 in
-    ((omega (arith, w.0, f.2.offset), omega (arith, w.1, f.2.offset)), omega (arith, f.2.base), omega
-    (arith, w.0, f.2.offset, f.2.base))
+    let w = place_in Forward (later Forward f.0 input) f.2.pair.place f.2.within few b.0 in (
+      (omega (arith, w.0, f.2.offset), omega (arith, w.1, f.2.offset)),
+      omega (arith, f.2.base),
+      omega
+          (arith, w.0, f.2.offset, f.2.base),
+    )
 reported_within Backward a kind input half few f =
     let b = over_below Backward a kind (later Backward f.0 input) f.2.pair (sym f.2.reported) in
     let w =
-    place_in Backward (later Backward f.0 input) f.2.pair.place (omega (arith, f.2.within)) (omega (arith, few)) b.0 in
-    ((omega (arith, w.0, f.2.offset), omega (arith, w.1, f.2.offset)), omega (arith, f.2.base), omega
-    (arith, w.0, f.2.offset, f.2.base))
+    place_in Backward (later Backward f.0 input) f.2.pair.place (omega (arith, f.2.within)) (omega (arith, few))
+    b.0 in (
+      (omega (arith, w.0, f.2.offset), omega (arith, w.1, f.2.offset)),
+      omega (arith, f.2.base),
+      omega
+          (arith, w.0, f.2.offset, f.2.base),
+    )
 
 -- and its pattern is the automaton's
 pattern_reported :

@@ -256,13 +256,17 @@ module _ (n : Nfa) (A : Truth) (x : ℕ) (S stack : List ℕ) (new : In x S → 
           ((j < length (children n A x)) × (slice_get (children n A x) j ≡ Some h.0))
           ⊎ ((k : ℕ) × (j ≡ length (children n A x) + k) × (slice_get stack k ≡ Some h.0))
           → (image : List ℕ) × Other q image × Carries P Other (j ∷ p) image
-      go (inl c) =
-          (0 ∷ (j ∷ p), (other_end q (j ∷ p) h, (x, refl, (new, (h.0, hop_children n A x j ∙ c.1, h.2.0, h.2.1)))),
-          carries_first j p)
+      go (inl c) = (
+        0 ∷ (j ∷ p),
+        (other_end q (j ∷ p) h, (x, refl, (new, (h.0, hop_children n A x j ∙ c.1, h.2.0, h.2.1)))),
+        carries_first j p,
+      )
       go (inr c) = (
         suc c.0 ∷ p,
-        (other_end q (j ∷ p) h,
-        (h.0, c.2, ((λ i. h.2.0 (inr i)), walk_fewer n A (x ∷ S) S h.0 p q (λ y i. inr i) h.2.1))),
+        (
+          other_end q (j ∷ p) h,
+          (h.0, c.2, ((λ i. h.2.0 (inr i)), walk_fewer n A (x ∷ S) S h.0 p q (λ y i. inr i) h.2.1)),
+        ),
         carries_second j c.0 p c.1,
       )
 

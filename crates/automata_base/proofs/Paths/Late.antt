@@ -75,9 +75,16 @@ first_kept n k K T seen q (e ∷ t) z stays b w =
     go true c h f = here c
     go false c (inl s) f = here (stays q s)
     go false c (inr h) f =
-        let j : fork n q e ≡ Some w.0 = sym (h.1 T e) ∙ w.1 in
-        (f.0, e ∷ f.1, f.2, ap (λ v. e ∷ v) f.3, (w.0, fork_hop (node n q) K e w.0 j, w.2, f.4), (w.0, c, j, f.5), f.6,
-        f.7)
+        let j : fork n q e ≡ Some w.0 = sym (h.1 T e) ∙ w.1 in (
+          f.0,
+          e ∷ f.1,
+          f.2,
+          ap (λ v. e ∷ v) f.3,
+          (w.0, fork_hop (node n q) K e w.0 j, w.2, f.4),
+          (w.0, c, j, f.5),
+          f.6,
+          f.7,
+        )
 
 -- A walk on from `x` to `z` meets none of `more`, if none of them that `x` leads to goes on to `z` past `first`.
 walk_past_by :

@@ -250,9 +250,11 @@ known_right n prev look = (there, back)
     there : known_looks n prev look ≡ true → IsKnownLook n prev look
     there e =
         let w = and_parts (any_node f n.nodes) (always n.terminator n.reverse look prev) e in
-        let v = any_node_true f n.nodes w.0 in
-        ((v.0, v.2, v.3 ∙ ap (λ l. Assert l v.2) (code_one v.1 look v.4)), always_true n.terminator n.reverse look prev
-        w.1)
+        let v = any_node_true f n.nodes w.0 in (
+          (v.0, v.2, v.3 ∙ ap (λ l. Assert l v.2) (code_one v.1 look v.4)),
+          always_true n.terminator n.reverse look prev
+              w.1,
+        )
 
     back : IsKnownLook n prev look → known_looks n prev look ≡ true
     back k =

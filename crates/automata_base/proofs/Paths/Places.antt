@@ -1,10 +1,10 @@
 -- Paths from place to place.
 use Rattle.std.proofs.Common.{ℕ, suc, ◌≡◌, ◌<◌, ◌≤◌, cond, List, [], ◌∷◌, ◌++◌, ◌⊎◌, Option, Some, None, inl, inr, refl}
-use Rattle.std.proofs.Common.{sym, ap, ◌∙◌, subst, arith, ⊎_elim, eq-or-lt_of_le, append-nil}
-use Rattle.automata_base.specs.Lists.{In}
+use Rattle.std.proofs.Common.{sym, ap, ◌∙◌, subst, arith, eq-or-lt_of_le, append-nil}
 use Rattle.automata_base.specs.Nfas.Nfa.{Nfa, Node, Split, Assert, Read, Accept, Truth, node, hop, hop_at, takes}
 use Rattle.automata_base.specs.Nfas.Nfa.{takes_at, accepts, accepts_at, ends, ends_at}
 use Rattle.automata_base.specs.Paths.Paths.{IsPathAt, Tape, IsPathFrom, IsPath, Moves, truth}
+use Rattle.automata_base.specs.Paths.Paths.{StaysHere, ReadsByte}
 use Rattle.automata_base.proofs.Paths.Orders.{some_inj, none_some}
 
 -- A byte state has no edge that stays at its place, nor has a match.
@@ -45,23 +45,24 @@ accepts_ends n q p e = accepts_ends_at (node n q) q p e
 pub path_grows :
     (n : Nfa) (t : Tape) (i : ℕ) (seen : List ℕ) (q : ℕ) (p : List ℕ) (j z : ℕ) → IsPathFrom n t i seen q p j z → i ≤ j
 path_grows n t i seen q [] j z h = omega (arith, h.0)
-path_grows n t i seen q (e ∷ p) j z (inl h) = path_grows n t i (q ∷ seen) h.0 p j z h.3
-path_grows n t i seen q (e ∷ p) j z (inr h) =
-    let k = path_grows n t (suc i) [] h.0 p j z h.3 in omega (arith, k)
+path_grows n t i seen q (e ∷ p) j z (StaysHere r hops new on) = path_grows n t i (q ∷ seen) r p j z on
+path_grows n t i seen q (e ∷ p) j z (ReadsByte r edge moves on) =
+    let k = path_grows n t (suc i) [] r p j z on in omega (arith, k)
 
 pub walk_path :
     (n : Nfa) (t : Tape) (i : ℕ) (seen : List ℕ) (q : ℕ) (p : List ℕ) (z : ℕ)
     → IsPathAt n (truth n t i) seen q p z → IsPathFrom n t i seen q p i z
 walk_path n t i seen q [] z w = (refl, w)
-walk_path n t i seen q (e ∷ p) z w = inl (w.0, w.1, w.2, walk_path n t i (q ∷ seen) w.0 p z w.3)
+walk_path n t i seen q (e ∷ p) z w = StaysHere w.0 w.1 w.2 (walk_path n t i (q ∷ seen) w.0 p z w.3)
 
 pub path_walk :
     (n : Nfa) (t : Tape) (i : ℕ) (seen : List ℕ) (q : ℕ) (p : List ℕ) (j z : ℕ)
     → i ≡ j → IsPathFrom n t i seen q p j z → IsPathAt n (truth n t i) seen q p z
 path_walk n t i seen q [] j z e h = h.1
-path_walk n t i seen q (e' ∷ p) j z e (inl h) = (h.0, h.1, h.2, path_walk n t i (q ∷ seen) h.0 p j z e h.3)
-path_walk n t i seen q (e' ∷ p) j z e (inr h) =
-    let k = path_grows n t (suc i) [] h.0 p j z h.3 in absurd (omega (arith, k, e))
+path_walk n t i seen q (e' ∷ p) j z e (StaysHere r hops new on) =
+    (r, hops, new, path_walk n t i (q ∷ seen) r p j z e on)
+path_walk n t i seen q (e' ∷ p) j z e (ReadsByte r edge moves on) =
+    let k = path_grows n t (suc i) [] r p j z on in absurd (omega (arith, k, e))
 
 -- A path, a byte's edge, and a path on.
 pub path_extend :
@@ -69,12 +70,12 @@ pub path_extend :
     → IsPathFrom n t i seen q p j b → Moves n t j b r → IsPathFrom n t (suc j) [] r s k z
     → IsPathFrom n t i seen q (p ++ (0 ∷ s)) k z
 path_extend n t i seen q [] j b r s k z h m g =
-    inr (r, refl, subst (λ v. Moves n t v q r) (sym h.0) (subst (λ v. Moves n t j v r) (sym h.1) m), subst
-    (λ v. IsPathFrom n t (suc v) [] r s k z) (sym h.0) g)
-path_extend n t i seen q (e ∷ p) j b r s k z (inl h) m g =
-    inl (h.0, h.1, h.2, path_extend n t i (q ∷ seen) h.0 p j b r s k z h.3 m g)
-path_extend n t i seen q (e ∷ p) j b r s k z (inr h) m g =
-    inr (h.0, h.1, h.2, path_extend n t (suc i) [] h.0 p j b r s k z h.3 m g)
+    ReadsByte r refl (subst (λ v. Moves n t v q r) (sym h.0) (subst (λ v. Moves n t j v r) (sym h.1) m))
+    (subst (λ v. IsPathFrom n t (suc v) [] r s k z) (sym h.0) g)
+path_extend n t i seen q (e ∷ p) j b r s k z (StaysHere r' hops new on) m g =
+    StaysHere r' hops new (path_extend n t i (q ∷ seen) r' p j b r s k z on m g)
+path_extend n t i seen q (e ∷ p) j b r s k z (ReadsByte r' edge moves on) m g =
+    ReadsByte r' edge moves (path_extend n t (suc i) [] r' p j b r s k z on m g)
 
 -- The last place of a path.
 abbrev pub LastPlace : Nfa → Tape → ℕ → List ℕ → ℕ → List ℕ → ℕ → ℕ → Type 0
@@ -86,27 +87,28 @@ pub last_place :
     (n : Nfa) (t : Tape) (i : ℕ) (seen : List ℕ) (q : ℕ) (p : List ℕ) (j z : ℕ)
     → i ≤ j → IsPathFrom n t i seen q p (suc j) z → LastPlace n t i seen q p j z
 last_place n t i seen q [] j z l h = absurd (omega (arith, h.0, l))
-last_place n t i seen q (e ∷ p) j z l (inl h) =
-    let f = last_place n t i (q ∷ seen) h.0 p j z l h.3 in
-    (f.0, f.1, e ∷ f.2, f.3, inl (h.0, h.1, h.2, f.4), f.5, f.6, ap (λ v. e ∷ v) f.7)
-last_place n t i seen q (e ∷ p) j z l (inr h) = go (eq-or-lt_of_le l) (last_place n t (suc i) [] h.0 p j z)
+last_place n t i seen q (e ∷ p) j z l (StaysHere r hops new on) =
+    let f = last_place n t i (q ∷ seen) r p j z l on in
+    (f.0, f.1, e ∷ f.2, f.3, StaysHere r hops new f.4, f.5, f.6, ap (λ v. e ∷ v) f.7)
+last_place n t i seen q (e ∷ p) j z l (ReadsByte r edge moves on) =
+    go (eq-or-lt_of_le l) (last_place n t (suc i) [] r p j z)
   where
     go :
-        (i ≡ j) ⊎ (i < j) → (suc i ≤ j → IsPathFrom n t (suc i) [] h.0 p (suc j) z → LastPlace n t (suc i) [] h.0 p j z)
+        (i ≡ j) ⊎ (i < j) → (suc i ≤ j → IsPathFrom n t (suc i) [] r p (suc j) z → LastPlace n t (suc i) [] r p j z)
         → LastPlace n t i seen q (e ∷ p) j z
     go (inl s) ih = (
       q,
-      h.0,
+      r,
       [],
       p,
       (s, refl),
-      subst (λ v. Moves n t v q h.0) s h.2,
-      path_walk n t (suc j) [] h.0 p (suc j) z refl (subst (λ v. IsPathFrom n t (suc v) [] h.0 p (suc j) z) s h.3),
-      ap (λ v. v ∷ p) h.1,
+      subst (λ v. Moves n t v q r) s moves,
+      path_walk n t (suc j) [] r p (suc j) z refl (subst (λ v. IsPathFrom n t (suc v) [] r p (suc j) z) s on),
+      ap (λ v. v ∷ p) edge,
     )
     go (inr s) ih =
-        let f = ih s h.3 in
-        (f.0, f.1, e ∷ f.2, f.3, inr (h.0, h.1, h.2, f.4), f.5, f.6, ap (λ v. e ∷ v) f.7)
+        let f = ih s on in
+        (f.0, f.1, e ∷ f.2, f.3, ReadsByte r edge moves f.4, f.5, f.6, ap (λ v. e ∷ v) f.7)
 
 -- A path that goes on from another.
 pub resume :
@@ -115,19 +117,19 @@ pub resume :
     × IsPathFrom n t j seen' x c k y
 resume n t i seen q [] j x c k y h g =
     (seen, subst (λ v. IsPathFrom n t v seen x c k y) h.0 (subst (λ v. IsPathFrom n t i seen v c k y) h.1 g))
-resume n t i seen q (e ∷ p) j x c k y (inl h) (inl g) =
-    resume n t i (q ∷ seen) h.0 p j x c k y h.3
-    (subst (λ v. IsPathFrom n t i (q ∷ seen) v (p ++ c) k y) (some_inj (sym g.1 ∙ h.1)) g.3)
-resume n t i seen q (e ∷ p) j x c k y (inl h) (inr g) =
-    absurd (hop_takes n q (truth n t i) e g.2.0 h.0 g.0 h.1 g.2.2)
-resume n t i seen q (e ∷ p) j x c k y (inr h) (inl g) =
-    absurd (hop_takes n q (truth n t i) e h.2.0 g.0 h.0 g.1 h.2.2)
-resume n t i seen q (e ∷ p) j x c k y (inr h) (inr g) =
-    resume n t (suc i) [] h.0 p j x c k y h.3
-    (subst (λ v. IsPathFrom n t (suc i) [] v (p ++ c) k y) (some_inj agree) g.3)
+resume n t i seen q (e ∷ p) j x c k y (StaysHere r hops new on) (StaysHere r' hops' new' on') =
+    resume n t i (q ∷ seen) r p j x c k y on
+    (subst (λ v. IsPathFrom n t i (q ∷ seen) v (p ++ c) k y) (some_inj (sym hops' ∙ hops)) on')
+resume n t i seen q (e ∷ p) j x c k y (StaysHere r hops new on) (ReadsByte r' edge' moves' on') =
+    absurd (hop_takes n q (truth n t i) e moves'.0 r r' hops moves'.2)
+resume n t i seen q (e ∷ p) j x c k y (ReadsByte r edge moves on) (StaysHere r' hops' new' on') =
+    absurd (hop_takes n q (truth n t i) e moves.0 r' r hops' moves.2)
+resume n t i seen q (e ∷ p) j x c k y (ReadsByte r edge moves on) (ReadsByte r' edge' moves' on') =
+    resume n t (suc i) [] r p j x c k y on
+    (subst (λ v. IsPathFrom n t (suc i) [] v (p ++ c) k y) (some_inj agree) on')
   where
-    agree : ◌≡◌ {A = Option ℕ} (Some g.0) (Some h.0)
-    agree = sym g.2.2 ∙ (ap (λ v. takes n q v) (some_inj (sym g.2.1 ∙ h.2.1)) ∙ h.2.2)
+    agree : ◌≡◌ {A = Option ℕ} (Some r') (Some r)
+    agree = sym moves'.2 ∙ (ap (λ v. takes n q v) (some_inj (sym moves'.1 ∙ moves.1)) ∙ moves.2)
 
 -- From a byte state a path goes on to a later place.
 pub reader_apart :
@@ -136,13 +138,8 @@ pub reader_apart :
 reader_apart n t start i x u r p j y z zs h m g = go (resume n t 0 [] start p i x (z ∷ zs) j y h g)
   where
     go : (seen : List ℕ) × IsPathFrom n t i seen x (z ∷ zs) j y → i < j
-    go w = ⊎_elim
-        (λ (k : (r : ℕ) × (hop n (truth n t i) x z ≡ Some r) × (In r (x ∷ w.0) → ⊥)
-        × IsPathFrom n t i (x ∷ w.0) r zs j y).
-        absurd (hop_takes n x (truth n t i) z u k.0 r k.1 m))
-        (λ (k : (r : ℕ) × (z ≡ 0) × Moves n t i x r × IsPathFrom n t (suc i) [] r zs j y).
-        path_grows n t (suc i) [] k.0 zs j y k.3)
-        w.1
+    go (seen, StaysHere r' hops new on) = absurd (hop_takes n x (truth n t i) z u r' r hops m)
+    go (seen, ReadsByte r' edge moves on) = path_grows n t (suc i) [] r' zs j y on
 
 -- From a match no path goes on.
 pub match_last :
@@ -151,13 +148,8 @@ pub match_last :
 match_last n t start i x q p j y z zs h m g = go (resume n t 0 [] start p i x (z ∷ zs) j y h g)
   where
     go : (seen : List ℕ) × IsPathFrom n t i seen x (z ∷ zs) j y → ⊥
-    go w = ⊎_elim
-        (λ (k : (r : ℕ) × (hop n (truth n t i) x z ≡ Some r) × (In r (x ∷ w.0) → ⊥)
-        × IsPathFrom n t i (x ∷ w.0) r zs j y).
-        hop_accepts_at (node n x) (truth n t i) z k.0 q k.1 m)
-        (λ (k : (r : ℕ) × (z ≡ 0) × Moves n t i x r × IsPathFrom n t (suc i) [] r zs j y).
-        takes_accepts n x k.2.0 k.0 q k.2.2 m)
-        w.1
+    go (seen, StaysHere r hops new on) = hop_accepts_at (node n x) (truth n t i) z r q hops m
+    go (seen, ReadsByte r edge moves on) = takes_accepts n x moves.0 r q moves.2 m
 
 -- One path has one end.
 pub path_end :

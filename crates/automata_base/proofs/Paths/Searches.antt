@@ -7,6 +7,7 @@ use Rattle.automata_base.specs.Lists.{In}
 use Rattle.std.specs.Prelude.{slice_get}
 use Rattle.automata_base.specs.Nfas.Nfa.{Nfa}
 use Rattle.automata_base.specs.Paths.Paths.{Tape, IsPathFrom, KeepsCycles}
+use Rattle.automata_base.specs.Paths.Paths.{StaysHere, ReadsByte}
 use Rattle.automata_base.specs.Powersets.Cuts.{MatchKind, All, LeftmostFirst}
 use Rattle.automata_base.specs.Paths.Selections.{Accepts, IsFirstAt, ArePatternsAt, Reports, Pair, Pairs}
 use Rattle.automata_base.specs.Paths.Selections.{IsOverlappingOn}
@@ -21,9 +22,13 @@ pub pairs_map :
     (At At' : ℕ → List ℕ → Type 0) (k : ℕ) (pairs : List Pair)
     → ((i : ℕ) (patterns : List ℕ) → i < k → At i patterns → At' i patterns) → Pairs At k pairs → Pairs At' k pairs
 pairs_map At At' zero pairs f p = p
-pairs_map At At' (suc k) pairs f p =
-    (p.0, p.1, pairs_map At At' k p.0 (λ i patterns l. f i patterns (omega (arith, l))) p.2, f k p.1 (omega arith) p.3,
-    p.4)
+pairs_map At At' (suc k) pairs f p = (
+  p.0,
+  p.1,
+  pairs_map At At' k p.0 (λ i patterns l. f i patterns (omega (arith, l))) p.2,
+  f k p.1 (omega arith) p.3,
+  p.4,
+)
 
 -- The whole list of a walk.
 pub walk_right :
@@ -42,9 +47,9 @@ pub path_inside :
     (n : Nfa) (t : Tape) (i : ℕ) (seen : List ℕ) (q : ℕ) (p : List ℕ) (j z : ℕ)
     → i ≤ length t.bytes → IsPathFrom n t i seen q p j z → j ≤ length t.bytes
 path_inside n t i seen q [] j z l h = omega (arith, l, h.0)
-path_inside n t i seen q (e ∷ p) j z l (inl h) = path_inside n t i (q ∷ seen) h.0 p j z l h.3
-path_inside n t i seen q (e ∷ p) j z l (inr h) =
-    path_inside n t (suc i) [] h.0 p j z (nth_inside t.bytes i h.2.0 h.2.1) h.3
+path_inside n t i seen q (e ∷ p) j z l (StaysHere r hops new on) = path_inside n t i (q ∷ seen) r p j z l on
+path_inside n t i seen q (e ∷ p) j z l (ReadsByte r edge moves on) =
+    path_inside n t (suc i) [] r p j z (nth_inside t.bytes i moves.0 moves.1) on
 
 pub accepting_inside :
     (n : Nfa) (t : Tape) (start i pattern : ℕ) (path : List ℕ) → Accepts n t start i pattern path → i ≤ length t.bytes
@@ -175,7 +180,7 @@ sel_first n t start pair rest (ReportsLeast p path one h) f = (
   path,
   subst (λ v. Accepts n t start pair.place v path) (sym (cons_head one)) h.accepted,
   λ j pattern other a. upto n t start pair.place p path f h (suc (length t.bytes)) j pattern other
-  (let k = accepting_inside n t start j pattern other a in omega (arith, k)) a,
+      (let k = accepting_inside n t start j pattern other a in omega (arith, k)) a,
 )
 
 -- A plain search.

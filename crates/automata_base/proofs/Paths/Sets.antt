@@ -179,7 +179,7 @@ step_set n t start i u N byte s q = (λ r. there r.0 r.1, λ m. back m.0 m.1)
         let y = s.0 x.0 x.1 in (
           y.1.0 ++ (0 ∷ p),
           path_extend n t 0 [] start y.1.0 i x.0 k.0 p (suc i) q y.1.1 (u, byte, x.2)
-          (walk_path n t (suc i) [] k.0 p q k.2),
+              (walk_path n t (suc i) [] k.0 p q k.2),
         )
 
     back : (path : List ℕ) → IsPath n t start (suc i) q path → Reached n (truth n t (suc i)) (pick g N) q
@@ -252,9 +252,13 @@ means_set_succ kind n t start i P Q tape_of inside quiet m s = go (next_byte t.b
     N = decided_set n t start i P s.0 tape_of m s.2
 
     go : (u : ℕ) × (slice_get t.bytes i ≡ Some u) × (next t i ≡ Some u) → MeansSet n t start (suc i) Q
-    go b =
-        (s.1, pick (λ v. takes n v b.0) (cut_for kind n s.0), arrival, λ q. subst (Goal q) (sym e)
-        (step_set n t start i b.0 (pick (ends n) s.0) b.1 N q))
+    go b = (
+      s.1,
+      pick (λ v. takes n v b.0) (cut_for kind n s.0),
+      arrival,
+      λ q. subst (Goal q) (sym e)
+          (step_set n t start i b.0 (pick (ends n) s.0) b.1 N q),
+    )
       where
         Goal : ℕ → List ℕ → Type 0
         Goal q roots = Reached n (truth n t (suc i)) roots q ↔ IsMet n t start (suc i) q
@@ -398,9 +402,10 @@ nearest_right kind n t start None tape_of p = λ i pattern path a.
     reported_nothing kind n t start (suc (length t.bytes)) tape_of (omega arith) (λ j h. p j (le_of_suc-le-suc h)) i
     pattern path
     (let k = accepting_inside n t start i pattern path a in omega (arith, k)) a
-nearest_right kind n t start (Some pair) tape_of p =
-    ((pass_honest kind n t start pair.place (pair.pattern ∷ p.0) tape_of p.1 (quiet kind) p.2).1 pair.pattern p.0 refl,
-    before)
+nearest_right kind n t start (Some pair) tape_of p = (
+  (pass_honest kind n t start pair.place (pair.pattern ∷ p.0) tape_of p.1 (quiet kind) p.2).1 pair.pattern p.0 refl,
+  before,
+)
   where
     before : (j pattern : ℕ) (path : List ℕ) → j < pair.place → Accepts n t start j pattern path → ⊥
     before = reported_nothing kind n t start pair.place tape_of (omega (arith, p.1)) p.3

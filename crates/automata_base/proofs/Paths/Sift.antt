@@ -58,9 +58,14 @@ same_sorted :
     → ((q : ℕ) (key : List ℕ) → P q key → P' q key) → ((q : ℕ) (key : List ℕ) → P' q key → P q key)
     → Sorted P xs → Sorted P' xs
 same_sorted P P' [] f g s = tt
-same_sorted P P' (x ∷ xs) f g s =
-    (s.0, f x s.0 s.1, λ other h. s.2 other (g x other h), λ y other i h. s.3 y other i (g y other h), same_sorted P P'
-    xs f g s.4)
+same_sorted P P' (x ∷ xs) f g s = (
+  s.0,
+  f x s.0 s.1,
+  λ other h. s.2 other (g x other h),
+  λ y other i h. s.3 y other i (g y other h),
+  same_sorted P P'
+      xs f g s.4,
+)
 
 -- Keys said in another way.
 pub same :

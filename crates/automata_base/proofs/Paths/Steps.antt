@@ -98,10 +98,17 @@ step n t start i u best N xs byte past l m =
     )
 
     divides : Divides P g S P' (0 ∷ [])
-    divides q key h =
-        (f.0, f.1, f.2, f.3,
-        (takes_ends n f.0 u f.1 moves, f.4, within_less best f.2 0 f.3 (subst (λ v. Within best v) f.7 h.2)), moves,
-        (h.0, f.6), f.7, apart)
+    divides q key h = (
+      f.0,
+      f.1,
+      f.2,
+      f.3,
+      (takes_ends n f.0 u f.1 moves, f.4, within_less best f.2 0 f.3 (subst (λ v. Within best v) f.7 h.2)),
+      moves,
+      (h.0, f.6),
+      f.7,
+      apart,
+    )
       where
         f : (b r : ℕ) × (head rest : List ℕ) × IsPathFrom n t 0 [] start head i b × Moves n t i b r
             × IsPathAt n (truth n t (suc i)) [] r rest q × (key ≡ head ++ (0 ∷ rest))

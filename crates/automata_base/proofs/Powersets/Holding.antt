@@ -93,8 +93,11 @@ module _ (dense sparse : List ℕ) (len : ℕ) (within : len ≤ length dense)
           let lk : k < len = omega arith in
           let other : get_or dense k 0 ≡ id → ⊥ =
           λ e. new
-          (In-Contains id (take len dense)
-          (k, (let n : length (take len dense) ≡ len = length-take-le len dense within in
-          let h : k < length (take len dense) = omega arith in h), taken k id lk ∙ e)) in
+          (In-Contains id (take len dense) (
+            k,
+            (let n : length (take len dense) ≡ len = length-take-le len dense within in
+                let h : k < length (take len dense) = omega arith in h),
+            taken k id lk ∙ e,
+          )) in
           ap (λ z. get_or (set sparse id len) z 0) (get_or-set_other dense len k id 0 ne)
           ∙ (get_or-set_other sparse id (get_or dense k 0) len 0 other ∙ back k lk)

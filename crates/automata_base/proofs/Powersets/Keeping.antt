@@ -267,13 +267,19 @@ pub pattern_next :
     → ((p : ℕ) → o ≡ Some p → more ≡ ys ++ cond (is_in p ys) [] (p ∷ [])) → (o ≡ None → more ≡ ys)
     → Patterns g xs i P ys → Patterns g xs (i + 1) P more
 pattern_next g xs i x P None ys more l e s below some none h =
-    subst (λ z. Patterns g xs (i + 1) P z) (sym (none refl))
-    (sym (ap (once_from ys) (pick_next g xs i x l e ∙ ap (λ z. cons_some z (pick g (drop (i + 1) xs))) s))
-    ∙ h.0, h.1, h.2)
+    subst (λ z. Patterns g xs (i + 1) P z) (sym (none refl)) (
+      sym (ap (once_from ys) (pick_next g xs i x l e ∙ ap (λ z. cons_some z (pick g (drop (i + 1) xs))) s))
+          ∙ h.0,
+      h.1,
+      h.2,
+    )
 pattern_next g xs i x P (Some p) ys more l e s below some none h =
-    subst (λ z. Patterns g xs (i + 1) P z) (sym (some p refl))
-    (sym (ap (once_from ys) (pick_next g xs i x l e ∙ ap (λ z. cons_some z (pick g (drop (i + 1) xs))) s))
-    ∙ h.0, distinct (is_in p ys) refl, bound (is_in p ys))
+    subst (λ z. Patterns g xs (i + 1) P z) (sym (some p refl)) (
+      sym (ap (once_from ys) (pick_next g xs i x l e ∙ ap (λ z. cons_some z (pick g (drop (i + 1) xs))) s))
+          ∙ h.0,
+      distinct (is_in p ys) refl,
+      bound (is_in p ys),
+    )
   where
     distinct : (b : Bool) → is_in p ys ≡ b → Distinct (ys ++ cond b [] (p ∷ []))
     distinct true e = subst Distinct (sym (append-nil ys)) h.1

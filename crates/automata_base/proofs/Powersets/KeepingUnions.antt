@@ -13,9 +13,12 @@ use Rattle.automata_base.proofs.Paths.KeptUnions.{acyclic_keeps, unions_keep}
 
 run_with : (n m : Nfa) → n.nodes ≡ m.nodes → (q : ℕ) (path : List ℕ) (z : ℕ) → Run n q path z → Run m q path z
 run_with n m s q [] z u = u
-run_with n m s q (e ∷ path) z u =
-    (u.0, subst (λ ns. hop_at (node_or_fail (slice_get ns q)) all_true e ≡ Some u.0) s u.1, run_with n m s u.0 path z
-    u.2)
+run_with n m s q (e ∷ path) z u = (
+  u.0,
+  subst (λ ns. hop_at (node_or_fail (slice_get ns q)) all_true e ≡ Some u.0) s u.1,
+  run_with n m s u.0 path z
+      u.2,
+)
 
 acyclic_with : (n m : Nfa) → n.nodes ≡ m.nodes → IsLookAcyclic n → IsLookAcyclic m
 acyclic_with n m s free q look next e on =

@@ -10,9 +10,11 @@ use Rattle.automata_base.proofs.Paths.Walks.{in_left, in_either}
 
 -- A set with no member marks an empty list.
 pub marks_none : (ys : List ℕ) (m : Members) → ys ≡ [] → m.items ≡ [] → AreMarks ys m
-marks_none ys m e none p below =
-    (λ i. subst (λ z. In p z) (sym e) (subst (λ z. In p z) none i), λ i. subst (λ z. In p z) (sym none)
-    (subst (λ z. In p z) e i))
+marks_none ys m e none p below = (
+  λ i. subst (λ z. In p z) (sym e) (subst (λ z. In p z) none i),
+  λ i. subst (λ z. In p z) (sym none)
+      (subst (λ z. In p z) e i),
+)
 
 -- A number that is in the list is found there.
 pub found : (p : ℕ) (ys : List ℕ) → In p ys → is_in p ys ≡ true
@@ -59,7 +61,7 @@ marks_added p ys old new marks below out more whole =
           let both = marks q (subst (λ z. q < z) whole low) in
           let list : ys ++ cond (is_in p ys) [] (p ∷ []) ≡ ys ++ p ∷ [] = ap (λ b. ys ++ cond b [] (p ∷ [])) there in (
             λ j. subst (λ z. In q z) (sym list)
-            (one q ys (both.0) (in_either q old.items (p ∷ []) (subst (λ z. In q z) more j))),
+                (one q ys (both.0) (in_either q old.items (p ∷ []) (subst (λ z. In q z) more j))),
             λ j. subst (λ z. In q z) (sym more) (two q (both.1) (in_either q ys (p ∷ []) (subst (λ z. In q z) list j))),
           ),
     )

@@ -71,8 +71,12 @@ pub in_offsets :
     → Raw way input pair ps
 in_offsets way input pair [] h = absurd h
 in_offsets way input pair (x ∷ xs) (inl e) =
-    record { raw = x; inside = inl refl; pattern = ap (λ (y : Pair). y.pattern) e; place = ap (λ (y : Pair). y.place) e
-        }
+    record {
+      raw = x;
+      inside = inl refl;
+      pattern = ap (λ (y : Pair). y.pattern) e;
+      place = ap (λ (y : Pair). y.place) e;
+    }
 in_offsets way input pair (x ∷ xs) (inr h) =
     let r = in_offsets way input pair xs h in
     record { raw = r.raw; inside = inr r.inside; pattern = r.pattern; place = r.place }
@@ -114,16 +118,16 @@ unfolding pairs_reported
 reported_in a kind mode t zero i p l h = absurd (omega (arith, l))
 reported_in a kind mode t (suc k) i p l h =
     go (λ less. reported_in a kind mode t k i p less h) (eq-or-lt_of_le (le_of_suc-le-suc l)) where
-  go :
-      (i < k → InPairs (record { pattern = p; place = i }) (pairs_reported a kind mode t k)) → (i ≡ k) ⊎ (i < k)
-      → InPairs (record { pattern = p; place = i })
-      (pairs_reported a kind mode t k ++ at_place k (reported_at a kind mode t k))
-  go again (inl e) =
-      in_right _ (pairs_reported a kind mode t k) (at_place k (reported_at a kind mode t k))
-      (subst (λ n. InPairs (record { pattern = p; place = i }) (at_place n (reported_at a kind mode t n))) e
-      (place_in i (reported_at a kind mode t i) p h))
-  go again (inr less) =
-      in_left _ (pairs_reported a kind mode t k) (at_place k (reported_at a kind mode t k)) (again less)
+      go :
+          (i < k → InPairs (record { pattern = p; place = i }) (pairs_reported a kind mode t k)) → (i ≡ k) ⊎ (i < k)
+          → InPairs (record { pattern = p; place = i })
+          (pairs_reported a kind mode t k ++ at_place k (reported_at a kind mode t k))
+      go again (inl e) =
+          in_right _ (pairs_reported a kind mode t k) (at_place k (reported_at a kind mode t k))
+          (subst (λ n. InPairs (record { pattern = p; place = i }) (at_place n (reported_at a kind mode t n))) e
+          (place_in i (reported_at a kind mode t i) p h))
+      go again (inr less) =
+          in_left _ (pairs_reported a kind mode t k) (at_place k (reported_at a kind mode t k)) (again less)
 
 pub in_reported :
     (a : Automaton) (kind : MatchKind) (mode : Anchored) (t : Tape) (k : ℕ) (pair : Pair)
@@ -213,8 +217,8 @@ module _ (a : Automaton) (checked : IsChecked a) (way : Direction) (input : Inpu
             let k = in_unsplit input.haystack pair (with_offsets way input all) (subst (InPairs pair) same h) in
             accepted pair (offsets_reached pair k.0) (λ skips. k.1)),
         λ h. subst (InPairs pair) (sym same)
-        (unsplit_in input.haystack pair (with_offsets way input all) (reached_offsets pair (reached pair h))
-        (h.whole s)),
+            (unsplit_in input.haystack pair (with_offsets way input all) (reached_offsets pair (reached pair h))
+            (h.whole s)),
       )
   pairs_accepted found (WalksSpan undone pairs reported (KeepsSplit n e)) pair =
       let same : found ≡ with_offsets way input all = e ∙ ap (with_offsets way input) reported in (

@@ -61,8 +61,8 @@ unvisited_take states (suc n) l =
     let one : n + 1 ≡ suc n = omega arith in
     let more' : sum_by extra_of (take (suc n) states) ≡ sum_by extra_of (take n states)
     + extra_of (get_or states n Fail) =
-        subst (λ z. sum_by extra_of (take z states) ≡ sum_by extra_of (take n states) + extra_of (get_or states n Fail))
-        one more in
+    subst (λ z. sum_by extra_of (take z states) ≡ sum_by extra_of (take n states) + extra_of (get_or states n Fail))
+    one more in
     omega arith
 
 room_is : (states : List State) → 1 + unvisited (extra_at states) [] (length states) ≡ stack_room states
@@ -103,7 +103,7 @@ walk_begins a looks old start l =
       room =
           (let most : unvisited (extra_at a.states) old (length a.states)
           ≤ unvisited (extra_at a.states) [] (length a.states) =
-              unvisited_most (extra_at a.states) old (length a.states) in
+          unvisited_most (extra_at a.states) old (length a.states) in
           let all : 1 + unvisited (extra_at a.states) [] (length a.states) ≡ stack_room a.states = room_is a.states in
           omega arith);
       below = below;
@@ -147,7 +147,7 @@ walk_visits a looks old start order stack q checked new w =
           few a (truth_of looks) q (w.below q (inl refl)) in
           let both : length (children (nfa_of a) (truth_of looks) q ++ stack)
           ≡ length (children (nfa_of a) (truth_of looks) q) + length stack =
-              length-append (children (nfa_of a) (truth_of looks) q) stack in
+          length-append (children (nfa_of a) (truth_of looks) q) stack in
           omega arith);
       below = λ p i. below p (in_either p (children (nfa_of a) (truth_of looks) q) stack i);
     }
@@ -177,7 +177,7 @@ work_visits a looks order stack q l new =
     few a (truth_of looks) q l in
     let both : length (children (nfa_of a) (truth_of looks) q ++ stack)
     ≡ length (children (nfa_of a) (truth_of looks) q) + length stack =
-        length-append (children (nfa_of a) (truth_of looks) q) stack in
+    length-append (children (nfa_of a) (truth_of looks) q) stack in
     omega arith
 
 pub pushed_top : (xs ys : List ℕ) (x : ℕ) → xs ≡ ys ++ x ∷ [] → reverse xs ≡ x ∷ reverse ys

@@ -48,8 +48,7 @@ pub data Label : Type 0 where
 
 -- One of the ranges is this one.
 abbrev pub HasRange : List Range → (lo hi next : ℕ) → Type 0
-HasRange [] lo hi next = ⊥
-HasRange (r ∷ rs) lo hi next = ((r.lo ≡ lo) × (r.hi ≡ hi) × (r.next ≡ next)) ⊎ HasRange rs lo hi next
+HasRange ranges lo hi next = (k : ℕ) × (slice_get ranges k ≡ Some (record { lo = lo; hi = hi; next = next }))
 
 -- The node has an edge with that label to `next`.
 abbrev pub HasArcAt : Node → Label → ℕ → Type 0
@@ -85,15 +84,20 @@ IsLed n q (r ∷ way) z = ((l : Label) × HasArc n q l r) × IsLed n r way z
 abbrev pub LeadsTo : Nfa → (q z : ℕ) → Type 0
 LeadsTo n q z = (way : List ℕ) × IsLed n q way z
 
--- The part for the pattern `p` keeps the state: edges lead from `first` to it, and from it to a match of the pattern.
-abbrev pub IsKept : Nfa → (first p q : ℕ) → Type 0
-IsKept n first p q = LeadsTo n first q × ((z : ℕ) × LeadsTo n q z × (accepts n z ≡ Some p))
+-- The state is useful for the pattern `p`: edges lead from `first` to it, and from it to a match of the pattern. The
+-- part for the pattern keeps these states.
+abbrev pub IsUseful : Nfa → (first p q : ℕ) → Type 0
+IsUseful n first p q = LeadsTo n first q × ((z : ℕ) × LeadsTo n q z × (accepts n z ≡ Some p))
 
 -- The edge reads a byte or tests a look.
 abbrev pub IsAsking : Label → Type 0
 IsAsking Free = ⊥
 IsAsking (Asks look) = Unit {0}
 IsAsking (Reads lo hi) = Unit {0}
+
+-- The edge may be of any kind.
+abbrev pub IsAnyLabel : Label → Type 0
+IsAnyLabel l = Unit {0}
 
 -- The node is a union, or a capture or a fail state, which paths see as unions.
 abbrev pub IsUnion : Node → Type 0
@@ -102,26 +106,34 @@ IsUnion (Assert look next) = ⊥
 IsUnion (Read ranges) = ⊥
 IsUnion (Accept p) = ⊥
 
--- The state stands for an edge to `t` that reads a byte or asks a look, or for the match where paths begin.
-abbrev pub IsEdgeTo : (n m : Nfa) → (first p : ℕ) → (place : ℕ → ℕ) → (t x : ℕ) → Type 0
-IsEdgeTo n m first p place t x =
-    ((s : ℕ) × (l : Label) × IsKept n first p s × HasArc n s l t × IsAsking l × IsReversedArc m x l (place s))
-    ⊎ ((t ≡ first) × (node m x ≡ Accept p))
+-- The state stands for an edge to `t`, or for the match where paths begin. `Kind` says which edges are meant.
+pub data IsEdgeTo (n m : Nfa) (first p : ℕ) (place : ℕ → ℕ) (Kind : Label → Type 0) (t x : ℕ) : Type 0 where
+  -- it stands for an edge of that kind, from a useful state to `t`
+  TurnsArc :
+      (s : ℕ) (l : Label) → IsUseful n first p s → HasArc n s l t → Kind l → IsReversedArc m x l (place s)
+      → IsEdgeTo n m first p place Kind t x
+  -- paths begin at `t`, and it is a match of the pattern
+  EndsPath : t ≡ first → node m x ≡ Accept p → IsEdgeTo n m first p place Kind t x
+
+-- How the state for `t` stands for the edges to `t`, which are reversed to the states `xs`.
+pub data StandsForEdges (n m : Nfa) (first p : ℕ) (place : ℕ → ℕ) (t : ℕ) (xs : List ℕ) : Type 0 where
+  -- it is the union of these states
+  JoinsEdges : node m (place t) ≡ Split xs → StandsForEdges n m first p place t xs
+  -- it is the only one of them
+  IsOnlyEdge :
+      xs ≡ place t ∷ [] → IsEdgeTo n m first p place IsAsking t (place t) → StandsForEdges n m first p place t xs
 
 -- Among the states for the pattern `p`, where `place q` stands for `q`: the state that stands for `t` is the union of
 -- the reversed edges to `t`, and of a match where paths begin at `t`; or it is the only one of these itself. None of
 -- them repeats, and no two of them read, test or match the same and go on to the same state.
 pub record IsReversedAt (n m : Nfa) (first p : ℕ) (place : ℕ → ℕ) (t : ℕ) (xs : List ℕ) : Type 0 where
   -- the state for `t` is the union of these states, or is the only one of them
-  pub stands : (node m (place t) ≡ Split xs) ⊎ ((xs ≡ place t ∷ []) × IsEdgeTo n m first p place t (place t))
+  pub stands : StandsForEdges n m first p place t xs
   -- each of them is a reversed edge to `t`, or a match if paths begin at `t`
-  pub sound :
-      (x : ℕ) → In x xs
-      → ((s : ℕ) × (l : Label) × IsKept n first p s × HasArc n s l t × IsReversedArc m x l (place s))
-      ⊎ ((t ≡ first) × (node m x ≡ Accept p))
-  -- each edge to `t` from a state that is kept is reversed to one of them
+  pub sound : (x : ℕ) → In x xs → IsEdgeTo n m first p place IsAnyLabel t x
+  -- each edge to `t` from a useful state is reversed to one of them
   pub arcs :
-      (s : ℕ) (l : Label) → IsKept n first p s → HasArc n s l t
+      (s : ℕ) (l : Label) → IsUseful n first p s → HasArc n s l t
       → (x : ℕ) × In x xs × IsReversedArc m x l (place s)
   -- if paths begin at `t`, one of them is a match of the pattern
   pub reported : t ≡ first → (x : ℕ) × In x xs × (node m x ≡ Accept p)
@@ -134,26 +146,40 @@ pub record IsReversedAt (n m : Nfa) (first p : ℕ) (place : ℕ → ℕ) (t : �
 pub record IsEntry (n m : Nfa) (first p entry : ℕ) (place : ℕ → ℕ) (xs : List ℕ) : Type 0 where
   -- the entry is the union of these states
   pub union : node m entry ≡ Split xs
-  -- each of them stands for a match state of the pattern that is kept
-  pub sound : (x : ℕ) → In x xs → (q : ℕ) × IsKept n first p q × (accepts n q ≡ Some p) × (x ≡ place q)
+  -- each of them stands for a useful match state of the pattern
+  pub sound : (x : ℕ) → In x xs → (q : ℕ) × IsUseful n first p q × (accepts n q ≡ Some p) × (x ≡ place q)
   -- each match state of the pattern that edges reach from the first state has its state among them
   pub matches : (q : ℕ) → LeadsTo n first q → accepts n q ≡ Some p → In (place q) xs
   -- none of them repeats
   pub distinct : Distinct xs
 
--- The part for the pattern `p` has a state for each state of `n` that it keeps. Its backward paths begin at `entry`.
+-- The part for the pattern `p` has a state for each useful state of `n`. Its backward paths begin at `entry`.
 pub record IsPart (n m : Nfa) (first p entry : ℕ) (place : ℕ → ℕ) : Type 0 where
   -- backward paths begin at the entry, which goes on to the states for the matches
   pub enters : (xs : List ℕ) × IsEntry n m first p entry place xs
-  -- each state that is kept has its state, with the reversed edges
-  pub turned : (t : ℕ) → IsKept n first p t → (xs : List ℕ) × IsReversedAt n m first p place t xs
+  -- each useful state has its state, with the reversed edges
+  pub turned : (t : ℕ) → IsUseful n first p t → (xs : List ℕ) × IsReversedAt n m first p place t xs
 
--- The state is the entry, or stands for a state that is kept, or is an alternate of one that does.
-abbrev pub IsOfPart : (n m : Nfa) → (first p entry : ℕ) → (place : ℕ → ℕ) → (x : ℕ) → Type 0
-IsOfPart n m first p entry place x =
-    (x ≡ entry)
-    ⊎ ((t : ℕ) × IsKept n first p t
-    × ((x ≡ place t) ⊎ ((xs : List ℕ) × (node m (place t) ≡ Split xs) × In x xs)))
+-- What a state of the part for the pattern `p` is.
+pub data IsOfPart (n m : Nfa) (first p entry : ℕ) (place : ℕ → ℕ) (x : ℕ) : Type 0 where
+  -- the entry
+  IsEntryOf : x ≡ entry → IsOfPart n m first p entry place x
+  -- the one that stands for a useful state
+  IsPlaceOf : (t : ℕ) → IsUseful n first p t → x ≡ place t → IsOfPart n m first p entry place x
+  -- an alternate of one that does
+  IsAlternateOf :
+      (t : ℕ) (xs : List ℕ) → IsUseful n first p t → node m (place t) ≡ Split xs → In x xs
+      → IsOfPart n m first p entry place x
+
+-- What a state of a reversed NFA is. `place p q` is the state for `q` in the part for the pattern `p`.
+pub data IsOfMirror (n m : Nfa) (first : ℕ) (entries : List ℕ) (root : ℕ) (place : (p q : ℕ) → ℕ) (x : ℕ) :
+    Type 0 where
+  -- the root
+  IsRootOf : x ≡ root → IsOfMirror n m first entries root place x
+  -- a state of the part for a pattern
+  IsInPart :
+      (p entry : ℕ) → slice_get entries p ≡ Some entry → IsOfPart n m first p entry (place p) x
+      → IsOfMirror n m first entries root place x
 
 -- `m` is `n` reversed: it has a part for each pattern, whose paths begin at its entry, and at the root those of all.
 -- `place p q` is the state for `q` in the part for the pattern `p`. There are no other states.
@@ -171,10 +197,7 @@ pub record IsMirror (n m : Nfa) (first : ℕ) (entries : List ℕ) (root : ℕ) 
   -- each pattern has a part, whose backward paths begin at its entry
   pub parts : (p entry : ℕ) → slice_get entries p ≡ Some entry → IsPart n m first p entry (place p)
   -- there are no other states than the root and those of the parts
-  pub only :
-      (x : ℕ) → x < length m.nodes
-      → (x ≡ root)
-      ⊎ ((p entry : ℕ) × (slice_get entries p ≡ Some entry) × IsOfPart n m first p entry (place p) x)
+  pub only : (x : ℕ) → x < length m.nodes → IsOfMirror n m first entries root place x
 
 -- The flags of the reversed NFA.
 abbrev pub reversed_flags : Flags → Flags
@@ -192,12 +215,17 @@ pub record IsReversed (a b : Automaton) : Type 0 where
   pub mirror : IsMirror (ranged_nfa a) (nfa_of b) a.start_anchored b.start_pattern b.start_anchored
 
 -- Searches of the NFA begin at the state.
-abbrev pub IsStart : Automaton → ℕ → Type 0
-IsStart a start = (start ≡ a.start_anchored) ⊎ ((start ≡ a.start_unanchored) ⊎ In start a.start_pattern)
+pub data BeginsAt (a : Automaton) (start : ℕ) : Type 0 where
+  -- anchored ones
+  BeginsHere : start ≡ a.start_anchored → BeginsAt a start
+  -- unanchored ones
+  BeginsAnywhere : start ≡ a.start_unanchored → BeginsAt a start
+  -- those for one pattern
+  BeginsByPattern : In start a.start_pattern → BeginsAt a start
 
 -- A path accepts the pattern at place `i` of the tape.
-abbrev pub Reaches : Automaton → Tape → (start i pattern : ℕ) → Type 0
-Reaches a t start i pattern = (path : List ℕ) × Accepts (nfa_of a) t start i pattern path
+abbrev pub AcceptsFrom : Automaton → Tape → (start i pattern : ℕ) → Type 0
+AcceptsFrom a t start i pattern = (path : List ℕ) × Accepts (nfa_of a) t start i pattern path
 
 -- The NFAs have the same starts and flags, and from each start the same patterns are accepted at the same places. Their
 -- states may differ.
@@ -212,8 +240,8 @@ pub record ReadsAlike (a b : Automaton) : Type 0 where
   pub patterns : b.start_pattern ≡ a.start_pattern
   -- from each start the one accepts what the other accepts
   pub accepts :
-      (start : ℕ) → IsStart a start → (t : Tape) (i pattern : ℕ)
-      → Reaches a t start i pattern ↔ Reaches b t start i pattern
+      (start : ℕ) → BeginsAt a start → (t : Tape) (i pattern : ℕ)
+      → AcceptsFrom a t start i pattern ↔ AcceptsFrom b t start i pattern
   -- both or neither have the empty match, looks taken as true
   pub empty : MatchesEmpty (nfa_of a) a.start_pattern ↔ MatchesEmpty (nfa_of b) b.start_pattern
 

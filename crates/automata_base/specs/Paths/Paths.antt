@@ -46,13 +46,23 @@ IsPathAt n A seen q [] z = q ≡ z
 IsPathAt n A seen q (e ∷ path) z =
     (r : ℕ) × (hop n A q e ≡ Some r) × (In r (q ∷ seen) → ⊥) × IsPathAt n A (q ∷ seen) r path z
 
+-- What a path does by its edge `e` from `q` at place `i`, where the states of `seen` were met there before. `Here` and
+-- `Later` say how it goes on from the state that the edge leads to: at this place, and at the next one.
+pub data TakesEdge (n : Nfa) (t : Tape) (i : ℕ) (seen : List ℕ) (q e : ℕ) (Here Later : ℕ → Type 0) : Type 0 where
+  -- it stays at its place, at a state that it has not met there
+  StaysHere :
+      (r : ℕ) → hop n (truth n t i) q e ≡ Some r → (In r (q ∷ seen) → ⊥) → Here r
+      → TakesEdge n t i seen q e Here Later
+  -- it reads the byte there
+  ReadsByte : (r : ℕ) → e ≡ 0 → Moves n t i q r → Later r → TakesEdge n t i seen q e Here Later
+
 -- A path from `q` at place `i` to `z` at place `j`, where the states of `seen` were met at place `i` before:
 -- a sequence of edges with no state twice at one place.
 abbrev pub IsPathFrom : Nfa → Tape → ℕ → List ℕ → ℕ → List ℕ → ℕ → ℕ → Type 0
 IsPathFrom n t i seen q [] j z = (i ≡ j) × (q ≡ z)
 IsPathFrom n t i seen q (e ∷ path) j z =
-    ((r : ℕ) × (hop n (truth n t i) q e ≡ Some r) × (In r (q ∷ seen) → ⊥) × IsPathFrom n t i (q ∷ seen) r path j z)
-    ⊎ ((r : ℕ) × (e ≡ 0) × Moves n t i q r × IsPathFrom n t (suc i) [] r path j z)
+    TakesEdge n t i seen q e (λ r. IsPathFrom n t i (q ∷ seen) r path j z)
+    (λ r. IsPathFrom n t (suc i) [] r path j z)
 
 -- A path from the start to `q` at place `i`.
 abbrev pub IsPath : Nfa → Tape → ℕ → ℕ → ℕ → List ℕ → Type 0

@@ -15,8 +15,8 @@ use Rattle.automata_base.specs.Nfas.Nfa.{Nfa, Node, Range, Split, Assert, Read, 
 use Rattle.automata_base.specs.Nfas.Nfa.{hop_at, node, takes, takes_in}
 
 -- The state is none of the free ones, which are made anew.
-abbrev pub IsKept : (free : List ℕ) → (state : ℕ) → Type 0
-IsKept free state = In state free → ⊥
+abbrev pub IsNotFree : (free : List ℕ) → (state : ℕ) → Type 0
+IsNotFree free state = In state free → ⊥
 
 -- The state is a free one, and this is made of it.
 abbrev pub IsMade : (free : List ℕ) → (made : List Node) → (state : ℕ) → Node → Type 0
@@ -28,13 +28,20 @@ AreTargetsOf Stands [] targets = targets ≡ []
 AreTargetsOf Stands (x ∷ xs) targets =
     (own rest : List ℕ) × Stands x own × AreTargetsOf Stands xs rest × (targets ≡ own ++ rest)
 
--- The state is kept and is the only target; or it is a union that was made, and its alternates stand for the targets,
--- in at most `depth` steps.
+-- How a state stands for the targets, where `Stand` says which states stand for them together.
+pub data IsStandIn (free : List ℕ) (made : List Node) (Stand : List ℕ → Type 0) (state : ℕ) (targets : List ℕ) :
+    Type 0 where
+  -- it is none of the free ones, and the only target
+  IsTheTarget : IsNotFree free state → targets ≡ state ∷ [] → IsStandIn free made Stand state targets
+  -- it is a union that was made, and its alternates stand for them
+  JoinsStandIns :
+      (xs : List ℕ) → IsMade free made state (Split xs) → Stand xs → IsStandIn free made Stand state targets
+
+-- The state stands for the targets: it leads to them over unions that were made, in at most `depth` steps.
 abbrev pub StandsFor : (free : List ℕ) → (made : List Node) → (depth state : ℕ) → (targets : List ℕ) → Type 0
-StandsFor free made zero state targets = IsKept free state × (targets ≡ state ∷ [])
+StandsFor free made zero state targets = IsStandIn free made (λ xs. ⊥) state targets
 StandsFor free made (suc depth) state targets =
-    (IsKept free state × (targets ≡ state ∷ []))
-    ⊎ ((xs : List ℕ) × IsMade free made state (Split xs) × AreTargetsOf (StandsFor free made depth) xs targets)
+    IsStandIn free made (λ xs. AreTargetsOf (StandsFor free made depth) xs targets) state targets
 
 -- No state stands for no targets, and a state for those that it leads to in some number of steps.
 abbrev pub StandsIfAny : (free : List ℕ) → (made : List Node) → Option ℕ → (targets : List ℕ) → Type 0
@@ -44,6 +51,15 @@ StandsIfAny free made (Some state) targets = (depth : ℕ) × StandsFor free mad
 -- One of these states leads to the target on a byte.
 abbrev pub SomeTakes : Nfa → (states : List ℕ) → (u target : ℕ) → Type 0
 SomeTakes n states u target = (x : ℕ) × In x states × (takes n x u ≡ Some target)
+
+-- What becomes of an alternate of a union that is folded.
+pub data IsFoldedAlternate (n : Nfa) (stay : List ℕ) (targets : ℕ → List ℕ) (x : ℕ) : Type 0 where
+  -- it stays
+  StaysAlternate : In x stay → IsFoldedAlternate n stay targets x
+  -- it reads bytes, and leads to these targets
+  FoldsAlternate :
+      (own : List Range) → node n x ≡ Read own → ((u t : ℕ) → takes_in own u ≡ Some t → In t (targets u))
+      → IsFoldedAlternate n stay targets x
 
 -- A union of the states `xs` becomes one of some of them, and of a state that reads what the others read.
 pub record IsFoldedUnion (n : Nfa) (free : List ℕ) (made : List Node) (xs : List ℕ) (folded : Node) : Type 0 where
@@ -58,7 +74,7 @@ pub record IsFoldedUnion (n : Nfa) (free : List ℕ) (made : List Node) (xs : Li
   -- the state that reads was made, with these ranges
   pub reads : IsMade free made reader (Read ranges)
   -- the alternates that stay are alternates of the union, and are kept
-  pub kept : (x : ℕ) → In x stay → In x xs × IsKept free x
+  pub kept : (x : ℕ) → In x stay → In x xs × IsNotFree free x
   -- for each byte the targets of the state that reads
   pub targets : ℕ → List ℕ
   -- on each byte it leads to a state that stands for its targets
@@ -66,25 +82,25 @@ pub record IsFoldedUnion (n : Nfa) (free : List ℕ) (made : List Node) (xs : Li
   -- an alternate of the union leads to each of these targets
   pub sound : (u t : ℕ) → In t (targets u) → SomeTakes n xs u t
   -- an alternate of the union stays, or it reads bytes and leads to these targets
-  pub all :
-      (x : ℕ) → In x xs
-      → In x stay
-      ⊎ ((own : List Range) × (node n x ≡ Read own) × ((u t : ℕ) → takes_in own u ≡ Some t → In t (targets u)))
+  pub all : (x : ℕ) → In x xs → IsFoldedAlternate n stay targets x
 
--- The node is as it was and leads to none of the free states without reading, or it was a union and is folded.
-abbrev pub IsFoldedNode : Nfa → (free : List ℕ) → (made : List Node) → (old new : Node) → Type 0
-IsFoldedNode n free made old new =
-    ((new ≡ old) × ((A : Truth) (e y : ℕ) → hop_at old A e ≡ Some y → IsKept free y))
-    ⊎ ((xs : List ℕ) × (old ≡ Split xs) × IsFoldedUnion n free made xs new)
+-- What becomes of a node.
+pub data IsFoldedNode (n : Nfa) (free : List ℕ) (made : List Node) (old new : Node) : Type 0 where
+  -- it is as it was, and leads to none of the free states without reading
+  StaysNode :
+      new ≡ old → ((A : Truth) (e y : ℕ) → hop_at old A e ≡ Some y → IsNotFree free y)
+      → IsFoldedNode n free made old new
+  -- it was a union and is folded
+  FoldsNode : (xs : List ℕ) → old ≡ Split xs → IsFoldedUnion n free made xs new → IsFoldedNode n free made old new
 
 -- The states of `m` are those of `n`, of which some unions are folded, and the free ones are made anew.
 pub record IsFolded (n m : Nfa) (free : List ℕ) (made : List Node) : Type 0 where
   -- each state that is kept is as it was, or it was a union and is folded
-  pub each : (x : ℕ) → IsKept free x → IsFoldedNode n free made (node n x) (node m x)
+  pub each : (x : ℕ) → IsNotFree free x → IsFoldedNode n free made (node n x) (node m x)
   -- the free states are what is made of them
   pub more : (x : ℕ) (new : Node) → IsMade free made x new → node m x ≡ new
   -- no byte leads to a free state
-  pub moves : (x u y : ℕ) → takes n x u ≡ Some y → IsKept free y
+  pub moves : (x u y : ℕ) → takes n x u ≡ Some y → IsNotFree free y
 
 -- The range of a state that reads one.
 abbrev pub range_read : State → Option Transition
@@ -103,10 +119,21 @@ abbrev pub ReadsRange : List State → (x : ℕ) → Transition → Type 0
 ReadsRange states x range = (state : State) × (slice_get states x ≡ Some state) × (range_read state ≡ Some range)
 
 -- One of the states `xs` reads a range that has the byte, and leads to the target.
-abbrev pub SomeReads : List State → (xs : List ℕ) → (u target : ℕ) → Type 0
-SomeReads states xs u target =
-    (x : ℕ) × (range : Transition) × In x xs × ReadsRange states x range × (range.next ≡ target) × (range.lo ≤ u)
-    × (u ≤ range.hi)
+pub record SomeReads (states : List State) (xs : List ℕ) (u target : ℕ) : Type 0 where
+  -- the state
+  pub state : ℕ
+  -- the range that it reads
+  pub range : Transition
+  -- it is one of them
+  pub among : In state xs
+  -- it reads that range
+  pub reads : ReadsRange states state range
+  -- which leads to the target
+  pub leads : range.next ≡ target
+  -- the range begins no later than the byte
+  pub begins : range.lo ≤ u
+  -- and ends no sooner
+  pub ends : u ≤ range.hi
 
 -- Whether a state is a union that may be folded: it has many alternates.
 abbrev pub is_large : Node → Bool
@@ -116,9 +143,9 @@ is_large (Read ranges) = false
 is_large (Accept p) = false
 
 -- Each of the first `count` nodes of a tree has a head that stands for the states in the lists on its way.
-abbrev pub AreHeads :
+abbrev pub AreTreeHeads :
     (free : List ℕ) → (made : List Node) → (lists : List (List ℕ)) → (heads : List (Option ℕ)) → (count : ℕ) → Type 0
-AreHeads free made lists heads count =
+AreTreeHeads free made lists heads count =
     (k : ℕ) → k < count
     → (targets : List ℕ) × StandsIfAny free made (head_or_none (slice_get heads k)) targets
     × ((t : ℕ) → In t targets ↔ IsOnWay lists k t)
@@ -151,13 +178,15 @@ abbrev pub is_large_state : Option State → Bool
 is_large_state None = false
 is_large_state (Some state) = is_large (node_of state)
 
--- The state is as it was, or it was a union and is folded.
-abbrev pub IsFoldedState :
-    (states : List State) → (free : List ℕ) → (made : List Node) → (old new : Option State) → Type 0
-IsFoldedState states free made old new =
-    ((new ≡ old) × (is_large_state old ≡ false))
-    ⊎ ((alternates : Vec ℕ Global) × (folded : State) × (old ≡ Some (is.Union alternates)) × (new ≡ Some folded)
-    × IsFoldOf states free made alternates.items (node_of folded) × (range_read folded ≡ None))
+-- What becomes of a state.
+pub data IsFoldedState (states : List State) (free : List ℕ) (made : List Node) (old new : Option State) : Type 0 where
+  -- it is as it was, and no union that may be folded
+  StaysState : new ≡ old → is_large_state old ≡ false → IsFoldedState states free made old new
+  -- it was a union and is folded, to a state that reads no range
+  FoldsState :
+      (alternates : Vec ℕ Global) (folded : State) → old ≡ Some (is.Union alternates) → new ≡ Some folded
+      → IsFoldOf states free made alternates.items (node_of folded) → range_read folded ≡ None
+      → IsFoldedState states free made old new
 
 -- The state is the union of these.
 abbrev pub IsUnionOf : State → (list : List ℕ) → Type 0
@@ -166,19 +195,26 @@ IsUnionOf state list = (alternates : Vec ℕ Global) × (state ≡ is.Union alte
 -- Some unions of the old states are folded, and the free ones are made anew.
 pub record AreFolded (old new : List State) (free : List ℕ) (made : List Node) : Type 0 where
   -- each state that is kept is as it was, or it was a union and is folded
-  pub each : (x : ℕ) → IsKept free x → IsFoldedState old free made (slice_get old x) (slice_get new x)
+  pub each : (x : ℕ) → IsNotFree free x → IsFoldedState old free made (slice_get old x) (slice_get new x)
   -- the free states are what is made of them
   pub more : (x : ℕ) (node : Node) → IsMade free made x node → node_in new x ≡ node
   -- no state but a large union leads to a free one
-  pub led : (q t : ℕ) → is_large (node_in old q) ≡ false → In t (targets_of Every old q) → IsKept free t
+  pub led : (q t : ℕ) → is_large (node_in old q) ≡ false → In t (targets_of Every old q) → IsNotFree free t
   -- the free states read a range
   pub reads : (x : ℕ) → In x free → (range : Transition) × ReadsRange old x range
 
 -- The new states are the old ones with unions folded, and the root and the entries are kept.
-abbrev pub IsFoldedFrom : (old new : List State) → (root : ℕ) → (entries : List ℕ) → Type 0
-IsFoldedFrom old new root entries =
-    (free : List ℕ) × (made : List Node) × AreFolded old new free made × IsKept free root
-    × ((e : ℕ) → In e entries → IsKept free e)
+pub record IsFoldedFrom (old new : List State) (root : ℕ) (entries : List ℕ) : Type 0 where
+  -- the states that are made anew
+  pub free : List ℕ
+  -- what is made of them
+  pub made : List Node
+  -- unions are folded over these
+  pub folded : AreFolded old new free made
+  -- the root is kept
+  pub rooted : IsNotFree free root
+  -- and so is each entry
+  pub entered : (e : ℕ) → In e entries → IsNotFree free e
 
 -- If the state of this number is a union, its alternates are states.
 abbrev pub IsUnionBelow : List State → (x : ℕ) → Type 0

@@ -1,6 +1,6 @@
 -- How the code reverses edges: for each state what leads to it, and the states that stand for edges.
 use Rattle.std.specs.Prelude.{ℕ, zero, suc, ◌+◌, ◌≡◌, List, [], ◌∷◌, ◌++◌, length, slice_index_or, cond, eqb, Some}
-use Rattle.std.specs.Prelude.{Option, None, map, ◌↔◌, ◌⊎◌, Bool, false, slice_get, ◌-◌, ◌<◌, ◌≤◌}
+use Rattle.std.specs.Prelude.{Option, None, map, ◌↔◌, Bool, false, slice_get, ◌-◌, ◌<◌, ◌≤◌}
 use Rattle.automata_base.specs.declared.nfa.thompson.State.{State}
 use Rattle.automata_base.specs.declared.nfa.thompson.State.TheVariants as is
 use Rattle.automata_base.specs.declared.nfa.thompson.Transition.{Transition}
@@ -109,12 +109,13 @@ abbrev pub no_lists : ℕ → List (List ℕ)
 no_lists zero = []
 no_lists (suc n) = [] ∷ no_lists n
 
--- What is made of a state's alternates: their union, or the helper itself if it is the only one. Helpers have the
--- numbers from `n` on.
-abbrev pub IsHead : (n : ℕ) → List State → (alternates : List ℕ) → State → Type 0
-IsHead n helpers alternates s =
-    ((v : Vec ℕ Global) × (s ≡ is.Union v) × (v.items ≡ alternates))
-    ⊎ ((j : ℕ) × (alternates ≡ (n + j) ∷ []) × (slice_get helpers j ≡ Some s))
+-- What is made of a state's alternates. Helpers have the numbers from `n` on.
+pub data IsHead (n : ℕ) (helpers : List State) (alternates : List ℕ) (s : State) : Type 0 where
+  -- their union
+  IsUnionOfAll : (v : Vec ℕ Global) → s ≡ is.Union v → v.items ≡ alternates → IsHead n helpers alternates s
+  -- the helper itself, if it is the only one
+  IsOnlyHelper :
+      (j : ℕ) → alternates ≡ (n + j) ∷ [] → slice_get helpers j ≡ Some s → IsHead n helpers alternates s
 
 -- What is made of each state's alternates, in order.
 abbrev pub AreHeads : (n : ℕ) → List State → List (List ℕ) → List State → Type 0

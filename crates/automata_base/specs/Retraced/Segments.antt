@@ -1,5 +1,5 @@
 -- A tree over the bytes, with a list of states for each node.
-use Rattle.std.specs.Prelude.{ℕ, zero, suc, ◌≡◌, ◌+◌, ◌/◌, ◌%◌, ◌⊎◌, List, Option, None, Some, slice_get}
+use Rattle.std.specs.Prelude.{ℕ, zero, suc, ◌≡◌, ◌+◌, ◌/◌, ◌%◌, List, Option, None, Some, slice_get}
 use Rattle.automata_base.specs.Lists.{In}
 use Rattle.automata_base.specs.Retraced.ReversedEdges.{list_at, push_at}
 
@@ -21,14 +21,17 @@ head_or_none (Some head) = head
 abbrev pub leaf_head : List (Option ℕ) → (u : ℕ) → Option ℕ
 leaf_head heads u = head_or_none (slice_get heads (u + 256))
 
--- The state is added to the node where a row begins, if it is a second child.
-abbrev pub IsPutFirst : (old new : List (List ℕ)) → (left next first : ℕ) → Type 0
-IsPutFirst old new left next first =
-    ((left % 2 ≡ 0) × (first ≡ left) × (new ≡ old))
-    ⊎ ((left % 2 ≡ 1) × (first ≡ left + 1) × (new ≡ push_at old left next))
+-- Whether the state is added to the node `left` where a row begins, which then begins at `first`.
+pub data IsPutFirst (old new : List (List ℕ)) (left next first : ℕ) : Type 0 where
+  -- no: the node is a first child, and the row has both
+  BeginsWithPair : left % 2 ≡ 0 → first ≡ left → new ≡ old → IsPutFirst old new left next first
+  -- yes: it is a second child, and the row then begins after it
+  PutsAtFirst :
+      left % 2 ≡ 1 → first ≡ left + 1 → new ≡ push_at old left next → IsPutFirst old new left next first
 
--- The state is added to the node before the end of a row, if it is a first child.
-abbrev pub IsPutLast : (old new : List (List ℕ)) → (end next last : ℕ) → Type 0
-IsPutLast old new end next last =
-    ((end % 2 ≡ 0) × (last ≡ end) × (new ≡ old))
-    ⊎ ((end % 2 ≡ 1) × (last + 1 ≡ end) × (new ≡ push_at old last next))
+-- Whether the state is added to the node before the end of a row, which then ends before `last`.
+pub data IsPutLast (old new : List (List ℕ)) (end next last : ℕ) : Type 0 where
+  -- no: the node is a second child, and the row has both
+  EndsWithPair : end % 2 ≡ 0 → last ≡ end → new ≡ old → IsPutLast old new end next last
+  -- yes: it is a first child, and the row then ends before it
+  PutsAtLast : end % 2 ≡ 1 → last + 1 ≡ end → new ≡ push_at old last next → IsPutLast old new end next last

@@ -125,8 +125,8 @@ module _
       ap (node (nfa_of after)) unanchored ∙ (union_is ∙ ap (λ z. Split (z ∷ (length shapes + 1) ∷ [])) (sym anchored)),
       skip_is ∙ ap any_byte (sym unanchored),
       λ h. apart
-      (subst (λ z. Reaches (nfa_of after) z (length shapes)) anchored
-      (subst (Reaches (nfa_of after) after.start_anchored) unanchored h)),
+          (subst (λ z. Reaches (nfa_of after) z (length shapes)) anchored
+          (subst (Reaches (nfa_of after) after.start_anchored) unanchored h)),
     )
 
 pub prefixed : PrefixesSkipLazily

@@ -1,18 +1,19 @@
 -- What reads like a reversed NFA is its other half of a true pair.
-use Rattle.std.proofs.Common.{ℕ, ◌≡◌, ◌-◌, ◌↔◌, List, [], Some, inl, inr, refl, sym, ap, ◌∙◌, subst}
+use Rattle.std.proofs.Common.{ℕ, ◌≡◌, ◌-◌, ◌↔◌, List, [], Some, refl, sym, ap, ◌∙◌, subst}
 use Rattle.std.specs.Prelude.{slice_get}
 use Rattle.automata_base.specs.declared.nfa.thompson.Flags.{Flags}
 use Rattle.automata_base.specs.declared.nfa.thompson.State.{State}
 use Rattle.automata_base.specs.Lists.{In}
 use Rattle.automata_base.specs.Nfas.Automata.{automaton}
 use Rattle.automata_base.specs.Nfas.Engines.{MatchesEmpty, engine_of}
-use Rattle.automata_base.specs.Nfas.Mirrors.{ReadsAlike, Reaches, IsStart}
+use Rattle.automata_base.specs.Nfas.Mirrors.{ReadsAlike, AcceptsFrom, BeginsAt, BeginsHere, BeginsAnywhere}
+use Rattle.automata_base.specs.Nfas.Mirrors.{BeginsByPattern}
 use Rattle.automata_base.specs.Nfas.Mirrors.{PatternsAreReversed, ReversedIsTrue}
 use Rattle.automata_base.specs.Nfas.Nfa.{Node}
 use Rattle.automata_base.specs.Nfas.Nodes.{Automaton, nfa_of}
 use Rattle.automata_base.specs.Paths.Paths.{Tape, truth}
 use Rattle.automata_base.specs.Powersets.Cuts.{All}
-use Rattle.automata_base.specs.Retraced.Folds.{IsFolded, IsKept}
+use Rattle.automata_base.specs.Retraced.Folds.{IsFolded, IsNotFree}
 use Rattle.automata_base.specs.Haystacks.Tapes.{Backward, forward_tape, reverse_tape}
 use Rattle.automata_base.specs.Answers.TruePairs.{IsTruePair, Joins}
 use Rattle.automata_base.proofs.Nfas.Folds.Ways.{forth_there, back_there}
@@ -39,15 +40,15 @@ reversed_true a b kind checked r alike lazy = record {
         (h : List ℕ) (i j p : ℕ) → Joins Backward (engine_of r.mirror All) h i j p
         → Joins Backward (engine_of b All) h i j p
     forth h i j p s =
-        subst (λ v. Reaches b (reverse_tape h i j) v (j - i) p) (sym r.alike.anchored)
-        ((r.alike.accepts r.mirror.start_anchored (inl refl) (reverse_tape h i j) (j - i) p).0 s)
+        subst (λ v. AcceptsFrom b (reverse_tape h i j) v (j - i) p) (sym r.alike.anchored)
+        ((r.alike.accepts r.mirror.start_anchored (BeginsHere refl) (reverse_tape h i j) (j - i) p).0 s)
 
     back :
         (h : List ℕ) (i j p : ℕ) → Joins Backward (engine_of b All) h i j p
         → Joins Backward (engine_of r.mirror All) h i j p
     back h i j p s =
-        (r.alike.accepts r.mirror.start_anchored (inl refl) (reverse_tape h i j) (j - i) p).1
-        (subst (λ v. Reaches b (reverse_tape h i j) v (j - i) p) r.alike.anchored s)
+        (r.alike.accepts r.mirror.start_anchored (BeginsHere refl) (reverse_tape h i j) (j - i) p).1
+        (subst (λ v. AcceptsFrom b (reverse_tape h i j) v (j - i) p) r.alike.anchored s)
 
 pub patterns_turned : PatternsAreReversed
 patterns_turned a b checked r k entry at h i j pattern l w = (
@@ -59,15 +60,16 @@ patterns_turned a b checked r k entry at h i j pattern l w = (
     mirrored = ap (λ (z : List ℕ). slice_get z k) (sym r.alike.patterns) ∙ at
 
     turned :
-        Reaches r.mirror (reverse_tape h i j) entry (j - i) pattern
-        ↔ ((pattern ≡ k) × Reaches a (forward_tape h i j) a.start_anchored (j - i) pattern)
+        AcceptsFrom r.mirror (reverse_tape h i j) entry (j - i) pattern
+        ↔ ((pattern ≡ k) × AcceptsFrom a (forward_tape h i j) a.start_anchored (j - i) pattern)
     turned = mirror_patterns a r.mirror checked r.reversed k entry mirrored h i j pattern l w
 
     reads :
-        Reaches r.mirror (reverse_tape h i j) entry (j - i) pattern
-        ↔ Reaches b (reverse_tape h i j) entry (j - i) pattern
+        AcceptsFrom r.mirror (reverse_tape h i j) entry (j - i) pattern
+        ↔ AcceptsFrom b (reverse_tape h i j) entry (j - i) pattern
     reads =
-        r.alike.accepts entry (inr (inr (nth_in r.mirror.start_pattern k entry mirrored))) (reverse_tape h i j) (j - i)
+        r.alike.accepts entry (BeginsByPattern (nth_in r.mirror.start_pattern k entry mirrored))
+        (reverse_tape h i j) (j - i)
         pattern
 
 -- The NFA itself reads like it.
@@ -86,20 +88,21 @@ module _ (states folded : List State) (root : ℕ) (entries : List ℕ) (flags :
     (f : IsFolded (nfa_of (automaton states root root entries flags))
     (nfa_of (automaton folded root root entries flags))
     free made)
-    (low : IsKept free root) (entered : (e : ℕ) → In e entries → IsKept free e) where
+    (low : IsNotFree free root) (entered : (e : ℕ) → In e entries → IsNotFree free e) where
   abbrev Plain : Automaton
   Plain = automaton states root root entries flags
 
   abbrev Folded : Automaton
   Folded = automaton folded root root entries flags
 
-  below : (start : ℕ) → IsStart Plain start → IsKept free start
-  below start (inl e) = subst (λ v. IsKept free v) (sym e) low
-  below start (inr (inl e)) = subst (λ v. IsKept free v) (sym e) low
-  below start (inr (inr k)) = entered start k
+  below : (start : ℕ) → BeginsAt Plain start → IsNotFree free start
+  below start (BeginsHere e) = subst (λ v. IsNotFree free v) (sym e) low
+  below start (BeginsAnywhere e) = subst (λ v. IsNotFree free v) (sym e) low
+  below start (BeginsByPattern k) = entered start k
 
   reach :
-      (start : ℕ) → IsKept free start → (t : Tape) (i p : ℕ) → Reaches Plain t start i p → Reaches Folded t start i p
+      (start : ℕ) → IsNotFree free start → (t : Tape) (i p : ℕ) → AcceptsFrom Plain t start i p
+      → AcceptsFrom Folded t start i p
   reach start l t i p s =
       let there =
       forth_there (nfa_of Plain) (nfa_of Folded) free made f (truth (nfa_of Plain) t) (slice_get t.bytes) 0 start i p l
@@ -108,7 +111,8 @@ module _ (states folded : List State) (root : ℕ) (entries : List ℕ) (flags :
       (path.0, (there.0, path.1, there.2))
 
   reach_back :
-      (start : ℕ) → IsKept free start → (t : Tape) (i p : ℕ) → Reaches Folded t start i p → Reaches Plain t start i p
+      (start : ℕ) → IsNotFree free start → (t : Tape) (i p : ℕ) → AcceptsFrom Folded t start i p
+      → AcceptsFrom Plain t start i p
   reach_back start l t i p s =
       let there =
       back_there (nfa_of Plain) (nfa_of Folded) free made f (truth (nfa_of Plain) t) (slice_get t.bytes) 0 start i p l

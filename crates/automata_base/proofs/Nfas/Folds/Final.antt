@@ -17,9 +17,11 @@ use Rattle.automata_base.specs.Nfas.Nfa.{takes_in}
 use Rattle.automata_base.specs.Nfas.Nodes.{nfa_of, node_of, nodes_of, range_of}
 use Rattle.automata_base.specs.Paths.Paths.{all_true}
 use Rattle.automata_base.specs.Powersets.Closure.{children_at}
-use Rattle.automata_base.specs.Retraced.Folds.{AreFolded, IsFolded, IsFoldedFrom, IsFoldedNode, IsFoldedState}
+use Rattle.automata_base.specs.Retraced.Folds.{AreFolded, IsFolded, IsFoldedFrom, IsFoldedNode, StaysNode, FoldsNode}
+use Rattle.automata_base.specs.Retraced.Folds.{IsFoldedAlternate, StaysAlternate, FoldsAlternate}
+use Rattle.automata_base.specs.Retraced.Folds.{IsFoldedState, StaysState, FoldsState}
 use Rattle.automata_base.specs.Retraced.Folds.{IsFoldedUnion, IsFoldOf}
-use Rattle.automata_base.specs.Retraced.Folds.{IsKept, ReadsRange, SomeReads, SomeTakes, is_large, is_large_state}
+use Rattle.automata_base.specs.Retraced.Folds.{IsNotFree, ReadsRange, SomeReads, SomeTakes, is_large, is_large_state}
 use Rattle.automata_base.specs.Retraced.Folds.{range_read}
 use Rattle.automata_base.specs.Retraced.Once.{once_from}
 use Rattle.automata_base.specs.Retraced.Reach.{node_in, nexts, byte_targets, targets_at, targets_of}
@@ -68,9 +70,9 @@ read_node states x range r = node_some states x r.0 r.1 ∙ range_node r.0 range
 -- Where a state that reads a range leads.
 pub range_kept :
     (states : List State) (free : List ℕ)
-    → ((q t : ℕ) → is_large (node_in states q) ≡ false → In t (targets_of Every states q) → IsKept free t)
+    → ((q t : ℕ) → is_large (node_in states q) ≡ false → In t (targets_of Every states q) → IsNotFree free t)
     → (q : ℕ) (range : Transition)
-    → ReadsRange states q range → IsKept free range.next
+    → ReadsRange states q range → IsNotFree free range.next
 range_kept states free led q range r =
     let e = read_node states q range r in
     led q range.next (ap (λ v. is_large v) e) (subst (λ v. In range.next (targets_at Every v)) (sym e) (inl refl))
@@ -147,36 +149,42 @@ module _ (old new : List State) (root : ℕ) (entries : List ℕ) (flags : Flags
   }
     where
       takes' : (u t : ℕ) → SomeReads old xs u t → SomeTakes Plain xs u t
-      takes' u t k =
-          (k.0, k.2, ap (λ v. takes_at v u) (read_node old k.0 k.1 k.3) ∙ one_takes k.1 u t k.4 k.5 k.6)
+      takes' u t k = (
+        k.state,
+        k.among,
+        ap (λ v. takes_at v u) (read_node old k.state k.range k.reads) ∙ one_takes k.range u t k.leads k.begins k.ends,
+      )
 
       all :
           (y : ℕ) → In y xs → In y o.stay ⊎ ((range : Transition) × ReadsRange old y range)
-          → In y o.stay
-          ⊎ ((own : List Range) × (node Plain y ≡ Read own)
-          × ((u t : ℕ) → takes_in own u ≡ Some t → In t (o.stands u).0))
-      all y i (inl k) = inl k
-      all y i (inr k) = inr (
-        range_of k.0 ∷ [],
-        read_node old y k.0 k.1,
-        λ u t h. let g = one_taken k.0 u t h in ((o.stands u).2 t).1 (y, k.0, i, k.1, g.0, g.1, g.2),
-      )
+          → IsFoldedAlternate Plain o.stay (λ u. (o.stands u).0) y
+      all y i (inl k) = StaysAlternate k
+      all y i (inr k) =
+          FoldsAlternate (range_of k.0 ∷ []) (read_node old y k.0 k.1)
+          (λ u t h.
+          let g = one_taken k.0 u t h in
+          ((o.stands u).2 t).1 (record {
+            state = y;
+            range = k.0;
+            among = i;
+            reads = k.1;
+            leads = g.0;
+            begins = g.1;
+            ends = g.2;
+          }))
 
   each_of :
       (x : ℕ) → IsFoldedState old free made (slice_get old x) (slice_get new x)
       → IsFoldedNode Plain free made (node Plain x) (node Folded x)
-  each_of x (inl k) = inl (
-    node_is new x ∙ (ap option_node k.0 ∙ sym (node_is old x)),
-    λ A e y h.
-        a.led x y (ap (λ v. is_large v) (node_is old x) ∙ (sym (large_is (slice_get old x)) ∙ k.1))
-        (in_left y (children_at (node Plain x) all_true) (byte_targets (node Plain x))
-        (hop_child (node Plain x) A e y h)),
-  )
-  each_of x (inr k) = inr (
-    k.0.items,
-    node_some old x (is.Union k.0) k.2,
-    union_of k.0.items x (node_of k.1) (node_some new x k.1 k.3) k.4,
-  )
+  each_of x (StaysState same small) =
+      StaysNode (node_is new x ∙ (ap option_node same ∙ sym (node_is old x)))
+      (λ A e y h.
+      a.led x y (ap (λ v. is_large v) (node_is old x) ∙ (sym (large_is (slice_get old x)) ∙ small))
+      (in_left y (children_at (node Plain x) all_true) (byte_targets (node Plain x))
+      (hop_child (node Plain x) A e y h)))
+  each_of x (FoldsState v folded union to fold none) =
+      FoldsNode v.items (node_some old x (is.Union v) union)
+      (union_of v.items x (node_of folded) (node_some new x folded to) fold)
 
   pub whole_folded : IsFolded Plain Folded free made
   whole_folded = record {
@@ -199,23 +207,24 @@ pub folded_from :
     → led1 ≡ once_from led0 (root ∷ []) → led2 ≡ once_from led1 entries
     → ((x : ℕ) → In x free → (range : Transition) × ReadsRange old x range) → ((x : ℕ) → In x free → In x led2 → ⊥)
     → ((x : ℕ) → IsFoldedState old free (nodes_of made) (slice_get old x) (slice_get mid x))
-    → ((x : ℕ) → IsKept free x → slice_get new x ≡ slice_get mid x)
+    → ((x : ℕ) → IsNotFree free x → slice_get new x ≡ slice_get mid x)
     → ((k x : ℕ) (s : State) → slice_get free k ≡ Some x → slice_get made k ≡ Some s → slice_get new x ≡ Some s)
     → IsFoldedFrom old new root entries
-folded_from old mid new made led0 led1 led2 free entries root led e f reads fresh each kept done = (
-  free,
-  nodes_of made,
-  record {
+folded_from old mid new made led0 led1 led2 free entries root led e f reads fresh each kept done = record {
+  free = free;
+  made = nodes_of made;
+  folded = record {
     each = λ x k. subst (λ v. IsFoldedState old free (nodes_of made) (slice_get old x) v) (sym (kept x k)) (each x);
     more = λ x n m.
         let s = nodes_get made m.0 n m.2 in node_some new x s.0 (done m.0 x s.0 m.1 s.1) ∙ s.2;
     led = λ q t l i k. fresh t k (keep t (led q t l i));
     reads = reads;
-  },
-  (λ k. fresh root k
-  (keep1 root (subst (λ (v : List ℕ). In root v) (sym e) (once_has root led0 (root ∷ []) (inl refl))))),
-  λ x i k. fresh x k (subst (λ (v : List ℕ). In x v) (sym f) (once_has x led1 entries i)),
-)
+  };
+  rooted = λ k.
+      fresh root k
+      (keep1 root (subst (λ (v : List ℕ). In root v) (sym e) (once_has root led0 (root ∷ []) (inl refl))));
+  entered = λ x i k. fresh x k (subst (λ (v : List ℕ). In x v) (sym f) (once_has x led1 entries i));
+}
   where
     keep1 : (t : ℕ) → In t led1 → In t led2
     keep1 t i = subst (λ (v : List ℕ). In t v) (sym f) (once_keeps t led1 entries i)

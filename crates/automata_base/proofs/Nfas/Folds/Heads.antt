@@ -10,7 +10,8 @@ use Rattle.automata_base.specs.Nfas.Nodes.{nodes_of}
 use Rattle.automata_base.proofs.Powersets.Walking.{nodes_length}
 use Rattle.automata_base.specs.Lists.{In, cons_some}
 use Rattle.automata_base.specs.Nfas.Nfa.{Node, Split}
-use Rattle.automata_base.specs.Retraced.Folds.{AreHeads, AreTargetsOf, IsKept, IsMade, StandsFor, StandsIfAny}
+use Rattle.automata_base.specs.Retraced.Folds.{AreTreeHeads, AreTargetsOf, IsNotFree, IsMade, StandsFor, StandsIfAny}
+use Rattle.automata_base.specs.Retraced.Folds.{IsTheTarget, JoinsStandIns}
 use Rattle.automata_base.specs.Retraced.ReversedEdges.{list_at}
 use Rattle.automata_base.specs.Retraced.Segments.{above, IsOnWay, head_or_none}
 use Rattle.automata_base.proofs.Nfas.Mirrors.Copies.{nth_more, nth_last}
@@ -31,14 +32,13 @@ targets_more S T (x ∷ xs) ts f h = (h.0, h.1, f x h.0 h.2, targets_more S T xs
 pub stands_more :
     (free : List ℕ) (made more : List Node) (d z : ℕ) (ts : List ℕ) → StandsFor free made d z ts
     → StandsFor free (made ++ more) d z ts
-stands_more free made more zero z ts h = h
-stands_more free made more (suc d) z ts (inl h) = inl h
-stands_more free made more (suc d) z ts (inr h) = inr (
-  h.0,
-  made_more free made more z (Split h.0) h.1,
-  targets_more (StandsFor free made d) (StandsFor free (made ++ more) d) h.0 ts
-  (λ x own k. stands_more free made more d x own k) h.2,
-)
+stands_more free made more zero z ts (IsTheTarget k e) = IsTheTarget k e
+stands_more free made more zero z ts (JoinsStandIns xs m h) = absurd h
+stands_more free made more (suc d) z ts (IsTheTarget k e) = IsTheTarget k e
+stands_more free made more (suc d) z ts (JoinsStandIns xs m h) =
+    JoinsStandIns xs (made_more free made more z (Split xs) m)
+    (targets_more (StandsFor free made d) (StandsFor free (made ++ more) d) xs ts
+    (λ x own k. stands_more free made more d x own k) h)
 
 pub any_more :
     (free : List ℕ) (made more : List Node) (o : Option ℕ) (ts : List ℕ) → StandsIfAny free made o ts
@@ -47,13 +47,13 @@ any_more free made more None ts h = h
 any_more free made more (Some z) ts h = (h.0, stands_more free made more h.0 z ts h.1)
 
 -- A kept state stands for itself.
-kept_stands : (free : List ℕ) (made : List Node) (d z : ℕ) → IsKept free z → StandsFor free made d z (z ∷ [])
-kept_stands free made zero z k = (k, refl)
-kept_stands free made (suc d) z k = inl (k, refl)
+kept_stands : (free : List ℕ) (made : List Node) (d z : ℕ) → IsNotFree free z → StandsFor free made d z (z ∷ [])
+kept_stands free made zero z k = IsTheTarget k refl
+kept_stands free made (suc d) z k = IsTheTarget k refl
 
 -- Kept states, and a state that stands for others.
 kept_then :
-    (free : List ℕ) (made : List Node) (d : ℕ) (list rest ts : List ℕ) → ((t : ℕ) → In t list → IsKept free t)
+    (free : List ℕ) (made : List Node) (d : ℕ) (list rest ts : List ℕ) → ((t : ℕ) → In t list → IsNotFree free t)
     → AreTargetsOf (StandsFor free made d) rest ts → AreTargetsOf (StandsFor free made d) (list ++ rest) (list ++ ts)
 kept_then free made d [] rest ts k h = h
 kept_then free made d (x ∷ list) rest ts k h = (
@@ -71,7 +71,7 @@ append-nil (x ∷ xs) = ap (λ (z : List ℕ). x ∷ z) (append-nil xs)
 -- The targets of a list and of the head above it.
 pub joined_targets :
     (free : List ℕ) (made : List Node) (list : List ℕ) (o : Option ℕ) (ts : List ℕ)
-    → ((t : ℕ) → In t list → IsKept free t) → StandsIfAny free made o ts
+    → ((t : ℕ) → In t list → IsNotFree free t) → StandsIfAny free made o ts
     → (d : ℕ) × AreTargetsOf (StandsFor free made d) (list ++ cons_some o []) (list ++ ts)
 joined_targets free made list None ts k h = (0, kept_then free made 0 list [] ts k h)
 joined_targets free made list (Some z) ts k h =
@@ -89,13 +89,10 @@ pub union_stands :
     → IsMade free new id x → AreTargetsOf (StandsFor free made d) xs ts → StandsIfAny free new (Some id) ts
 union_stands free made new x d id xs ts e s m h = (
   suc d,
-  inr (
-    xs,
-    subst (λ v. IsMade free new id v) s m,
-    subst (λ v. AreTargetsOf (StandsFor free v d) xs ts) (sym e)
-        (targets_more (StandsFor free made d) (StandsFor free (made ++ x ∷ []) d) xs ts
-        (λ y own k. stands_more free made (x ∷ []) d y own k) h),
-  ),
+  JoinsStandIns xs (subst (λ v. IsMade free new id v) s m)
+      (subst (λ v. AreTargetsOf (StandsFor free v d) xs ts) (sym e)
+      (targets_more (StandsFor free made d) (StandsFor free (made ++ x ∷ []) d) xs ts
+      (λ y own k. stands_more free made (x ∷ []) d y own k) h)),
 )
 
 -- The way of a node is the node, and the way of the one above it.
@@ -138,7 +135,7 @@ above_root free made lists = record {
 
 pub above_node :
     (free : List ℕ) (made : List Node) (lists : List (List ℕ)) (heads : List (Option ℕ)) (node : ℕ)
-    → AreHeads free made lists heads node → 0 < node
+    → AreTreeHeads free made lists heads node → 0 < node
     → IsAbove free made lists (head_or_none (slice_get heads (node / 2))) node
 above_node free made lists heads node h l =
     let k = h (node / 2) (omega (arith, l)) in
@@ -158,7 +155,7 @@ above_node free made lists heads node h l =
 pub above_any :
     (free : List ℕ) (made : List Node) (lists : List (List ℕ)) (heads given : List (Option ℕ)) (node : ℕ) (o : Option ℕ)
     → given ≡ heads → (node ≡ 0 → o ≡ None) → (0 < node → o ≡ head_or_none (slice_get given (node / 2)))
-    → AreHeads free made lists heads node → IsAbove free made lists o node
+    → AreTreeHeads free made lists heads node → IsAbove free made lists o node
 above_any free made lists heads given node o same root other h = go (cases_lt 0 node)
   where
     go : (0 < node) ⊎ (node ≤ 0) → IsAbove free made lists o node
@@ -185,7 +182,7 @@ pub heads_next :
     (o head : Option ℕ) (list : List ℕ) → length heads ≡ node → list ≡ list_at lists node → new ≡ made ++ more
     → after ≡ heads ++ head ∷ [] → IsAbove free made lists o node
     → ((targets : List ℕ) → StandsIfAny free made o targets → StandsIfAny free new head (list ++ targets))
-    → AreHeads free made lists heads node → AreHeads free new lists after (node + 1)
+    → AreTreeHeads free made lists heads node → AreTreeHeads free new lists after (node + 1)
 heads_next free made new more lists heads after node o head list count is grows pushed up stands h k l =
     subst
     (λ (z : List (Option ℕ)). (targets : List ℕ) × StandsIfAny free new (head_or_none (slice_get z k)) targets
@@ -200,7 +197,7 @@ heads_next free made new more lists heads after node o head list count is grows 
         let r = h k b in (
           r.0,
           subst (λ v. StandsIfAny free new (head_or_none v) r.0)
-          (sym (nth_front heads head k (omega (arith, b, count))))
+              (sym (nth_front heads head k (omega (arith, b, count))))
               (subst (λ v. StandsIfAny free v (head_or_none (slice_get heads k)) r.0) (sym grows)
               (any_more free made more (head_or_none (slice_get heads k)) r.0 r.1)),
           r.2,
@@ -209,8 +206,11 @@ heads_next free made new more lists heads after node o head list count is grows 
       list ++ up.targets,
       subst (λ v. StandsIfAny free new (head_or_none v) (list ++ up.targets))
           (sym (ap (λ v. slice_get (heads ++ head ∷ []) v) same ∙ nth_last heads head)) (stands up.targets up.stands),
-      λ t. ((λ i. forth t (in_either t list up.targets i)), λ w. back t
-      (up.all t (subst (λ v. IsOnWay lists v t) here w))),
+      λ t. (
+        (λ i. forth t (in_either t list up.targets i)),
+        λ w. back t
+            (up.all t (subst (λ v. IsOnWay lists v t) here w)),
+      ),
     )
       where
         same : k ≡ length heads

@@ -62,8 +62,37 @@ read_more states ids after lists new x nodes s range e at is few put low old r =
         (u t : ℕ)
         → IsOnWay lists (u + 256) t ⊎ ((t ≡ range.next) × (range.lo ≤ u) × (u ≤ range.hi))
         → (IsOnWay lists (u + 256) t → SomeReads states ids u t) → SomeReads states (ids ++ x ∷ []) u t
-    forth u t (inl w) f = let k = f w in (k.0, k.1, in_left k.0 ids (x ∷ []) k.2, k.3, k.4, k.5, k.6)
-    forth u t (inr w) f = (x, range, in_right x ids (x ∷ []) (inl refl), (s, at, sym is), sym w.0, w.1, w.2)
+    forth u t (inl w) f =
+        let k = f w in
+        record {
+          state = k.state;
+          range = k.range;
+          among = in_left k.state ids (x ∷ []) k.among;
+          reads = k.reads;
+          leads = k.leads;
+          begins = k.begins;
+          ends = k.ends;
+        }
+    forth u t (inr w) f = record {
+      state = x;
+      range = range;
+      among = in_right x ids (x ∷ []) (inl refl);
+      reads = (s, at, sym is);
+      leads = sym w.0;
+      begins = w.1;
+      ends = w.2;
+    }
+
+    less : (u t : ℕ) (k : SomeReads states (ids ++ x ∷ []) u t) → In k.state ids → SomeReads states ids u t
+    less u t k i = record {
+      state = k.state;
+      range = k.range;
+      among = i;
+      reads = k.reads;
+      leads = k.leads;
+      begins = k.begins;
+      ends = k.ends;
+    }
 
     same : (y : ℕ) (other : Transition) → y ≡ x → ReadsRange states y other → other ≡ range
     same y other i k =
@@ -72,28 +101,29 @@ read_more states ids after lists new x nodes s range e at is few put low old r =
     back :
         (u t : ℕ) → u < 256 → SomeReads states (ids ++ x ∷ []) u t
         → IsOnWay lists (u + 256) t ⊎ ((t ≡ range.next) × (range.lo ≤ u) × (u ≤ range.hi))
-    back u t l k = go (in_either k.0 ids (x ∷ []) k.2)
+    back u t l k = go (in_either k.state ids (x ∷ []) k.among)
       where
         go :
-            In k.0 ids ⊎ In k.0 (x ∷ [])
+            In k.state ids ⊎ In k.state (x ∷ [])
             → IsOnWay lists (u + 256) t ⊎ ((t ≡ range.next) × (range.lo ≤ u) × (u ≤ range.hi))
-        go (inl i) = inl ((r.reads u t l).1 (k.0, k.1, i, k.3, k.4, k.5, k.6))
+        go (inl i) = inl ((r.reads u t l).1 (less u t k i))
         go (inr (inl i)) =
-            let g = same k.0 k.1 i k.3 in
+            let g = same k.state k.range i k.reads in
             inr (
-              sym k.4 ∙ ap (λ (v : Transition). v.next) g,
-              subst (λ (v : Transition). v.lo ≤ u) g k.5,
-              subst (λ (v : Transition). u ≤ v.hi) g k.6,
+              sym k.leads ∙ ap (λ (v : Transition). v.next) g,
+              subst (λ (v : Transition). v.lo ≤ u) g k.begins,
+              subst (λ (v : Transition). u ≤ v.hi) g k.ends,
             )
         go (inr (inr i)) = absurd i
 
     lower : (u t : ℕ) → SomeReads states (ids ++ x ∷ []) u t → u < 256
-    lower u t k = go (in_either k.0 ids (x ∷ []) k.2)
+    lower u t k = go (in_either k.state ids (x ∷ []) k.among)
       where
-        go : In k.0 ids ⊎ In k.0 (x ∷ []) → u < 256
-        go (inl i) = r.low u t (k.0, k.1, i, k.3, k.4, k.5, k.6)
+        go : In k.state ids ⊎ In k.state (x ∷ []) → u < 256
+        go (inl i) = r.low u t (less u t k i)
         go (inr (inl i)) =
-            let h = subst (λ (v : Transition). u ≤ v.hi) (same k.0 k.1 i k.3) k.6 in omega (arith, h, low)
+            let h = subst (λ (v : Transition). u ≤ v.hi) (same k.state k.range i k.reads) k.ends in
+            omega (arith, h, low)
         go (inr (inr i)) = absurd i
 
 -- A state more, which reads none.
@@ -109,14 +139,30 @@ read_none states ids after lists x nodes e none r =
     }
   where
     forth : (u t : ℕ) → SomeReads states ids u t → SomeReads states (ids ++ x ∷ []) u t
-    forth u t k = (k.0, k.1, in_left k.0 ids (x ∷ []) k.2, k.3, k.4, k.5, k.6)
+    forth u t k = record {
+      state = k.state;
+      range = k.range;
+      among = in_left k.state ids (x ∷ []) k.among;
+      reads = k.reads;
+      leads = k.leads;
+      begins = k.begins;
+      ends = k.ends;
+    }
 
     back : (u t : ℕ) → SomeReads states (ids ++ x ∷ []) u t → SomeReads states ids u t
-    back u t k = go (in_either k.0 ids (x ∷ []) k.2)
+    back u t k = go (in_either k.state ids (x ∷ []) k.among)
       where
-        go : In k.0 ids ⊎ In k.0 (x ∷ []) → SomeReads states ids u t
-        go (inl i) = (k.0, k.1, i, k.3, k.4, k.5, k.6)
-        go (inr (inl i)) = absurd (none k.1 (subst (λ v. ReadsRange states v k.1) i k.3))
+        go : In k.state ids ⊎ In k.state (x ∷ []) → SomeReads states ids u t
+        go (inl i) = record {
+          state = k.state;
+          range = k.range;
+          among = i;
+          reads = k.reads;
+          leads = k.leads;
+          begins = k.begins;
+          ends = k.ends;
+        }
+        go (inr (inl i)) = absurd (none k.range (subst (λ v. ReadsRange states v k.range) i k.reads))
         go (inr (inr i)) = absurd i
 
 pub reads_none :
@@ -129,8 +175,8 @@ pub read_begin :
     (states : List State) (lists : List (List ℕ)) (nodes : ℕ) → lists ≡ no_lists 512 → nodes ≡ 512
     → AreRead states [] lists nodes
 read_begin states lists nodes e few = record {
-  reads = λ u t l. ((λ w. absurd (empty u t w)), λ w. absurd w.2);
-  low = λ u t w. absurd w.2;
+  reads = λ u t l. ((λ w. absurd (empty u t w)), λ w. absurd w.among);
+  low = λ u t w. absurd w.among;
   few = few;
 }
   where

@@ -8,7 +8,7 @@ use Rattle.std.proofs.lemmas.Bool.{cases_eq}
 use Rattle.std.proofs.lemmas.Option.{slice_get_within}
 use Rattle.automata_base.specs.declared.nfa.thompson.State.{State}
 use Rattle.automata_base.specs.Lists.{In, Distinct}
-use Rattle.automata_base.specs.Retraced.Folds.{IsKept}
+use Rattle.automata_base.specs.Retraced.Folds.{IsNotFree}
 use Rattle.automata_base.proofs.Paths.Orders.{none_some, some_inj}
 use Rattle.automata_base.proofs.Paths.Sets.{nth_in}
 
@@ -48,7 +48,7 @@ states_nil (x ∷ xs) = ap (λ (z : List State). x ∷ z) (states_nil xs)
 pub record Placing (free : List ℕ) (old now : List State) (all rest : List State) : Type 0 where
   pub more : List State
   pub whole : all ≡ rest ++ more
-  pub kept : (x : ℕ) → IsKept free x → slice_get now x ≡ slice_get old x
+  pub kept : (x : ℕ) → IsNotFree free x → slice_get now x ≡ slice_get old x
   pub done :
       (k x : ℕ) (s : State) → length rest ≤ k → slice_get free k ≡ Some x → slice_get all k ≡ Some s
       → slice_get now x ≡ Some s

@@ -9,7 +9,8 @@ use Rattle.automata_base.specs.declared.nfa.thompson.Transition.{Transition}
 use Rattle.automata_base.specs.Lists.{In}
 use Rattle.automata_base.specs.Nfas.Nfa.{Node, takes_in}
 use Rattle.automata_base.specs.Nfas.Nodes.{node_of}
-use Rattle.automata_base.specs.Retraced.Folds.{IsFoldOf, IsFoldedState, IsUnionOf, ReadsRange, SomeReads}
+use Rattle.automata_base.specs.Retraced.Folds.{IsFoldOf, IsFoldedState, StaysState, FoldsState, IsUnionOf, ReadsRange}
+use Rattle.automata_base.specs.Retraced.Folds.{SomeReads}
 use Rattle.automata_base.specs.Retraced.Folds.{is_large_state, range_read}
 use Rattle.automata_base.proofs.Nfas.Folds.Heads.{made_more, any_more, nodes_nil}
 use Rattle.automata_base.proofs.Paths.Orders.{none_some, some_inj}
@@ -44,11 +45,20 @@ module _ (A B : List State) (free : List ℕ) (made more new : List Node) (grows
           (C D : List State) → ((x : ℕ) (range : Transition) → ReadsRange C x range → ReadsRange D x range)
           → (u t : ℕ) (xs : List ℕ)
           → SomeReads C xs u t → SomeReads D xs u t
-      some C D f u t xs k = (k.0, k.1, k.2, f k.0 k.1 k.3, k.4, k.5, k.6)
+      some C D f u t xs k = record {
+        state = k.state;
+        range = k.range;
+        among = k.among;
+        reads = f k.state k.range k.reads;
+        leads = k.leads;
+        begins = k.begins;
+        ends = k.ends;
+      }
 
   pub state_later : (o n : Option State) → IsFoldedState A free made o n → IsFoldedState B free new o n
-  state_later o n (inl k) = inl k
-  state_later o n (inr k) = inr (k.0, k.1, k.2, k.3, fold_later k.0.items (node_of k.1) k.4, k.5)
+  state_later o n (StaysState same small) = StaysState same small
+  state_later o n (FoldsState v folded union to fold none) =
+      FoldsState v folded union to (fold_later v.items (node_of folded) fold) none
 
 -- The unions before `count` are folded.
 pub record Folding (old now : List State) (free : List ℕ) (made : List Node) (count : ℕ) : Type 0 where
@@ -69,9 +79,9 @@ module _ (old now : List State) (free : List ℕ) (made : List Node) (count : �
   reads_back x range r = go (cases_lt x count)
     where
       at : IsFoldedState old free made (slice_get old x) (slice_get now x) → ReadsRange old x range
-      at (inl k) = (r.0, sym k.0 ∙ r.1, r.2)
-      at (inr k) =
-          absurd (none_some (sym (ap (λ v. range_read v) (some_inj (sym r.1 ∙ k.3)) ∙ k.5) ∙ r.2))
+      at (StaysState same small) = (r.0, sym same ∙ r.1, r.2)
+      at (FoldsState v folded union to fold none) =
+          absurd (none_some (sym (ap (λ v. range_read v) (some_inj (sym r.1 ∙ to)) ∙ none) ∙ r.2))
 
       go : (x < count) ⊎ (count ≤ x) → ReadsRange old x range
       go (inl l) = at (f.each x l)
@@ -81,8 +91,9 @@ module _ (old now : List State) (free : List ℕ) (made : List Node) (count : �
   reads_forth x range r = go (cases_lt x count)
     where
       at : IsFoldedState old free made (slice_get old x) (slice_get now x) → ReadsRange now x range
-      at (inl k) = (r.0, k.0 ∙ r.1, r.2)
-      at (inr k) = absurd (none_some (sym (ap (λ v. range_read v) (some_inj (sym r.1 ∙ k.2))) ∙ r.2))
+      at (StaysState same small) = (r.0, same ∙ r.1, r.2)
+      at (FoldsState v folded union to fold none) =
+          absurd (none_some (sym (ap (λ v. range_read v) (some_inj (sym r.1 ∙ union))) ∙ r.2))
 
       go : (x < count) ⊎ (count ≤ x) → ReadsRange now x range
       go (inl l) = at (f.each x l)
@@ -118,7 +129,7 @@ module _ (old now : List State) (free : List ℕ) (made : List Node) (count : �
     where
       go : (x < count) ⊎ (count ≤ x) → IsFoldedState old free made (slice_get old x) (slice_get now x)
       go (inl l) = f.each x l
-      go (inr l) = inl (f.rest x l, ap (λ v. is_large_state v) (slice_get_past old x (omega (arith, l, all))))
+      go (inr l) = StaysState (f.rest x l) (ap (λ v. is_large_state v) (slice_get_past old x (omega (arith, l, all))))
 
 -- The state of a number that is a large union, and its fold.
 pub folded_here :
@@ -127,11 +138,5 @@ pub folded_here :
     → IsFoldOf states free made list (node_of folded)
     → range_read folded ≡ None → IsFoldedState states free made (slice_get states x) (slice_get new x)
 folded_here states new free made x s folded list at to u o none =
-    inr (
-      u.0,
-      folded,
-      at ∙ ap (λ (v : State). Some v) u.1,
-      to,
-      subst (λ (z : List ℕ). IsFoldOf states free made z (node_of folded)) u.2 o,
-      none,
-    )
+    FoldsState u.0 folded (at ∙ ap (λ (v : State). Some v) u.1) to
+    (subst (λ (z : List ℕ). IsFoldOf states free made z (node_of folded)) u.2 o) none

@@ -5,7 +5,8 @@ use Rattle.std.proofs.Common.{subst, arith, length}
 use Rattle.std.proofs.lemmas.Bool.{cases_eq, cases_lt}
 use Rattle.automata_base.specs.Lists.{In}
 use Rattle.automata_base.specs.Retraced.ReversedEdges.{list_at, push_at}
-use Rattle.automata_base.specs.Retraced.Segments.{above, IsOnWay, IsPutFirst, IsPutLast}
+use Rattle.automata_base.specs.Retraced.Segments.{above, IsOnWay, IsPutFirst, BeginsWithPair, PutsAtFirst, IsPutLast}
+use Rattle.automata_base.specs.Retraced.Segments.{EndsWithPair, PutsAtLast}
 use Rattle.automata_base.proofs.Nfas.Mirrors.Lists.{push_same, push_other, push_length}
 use Rattle.automata_base.proofs.Paths.FirstVisits.{in_right}
 use Rattle.automata_base.proofs.Paths.Walks.{in_either, in_left}
@@ -273,36 +274,36 @@ module _ (old now mid new : List (List ℕ)) (lo hi next left end first last : �
   first_even = go f
     where
       go : IsPutFirst now mid left next first → first % 2 ≡ 0
-      go (inl h) = let a = h.0 in let b = h.1 in omega (arith, a, b)
-      go (inr h) = let a = h.0 in let b = h.1 in omega (arith, a, b)
+      go (BeginsWithPair a b e) = omega (arith, a, b)
+      go (PutsAtFirst a b e) = omega (arith, a, b)
 
   last_even : last % 2 ≡ 0
   last_even = go g
     where
       go : IsPutLast mid new end next last → last % 2 ≡ 0
-      go (inl h) = let a = h.0 in let b = h.1 in omega (arith, a, b)
-      go (inr h) = let a = h.0 in let b = h.1 in omega (arith, a, b)
+      go (EndsWithPair a b e) = omega (arith, a, b)
+      go (PutsAtLast a b e) = omega (arith, a, b)
 
   first_from : (left ≤ first) × (first ≤ left + 1)
   first_from = go f
     where
       go : IsPutFirst now mid left next first → (left ≤ first) × (first ≤ left + 1)
-      go (inl h) = let b = h.1 in (omega (arith, b), omega (arith, b))
-      go (inr h) = let b = h.1 in (omega (arith, b), omega (arith, b))
+      go (BeginsWithPair a b e) = (omega (arith, b), omega (arith, b))
+      go (PutsAtFirst a b e) = (omega (arith, b), omega (arith, b))
 
   last_to : (last ≤ end) × (end ≤ last + 1)
   last_to = go g
     where
       go : IsPutLast mid new end next last → (last ≤ end) × (end ≤ last + 1)
-      go (inl h) = let b = h.1 in (omega (arith, b), omega (arith, b))
-      go (inr h) = let b = h.1 in (omega (arith, b), omega (arith, b))
+      go (EndsWithPair a b e) = (omega (arith, b), omega (arith, b))
+      go (PutsAtLast a b e) = (omega (arith, b), omega (arith, b))
 
   mid_length : length mid ≡ 512
   mid_length = go f
     where
       go : IsPutFirst now mid left next first → length mid ≡ 512
-      go (inl h) = ap (λ (z : List (List ℕ)). length z) h.2 ∙ few
-      go (inr h) = ap (λ (z : List (List ℕ)). length z) h.2 ∙ (push_length now left next ∙ few)
+      go (BeginsWithPair a b e) = ap (λ (z : List (List ℕ)). length z) e ∙ few
+      go (PutsAtFirst a b e) = ap (λ (z : List (List ℕ)). length z) e ∙ (push_length now left next ∙ few)
 
   covers_mid :
       (steps width : ℕ) → IsLevel steps width → width ≤ left → end ≤ width + width → end ≤ 512
@@ -310,12 +311,12 @@ module _ (old now mid new : List (List ℕ)) (lo hi next left end first last : �
   covers_mid steps width l low high short c = go f
     where
       go : IsPutFirst now mid left next first → Covers old mid lo hi next steps first end
-      go (inl h) =
-          subst (λ (z : List (List ℕ)). Covers old z lo hi next steps first end) (sym h.2)
-          (subst (λ v. Covers old now lo hi next steps v end) (sym h.1) c)
-      go (inr h) =
-          subst (λ (z : List (List ℕ)). Covers old z lo hi next steps first end) (sym h.2)
-          (subst (λ v. Covers old (push_at now left next) lo hi next steps v end) (sym h.1)
+      go (BeginsWithPair a b e) =
+          subst (λ (z : List (List ℕ)). Covers old z lo hi next steps first end) (sym e)
+          (subst (λ v. Covers old now lo hi next steps v end) (sym b) c)
+      go (PutsAtFirst a b e) =
+          subst (λ (z : List (List ℕ)). Covers old z lo hi next steps first end) (sym e)
+          (subst (λ v. Covers old (push_at now left next) lo hi next steps v end) (sym b)
           (covers_first old now lo hi next steps left end width l low (omega (arith, some, high))
           (omega (arith, some, short, few)) some c))
 
@@ -325,16 +326,14 @@ module _ (old now mid new : List (List ℕ)) (lo hi next left end first last : �
   covers_new steps width l low high short c = go g
     where
       go : IsPutLast mid new end next last → Covers old new lo hi next steps first last
-      go (inl h) =
-          subst (λ (z : List (List ℕ)). Covers old z lo hi next steps first last) (sym h.2)
-          (subst (λ v. Covers old mid lo hi next steps first v) (sym h.1) c)
-      go (inr h) =
-          let is : last + 1 ≡ end = h.1 in
-          let odd : end % 2 ≡ 1 = h.0 in
+      go (EndsWithPair a b e) =
+          subst (λ (z : List (List ℕ)). Covers old z lo hi next steps first last) (sym e)
+          (subst (λ v. Covers old mid lo hi next steps first v) (sym b) c)
+      go (PutsAtLast odd is e) =
           let even = first_even in
           let from = first_from.1 in
           let long = mid_length in
-          subst (λ (z : List (List ℕ)). Covers old z lo hi next steps first last) (sym h.2)
+          subst (λ (z : List (List ℕ)). Covers old z lo hi next steps first last) (sym e)
           (covers_last old mid lo hi next steps first last end width l (omega (arith, is, some, low))
           (omega (arith, is, high)) (omega (arith, is, short, long)) (omega (arith, is, some, odd, even, from)) is c)
 

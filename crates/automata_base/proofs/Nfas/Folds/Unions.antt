@@ -9,7 +9,8 @@ use Rattle.automata_base.specs.declared.nfa.thompson.Transition.{Transition}
 use Rattle.automata_base.specs.Lists.{In}
 use Rattle.automata_base.specs.Nfas.Nfa.{Node, Split, Read, takes_in}
 use Rattle.automata_base.specs.Nfas.Nodes.{ranges_of}
-use Rattle.automata_base.specs.Retraced.Folds.{AreHeads, IsFoldOf, IsKept, IsMade, StandsIfAny, ReadsRange, SomeReads}
+use Rattle.automata_base.specs.Retraced.Folds.{AreTreeHeads, IsFoldOf, IsNotFree, IsMade, StandsIfAny, ReadsRange}
+use Rattle.automata_base.specs.Retraced.Folds.{SomeReads}
 use Rattle.automata_base.specs.Retraced.ReversedEdges.{list_at}
 use Rattle.automata_base.specs.Retraced.Segments.{above, IsOnWay, head_or_none, leaf_head}
 use Rattle.automata_base.proofs.Nfas.Folds.Heads.{any_more}
@@ -52,10 +53,10 @@ list_past (x ∷ lists) (suc k) l = list_past lists k (omega (arith, l))
 pub lists_kept :
     (states : List State) (free xs : List ℕ) (lists : List (List ℕ)) → length lists ≡ 512
     → ((u t : ℕ) → u < 256 → IsOnWay lists (u + 256) t ↔ SomeReads states xs u t)
-    → ((u t : ℕ) → SomeReads states xs u t → IsKept free t) → (k t : ℕ) → In t (list_at lists k) → IsKept free t
+    → ((u t : ℕ) → SomeReads states xs u t → IsNotFree free t) → (k t : ℕ) → In t (list_at lists k) → IsNotFree free t
 lists_kept states free xs lists nodes reads kept k t i = go (cases_lt k 512)
   where
-    go : (k < 512) ⊎ (512 ≤ k) → IsKept free t
+    go : (k < 512) ⊎ (512 ≤ k) → IsNotFree free t
     go (inl l) =
         let b = node_below k l in
         kept b.0 t ((reads b.0 t b.2).0 (b.1, subst (λ v. In t (list_at lists v)) (sym b.3) i))
@@ -64,7 +65,8 @@ lists_kept states free xs lists nodes reads kept k t i = go (cases_lt k 512)
 pub fold_of :
     (states : List State) (free : List ℕ) (m1 m2 : List Node) (xs others stay : List ℕ) (lists : List (List ℕ))
     (heads : List (Option ℕ)) (ts : List Transition) (reader : ℕ)
-    → AreHeads free m1 lists heads 512 → length heads ≡ 512 → ((u : ℕ) → takes_in (ranges_of ts) u ≡ leaf_head heads u)
+    → AreTreeHeads free m1 lists heads 512 → length heads ≡ 512
+    → ((u : ℕ) → takes_in (ranges_of ts) u ≡ leaf_head heads u)
     → ((u t : ℕ) → u < 256 → IsOnWay lists (u + 256) t ↔ SomeReads states xs u t)
     → ((u t : ℕ) → SomeReads states xs u t → u < 256)
     → ((x : ℕ) → In x others → In x xs × ((range : Transition) → ReadsRange states x range → ⊥))
@@ -73,15 +75,15 @@ pub fold_of :
     → IsFoldOf states free m2 xs (Split stay)
 fold_of states free m1 m2 xs others stay lists heads ts reader h nodes takes reads low sound all grows made is =
     record {
-  stay = others;
-  reader = reader;
-  ranges = ranges_of ts;
-  union = ap Split is;
-  reads = made;
-  sound = sound;
-  all = all;
-  stands = λ u. go u (cases_lt u 256);
-}
+      stay = others;
+      reader = reader;
+      ranges = ranges_of ts;
+      union = ap Split is;
+      reads = made;
+      sound = sound;
+      all = all;
+      stands = λ u. go u (cases_lt u 256);
+    }
   where
     go :
         (u : ℕ) → (u < 256) ⊎ (256 ≤ u)

@@ -4,8 +4,9 @@ use Rattle.std.proofs.Common.{ap, ◌∙◌, subst, arith, length}
 use Rattle.automata_base.specs.Lists.{In}
 use Rattle.automata_base.specs.Nfas.Nfa.{Nfa, Node, Range, Split, Read, Truth, node, hop, hop_at, takes, takes_at}
 use Rattle.automata_base.specs.Nfas.Nfa.{takes_in, accepts, accepts_at}
-use Rattle.automata_base.specs.Retraced.Folds.{IsKept, AreTargetsOf, StandsFor, StandsIfAny, IsFoldedUnion}
-use Rattle.automata_base.specs.Retraced.Folds.{IsFoldedNode, IsFolded}
+use Rattle.automata_base.specs.Retraced.Folds.{IsNotFree, AreTargetsOf, StandsFor, StandsIfAny, IsFoldedUnion}
+use Rattle.automata_base.specs.Retraced.Folds.{IsFoldedAlternate, StaysAlternate, FoldsAlternate}
+use Rattle.automata_base.specs.Retraced.Folds.{IsFoldedNode, StaysNode, FoldsNode, IsTheTarget, JoinsStandIns, IsFolded}
 use Rattle.automata_base.proofs.Nfas.Mirrors.Ways.{Bytes, IsWay, HasWay, join, hop_way, move_way}
 use Rattle.automata_base.proofs.Paths.Orders.{none_some}
 use Rattle.automata_base.proofs.Paths.Sets.{nth_in, in_nth}
@@ -51,13 +52,14 @@ module _ (n m : Nfa) (free : List ℕ) (made : List Node) (f : IsFolded n m free
 
   stands_way :
       (d z t i : ℕ) (ts : List ℕ) → StandsFor free made d z ts → In t ts → HasWay m A b i z i t
-  stands_way zero z t i ts h k = itself_way z t i ts h.1 k
-  stands_way (suc d) z t i ts (inl h) k = itself_way z t i ts h.1 k
-  stands_way (suc d) z t i ts (inr h) k =
-      let r = target_state (StandsFor free made d) h.0 ts t h.2 k in
-      let at = in_nth h.0 r.0 r.2 in
+  stands_way zero z t i ts (IsTheTarget l e) k = itself_way z t i ts e k
+  stands_way zero z t i ts (JoinsStandIns xs l h) k = absurd h
+  stands_way (suc d) z t i ts (IsTheTarget l e) k = itself_way z t i ts e k
+  stands_way (suc d) z t i ts (JoinsStandIns xs l h) k =
+      let r = target_state (StandsFor free made d) xs ts t h k in
+      let at = in_nth xs r.0 r.2 in
       join m A b i z i r.0 i t
-      (hop_way m A b i z at.0 r.0 (ap (λ (v : Node). hop_at v (A i) at.0) (f.more z (Split h.0) h.1) ∙ at.1))
+      (hop_way m A b i z at.0 r.0 (ap (λ (v : Node). hop_at v (A i) at.0) (f.more z (Split xs) l) ∙ at.1))
       (stands_way d r.0 t i r.1 r.3 r.4)
 
   -- A way to a match from a state that stands for some passes one of them.
@@ -70,16 +72,17 @@ module _ (n m : Nfa) (free : List ℕ) (made : List Node) (f : IsFolded n m free
   stands_past :
       (d z i : ℕ) (ts path : List ℕ) (j q p : ℕ) → StandsFor free made d z ts → IsWay m A b i z path j q
       → accepts m q ≡ Some p → Past i ts path j q
-  stands_past zero z i ts path j q p h w a = itself_past z i ts path j q h.1 w
-  stands_past (suc d) z i ts path j q p (inl h) w a = itself_past z i ts path j q h.1 w
-  stands_past (suc d) z i ts [] j q p (inr h) w a =
+  stands_past zero z i ts path j q p (IsTheTarget l s) w a = itself_past z i ts path j q s w
+  stands_past zero z i ts path j q p (JoinsStandIns xs l h) w a = absurd h
+  stands_past (suc d) z i ts path j q p (IsTheTarget l s) w a = itself_past z i ts path j q s w
+  stands_past (suc d) z i ts [] j q p (JoinsStandIns xs l h) w a =
       absurd (none_some
-      (sym (ap (λ (v : Node). accepts_at v) (f.more z (Split h.0) h.1)) ∙ (ap (λ v. accepts m v) w.1 ∙ a)))
-  stands_past (suc d) z i ts (e ∷ path) j q p (inr h) (inr w) a =
-      absurd (none_some (sym (ap (λ (v : Node). takes_at v w.1) (f.more z (Split h.0) h.1)) ∙ w.3))
-  stands_past (suc d) z i ts (e ∷ path) j q p (inr h) (inl w) a =
-      let at = nth_in h.0 e w.0 (sym (ap (λ (v : Node). hop_at v (A i) e) (f.more z (Split h.0) h.1)) ∙ w.1) in
-      let own = state_targets (StandsFor free made d) h.0 ts w.0 h.2 at in
+      (sym (ap (λ (v : Node). accepts_at v) (f.more z (Split xs) l)) ∙ (ap (λ v. accepts m v) w.1 ∙ a)))
+  stands_past (suc d) z i ts (e ∷ path) j q p (JoinsStandIns xs l h) (inr w) a =
+      absurd (none_some (sym (ap (λ (v : Node). takes_at v w.1) (f.more z (Split xs) l)) ∙ w.3))
+  stands_past (suc d) z i ts (e ∷ path) j q p (JoinsStandIns xs l h) (inl w) a =
+      let at = nth_in xs e w.0 (sym (ap (λ (v : Node). hop_at v (A i) e) (f.more z (Split xs) l)) ∙ w.1) in
+      let own = state_targets (StandsFor free made d) xs ts w.0 h at in
       let r = stands_past d w.0 i own.0 path j q p own.1 w.2 a in
       let few = r.4 in
       (r.0, r.1, own.2 r.0 r.2, r.3, omega (arith, few))
@@ -114,11 +117,11 @@ module _ (n m : Nfa) (free : List ℕ) (made : List Node) (f : IsFolded n m free
 
   -- Ways of the NFA, one edge after another.
   module _ (k j q p : ℕ) (a : accepts n q ≡ Some p)
-      (on : (rest : List ℕ) (i y : ℕ) → length rest ≤ k → IsKept free y → IsWay n A b i y rest j q
+      (on : (rest : List ℕ) (i y : ℕ) → length rest ≤ k → IsNotFree free y → IsWay n A b i y rest j q
       → There m i y j p) where
     forth_same :
         (path : List ℕ) (i x e : ℕ) → length path ≤ k → node m x ≡ node n x
-        → ((A : Truth) (e y : ℕ) → hop n A x e ≡ Some y → IsKept free y) → IsWay n A b i x (e ∷ path) j q
+        → ((A : Truth) (e y : ℕ) → hop n A x e ≡ Some y → IsNotFree free y) → IsWay n A b i x (e ∷ path) j q
         → There m i x j p
     forth_same path i x e few same leads (inl w) =
         before m i x i w.0 j p (hop_way m A b i x e w.0 (ap (λ (v : Node). hop_at v (A i) e) same ∙ w.1))
@@ -153,27 +156,24 @@ module _ (n m : Nfa) (free : List ℕ) (made : List Node) (f : IsFolded n m free
     forth_folded path i x e xs few s u (inl w) =
         go (u.all w.0 (nth_in xs e w.0 (sym (ap (λ (v : Node). hop_at v (A i) e) s) ∙ w.1)))
       where
-        go :
-            In w.0 u.stay
-            ⊎ ((own : List Range) × (node n w.0 ≡ Read own)
-            × ((v t : ℕ) → takes_in own v ≡ Some t → In t (u.targets v)))
-            → There m i x j p
-        go (inl h) =
+        go : IsFoldedAlternate n u.stay u.targets w.0 → There m i x j p
+        go (StaysAlternate h) =
             before m i x i w.0 j p (union_hop xs x w.0 i u (in_left w.0 u.stay (u.reader ∷ []) h))
             (on path i w.0 few (u.kept w.0 h).1 w.2)
-        go (inr h) = forth_read path i x w.0 xs h.0 few u h.1 h.2 w.2
+        go (FoldsAlternate own reads leads) = forth_read path i x w.0 xs own few u reads leads w.2
 
   here_forth :
-      (i x j q p : ℕ) → IsKept free x → IsWay n A b i x [] j q → accepts n q ≡ Some p → There m i x j p
+      (i x j q p : ℕ) → IsNotFree free x → IsWay n A b i x [] j q → accepts n q ≡ Some p → There m i x j p
   here_forth i x j q p low w a = go (f.each x low)
     where
       go : IsFoldedNode n free made (node n x) (node m x) → There m i x j p
-      go (inl same) =
-          (x, ([], (w.0, refl)), ap (λ (v : Node). accepts_at v) same.0 ∙ (ap (λ v. accepts n v) w.1 ∙ a))
-      go (inr h) = absurd (none_some (sym (ap (λ (v : Node). accepts_at v) h.1) ∙ (ap (λ v. accepts n v) w.1 ∙ a)))
+      go (StaysNode same leads) =
+          (x, ([], (w.0, refl)), ap (λ (v : Node). accepts_at v) same ∙ (ap (λ v. accepts n v) w.1 ∙ a))
+      go (FoldsNode xs s u) =
+          absurd (none_some (sym (ap (λ (v : Node). accepts_at v) s) ∙ (ap (λ v. accepts n v) w.1 ∙ a)))
 
   forth :
-      (k : ℕ) (path : List ℕ) (i x j q p : ℕ) → length path ≤ k → IsKept free x → IsWay n A b i x path j q
+      (k : ℕ) (path : List ℕ) (i x j q p : ℕ) → length path ≤ k → IsNotFree free x → IsWay n A b i x path j q
       → accepts n q ≡ Some p → There m i x j p
   forth k [] i x j q p few low w a = here_forth i x j q p low w a
   forth zero (e ∷ path) i x j q p few low w a = absurd (omega (arith, few))
@@ -184,18 +184,18 @@ module _ (n m : Nfa) (free : List ℕ) (made : List Node) (f : IsFolded n m free
       short = omega (arith, few)
 
       go :
-          ((rest : List ℕ) (i y : ℕ) → length rest ≤ k → IsKept free y → IsWay n A b i y rest j q → There m i y j p)
+          ((rest : List ℕ) (i y : ℕ) → length rest ≤ k → IsNotFree free y → IsWay n A b i y rest j q → There m i y j p)
           → IsFoldedNode n free made (node n x) (node m x) → There m i x j p
-      go on (inl same) = forth_same k j q p a on path i x e short same.0 same.1 w
-      go on (inr h) = forth_folded k j q p a on path i x e h.0 short h.1 h.2 w
+      go on (StaysNode same leads) = forth_same k j q p a on path i x e short same leads w
+      go on (FoldsNode xs s u) = forth_folded k j q p a on path i x e xs short s u w
 
   -- Ways of the folded one.
   module _ (k j q p : ℕ) (a : accepts m q ≡ Some p)
-      (on : (rest : List ℕ) (i y : ℕ) → length rest ≤ k → IsKept free y → IsWay m A b i y rest j q
+      (on : (rest : List ℕ) (i y : ℕ) → length rest ≤ k → IsNotFree free y → IsWay m A b i y rest j q
       → There n i y j p) where
     back_same :
         (path : List ℕ) (i x e : ℕ) → length path ≤ k → node m x ≡ node n x
-        → ((A : Truth) (e y : ℕ) → hop n A x e ≡ Some y → IsKept free y) → IsWay m A b i x (e ∷ path) j q
+        → ((A : Truth) (e y : ℕ) → hop n A x e ≡ Some y → IsNotFree free y) → IsWay m A b i x (e ∷ path) j q
         → There n i x j p
     back_same path i x e few same leads (inl w) =
         let h = sym (ap (λ (v : Node). hop_at v (A i) e) same) ∙ w.1 in
@@ -257,17 +257,17 @@ module _ (n m : Nfa) (free : List ℕ) (made : List Node) (f : IsFolded n m free
         go (inr (inr h)) = absurd h
 
   here_back :
-      (i x j q p : ℕ) → IsKept free x → IsWay m A b i x [] j q → accepts m q ≡ Some p → There n i x j p
+      (i x j q p : ℕ) → IsNotFree free x → IsWay m A b i x [] j q → accepts m q ≡ Some p → There n i x j p
   here_back i x j q p low w a = go (f.each x low)
     where
       go : IsFoldedNode n free made (node n x) (node m x) → There n i x j p
-      go (inl same) =
-          (x, ([], (w.0, refl)), sym (ap (λ (v : Node). accepts_at v) same.0) ∙ (ap (λ v. accepts m v) w.1 ∙ a))
-      go (inr h) =
-          absurd (none_some (sym (ap (λ (v : Node). accepts_at v) h.2.union) ∙ (ap (λ v. accepts m v) w.1 ∙ a)))
+      go (StaysNode same leads) =
+          (x, ([], (w.0, refl)), sym (ap (λ (v : Node). accepts_at v) same) ∙ (ap (λ v. accepts m v) w.1 ∙ a))
+      go (FoldsNode xs s u) =
+          absurd (none_some (sym (ap (λ (v : Node). accepts_at v) u.union) ∙ (ap (λ v. accepts m v) w.1 ∙ a)))
 
   back :
-      (k : ℕ) (path : List ℕ) (i x j q p : ℕ) → length path ≤ k → IsKept free x → IsWay m A b i x path j q
+      (k : ℕ) (path : List ℕ) (i x j q p : ℕ) → length path ≤ k → IsNotFree free x → IsWay m A b i x path j q
       → accepts m q ≡ Some p → There n i x j p
   back k [] i x j q p few low w a = here_back i x j q p low w a
   back zero (e ∷ path) i x j q p few low w a = absurd (omega (arith, few))
@@ -278,14 +278,14 @@ module _ (n m : Nfa) (free : List ℕ) (made : List Node) (f : IsFolded n m free
       short = omega (arith, few)
 
       go :
-          ((rest : List ℕ) (i y : ℕ) → length rest ≤ k → IsKept free y → IsWay m A b i y rest j q → There n i y j p)
+          ((rest : List ℕ) (i y : ℕ) → length rest ≤ k → IsNotFree free y → IsWay m A b i y rest j q → There n i y j p)
           → IsFoldedNode n free made (node n x) (node m x) → There n i x j p
-      go on (inl same) = back_same k j q p a on path i x e short same.0 same.1 w
-      go on (inr h) = back_folded k j q p a on path i x e h.0 short h.1 h.2 w
+      go on (StaysNode same leads) = back_same k j q p a on path i x e short same leads w
+      go on (FoldsNode xs s u) = back_folded k j q p a on path i x e xs short s u w
 
   -- The two reach the same matches from each state that is kept.
-  pub forth_there : (i x j p : ℕ) → IsKept free x → There n i x j p → There m i x j p
+  pub forth_there : (i x j p : ℕ) → IsNotFree free x → There n i x j p → There m i x j p
   forth_there i x j p low w = forth (length w.1.0) w.1.0 i x j w.0 p (omega arith) low w.1.1 w.2
 
-  pub back_there : (i x j p : ℕ) → IsKept free x → There m i x j p → There n i x j p
+  pub back_there : (i x j p : ℕ) → IsNotFree free x → There m i x j p → There n i x j p
   back_there i x j p low w = back (length w.1.0) w.1.0 i x j w.0 p (omega arith) low w.1.1 w.2

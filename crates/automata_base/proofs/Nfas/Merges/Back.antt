@@ -10,6 +10,7 @@ use Rattle.automata_base.specs.Nfas.Merges.{stood_for, target_for, Shows, IsMerg
 use Rattle.automata_base.specs.Nfas.Nfa.{Nfa, Node, Split, Assert, Read, Accept, node, hop_at, takes, takes_at}
 use Rattle.automata_base.specs.Nfas.Nfa.{takes_in}
 use Rattle.automata_base.specs.Paths.Paths.{Tape, IsPathFrom, truth}
+use Rattle.automata_base.specs.Paths.Paths.{StaysHere, ReadsByte}
 use Rattle.automata_base.proofs.Paths.Orders.{none_some}
 use Rattle.automata_base.proofs.Nfas.Merges.Parts.{part_at, picked_of}
 use Rattle.automata_base.proofs.Paths.Sets.{nth_in}
@@ -43,57 +44,57 @@ module _ (n m : Nfa) (anchored : ℕ) (lists : List (List ℕ)) (t : Tape)
       → HasTurn other i x list seen e j w
   turn_back other ih i z e (Assert look next) list seen met j w is shows ends none same path = absurd shows
   turn_back other ih i z e (Accept p) list seen met j w is shows ends none same path = absurd shows
-  turn_back other ih i z e (Split alternates) list seen met j w is shows ends none same (inr h) =
-      absurd (none_some (subst (λ v. takes_at v h.2.0 ≡ Some h.0) is h.2.2))
-  turn_back other ih i z e (Split alternates) list seen met j w is shows ends none same (inl h) =
-      let c = ih i h.0 seen (z ∷ met) j w ends none same h.3 in
-      let p = part_at (length n.nodes) lists alternates e c.0 h.0 c.1 edge c.3 in (
+  turn_back other ih i z e (Split alternates) list seen met j w is shows ends none same (ReadsByte r edge moves on) =
+      absurd (none_some (subst (λ v. takes_at v moves.0 ≡ Some r) is moves.2))
+  turn_back other ih i z e (Split alternates) list seen met j w is shows ends none same (StaysHere r hops fresh on) =
+      let c = ih i r seen (z ∷ met) j w ends none same on in
+      let p = part_at (length n.nodes) lists alternates e c.0 r c.1 edge c.3 in (
         p.0,
         c.1,
         c.2,
         subst (λ v. slice_get v p.0 ≡ Some c.1) shows.0 p.1,
-        (h.0, c.0, edge, p.2, c.4),
-        new c.0 c.1 c.3 (cases_lt h.0 (length n.nodes)),
+        (r, c.0, edge, p.2, c.4),
+        new c.0 c.1 c.3 (cases_lt r (length n.nodes)),
         c.5,
       )
     where
-      edge : slice_get alternates e ≡ Some h.0
-      edge = subst (λ v. hop_at v (truth m t i) e ≡ Some h.0) is h.1
+      edge : slice_get alternates e ≡ Some r
+      edge = subst (λ v. hop_at v (truth m t i) e ≡ Some r) is hops
 
       new :
-          (o s : ℕ) → slice_get (meant n m lists t h.0) o ≡ Some s
-          → (h.0 < length n.nodes) ⊎ (length n.nodes ≤ h.0) → In s seen → ⊥
+          (o s : ℕ) → slice_get (meant n m lists t r) o ≡ Some s
+          → (r < length n.nodes) ⊎ (length n.nodes ≤ r) → In s seen → ⊥
       new o s g (inl l) met =
-          let one = (old_one (length n.nodes) lists h.0 o s l g).1 in
-          h.2 ((same h.0 l).0 (subst (λ v. In v seen) one met))
+          let one = (old_one (length n.nodes) lists r o s l g).1 in
+          fresh ((same r l).0 (subst (λ v. In v seen) one met))
       new o s g (inr far) met =
-          let reads = shows.1 h.0 (nth_in alternates e h.0 edge) far in
+          let reads = shows.1 r (nth_in alternates e r edge) far in
           let for_list =
-          subst (λ v. Shows n m anchored lists v (stood_for (length n.nodes) lists h.0)) reads.1
-          (further_shows n m anchored lists merged h.0 far) in
-          let own = (for_list.plain s (nth_in (stood_for (length n.nodes) lists h.0) o s g)).1 in
+          subst (λ v. Shows n m anchored lists v (stood_for (length n.nodes) lists r)) reads.1
+          (further_shows n m anchored lists merged r far) in
+          let own = (for_list.plain s (nth_in (stood_for (length n.nodes) lists r) o s g)).1 in
           none s own.0 met own.1
-  turn_back other ih i z e (Read ranges) list seen met j w is shows ends none same (inl h) =
-      absurd (none_some (subst (λ v. hop_at v (truth m t i) e ≡ Some h.0) is h.1))
-  turn_back other ih i z e (Read ranges) list seen met j w is shows ends none same (inr h) =
-      let c = ih (suc i) h.0 [] [] j w ends (λ q r i. absurd i) (λ q l. ((λ i. i), (λ i. i))) h.3 in
-      let p = picked_of (λ b. takes n b h.2.0) list c.0 c.1 (subst (λ v. slice_get v c.0 ≡ Some c.1) target c.3) in
+  turn_back other ih i z e (Read ranges) list seen met j w is shows ends none same (StaysHere r hops new on) =
+      absurd (none_some (subst (λ v. hop_at v (truth m t i) e ≡ Some r) is hops))
+  turn_back other ih i z e (Read ranges) list seen met j w is shows ends none same (ReadsByte y edge moves on) =
+      let c = ih (suc i) y [] [] j w ends (λ q r i. absurd i) (λ q l. ((λ i. i), (λ i. i))) on in
+      let p = picked_of (λ b. takes n b moves.0) list c.0 c.1 (subst (λ v. slice_get v c.0 ≡ Some c.1) target c.3) in
       let own = (shows.plain p.1 (nth_in list p.0 p.1 p.2)).1 in (
         p.0,
         p.1,
         0 ∷ c.2,
         p.2,
-        (h.2.0, c.1, h.0, c.0, c.2, h.1, refl, h.2.1, read, p.4, c.4),
+        (moves.0, c.1, y, c.0, c.2, edge, refl, moves.1, read, p.4, c.4),
         (λ i. none p.1 own.0 i own.1),
-        inr (c.1, refl, (h.2.0, h.2.1, p.3), c.5),
+        ReadsByte c.1 refl (moves.0, moves.1, p.3) c.5,
       )
     where
-      read : takes_in ranges h.2.0 ≡ Some h.0
-      read = subst (λ v. takes_at v h.2.0 ≡ Some h.0) is h.2.2
+      read : takes_in ranges moves.0 ≡ Some y
+      read = subst (λ v. takes_at v moves.0 ≡ Some y) is moves.2
 
-      target : stood_for (length n.nodes) lists h.0 ≡ pick (λ b. takes n b h.2.0) list
+      target : stood_for (length n.nodes) lists y ≡ pick (λ b. takes n b moves.0) list
       target =
-          ap (λ v. target_for (length n.nodes) lists v) (sym read) ∙ shows.same h.2.0 (bytes i h.2.0 h.2.1)
+          ap (λ v. target_for (length n.nodes) lists v) (sym read) ∙ shows.same moves.0 (bytes i moves.0 moves.1)
 
   -- From a state of the first NFA, by its node.
   old_back :
@@ -109,78 +110,89 @@ module _ (n m : Nfa) (anchored : ℕ) (lists : List (List ℕ)) (t : Tape)
       (reads_none_split n seen z alternates is none) (same_cons (length n.nodes) seen met z same) path in (
         c.0 ∷ c.2,
         (c.0, c.2, refl, c.4),
-        inl (c.1, subst (λ v. hop_at v (truth n t i) c.0 ≡ Some c.1) (sym is) c.3, c.5, c.6),
+        StaysHere c.1 (subst (λ v. hop_at v (truth n t i) c.0 ≡ Some c.1) (sym is) c.3) c.5 c.6,
       )
-  old_back other ih i z e (Assert look r) seen met j w l is ends none same (inr h) =
-      absurd (none_some (subst (λ v. takes_at v h.2.0 ≡ Some h.0) (own ∙ is) h.2.2))
+  old_back other ih i z e (Assert look r) seen met j w l is ends none same (ReadsByte y edge moves on) =
+      absurd (none_some (subst (λ v. takes_at v moves.0 ≡ Some y) (own ∙ is) moves.2))
     where
       own : node m z ≡ node n z
       own = others_same n m anchored lists merged z l (λ alternates f. split_assert alternates look r (sym f ∙ is))
-  old_back other ih i z e (Assert look r) seen met j w l is ends none same (inl h) = go e edge
+  old_back other ih i z e (Assert look r) seen met j w l is ends none same (StaysHere y hops new on) = go e edge
     where
       own : node m z ≡ node n z
       own = others_same n m anchored lists merged z l (λ alternates f. split_assert alternates look r (sym f ∙ is))
 
-      edge : hop_at (Assert look r) (truth n t i) e ≡ Some h.0
+      edge : hop_at (Assert look r) (truth n t i) e ≡ Some y
       edge =
           sym (hops_alike n m anchored lists merged (Assert look r) t i e)
-          ∙ subst (λ v. hop_at v (truth m t i) e ≡ Some h.0) (own ∙ is) h.1
+          ∙ subst (λ v. hop_at v (truth m t i) e ≡ Some y) (own ∙ is) hops
 
-      to_next : hop_at (Assert look r) (truth n t i) 0 ≡ Some h.0 → h.0 ≡ r
-      to_next f = cond_one (truth n t i look) r h.0 f
+      to_next : hop_at (Assert look r) (truth n t i) 0 ≡ Some y → y ≡ r
+      to_next f = cond_one (truth n t i look) r y f
 
       go :
-          (d : ℕ) → hop_at (Assert look r) (truth n t i) d ≡ Some h.0
+          (d : ℕ) → hop_at (Assert look r) (truth n t i) d ≡ Some y
           → (path : List ℕ) × Keeps n m lists t (Corresponds n m lists t other) i (node m z) (Assert look r) path d
           × IsPathFrom n t i seen z path j w
       go (suc d) f = absurd (none_some f)
       go zero f =
           let c =
-          ih i h.0 (z ∷ seen) (z ∷ met) j w ends (reads_none_assert n seen z look r is none)
-          (same_cons (length n.nodes) seen met z same) h.3 in
+          ih i y (z ∷ seen) (z ∷ met) j w ends (reads_none_assert n seen z look r is none)
+          (same_cons (length n.nodes) seen met z same) on in
           let next = to_next f in
-          let l2 : h.0 < length n.nodes =
+          let l2 : y < length n.nodes =
           subst (λ v. v < length n.nodes) (sym next) (assert_old n m anchored lists merged ranged z look r is) in
-          let one = old_one (length n.nodes) lists h.0 c.0 c.1 l2 c.3 in (
+          let one = old_one (length n.nodes) lists y c.0 c.1 l2 c.3 in (
             0 ∷ c.2,
-            (c.2, refl, refl, subst (λ v. Corresponds n m lists t other i v 0 c.2) next
-            (subst (λ v. Corresponds n m lists t other i h.0 v c.2) one.0 c.4)),
-            inl (
-              h.0,
-              subst (λ v. hop_at v (truth n t i) 0 ≡ Some h.0) (sym is) f,
-              (λ i. h.2 ((same_cons (length n.nodes) seen met z same h.0 l2).0 i)),
-              subst (λ v. IsPathFrom n t i (z ∷ seen) v c.2 j w) one.1 c.5,
+            (
+              c.2,
+              refl,
+              refl,
+              subst (λ v. Corresponds n m lists t other i v 0 c.2) next
+                  (subst (λ v. Corresponds n m lists t other i y v c.2) one.0 c.4),
             ),
+            StaysHere y (subst (λ v. hop_at v (truth n t i) 0 ≡ Some y) (sym is) f)
+                (λ i. new ((same_cons (length n.nodes) seen met z same y l2).0 i))
+                (subst (λ v. IsPathFrom n t i (z ∷ seen) v c.2 j w) one.1 c.5),
           )
-  old_back other ih i z e (Read ranges) seen met j w l is ends none same (inl h) =
-      absurd (none_some (subst (λ v. hop_at v (truth m t i) e ≡ Some h.0) (own ∙ is) h.1))
+  old_back other ih i z e (Read ranges) seen met j w l is ends none same (StaysHere r hops new on) =
+      absurd (none_some (subst (λ v. hop_at v (truth m t i) e ≡ Some r) (own ∙ is) hops))
     where
       own : node m z ≡ node n z
       own = others_same n m anchored lists merged z l (λ alternates f. split_read alternates ranges (sym f ∙ is))
-  old_back other ih i z e (Read ranges) seen met j w l is ends none same (inr h) =
-      let c = ih (suc i) h.0 [] [] j w ends (λ q r i. absurd i) (λ q l. ((λ i. i), (λ i. i))) h.3 in
-      let one = old_one (length n.nodes) lists h.0 c.0 c.1 (ranged.1 z h.2.0 h.0 took) c.3 in (
+  old_back other ih i z e (Read ranges) seen met j w l is ends none same (ReadsByte r at moves on) =
+      let c = ih (suc i) r [] [] j w ends (λ q r i. absurd i) (λ q l. ((λ i. i), (λ i. i))) on in
+      let one = old_one (length n.nodes) lists r c.0 c.1 (ranged.1 z moves.0 r took) c.3 in (
         0 ∷ c.2,
-        (h.2.0, h.0, c.2, h.1, refl, h.2.1, read, subst (λ v. Corresponds n m lists t other (suc i) h.0 v c.2) one.0
-        c.4),
-        inr (h.0, refl, (h.2.0, h.2.1, took), subst (λ v. IsPathFrom n t (suc i) [] v c.2 j w) one.1 c.5),
+        (
+          moves.0,
+          r,
+          c.2,
+          at,
+          refl,
+          moves.1,
+          read,
+          subst (λ v. Corresponds n m lists t other (suc i) r v c.2) one.0
+              c.4,
+        ),
+        ReadsByte r refl (moves.0, moves.1, took) (subst (λ v. IsPathFrom n t (suc i) [] v c.2 j w) one.1 c.5),
       )
     where
       own : node m z ≡ node n z
       own = others_same n m anchored lists merged z l (λ alternates f. split_read alternates ranges (sym f ∙ is))
 
-      read : takes_in ranges h.2.0 ≡ Some h.0
-      read = subst (λ v. takes_at v h.2.0 ≡ Some h.0) (own ∙ is) h.2.2
+      read : takes_in ranges moves.0 ≡ Some r
+      read = subst (λ v. takes_at v moves.0 ≡ Some r) (own ∙ is) moves.2
 
-      took : takes n z h.2.0 ≡ Some h.0
-      took = subst (λ v. takes_at v h.2.0 ≡ Some h.0) own h.2.2
-  old_back other ih i z e (Accept p) seen met j w l is ends none same (inl h) =
-      absurd (none_some (subst (λ v. hop_at v (truth m t i) e ≡ Some h.0) (own ∙ is) h.1))
+      took : takes n z moves.0 ≡ Some r
+      took = subst (λ v. takes_at v moves.0 ≡ Some r) own moves.2
+  old_back other ih i z e (Accept p) seen met j w l is ends none same (StaysHere r hops new on) =
+      absurd (none_some (subst (λ v. hop_at v (truth m t i) e ≡ Some r) (own ∙ is) hops))
     where
       own : node m z ≡ node n z
       own = others_same n m anchored lists merged z l (λ alternates f. split_accept alternates p (sym f ∙ is))
-  old_back other ih i z e (Accept p) seen met j w l is ends none same (inr h) =
-      absurd (none_some (subst (λ v. takes_at v h.2.0 ≡ Some h.0) (own ∙ is) h.2.2))
+  old_back other ih i z e (Accept p) seen met j w l is ends none same (ReadsByte r edge moves on) =
+      absurd (none_some (subst (λ v. takes_at v moves.0 ≡ Some r) (own ∙ is) moves.2))
     where
       own : node m z ≡ node n z
       own = others_same n m anchored lists merged z l (λ alternates f. split_accept alternates p (sym f ∙ is))

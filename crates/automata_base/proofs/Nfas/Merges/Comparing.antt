@@ -68,18 +68,18 @@ equal_from (x ∷ xs) (y ∷ ys) (inl h) = absurd h.0
 equal_from (x ∷ xs) (y ∷ ys) (inr h) = ap₂ ◌∷◌ h.0 (equal_from xs ys h.1)
 
 -- The same of a list and what begins with it.
-abbrev pub IsHead : List ℕ → List ℕ → Type 0
-IsHead xs ys = Compares (Unit {0}) (Unit {0}) ⊥ xs ys
+abbrev pub IsPrefix : List ℕ → List ℕ → Type 0
+IsPrefix xs ys = Compares (Unit {0}) (Unit {0}) ⊥ xs ys
 
-pub head_to : (xs rest ys : List ℕ) → ys ≡ xs ++ rest → IsHead xs ys
-head_to xs rest ys e = subst (λ v. IsHead xs v) (sym e) (itself xs rest)
+pub head_to : (xs rest ys : List ℕ) → ys ≡ xs ++ rest → IsPrefix xs ys
+head_to xs rest ys e = subst (λ v. IsPrefix xs v) (sym e) (itself xs rest)
   where
-    itself : (xs rest : List ℕ) → IsHead xs (xs ++ rest)
+    itself : (xs rest : List ℕ) → IsPrefix xs (xs ++ rest)
     itself [] [] = tt
     itself [] (y ∷ rest) = tt
     itself (x ∷ xs) rest = inr (refl, itself xs rest)
 
-pub head_from : (xs ys : List ℕ) → IsHead xs ys → (rest : List ℕ) × (ys ≡ xs ++ rest)
+pub head_from : (xs ys : List ℕ) → IsPrefix xs ys → (rest : List ℕ) × (ys ≡ xs ++ rest)
 head_from [] ys h = (ys, refl)
 head_from (x ∷ xs) [] h = absurd h
 head_from (x ∷ xs) (y ∷ ys) (inl h) = absurd h.0

@@ -11,6 +11,7 @@ use Rattle.automata_base.specs.Nfas.Merges.{stood_for, target_for, Shows, ReadsF
 use Rattle.automata_base.specs.Nfas.Nfa.{Nfa, Node, Split, Assert, Read, Accept, Range, node, hop_at, takes, takes_at}
 use Rattle.automata_base.specs.Nfas.Nfa.{takes_in}
 use Rattle.automata_base.specs.Paths.Paths.{Tape, IsPathFrom, truth}
+use Rattle.automata_base.specs.Paths.Paths.{StaysHere, ReadsByte}
 use Rattle.automata_base.proofs.Paths.Orders.{none_some}
 use Rattle.automata_base.proofs.Nfas.Merges.Parts.{IsPart, IsPicked, part_of, picked_at}
 use Rattle.automata_base.proofs.Paths.Sets.{nth_in}
@@ -79,32 +80,34 @@ module _ (n m : Nfa) (anchored : ℕ) (lists : List (List ℕ)) (t : Tape)
   read_forth [] rest i z k s ranges list seen met j w is reads ends at h =
       let p = reads.plain s (nth_in list k s at) in
       absurd (p.0 (h.1 ∙ ends.1 p.1.0 (ap (λ v. node n v) (sym h.1) ∙ p.1.1)))
-  read_forth (e ∷ rest) of i z k s ranges list seen met j w is reads ends at (inl h) =
+  read_forth (e ∷ rest) of i z k s ranges list seen met j w is reads ends at (StaysHere r hops new on) =
       let own = (reads.plain s (nth_in list k s at)).1 in
-      absurd (none_some (subst (λ v. hop_at v (truth n t i) e ≡ Some h.0) own.1 h.1))
-  read_forth (e ∷ rest) of i z k s ranges list seen met j w is reads ends at (inr h) =
-      let p = picked_at (λ b. takes n b h.2.0) list k s h.0 at h.2.2 in
-      go p (takes_in ranges h.2.0) refl
+      absurd (none_some (subst (λ v. hop_at v (truth n t i) e ≡ Some r) own.1 hops))
+  read_forth (e ∷ rest) of i z k s ranges list seen met j w is reads ends at (ReadsByte x edge moves on) =
+      let p = picked_at (λ b. takes n b moves.0) list k s x at moves.2 in
+      go p (takes_in ranges moves.0) refl
     where
       go :
-          (o : ℕ) × (slice_get (pick (λ b. takes n b h.2.0) list) o ≡ Some h.0)
-          × IsPicked (λ b. takes n b h.2.0) list k o h.0
-          → (y : Option ℕ) → takes_in ranges h.2.0 ≡ y
+          (o : ℕ) × (slice_get (pick (λ b. takes n b moves.0) list) o ≡ Some x)
+          × IsPicked (λ b. takes n b moves.0) list k o x
+          → (y : Option ℕ) → takes_in ranges moves.0 ≡ y
           → (d : ℕ) × (other : List ℕ)
           × Turns n m lists t (Corresponds n m lists t other) i (Read ranges) list k (e ∷ rest) d
           × IsPathFrom m t i met z (d ∷ other) j w
       go p None f =
-          absurd (none_some (subst (λ v. slice_get v p.0 ≡ Some h.0)
-          (sym (ap (λ v. target_for (length n.nodes) lists v) (sym f) ∙ reads.same h.2.0 (bytes i h.2.0 h.2.1))) p.1))
+          absurd (none_some (subst (λ v. slice_get v p.0 ≡ Some x)
+          (sym (ap (λ v. target_for (length n.nodes) lists v) (sym f)
+          ∙ reads.same moves.0 (bytes i moves.0 moves.1))) p.1))
       go p (Some r) f =
-          let here : slice_get (stood_for (length n.nodes) lists r) p.0 ≡ Some h.0 =
-          subst (λ v. slice_get v p.0 ≡ Some h.0)
-          (sym (ap (λ v. target_for (length n.nodes) lists v) (sym f) ∙ reads.same h.2.0 (bytes i h.2.0 h.2.1))) p.1 in
-          let c = at_new rest of.0 of.1 (suc i) r p.0 h.0 j w ends here h.3 in (
+          let here : slice_get (stood_for (length n.nodes) lists r) p.0 ≡ Some x =
+          subst (λ v. slice_get v p.0 ≡ Some x)
+          (sym (ap (λ v. target_for (length n.nodes) lists v) (sym f)
+          ∙ reads.same moves.0 (bytes i moves.0 moves.1))) p.1 in
+          let c = at_new rest of.0 of.1 (suc i) r p.0 x j w ends here on in (
             0,
             c.0,
-            (h.2.0, h.0, r, p.0, rest, refl, ap (λ v. v ∷ rest) h.1, h.2.1, f, p.2, c.1),
-            inr (r, refl, (h.2.0, h.2.1, subst (λ v. takes_at v h.2.0 ≡ Some r) (sym is) f), c.2),
+            (moves.0, x, r, p.0, rest, refl, ap (λ v. v ∷ rest) edge, moves.1, f, p.2, c.1),
+            ReadsByte r refl (moves.0, moves.1, subst (λ v. takes_at v moves.0 ≡ Some r) (sym is) f) c.2,
           )
 
   old_forth_at :
@@ -114,66 +117,72 @@ module _ (n m : Nfa) (anchored : ℕ) (lists : List (List ℕ)) (t : Tape)
       → ReadsNone m met → HaveSame (length n.nodes) seen met → IsPathFrom n t i seen z (e ∷ rest) j w
       → (d : ℕ) × (other : List ℕ) × Keeps n m lists t (Corresponds n m lists t other) i (node m z) x (e ∷ rest) d
       × IsPathFrom m t i met z (d ∷ other) j w
-  old_forth_at e rest old shown i z (Split alternates) seen met j w l is ends none nor same (inr h) =
-      absurd (none_some (subst (λ v. takes_at v h.2.0 ≡ Some h.0) is h.2.2))
-  old_forth_at e rest old shown i z (Split alternates) seen met j w l is ends none nor same (inl h) =
+  old_forth_at e rest old shown i z (Split alternates) seen met j w l is ends none nor same (ReadsByte r edge moves _) =
+      absurd (none_some (subst (λ v. takes_at v moves.0 ≡ Some r) is moves.2))
+  old_forth_at e rest old shown i z (Split alternates) seen met j w l is ends none nor same (StaysHere r hops new on) =
       let c =
-      shown i z e h.0 (node m z) alternates (z ∷ seen) met j w refl
+      shown i z e r (node m z) alternates (z ∷ seen) met j w refl
       (union_shows n m anchored lists merged ranged z alternates l is) ends
       (reads_none_split n seen z alternates is none) nor (same_cons (length n.nodes) seen met z same)
-      (subst (λ v. hop_at v (truth n t i) e ≡ Some h.0) is h.1) h.2 h.3 in
+      (subst (λ v. hop_at v (truth n t i) e ≡ Some r) is hops) new on in
       (c.0, c.1, (e, rest, refl, c.2), c.3)
-  old_forth_at e rest old shown i z (Assert look r) seen met j w l is ends none nor same (inr h) =
-      absurd (none_some (subst (λ v. takes_at v h.2.0 ≡ Some h.0) is h.2.2))
-  old_forth_at e rest old shown i z (Assert look r) seen met j w l is ends none nor same (inl h) =
-      go e (subst (λ v. hop_at v (truth n t i) e ≡ Some h.0) is h.1)
+  old_forth_at e rest old shown i z (Assert look r) seen met j w l is ends none nor same (ReadsByte y edge moves on) =
+      absurd (none_some (subst (λ v. takes_at v moves.0 ≡ Some y) is moves.2))
+  old_forth_at e rest old shown i z (Assert look r) seen met j w l is ends none nor same (StaysHere y hops new on) =
+      go e (subst (λ v. hop_at v (truth n t i) e ≡ Some y) is hops)
     where
       own : node m z ≡ node n z
       own = others_same n m anchored lists merged z l (λ alternates f. split_assert alternates look r (sym f ∙ is))
 
       go :
-          (b : ℕ) → hop_at (Assert look r) (truth n t i) b ≡ Some h.0
+          (b : ℕ) → hop_at (Assert look r) (truth n t i) b ≡ Some y
           → (d : ℕ) × (other : List ℕ)
           × Keeps n m lists t (Corresponds n m lists t other) i (node m z) (Assert look r) (b ∷ rest) d
           × IsPathFrom m t i met z (d ∷ other) j w
       go (suc b) f = absurd (none_some f)
       go zero f =
-          let next : h.0 ≡ r = cond_one (truth n t i look) r h.0 f in
-          let l2 : h.0 < length n.nodes =
+          let next : y ≡ r = cond_one (truth n t i look) r y f in
+          let l2 : y < length n.nodes =
           subst (λ v. v < length n.nodes) (sym next) (assert_old n m anchored lists merged ranged z look r is) in
           let c =
-          old i h.0 (z ∷ seen) (z ∷ met) j w l2 ends (reads_none_assert n seen z look r is none)
+          old i y (z ∷ seen) (z ∷ met) j w l2 ends (reads_none_assert n seen z look r is none)
           (reads_none_assert m met z look r (own ∙ is) nor)
-          (same_cons (length n.nodes) seen met z same) h.3 in (
+          (same_cons (length n.nodes) seen met z same) on in (
             0,
             c.0,
             (rest, refl, refl, subst (λ v. Corresponds n m lists t c.0 i v 0 rest) next c.1),
-            inl (
-              h.0,
-              subst (λ v. hop_at v (truth m t i) 0 ≡ Some h.0) (sym (own ∙ is))
-              (hops_alike n m anchored lists merged (Assert look r) t i 0 ∙ f),
-              (λ i. h.2 ((same_cons (length n.nodes) seen met z same h.0 l2).1 i)),
-              c.2,
-            ),
+            StaysHere y
+                (subst (λ v. hop_at v (truth m t i) 0 ≡ Some y) (sym (own ∙ is))
+                (hops_alike n m anchored lists merged (Assert look r) t i 0 ∙ f))
+                (λ i. new ((same_cons (length n.nodes) seen met z same y l2).1 i)) c.2,
           )
-  old_forth_at e rest old shown i z (Read ranges) seen met j w l is ends none nor same (inl h) =
-      absurd (none_some (subst (λ v. hop_at v (truth n t i) e ≡ Some h.0) is h.1))
-  old_forth_at e rest old shown i z (Read ranges) seen met j w l is ends none nor same (inr h) =
-      let l2 : h.0 < length n.nodes = ranged.1 z h.2.0 h.0 h.2.2 in
+  old_forth_at e rest old shown i z (Read ranges) seen met j w l is ends none nor same (StaysHere r hops new on) =
+      absurd (none_some (subst (λ v. hop_at v (truth n t i) e ≡ Some r) is hops))
+  old_forth_at e rest old shown i z (Read ranges) seen met j w l is ends none nor same (ReadsByte y edge moves on) =
+      let l2 : y < length n.nodes = ranged.1 z moves.0 y moves.2 in
       let c =
-      old (suc i) h.0 [] [] j w l2 ends (λ q r i. absurd i) (λ q r i. absurd i) (λ q l. ((λ i. i), (λ i. i))) h.3 in (
+      old (suc i) y [] [] j w l2 ends (λ q r i. absurd i) (λ q r i. absurd i) (λ q l. ((λ i. i), (λ i. i))) on in (
         0,
         c.0,
-        (h.2.0, h.0, rest, refl, ap (λ v. v ∷ rest) h.1, h.2.1, subst (λ v. takes_at v h.2.0 ≡ Some h.0) is h.2.2, c.1),
-        inr (h.0, refl, (h.2.0, h.2.1, subst (λ v. takes_at v h.2.0 ≡ Some h.0) (sym own) h.2.2), c.2),
+        (
+          moves.0,
+          y,
+          rest,
+          refl,
+          ap (λ v. v ∷ rest) edge,
+          moves.1,
+          subst (λ v. takes_at v moves.0 ≡ Some y) is moves.2,
+          c.1,
+        ),
+        ReadsByte y refl (moves.0, moves.1, subst (λ v. takes_at v moves.0 ≡ Some y) (sym own) moves.2) c.2,
       )
     where
       own : node m z ≡ node n z
       own = others_same n m anchored lists merged z l (λ alternates f. split_read alternates ranges (sym f ∙ is))
-  old_forth_at e rest old shown i z (Accept p) seen met j w l is ends none nor same (inl h) =
-      absurd (none_some (subst (λ v. hop_at v (truth n t i) e ≡ Some h.0) is h.1))
-  old_forth_at e rest old shown i z (Accept p) seen met j w l is ends none nor same (inr h) =
-      absurd (none_some (subst (λ v. takes_at v h.2.0 ≡ Some h.0) is h.2.2))
+  old_forth_at e rest old shown i z (Accept p) seen met j w l is ends none nor same (StaysHere r hops new on) =
+      absurd (none_some (subst (λ v. hop_at v (truth n t i) e ≡ Some r) is hops))
+  old_forth_at e rest old shown i z (Accept p) seen met j w l is ends none nor same (ReadsByte r edge moves on) =
+      absurd (none_some (subst (λ v. takes_at v moves.0 ≡ Some r) is moves.2))
 
   old_forth : (path : List ℕ) → OfRest path → HasOld path
   old_forth [] rest i z seen met j w l ends none nor same h = ([], (l, refl, refl), h)
@@ -205,12 +214,8 @@ module _ (n m : Nfa) (anchored : ℕ) (lists : List (List ℕ)) (t : Tape)
             e,
             c.0,
             (y, o, edge, part, subst (λ v. Corresponds n m lists t c.0 i y v path) (sym one.0) c.1),
-            inl (
-              y,
-              subst (λ v. hop_at v (truth m t i) e ≡ Some y) (sym is) edge,
-              (λ b. new (subst (λ v. In v seen) (sym one.1) ((same y l).1 b))),
-              c.2,
-            ),
+            StaysHere y (subst (λ v. hop_at v (truth m t i) e ≡ Some y) (sym is) edge)
+                (λ b. new (subst (λ v. In v seen) (sym one.1) ((same y l).1 b))) c.2,
           )
       go e o y edge of part (inr far) =
           let reads = shows.1 y (nth_in alternates e y edge) far in
@@ -221,16 +226,20 @@ module _ (n m : Nfa) (anchored : ℕ) (lists : List (List ℕ)) (t : Tape)
           read i y o s reads.0 (stood_for (length n.nodes) lists y) seen (z ∷ met) j w reads.1 for_list ends of h in (
             e,
             c.0 ∷ c.1,
-            (y, o, edge, part, inr
-            (far, subst
-            (λ v. Turns n m lists t (Corresponds n m lists t c.1) i v (stood_for (length n.nodes) lists y) o path c.0)
-            (sym reads.1) c.2)),
-            inl (
+            (
               y,
-              subst (λ v. hop_at v (truth m t i) e ≡ Some y) (sym is) edge,
-              (λ b. reads_none_split m met z alternates is nor y reads.0 b reads.1),
-              c.3,
+              o,
+              edge,
+              part,
+              inr (
+                far,
+                subst
+                    (λ v. Turns n m lists t (Corresponds n m lists t c.1) i v (stood_for (length n.nodes) lists y) o path c.0)
+                    (sym reads.1) c.2,
+              ),
             ),
+            StaysHere y (subst (λ v. hop_at v (truth m t i) e ≡ Some y) (sym is) edge)
+                (λ b. reads_none_split m met z alternates is nor y reads.0 b reads.1) c.3,
           )
 
   build : (path : List ℕ) → OfRest path → HasOld path × HasShown path

@@ -93,7 +93,7 @@ module _ (count : ℕ) (lists : List (List ℕ)) where
       let c = part_at zs j o z s e h in (
         length (stood_for count lists y) + c.0,
         get_right (stood_for count lists y) (all_stood_for count lists zs) c.0 (length (stood_for count lists y) + c.0)
-        s refl c.1,
+            s refl c.1,
         (c.0, refl, c.2),
       )
 

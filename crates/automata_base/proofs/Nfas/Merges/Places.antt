@@ -155,7 +155,7 @@ module _ (n m : Nfa) (anchored : ℕ) (lists : List (List ℕ)) (merged : IsMerg
       go (inr k) =
           subst (λ v. Shows n m anchored lists v (stood_for (length n.nodes) lists z)) (sym (node_past m z k)) (
             sym (further_means (length n.nodes) lists z l
-            ∙ past_lists lists (z - length n.nodes) (omega (arith, k, l, merged.count))),
+                ∙ past_lists lists (z - length n.nodes) (omega (arith, k, l, merged.count))),
             (λ q i. absurd i),
           )
 

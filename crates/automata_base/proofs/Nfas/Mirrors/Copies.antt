@@ -285,7 +285,7 @@ have_more nodes new more states turned reached entries entries' p entry base ite
       y,
       nth_more entries (entry ∷ []) q y i,
       subst (λ (d : Copied). d.base ≤ x)
-      (sym (part_left had.parts c q (let k = nth_inside entries q y i in omega (arith, k, count)))) b,
+          (sym (part_left had.parts c q (let k = nth_inside entries q y i in omega (arith, k, count)))) b,
       f,
     )
 

@@ -223,9 +223,11 @@ part_fits turned most P p old new entries entries' roots entry ordered less shor
       (copies_plain turned items (length old) (length new) P p (omega (arith, long)) less items
       (λ q r i j. reached_closed Every turned roots items w.reached q r i
       (subst (λ v. In r (targets_at Every v)) (sym (node_is turned q)) j))
-      ordered))
-      (map_below turned items (length old) (length new) P p (omega (arith, long)) less roots
-      (reached_roots Every turned roots items w.reached), tt));
+      ordered)) (
+        map_below turned items (length old) (length new) P p (omega (arith, long)) less roots
+            (reached_roots Every turned roots items w.reached),
+        tt,
+      ));
   few =
       let a = had.few in
       let b = more_mul p (length turned + 1) in
@@ -383,37 +385,37 @@ pub made_fits :
     → IsFit states P made entries' root
 made_fits states turned made reached P nodes entries entries' root len parts n r q small e count few long wide =
     record {
-  plain =
-      subst (λ z. ArePlain (length made) z (nodes_of made)) (sym (ap (λ z. length z) e ∙ count))
-      (subst (λ z. ArePlain (length made) P z) (sym n)
-      (plain_append (length made) P nodes (Split entries ∷ [])
-      (plain_more (length nodes) (length made) P nodes (omega (arith, size)) parts.plain)
-      ((λ x i. let k = parts.entered x i in omega (arith, k, size)), tt)));
-  small = small;
-  entered = λ x i. let k = parts.entered x (subst (λ z. In x z) e i) in omega (arith, k, size);
-  starts = omega (arith, r, q, size);
-  few =
-      let a = parts.few in
-      let b = more_mul P (length states + sum_by asking_edges states + 2) in
-      let c : P * (length turned + 1) ≤ P * (length states + sum_by asking_edges states + 2) =
-      mul-le-mul_left P (omega (arith, long)) in
-      omega (arith, a, b, c, size);
-  narrow =
-      let a = parts.narrow in
-      let b = more_mul P (length states + sum_by asking_edges states + sum_by free_edges states + 2) in
-      let c : P * (sum_by alternates_of turned + length reached + 1)
-      ≤ P * (length states + sum_by asking_edges states + sum_by free_edges states + 2) =
-      mul-le-mul_left P (omega (arith, wide, few)) in
-      let d : P * (sum_by alternates_of turned + length reached + 1)
-      ≡ P * (sum_by alternates_of turned + length reached) + P =
-      mul_more P (sum_by alternates_of turned + length reached) in
-      let f = states_width made in
-      let g : sum_by width (nodes_of made) ≡ sum_by width nodes + sum_by width (Split entries ∷ []) =
-      ap (sum_by width) n ∙ sum_by-append width nodes (Split entries ∷ []) in
-      let h : sum_by width (Split entries ∷ []) ≡ length entries + sum_by width [] =
-      sum_by-cons width (Split entries) [] in
-      omega (arith, a, b, c, d, f, g, h, count);
-}
+      plain =
+          subst (λ z. ArePlain (length made) z (nodes_of made)) (sym (ap (λ z. length z) e ∙ count))
+          (subst (λ z. ArePlain (length made) P z) (sym n)
+          (plain_append (length made) P nodes (Split entries ∷ [])
+          (plain_more (length nodes) (length made) P nodes (omega (arith, size)) parts.plain)
+          ((λ x i. let k = parts.entered x i in omega (arith, k, size)), tt)));
+      small = small;
+      entered = λ x i. let k = parts.entered x (subst (λ z. In x z) e i) in omega (arith, k, size);
+      starts = omega (arith, r, q, size);
+      few =
+          let a = parts.few in
+          let b = more_mul P (length states + sum_by asking_edges states + 2) in
+          let c : P * (length turned + 1) ≤ P * (length states + sum_by asking_edges states + 2) =
+          mul-le-mul_left P (omega (arith, long)) in
+          omega (arith, a, b, c, size);
+      narrow =
+          let a = parts.narrow in
+          let b = more_mul P (length states + sum_by asking_edges states + sum_by free_edges states + 2) in
+          let c : P * (sum_by alternates_of turned + length reached + 1)
+          ≤ P * (length states + sum_by asking_edges states + sum_by free_edges states + 2) =
+          mul-le-mul_left P (omega (arith, wide, few)) in
+          let d : P * (sum_by alternates_of turned + length reached + 1)
+          ≡ P * (sum_by alternates_of turned + length reached) + P =
+          mul_more P (sum_by alternates_of turned + length reached) in
+          let f = states_width made in
+          let g : sum_by width (nodes_of made) ≡ sum_by width nodes + sum_by width (Split entries ∷ []) =
+          ap (sum_by width) n ∙ sum_by-append width nodes (Split entries ∷ []) in
+          let h : sum_by width (Split entries ∷ []) ≡ length entries + sum_by width [] =
+          sum_by-cons width (Split entries) [] in
+          omega (arith, a, b, c, d, f, g, h, count);
+    }
   where
     size : length made ≡ length nodes + 1
     size = sym (nodes_length made) ∙ (ap (λ z. length z) n ∙ length-append nodes (Split entries ∷ []))

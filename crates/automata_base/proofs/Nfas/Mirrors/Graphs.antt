@@ -17,6 +17,7 @@ use Rattle.automata_base.specs.Retraced.ReversedEdges.{turn_by, turn_all}
 use Rattle.automata_base.specs.Retraced.ReversedEdges.{turn_ranges, turn_state, turn_states}
 use Rattle.automata_base.proofs.Nfas.Mirrors.Lists.{push_length, put_length, ends_member}
 use Rattle.automata_base.proofs.Nfas.Mirrors.Runs.{runs_below}
+use Rattle.automata_base.proofs.Paths.Orders.{none_some, some_inj}
 use Rattle.automata_base.proofs.Paths.Walks.{in_left, in_either}
 use Rattle.std.proofs.lemmas.Bool.{ltb-true}
 use Rattle.std.specs.Prelude.{Bool, true, false, cond, ltb, ◌&&◌, slice_index_or, slice_get}
@@ -184,9 +185,11 @@ step_free P M size t from to small i = record {
   sound = λ k x m. go k x (in_put t.lists to from k x m);
   arcs = on;
   reported = λ k m.
-      let w = i.reported k m in
-      (w.0, put_old t.lists to from k w.0 w.1,
-      (w.2.0, w.2.1 ∙ ap (λ n. n + w.2.0) (sym (put_length t.lists to from)), w.2.2));
+      let w = i.reported k m in (
+        w.0,
+        put_old t.lists to from k w.0 w.1,
+        (w.2.0, w.2.1 ∙ ap (λ n. n + w.2.0) (sym (put_length t.lists to from)), w.2.2),
+      );
 }
   where
     old :
@@ -211,7 +214,7 @@ step_free P M size t from to small i = record {
     on s k l (inr e) = (
       from,
       subst (λ v. InAt (put_at t.lists to from) v from) (sym e.2)
-      (put_new t.lists to from (subst (λ v. to < v) (sym i.whole) small)),
+          (put_new t.lists to from (subst (λ v. to < v) (sym i.whole) small)),
       subst (λ v. Stand (turn_free t from to) from v s) (sym e.1) (sym e.0),
     )
 
@@ -225,7 +228,7 @@ step_by P M size t from to label g small stands i = record {
   arcs = on;
   reported =
       λ k m. let w =
-          i.reported k m in (w.0, push_old t.lists to (next_of t) k w.0 w.1, helper_by t g to w.0 (is.Match 0) w.2);
+      i.reported k m in (w.0, push_old t.lists to (next_of t) k w.0 w.1, helper_by t g to w.0 (is.Match 0) w.2);
 }
   where
     old :
@@ -241,8 +244,13 @@ step_by P M size t from to label g small stands i = record {
         ⊎ (M k × IsHelper (turn_by t g to) x (is.Match 0))
     go k x (inl m) = old k x (i.sound k x m)
     go k x (inr e) =
-        inl (from, label, inr (refl, refl, e.0), stands (turn_by t g to) x
-        (subst (λ v. IsHelper (turn_by t g to) v g) (sym e.1) (helper_new t g to)))
+        inl (
+          from,
+          label,
+          inr (refl, refl, e.0),
+          stands (turn_by t g to) x
+              (subst (λ v. IsHelper (turn_by t g to) v g) (sym e.1) (helper_new t g to)),
+        )
 
     on :
         (s k : ℕ) (l : Label) → And P from label to s l k
@@ -252,7 +260,7 @@ step_by P M size t from to label g small stands i = record {
     on s k l (inr e) = (
       (next_of t),
       subst (λ v. InAt (push_at t.lists to (next_of t)) v (next_of t)) (sym e.2)
-      (push_new t.lists to (next_of t) (subst (λ v. to < v) (sym i.whole) small)),
+          (push_new t.lists to (next_of t) (subst (λ v. to < v) (sym i.whole) small)),
       subst (λ v. Stand (turn_by t g to) (next_of t) v s) (sym e.1)
           (subst (λ v. Stand (turn_by t g to) (next_of t) label v) (sym e.0)
           (stands (turn_by t g to) (next_of t) (helper_new t g to))),
@@ -340,7 +348,7 @@ module _ (M : ℕ → Type 0) (size from : ℕ) where
   no_read : (l : Label) (k : ℕ) → HasArcAt (Read []) l k → ⊥
   no_read Free k h = h
   no_read (Asks look) k h = h
-  no_read (Reads lo hi) k h = h
+  no_read (Reads lo hi) k h = none_some h.1
 
   read_apart :
       (a b next : ℕ) (rs : List Range) (l : Label) (k : ℕ)
@@ -348,15 +356,20 @@ module _ (M : ℕ → Type 0) (size from : ℕ) where
       → HasArcAt (Read rs) l k ⊎ ((l ≡ Reads a b) × (k ≡ next))
   read_apart a b next rs Free k h = absurd h
   read_apart a b next rs (Asks look) k h = absurd h
-  read_apart a b next rs (Reads lo hi) k (inl e) = inr (ap₂ Reads (sym e.0) (sym e.1), sym e.2)
-  read_apart a b next rs (Reads lo hi) k (inr h) = inl h
+  read_apart a b next rs (Reads lo hi) k (zero, e) =
+      let r = some_inj e in
+      inr (
+        ap₂ Reads (sym (ap (λ (v : Range). v.lo) r)) (sym (ap (λ (v : Range). v.hi) r)),
+        sym (ap (λ (v : Range). v.next) r),
+      )
+  read_apart a b next rs (Reads lo hi) k (suc x, e) = inl (x, e)
 
   read_more :
       (a b next : ℕ) (rs : List Range) (l : Label) (k : ℕ) → HasArcAt (Read rs) l k
       → HasArcAt (Read (record { lo = a; hi = b; next = next } ∷ rs)) l k
   read_more a b next rs Free k h = h
   read_more a b next rs (Asks look) k h = h
-  read_more a b next rs (Reads lo hi) k h = inr h
+  read_more a b next rs (Reads lo hi) k h = (suc h.0, h.1)
 
   step_read :
       (P : ℕ → Label → ℕ → Type 0) (t : Turns) (lo hi to : ℕ) → to < size → IsGraph P M size t
@@ -371,7 +384,7 @@ module _ (M : ℕ → Type 0) (size from : ℕ) where
   graph_ranges (r ∷ rs) P t b i =
       one_more P (turn_ranges (turn_by t (is.ByteRange r.lo r.hi from) r.next) from rs) (Read (ranges_of rs))
       (Read (ranges_of (r ∷ rs))) (Reads r.lo r.hi) r.next (read_apart r.lo r.hi r.next (ranges_of rs))
-      (read_more r.lo r.hi r.next (ranges_of rs)) (inl (refl, refl, refl))
+      (read_more r.lo r.hi r.next (ranges_of rs)) (0, refl)
       (graph_ranges rs (And P from (Reads r.lo r.hi) r.next) (turn_by t (is.ByteRange r.lo r.hi from) r.next) c.1
       (step_read P t r.lo r.hi r.next (ltb-true r.next size c.0) i))
     where
@@ -398,7 +411,7 @@ module _ (M : ℕ → Type 0) (size from : ℕ) where
       (Reads lo hi) next
       (λ l k a. ⊎_elim (λ (h : HasArcAt (Read []) l k). absurd (no_read l k h))
       (λ (h : (l ≡ Reads lo hi) × (k ≡ next)). h) (read_apart lo hi next [] l k a))
-      (inl (refl, refl, refl)) (step_read P t lo hi next (ltb-true next size b) i)
+      (0, refl) (step_read P t lo hi next (ltb-true next size b) i)
   graph_state (is.Sparse ts) P t b i = graph_ranges ts.items P t b i
   graph_state (is.Dense targets) P t b i =
       graph_ranges (runs_from 0 0 targets.value) P t (runs_below size targets.value 0 0 b) i
@@ -502,5 +515,8 @@ graph_report P size t first small i = record {
         ⊎ ((k ≡ first) × IsHelper (turn_by t (is.Match 0) first) x (is.Match 0))
     go k x (inl m) = old k x (i.sound k x m)
     go k x (inr e) =
-        inr (e.0, subst (λ v. IsHelper (turn_by t (is.Match 0) first) v (is.Match 0)) (sym e.1)
-        (helper_new t (is.Match 0) first))
+        inr (
+          e.0,
+          subst (λ v. IsHelper (turn_by t (is.Match 0) first) v (is.Match 0)) (sym e.1)
+              (helper_new t (is.Match 0) first),
+        )

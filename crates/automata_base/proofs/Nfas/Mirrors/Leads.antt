@@ -1,6 +1,6 @@
 -- Which states edges lead to, and which are kept.
 use Rattle.std.proofs.Common.{ℕ, ◌≡◌, List, [], ◌∷◌, Some, refl, sym, subst}
-use Rattle.automata_base.specs.Nfas.Mirrors.{Label, HasArc, IsKept, IsLed, LeadsTo}
+use Rattle.automata_base.specs.Nfas.Mirrors.{Label, HasArc, IsUseful, IsLed, LeadsTo}
 use Rattle.automata_base.specs.Nfas.Nfa.{Nfa, accepts}
 
 led_on :
@@ -16,10 +16,10 @@ leads_on n q s r l w h = led_on n q w.0 s r l w.1 h
 pub leads_here : (n : Nfa) (q : ℕ) → LeadsTo n q q
 leads_here n q = ([], refl)
 
-pub kept_match : (n : Nfa) (first p q : ℕ) → LeadsTo n first q → accepts n q ≡ Some p → IsKept n first p q
+pub kept_match : (n : Nfa) (first p q : ℕ) → LeadsTo n first q → accepts n q ≡ Some p → IsUseful n first p q
 kept_match n first p q w a = (w, (q, leads_here n q, a))
 
 pub kept_back :
-    (n : Nfa) (first p s r : ℕ) (l : Label) → LeadsTo n first s → HasArc n s l r → IsKept n first p r
-    → IsKept n first p s
+    (n : Nfa) (first p s r : ℕ) (l : Label) → LeadsTo n first s → HasArc n s l r → IsUseful n first p r
+    → IsUseful n first p s
 kept_back n first p s r l w h k = (w, (k.1.0, (r ∷ k.1.1.0, ((l, h), k.1.1.1)), k.1.2))

@@ -21,9 +21,9 @@ use Rattle.automata_base.proofs.Paths.Sets.{nth_in}
 use Rattle.automata_base.proofs.Paths.Walks.{in_left, in_either}
 
 range_next : (ranges : List Range) (lo hi r : ℕ) → HasRange ranges lo hi r → In r (nexts ranges)
-range_next [] lo hi r h = h
-range_next (x ∷ xs) lo hi r (inl e) = inl (sym e.2)
-range_next (x ∷ xs) lo hi r (inr h) = inr (range_next xs lo hi r h)
+range_next [] lo hi r h = absurd (none_some h.1)
+range_next (x ∷ xs) lo hi r (zero, e) = inl (sym (ap (λ (v : Range). v.next) (some_inj e)))
+range_next (x ∷ xs) lo hi r (suc k, e) = inr (range_next xs lo hi r (k, e))
 
 -- What an edge leads to is a target.
 arc_target : (x : Node) (l : Label) (r : ℕ) → HasArcAt x l r → In r (targets_at Every x)
@@ -134,8 +134,13 @@ map_distinct f (x ∷ xs) g d = (
 -- Some edge leads to each target.
 next_range : (ranges : List Range) (r : ℕ) → In r (nexts ranges) → (lo hi : ℕ) × HasRange ranges lo hi r
 next_range [] r h = absurd h
-next_range (x ∷ xs) r (inl e) = (x.lo, x.hi, inl (refl, refl, sym e))
-next_range (x ∷ xs) r (inr h) = let w = next_range xs r h in (w.0, w.1, inr w.2)
+next_range (x ∷ xs) r (inl e) =
+    let same =
+    subst
+    (λ (v : ℕ). ◌≡◌ {A = Option Range} (Some x) (Some (record { lo = x.lo; hi = x.hi; next = v })))
+    (sym e) refl in
+    (x.lo, x.hi, (0, same))
+next_range (x ∷ xs) r (inr h) = let w = next_range xs r h in (w.0, w.1, (suc w.2.0, w.2.1))
 
 next_read : (ranges : List Range) (r : ℕ) → In r (nexts ranges) → (l : Label) × HasArcAt (Read ranges) l r
 next_read ranges r h = let w = next_range ranges r h in (Reads w.0 w.1, w.2)
@@ -201,9 +206,11 @@ module _ (states : List State) (p : ℕ) where
           (b : Bool) → reported_by x ≡ b → In q (cond b (x ∷ matches_in states p xs) (matches_in states p xs))
           → (In q (matches_in states p xs) → In q xs × (accepts_at (node_of (get_or states q is.Fail)) ≡ Some p))
           → In q (x ∷ xs) × (accepts_at (node_of (get_or states q is.Fail)) ≡ Some p)
-      go true t (inl e) ih =
-          (inl e, ap (λ v. accepts_at (node_of (get_or states v is.Fail))) e
-          ∙ one_is (accepts_at (node_of (get_or states x is.Fail))) t)
+      go true t (inl e) ih = (
+        inl e,
+        ap (λ v. accepts_at (node_of (get_or states v is.Fail))) e
+            ∙ one_is (accepts_at (node_of (get_or states x is.Fail))) t,
+      )
       go true t (inr j) ih = let w = ih j in (inr w.0, w.1)
       go false t j ih = let w = ih j in (inr w.0, w.1)
 

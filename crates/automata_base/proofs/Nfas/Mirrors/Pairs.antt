@@ -1,6 +1,6 @@
 -- An NFA and its reversed one are a true pair.
 use Rattle.std.proofs.Common.{ℕ, zero, suc, ◌≡◌, ◌≤◌, ◌+◌, ◌-◌, ◌&&◌, leb, not, true, cond, List, [], ◌∷◌}
-use Rattle.std.proofs.Common.{◌⊎◌, length, Option, Some, None, inl, inr, refl, sym, ap, ◌∙◌, subst, arith}
+use Rattle.std.proofs.Common.{length, Option, Some, None, inl, inr, refl, sym, ap, ◌∙◌, subst, arith}
 use Rattle.std.proofs.lemmas.Bool.{leb-true}
 use Rattle.automata_base.specs.declared.nfa.thompson.State.{State}
 use Rattle.automata_base.specs.declared.nfa.thompson.State.TheVariants as is
@@ -12,7 +12,8 @@ use Rattle.automata_base.specs.Lists.{In}
 use Rattle.std.specs.Prelude.{slice_get}
 use Rattle.automata_base.specs.Haystacks.Looks.{Look, within, holds}
 use Rattle.automata_base.specs.Nfas.Mirrors.{flip, HasRange, IsReversed, BeginsAlike, IsReversedByPattern}
-use Rattle.automata_base.specs.Nfas.Nfa.{Nfa, Node, Truth, Split, Assert, Read, Accept, node_or_fail, takes_in, accepts}
+use Rattle.automata_base.specs.Nfas.Nfa.{Nfa, Node, Range, Truth, Split, Assert, Read, Accept, node_or_fail}
+use Rattle.automata_base.specs.Nfas.Nfa.{takes_in, accepts}
 use Rattle.automata_base.specs.Nfas.Nodes.{Automaton, nfa_of, ranges_of}
 use Rattle.automata_base.specs.Paths.Paths.{truth, prev, next}
 use Rattle.automata_base.specs.Nfas.Errors.{ordered_from, state_ordered, states_ordered}
@@ -28,6 +29,7 @@ use Rattle.automata_base.proofs.Nfas.Mirrors.Turned.{IsTurn, IsApart, back_entry
 use Rattle.automata_base.proofs.Nfas.Mirrors.Turned.{forth_root}
 use Rattle.automata_base.proofs.Nfas.Mirrors.Ways.{Bytes, IsWay, HasWay, HasPath, path_way, way_path, run_way, way_run}
 use Rattle.automata_base.proofs.Nfas.Mirrors.Ways.{always, no_bytes}
+use Rattle.automata_base.proofs.Paths.Orders.{none_some, some_inj}
 use Rattle.automata_base.proofs.Paths.Sets.{nth_in}
 use Rattle.automata_base.proofs.Answers.Bytes.{forward_next, forward_prev, forward_byte, reverse_next, reverse_prev}
 use Rattle.automata_base.proofs.Answers.Bytes.{reverse_byte}
@@ -55,7 +57,7 @@ one_takes l h r lo hi next u rest a b c w =
 range_above :
     (low : ℕ) (ts : List Transition) (lo hi next : ℕ) → ordered_from low ts ≡ true → HasRange (ranges_of ts) lo hi next
     → low ≤ lo
-range_above low [] lo hi next o h = absurd h
+range_above low [] lo hi next o h = absurd (none_some h.1)
 range_above low (t ∷ ts) lo hi next o h = go h (range_above (t.hi + 1) ts lo hi next)
   where
     outer : (leb low t.lo && leb t.lo t.hi ≡ true) × (ordered_from (t.hi + 1) ts ≡ true)
@@ -65,31 +67,38 @@ range_above low (t ∷ ts) lo hi next o h = go h (range_above (t.hi + 1) ts lo h
     inner = and_parts (leb low t.lo) (leb t.lo t.hi) outer.0
 
     go :
-        ((t.lo ≡ lo) × (t.hi ≡ hi) × (t.next ≡ next)) ⊎ HasRange (ranges_of ts) lo hi next
+        HasRange (ranges_of (t ∷ ts)) lo hi next
         → (ordered_from (t.hi + 1) ts ≡ true → HasRange (ranges_of ts) lo hi next → t.hi + 1 ≤ lo)
         → low ≤ lo
-    go (inl e) ih = let a = leb-true low t.lo inner.0 in let b : t.lo ≡ lo = e.0 in omega (arith, a, b)
-    go (inr k) ih =
+    go (zero, e) ih =
+        let a = leb-true low t.lo inner.0 in let b : t.lo ≡ lo = ap (λ (r : Range). r.lo) (some_inj e) in
+        omega (arith, a, b)
+    go (suc k, e) ih =
         let a = leb-true low t.lo inner.0 in
         let b = leb-true t.lo t.hi inner.1 in
-        let c = ih outer.1 k in
+        let c = ih outer.1 (k, e) in
         omega (arith, a, b, c)
 
 sparse_apart :
     (low : ℕ) (ts : List Transition) → ordered_from low ts ≡ true → IsApartAt (Read (ranges_of ts))
-sparse_apart low [] o lo hi next u h w = absurd h
-sparse_apart low (t ∷ ts) o lo hi next u (inl e) w =
-    one_takes t.lo t.hi t.next lo hi next u (takes_in (ranges_of ts) u) e.0 e.1 e.2 w
-sparse_apart low (t ∷ ts) o lo hi next u (inr k) w =
+sparse_apart low [] o lo hi next u h w = absurd (none_some h.1)
+sparse_apart low (t ∷ ts) o lo hi next u (zero, e) w =
+    let r = some_inj e in
+    one_takes t.lo t.hi t.next lo hi next u (takes_in (ranges_of ts) u) (ap (λ (v : Range). v.lo) r)
+    (ap (λ (v : Range). v.hi) r) (ap (λ (v : Range). v.next) r) w
+sparse_apart low (t ∷ ts) o lo hi next u (suc k, e) w =
     let later = (and_parts (leb low t.lo && leb t.lo t.hi) (ordered_from (t.hi + 1) ts) o).1 in
-    let a = range_above (t.hi + 1) ts lo hi next later k in
+    let a = range_above (t.hi + 1) ts lo hi next later (k, e) in
     let b = within_least lo hi u w in
     ap (λ v. cond v (Some t.next) (takes_in (ranges_of ts) u)) (within_past t.lo t.hi u (omega (arith, a, b)))
-    ∙ sparse_apart (t.hi + 1) ts later lo hi next u k w
+    ∙ sparse_apart (t.hi + 1) ts later lo hi next u (k, e) w
 
 byte_apart : (l h r : ℕ) → IsApartAt (Read (record { lo = l; hi = h; next = r } ∷ []))
-byte_apart l h r lo hi next u (inl e) w = one_takes l h r lo hi next u None e.0 e.1 e.2 w
-byte_apart l h r lo hi next u (inr k) w = absurd k
+byte_apart l h r lo hi next u (zero, e) w =
+    let k = some_inj e in
+    one_takes l h r lo hi next u None (ap (λ (v : Range). v.lo) k) (ap (λ (v : Range). v.hi) k)
+    (ap (λ (v : Range). v.next) k) w
+byte_apart l h r lo hi next u (suc k, e) w = absurd (none_some e)
 
 state_apart : (s : State) → state_ordered s ≡ true → IsApartAt (ranged s)
 state_apart (is.ByteRange lo hi next) o = byte_apart lo hi next
@@ -229,9 +238,11 @@ module _ (a b : Automaton) (kind : MatchKind) (checked : IsChecked a) (reversed 
             back_root_of a b checked reversed
             (truth (nfa_of a) (forward_tape h i j)) (truth (nfa_of b) (reverse_tape h i j))
             (slice_get (forward_tape h i j).bytes) (slice_get (reverse_tape h i j).bytes) (j - i)
-            turn p (entry s.1.0 p s.1.2).0 (entry s.1.0 p s.1.2).1
-            (s.1.0, (s.0, path_way (nfa_of a) (forward_tape h i j) 0 [] a.start_anchored s.0 (j - i) s.1.0 s.1.1),
-            s.1.2)
+            turn p (entry s.1.0 p s.1.2).0 (entry s.1.0 p s.1.2).1 (
+              s.1.0,
+              (s.0, path_way (nfa_of a) (forward_tape h i j) 0 [] a.start_anchored s.0 (j - i) s.1.0 s.1.1),
+              s.1.2,
+            )
 
         path : HasPath (nfa_of b) (reverse_tape h i j) 0 b.start_anchored (j - i) back.0
         path = way_path (nfa_of b) (reverse_tape h i j) 0 b.start_anchored back.1.0 (j - i) back.0 back.1.1
@@ -364,15 +375,18 @@ module _ (a b : Automaton) (checked : IsChecked a) (reversed : IsReversed a b) (
           back_entry_of a b checked reversed
           (truth (nfa_of a) (forward_tape h i j)) (truth (nfa_of b) (reverse_tape h i j))
           (slice_get (forward_tape h i j).bytes) (slice_get (reverse_tape h i j).bytes) (j - i)
-          pattern_turn pattern entry (ap (λ v. slice_get b.start_pattern v) s.0 ∙ at)
-          (s.1.1.0,
-          (s.1.0, path_way (nfa_of a) (forward_tape h i j) 0 [] a.start_anchored s.1.0 (j - i) s.1.1.0 s.1.1.1),
-          s.1.1.2)
+          pattern_turn pattern entry (ap (λ v. slice_get b.start_pattern v) s.0 ∙ at) (
+            s.1.1.0,
+            (s.1.0, path_way (nfa_of a) (forward_tape h i j) 0 [] a.start_anchored s.1.0 (j - i) s.1.1.0 s.1.1.1),
+            s.1.1.2,
+          )
 
       path : HasPath (nfa_of b) (reverse_tape h i j) 0 entry (j - i) back.0
       path = way_path (nfa_of b) (reverse_tape h i j) 0 entry back.1.0 (j - i) back.0 back.1.1
 
 pub mirror_patterns : (a b : Automaton) → IsChecked a → IsReversed a b → IsReversedByPattern a b
-mirror_patterns a b checked reversed k entry at h i j pattern l w =
-    (pattern_forth a b checked reversed k entry at h i j pattern l w, pattern_back a b checked reversed k entry at h i j
-    pattern l w)
+mirror_patterns a b checked reversed k entry at h i j pattern l w = (
+  pattern_forth a b checked reversed k entry at h i j pattern l w,
+  pattern_back a b checked reversed k entry at h i j
+      pattern l w,
+)

@@ -11,15 +11,18 @@ use Rattle.automata_base.specs.Nfas.Accepted.{IsChecked}
 use Rattle.automata_base.specs.Lists.{In, Distinct}
 use Rattle.std.specs.Prelude.{slice_get}
 use Rattle.automata_base.specs.Nfas.Mirrors.{flip, Label, Free, Asks, Reads, HasArcAt, HasArc, IsAsking, IsUnion}
-use Rattle.automata_base.specs.Nfas.Mirrors.{IsEdgeTo, IsReversedArc, IsLed, LeadsTo, IsKept, IsReversedAt, IsEntry}
-use Rattle.automata_base.specs.Nfas.Mirrors.{IsPart, IsOfPart, IsMirror, IsReversed}
+use Rattle.automata_base.specs.Nfas.Mirrors.{IsEdgeTo, TurnsArc, EndsPath, JoinsEdges, IsOnlyEdge, IsAnyLabel}
+use Rattle.automata_base.specs.Nfas.Mirrors.{IsReversedArc, IsLed, LeadsTo, IsUseful, IsReversedAt, IsEntry}
+use Rattle.automata_base.specs.Nfas.Mirrors.{IsPart, IsOfPart, IsEntryOf, IsPlaceOf, IsAlternateOf, IsMirror}
+use Rattle.automata_base.specs.Nfas.Mirrors.{IsOfMirror, IsRootOf, IsInPart, IsReversed}
 use Rattle.automata_base.specs.Nfas.Nfa.{Nfa, Node, Split, Accept, node, node_or_fail, accepts, accepts_at}
 use Rattle.automata_base.specs.Nfas.Nodes.{Automaton, nfa_of, node_of}
 use Rattle.automata_base.specs.Retraced.Reach.{IsReached, Route, targets_at, targets_of}
 use Rattle.automata_base.specs.Nfas.Errors.{state_below, states_below}
 use Rattle.automata_base.specs.Retraced.DenseRuns.{ranged, ranged_nodes, ranged_nfa}
 use Rattle.automata_base.specs.Retraced.ReversedEdges.{Turns, no_lists, place_in, copied, copy_of, list_at, matches_in}
-use Rattle.automata_base.specs.Retraced.ReversedEdges.{turn_by, turn_states, IsHead, AreHeads, IsCopied}
+use Rattle.automata_base.specs.Retraced.ReversedEdges.{turn_by, turn_states, IsHead, IsUnionOfAll, IsOnlyHelper}
+use Rattle.automata_base.specs.Retraced.ReversedEdges.{AreHeads, IsCopied}
 use Rattle.automata_base.specs.Retraced.ReversedEdges.{HaveCopies, part_at, AreReversed}
 use Rattle.automata_base.proofs.Answers.Loops.{nth_some}
 use Rattle.automata_base.proofs.Nfas.Reach.InRange.{node_is}
@@ -147,7 +150,7 @@ module _ (a : Automaton) (turned : List State) (reached : List ℕ) (m : Nfa)
         (closed y s (is.ByteRange lo hi s) i e (inl refl), copy_is y (is.ByteRange lo hi s) i e)
 
     abbrev Kept : ℕ → Type 0
-    Kept q = IsKept (ranged_nfa a) a.start_anchored p q
+    Kept q = IsUseful (ranged_nfa a) a.start_anchored p q
 
     inside : (s : ℕ) (l : Label) (k : ℕ) → HasArc (ranged_nfa a) s l k → s < length a.states
     inside s l k h = let w = arc_inside (ranged_nfa a) s l k h in omega (arith, w, size_is)
@@ -253,11 +256,11 @@ module _ (a : Automaton) (turned : List State) (reached : List ℕ) (m : Nfa)
         by v e j w (inr h) = inr (x, kx, i, w, (v, e, j), (is.Match 0, h.1))
 
         go : IsHead (length t.lists) t.helpers (list_at t.lists x) (get_or turned x is.Fail) → Good r
-        go (inl (v, e, f)) =
+        go (IsUnionOfAll v e f) =
             let j = plain v.items (subst (λ z. In r (targets_at Every (node_of z))) e m) in
             let w = list_in t.lists x r (subst (λ z. In r z) f j) in
             by v e j w (graph.sound x r w)
-        go (inr (j, e, f)) =
+        go (IsOnlyHelper j e f) =
             inl (helper_goes x (length t.lists + j) j (get_or turned x is.Fail) kx
             (graph.sound x (length t.lists + j) (sole x j e)) refl f r m)
     good_step x r i (inr (k, kk, ik, w, v, (h, is_h))) m =
@@ -304,10 +307,10 @@ module _ (a : Automaton) (turned : List State) (reached : List ℕ) (m : Nfa)
             (helper_same x.0 j (get_or turned k is.Fail) (is.ByteRange lo hi s) e f w) (inl refl)
 
         go : IsHead (length t.lists) t.helpers (list_at t.lists k) (get_or turned k is.Fail) → In s items
-        go (inl (v, e, f)) =
+        go (IsUnionOfAll v e f) =
             let m = subst (λ z. In x.0 z) (sym f) (at_list t.lists k x.0 x.1) in
             (edge_is x.0 s l (closed k x.0 (is.Union v) ik e (in_left x.0 v.items [] m)) x.2).0
-        go (inr (j, e, f)) = by l j (inside s l k h) (only j x.0 e x.1) f x.2
+        go (IsOnlyHelper j e f) = by l j (inside s l k h) (only j x.0 e x.1) f x.2
 
     kept_in : (q : ℕ) → Kept q → In q items
     kept_in q k = go q k.1.1.0 k.1.0 k.0 k.1.1.1 k.1.2
@@ -325,9 +328,7 @@ module _ (a : Automaton) (turned : List State) (reached : List ℕ) (m : Nfa)
     At k xs = IsReversedAt (ranged_nfa a) m a.start_anchored p (copy_of base items) k xs
 
     abbrev Edge : ℕ → ℕ → Type 0
-    Edge k x =
-        ((s : ℕ) × (l : Label) × Kept s × HasArc (ranged_nfa a) s l k × IsReversedArc m x l (copy_of base items s))
-        ⊎ ((k ≡ a.start_anchored) × (node m x ≡ Accept p))
+    Edge k x = IsEdgeTo (ranged_nfa a) m a.start_anchored p (copy_of base items) IsAnyLabel k x
 
     -- A member among the alternates of a state is turned to a union, or is a helper, or the copy of one as its only
     -- alternate.
@@ -346,15 +347,15 @@ module _ (a : Automaton) (turned : List State) (reached : List ℕ) (m : Nfa)
         by :
             y < length a.states → IsHead (length t.lists) t.helpers (list_at t.lists y) (get_or turned y is.Fail)
             → Form y
-        by l (inl (v, e, f)) = inl (v, e)
-        by l (inr (j, e, f)) =
+        by l (IsUnionOfAll v e f) = inl (v, e)
+        by l (IsOnlyHelper j e f) =
             inr (
               j,
               get_or turned y is.Fail,
               f,
               refl,
               helper_plain y (length t.lists + j) j (get_or turned y is.Fail)
-              (graph.sound y (length t.lists + j) (sole y j e)) refl f,
+                  (graph.sound y (length t.lists + j) (sole y j e)) refl f,
               inr (l, e),
             )
 
@@ -420,7 +421,7 @@ module _ (a : Automaton) (turned : List State) (reached : List ℕ) (m : Nfa)
         (k : ℕ) → Kept k → (v : Vec ℕ Global) → get_or turned k is.Fail ≡ is.Union v → v.items ≡ list_at t.lists k
         → At k (map (copy_of base items) v.items)
     union_at k kk v union same = record {
-      stands = inl (copy_is k (is.Union v) kept union);
+      stands = JoinsEdges (copy_is k (is.Union v) kept union);
       sound = λ x i. sound x (of_map (copy_of base items) v.items x i);
       arcs = λ s l ks h. arcs s l (graph.arcs s k l (inr (is_reached s ks.0, arc_is s l k h)));
       reported = λ e. reported (graph.reported k e);
@@ -446,15 +447,10 @@ module _ (a : Automaton) (turned : List State) (reached : List ℕ) (m : Nfa)
         go : (x y : ℕ) → In y v.items → x ≡ copy_of base items y → Turned k y → Edge k x
         go x y i e (inl (s, l, inl b, h)) = absurd b
         go x y i e (inl (s, l, inr b, h)) =
-            inl (
-              s,
-              l,
-              source_kept s l k (inr b) kk,
-              is_arc s l k b.1,
-              subst (λ v. IsReversedArc m v l (copy_of base items s)) (sym e) (edge_is y s l (member y i) h).1,
-            )
+            TurnsArc s l (source_kept s l k (inr b) kk) (is_arc s l k b.1) tt
+            (subst (λ v. IsReversedArc m v l (copy_of base items s)) (sym e) (edge_is y s l (member y i) h).1)
         go x y i e (inr h) =
-            inr (h.0, ap (λ v. node m v) e ∙ copy_is y (is.Match 0) (member y i) (helper_is y (is.Match 0) h.1))
+            EndsPath h.0 (ap (λ v. node m v) e ∙ copy_is y (is.Match 0) (member y i) (helper_is y (is.Match 0) h.1))
 
         sound : (x : ℕ) → (y : ℕ) × In y v.items × (x ≡ copy_of base items y) → Edge k x
         sound x w = go x w.0 w.1 w.2 (graph.sound k w.0 (forth w.0 w.1))
@@ -494,7 +490,7 @@ module _ (a : Automaton) (turned : List State) (reached : List ℕ) (m : Nfa)
         (k : ℕ) → Kept k → (j : ℕ) → list_at t.lists k ≡ (length t.lists + j) ∷ []
         → slice_get t.helpers j ≡ Some (get_or turned k is.Fail) → At k (copy_of base items k ∷ [])
     alone_at k kk j same here = record {
-      stands = inr (refl, stands (graph.sound k (length t.lists + j) there));
+      stands = IsOnlyEdge refl (stands (graph.sound k (length t.lists + j) there));
       sound = λ x i. sound x (one x i) (graph.sound k (length t.lists + j) there);
       arcs = λ s l ks h. arcs s l h (graph.arcs s k l (inr (is_reached s ks.0, arc_is s l k h)));
       reported = λ e. reported (graph.reported k e);
@@ -533,25 +529,21 @@ module _ (a : Automaton) (turned : List State) (reached : List ℕ) (m : Nfa)
 
         stands :
             Turned k (length t.lists + j)
-            → IsEdgeTo (ranged_nfa a) m a.start_anchored p (copy_of base items) k (copy_of base items k)
+            → IsEdgeTo (ranged_nfa a) m a.start_anchored p (copy_of base items) IsAsking k (copy_of base items k)
         stands (inl (s, l, inl b, h)) = absurd b
         stands (inl (s, l, inr b, h)) =
             let w = edge s l (source_inside s l k (inr b)) h in
-            inl (s, l, source_kept s l k (inr b) kk, is_arc s l k b.1, w.0, w.1)
-        stands (inr h) = inr (h.0, copy_is k (is.Match 0) kept (is_helper (is.Match 0) h.1))
+            TurnsArc s l (source_kept s l k (inr b) kk) (is_arc s l k b.1) w.0 w.1
+        stands (inr h) = EndsPath h.0 (copy_is k (is.Match 0) kept (is_helper (is.Match 0) h.1))
 
         sound : (x : ℕ) → x ≡ copy_of base items k → Turned k (length t.lists + j) → Edge k x
         sound x e (inl (s, l, inl b, h)) = absurd b
         sound x e (inl (s, l, inr b, h)) =
-            inl (
-              s,
-              l,
-              source_kept s l k (inr b) kk,
-              is_arc s l k b.1,
-              subst (λ v. IsReversedArc m v l (copy_of base items s)) (sym e)
-              (edge s l (source_inside s l k (inr b)) h).1,
-            )
-        sound x e (inr h) = inr (h.0, ap (λ v. node m v) e ∙ copy_is k (is.Match 0) kept (is_helper (is.Match 0) h.1))
+            TurnsArc s l (source_kept s l k (inr b) kk) (is_arc s l k b.1) tt
+            (subst (λ v. IsReversedArc m v l (copy_of base items s)) (sym e)
+            (edge s l (source_inside s l k (inr b)) h).1)
+        sound x e (inr h) =
+            EndsPath h.0 (ap (λ v. node m v) e ∙ copy_is k (is.Match 0) kept (is_helper (is.Match 0) h.1))
 
         arcs :
             (s : ℕ) (l : Label) → HasArc (ranged_nfa a) s l k → (x : ℕ) × InAt t.lists k x × Stand t x l s
@@ -567,15 +559,15 @@ module _ (a : Automaton) (turned : List State) (reached : List ℕ) (m : Nfa)
           copy_of base items k,
           inl refl,
           copy_is k (is.Match 0) kept
-          (is_helper (is.Match 0) (subst (λ v. IsHelper t v (is.Match 0)) (only w.0 w.1) w.2)),
+              (is_helper (is.Match 0) (subst (λ v. IsHelper t v (is.Match 0)) (only w.0 w.1) w.2)),
         )
 
     turned_at : (k : ℕ) → Kept k → (xs : List ℕ) × At k xs
     turned_at k kk = go (head_of k (kept_inside k kk))
       where
         go : IsHead (length t.lists) t.helpers (list_at t.lists k) (get_or turned k is.Fail) → (xs : List ℕ) × At k xs
-        go (inl (v, e, f)) = (map (copy_of base items) v.items, union_at k kk v e f)
-        go (inr (j, e, f)) = (copy_of base items k ∷ [], alone_at k kk j e f)
+        go (IsUnionOfAll v e f) = (map (copy_of base items) v.items, union_at k kk v e f)
+        go (IsOnlyHelper j e f) = (copy_of base items k ∷ [], alone_at k kk j e f)
 
     root_in : (q : ℕ) → In q (matches_in a.states p reached) → In q items
     root_in = reached_roots Every turned (matches_in a.states p reached) items made.reached
@@ -615,26 +607,19 @@ module _ (a : Automaton) (turned : List State) (reached : List ℕ) (m : Nfa)
       where
         state :
             (q : ℕ) → x ≡ copy_of base items q → Good q
-            → (t : ℕ) × Kept t
-            × ((x ≡ copy_of base items t) ⊎ ((xs : List ℕ) × (node m (copy_of base items t) ≡ Split xs) × In x xs))
-        state q e (inl k) = (q, k, inl e)
-        state q e (inr (k, kk, ik, w, (v, u, i), h)) = (
-          k,
-          kk,
-          inr (
-            map (copy_of base items) v.items,
-            copy_is k (is.Union v) ik u,
-            subst (λ z. In z (map (copy_of base items) v.items)) (sym e) (in_map (copy_of base items) v.items q i),
-          ),
-        )
+            → IsOfPart (ranged_nfa a) m a.start_anchored p entry (copy_of base items) x
+        state q e (inl k) = IsPlaceOf q k e
+        state q e (inr (k, kk, ik, w, (v, u, i), h)) =
+            IsAlternateOf k (map (copy_of base items) v.items) kk (copy_is k (is.Union v) ik u)
+            (subst (λ z. In z (map (copy_of base items) v.items)) (sym e) (in_map (copy_of base items) v.items q i))
 
         go : (c : Bool) → ltb x entry ≡ c → IsOfPart (ranged_nfa a) m a.start_anchored p entry (copy_of base items) x
         go true f =
             let less = ltb-true x entry f in
             let q = nth_some items (x - base) (let e = made.ends in omega (arith, less, e, b)) in
             let at = place_nth items (x - base) q.0 made.distinct q.1 in
-            inr (state q.0 (omega (arith, at, b)) (good q.0 (nth_in items (x - base) q.0 q.1)))
-        go false f = let more = ltb-false x entry f in inl (omega (arith, more, l))
+            state q.0 (omega (arith, at, b)) (good q.0 (nth_in items (x - base) q.0 q.1))
+        go false f = let more = ltb-false x entry f in IsEntryOf (omega (arith, more, l))
 
   -- All parts.
   mirror_is :
@@ -669,20 +654,14 @@ module _ (a : Automaton) (turned : List State) (reached : List ℕ) (m : Nfa)
 
       only :
           (x : ℕ) (b : Bool) → ltb x (length nodes) ≡ b → x < length m.nodes
-          → (x ≡ root)
-          ⊎ ((p entry : ℕ) × (slice_get entries p ≡ Some entry)
-          × IsOfPart (ranged_nfa a) m a.start_anchored p entry
-          (λ q. copy_of (part_at copies.parts p).base (part_at copies.parts p).items q) x)
+          → IsOfMirror (ranged_nfa a) m a.start_anchored entries root
+          (λ p q. copy_of (part_at copies.parts p).base (part_at copies.parts p).items q) x
       only x true f l =
           let w = copies.only x (ltb-true x (length nodes) f) in
-          inr (
-            w.0,
-            w.1,
-            w.2,
-            part_only w.0 w.1 (part_at copies.parts w.0).base (part_at copies.parts w.0).items (copied_at w.0 w.1 w.2) x
-            w.3 w.4,
-          )
-      only x false f l = let more = ltb-false x (length nodes) f in inl (omega (arith, more, l, long, r))
+          IsInPart w.0 w.1 w.2
+          (part_only w.0 w.1 (part_at copies.parts w.0).base (part_at copies.parts w.0).items (copied_at w.0 w.1 w.2) x
+          w.3 w.4)
+      only x false f l = let more = ltb-false x (length nodes) f in IsRootOf (omega (arith, more, l, long, r))
 
 -- The states that `NFA::from_states` accepts are in range, whatever the number.
 all_in_range :

@@ -12,7 +12,8 @@ use Rattle.automata_base.specs.Nfas.Nodes.{Automaton}
 use Rattle.automata_base.specs.Nfas.Errors.{state_below, states_below}
 use Rattle.automata_base.specs.Retraced.DenseRuns.{runs_from}
 use Rattle.automata_base.specs.Retraced.ReversedEdges.{Turns, no_lists, turn_by, turn_all, turn_ranges, turn_state}
-use Rattle.automata_base.specs.Retraced.ReversedEdges.{turn_states, IsHead, AreHeads, AreTurned}
+use Rattle.automata_base.specs.Retraced.ReversedEdges.{turn_states, IsHead, IsUnionOfAll, IsOnlyHelper}
+use Rattle.automata_base.specs.Retraced.ReversedEdges.{AreHeads, AreTurned}
 use Rattle.automata_base.proofs.Nfas.Mirrors.Graphs.{InAt, Stand, IsHelper, IsGraph, Of}
 use Rattle.automata_base.proofs.Nfas.Mirrors.Members.{heads_length}
 use Rattle.automata_base.proofs.Nfas.Mirrors.Parts.{turned_graph}
@@ -94,9 +95,9 @@ heads_below n m hs more (xs ∷ rest) (s ∷ ss) a f b c =
     ∙ heads_below n m hs more rest ss a.1 (λ k x i. f (suc k) x i) b c
   where
     one : IsHead m hs xs s → state_below n s ≡ true
-    one (inl (v, e, g)) =
+    one (IsUnionOfAll v e g) =
         ap (state_below n) e ∙ (ap (all_below n) g ∙ all_below_from n xs (λ r i. f 0 r i))
-    one (inr (j, e, g)) = nth_below n hs j s b g
+    one (IsOnlyHelper j e g) = nth_below n hs j s b g
 
 nth_inside : {A : Type 0} (xs : List A) (j : ℕ) (a : A) → slice_get xs j ≡ Some a → j < length xs
 nth_inside [] j a e = absurd (no e)

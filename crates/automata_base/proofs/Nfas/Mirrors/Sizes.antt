@@ -1,7 +1,7 @@
 -- How many states and alternates what is turned has.
 use Rattle.std.proofs.Common.{ℕ, zero, suc, ◌≡◌, ◌<◌, ◌≤◌, ◌+◌, ◌^◌, ◌&&◌, Bool, true, false, cond, leb, List, [], ◌∷◌}
 use Rattle.std.proofs.Common.{◌++◌, drop, length}
-use Rattle.std.proofs.Common.{length-append, get_or, Option, Some, None, inl, inr, refl, sym, ap, ◌∙◌, subst, arith}
+use Rattle.std.proofs.Common.{length-append, get_or, Option, Some, None, refl, sym, ap, ◌∙◌, subst, arith}
 use Rattle.std.specs.Prelude.{sum_by, slice_get}
 use Rattle.std.proofs.lemmas.List.Sums.{sum_by-cons, sum_by-append}
 use Rattle.automata_base.specs.declared.nfa.thompson.State.{State}
@@ -15,6 +15,7 @@ use Rattle.automata_base.specs.Retraced.DenseRuns.{runs_from}
 use Rattle.automata_base.specs.Retraced.ReversedEdges.{Turns, no_lists, ends_in, push_at, put_at, turn_free, turn_by}
 use Rattle.automata_base.specs.Retraced.ReversedEdges.{turn_all}
 use Rattle.automata_base.specs.Retraced.ReversedEdges.{turn_ranges, turn_state, turn_states, size, IsHead, AreHeads}
+use Rattle.automata_base.specs.Retraced.ReversedEdges.{IsUnionOfAll, IsOnlyHelper}
 use Rattle.automata_base.specs.Retraced.ReversedEdges.{AreTurned}
 use Rattle.automata_base.proofs.Nfas.Mirrors.Lists.{push_length, put_length, states_next}
 use Rattle.automata_base.proofs.Nfas.Mirrors.Members.{heads_length}
@@ -230,11 +231,11 @@ heads_sum m hs (xs ∷ rest) (s ∷ ss) a h =
     omega (arith, c, d, e)
   where
     one : IsHead m hs xs s → alternates_of s ≤ length xs
-    one (inl (v, e, g)) =
+    one (IsUnionOfAll v e g) =
         let k : alternates_of s ≡ length v.items = ap alternates_of e in
         let l : length v.items ≡ length xs = ap (λ z. length z) g in
         omega (arith, k, l)
-    one (inr (j, e, g)) = let k = (nth_helper hs j s h g).0 in omega (arith, k)
+    one (IsOnlyHelper j e g) = let k = (nth_helper hs j s h g).0 in omega (arith, k)
 
 helpers_ordered : (hs : List State) → AreHelpers hs → states_ordered hs ≡ true
 helpers_ordered [] a = refl
@@ -251,8 +252,8 @@ heads_ordered m hs more (xs ∷ rest) (s ∷ ss) a h o =
     ap (λ b. b && states_ordered (ss ++ more)) (one a.0) ∙ heads_ordered m hs more rest ss a.1 h o
   where
     one : IsHead m hs xs s → state_ordered s ≡ true
-    one (inl (v, e, g)) = ap state_ordered e
-    one (inr (j, e, g)) = (nth_helper hs j s h g).1
+    one (IsUnionOfAll v e g) = ap state_ordered e
+    one (IsOnlyHelper j e g) = (nth_helper hs j s h g).1
 
 -- What is turned of states without repeats.
 module _ (states turned : List State) (reached : List ℕ) (first : ℕ) (distinct : Distinct reached)

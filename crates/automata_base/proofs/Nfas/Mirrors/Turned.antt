@@ -1,13 +1,15 @@
 -- A reversed NFA goes back along the edges of the other.
 use Rattle.std.proofs.Common.{ℕ, zero, suc, ◌≡◌, ◌<◌, ◌≤◌, ◌+◌, Bool, true, false, cond, List, [], ◌∷◌, ◌⊎◌, length}
-use Rattle.std.proofs.Common.{Some, None, inl, inr, refl, sym, ap, ◌∙◌, subst, arith}
+use Rattle.std.proofs.Common.{Option, Some, None, inl, inr, refl, sym, ap, ◌∙◌, subst, arith}
 use Rattle.automata_base.specs.Lists.{In}
 use Rattle.std.specs.Prelude.{slice_get}
 use Rattle.automata_base.specs.Haystacks.Looks.{Look, within}
 use Rattle.automata_base.specs.Nfas.Nfa.{Nfa, Node, Range, Split, Assert, Read, Accept, Truth, node, node_or_fail, hop}
 use Rattle.automata_base.specs.Nfas.Nfa.{hop_at, takes, takes_at, takes_in, accepts, accepts_at}
 use Rattle.automata_base.specs.Nfas.Mirrors.{flip, Label, Free, Asks, Reads, HasRange, HasArcAt, HasArc, IsAsking}
-use Rattle.automata_base.specs.Nfas.Mirrors.{IsEdgeTo, IsReversedArc, IsKept, IsReversedAt, IsPart, IsMirror, LeadsTo}
+use Rattle.automata_base.specs.Nfas.Mirrors.{IsEdgeTo, TurnsArc, EndsPath, StandsForEdges, JoinsEdges, IsOnlyEdge}
+use Rattle.automata_base.specs.Nfas.Mirrors.{IsAnyLabel, IsReversedArc, IsUseful, IsReversedAt, IsPart, IsMirror}
+use Rattle.automata_base.specs.Nfas.Mirrors.{LeadsTo}
 use Rattle.automata_base.proofs.Paths.Orders.{none_some, some_inj}
 use Rattle.automata_base.proofs.Paths.Sets.{nth_in, in_nth}
 use Rattle.automata_base.proofs.Nfas.Mirrors.Leads.{kept_back, kept_match, leads_here, leads_on}
@@ -68,8 +70,13 @@ range_of_takes (x ∷ xs) u r h = go (within x.lo x.hi u) refl h (range_of_takes
         (b : Bool) → within x.lo x.hi u ≡ b → cond b (Some x.next) (takes_in xs u) ≡ Some r
         → (takes_in xs u ≡ Some r → (lo hi : ℕ) × HasRange xs lo hi r × (within lo hi u ≡ true))
         → (lo hi : ℕ) × HasRange (x ∷ xs) lo hi r × (within lo hi u ≡ true)
-    go true w h ih = (x.lo, x.hi, inl (refl, refl, some_inj h), w)
-    go false w h ih = let k = ih h in (k.0, k.1, inr k.2, k.3)
+    go true w h ih =
+        let same =
+        subst
+        (λ (v : ℕ). ◌≡◌ {A = Option Range} (Some x) (Some (record { lo = x.lo; hi = x.hi; next = v })))
+        (some_inj h) refl in
+        (x.lo, x.hi, (0, same), w)
+    go false w h ih = let k = ih h in (k.0, k.1, (suc k.2.0, k.2.1), k.3)
 
 takes_arc_at :
     (x : Node) (u r : ℕ) → takes_at x u ≡ Some r → (lo hi : ℕ) × HasArcAt x (Reads lo hi) r × (within lo hi u ≡ true)
@@ -144,15 +151,13 @@ module _ (n m : Nfa) (first root : ℕ) (entries : List ℕ)
         one y (inl e) = e
         one y (inr j) = absurd j
 
-        go :
-            (node m (place t) ≡ Split xs) ⊎ ((xs ≡ place t ∷ []) × IsEdgeTo n m first p place t (place t))
-            → HasWay m B c k (place t) k x
-        go (inl s) = let h = split_hop m (B k) (place t) xs x s i in hop_way m B c k (place t) h.0 x h.1
-        go (inr e) = ([], (refl, sym (one (place t) (subst (λ v. In x v) e.0 i))))
+        go : StandsForEdges n m first p place t xs → HasWay m B c k (place t) k x
+        go (JoinsEdges s) = let h = split_hop m (B k) (place t) xs x s i in hop_way m B c k (place t) h.0 x h.1
+        go (IsOnlyEdge e f) = ([], (refl, sym (one (place t) (subst (λ v. In x v) e i))))
 
     -- From an edge's target back to its source.
     back_hop :
-        (s t : ℕ) (l : Label) (k k' : ℕ) → IsKept n first p s → IsKept n first p t → k + k' ≡ J → HasArc n s l t
+        (s t : ℕ) (l : Label) (k k' : ℕ) → IsUseful n first p s → IsUseful n first p t → k + k' ≡ J → HasArc n s l t
         → Holds (A k) l → HasWay m B c k' (place t) k' (place s)
     back_hop s t l k k' ks kt e arc holds = go l arc holds (at.1.arcs s l ks arc)
       where
@@ -170,7 +175,7 @@ module _ (n m : Nfa) (first root : ℕ) (entries : List ℕ)
         go (Reads lo hi) arc holds w = absurd holds
 
     back_move :
-        (s t u lo hi k k' : ℕ) → IsKept n first p s → IsKept n first p t → suc (k + k') ≡ J → b k ≡ Some u
+        (s t u lo hi k k' : ℕ) → IsUseful n first p s → IsUseful n first p t → suc (k + k') ≡ J → b k ≡ Some u
         → HasArc n s (Reads lo hi) t → within lo hi u ≡ true → HasWay m B c k' (place t) (suc k') (place s)
     back_move s t u lo hi k k' ks kt e byte arc has =
         join m B c k' (place t) k' w.0 (suc k') (place s) (enters t k' w.0 at.0 at.1 w.1)
@@ -185,13 +190,13 @@ module _ (n m : Nfa) (first root : ℕ) (entries : List ℕ)
 
     -- A way forth to a kept state gives a way back.
     abbrev pub GoesBack : ℕ → ℕ → ℕ → ℕ → Type 0
-    GoesBack j' z i' q = IsKept n first p q × HasWay m B c j' (place z) i' (place q)
+    GoesBack j' z i' q = IsUseful n first p q × HasWay m B c j' (place z) i' (place q)
 
     pub turned_back :
-        (i q : ℕ) (path : List ℕ) (j z i' j' : ℕ) → LeadsTo n first q → IsKept n first p z → i + i' ≡ J → j + j' ≡ J
+        (i q : ℕ) (path : List ℕ) (j z i' j' : ℕ) → LeadsTo n first q → IsUseful n first p z → i + i' ≡ J → j + j' ≡ J
         → IsWay n A b i q path j z → GoesBack j' z i' q
     turned_back i q [] j z i' j' rq kz e f h = (
-      subst (λ v. IsKept n first p v) (sym h.1) kz,
+      subst (λ v. IsUseful n first p v) (sym h.1) kz,
       ([], (omega (arith, e, f, h.0), ap place (sym h.1))),
     )
     turned_back i q (e ∷ path) j z i' j' rq kz d f (inl h) =
@@ -203,7 +208,7 @@ module _ (n m : Nfa) (first root : ℕ) (entries : List ℕ)
         on : GoesBack j' z i' h.0 → GoesBack j' z i' q
         on g = (kq, join m B c j' (place z) i' (place h.0) i' (place q) g.1 (back_hop q h.0 l.0 i i' kq g.0 d l.1 l.2))
           where
-            kq : IsKept n first p q
+            kq : IsUseful n first p q
             kq = kept_back n first p q h.0 l.0 rq l.1 g.0
     turned_back i q (e ∷ path) j z i' j' rq kz d f (inr h) =
         go i' d (λ k g. turned_back (suc i) h.0 path j z k j' (leads_on n first q h.0 (Reads arc.0 arc.1) rq arc.2) kz g
@@ -226,15 +231,12 @@ module _ (n m : Nfa) (first root : ℕ) (entries : List ℕ)
             g : GoesBack j' z k h.0
             g = ih k (omega (arith, d))
 
-            kq : IsKept n first p q
+            kq : IsUseful n first p q
             kq = kept_back n first p q h.0 (Reads arc.0 arc.1) rq arc.2 g.0
 
     -- What a state of the part stands for: the state `t`, an edge that leads to `t`, or the match where paths begin.
     abbrev pub Stands : ℕ → ℕ → Type 0
-    Stands x t =
-        (x ≡ place t)
-        ⊎ (((s : ℕ) × (l : Label) × IsKept n first p s × HasArc n s l t × IsReversedArc m x l (place s))
-        ⊎ ((t ≡ first) × (node m x ≡ Accept p)))
+    Stands x t = (x ≡ place t) ⊎ IsEdgeTo n m first p place IsAnyLabel t x
 
     abbrev pub Comes : ℕ → ℕ → ℕ → ℕ → Type 0
     Comes p' j' i' t = (p' ≡ p) × HasWay n A b j' first i' t
@@ -249,13 +251,13 @@ module _ (n m : Nfa) (first root : ℕ) (entries : List ℕ)
 
     abbrev pub Goes : List ℕ → Type 0
     Goes path =
-        (i x j z i' j' t p' : ℕ) → IsKept n first p t → i + i' ≡ J → j + j' ≡ J → Stands x t
+        (i x j z i' j' t p' : ℕ) → IsUseful n first p t → i + i' ≡ J → j + j' ≡ J → Stands x t
         → IsWay m B c i x path j z → accepts m z ≡ Some p' → Comes p' j' i' t
 
     -- From a state that stands for an edge that reads or asks.
     from_asking :
         (path : List ℕ) (e : ℕ) → Goes path → (l : Label)
-        → (i x j z i' j' s t p' : ℕ) → IsKept n first p s → i + i' ≡ J → j + j' ≡ J → HasArc n s l t → IsAsking l
+        → (i x j z i' j' s t p' : ℕ) → IsUseful n first p s → i + i' ≡ J → j + j' ≡ J → HasArc n s l t → IsAsking l
         → IsReversedArc m x l (place s) → IsWay m B c i x (e ∷ path) j z → accepts m z ≡ Some p' → Comes p' j' i' t
     from_asking path e ih Free i x j z i' j' s t p' ks d f arc asks turned w a = absurd asks
     from_asking path e ih (Asks look) i x j z i' j' s t p' ks d f arc asks turned (inl h) a =
@@ -294,7 +296,7 @@ module _ (n m : Nfa) (first root : ℕ) (entries : List ℕ)
     -- From a state that stands for `t`, once the first edge is known.
     from_place :
         (path : List ℕ) (e : ℕ) → Goes path
-        → (i x j z i' j' t p' : ℕ) → IsKept n first p t → i + i' ≡ J → j + j' ≡ J → x ≡ place t
+        → (i x j z i' j' t p' : ℕ) → IsUseful n first p t → i + i' ≡ J → j + j' ≡ J → x ≡ place t
         → IsWay m B c i x (e ∷ path) j z → accepts m z ≡ Some p' → Comes p' j' i' t
     from_place path e ih i x j z i' j' t p' kt d f same w a = go at.1.stands
       where
@@ -307,21 +309,19 @@ module _ (n m : Nfa) (first root : ℕ) (entries : List ℕ)
             (inr (at.1.sound h.0 (hop_split m (B i) x at.0 e h.0 is h.1))) h.2 a
         by_union is (inr h) = absurd (none_some (sym (ap (λ v. takes_at v h.1) is) ∙ h.3))
 
-        by_edge : IsEdgeTo n m first p place t (place t) → Comes p' j' i' t
-        by_edge (inl g) =
-            from_asking path e ih g.1 i x j z i' j' g.0 t p' g.2 d f g.3 g.4
-            (subst (λ v. IsReversedArc m v g.1 (place g.0)) (sym same) g.5) w a
-        by_edge (inr g) = from_match path e i x j z (Comes p' j' i' t) (ap (λ v. node m v) same ∙ g.1) w
+        by_edge : IsEdgeTo n m first p place IsAsking t (place t) → Comes p' j' i' t
+        by_edge (TurnsArc s l ks arc asks turned) =
+            from_asking path e ih l i x j z i' j' s t p' ks d f arc asks
+            (subst (λ v. IsReversedArc m v l (place s)) (sym same) turned) w a
+        by_edge (EndsPath begins is) = from_match path e i x j z (Comes p' j' i' t) (ap (λ v. node m v) same ∙ is) w
 
-        go :
-            (node m (place t) ≡ Split at.0) ⊎ ((at.0 ≡ place t ∷ []) × IsEdgeTo n m first p place t (place t))
-            → Comes p' j' i' t
-        go (inl is) = by_union (ap (λ v. node m v) same ∙ is) w
-        go (inr g) = by_edge g.1
+        go : StandsForEdges n m first p place t at.0 → Comes p' j' i' t
+        go (JoinsEdges is) = by_union (ap (λ v. node m v) same ∙ is) w
+        go (IsOnlyEdge is g) = by_edge g
 
     from_edge :
         (path : List ℕ) (e : ℕ) → Goes path → (l : Label)
-        → (i x j z i' j' s t p' : ℕ) → IsKept n first p s → i + i' ≡ J → j + j' ≡ J → HasArc n s l t
+        → (i x j z i' j' s t p' : ℕ) → IsUseful n first p s → i + i' ≡ J → j + j' ≡ J → HasArc n s l t
         → IsReversedArc m x l (place s) → IsWay m B c i x (e ∷ path) j z → accepts m z ≡ Some p' → Comes p' j' i' t
     from_edge path e ih Free i x j z i' j' s t p' ks d f arc turned w a =
         comes_hop p' j' i i' s t Free d arc tt (from_place path e ih i x j z i' j' s p' ks d f turned w a)
@@ -347,7 +347,7 @@ module _ (n m : Nfa) (first root : ℕ) (entries : List ℕ)
         absurd (none_some (sym (ap accepts_at (ap (λ v. node m v) (sym same) ∙ turned)) ∙ a))
 
     stop_place :
-        (i j z i' j' t p' : ℕ) → IsKept n first p t → i + i' ≡ J → j + j' ≡ J → i ≡ j → place t ≡ z
+        (i j z i' j' t p' : ℕ) → IsUseful n first p t → i + i' ≡ J → j + j' ≡ J → i ≡ j → place t ≡ z
         → accepts m z ≡ Some p'
         → Comes p' j' i' t
     stop_place i j z i' j' t p' kt d f same here a = go at.1.stands
@@ -355,37 +355,35 @@ module _ (n m : Nfa) (first root : ℕ) (entries : List ℕ)
         at : (xs : List ℕ) × IsReversedAt n m first p place t xs
         at = part.turned t kt
 
-        by_edge : IsEdgeTo n m first p place t (place t) → Comes p' j' i' t
-        by_edge (inl g) = stop_asking g.1 (place t) z (place g.0) p' (Comes p' j' i' t) g.4 g.5 here a
-        by_edge (inr g) =
-            stop_reported i j z i' j' t p' d f same g.0 (ap (λ v. node m v) (sym here) ∙ g.1) a
+        by_edge : IsEdgeTo n m first p place IsAsking t (place t) → Comes p' j' i' t
+        by_edge (TurnsArc s l ks arc asks turned) =
+            stop_asking l (place t) z (place s) p' (Comes p' j' i' t) asks turned here a
+        by_edge (EndsPath begins is) =
+            stop_reported i j z i' j' t p' d f same begins (ap (λ v. node m v) (sym here) ∙ is) a
 
-        go :
-            (node m (place t) ≡ Split at.0) ⊎ ((at.0 ≡ place t ∷ []) × IsEdgeTo n m first p place t (place t))
-            → Comes p' j' i' t
-        go (inl is) = absurd (not_split z at.0 p' (ap (λ v. node m v) (sym here) ∙ is) a)
-        go (inr g) = by_edge g.1
+        go : StandsForEdges n m first p place t at.0 → Comes p' j' i' t
+        go (JoinsEdges is) = absurd (not_split z at.0 p' (ap (λ v. node m v) (sym here) ∙ is) a)
+        go (IsOnlyEdge is g) = by_edge g
 
     -- A way back to a match gives a way forth.
     pub turned_forth : (path : List ℕ) → Goes path
     turned_forth [] i x j z i' j' t p' kt d f (inl same) w a =
         stop_place i j z i' j' t p' kt d f w.0 (sym same ∙ w.1) a
-    turned_forth [] i x j z i' j' t p' kt d f (inr (inl edge)) w a = go edge.1 edge.3 edge.4
+    turned_forth [] i x j z i' j' t p' kt d f (inr (TurnsArc s l ks arc any turned)) w a = go l arc turned
       where
-        go : (l : Label) → HasArc n edge.0 l t → IsReversedArc m x l (place edge.0) → Comes p' j' i' t
+        go : (l : Label) → HasArc n s l t → IsReversedArc m x l (place s) → Comes p' j' i' t
         go Free arc turned =
-            comes_hop p' j' i i' edge.0 t Free d arc tt
-            (stop_place i j z i' j' edge.0 p' edge.2 d f w.0 (sym turned ∙ w.1) a)
-        go (Asks look) arc turned = stop_asking (Asks look) x z (place edge.0) p' (Comes p' j' i' t) tt turned w.1 a
-        go (Reads lo hi) arc turned = stop_asking (Reads lo hi) x z (place edge.0) p' (Comes p' j' i' t) tt turned w.1 a
-    turned_forth [] i x j z i' j' t p' kt d f (inr (inr reported)) w a =
-        stop_reported i j z i' j' t p' d f w.0 reported.0 (ap (λ v. node m v) (sym w.1) ∙ reported.1) a
+            comes_hop p' j' i i' s t Free d arc tt (stop_place i j z i' j' s p' ks d f w.0 (sym turned ∙ w.1) a)
+        go (Asks look) arc turned = stop_asking (Asks look) x z (place s) p' (Comes p' j' i' t) tt turned w.1 a
+        go (Reads lo hi) arc turned = stop_asking (Reads lo hi) x z (place s) p' (Comes p' j' i' t) tt turned w.1 a
+    turned_forth [] i x j z i' j' t p' kt d f (inr (EndsPath begins is)) w a =
+        stop_reported i j z i' j' t p' d f w.0 begins (ap (λ v. node m v) (sym w.1) ∙ is) a
     turned_forth (e ∷ path) i x j z i' j' t p' kt d f (inl same) w a =
         from_place path e (turned_forth path) i x j z i' j' t p' kt d f same w a
-    turned_forth (e ∷ path) i x j z i' j' t p' kt d f (inr (inl edge)) w a =
-        from_edge path e (turned_forth path) edge.1 i x j z i' j' edge.0 t p' edge.2 d f edge.3 edge.4 w a
-    turned_forth (e ∷ path) i x j z i' j' t p' kt d f (inr (inr reported)) w a =
-        from_match path e i x j z (Comes p' j' i' t) reported.1 w
+    turned_forth (e ∷ path) i x j z i' j' t p' kt d f (inr (TurnsArc s l ks arc any turned)) w a =
+        from_edge path e (turned_forth path) l i x j z i' j' s t p' ks d f arc turned w a
+    turned_forth (e ∷ path) i x j z i' j' t p' kt d f (inr (EndsPath begins is)) w a =
+        from_match path e i x j z (Comes p' j' i' t) is w
 
     -- From the entry.
     entry_back :
@@ -404,7 +402,7 @@ module _ (n m : Nfa) (first root : ℕ) (entries : List ℕ)
         lq : LeadsTo n first q
         lq = along 0 first w.0 J q (leads_here n first) w.1
 
-        kq : IsKept n first p q
+        kq : IsUseful n first p q
         kq = kept_match n first p q lq a
 
         goes : GoesBack 0 q J first
@@ -434,7 +432,7 @@ module _ (n m : Nfa) (first root : ℕ) (entries : List ℕ)
         absurd (not_split z part.enters.0 p' (ap (λ v. node m v) (sym w.1) ∙ part.enters.1.union) a)
     entry_forth (e ∷ path) p' z (inl h) a = (g.0, (q.0, g.1, q.2 ∙ ap Some (sym g.0)))
       where
-        q : (q : ℕ) × IsKept n first p q × (accepts n q ≡ Some p) × (h.0 ≡ place q)
+        q : (q : ℕ) × IsUseful n first p q × (accepts n q ≡ Some p) × (h.0 ≡ place q)
         q = part.enters.1.sound h.0 (hop_split m (B 0) entry part.enters.0 e h.0 part.enters.1.union h.1)
 
         g : Comes p' 0 J q.0

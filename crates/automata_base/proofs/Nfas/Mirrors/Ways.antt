@@ -5,6 +5,7 @@ use Rattle.automata_base.specs.Lists.{In}
 use Rattle.std.specs.Prelude.{slice_get}
 use Rattle.automata_base.specs.Nfas.Nfa.{Nfa, Truth, hop, takes}
 use Rattle.automata_base.specs.Paths.Paths.{Tape, IsPathFrom, truth, all_true, Run}
+use Rattle.automata_base.specs.Paths.Paths.{StaysHere, ReadsByte}
 use Rattle.automata_base.proofs.Paths.Orders.{none_some}
 use Rattle.automata_base.proofs.Paths.Walks.{in_either}
 use Rattle.std.proofs.lemmas.Bool.{cases_eq}
@@ -58,9 +59,9 @@ pub path_way :
     (n : Nfa) (t : Tape) (i : ℕ) (seen : List ℕ) (q : ℕ) (p : List ℕ) (j z : ℕ)
     → IsPathFrom n t i seen q p j z → IsWay n (truth n t) (slice_get t.bytes) i q p j z
 path_way n t i seen q [] j z h = h
-path_way n t i seen q (e ∷ p) j z (inl h) = inl (h.0, h.1, path_way n t i (q ∷ seen) h.0 p j z h.3)
-path_way n t i seen q (e ∷ p) j z (inr h) =
-    inr (h.0, h.2.0, h.2.1, h.2.2, path_way n t (suc i) [] h.0 p j z h.3)
+path_way n t i seen q (e ∷ p) j z (StaysHere r hops new on) = inl (r, hops, path_way n t i (q ∷ seen) r p j z on)
+path_way n t i seen q (e ∷ p) j z (ReadsByte r edge moves on) =
+    inr (r, moves.0, moves.1, moves.2, path_way n t (suc i) [] r p j z on)
 
 -- A path exists.
 abbrev pub HasPath : Nfa → Tape → ℕ → ℕ → ℕ → ℕ → Type 0
@@ -71,16 +72,16 @@ path_forget :
     (n : Nfa) (t : Tape) (i : ℕ) (seen more : List ℕ) (q : ℕ) (p : List ℕ) (j z : ℕ)
     → ((y : ℕ) → In y more → In y seen) → IsPathFrom n t i seen q p j z → IsPathFrom n t i more q p j z
 path_forget n t i seen more q [] j z f h = h
-path_forget n t i seen more q (e ∷ p) j z f (inl h) =
-    inl (h.0, h.1, (λ k. h.2 (still k)), path_forget n t i (q ∷ seen) (q ∷ more) h.0 p j z under h.3)
+path_forget n t i seen more q (e ∷ p) j z f (StaysHere r hops new on) =
+    StaysHere r hops (λ k. new (still k)) (path_forget n t i (q ∷ seen) (q ∷ more) r p j z under on)
   where
     under : (y : ℕ) → In y (q ∷ more) → In y (q ∷ seen)
     under y (inl e) = inl e
     under y (inr k) = inr (f y k)
 
-    still : In h.0 (q ∷ more) → In h.0 (q ∷ seen)
-    still k = under h.0 k
-path_forget n t i seen more q (e ∷ p) j z f (inr h) = inr h
+    still : In r (q ∷ more) → In r (q ∷ seen)
+    still k = under r k
+path_forget n t i seen more q (e ∷ p) j z f (ReadsByte r edge moves on) = ReadsByte r edge moves on
 
 -- A path meets `q` at its first place, and then there is one from `q`, or it is one past `q`.
 abbrev pub Meets : Nfa → Tape → ℕ → List ℕ → ℕ → ℕ → List ℕ → ℕ → ℕ → Type 0
@@ -92,24 +93,25 @@ meets :
     → IsPathFrom n t i seen r p j z → Meets n t i seen q r p j z
 meets n t i seen q r [] j z h = ⊎_elim
     (λ (e : r ≡ q). inl ([], (h.0, sym e ∙ h.1))) (λ (f : r ≡ q → ⊥). inr (h, f)) (cases_eq r q)
-meets n t i seen q r (e ∷ p) j z (inl h) = go (cases_eq r q) (meets n t i (r ∷ seen) q h.0 p j z h.3)
+meets n t i seen q r (e ∷ p) j z (StaysHere r' hops new on) = go (cases_eq r q) (meets n t i (r ∷ seen) q r' p j z on)
   where
-    go : (r ≡ q) ⊎ (r ≡ q → ⊥) → Meets n t i (r ∷ seen) q h.0 p j z → Meets n t i seen q r (e ∷ p) j z
+    go : (r ≡ q) ⊎ (r ≡ q → ⊥) → Meets n t i (r ∷ seen) q r' p j z → Meets n t i seen q r (e ∷ p) j z
     go (inl s) g = inl (
       e ∷ p,
       subst (λ v. IsPathFrom n t i [] v (e ∷ p) j z) s
-          (path_forget n t i seen [] r (e ∷ p) j z (λ y k. absurd k) (inl (h.0, h.1, h.2, h.3))),
+          (path_forget n t i seen [] r (e ∷ p) j z (λ y k. absurd k) (StaysHere r' hops new on)),
     )
     go (inr f) (inl g) = inl g
-    go (inr f) (inr g) = inr (inl (h.0, h.1, fresh, g.0), f)
+    go (inr f) (inr g) = inr (StaysHere r' hops fresh g.0, f)
       where
-        fresh : In h.0 (r ∷ (seen ++ (q ∷ []))) → ⊥
-        fresh k = ⊎_elim (λ (c : In h.0 (r ∷ seen)). h.2 c)
-            (λ (c : In h.0 (q ∷ [])). ⊎_elim (λ (s : h.0 ≡ q). g.1 s) (λ (d : ⊥). d) c)
-            (in_either h.0 (r ∷ seen) (q ∷ []) k)
-meets n t i seen q r (e ∷ p) j z (inr h) = ⊎_elim
-    (λ (s : r ≡ q). inl (e ∷ p, subst (λ v. IsPathFrom n t i [] v (e ∷ p) j z) s (inr h)))
-    (λ (f : r ≡ q → ⊥). inr (inr h, f)) (cases_eq r q)
+        fresh : In r' (r ∷ (seen ++ (q ∷ []))) → ⊥
+        fresh k = ⊎_elim (λ (c : In r' (r ∷ seen)). new c)
+            (λ (c : In r' (q ∷ [])). ⊎_elim (λ (s : r' ≡ q). g.1 s) (λ (d : ⊥). d) c)
+            (in_either r' (r ∷ seen) (q ∷ []) k)
+meets n t i seen q r (e ∷ p) j z (ReadsByte r' edge moves on) = ⊎_elim
+    (λ (s : r ≡ q).
+    inl (e ∷ p, subst (λ v. IsPathFrom n t i [] v (e ∷ p) j z) s (ReadsByte r' edge moves on)))
+    (λ (f : r ≡ q → ⊥). inr (ReadsByte r' edge moves on, f)) (cases_eq r q)
 
 hop_path :
     (n : Nfa) (t : Tape) (i q e r j z : ℕ) → hop n (truth n t i) q e ≡ Some r → HasPath n t i r j z
@@ -118,7 +120,7 @@ hop_path n t i q e r j z h w = go (meets n t i [] q r w.0 j z w.1)
   where
     go : Meets n t i [] q r w.0 j z → HasPath n t i q j z
     go (inl k) = k
-    go (inr k) = (e ∷ w.0, inl (r, h, (λ c. ⊎_elim (λ (s : r ≡ q). k.1 s) (λ (d : ⊥). d) c), k.0))
+    go (inr k) = (e ∷ w.0, StaysHere r h (λ c. ⊎_elim (λ (s : r ≡ q). k.1 s) (λ (d : ⊥). d) c) k.0)
 
 -- A way has a path.
 pub way_path :
@@ -127,7 +129,7 @@ pub way_path :
 way_path n t i q [] j z h = ([], h)
 way_path n t i q (e ∷ p) j z (inl h) = hop_path n t i q e h.0 j z h.1 (way_path n t i h.0 p j z h.2)
 way_path n t i q (e ∷ p) j z (inr h) =
-    let w = way_path n t (suc i) h.0 p j z h.4 in (0 ∷ w.0, inr (h.0, refl, (h.1, h.2, h.3), w.1))
+    let w = way_path n t (suc i) h.0 p j z h.4 in (0 ∷ w.0, ReadsByte h.0 refl (h.1, h.2, h.3) w.1)
 
 -- Edges that read nothing, looks taken as true.
 abbrev pub no_bytes : Bytes

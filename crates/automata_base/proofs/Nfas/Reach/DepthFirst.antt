@@ -139,7 +139,7 @@ module _ (n : ℕ) (G : ℕ → List ℕ) (visited finished : List ℕ) where
         (
           subst (λ z. z < n) (sym same) w.follows.0,
           λ r i. follows r
-          (subst (λ z. In r (take z (G frame.state))) more (subst (λ z. In r (take again.edge (G z))) same i)),
+              (subst (λ z. In r (take z (G frame.state))) more (subst (λ z. In r (take again.edge (G z))) same i)),
           followed_more n G visited (id ∷ []) below w.follows.2,
         ),
       );

@@ -76,9 +76,13 @@ module _ (a : Automaton) where
   comes_back q look next e h = go h.2
     where
       go : In h.0 (next ∷ []) → LeadsOn (nfa_of a) q q
-      go (inl f) =
-          (0, next, ap (λ x. hop_at x all_true 0) e, subst (λ v. HasEpsilonPath (nfa_of a) v q) f
-          (run_from a h.0 h.1 q h.3))
+      go (inl f) = (
+        0,
+        next,
+        ap (λ x. hop_at x all_true 0) e,
+        subst (λ v. HasEpsilonPath (nfa_of a) v q) f
+            (run_from a h.0 h.1 q h.3),
+      )
       go (inr i) = absurd i
 
   -- No look leads back to itself exactly if no cycle passes one.
@@ -124,7 +128,7 @@ next_takes low (t ∷ ts) r o (inl e) =
       t.lo,
       leb-true low t.lo inner.0,
       ap (λ b. cond b (Some t.next) (takes_in (ranges_of ts) t.lo)) (within_low t.lo t.hi inner.1)
-      ∙ ap (λ z. Some z) (sym e),
+          ∙ ap (λ z. Some z) (sym e),
     )
 next_takes low (t ∷ ts) r o (inr i) =
     let outer = and_parts (leb low t.lo && leb t.lo t.hi) (ordered_from (t.hi + 1) ts) o in
@@ -153,7 +157,7 @@ dense_takes_next k (suc m ∷ xs) r (inl e) = (
   k,
   omega arith,
   ap (λ b. cond b (Some (suc m)) (takes_in (dense_from (suc k) xs) k)) (within_low k k (le-leb k k (omega arith)))
-  ∙ ap (λ z. Some z) (sym e),
+      ∙ ap (λ z. Some z) (sym e),
 )
 dense_takes_next k (suc m ∷ xs) r (inr i) =
     let w = dense_takes_next (suc k) xs r i in

@@ -12,9 +12,11 @@ use Rattle.automata_base.proofs.Paths.Machines.{code_one, any_node_true, any_nod
 pub occurs_is :
     (a : Automaton) (looks : ℕ) → IsLooks a looks → (look : Look)
     → (truth_of looks look ≡ true) ↔ Occurs (nfa_of a) look
-occurs_is a looks h look =
-    (from, λ w. h look
-    ∙ any_node_from same (nfa_of a).nodes w.0 look w.1 w.2 (eq-eqb (look_index look) (look_index look) refl))
+occurs_is a looks h look = (
+  from,
+  λ w. h look
+      ∙ any_node_from same (nfa_of a).nodes w.0 look w.1 w.2 (eq-eqb (look_index look) (look_index look) refl),
+)
   where
     same : Look → Bool
     same = λ (other : Look). eqb (look_index other) (look_index look)

@@ -282,10 +282,19 @@ right_past : IsRight (record { lo = 245; hi = 255; to = 1 })
 right_past u us l h = (λ k. absurd (none u us (omega (arith, l)) (inr l) k), λ k. absurd k)
 
 are_right : AreRight kinds
-are_right =
-    (ascii, (right_none,
-    (two, (right_e0,
-    (right_three, (right_ed, (right_last3, (right_f0, (right_four, (right_f4, (right_past, tt)))))))))))
+are_right = (
+  ascii,
+  (
+    right_none,
+    (
+      two,
+      (
+        right_e0,
+        (right_three, (right_ed, (right_last3, (right_f0, (right_four, (right_f4, (right_past, tt))))))),
+      ),
+    ),
+  ),
+)
 
 row_kind :
     (ks : List Kind) (low : ℕ) (c : Class) → AreRight ks → is_kind low c.last (get_or c.to 0 0) ks ≡ true

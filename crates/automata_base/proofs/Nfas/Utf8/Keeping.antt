@@ -12,6 +12,7 @@ use Rattle.automata_base.specs.Haystacks.Looks.{Look}
 use Rattle.automata_base.specs.Nfas.Nfa.{Nfa, Node, Split, Assert, Read, Accept, Truth, node, hop, hop_at}
 use Rattle.automata_base.specs.Nfas.Nodes.{Automaton, nfa_of}
 use Rattle.automata_base.specs.Paths.Paths.{Tape, IsPathFrom, truth, all_true}
+use Rattle.automata_base.specs.Paths.Paths.{StaysHere, ReadsByte}
 use Rattle.automata_base.specs.Haystacks.Tapes.{IsHaystack, between, Direction, Forward, Backward, tape_of}
 use Rattle.automata_base.specs.Answers.TruePairs.{KeepsUtf8}
 use Rattle.automata_base.specs.Nfas.Utf8.{ReadsTo, ends, goes, reads, in_order, ReadsUtf8, HasNoLook}
@@ -76,15 +77,15 @@ module _ (n : Nfa) (t : Tape) (bytes : AreBytes t.bytes) where
   path_reads i seen q [] j z w =
       let e : 0 ≡ j - i = omega (arith, w.0) in
       subst (λ m. ReadsTo n q (take m (drop i t.bytes)) z) e (subst (λ v. ReadsTo n q [] v) w.1 ends)
-  path_reads i seen q (e ∷ path) j z (inl w) =
-      goes e (hop_more n (truth n t i) all_true q e w.0 (λ look f. refl) w.1) (path_reads i (q ∷ seen) w.0 path j z w.3)
-  path_reads i seen q (e ∷ path) j z (inr w) =
-      let k = path_grows n t (suc i) [] w.0 path j z w.3 in
+  path_reads i seen q (e ∷ path) j z (StaysHere r hops new on) =
+      goes e (hop_more n (truth n t i) all_true q e r (λ look f. refl) hops) (path_reads i (q ∷ seen) r path j z on)
+  path_reads i seen q (e ∷ path) j z (ReadsByte r edge moves on) =
+      let k = path_grows n t (suc i) [] r path j z on in
       let m : suc (j - suc i) ≡ j - i = omega (arith, k) in
-      let u : ℕ = w.2.0 in
+      let u : ℕ = moves.0 in
       subst (λ v. ReadsTo n q (take v (drop i t.bytes)) z) m
-      (subst (λ v. ReadsTo n q (take (suc (j - suc i)) v) z) (sym (drop_nth t.bytes i u w.2.1))
-      (reads (haystack_of t.bytes bytes i u w.2.1) w.2.2 (path_reads (suc i) [] w.0 path j z w.3)))
+      (subst (λ v. ReadsTo n q (take (suc (j - suc i)) v) z) (sym (drop_nth t.bytes i u moves.1))
+      (reads (haystack_of t.bytes bytes i u moves.1) moves.2 (path_reads (suc i) [] r path j z on)))
 
 tape_whole :
     (way : Direction) (h : List ℕ) (i j : ℕ) → i ≤ j → j ≤ length h → length (tape_of way h i j).bytes ≡ j - i

@@ -114,8 +114,13 @@ pub length-ids_code : (before : ℕ) (ids : List ℕ) → length (ids_code befor
 unfolding ids_code
 length-ids_code before [] = omega arith
 length-ids_code before (id ∷ ids) =
-    omega (arith, length-append (varint (difference before id)) (ids_code id ids), length-groups 4
-    (difference before id), length-ids_code id ids)
+    omega (
+      arith,
+      length-append (varint (difference before id)) (ids_code id ids),
+      length-groups 4
+          (difference before id),
+      length-ids_code id ids,
+    )
 
 length-with_low : (low : ℕ) (ns : List ℕ) → length (with_low low ns) ≡ length ns
 length-with_low low [] = refl

@@ -65,8 +65,8 @@ listed_has (p ∷ ps) e = refl
 
 pub listed_patterns : (b : Bool) (ps rest : List ℕ) → is_listed ps ≡ b → AllByRecursion IsId ps → length ps < 2 ^ 32
     → let tail =
-        cond b (four_bytes (length ps) ++ flat_map four_bytes ps) [] ++ rest in
-        cond (has_any ps) (cond b (numbers_at (from_le_bytes w32 tail) (drop 4 tail)) (0 ∷ [])) [] ≡ ps
+    cond b (four_bytes (length ps) ++ flat_map four_bytes ps) [] ++ rest in
+    cond (has_any ps) (cond b (numbers_at (from_le_bytes w32 tail) (drop 4 tail)) (0 ∷ [])) [] ≡ ps
 listed_patterns true ps rest e h l =
     cond-true (has_any ps) _ _ (listed_has ps e)
     ∙ ap (λ n. numbers_at n (flat_map four_bytes ps ++ rest)) (from_le_bytes-to_le_bytes_4 (length ps) l)
@@ -75,8 +75,8 @@ listed_patterns false ps rest e h l = unlisted_patterns ps e
 
 pub ids_after : (b : Bool) (ps rest : List ℕ) → length ps < 2 ^ 32
     → let tail =
-        cond b (four_bytes (length ps) ++ flat_map four_bytes ps) [] ++ rest in
-        cond b (drop (4 * from_le_bytes w32 tail) (drop 4 tail)) tail ≡ rest
+    cond b (four_bytes (length ps) ++ flat_map four_bytes ps) [] ++ rest in
+    cond b (drop (4 * from_le_bytes w32 tail) (drop 4 tail)) tail ≡ rest
 ids_after true ps rest l =
     ap (λ n. drop (4 * n) (flat_map four_bytes ps ++ rest)) (from_le_bytes-to_le_bytes_4 (length ps) l)
     ∙ drop_at (flat_map four_bytes ps) rest (4 * length ps) (length-four_bytes ps)
@@ -120,8 +120,12 @@ length-patterns_code ps =
 
 pub length-code : (q : Powerset) → length (code q) ≤ cost q
 length-code q =
-    omega (arith, length-append (patterns_code q.patterns) (ids_code 0 q.nfa), length-patterns_code q.patterns,
-    length-ids_code 0 q.nfa)
+    omega (
+      arith,
+      length-append (patterns_code q.patterns) (ids_code 0 q.nfa),
+      length-patterns_code q.patterns,
+      length-ids_code 0 q.nfa,
+    )
 
 pub IsCode-code : (q : Powerset) (bytes : List ℕ) → IsPowerset q → bytes ≡ code q → IsCode bytes
 IsCode-code q bytes h e =

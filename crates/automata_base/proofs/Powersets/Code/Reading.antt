@@ -45,8 +45,13 @@ whole bytes h e =
           ∙ ap (λ (x : List ℕ). from_le_bytes w32 (x ++ ids_code 0 q.nfa)) opened
           ∙ from_le_bytes-to_le_bytes_4 (length q.patterns) few;
       room =
-          omega (arith, ap length h.same, length-append (patterns_code q.patterns) (ids_code 0 q.nfa), ap length opened,
-          length-four_bytes q.patterns);
+          omega (
+            arith,
+            ap length h.same,
+            length-append (patterns_code q.patterns) (ids_code 0 q.nfa),
+            ap length opened,
+            length-four_bytes q.patterns,
+          );
       few = few;
     }
 
@@ -64,8 +69,12 @@ get_or-numbers_at (suc n) bytes (suc i) h =
 -- the NFA states are behind 0
 pub ids_are : (bytes : List ℕ) → IsCode bytes → AreIds 0 (ids_bytes bytes)
 ids_are bytes h =
-    record { first = omega arith; ids = h.state.nfa; same = sym (ids_bytes-code (decoded bytes) h.state)
-        ∙ ap ids_bytes h.same }
+    record {
+      first = omega arith;
+      ids = h.state.nfa;
+      same = sym (ids_bytes-code (decoded bytes) h.state)
+          ∙ ap ids_bytes h.same;
+    }
 
 pub count-listed :
     (bytes : List ℕ) → IsCode bytes → is_set 2 bytes ≡ true

@@ -9,7 +9,8 @@ ghost use Rattle.automata_base.specs.Lists.{In, Distinct, cons_some};
 ghost use Rattle.automata_base.specs.Nfas.Errors.{states_below};
 ghost use Rattle.automata_base.specs.Nfas.Nfa.{Node, Range, Read, Split, takes_in};
 ghost use Rattle.automata_base.specs.Nfas.Nodes.{node_of, nodes_of, ranges_of};
-ghost use Rattle.automata_base.specs.Retraced.Folds.{AreHeads, AreTargetsOf, IsKept, IsMade, StandsFor, StandsIfAny};
+ghost use Rattle.automata_base.specs.Retraced.Folds.{AreTreeHeads, AreTargetsOf, IsNotFree, IsMade};
+ghost use Rattle.automata_base.specs.Retraced.Folds.{StandsFor, StandsIfAny};
 ghost use Rattle.automata_base.specs.Retraced.Folds.{range_read, ReadsRange, SomeReads, is_large, IsFoldOf};
 ghost use Rattle.automata_base.specs.Retraced.Folds.{IsFoldedFrom, IsFoldedState, IsUnionOf, IsUnionBelow};
 ghost use Rattle.automata_base.specs.declared.nfa.thompson.Transition.{Transition};
@@ -91,7 +92,7 @@ fn head(
     above: Option<StateID>,
 ) -> Result<Option<StateID>, MakeError>
     requires few { length made.old.items ≤ length free.now }
-    requires kept { (t : ℕ) → In t list.now → IsKept free.now t }
+    requires kept { (t : ℕ) → In t list.now → IsNotFree free.now t }
     ensures stands { IfOk result (λ head. (targets : List ℕ)
         → StandsIfAny free.now (nodes_of made.old.items) above targets
         → StandsIfAny free.now (nodes_of made.new.items) head (list.now ++ targets)) }
@@ -135,8 +136,9 @@ fn heads_of(
 ) -> Result<Vec<Option<StateID>>, MakeError>
     requires nodes { length lists.now ≡ 512 }
     requires few { length made.old.items ≤ length free.now }
-    requires kept { (k t : ℕ) → In t (list_at (lists_of lists.now) k) → IsKept free.now t }
-    ensures stands { IfOk result (λ heads. AreHeads free.now (nodes_of made.new.items) (lists_of lists.now) heads.items 512) }
+    requires kept { (k t : ℕ) → In t (list_at (lists_of lists.now) k) → IsNotFree free.now t }
+    ensures stands { IfOk result (λ heads. AreTreeHeads free.now (nodes_of made.new.items) (lists_of lists.now)
+        heads.items 512) }
     ensures nodes { IfOk result (λ heads. length heads.items ≡ 512) }
     ensures grows { OnOk result ((more : List Node) × (nodes_of made.new.items ≡ nodes_of made.old.items ++ more)) }
     ensures few { OnOk result (length made.new.items ≤ length free.now) }
@@ -254,7 +256,7 @@ fn fold_union(
 ) -> Result<State, MakeError>
     requires below { (x : ℕ) → In x alternates.now → x < length states.now }
     requires few { length made.old.items ≤ length free.now }
-    requires kept { (u t : ℕ) → SomeReads states.now alternates.now u t → IsKept free.now t }
+    requires kept { (u t : ℕ) → SomeReads states.now alternates.now u t → IsNotFree free.now t }
     ensures folded { IfOk result (λ s. IsFoldOf states.now free.now (nodes_of made.new.items) alternates.now (node_of s)) }
     ensures reads { IfOk result (λ s. range_read s ≡ None) }
     ensures grows { OnOk result ((more : List Node) × (nodes_of made.new.items ≡ nodes_of made.old.items ++ more)) }
@@ -296,7 +298,7 @@ fn fold_at(
     requires at { x < length states.old.items }
     requires below { IsUnionBelow states.old.items x }
     requires few { length made.old.items ≤ length free.now }
-    requires kept { (q : ℕ) (range : Transition) → ReadsRange states.old.items q range → IsKept free.now range.next }
+    requires kept { (q : ℕ) (range : Transition) → ReadsRange states.old.items q range → IsNotFree free.now range.next }
     ensures folded { OnOk result (IsFoldedState states.old.items free.now (nodes_of made.new.items)
         (slice_get states.old.items x) (slice_get states.new.items x)) }
     ensures others { OnOk result ((q : ℕ) → (q ≡ x → ⊥) → slice_get states.new.items q ≡ slice_get states.old.items q) }
@@ -321,7 +323,7 @@ fn fold_all(
 ) -> Result<(), MakeError>
     requires range { states_below (length states.old.items) states.old.items ≡ true }
     requires few { length made.old.items ≤ length free.now }
-    requires kept { (q : ℕ) (range : Transition) → ReadsRange states.old.items q range → IsKept free.now range.next }
+    requires kept { (q : ℕ) (range : Transition) → ReadsRange states.old.items q range → IsNotFree free.now range.next }
     ensures folded { OnOk result ((x : ℕ) → IsFoldedState states.old.items free.now (nodes_of made.new.items)
         (slice_get states.old.items x) (slice_get states.new.items x)) }
     ensures same { OnOk result (length states.new.items ≡ length states.old.items) }
@@ -373,7 +375,7 @@ fn put_made(states: &mut Vec<State>, free: &[StateID], mut made: Vec<State>)
     requires few { length made.items ≤ length free.now }
     requires below { (x : ℕ) → In x free.now → x < length states.old.items }
     requires distinct { Distinct free.now }
-    ensures kept { (x : ℕ) → IsKept free.now x → slice_get states.new.items x ≡ slice_get states.old.items x }
+    ensures kept { (x : ℕ) → IsNotFree free.now x → slice_get states.new.items x ≡ slice_get states.old.items x }
     ensures made { (k x : ℕ) (s : State) → slice_get free.now k ≡ Some x → slice_get made.items k ≡ Some s
         → slice_get states.new.items x ≡ Some s }
     ensures same { length states.new.items ≡ length states.old.items }

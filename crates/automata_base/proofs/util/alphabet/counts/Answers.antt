@@ -40,8 +40,14 @@ loop-i-init c =
 pub overflow_add-class-in-loop-i : goal.overflow_add-class-in-loop-i
 overflow_add-class-in-loop-i c =
     let seen = from_bool-small (is_marked c.args.marks.now (16 * c.loop-block.block + c.loop-i.i)) in
-    omega (arith, c.loop-i.invariant.small, c.loop-block-test.true, c.loop-i-test.true, c.from-class-in-loop-i.ensures,
-    seen)
+    omega (
+      arith,
+      c.loop-i.invariant.small,
+      c.loop-block-test.true,
+      c.loop-i-test.true,
+      c.from-class-in-loop-i.ensures,
+      seen,
+    )
 
 pub loop-i-preserved : goal.loop-i-preserved
 loop-i-preserved c =

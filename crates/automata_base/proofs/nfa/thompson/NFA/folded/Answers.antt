@@ -31,4 +31,5 @@ returns-in-Ok-from_states-clause-alike c =
     subst (λ (z : Flags). ReadsAlike (automaton old root root entries z) nfa) (ap reversed_flags c.flags-given.ensures)
     (subst (λ (z : Automaton). ReadsAlike (automaton old root root entries flags) z)
     (sym c.in-Ok-from_states.ensures.same)
-    (folded_alike old new root entries flags f.0 f.1 (whole_folded old new root entries flags f.0 f.1 f.2) f.3 f.4))
+    (folded_alike old new root entries flags f.free f.made
+    (whole_folded old new root entries flags f.free f.made f.folded) f.rooted f.entered))

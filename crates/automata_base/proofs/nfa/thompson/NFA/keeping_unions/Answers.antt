@@ -23,9 +23,9 @@ invariant_of-result c =
             (subst (λ b. IfSome c.self.inside.kept_closure (λ kept. IsKeptClosure (automaton_of d b) kept.value))
             (sym ((booleans_Decides w v).0 k.if-has_look_cycle-keeps_unions.true)) c.self.invariant.1))
         | else-has_look_cycle-keeps_unions+in-Some-1 k ↦ subst
-        (λ o. IfSome o (λ kept. IsKeptClosure (automaton_of d w) kept.value)) (sym k.kept_closure-is) tt
+            (λ o. IfSome o (λ kept. IsKeptClosure (automaton_of d w) kept.value)) (sym k.kept_closure-is) tt
         | else-has_look_cycle-keeps_unions+in-None-1 k ↦ subst
-        (λ o. IfSome o (λ kept. IsKeptClosure (automaton_of d w) kept.value)) (sym k.kept_closure-is) tt
+            (λ o. IfSome o (λ kept. IsKeptClosure (automaton_of d w) kept.value)) (sym k.kept_closure-is) tt
       ],
     )
 
@@ -33,7 +33,7 @@ pub returns-clause-same : goal.returns-clause-same
 returns-clause-same c = (
   ap (λ (a : Automaton). record a { keeps_unions = not c.is_look_acyclic-has_look_cycle.result }) c.self.view_is,
   asked c.is_look_acyclic-has_look_cycle.result (IsLookAcyclic (nfa_of c.args.self))
-  c.is_look_acyclic-has_look_cycle.ensures,
+      c.is_look_acyclic-has_look_cycle.ensures,
 )
 
 pub returns-clause-keeps : goal.returns-clause-keeps

@@ -44,7 +44,7 @@ returns-clause-part c =
       (
         c.walk.new.set.items,
         part_added (nodes_of c.args.parts.now.states.items) (nodes_of c.copy_all.new.out.items)
-        (nodes_of c.push_state.new.states.items)
+            (nodes_of c.push_state.new.states.items)
             c.args.turned.now c.args.roots.now c.walk.new.set.items c.in_ok-alternates.alternates.items c.args.pattern
             c.in-Some.base c.new_unchecked-entry.result c.walk.ensures.reached c.in-Some.ensures.distinct
             (λ q i. subst (λ z. q < z) c.walk.ensures.capacity (c.in-Some.ensures.below q i))

@@ -60,10 +60,12 @@ returns-clause-search c =
     let none : c.loop-frame.stack.items ≡ [] =
     nil_from_length c.loop-frame.stack.items (sym c.loop-frame.stack.ok.0 ∙ c.in_default.ensures.cases.0) in
     let after : c.pop.new.self.items ≡ [] =
-    nil_from_length c.pop.new.self.items (sym c.pop.new.self.ok.0 ∙ c.in_default.ensures.cases.1) in
-    (after, subst
-    (λ z. IsUnderSearch (length c.args.states.now) (targets_of Epsilon c.args.states.now) c.loop-frame.visited.items
-    c.loop-frame.finished.items z) (ap reverse none) c.loop-frame.invariant.search)
+    nil_from_length c.pop.new.self.items (sym c.pop.new.self.ok.0 ∙ c.in_default.ensures.cases.1) in (
+      after,
+      subst
+          (λ z. IsUnderSearch (length c.args.states.now) (targets_of Epsilon c.args.states.now) c.loop-frame.visited.items
+          c.loop-frame.finished.items z) (ap reverse none) c.loop-frame.invariant.search,
+    )
 
 pub returns-clause-root : goal.returns-clause-root
 returns-clause-root c = c.loop-frame.invariant.root

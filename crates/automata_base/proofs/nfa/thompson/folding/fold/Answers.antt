@@ -5,7 +5,7 @@ use Rattle.automata_base.specs.declared.nfa.thompson.Transition.{Transition}
 use Rattle.automata_base.specs.declared.nfa.thompson.reach.Edges.TheVariants.{Every}
 use Rattle.automata_base.specs.Lists.{In, all_below}
 use Rattle.automata_base.specs.Nfas.Nodes.{nodes_of}
-use Rattle.automata_base.specs.Retraced.Folds.{IsFoldedState, IsKept, ReadsRange, is_large}
+use Rattle.automata_base.specs.Retraced.Folds.{IsFoldedState, IsNotFree, ReadsRange, is_large}
 use Rattle.automata_base.specs.Retraced.Reach.{node_in, targets_of}
 use Rattle.std.proofs.lemmas.Option.{slice_get_within}
 use Rattle.automata_base.proofs.Nfas.Folds.Final.{folded_from, range_kept}
@@ -65,7 +65,7 @@ returns-clause-folded c =
     (subst (λ (z : List ℕ). (x : ℕ) → IsFoldedState old z (nodes_of made) (slice_get old x) (slice_get mid x))
     c.as_slice-3.ensures.value
     c.in_ok-fold_all.ensures.folded)
-    (subst (λ (z : List ℕ). (x : ℕ) → IsKept z x → slice_get new x ≡ slice_get mid x) c.as_slice-4.ensures.value
+    (subst (λ (z : List ℕ). (x : ℕ) → IsNotFree z x → slice_get new x ≡ slice_get mid x) c.as_slice-4.ensures.value
     c.put_made.ensures.kept)
     (subst (λ (z : List ℕ). (k x : ℕ) (s : State) → slice_get z k ≡ Some x → slice_get made k ≡ Some s
     → slice_get new x ≡ Some s)

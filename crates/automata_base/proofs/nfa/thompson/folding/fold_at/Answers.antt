@@ -1,7 +1,7 @@
 use Rattle.std.proofs.Common.{◌<◌, List, length, refl, sym, subst}
 use Rattle.automata_base.specs.declared.nfa.thompson.State.{State}
 use Rattle.automata_base.specs.Nfas.Nodes.{node_of, nodes_of}
-use Rattle.automata_base.specs.Retraced.Folds.{IsFoldOf, SomeReads, IsKept}
+use Rattle.automata_base.specs.Retraced.Folds.{IsFoldOf, SomeReads, IsNotFree}
 use Rattle.automata_base.proofs.Nfas.Folds.Parts.{state_at}
 use Rattle.automata_base.proofs.Nfas.Folds.Placed.{set_here, set_other}
 use Rattle.automata_base.proofs.Nfas.Folds.States.{folded_here}
@@ -17,7 +17,7 @@ fold_union-requires-clause-below c = λ y i.
 pub fold_union-requires-clause-kept : goal.fold_union-requires-clause-kept
 fold_union-requires-clause-kept c = λ u t k.
     let r = subst (λ (z : List State). SomeReads z c.in-Some.alternates.now u t) c.as_slice.ensures.value k in
-    subst (λ v. IsKept c.args.free.now v) r.4 (c.requires.kept r.0 r.1 r.3)
+    subst (λ v. IsNotFree c.args.free.now v) r.leads (c.requires.kept r.state r.range r.reads)
 
 pub returns-clause-folded : goal.returns-clause-folded
 returns-clause-folded c =

@@ -1,7 +1,7 @@
 use Rattle.std.proofs.Common.{List, Option, ℕ, ◌≡◌, ◌++◌, ◌∷◌, [], refl, subst, ◌∙◌}
 use Rattle.automata_base.specs.Nfas.Nfa.{Read, takes_in}
 use Rattle.automata_base.specs.Nfas.Nodes.{nodes_of, ranges_of}
-use Rattle.automata_base.specs.Retraced.Folds.{AreHeads}
+use Rattle.automata_base.specs.Retraced.Folds.{AreTreeHeads}
 use Rattle.automata_base.specs.Retraced.ReversedEdges.{lists_of, list_at}
 use Rattle.automata_base.specs.Retraced.Segments.{leaf_head}
 use Rattle.automata_base.specs.Lists.{In}
@@ -28,7 +28,7 @@ returns c =
           (nodes_of c.make.new.made.items)
           c.args.alternates.now c.in_ok-stay.stay.items c.push_id.new.ids.items (lists_of lists) heads ts
           c.in_ok-reader.reader
-          (subst (λ z. AreHeads c.args.free.now (nodes_of c.heads_of.new.made.items) (lists_of z) heads 512)
+          (subst (λ z. AreTreeHeads c.args.free.now (nodes_of c.heads_of.new.made.items) (lists_of z) heads 512)
           c.as_slice.ensures.value
           c.in_ok-heads.ensures.stands)
           c.in_ok-heads.ensures.nodes

@@ -1,7 +1,7 @@
 use Rattle.std.proofs.Common.{ℕ, ◌≡◌, List, Option, ◌++◌, [], length, arith, ap, sym, subst, ◌∙◌}
 use Rattle.automata_base.specs.Lists.{In}
 use Rattle.automata_base.specs.Nfas.Nodes.{nodes_of}
-use Rattle.automata_base.specs.Retraced.Folds.{AreHeads}
+use Rattle.automata_base.specs.Retraced.Folds.{AreTreeHeads}
 use Rattle.automata_base.specs.Retraced.ReversedEdges.{lists_of, list_at}
 use Rattle.automata_base.proofs.Nfas.Folds.Heads.{above_any, heads_next, nodes_nil, grows_on, pushed_length}
 use Rattle.automata_base.proofs.Nfas.Mirrors.Lists.{list_item}
@@ -64,7 +64,7 @@ returns c =
     let all : c.loop-node.node ≡ 512 = omega arith in
     record {
       stands =
-          subst (λ v. AreHeads c.args.free.now (nodes_of c.loop-node.made.items) (lists_of c.args.lists.now)
+          subst (λ v. AreTreeHeads c.args.free.now (nodes_of c.loop-node.made.items) (lists_of c.args.lists.now)
           c.loop-node.heads.items v) all
           c.loop-node.invariant.heads;
       nodes = c.loop-node.invariant.count ∙ all;

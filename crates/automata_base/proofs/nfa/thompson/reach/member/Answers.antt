@@ -13,6 +13,10 @@ returns-clause-some c = λ id e.
     subst (λ z. z ≡ get_or c.args.set.now.items c.args.at z) same
     (subst (λ z. c.index-items-at.result ≡ get_or z c.args.at c.index-items-at.result) c.as_slice-items.ensures.items
     c.index-items-at.is) in
-    let few : length c.args.set.now.items ≤ c.args.set.now.capacity = c.as_slice-items.ensures.few in
-    (inside, here, below_at c.args.set.now.items c.args.set.now.capacity c.args.at id c.as_slice-items.ensures.below
-    inside here, omega arith)
+    let few : length c.args.set.now.items ≤ c.args.set.now.capacity = c.as_slice-items.ensures.few in (
+      inside,
+      here,
+      below_at c.args.set.now.items c.args.set.now.capacity c.args.at id c.as_slice-items.ensures.below
+          inside here,
+      omega arith,
+    )

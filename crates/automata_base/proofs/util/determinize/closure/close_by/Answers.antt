@@ -21,7 +21,7 @@ use Rattle.automata_base.proofs.util.determinize.closure.close_by.Goals.{then-di
 pub visit-init : goal.visit-init
 visit-init c = (
   subst (λ s. Walking c.args.nfa.now c.args.looks c.args.set.now.items c.args.start c.args.set.now.items
-  (c.args.start ∷ reverse s))
+      (c.args.start ∷ reverse s))
       (sym c.requires.room.empty)
       (walk_begins c.args.nfa.now c.args.looks c.args.set.now.items c.args.start c.requires.start),
   c.requires.room.whole,
@@ -136,8 +136,8 @@ visited : (c : goal.In-Some-pop) →
     (vec_capacity c.args.stack.now) c.visit.stack c.if-discover.stack
 visited c = elim c.if-discover.branch [
   | then-discover+in_default w ↦ subst
-  (λ (m : Members). Visited c.args.nfa.now c.args.looks c.args.set.now.items c.args.start c.visit.set.items m.items
-  c.visit.id (vec_capacity c.args.stack.now) c.visit.stack c.if-discover.stack) (sym w.set-is)
+      (λ (m : Members). Visited c.args.nfa.now c.args.looks c.args.set.now.items c.args.start c.visit.set.items m.items
+      c.visit.id (vec_capacity c.args.stack.now) c.visit.stack c.if-discover.stack) (sym w.set-is)
       (subst (Visited c.args.nfa.now c.args.looks c.args.set.now.items c.args.start c.visit.set.items
       w.expand.new.set.items c.visit.id (vec_capacity c.args.stack.now) c.visit.stack) (sym w.stack-is)
       (new_visit c.args.nfa.now c.args.looks c.args.set.now.items c.args.start c.visit.set.items
@@ -148,8 +148,8 @@ visited c = elim c.if-discover.branch [
       (w.if-discover.ensures.new refl) (w.if-discover.ensures.added refl) w.in_default.ensures.expanded
       c.visit.invariant.0 c.visit.invariant.2 w.in_default.ensures.capacity))
   | else-discover w ↦ subst
-  (λ (m : Members). Visited c.args.nfa.now c.args.looks c.args.set.now.items c.args.start c.visit.set.items m.items
-  c.visit.id (vec_capacity c.args.stack.now) c.visit.stack c.if-discover.stack) (sym w.set-is)
+      (λ (m : Members). Visited c.args.nfa.now c.args.looks c.args.set.now.items c.args.start c.visit.set.items m.items
+      c.visit.id (vec_capacity c.args.stack.now) c.visit.stack c.if-discover.stack) (sym w.set-is)
       (subst (Visited c.args.nfa.now c.args.looks c.args.set.now.items c.args.start c.visit.set.items
       c.discover.new.set.items c.visit.id (vec_capacity c.args.stack.now) c.visit.stack) (sym w.stack-is)
       (passed_visit c.args.nfa.now c.args.looks c.args.set.now.items c.args.start c.visit.set.items
@@ -176,7 +176,7 @@ visit-preserved c =
     let kept : vec_capacity c.args.stack.now ≤ vec_capacity c.if-discover.stack = v.room in
     let same : vec_capacity c.pop.new.self ≡ vec_capacity c.if-discover.stack = c.in-Some-pop.ensures.capacity in (
       (next_way c.args.nfa.now c.args.looks c.args.set.now.items c.args.start c.visit.set.items c.if-discover.set.items
-      c.visit.id (vec_capacity c.args.stack.now) c.visit.stack c.if-discover.stack
+          c.visit.id (vec_capacity c.args.stack.now) c.visit.stack c.if-discover.stack
           c.pop.new.self c.in-Some-pop.top c.in-Some-pop.ensures.items v).0,
       same_set c ∙ (c.discover.ensures.capacity ∙ c.visit.invariant.1),
       omega arith,
@@ -188,8 +188,8 @@ done : (c : goal.In-None) →
     (vec_capacity c.args.stack.now) c.visit.stack c.if-discover.stack
 done c = elim c.if-discover.branch [
   | then-discover+in_default w ↦ subst
-  (λ (m : Members). Visited c.args.nfa.now c.args.looks c.args.set.now.items c.args.start c.visit.set.items m.items
-  c.visit.id (vec_capacity c.args.stack.now) c.visit.stack c.if-discover.stack) (sym w.set-is)
+      (λ (m : Members). Visited c.args.nfa.now c.args.looks c.args.set.now.items c.args.start c.visit.set.items m.items
+      c.visit.id (vec_capacity c.args.stack.now) c.visit.stack c.if-discover.stack) (sym w.set-is)
       (subst (Visited c.args.nfa.now c.args.looks c.args.set.now.items c.args.start c.visit.set.items
       w.expand.new.set.items c.visit.id (vec_capacity c.args.stack.now) c.visit.stack) (sym w.stack-is)
       (new_visit c.args.nfa.now c.args.looks c.args.set.now.items c.args.start c.visit.set.items
@@ -200,8 +200,8 @@ done c = elim c.if-discover.branch [
       (w.if-discover.ensures.new refl) (w.if-discover.ensures.added refl) w.in_default.ensures.expanded
       c.visit.invariant.0 c.visit.invariant.2 w.in_default.ensures.capacity))
   | else-discover w ↦ subst
-  (λ (m : Members). Visited c.args.nfa.now c.args.looks c.args.set.now.items c.args.start c.visit.set.items m.items
-  c.visit.id (vec_capacity c.args.stack.now) c.visit.stack c.if-discover.stack) (sym w.set-is)
+      (λ (m : Members). Visited c.args.nfa.now c.args.looks c.args.set.now.items c.args.start c.visit.set.items m.items
+      c.visit.id (vec_capacity c.args.stack.now) c.visit.stack c.if-discover.stack) (sym w.set-is)
       (subst (Visited c.args.nfa.now c.args.looks c.args.set.now.items c.args.start c.visit.set.items
       c.discover.new.set.items c.visit.id (vec_capacity c.args.stack.now) c.visit.stack) (sym w.stack-is)
       (passed_visit c.args.nfa.now c.args.looks c.args.set.now.items c.args.start c.visit.set.items
@@ -229,5 +229,9 @@ returns-clause-room c =
     let kept : vec_capacity c.args.stack.now ≤ vec_capacity c.if-discover.stack = (done c).room in
     let same : vec_capacity c.pop.new.self ≡ vec_capacity c.if-discover.stack = c.in-None.ensures.capacity in
     let enough : stack_room c.args.nfa.now.states ≤ vec_capacity c.args.stack.now = c.requires.room.places in
-    record { whole = same_set_done c
-        ∙ (c.discover.ensures.capacity ∙ c.visit.invariant.1); empty = search rules; places = omega arith }
+    record {
+      whole = same_set_done c
+          ∙ (c.discover.ensures.capacity ∙ c.visit.invariant.1);
+      empty = search rules;
+      places = omega arith;
+    }

@@ -50,8 +50,11 @@ loop-i-preserved c =
 
 pub loop-i-init : goal.loop-i-init
 loop-i-init c =
-    record { way = λ truth roots tail u. u; grown = ([], sym (append-nil c.args.set.now.items));
-        whole = c.requires.whole }
+    record {
+      way = λ truth roots tail u. u;
+      grown = ([], sym (append-nil c.args.set.now.items));
+      whole = c.requires.whole;
+    }
 
 pub returns-clause-way : goal.returns-clause-way
 returns-clause-way c = λ truth roots tail u.

@@ -1,4 +1,4 @@
-use Rattle.std.proofs.Common.{◌≡◌, ◌∷◌, [], ◌++◌, not, cond, sym, ap, ◌∙◌, subst, append-nil}
+use Rattle.std.proofs.Common.{◌∷◌, [], ◌++◌, not, cond, sym, ap, ◌∙◌, subst, append-nil}
 use Rattle.automata_base.specs.Powersets.Members.{AreMarks}
 use Rattle.automata_base.proofs.Powersets.Marks.{marks_next}
 use Rattle.automata_base.proofs.util.determinize.lists.add_pattern.Goals as goal

@@ -40,8 +40,8 @@ loop-i-preserved c =
     (state_read c.args.nfa.now.states c.index-states-i.result c.state_at-state.result.now
     c.state_at-state.ensures.same) in (
       keep_next (nfa_of c.args.nfa.now) c.args.states.now c.loop-i.kept.items c.push_if.new.kept.items
-      (c.args.kept.now.items ++ pick (keep (nfa_of c.args.nfa.now)) c.args.states.now) c.loop-i.i
-      c.index-states-i.result c.is_kept.result
+          (c.args.kept.now.items ++ pick (keep (nfa_of c.args.nfa.now)) c.args.states.now) c.loop-i.i
+          c.index-states-i.result c.is_kept.result
           c.loop-i-test.true c.index-states-i.is
           (c.is_kept.ensures
           ∙ (ap (λ m. stays_at m || (splits_at m && c.keeps_unions-keeps_unions.result)) (sym here)
@@ -49,9 +49,9 @@ loop-i-preserved c =
           || (splits_at (node (nfa_of c.args.nfa.now) c.index-states-i.result) && w))
           c.keeps_unions-keeps_unions.ensures)) c.push_if.ensures.items c.loop-i.invariant.0,
       room_next c.loop-i.kept.items c.push_if.new.kept.items (length c.args.kept.now.items) c.loop-i.i
-      c.index-states-i.result c.is_kept.result c.push_if.ensures.items c.loop-i.invariant.1,
+          c.index-states-i.result c.is_kept.result c.push_if.ensures.items c.loop-i.invariant.1,
       (λ other. looks_next (nfa_of c.args.nfa.now) (λ look. eqb (look_index look) (look_index other)) c.args.states.now
-      c.loop-i.i c.index-states-i.result
+          c.loop-i.i c.index-states-i.result
           (truth_of c.loop-i.all other) (truth_of c.add_look-all.result other)
           (truth_of c.args.looks other
           || any_state (λ look. eqb (look_index look) (look_index other)) (nfa_of c.args.nfa.now) c.args.states.now)

@@ -76,9 +76,9 @@ loop-i-preserved c =
     (state_read c.args.nfa.now.states c.index-states-i.result c.state.result.now c.state.ensures.same))
     ∙ (sym c.pattern_of.ensures ∙ c.in-None.is) in (
       cut_next (nfa_of c.args.nfa.now) c.args.states.now c.loop-i.i c.index-states-i.result c.loop-i-test.true
-      c.index-states-i.is here c.loop-i.invariant.0,
+          c.index-states-i.is here c.loop-i.invariant.0,
       cut_picks_next (nfa_of c.args.nfa.now) c.args.states.now c.loop-i.i c.index-states-i.result c.loop-i-test.true
-      c.index-states-i.is here c.loop-i.invariant.1,
+          c.index-states-i.is here c.loop-i.invariant.1,
       c.loop-i.invariant.2,
       c.loop-i.invariant.3,
     )

@@ -1,4 +1,4 @@
-use Rattle.std.proofs.Common.{◌≡◌, sym, ◌∙◌, arith}
+use Rattle.std.proofs.Common.{◌∙◌, arith}
 use Rattle.automata_base.proofs.Powersets.Marks.{marked, marks_past}
 use Rattle.automata_base.proofs.util.determinize.lists.is_new.Goals as goal
 

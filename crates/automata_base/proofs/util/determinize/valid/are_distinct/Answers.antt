@@ -5,12 +5,14 @@ use Rattle.automata_base.proofs.Powersets.Code.Distinct.{distinct_up, distinct_d
 use Rattle.automata_base.proofs.util.determinize.valid.are_distinct.Goals as goal
 
 pub returns-then-not-is_apart : goal.returns-then-not-is_apart
-returns-then-not-is_apart c =
-    (λ h. absurd (false≢true h), λ d. sym c.if-not-is_apart.true
-    ∙ c.is_apart.ensures.1
-    (distinct_down c.loop-rest.rest.now _ _
-    (split_at_item c.loop-rest.rest.now c.first-item.result c.in-len1-up.len_at_least c.first-item.is)
-    (c.loop-rest.invariant.down d)).0)
+returns-then-not-is_apart c = (
+  λ h. absurd (false≢true h),
+  λ d. sym c.if-not-is_apart.true
+      ∙ c.is_apart.ensures.1
+      (distinct_down c.loop-rest.rest.now _ _
+      (split_at_item c.loop-rest.rest.now c.first-item.result c.in-len1-up.len_at_least c.first-item.is)
+      (c.loop-rest.invariant.down d)).0,
+)
 
 pub loop-rest-preserved : goal.loop-rest-preserved
 loop-rest-preserved c = record {

@@ -9,8 +9,12 @@ use Rattle.automata_base.proofs.util.determinize.write.push_ids.Goals as goal
 pub loop-id-preserved : goal.loop-id-preserved
 loop-id-preserved c = record {
   code =
-      rw (c.in_ok-push_in_room.ensures.ok, c.as_u32-id.ensures.value, get_or_read c.args.ids.now _ _ c.loop-id-test.true
-      c.id-item.is 0)
+      rw (
+        c.in_ok-push_in_room.ensures.ok,
+        c.as_u32-id.ensures.value,
+        get_or_read c.args.ids.now _ _ c.loop-id-test.true
+            c.id-item.is 0,
+      )
       (ids-step _ _ c.args.ids.now _ _ _ c.loop-id-test.true
       (c.difference_of.ensures.value
       ∙ ap (difference c.loop-id.before)

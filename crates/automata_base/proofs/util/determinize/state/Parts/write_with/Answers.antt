@@ -10,8 +10,14 @@ use Rattle.automata_base.proofs.util.determinize.state.Parts.write_with.Goals as
 
 pub push_state-requires-clause-patterns : goal.push_state-requires-clause-patterns
 push_state-requires-clause-patterns c =
-    omega (arith, c.deref-3.ensures.len, c.deref.ensures.len, count_fits _
-    (recursion_from_All IsId _ c.see_patterns.ensures) (subst Distinct (sym c.deref.ensures.value) c.requires.distinct))
+    omega (
+      arith,
+      c.deref-3.ensures.len,
+      c.deref.ensures.len,
+      count_fits _
+          (recursion_from_All IsId _ c.see_patterns.ensures)
+          (subst Distinct (sym c.deref.ensures.value) c.requires.distinct),
+    )
 
 pub returns-clause-bytes : goal.returns-clause-bytes
 returns-clause-bytes c =

@@ -8,5 +8,9 @@ returns-clause-bytes c = c.as_slice.ensures.value ∙ (sym c.self.invariant.same
 
 pub returns-clause-cost : goal.returns-clause-cost
 returns-clause-cost c =
-    omega (arith, ap length (c.as_slice.ensures.value ∙ sym c.self.invariant.same ∙ ap code c.self.view_is), length-code
-    c.args.self.now)
+    omega (
+      arith,
+      ap length (c.as_slice.ensures.value ∙ sym c.self.invariant.same ∙ ap code c.self.view_is),
+      length-code
+          c.args.self.now,
+    )
