@@ -243,12 +243,25 @@ finished draft ks a utf8 has nodes starts anchored unanchored flags dropped =
       kind = LeftmostFirst;
     }) dropped
     ∙ ap₂ (λ v w.
-    record { nfa = joined_nfa ks; anchored = v; unanchored = w; starts = a.start_pattern; utf8 = utf8;
-        kind = LeftmostFirst })
+    record {
+      nfa = joined_nfa ks;
+      anchored = v;
+      unanchored = w;
+      starts = a.start_pattern;
+      utf8 = utf8;
+      kind = LeftmostFirst;
+    })
     (anchored ∙ count) (unanchored ∙ ap (λ v. v + 1) count)
     ∙ ap (λ v.
-    record { nfa = joined_nfa ks; anchored = size_of ks; unanchored = size_of ks
-        + 1; starts = v; utf8 = utf8; kind = LeftmostFirst })
+    record {
+      nfa = joined_nfa ks;
+      anchored = size_of ks;
+      unanchored = size_of ks
+          + 1;
+      starts = v;
+      utf8 = utf8;
+      kind = LeftmostFirst;
+    })
     (starts ∙ has.starts)
   where
     count : length draft.states.items ≡ size_of ks

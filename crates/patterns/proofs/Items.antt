@@ -35,8 +35,12 @@ module _ (p : Regex) (old new : Cache) (hay : List ℕ) (last : Option ℕ) wher
       GivesMatch p old new hay (Some (Ok m)) last (Some end) ended ended
   gives_match true m end on is next lies ends = open_is on
   gives_match false m end on is next lies ends =
-      record { next = subst (λ v. IsNextMeant p hay last v) is next; within = lies; place = ap (λ (n : ℕ). Some n) ends;
-          going = refl }
+      record {
+        next = subst (λ v. IsNextMeant p hay last v) is next;
+        within = lies;
+        place = ap (λ (n : ℕ). Some n) ends;
+        going = refl;
+      }
 
   pub gives_none : (ended : Bool) → ended ≡ false → {o : Option Match} → o ≡ None → IsNextMeant p hay last o →
       GivesMatch p old new hay None last last ended true

@@ -11,8 +11,8 @@ pub use automata_base::laws::{
     walk_is_right,
 };
 pub use automata_hybrid::laws::{
-    answers_agree, cache_is_known, calls_follow, first_match_is_found,
-    known_stays, pieces_are_whole, pieces_follow, searches_follow, sets_follow, sets_have_matching,
+    answers_agree, cache_is_known, calls_follow, first_match_is_found, known_stays,
+    pieces_are_whole, pieces_follow, searches_follow, sets_follow, sets_have_matching,
     sizes_are_of_nfa, states_have_matching, steps_follow, walks_agree,
 };
 

@@ -314,7 +314,8 @@ run_found m input None plain undone run = (
 run_found m input (Some half) plain undone run = (
   Some (with_base half input.start),
   finds_some Forward m input input 0 (first_span input)
-      (record { comes = inl refl; before = λ j less. absurd (omega (arith, less)) }) (omega (arith, undone)) half run.found
+      (record { comes = inl refl; before = λ j less. absurd (omega (arith, less)) }) (omega (arith, undone)) half
+      run.found
       run.clean (λ skips. absurd (plain skips)),
   refl,
 )

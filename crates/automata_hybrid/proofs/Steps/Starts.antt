@@ -139,7 +139,8 @@ pub computes_new :
 computes_new m mode behind old mid between new slot id state key started was adds count e is lacks same tags written
     found = record {
       done = StartsAdded none between.store added.effect added.named stored;
-      leads = inr (subst (λ (s : Stored). Names s.table id (start_state_of m.nfa mode behind)) (sym stored) added.named);
+      leads =
+          inr (subst (λ (s : Stored). Names s.table id (start_state_of m.nfa mode behind)) (sym stored) added.named);
       starts =
           subst (λ (s : Stored). KeepsStarts old.store.starts s.starts) (sym stored)
           (keeps_written old.store.starts between.store.starts slot id added.starts
@@ -165,7 +166,8 @@ computes_new m mode behind old mid between new slot id state key started was add
       added : AddsRow old.store (cleared_in_store old.store) between.store (start_row m mode behind) id
       added =
           subst (λ (r : Row). AddsRow old.store (cleared_in_store old.store) between.store r id) row
-          (subst (λ (s : Stored). AddsRow s (cleared_in_store s) between.store (record { state = state; started = started })
+          (subst (λ (s : Stored). AddsRow s (cleared_in_store s) between.store
+          (record { state = state; started = started })
           id) before adds)
 
 -- what a computed start answers, and what it makes of the cache
@@ -190,14 +192,3 @@ module _ (m : Machine) (mode : Anchored) (behind : Option ℕ) (old new : CacheV
     starts = made.starts;
     counted = made.counted;
   }
-
--- a search may start, or it may not
-pub may_or_not :
-    (m : Machine) (mode : Anchored) (behind : Option ℕ) → MayStart m mode behind ⊎ (MayStart m mode behind → ⊥)
-may_or_not m mode behind = go (quit_behind m behind) refl (supports m mode) refl where
-  go :
-      (o : Option ℕ) → quit_behind m behind ≡ o → (b : Bool) → supports m mode ≡ b
-      → MayStart m mode behind ⊎ (MayStart m mode behind → ⊥)
-  go None e true f = inl (e, f)
-  go None e false f = inr (λ may. false_true (sym f ∙ may.1))
-  go (Some byte) e b f = inr (λ may. none_some (sym may.0 ∙ e))

@@ -8,10 +8,6 @@ use Rattle.automata_hybrid.specs.Cache.Ids.{tags, dead_id, quit_id, unknown_id, 
 use Rattle.automata_hybrid.specs.Machines.Machine.{Machine}
 use Rattle.automata_hybrid.specs.Machines.Reachable.{IsStateOf}
 
--- the row that an ID names
-abbrev pub row_of : Rows → ℕ → Option Row
-row_of t id = slice_get t.rows ((id % offset_limit) / t.of.stride - 3)
-
 -- a state has patterns
 abbrev pub has_patterns : Powerset → Bool
 has_patterns q = nat_lt 0 (length q.patterns)
@@ -41,6 +37,10 @@ find_id s at q (r ∷ rs) = cond (powerset_eq q r.state) (Some (row_id at r)) (f
 -- the ID that a table has for a state
 abbrev pub id_of : Rows → Powerset → Option ℕ
 id_of t q = find_id t.of.stride (3 * t.of.stride) q t.rows
+
+-- the row that an ID names
+abbrev pub row_of : Rows → ℕ → Option Row
+row_of t id = slice_get t.rows ((id % offset_limit) / t.of.stride - 3)
 
 -- this ID, tags included, is that of the row of this state
 abbrev pub Names : Rows → ℕ → Powerset → Type 0

@@ -8,7 +8,7 @@ use Rattle.automata_base.specs.Haystacks.Input.{Input}
 use Rattle.automata_base.specs.Haystacks.Matches.{HalfMatch}
 use Rattle.automata_config.specs.declared.error.SearchError.{SearchError}
 use Rattle.regex_automata.specs.declared.hybrid.regex.Regex.{Regex}
-use Rattle.regex_automata.specs.Replay.Replies.{dfa_of}
+use Rattle.regex_automata.specs.Replay.Replies.{dfa_in}
 use Rattle.regex_automata.specs.Regexes.Caches.{AreCachesOf}
 use Rattle.regex_automata.specs.Replay.Histories.{Begun, History, stepped, after_step}
 use Rattle.regex_automata.specs.Replay.Replies.{IsReply, IsStepOf, walk_fault}
@@ -76,8 +76,8 @@ other_reply h s n k a is ne =
 begun_step : (rs : List Regex) (r : Regex) (w : Begun) (k : KeptWalk) (result : Result (Option HalfMatch) SearchError)
     → IsWalk rs w k → IsStepFrom r k w.reported result → IsStepOf r (Some w) result
 begun_step rs r w k result walk h =
-    subst (λ (i : Input). IsStep w.way (dfa_of w.way r) i w.reported result) walk.input
-    (subst (λ b. IsStep b (dfa_of b r) k.input w.reported result) walk.way h)
+    subst (λ (i : Input). IsStep w.way (dfa_in w.way r) i w.reported result) walk.input
+    (subst (λ b. IsStep b (dfa_in b r) k.input w.reported result) walk.way h)
 
 pub step_reply : (h : History) (s : Player) (n : ℕ) (k : KeptWalk) (result : Result (Option HalfMatch) SearchError)
     → HasPlayed h s → slice_get s.walks.items n ≡ Some k → k.regex ≡ s.current
@@ -98,9 +98,9 @@ begun_made :
     → IsWalk rs w k → HasAnsweredBy r k w.reported → MakesWalkStep r k old new result
     → IsWalkStepped r (Some w) old new result
 begun_made rs r w k old new result walk reported made =
-    subst (λ (i : Input). IsCalled w.way (dfa_of w.way r) i w.reported (own_of w.way old) (own_of w.way new) result
+    subst (λ (i : Input). IsCalled w.way (dfa_in w.way r) i w.reported (own_of w.way old) (own_of w.way new) result
     × (other_of w.way new ≡ other_of w.way old)) walk.input
-    (subst (λ b. IsCalled b (dfa_of b r) k.input w.reported (own_of b old) (own_of b new) result
+    (subst (λ b. IsCalled b (dfa_in b r) k.input w.reported (own_of b old) (own_of b new) result
     × (other_of b new ≡ other_of b old)) walk.way
     (made.0 w.reported reported, made.1))
 

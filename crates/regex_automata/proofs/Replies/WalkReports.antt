@@ -13,7 +13,7 @@ use Rattle.regex_automata.specs.Replay.Histories.{Begun, History, start, stepped
 use Rattle.regex_automata.specs.Spans.Contracts.{IsStep}
 use Rattle.regex_automata.specs.Replay.Replies.{IsReply, IsOwnValueBy, IsStepOf, walk_fault, AreReplies}
 use Rattle.regex_automata.specs.Replay.Replies.{AreRepliesAfter}
-use Rattle.regex_automata.specs.Replay.Replies.{AreReportedFrom, report, reported_to, ReportWalks, dfa_of}
+use Rattle.regex_automata.specs.Replay.Replies.{AreReportedFrom, report, reported_to, ReportWalks, dfa_in}
 use Rattle.regex_automata.specs.declared.hybrid.regex.Regex.{Regex}
 use Rattle.regex_automata.specs.declared.replay.requests.Request.{Request}
 use Rattle.regex_automata.specs.declared.replay.requests.Request.TheVariants as request
@@ -114,7 +114,7 @@ step_of (y ∷ rs) h k found own =
 -- the walk `w` of the regex `r`: each Ok reply to its steps is a pair of this list, or none after the last
 module _
     (rs : List Regex) (k : ℕ) (w : Begun) (r : Regex) (of : slice_get rs w.regex ≡ Some r) (pairs : List Pair)
-    (names : (reported : ℕ) (found : Option HalfMatch) → IsStep w.way (dfa_of w.way r) w.input reported (Ok found)
+    (names : (reported : ℕ) (found : Option HalfMatch) → IsStep w.way (dfa_in w.way r) w.input reported (Ok found)
     → found ≡ half_nth pairs reported) where
   -- what is reported of a walk from where it stands now, which is the walk `w` at the end
   abbrev Reports : Option Begun → List (Option HalfMatch) → Type 0
@@ -133,9 +133,9 @@ module _
   same_step v x found (regex, way, input) at step =
       let same : x ≡ r = some_inj (sym at ∙ ap (slice_get rs) regex ∙ of) in
       names v.reported found
-      (subst (λ (y : Regex). IsStep w.way (dfa_of w.way y) w.input v.reported (Ok found)) same
-      (subst (λ (i : Input). IsStep w.way (dfa_of w.way x) i v.reported (Ok found)) input
-      (subst (λ b. IsStep b (dfa_of b x) v.input v.reported (Ok found)) way step)))
+      (subst (λ (y : Regex). IsStep w.way (dfa_in w.way y) w.input v.reported (Ok found)) same
+      (subst (λ (i : Input). IsStep w.way (dfa_in w.way x) i v.reported (Ok found)) input
+      (subst (λ b. IsStep b (dfa_in b x) v.input v.reported (Ok found)) way step)))
 
   over_own_step :
       (h : History) (found : Option HalfMatch) (steps : List (Option HalfMatch))

@@ -144,8 +144,11 @@ free_of p old new input e few (BackFails half found (long, r)) free =
     let within = l.0.1 in
     inl (search_memory Backward p.reverse (back input half) (known_of old.reverse) (known_of new.reverse) e
     (omega (arith, within, few))
-    (record { reach = back_reach p.reverse input half l.1 within free.reverse; supported = refl;
-    clears = free.reverse_clears }) r)
+    (record {
+      reach = back_reach p.reverse input half l.1 within free.reverse;
+      supported = refl;
+      clears = free.reverse_clears;
+    }) r)
 free_of p old new input e few (NoStart apart none) free = inr apart
 
 -- each error of a search

@@ -59,16 +59,20 @@ module _ (agree : AnswersAgree) (p : Regex) (input : Input) where
       (c : Cache) (half : Half) → Knows Forward p.forward (known_of c.forward) input
       → IsFound Forward p.forward input (Some half)
       → KnowsBack p (known_of c.reverse) input half → KnowsBoth p c input
-  knows_both c half knows found rest =
-      (knows, λ other f. subst (λ (h : Half). KnowsBack p (known_of c.reverse) input h) (same_half half other found f)
-      rest)
+  knows_both c half knows found rest = (
+    knows,
+    λ other f. subst (λ (h : Half). KnowsBack p (known_of c.reverse) input h) (same_half half other found f)
+        rest,
+  )
 
   pub knows_front :
       (c : Cache) → Knows Forward p.forward (known_of c.forward) input → IsFound Forward p.forward input None
       → KnowsBoth p c input
-  knows_front c knows found =
-      (knows, λ other f. absurd
-      (none_some (agree Forward p.forward p.forward input None (Some other) refl refl found f)))
+  knows_front c knows found = (
+    knows,
+    λ other f. absurd
+        (none_some (agree Forward p.forward p.forward input None (Some other) refl refl found f)),
+  )
 
 -- what the forward search found, with the start of the span that gave it
 pub front_some :

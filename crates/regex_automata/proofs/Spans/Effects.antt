@@ -87,9 +87,12 @@ tokens_turn m h end start first at next found more place place' token all effect
     subst (λ (xs : List Match). AreTokensSearched m h end start first new (xs ++ ts) error) (sym items)
     (subst (λ (xs : List Match). AreTokensSearched m h end start first new xs error)
     (sym (append_assoc found (t ∷ []) ts))
-    (all new (t ∷ ts) error
-    (next, record { token = token; is = refl; made = effect }, subst
-    (λ n. AreTokensSearched m h end n next new ts error) behind searched)))
+    (all new (t ∷ ts) error (
+      next,
+      record { token = token; is = refl; made = effect },
+      subst
+          (λ n. AreTokensSearched m h end n next new ts error) behind searched,
+    )))
 
 pub tokens_end :
     (m : Machine) (h : List ℕ) (end start : ℕ) (first at new : Cache) (found list : List Match) (place : ℕ)

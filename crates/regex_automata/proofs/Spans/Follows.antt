@@ -146,8 +146,11 @@ module _ (agree : AnswersAgree) (p : Regex) (front : SearchesFollow p.forward) (
     learned = λ nothing ok. knows_front agree p input new (f.learned nothing.0 ok) (none ok);
     known = λ knows. (
         let still = f.known knows.0 in (
-          (still.0, (grown_same p.reverse (known_of old.reverse) (known_of new.reverse) (ap known_of same)).idle
-          (ap (λ (v : CacheView). v.count) same)),
+          (
+            still.0,
+            (grown_same p.reverse (known_of old.reverse) (known_of new.reverse) (ap known_of same)).idle
+                (ap (λ (v : CacheView). v.count) same),
+          ),
           weaker error (λ e h. inl h) still.1,
         ));
     done = λ past. (f.done past, same);
@@ -164,7 +167,7 @@ module _ (agree : AnswersAgree) (p : Regex) (front : SearchesFollow p.forward) (
         let second = b.known (knows.1 both.half both.found) in (
           ((f.known knows.0).0, second.0),
           of_both p input both.half both.failed error IsOfGiven (λ none. inr refl)
-          (weaker both.failed (λ e h. inl h) second.1) both.told,
+              (weaker both.failed (λ e h. inl h) second.1) both.told,
         ));
     done = λ past. absurd (none_past p.forward input both.half both.found past);
   } where

@@ -18,9 +18,11 @@ module _ (Finds : Input → Option Match → Type 0) (input : Input) where
       (start : ℕ) (last : Option ℕ) (ms : List Match) (at : ℕ) (before : Option ℕ) (m : Match)
       → ComesTo Finds input start last ms at before → IsNextItem Finds input at before (Some m)
       → ComesTo Finds input start last (ms ++ m ∷ []) m.end (Some m.end)
-  comes_on start last [] at before m c next =
-      (subst (λ l. IsNextItem Finds input start l (Some m)) (sym c.1)
-      (subst (λ s. IsNextItem Finds input s before (Some m)) (sym c.0) next), (refl, refl))
+  comes_on start last [] at before m c next = (
+    subst (λ l. IsNextItem Finds input start l (Some m)) (sym c.1)
+        (subst (λ s. IsNextItem Finds input s before (Some m)) (sym c.0) next),
+    (refl, refl),
+  )
   comes_on start last (n ∷ ms) at before m c next = (c.0, comes_on n.end (Some n.end) ms at before m c.1 next)
 
   -- the last turn

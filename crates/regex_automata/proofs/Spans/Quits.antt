@@ -32,9 +32,11 @@ free_behind :
 free_behind m None byte n e = absurd (none_some e)
 free_behind m (Some b) byte n e =
     subst (λ v. is_quit m.quits v ≡ false) (some_inj e) (go (is_quit m.quits b) refl n) where
-  go : (v : Bool) → is_quit m.quits b ≡ v → ◌≡◌ {A = Option ℕ} (cond v (Some b) None) None → is_quit m.quits b ≡ false
-  go true q h = absurd (some_none h)
-  go false q h = q
+      go :
+          (v : Bool) → is_quit m.quits b ≡ v → ◌≡◌ {A = Option ℕ} (cond v (Some b) None) None
+          → is_quit m.quits b ≡ false
+      go true q h = absurd (some_none h)
+      go false q h = q
 
 -- the forward search met no quit byte up to its match
 front_clean :
@@ -100,19 +102,20 @@ pub back_free :
     → known.SearchFails Backward rev (back input half) old new (search.Match (QuitAt byte at)) → ⊥
 back_free law m rev old new input half byte at same few ahead within found f =
     go (f.tried f.passes (omega arith)).0.comes where
-  clean : MeetsNone (is_quit rev.quits) (reverse_tape input.haystack half.base half.offset) (half.offset - half.base)
-  clean =
-      subst (λ (q : List Bool). MeetsNone (is_quit q) (reverse_tape input.haystack half.base half.offset)
-      (half.offset - half.base)) same
-      (rest_clean law m input half few within found)
+      clean :
+          MeetsNone (is_quit rev.quits) (reverse_tape input.haystack half.base half.offset) (half.offset - half.base)
+      clean =
+          subst (λ (q : List Bool). MeetsNone (is_quit q) (reverse_tape input.haystack half.base half.offset)
+          (half.offset - half.base)) same
+          (rest_clean law m input half few within found)
 
-  go : (f.passes ≡ 0) ⊎ (Skips rev × (◌≡◌ {A = Anchored} Yes No)) → ⊥
-  go (inl z) =
-      let end : half.offset - f.passes ≡ half.offset = omega (arith, z) in
-      pass_free rev (back input half) f.mid new byte at ahead (omega (arith, few, within)) clean
-      (subst (λ n. known.PassFails Backward rev (record (back input half) { end = n }) f.mid new
-      (search.Match (QuitAt byte at))) end f.fails)
-  go (inr s) = yes_no s.1
+      go : (f.passes ≡ 0) ⊎ (Skips rev × (◌≡◌ {A = Anchored} Yes No)) → ⊥
+      go (inl z) =
+          let end : half.offset - f.passes ≡ half.offset = omega (arith, z) in
+          pass_free rev (back input half) f.mid new byte at ahead (omega (arith, few, within)) clean
+          (subst (λ n. known.PassFails Backward rev (record (back input half) { end = n }) f.mid new
+          (search.Match (QuitAt byte at))) end f.fails)
+      go (inr s) = yes_no s.1
 
 -- no event fails with the error of a regex whose two searches disagree
 event_pair : (m : Machine) (e : Event) (at : ℕ) (old new : Known) → known.EventFails m e at old new search.NotAPair → ⊥

@@ -49,20 +49,20 @@ module _ (way : Direction) (m : Machine) (input : Input) (pair : Pair)
   unreported j l false t e = absurd (false_true e)
   unreported j l true t e =
       go (first_reported m.nfa (match_kind_of m.config) input.anchored (tape_in way input) j) refl where
-    go :
-        (o : Option Pair) → first_reported m.nfa (match_kind_of m.config) input.anchored (tape_in way input) j ≡ o
-        → first_reported m.nfa (match_kind_of m.config) input.anchored (tape_in way input) j ≡ None
-    go None f = f
-    go (Some sooner) f =
-        let w = reported_within in
-        let stays : first_reported m.nfa (match_kind_of m.config) input.anchored (tape_in way input) (suc Last)
-        ≡ Some sooner =
-        first_holds (match_kind_of m.config) m.nfa input.anchored (tape_in way input) sooner j (suc Last)
-        (omega (arith, l, w)) f in
-        let same : pair ≡ sooner = some_inj (sym t ∙ stays) in
-        let b = first_below (match_kind_of m.config) m.nfa input.anchored (tape_in way input) sooner j f in
-        let p : pair.place ≡ sooner.place = ap (λ (v : Pair). v.place) same in
-        absurd (omega (arith, b.0, p, l))
+        go :
+            (o : Option Pair) → first_reported m.nfa (match_kind_of m.config) input.anchored (tape_in way input) j ≡ o
+            → first_reported m.nfa (match_kind_of m.config) input.anchored (tape_in way input) j ≡ None
+        go None f = f
+        go (Some sooner) f =
+            let w = reported_within in
+            let stays : first_reported m.nfa (match_kind_of m.config) input.anchored (tape_in way input) (suc Last)
+            ≡ Some sooner =
+            first_holds (match_kind_of m.config) m.nfa input.anchored (tape_in way input) sooner j (suc Last)
+            (omega (arith, l, w)) f in
+            let same : pair ≡ sooner = some_inj (sym t ∙ stays) in
+            let b = first_below (match_kind_of m.config) m.nfa input.anchored (tape_in way input) sooner j f in
+            let p : pair.place ≡ sooner.place = ap (λ (v : Pair). v.place) same in
+            absurd (omega (arith, b.0, p, l))
 
   -- and reads each unit up to that place
   pub reported_reads : (j : ℕ) → j ≤ pair.place → Reads way m input j

@@ -73,9 +73,11 @@ module _ (m : Machine) (input : Input) (whole : Skips m → ⊥) where
       × (is_some o ≡ is_some answer)
   whole_reported k None z l e = (None, (k, only_try k z, SpanReportsNone (sym e)), refl)
   whole_reported k (Some pair) z l e = (
-    Some (record
-    { pattern = pair.pattern; offset = offset_in Forward (later Forward k (in_full input)) pair.place;
-    base = input.start + k }),
+    Some (record {
+      pattern = pair.pattern;
+      offset = offset_in Forward (later Forward k (in_full input)) pair.place;
+      base = input.start + k;
+    }),
     (
       k,
       only_try k z,
@@ -152,9 +154,12 @@ truth_found m input asked is found truth f e =
 pub truth_reported :
     (m : Machine) (input asked : Input) → IsAsked m input asked → (found : Option HalfMatch) (truth : Bool)
     → WithoutBase (IsFound Forward m asked) found → truth ≡ is_some found → IsMatchReported m input truth
-truth_reported m input asked (inl a) found truth f e =
-    (f.0, subst (λ (i : Input). IsReported Forward m.nfa (match_kind_of m.config) i f.0) a.1
-    (found_reported Forward m asked f.0 f.1), e ∙ same_some found f.0 f.2)
+truth_reported m input asked (inl a) found truth f e = (
+  f.0,
+  subst (λ (i : Input). IsReported Forward m.nfa (match_kind_of m.config) i f.0) a.1
+      (found_reported Forward m asked f.0 f.1),
+  e ∙ same_some found f.0 f.2,
+)
 truth_reported m input asked (inr a) found truth f e =
     let w =
     match_reported m input a.0 f.0

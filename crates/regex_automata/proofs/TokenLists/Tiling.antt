@@ -68,8 +68,14 @@ module _ (m : Machine) (h : List ℕ) (end : ℕ) where
   token_is_given offset t answer ahead returned is bytes =
       let item : IsItemAt m h end offset (Ok (match_of t)) = (ahead, (answer, returned, is)) in
       let reports = token_is offset (match_of t) item in
-      record { item = item; bytes = bytes; start = reports.1; past = reports.2; within = reports.3;
-          pattern = reports.0.0.within.pattern }
+      record {
+        item = item;
+        bytes = bytes;
+        start = reports.1;
+        past = reports.2;
+        within = reports.3;
+        pattern = reports.0.0.within.pattern;
+      }
 
   -- no token is no answer, or one at its offset
   abbrev pub ReportsNone : ℕ → Type 0
@@ -83,8 +89,12 @@ module _ (m : Machine) (h : List ℕ) (end : ℕ) where
   at_place offset half upto returned =
       let low = (half_in offset half returned).from in
       let same : half.offset ≡ offset = omega (arith, low, upto) in
-      inr (half.pattern, subst
-      (λ n. SearchReturns m h end offset (Ok (Some (record { pattern = half.pattern; offset = n })))) same returned)
+      inr (
+        half.pattern,
+        subst
+            (λ n. SearchReturns m h end offset (Ok (Some (record { pattern = half.pattern; offset = n })))) same
+            returned,
+      )
 
   no_token_is :
       (offset at : ℕ) → IsItemAt m h end offset (Err (NoToken at)) → (at ≡ offset) × (offset < end) × ReportsNone offset
@@ -97,10 +107,10 @@ module _ (m : Machine) (h : List ℕ) (end : ℕ) where
         (NoToken offset)) e))
     go false e = (
       same_place at offset
-      (same_err
-      (is ∙ ap
-      (λ (b : Bool). if b then Ok (record { pattern = half.pattern; start = offset; end = half.offset }) else Err
-      (NoToken offset)) e)),
+          (same_err
+          (is ∙ ap
+          (λ (b : Bool). if b then Ok (record { pattern = half.pattern; start = offset; end = half.offset }) else Err
+          (NoToken offset)) e)),
       ahead,
       at_place offset half (ltb-false offset half.offset e) returned,
     )
@@ -189,7 +199,7 @@ module _ (m : Machine) (h : List ℕ) (end : ℕ) where
       let rest = begins t.end ts error g.1 in (
         rest.0,
         sym (append_assoc (match_bytes h t) (joined h ts) rest.0
-        ∙ token_then offset t (joined h ts ++ rest.0) n (sym rest.1)),
+            ∙ token_then offset t (joined h ts ++ rest.0) n (sym rest.1)),
       )
 
   -- and without an error are all of them

@@ -25,7 +25,7 @@ use Rattle.regex_automata.specs.Spans.Outcomes.{FindsMatch}
 use Rattle.regex_automata.specs.Spans.Contracts.{ArePatternsReported, IsTruthReported, empty_set}
 use Rattle.regex_automata.specs.Regexes.Caches.{AreCachesOf, AreFresh, AreKnown}
 use Rattle.regex_automata.specs.Spans.Runs.{IsNextRun, IsSpanRun, IsTruthRun}
-use Rattle.regex_automata.specs.Replay.Replies.{OnHalf, OnPatterns, OnSpan, OnSpans, OnTokens, OnTruth, dfa_of}
+use Rattle.regex_automata.specs.Replay.Replies.{OnHalf, OnPatterns, OnSpan, OnSpans, OnTokens, OnTruth, dfa_in}
 use Rattle.regex_automata.specs.Tokens.{AreTokensReported, IsTokenRun, match_of}
 use Rattle.regex_automata.specs.declared.hybrid.regex.Regex.{Regex}
 use Rattle.regex_automata.specs.declared.hybrid.regex.caches.Cache.{Cache}
@@ -136,7 +136,7 @@ other_of Backward c = c.forward
 abbrev pub IsWalkStepped : Regex → Option Begun → (old new : Cache) → Result (Option HalfMatch) SearchError → Type 0
 IsWalkStepped r None old new result = ⊥
 IsWalkStepped r (Some w) old new result =
-    IsCalled w.way (dfa_of w.way r) w.input w.reported
+    IsCalled w.way (dfa_in w.way r) w.input w.reported
     (own_of w.way old) (own_of w.way new)
     result
     × (other_of w.way new ≡ other_of w.way old)

@@ -12,7 +12,7 @@ use Rattle.regex_automata.specs.Replay.Histories.{Begun, History, after}
 use Rattle.regex_automata.specs.Spans.Contracts.{IsStep}
 use Rattle.regex_automata.specs.Regexes.Caches.{AreCachesOf}
 use Rattle.regex_automata.specs.Replay.Caches.{HasAnswered, IsRequestEffect, IsCalled, other_of, own_of}
-use Rattle.regex_automata.specs.Replay.Replies.{IsReply, dfa_of}
+use Rattle.regex_automata.specs.Replay.Replies.{IsReply, dfa_in}
 use Rattle.regex_automata.specs.declared.hybrid.regex.Regex.{Regex}
 use Rattle.regex_automata.specs.declared.hybrid.regex.caches.Cache.{Cache}
 use Rattle.regex_automata.specs.declared.replay.requests.Reply.{Reply}
@@ -38,11 +38,11 @@ MakesCall way m input w old new result =
 
 -- a walk of this regex has answered so many calls
 abbrev pub HasAnsweredBy : Regex → KeptWalk → ℕ → Type 0
-HasAnsweredBy r kept k = HasAnswered kept.way (dfa_of kept.way r) kept.input kept.state k
+HasAnsweredBy r kept k = HasAnswered kept.way (dfa_in kept.way r) kept.input kept.state k
 
 -- what its next call returns then
 abbrev pub IsStepFrom : Regex → KeptWalk → ℕ → Result (Option HalfMatch) SearchError → Type 0
-IsStepFrom r kept k result = IsStep kept.way (dfa_of kept.way r) kept.input k result
+IsStepFrom r kept k result = IsStep kept.way (dfa_in kept.way r) kept.input k result
 
 -- one more call of it
 pub record MakesOneCall (r : Regex) (old new : KeptWalk) (result : Result (Option HalfMatch) SearchError) : Type 0 where
@@ -72,7 +72,7 @@ GoesAt r number olds news result =
 -- what it does to the caches: to that of its direction what its call does, and nothing to the other
 abbrev pub MakesWalkStep : Regex → KeptWalk → (old new : Cache) → Result (Option HalfMatch) SearchError → Type 0
 MakesWalkStep r kept old new result =
-    MakesCall kept.way (dfa_of kept.way r) kept.input kept.state (own_of kept.way old)
+    MakesCall kept.way (dfa_in kept.way r) kept.input kept.state (own_of kept.way old)
     (own_of kept.way new) result
     × (other_of kept.way new ≡ other_of kept.way old)
 

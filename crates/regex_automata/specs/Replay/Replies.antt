@@ -82,14 +82,14 @@ OnDone P (reply.Done result) = P result
 OnDone P other = ⊥
 
 -- the DFA that makes a walk
-abbrev pub dfa_of : Direction → Regex → Machine
-dfa_of Forward r = r.forward
-dfa_of Backward r = r.reverse
+abbrev pub dfa_in : Direction → Regex → Machine
+dfa_in Forward r = r.forward
+dfa_in Backward r = r.reverse
 
 -- the step of a walk
 abbrev pub IsStepOf : Regex → Option Begun → Result (Option HalfMatch) SearchError → Type 0
 IsStepOf r None result = ⊥
-IsStepOf r (Some w) result = IsStep w.way (dfa_of w.way r) w.input w.reported result
+IsStepOf r (Some w) result = IsStep w.way (dfa_in w.way r) w.input w.reported result
 
 -- a walk takes the next number
 abbrev pub IsNumber : ℕ → Result ℕ SearchError → Type 0
@@ -167,4 +167,4 @@ abbrev pub ReportWalks : List Regex → List Request → List Reply → Type 0
 ReportWalks regexes script replies =
     (k : ℕ) (w : Begun) (r : Regex)
     → slice_get (history start script replies).walks k ≡ Some w → slice_get regexes w.regex ≡ Some r
-    → ReportWalk w.way (dfa_of w.way r) w.input (reported_to k script replies)
+    → ReportWalk w.way (dfa_in w.way r) w.input (reported_to k script replies)

@@ -3,7 +3,7 @@ ghost use Rattle.std.specs.Prelude.{ℕ, ◌≡◌, ◌<◌, length};
 ghost use Rattle.automata_base.specs.declared.util.search.Direction.TheVariants.{Forward, Backward};
 ghost use Rattle.automata_hybrid.specs.Cache.Caches.{IsCacheOf};
 ghost use Rattle.regex_automata.specs.Regexes.Caches.{AreCachesOf};
-ghost use Rattle.regex_automata.specs.Replay.Replies.{dfa_of};
+ghost use Rattle.regex_automata.specs.Replay.Replies.{dfa_in};
 ghost use Rattle.regex_automata.specs.Replay.Players.{GoesAt, HasAnsweredBy, IsCall, IsWalkAt};
 ghost use Rattle.regex_automata.specs.Replay.Players.{MakesCall, MakesStepAt};
 ghost use Rattle.regex_automata.specs.Replay.Caches.{HasAnswered, other_of, own_of};
@@ -64,10 +64,10 @@ fn step(
     state: &mut OverlappingState,
 ) -> Result<Option<HalfMatch>, SearchError>
     requires of { AreCachesOf cache.old regex.now }
-    requires reported { (k : ℕ) × HasAnswered way (dfa_of way regex.now) input.now state.old k }
+    requires reported { (k : ℕ) × HasAnswered way (dfa_in way regex.now) input.now state.old k }
     ensures of { AreCachesOf cache.new regex.now }
-    ensures call { IsCall way (dfa_of way regex.now) input.now state.old state.new result }
-    ensures made { MakesCall way (dfa_of way regex.now) input.now state.old
+    ensures call { IsCall way (dfa_in way regex.now) input.now state.old state.new result }
+    ensures made { MakesCall way (dfa_in way regex.now) input.now state.old
         (own_of way cache.old) (own_of way cache.new) result }
     ensures same { other_of way cache.new ≡ other_of way cache.old }
 {

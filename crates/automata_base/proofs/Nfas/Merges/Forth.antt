@@ -234,7 +234,8 @@ module _ (n m : Nfa) (anchored : ℕ) (lists : List (List ℕ)) (t : Tape)
               inr (
                 far,
                 subst
-                    (λ v. Turns n m lists t (Corresponds n m lists t c.1) i v (stood_for (length n.nodes) lists y) o path c.0)
+                    (λ v. Turns n m lists t (Corresponds n m lists t c.1) i v (stood_for (length n.nodes) lists y) o
+                    path c.0)
                     (sym reads.1) c.2,
               ),
             ),

@@ -17,15 +17,6 @@ use Rattle.automata_hybrid.specs.Cache.Stores.{Stored}
 use Rattle.automata_hybrid.specs.Private.Cache.Usage.{GivesUpInStore}
 use Rattle.automata_hybrid.specs.Private.Cache.Table.{IsKnownState}
 
--- why the state of a walk is not put back, which the cache does not have
-pub data IsPutBackError (c : Stored) (q : Powerset) (given_up_at : ℕ) (e : SearchError) : Type 0 where
-  -- there is room for it, or the cache may be cleared, and memory runs out
-  RunsOut :
-      (IsKnownState c.table q → ⊥) → (GivesUpInStore c q → ⊥) → e ≡ search.OutOfMemory
-      → IsPutBackError c q given_up_at e
-  -- there is no room for it, and the cache may not be cleared
-  HasNoRoom : GivesUpInStore c q → e ≡ search.Match (GaveUp given_up_at) → IsPutBackError c q given_up_at e
-
 -- from its first `from` units a walk went on, without a quit byte, to a state that reports patterns at a place that is
 -- not skipped, and the ID names it
 pub record Arrives (way : Direction) (m : Machine) (t : Rows) (input : Input) (from id units : ℕ) : Type 0 where

@@ -29,12 +29,12 @@ loop-request-preserved c =
         after h q r,
         played,
         completes_turn regexes c.args.script.now c.loop-request.replies.items c.push.new.self.items h
-        c.loop-request.request-index q r
+            c.loop-request.request-index q r
             c.loop-request-test.true c.request-item.is all
             (subst (λ (rs : List Regex). IsReply rs h q r) inv.regexes (c.answer-reply.ensures.reply h a))
             c.in_ok-push.ensures.items,
         continues_turn regexes c.args.script.now c.args.player.cache c.loop-request.replies.items c.push.new.self.items
-        h c.loop-request.player.cache c.answer-reply.new.self.cache c.loop-request.request-index q r
+            h c.loop-request.player.cache c.answer-reply.new.self.cache c.loop-request.request-index q r
             c.loop-request-test.true c.request-item.is made
             (of_current regexes (after h q r) next after_it.regex.now
             (subst (λ (rs : List Regex). slice_get rs (after h q r).current ≡ Some after_it.regex.now) same

@@ -11,7 +11,7 @@ returns c = λ case_insensitive res is.
     let p = c.in_ok-push_lines.ensures in
     let dfa = c.in_ok-found.ensures.same in (
       grep_kept case_insensitive res c.args.self.now c.push_lines.new.self
-      (ap (λ (s : LineSearcher). s.dfa) p.same.1 ∙ dfa) p.same.0 p.view is,
+          (ap (λ (s : LineSearcher). s.dfa) p.same.1 ∙ dfa) p.same.0 p.view is,
       record {
         found = map found_line c.as_slice.result.now;
         matching =

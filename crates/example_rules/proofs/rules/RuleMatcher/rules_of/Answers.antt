@@ -15,10 +15,15 @@ names m bytes old new law kind haystack empty room which = record {
   rules = λ rule. (
       let said =
       law.sets (record_input bytes) m.nfa.start_unanchored old new kind refl refl (haystack, omega arith) (omega arith)
-      which rule in
-      (λ h. matches rule (said.0 h), λ h. said.1
-      (inr (subst (λ n. rule < n) (sym room)
-      (law.own (record_input bytes) m.nfa.start_unanchored rule refl (haystack, omega arith) (omega arith) h), h)))
+      which rule in (
+        λ h. matches rule (said.0 h),
+        λ h. said.1
+            (inr (
+              subst (λ n. rule < n) (sym room)
+                  (law.own (record_input bytes) m.nfa.start_unanchored rule refl (haystack, omega arith) (omega arith) h),
+              h,
+            )),
+      )
       );
 } where
   matches : (rule : ℕ) → In rule (members old) ⊎ ((rule < length old) × Matches m bytes rule) → Matches m bytes rule

@@ -3,6 +3,9 @@ use Rattle.patterns.proofs.set.RegexSet.new.Goals as goal
 
 pub returns-in-Ok-clause-meant : goal.returns-in-Ok-clause-meant
 returns-in-Ok-clause-meant c =
-    let n = c.in_ok-nfa.ensures.meant in
-    (n.0, n.1, dfa_is c.args.options.now n.0 c.in_ok-nfa.nfa c.in-Ok.dfa n.2 c.in-Ok.ensures.keeps
-    c.in-Ok.ensures.built)
+    let n = c.in_ok-nfa.ensures.meant in (
+      n.0,
+      n.1,
+      dfa_is c.args.options.now n.0 c.in_ok-nfa.nfa c.in-Ok.dfa n.2 c.in-Ok.ensures.keeps
+          c.in-Ok.ensures.built,
+    )

@@ -44,9 +44,11 @@ returns-in-Ok-list_members-clause-returned c =
       unsupported = λ u. (let reported = s.unsupported u in (still reported.1, inl (error ∙ ap result_err reported.0)));
       free = λ f. subst (λ (e : Option SearchError). IfSome e IsMemory) (sym error) (memory_where reported (s.free f));
       done = λ past. (
-          let none = s.done past in
-          (still none.1, subst (λ (e : Option SearchError). IfSome e IsMemory) (sym error)
-          (none_where reported none.0)));
+          let none = s.done past in (
+            still none.1,
+            subst (λ (e : Option SearchError). IfSome e IsMemory) (sym error)
+                (none_where reported none.0),
+          ));
     }
 
 pub returns-clause-returned : goal.returns-clause-returned

@@ -86,9 +86,14 @@ returns-in_default-clause-made c =
     let new = c.next.new.self.cache.now in
     tokens_end p.forward input.haystack input.end input.start c.args.cache.now s.cache.now new c.loop-item.found.items
     c.push.new.self.items s.offset (Some (Search search.OutOfMemory)) i.made
-    (inr (refl,
-    (c.in-Ok.token, token_made_turn s.regex.now p s.haystack.now input.haystack s.end input.end s.offset s.cache.now new
-    (Some (Ok c.in-Ok.token)) i.regex i.haystack i.end (steps.5, steps.6))))
+    (inr (
+      refl,
+      (
+        c.in-Ok.token,
+        token_made_turn s.regex.now p s.haystack.now input.haystack s.end input.end s.offset s.cache.now new
+            (Some (Ok c.in-Ok.token)) i.regex i.haystack i.end (steps.5, steps.6),
+      ),
+    ))
     c.in_default.ensures.items)
 
 pub returns-in-Err-clause-made : goal.returns-in-Err-clause-made

@@ -63,7 +63,8 @@ returns-clause-search c =
     nil_from_length c.pop.new.self.items (sym c.pop.new.self.ok.0 ∙ c.in_default.ensures.cases.1) in (
       after,
       subst
-          (λ z. IsUnderSearch (length c.args.states.now) (targets_of Epsilon c.args.states.now) c.loop-frame.visited.items
+          (λ z. IsUnderSearch (length c.args.states.now) (targets_of Epsilon c.args.states.now)
+          c.loop-frame.visited.items
           c.loop-frame.finished.items z) (ap reverse none) c.loop-frame.invariant.search,
     )
 

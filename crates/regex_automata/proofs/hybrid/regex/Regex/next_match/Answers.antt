@@ -31,7 +31,7 @@ returns-in_err-found-clause-effect c =
     record {
       run = inl (
         subst (IsSpanRun c.args.self.now c.args.input.now c.args.cache.now c.try_search.new.cache) (sym error)
-        c.in_err-found.ensures.effect,
+            c.in_err-found.ensures.effect,
         λ ok. absurd (some_none (sym error ∙ ok)),
       );
     }
@@ -127,7 +127,7 @@ returns-clause-effect c =
           c.try_search.new.cache,
           c.in_ok-found.ensures.effect,
           subst (λ (i : Input). IsSpanRun c.args.self.now i c.try_search.new.cache c.try_search-2.new.cache
-          (result_err c.try_search-2.result)) rest c.try_search-2.ensures.effect,
+              (result_err c.try_search-2.result)) rest c.try_search-2.ensures.effect,
         ),
       );
     }

@@ -39,7 +39,7 @@ returns-in_err-front-clause-effect c =
     record {
       run = inl (
         subst (IsSearchRun Forward c.args.self.now.forward c.args.input.now (known_of c.args.cache.now.forward)
-        (known_of c.try_search_fwd_base.new.cache)) (sym error) c.in_err-front.ensures.effect,
+            (known_of c.try_search_fwd_base.new.cache)) (sym error) c.in_err-front.ensures.effect,
         refl,
         λ ok. absurd (some_none (sym error ∙ ok)),
       );
@@ -63,8 +63,12 @@ pub returns-in_default-clause-effect : goal.returns-in_default-clause-effect
 returns-in_default-clause-effect c =
     record {
       run =
-          inl (c.in_ok-front.ensures.effect, refl, λ ok. front_none c.args.self.now.forward c.args.input.now
-          c.in_ok-front.field-0 c.in_ok-front.ensures.found c.in_default.is);
+          inl (
+            c.in_ok-front.ensures.effect,
+            refl,
+            λ ok. front_none c.args.self.now.forward c.args.input.now
+                c.in_ok-front.field-0 c.in_ok-front.ensures.found c.in_default.is,
+          );
     }
 
 pub find_start-requires-clause-of : goal.find_start-requires-clause-of
@@ -128,9 +132,13 @@ returns-in_default-2-clause-effect c =
         failed = None;
         back = c.in_ok-start.ensures.effect;
         told =
-            inr (refl, subst
-            (IsStartFound c.args.self.now c.args.input.now (with_base c.in-Some.front.0 c.in-Some.front.1))
-            c.in_default-2.is c.in_ok-start.ensures.found, refl);
+            inr (
+              refl,
+              subst
+                  (IsStartFound c.args.self.now c.args.input.now (with_base c.in-Some.front.0 c.in-Some.front.1))
+                  c.in_default-2.is c.in_ok-start.ensures.found,
+              refl,
+            );
       });
     }
 

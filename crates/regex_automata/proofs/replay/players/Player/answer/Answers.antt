@@ -45,14 +45,13 @@ returns-in-Which-clause-made c = λ h a.
     let next = c.patterns_below-found.new.cache in
     let new : Cache = record { forward = next; reverse = s.cache.reverse } in
     subst (λ (q : Request). IsRequestEffect s.regexes.now h q answer s.cache new) (sym c.in-Which.is)
-    (is_made s.regexes.now h (request.Which c.in-Which.capacity c.in-Which.input) s.cache new answer s.regex.now a.regex
-    (
+    (is_made s.regexes.now h (request.Which c.in-Which.capacity c.in-Which.input) s.cache new answer s.regex.now a.regex (
       (
         λ none. subst (λ (m : Machine). ArePatternsReported m c.in-Which.input c.in-Which.capacity found.0.items)
-        c.forward-in-Which.ensures
+            c.forward-in-Which.ensures
             (c.patterns_below-found.ensures.found none),
         subst (λ (m : Machine). ArePatternsSearched m c.in-Which.input c.in-Which.capacity s.cache.forward next
-        found.0.items found.1) c.forward-in-Which.ensures
+            found.0.items found.1) c.forward-in-Which.ensures
             (subst (λ (v : CacheView). ArePatternsSearched c.forward-in-Which.result.now c.in-Which.input
             c.in-Which.capacity v next found.0.items found.1) c.forward_mut-in-Which.ensures.value
             c.patterns_below-found.ensures.made),

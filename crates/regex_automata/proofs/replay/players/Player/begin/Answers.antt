@@ -2,7 +2,7 @@ use Rattle.std.proofs.Common.{refl, sym, subst, ◌∙◌, List, ◌++◌, ◌�
 use Rattle.regex_automata.proofs.Replies.Histories.{is_own}
 use Rattle.regex_automata.proofs.Replies.WalkCalls.{fresh_answered}
 use Rattle.regex_automata.proofs.Replies.KeptWalks.{walks_push, length-walks}
-use Rattle.regex_automata.specs.Replay.Replies.{dfa_of}
+use Rattle.regex_automata.specs.Replay.Replies.{dfa_in}
 use Rattle.regex_automata.specs.Replay.Players.{AreWalks}
 use Rattle.regex_automata.specs.declared.replay.walks.KeptWalk.{KeptWalk}
 use Rattle.regex_automata.proofs.replay.players.Player.begin.Goals as goal
@@ -22,6 +22,11 @@ returns-clause-at c = λ h a. record {
       (h.walks ++ record { regex = h.current; way = c.args.way; input = c.args.input.now; reported = 0 } ∷ []) ks)
       (sym c.in-Ok.ensures.items)
       (walks_push c.args.self.now.regexes.now h.walks c.args.self.now.walks.items _ _ a.walks
-      (record { regex = a.current; way = refl; input = c.copied.ensures; reported = λ r at. fresh_answered c.args.way
-      (dfa_of c.args.way r) c.copied.result c.start.result c.start.ensures }));
+      (record {
+        regex = a.current;
+        way = refl;
+        input = c.copied.ensures;
+        reported = λ r at. fresh_answered c.args.way
+            (dfa_in c.args.way r) c.copied.result c.start.result c.start.ensures;
+      }));
 }

@@ -18,7 +18,7 @@ returns-in-Ok-Some-clause-steps c =
     (some_of c.in-Ok-Some.field-0 c.in-Ok-Some.found (GoesPast s.regex.now c.input-input.result s.last)
     c.in-Ok-Some.ensures.goes_on c.in-Ok-Some.field-0-is) in (
       gives_match s.regex.now now (from c.end-self.result now) s.last s.ended c.in-Ok-Some.found c.end-self.result
-      c.end.result c.if-self.false
+          c.end.result c.if-self.false
           (subst (λ (i : Input). IsNextMatch s.regex.now i s.last (Some c.in-Ok-Some.found)) c.input-input.ensures
           (subst (IsNextMatch s.regex.now c.input-input.result s.last) c.in-Ok-Some.field-0-is
           c.in-Ok-Some.ensures.next))
@@ -26,10 +26,10 @@ returns-in-Ok-Some-clause-steps c =
       refl,
       refl,
       item_run s.regex.now c.input-input.result now s.last s.ended s.cache.now c.next_match.new.cache
-      (Some (Ok c.in-Ok-Some.found)) c.if-self.false c.input-input.ensures
+          (Some (Ok c.in-Ok-Some.found)) c.if-self.false c.input-input.ensures
           c.in-Ok-Some.ensures.effect,
       reports_found s.regex.now c.input-input.result now s.ended _ (Some (Ok c.in-Ok-Some.found)) c.input-input.ensures
-      c.in-Ok-Some.ensures.unsupported,
+          c.in-Ok-Some.ensures.unsupported,
       refl,
       lies_in_haystack s.regex.now now c.in-Ok-Some.found goes.0 s.within.1,
     )
@@ -44,8 +44,12 @@ returns-in-Ok-Some-clause-goes c =
     c.in-Ok-Some.ensures.goes_on c.in-Ok-Some.field-0-is) in
     record {
       on =
-          λ _. (tt, tt, fewer_left s.regex.now now (from c.end-self.result now) s.last s.ended c.in-Ok-Some.found
-          c.end-self.result c.end.result c.if-self.false refl c.end-self.ensures.end c.end.ensures.end goes);
+          λ _. (
+            tt,
+            tt,
+            fewer_left s.regex.now now (from c.end-self.result now) s.last s.ended c.in-Ok-Some.found
+                c.end-self.result c.end.result c.if-self.false refl c.end-self.ensures.end c.end.ensures.end goes,
+          );
       keeps = tt;
       rests = λ _. tt;
     }
@@ -58,10 +62,10 @@ returns-in-Err-clause-steps c =
       refl,
       refl,
       item_run s.regex.now c.input-input.result now s.last s.ended s.cache.now c.next_match.new.cache
-      (Some (Err c.in-Err.error)) c.if-self.false c.input-input.ensures
+          (Some (Err c.in-Err.error)) c.if-self.false c.input-input.ensures
           c.in-Err.ensures.effect,
       reports_error s.regex.now c.input-input.result now s.ended c.in-Err.error c.input-input.ensures
-      c.in-Err.ensures.unsupported,
+          c.in-Err.ensures.unsupported,
       refl,
       tt,
     )
@@ -84,10 +88,10 @@ returns-in-Ok-None-clause-steps c =
       refl,
       refl,
       item_run s.regex.now c.input-input.result now s.last s.ended s.cache.now c.next_match.new.cache None
-      c.if-self.false c.input-input.ensures
+          c.if-self.false c.input-input.ensures
           c.in-Ok-None.ensures.effect,
       reports_found s.regex.now c.input-input.result now s.ended _ None c.input-input.ensures
-      c.in-Ok-None.ensures.unsupported,
+          c.in-Ok-None.ensures.unsupported,
       refl,
       tt,
     )
