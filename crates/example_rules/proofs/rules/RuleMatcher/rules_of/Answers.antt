@@ -1,5 +1,6 @@
 use Rattle.std.proofs.Common.{◌≡◌, ◌∙◌, ◌<◌, ◌⊎◌, arith, ℕ, Bool, false, List, [], length, inl, inr, refl, ap, subst}
 use Rattle.std.proofs.Common.{sym}
+use Rattle.std.specs.Prelude.{◌↔◌}
 use Rattle.std.proofs.lemmas.List.{length-replicate}
 use Rattle.regex_automata.specs.Promises.{In, Input, IsHaystack, JoinsReported, KindAll, Machine, SetsHaveMatching}
 use Rattle.regex_automata.specs.Promises.{match_kind_of, members}
@@ -11,24 +12,25 @@ names :
     (m : Machine) (bytes : List ℕ) (old new : List Bool)
     → SetsHaveMatching m → match_kind_of m.config ≡ KindAll → IsHaystack bytes → members old ≡ []
     → length old ≡ length m.nfa.start_pattern → JoinsReported m (record_input bytes) old new → IsNamed m bytes new
-names m bytes old new law kind haystack empty room which = record {
-  rules = λ rule. (
-      let said =
+names m bytes old new law kind haystack empty room which = record { rules = λ rule. (there rule, back rule) } where
+  said : (rule : ℕ) → In rule (members new) ↔ (In rule (members old) ⊎ ((rule < length old) × Matches m bytes rule))
+  said rule =
       law.sets (record_input bytes) m.nfa.start_unanchored old new kind refl refl (haystack, omega arith) (omega arith)
-      which rule in (
-        λ h. matches rule (said.0 h),
-        λ h. said.1
-            (inr (
-              subst (λ n. rule < n) (sym room)
-                  (law.own (record_input bytes) m.nfa.start_unanchored rule refl (haystack, omega arith) (omega arith) h),
-              h,
-            )),
-      )
-      );
-} where
+      which rule
+
+  own : (rule : ℕ) → Matches m bytes rule → rule < length m.nfa.start_pattern
+  own rule h =
+      law.own (record_input bytes) m.nfa.start_unanchored rule refl (haystack, omega arith) (omega arith) h
+
   matches : (rule : ℕ) → In rule (members old) ⊎ ((rule < length old) × Matches m bytes rule) → Matches m bytes rule
   matches rule (inl h) = absurd (subst (In rule) empty h)
   matches rule (inr (l, h)) = h
+
+  there : (rule : ℕ) → In rule (members new) → Matches m bytes rule
+  there rule h = matches rule ((said rule).0 h)
+
+  back : (rule : ℕ) → Matches m bytes rule → In rule (members new)
+  back rule h = (said rule).1 (inr (subst (λ n. rule < n) (sym room) (own rule h), h))
 
 pub returns-clause-named : goal.returns-clause-named
 returns-clause-named c =

@@ -44,8 +44,9 @@ returns-in-Which-clause-made c = λ h a.
     let found = c.patterns_below-found.result in
     let next = c.patterns_below-found.new.cache in
     let new : Cache = record { forward = next; reverse = s.cache.reverse } in
+    let asked : Request = request.Which c.in-Which.capacity c.in-Which.input in
     subst (λ (q : Request). IsRequestEffect s.regexes.now h q answer s.cache new) (sym c.in-Which.is)
-    (is_made s.regexes.now h (request.Which c.in-Which.capacity c.in-Which.input) s.cache new answer s.regex.now a.regex (
+    (is_made s.regexes.now h asked s.cache new answer s.regex.now a.regex (
       (
         λ none. subst (λ (m : Machine). ArePatternsReported m c.in-Which.input c.in-Which.capacity found.0.items)
             c.forward-in-Which.ensures
