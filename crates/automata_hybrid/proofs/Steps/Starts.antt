@@ -18,7 +18,8 @@ use Rattle.automata_hybrid.specs.Cache.Stores.{Stored}
 use Rattle.automata_hybrid.specs.Private.Cache.Stores.{KeepsStarts, IsKnownStart, with_start_in_store}
 use Rattle.automata_hybrid.specs.Private.Cache.Usage.{cleared_in_store}
 use Rattle.automata_hybrid.specs.Private.Cache.Changes.{IsStarted, StartsAdded, StartsKnown, AddsRow}
-use Rattle.automata_hybrid.specs.Cache.Caches.{CacheView, HoldsRow, IsCacheOf, counted_in_store, with_store}
+use Rattle.automata_hybrid.specs.Cache.Caches.{CacheView, HoldsRow, IsCacheOf, with_store}
+use Rattle.automata_hybrid.specs.Private.Cache.Caches.{counted_in_store}
 use Rattle.automata_hybrid.proofs.Calls.Events.{MakesStart}
 use Rattle.automata_hybrid.specs.Steps.Starts.{IsStartAnswer, MayStart, quit_behind, known_start, start_row}
 use Rattle.automata_hybrid.specs.Private.Steps.Starts.{IsStartSlot}

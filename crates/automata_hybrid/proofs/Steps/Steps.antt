@@ -12,7 +12,8 @@ use Rattle.automata_hybrid.specs.declared.cache.progress.Searched.{Searched}
 use Rattle.automata_hybrid.specs.Private.Cache.Stores.{KeepsStarts, IsKnownTransition, with_next}
 use Rattle.automata_hybrid.specs.Private.Cache.Changes.{IsComputed, IsStateAdded, WritesAdded, WritesKnown}
 use Rattle.automata_hybrid.specs.Private.Cache.Changes.{cleared_saving_in_store, AddsNext}
-use Rattle.automata_hybrid.specs.Cache.Caches.{CacheView, HoldsRow, IsCacheOf, counted_in_store, with_store}
+use Rattle.automata_hybrid.specs.Cache.Caches.{CacheView, HoldsRow, IsCacheOf, with_store}
+use Rattle.automata_hybrid.specs.Private.Cache.Caches.{counted_in_store}
 use Rattle.automata_hybrid.specs.Cache.Ids.{fixed_from, quit_id, unknown_id}
 use Rattle.automata_hybrid.specs.Machines.Machine.{Machine, quits_on, unit_class}
 use Rattle.automata_hybrid.specs.Calls.Events.{Step}

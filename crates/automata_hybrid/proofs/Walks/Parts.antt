@@ -31,7 +31,7 @@ use Rattle.automata_hybrid.specs.Known.Walks.{with_row_back}
 use Rattle.automata_hybrid.specs.Machines.Machine.{Machine}
 use Rattle.automata_hybrid.specs.Machines.StartSlots.{supports}
 use Rattle.automata_hybrid.specs.Private.Searches.PassState.{step_error}
-use Rattle.automata_hybrid.specs.Private.Walks.Answers.{FindsNone, GoesOn, ReadsMore, ReportsOneMore}
+use Rattle.automata_hybrid.specs.Private.Walks.Answers.{FindsNone, CallGoesOn, ReadsMore, ReportsOneMore}
 use Rattle.automata_hybrid.specs.Private.Walks.Parts.{IsCallAnswer, IsCallResult, IsResumeAnswer}
 use Rattle.automata_hybrid.specs.Private.Walks.State.{Holds, HoldsNone, IsHeldAt, IsHeldItself, keeping_of}
 use Rattle.automata_hybrid.specs.Searches.Contracts.{IsUnsupported, unsupported_error}
@@ -84,7 +84,7 @@ supported_call way m input walk next (k, reported) reports u = go next.stage (re
 
 -- whether the walk had a match before changes nothing
 module _ (way : Direction) (m : Machine) (input : Input) (w next : Walk) where
-  on_matched : GoesOn (without_match w) next → GoesOn w next
+  on_matched : CallGoesOn (without_match w) next → CallGoesOn w next
   on_matched (FindsNone none) = FindsNone none
   on_matched (ReadsMore on more) = ReadsMore on more
   on_matched (ReportsOneMore on same more) = ReportsOneMore on same more

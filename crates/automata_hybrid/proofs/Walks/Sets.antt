@@ -24,7 +24,7 @@ use Rattle.automata_base.specs.Powersets.Powerset.{Powerset, cost}
 use Rattle.automata_hybrid.specs.Walks.Progress.{IsJoined, IsJoinedAfter}
 use Rattle.automata_hybrid.specs.Searches.Passes.{tape_in}
 use Rattle.automata_hybrid.specs.Walks.Answers.{AreWalked, HasReported, HasReportedAt, ReportsNext, half_nth}
-use Rattle.automata_hybrid.specs.Private.Walks.Answers.{GoesOn, FindsNone, ReadsMore, ReportsOneMore}
+use Rattle.automata_hybrid.specs.Private.Walks.Answers.{CallGoesOn, FindsNone, ReadsMore, ReportsOneMore}
 use Rattle.automata_hybrid.specs.Walks.State.{At, Ended, Fresh, Stage, Walk, fresh_walk}
 use Rattle.automata_hybrid.proofs.Searches.PassState.{false_true}
 use Rattle.automata_hybrid.proofs.Walks.Reports.{reported_rises}
@@ -403,7 +403,7 @@ none_half half e = cc
 
 pub on_found :
     (old new : Walk) (half : HalfMatch)
-    → GoesOn old new → new.found ≡ Some half
+    → CallGoesOn old new → new.found ≡ Some half
     → (new.stage ≡ Ended → ⊥)
     × ((old.units < new.units) ⊎ ((new.units ≡ old.units) × (new.reported ≡ suc old.reported)))
 on_found old new half (FindsNone none) e = absurd (none_half half (sym none ∙ e))

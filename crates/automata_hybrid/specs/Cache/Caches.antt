@@ -1,5 +1,5 @@
 -- What contracts see of a cache, and which DFA it belongs to.
-use Rattle.std.specs.Prelude.{◌≡◌, ℕ, ◌+◌, ◌⊎◌}
+use Rattle.std.specs.Prelude.{◌≡◌, ℕ, ◌⊎◌}
 use Rattle.automata_hybrid.specs.Cache.Ids.{dead_id, quit_id}
 use Rattle.automata_hybrid.specs.Machines.Machine.{Machine}
 use Rattle.automata_hybrid.specs.Cache.Table.{IsRowId}
@@ -23,10 +23,6 @@ IsCacheOf c m = dfa_of c ≡ m
 -- a cache that nothing was done to
 abbrev pub fresh_cache : Machine → CacheView
 fresh_cache m = record { store = fresh_store m; count = 0 }
-
--- one more determinization
-abbrev pub counted_in_store : CacheView → CacheView
-counted_in_store c = record { store = c.store; count = c.count + 1 }
 
 -- with other states
 abbrev pub with_store : CacheView → Stored → CacheView

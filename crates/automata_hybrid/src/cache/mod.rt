@@ -23,7 +23,8 @@ ghost use Rattle.automata_hybrid.specs.Private.Cache.Stores.{IsSoundStore, with_
 ghost use Rattle.automata_hybrid.specs.Cache.Stores.{cell_of, with_searched};
 ghost use Rattle.automata_hybrid.specs.Private.Cache.Usage.{usage_in_store, cleared_in_store, Fits};
 ghost use Rattle.automata_hybrid.specs.Private.Cache.Changes.{AddsNext, AddsRow};
-ghost use Rattle.automata_hybrid.specs.Cache.Caches.{HoldsRow, IsCacheOf, counted_in_store, dfa_of, fresh_cache};
+ghost use Rattle.automata_hybrid.specs.Cache.Caches.{HoldsRow, IsCacheOf, dfa_of, fresh_cache};
+ghost use Rattle.automata_hybrid.specs.Private.Cache.Caches.{counted_in_store};
 ghost use Rattle.automata_hybrid.specs.Cache.Caches.{with_store};
 ghost use Rattle.automata_hybrid.specs.Private.Cache.Caches.{IsStoreOf};
 ghost use Rattle.automata_hybrid.specs.Known.Events.{usage};

@@ -1,10 +1,15 @@
 -- What private functions and proofs need beside `Cache/Caches`; no contract of a public call reaches it.
-use Rattle.std.specs.Prelude.{◌≡◌, ◌^◌, ◌<◌, ◌≤◌, length}
+use Rattle.std.specs.Prelude.{◌≡◌, ◌^◌, ◌<◌, ◌≤◌, length, ◌+◌}
 use Rattle.automata_hybrid.specs.Machines.Machine.{Machine}
 use Rattle.automata_hybrid.specs.Private.Cache.Table.{RowsFitCells}
 use Rattle.automata_hybrid.specs.Private.Cache.Clears.{AllStarts}
 use Rattle.automata_hybrid.specs.Private.Cache.Usage.{usage_in_store}
 use Rattle.automata_hybrid.specs.Cache.Stores.{Stored}
+use Rattle.automata_hybrid.specs.Cache.Caches.{CacheView}
+
+-- one more determinization
+abbrev pub counted_in_store : CacheView → CacheView
+counted_in_store c = record { store = c.store; count = c.count + 1 }
 
 -- a cache of this DFA: its rows fit together, each start slot has its own start or none yet, and its accounted bytes
 -- are within the settings

@@ -56,11 +56,11 @@ IsArrival way m t input from None units = Finishes way m input from units
 IsArrival way m t input from (Some id) units = Arrives way m t input from id units
 
 -- how a call of a walk has gone on
-pub data GoesOn (old new : Walk) : Type 0 where
+pub data CallGoesOn (old new : Walk) : Type 0 where
   -- it found no match
-  FindsNone : new.found ≡ None → GoesOn old new
+  FindsNone : new.found ≡ None → CallGoesOn old new
   -- the walk has read more units
-  ReadsMore : (new.stage ≡ Ended → ⊥) → old.units < new.units → GoesOn old new
+  ReadsMore : (new.stage ≡ Ended → ⊥) → old.units < new.units → CallGoesOn old new
   -- it has read no more, and has reported one pattern more
   ReportsOneMore :
-      (new.stage ≡ Ended → ⊥) → new.units ≡ old.units → new.reported ≡ suc old.reported → GoesOn old new
+      (new.stage ≡ Ended → ⊥) → new.units ≡ old.units → new.reported ≡ suc old.reported → CallGoesOn old new

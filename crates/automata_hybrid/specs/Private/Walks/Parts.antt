@@ -19,7 +19,7 @@ use Rattle.automata_hybrid.specs.Searches.Traces.{pass_trace}
 use Rattle.automata_hybrid.specs.Steps.Starts.{MayStart}
 use Rattle.automata_hybrid.specs.Cache.Table.{Leads, Names, Rows}
 use Rattle.automata_hybrid.specs.Walks.Answers.{IsWalkOf, ReportsNext, WalkReads}
-use Rattle.automata_hybrid.specs.Private.Walks.Answers.{GoesOn, IsArrival}
+use Rattle.automata_hybrid.specs.Private.Walks.Answers.{CallGoesOn, IsArrival}
 use Rattle.automata_hybrid.specs.Walks.State.{Ids, Keeping, Walk}
 use Rattle.automata_hybrid.specs.Private.Walks.State.{IsHeldAt, IsHeldItself, keeping_of}
 use Rattle.automata_hybrid.specs.declared.search.walk.Held.{Held}
@@ -61,7 +61,7 @@ pub record IsCallAnswer (way : Direction) (m : Machine) (input : Input) (walk ne
   -- the walk has reported the next pair, or has ended
   pub reports : ReportsNext way m input walk next
   -- with a match it has read more units or reported one pattern more
-  pub goes_on : GoesOn walk next
+  pub goes_on : CallGoesOn walk next
 
 -- a call of a walk has answered, and made this of what its cache knows
 pub record AnswersCall (way : Direction) (m : Machine) (input : Input) (walk next : Walk) (old new : Known) :
