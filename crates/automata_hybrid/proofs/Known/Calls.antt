@@ -10,7 +10,7 @@ use Rattle.automata_config.specs.declared.error.StepError.{StepError}
 use Rattle.automata_config.specs.declared.error.StepError.TheVariants as step
 use Rattle.automata_hybrid.specs.Cache.Caches.{CacheView}
 use Rattle.automata_hybrid.specs.Private.Cache.Caches.{IsStoreOf}
-use Rattle.automata_hybrid.specs.Cache.Caches as caches
+use Rattle.automata_hybrid.specs.Private.Cache.Caches.{counted_in_store}
 use Rattle.automata_hybrid.specs.Cache.Ids.{fixed_from}
 use Rattle.automata_hybrid.specs.Cache.Stores.{IsCacheError}
 use Rattle.automata_hybrid.specs.Cache.Table.{Names, find_id}
@@ -111,7 +111,7 @@ module _ (m : Machine) (id : ℕ) (unit : Option ℕ) (old new : CacheView) (mac
   }
 
   pub failed_run :
-      (e : StepError) → new ≡ caches.counted_in_store old
+      (e : StepError) → new ≡ counted_in_store old
       → (IsCacheError e → (q : Powerset) → Names old.store.table id q
       → GivesUpInStore old.store (successor m.nfa (match_kind_of m.config) q unit))
       → StepFails m id unit (known_of old) (known_of new) e
@@ -195,7 +195,7 @@ module _ (m : Machine) (mode : Anchored) (behind : Option ℕ) (old new : CacheV
   }
 
   pub failed_start_run :
-      (e : StepError) → new ≡ caches.counted_in_store old
+      (e : StepError) → new ≡ counted_in_store old
       → (IsCacheError e → GivesUpInStore old.store (start_state_of m.nfa mode behind))
       → StartFails m mode behind (known_of old) (known_of new) (start_error e)
   failed_start_run (step.Cache err) unchanged gives_up =
