@@ -123,7 +123,8 @@ impl LineSearcher {
         ensures lines { IfOk result (λ found. AreMatching (λ line. IsWanted invert (HasMatch self.old.dfa line.1))
             (numbered self.old.searched (lines text.now)) (map found_line found.items)) }
         ensures meant { IfOk result (λ found. (case_insensitive : Bool) (res : List Re)
-            → IsSearcherFor case_insensitive res self.old.dfa → AreMatching (λ line. IsWanted invert (HasPart res line.1))
+            → IsSearcherFor case_insensitive res self.old.dfa → AreMatching
+            (λ line. IsWanted invert (HasPart res line.1))
             (numbered self.old.searched (lines text.now)) (map found_line found.items)) }
     {
         let mut found = Vec::new(alloc);

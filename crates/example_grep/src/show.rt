@@ -1,6 +1,7 @@
 //! What is printed of the lines that are taken, and of a file at its end.
 ghost use Rattle.std.specs.Prelude.{◌≡◌, Bool, IfOk, string_bytes};
-ghost use Rattle.example_grep.specs.Shown.{count_shown, end_shown, file_shown, is_silent, name_of, number_shown, prefix_shown};
+ghost use Rattle.example_grep.specs.Shown.{count_shown, end_shown, file_shown, is_silent, name_of, number_shown};
+ghost use Rattle.example_grep.specs.Shown.{prefix_shown};
 
 use anyhow::Result;
 use std::alloc::Global;

@@ -130,7 +130,8 @@ pub fn open_sound(
     config: Config,
 ) -> Result<(), Status>
     requires { handle.now.slot.value ≡ None }
-    ensures { OpensRegex (IsBuiltRegex (overwritten unset config) nfa) (IsBuildErrorStatus (overwritten unset config) nfa)
+    ensures { OpensRegex (IsBuiltRegex (overwritten unset config) nfa)
+        (IsBuildErrorStatus (overwritten unset config) nfa)
         handle.old handle.new result }
 {
     let regex = regex_of(nfa, config)?;

@@ -1,5 +1,6 @@
 //! Searches over a cache: the first match, whether there is one, and its two ends.
-ghost use Rattle.lazydfa_c.specs.Calls.{ReportsMatch, FindsEnd, FindsStartBack, OfHandle, OfInput, OfObject, Tests, WritesIfDone};
+ghost use Rattle.lazydfa_c.specs.Calls.{ReportsMatch, FindsEnd, FindsStartBack, OfHandle, OfInput, OfObject, Tests};
+ghost use Rattle.lazydfa_c.specs.Calls.{WritesIfDone};
 ghost use Rattle.lazydfa_c.specs.Requests.{input_of};
 
 use crate::code::Code;

@@ -263,7 +263,8 @@ fn build_texts(
     refusal: &mut Refusal,
     message: &mut [u8],
 ) -> Result<(), Status>
-    ensures { BuildsTexts settings.now quits.now options.now (texts_in texts.now lengths.now) regex.old regex.new result }
+    ensures { BuildsTexts settings.now quits.now options.now (texts_in texts.now lengths.now) regex.old regex.new
+        result }
 {
     if regex.is_open() {
         return Err(Status::from(Code::Open));

@@ -257,7 +257,8 @@ fn fold_union(
     requires below { (x : ℕ) → In x alternates.now → x < length states.now }
     requires few { length made.old.items ≤ length free.now }
     requires kept { (u t : ℕ) → SomeReads states.now alternates.now u t → IsNotFree free.now t }
-    ensures folded { IfOk result (λ s. IsFoldOf states.now free.now (nodes_of made.new.items) alternates.now (node_of s)) }
+    ensures folded { IfOk result
+        (λ s. IsFoldOf states.now free.now (nodes_of made.new.items) alternates.now (node_of s)) }
     ensures reads { IfOk result (λ s. range_read s ≡ None) }
     ensures grows { OnOk result ((more : List Node) × (nodes_of made.new.items ≡ nodes_of made.old.items ++ more)) }
     ensures few { OnOk result (length made.new.items ≤ length free.now) }

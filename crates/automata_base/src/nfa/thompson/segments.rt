@@ -41,7 +41,8 @@ fn make_room(lists: &mut Vec<Vec<StateID>>, node: usize) -> Result<(), AllocErro
 /// where the row then begins.
 fn put_first(lists: &mut Vec<Vec<StateID>>, left: usize, next: StateID) -> Result<usize, AllocError>
     requires { left < length lists.old.items }
-    ensures put { IfOk result (λ first. IsPutFirst (lists_of lists.old.items) (lists_of lists.new.items) left next first) }
+    ensures put { IfOk result
+        (λ first. IsPutFirst (lists_of lists.old.items) (lists_of lists.new.items) left next first) }
     ensures few { OnOk result (length lists.new.items ≡ length lists.old.items) }
 {
     if left % 2 == 0 {

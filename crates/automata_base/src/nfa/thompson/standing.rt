@@ -1,5 +1,6 @@
 //! Whether the states of one NFA stand for lists of those of another one, of which some unions were merged.
-ghost use Rattle.std.specs.Prelude.{ℕ, ◌≡◌, ◌<◌, ◌≤◌, ◌⊎◌, ◌++◌, List, IfOk, IfSome, IsTrue, length, false, ◌+◌, [], Some};
+ghost use Rattle.std.specs.Prelude.{ℕ, ◌≡◌, ◌<◌, ◌≤◌, ◌⊎◌, ◌++◌, List, IfOk, IfSome, IsTrue, length, false, ◌+◌, []};
+ghost use Rattle.std.specs.Prelude.{Some};
 ghost use Rattle.automata_base.specs.Lists.{In, cons_some};
 ghost use Rattle.automata_base.specs.Nfas.Merges.{IsMerged, Shows, ReadsFor, stood_for, all_stood_for, target_for};
 ghost use Rattle.automata_base.specs.Nfas.Nfa.{Node, Range, Read, Split, node, takes_at};
@@ -349,7 +350,8 @@ fn is_old(
 fn are_old(nfa: &NFA, merged: &NFA, lists: &[Vec<StateID>]) -> Result<bool, AllocError>
     ensures { IfOk result (λ b. IsTrue b → (q : ℕ) → q < length nfa.now.states
         → (node (nfa_of merged.now) q ≡ node (nfa_of nfa.now) q)
-        ⊎ ((alternates : List ℕ) × (node (nfa_of nfa.now) q ≡ Split alternates) × Shows (nfa_of nfa.now) (nfa_of merged.now)
+        ⊎ ((alternates : List ℕ) × (node (nfa_of nfa.now) q ≡ Split alternates) × Shows (nfa_of nfa.now)
+        (nfa_of merged.now)
         nfa.now.start_anchored (lists_of lists.now) (node (nfa_of merged.now) q) alternates)) }
 {
     let states = nfa.states();
