@@ -1,5 +1,5 @@
 -- What steps and calls for a start state make of what a cache knows.
-use Rattle.std.proofs.Common.{ℕ, ◌≡◌, ◌∙◌, ◌*◌, ◌<◌, ◌≤◌, length, Option, None, Some, true, false, cond, refl, sym, ap}
+use Rattle.std.proofs.Common.{ℕ, ◌≡◌, ◌∙◌, ◌*◌, ◌<◌, ◌≤◌, Option, Some, true, false, cond, refl, sym, ap}
 use Rattle.std.proofs.Common.{subst, arith}
 use Rattle.automata_base.specs.Powersets.Passes.{IsUnit}
 use Rattle.automata_base.specs.Powersets.Powerset.{Powerset}
@@ -31,7 +31,7 @@ use Rattle.automata_hybrid.specs.Private.Searches.Units.{StepMakes}
 use Rattle.automata_hybrid.specs.Private.Steps.Starts.{IsStartSlot, start_error}
 use Rattle.automata_hybrid.specs.Private.Steps.Steps.{KnowsStep}
 use Rattle.automata_hybrid.specs.Steps.Starts.{MayStart}
-use Rattle.automata_hybrid.proofs.Calls.Events.{IsCached, Makes, MakesStep}
+use Rattle.automata_hybrid.proofs.Calls.Events.{Makes, MakesStep}
 use Rattle.automata_hybrid.proofs.Known.Events.{cached_known, gives_up_known, made_known, uncached_known}
 use Rattle.automata_hybrid.proofs.Searches.PassState.{false_true}
 use Rattle.automata_hybrid.proofs.Steps.Steps.{step_unknown}

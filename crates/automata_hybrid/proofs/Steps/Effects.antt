@@ -1,5 +1,5 @@
 -- What a step or a start does to a cache, from its whole effect.
-use Rattle.std.proofs.Common.{◌≡◌, ℕ, ◌-◌, ◌*◌, ◌<◌, None, length, Option, Some, false, refl, sym, ap, ◌∙◌, subst, inl}
+use Rattle.std.proofs.Common.{◌≡◌, ℕ, ◌*◌, ◌<◌, None, length, Option, Some, false, refl, sym, ap, ◌∙◌, subst, inl}
 use Rattle.std.proofs.Common.{inr, arith, length-set, true, ⊎_elim, ◌⊎◌}
 use Rattle.std.proofs.lemmas.List.{get_or-set_same}
 use Rattle.automata_base.specs.Powersets.Powerset.{Powerset}

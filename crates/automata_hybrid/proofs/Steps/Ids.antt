@@ -1,5 +1,5 @@
 use Rattle.std.proofs.Common.{◌≡◌, ℕ, List, ◌∷◌, length, Bool, true, false, Some, [], ◌+◌, ◌*◌, ◌^◌, ◌<◌, ◌≤◌, inl, inr}
-use Rattle.std.proofs.Common.{refl, sym, ap, subst, arith, get_or, Option}
+use Rattle.std.proofs.Common.{refl, sym, ap, subst, arith, get_or}
 use Rattle.automata_base.specs.Lists.{In}
 use Rattle.automata_base.specs.Powersets.Powerset.{Powerset, dead}
 use Rattle.automata_hybrid.specs.Machines.Machine.{Machine}

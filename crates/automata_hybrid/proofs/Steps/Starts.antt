@@ -1,14 +1,13 @@
 -- Starts: what a call answers and changes, from what its parts do.
-use Rattle.automata_hybrid.specs.Machines.StartSlots.{slot_behind, supports}
+use Rattle.automata_hybrid.specs.Machines.StartSlots.{slot_behind}
 use Rattle.automata_hybrid.specs.Private.Cache.Clears.{IsSlot, LeadsToStart}
-use Rattle.std.proofs.Common.{ℕ, ◌≡◌, ◌+◌, ◌^◌, ◌<◌, ◌≤◌, ◌⊎◌, List, length, get_or, set, Bool, Option, None, Some}
-use Rattle.std.proofs.Common.{true, false, refl, sym, ap, ◌∙◌, subst, arith, inl, inr}
+use Rattle.std.proofs.Common.{ℕ, ◌≡◌, ◌+◌, ◌^◌, ◌<◌, ◌≤◌, ◌⊎◌, List, get_or, set, Bool, Option}
+use Rattle.std.proofs.Common.{sym, ap, ◌∙◌, subst, arith, inl, inr}
 use Rattle.std.proofs.lemmas.List.{get_or-set_other}
 use Rattle.std.specs.Prelude.{slice_index}
 use Rattle.automata_base.specs.Powersets.Powerset.{Powerset}
 use Rattle.automata_base.specs.Retraced.Steps.{start_state_of}
 use Rattle.automata_base.specs.declared.util.search.Anchored.{Anchored}
-use Rattle.automata_base.proofs.Paths.Orders.{none_some}
 use Rattle.automata_hybrid.specs.declared.cache.row.Row.{Row}
 use Rattle.automata_hybrid.specs.Cache.Ids.{unknown_id}
 use Rattle.automata_hybrid.specs.Machines.Machine.{Machine}
@@ -21,9 +20,8 @@ use Rattle.automata_hybrid.specs.Private.Cache.Changes.{IsStarted, StartsAdded, 
 use Rattle.automata_hybrid.specs.Cache.Caches.{CacheView, HoldsRow, IsCacheOf, with_store}
 use Rattle.automata_hybrid.specs.Private.Cache.Caches.{counted_in_store}
 use Rattle.automata_hybrid.proofs.Calls.Events.{MakesStart}
-use Rattle.automata_hybrid.specs.Steps.Starts.{IsStartAnswer, MayStart, quit_behind, known_start, start_row}
+use Rattle.automata_hybrid.specs.Steps.Starts.{IsStartAnswer, known_start, start_row}
 use Rattle.automata_hybrid.specs.Private.Steps.Starts.{IsStartSlot}
-use Rattle.automata_hybrid.proofs.Searches.PassState.{false_true}
 use Rattle.automata_hybrid.proofs.Machines.StartSlots.{starts_alike}
 use Rattle.automata_config.specs.Options.{specialize_start_states_of}
 use Rattle.std.proofs.lemmas.Bool.{cases_lt}
@@ -80,7 +78,7 @@ pub record ComputesStart (m : Machine) (mode : Anchored) (behind : Option ℕ) (
   pub starts : KeepsStarts old.store.starts new.store.starts
   pub written : slice_index new.store.starts slot ≡ id
   pub found : IsKnownStart new.store slot
-  pub counted_in_store : new.count ≡ old.count + 1
+  pub counted : new.count ≡ old.count + 1
 
 -- a cached start state is written among the others
 keeps_written :

@@ -184,7 +184,7 @@ pub record ComputesStep (m : Machine) (id : ℕ) (unit : Option ℕ) (old new : 
       (q : Powerset) → Names old.store.table id q
       → Leads new.store.table next (successor m.nfa (match_kind_of m.config) q unit)
   pub starts : KeepsStarts old.store.starts new.store.starts
-  pub counted_in_store : new.count ≡ old.count + 1
+  pub counted : new.count ≡ old.count + 1
 
 -- the next state was there
 pub computes_known :

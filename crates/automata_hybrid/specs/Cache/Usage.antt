@@ -1,14 +1,9 @@
 -- What a new row takes, and when too few bytes were searched.
-use Rattle.std.specs.Prelude.{ℕ, ◌+◌, ◌*◌, ◌<◌, ◌≤◌, length, Bool, true, false, cond, Option, None, Some, sum_by}
+use Rattle.std.specs.Prelude.{ℕ, ◌+◌, ◌*◌, Bool, true, Option, None, Some}
 use Rattle.std.specs.Prelude.{nat_lt}
-use Rattle.automata_base.specs.Powersets.Accounting.{cell_size, entry_size, fixed_rows_cost, row_size}
-use Rattle.automata_hybrid.specs.Cache.Ids.{offset_limit}
+use Rattle.automata_base.specs.Powersets.Accounting.{cell_size, entry_size, row_size}
 use Rattle.automata_hybrid.specs.Machines.Machine.{Machine}
-use Rattle.automata_hybrid.specs.Cache.Table.{row_cost}
-use Rattle.automata_hybrid.specs.Private.Cache.Clears.{kept}
-use Rattle.automata_hybrid.specs.Cache.Progress.{saturated, total_len, progress_cleared}
-use Rattle.automata_hybrid.specs.Cache.Stores.{Stored}
-use Rattle.automata_config.specs.Options.{minimum_cache_clear_count_of, minimum_bytes_per_state_of}
+use Rattle.automata_hybrid.specs.Cache.Progress.{saturated}
 
 -- what a new row takes beside the cost of its state: its cells, and its entries in the list and in the map
 abbrev pub row_usage : Machine → ℕ

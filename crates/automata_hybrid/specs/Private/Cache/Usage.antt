@@ -9,7 +9,6 @@ use Rattle.automata_hybrid.specs.Private.Cache.Clears.{AllStarts, kept, KeepsAll
 use Rattle.automata_hybrid.specs.Cache.Stores.{Stored}
 use Rattle.automata_hybrid.specs.Private.Cache.Stores.{cache_settings}
 use Rattle.automata_hybrid.specs.Private.Cache.Table.{Lacks}
-use Rattle.automata_hybrid.specs.Machines.Machine.{Machine}
 use Rattle.automata_hybrid.specs.Cache.Table.{row_cost}
 use Rattle.automata_hybrid.specs.Cache.Progress.{saturated, total_len, progress_cleared}
 use Rattle.automata_config.specs.Options.{minimum_cache_clear_count_of, minimum_bytes_per_state_of}

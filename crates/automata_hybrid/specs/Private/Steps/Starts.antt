@@ -1,18 +1,13 @@
 -- What private functions and proofs need beside `Steps/Starts`; no contract of a public call reaches it.
-use Rattle.std.specs.Prelude.{ℕ, ◌≡◌, ◌<◌, Option, false, length, None, Some}
+use Rattle.std.specs.Prelude.{ℕ, ◌≡◌, ◌<◌, Option}
 use Rattle.automata_base.specs.declared.util.search.Anchored.{Anchored}
-use Rattle.automata_base.specs.Retraced.Steps.{start_state_of}
 use Rattle.automata_config.specs.declared.error.StepError.{StepError}
 use Rattle.automata_config.specs.declared.error.StartError.{StartError}
-use Rattle.automata_config.specs.declared.error.SearchError.{SearchError}
 use Rattle.automata_config.specs.declared.error.StepError.TheVariants as step
 use Rattle.automata_config.specs.declared.error.StartError.TheVariants as start
 use Rattle.automata_hybrid.specs.Machines.Machine.{Machine}
-use Rattle.automata_hybrid.specs.Machines.StartSlots.{slot_behind, supports}
-use Rattle.automata_hybrid.specs.Steps.Starts.{MayStart, quit_behind, start_search_error}
-use Rattle.automata_hybrid.specs.Cache.Stores.{Stored}
-use Rattle.automata_hybrid.specs.Private.Cache.Stores.{IsKnownStart}
-use Rattle.automata_hybrid.specs.Private.Cache.Usage.{GivesUpInStore}
+use Rattle.automata_hybrid.specs.Machines.StartSlots.{slot_behind}
+use Rattle.automata_hybrid.specs.Steps.Starts.{MayStart}
 
 -- a search may start, and this is the slot of its start
 pub record IsStartSlot (m : Machine) (mode : Anchored) (behind : Option ℕ) (slot : ℕ) : Type 0 where

@@ -4,7 +4,6 @@ use Rattle.automata_hybrid.specs.Cache.Caches.{CacheView}
 use Rattle.automata_hybrid.specs.Private.Cache.Caches.{counted_in_store}
 use Rattle.automata_hybrid.specs.Private.Cache.Usage.{GivesUpInStore}
 use Rattle.automata_hybrid.specs.Private.Cache.LookUps.{IsLookedUp}
-use Rattle.automata_hybrid.specs.Machines.Machine.{Machine}
 use Rattle.automata_hybrid.specs.Cache.Table.{Leads, Names}
 use Rattle.automata_hybrid.specs.Private.Cache.Table.{IsNewState}
 use Rattle.automata_hybrid.specs.declared.cache.Found.TheVariants.{Known, New}

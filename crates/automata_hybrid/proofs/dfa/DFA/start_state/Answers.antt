@@ -1,4 +1,4 @@
-use Rattle.std.proofs.Common.{rules, ◌≡◌, ◌∙◌, ◌≤◌, Some, refl, sym, ap}
+use Rattle.std.proofs.Common.{rules, ◌≡◌, ◌≤◌, Some, refl}
 use Rattle.automata_hybrid.specs.Known.Steps.{IsQuitBehind}
 use Rattle.automata_hybrid.specs.Machines.StartSlots.{slot_behind}
 use Rattle.automata_hybrid.specs.Steps.Starts.{MayStart, quit_behind}

@@ -1,4 +1,4 @@
-use Rattle.std.proofs.Common.{suc, ◌≡◌, ◌∙◌, ◌+◌, None, true, ap, arith, refl, sym, subst}
+use Rattle.std.proofs.Common.{suc, ◌≡◌, ◌∙◌, ◌+◌, None, ap, arith, refl, sym, subst}
 use Rattle.std.specs.Prelude.{not}
 use Rattle.std.specs.Result.{result_err}
 use Rattle.automata_base.specs.declared.util.search.MatchErrorKind.TheVariants.{GaveUp}
