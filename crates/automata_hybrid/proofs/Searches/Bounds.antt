@@ -14,8 +14,18 @@ use Rattle.automata_hybrid.specs.Searches.Bounds.{LiesIn, LiesPast}
 use Rattle.automata_hybrid.proofs.Searches.Skips.{found_reported}
 use Rattle.automata_config.specs.Options.{match_kind_of}
 use Rattle.automata_base.proofs.Paths.Orders.{some_inj, some_none}
+use Rattle.automata_base.proofs.Answers.Within.{reported_within}
+use Rattle.automata_base.specs.Answers.Within.{IsInSpan}
 
--- what calls return lies in the span, not before the start of the span that gave it
+-- what is found lies in the span, not before the start of the span that gave it
+pub found_within :
+    (way : Direction) (m : Machine) (input : Input) (half : Half)
+    → input.end ≤ length input.haystack → IsFound way m input (Some half)
+    → IsInSpan input half.offset × (input.start ≤ half.base) × (half.base ≤ half.offset)
+found_within way m input half few f =
+    reported_within way m.nfa (match_kind_of m.config) input half few (found_reported way m input (Some half) f)
+
+-- so do the results of calls
 module _ (m : Machine) (input : Input) (law : ReportedLiesWithin m.nfa) (few : input.end ≤ length input.haystack) where
   found_lies :
       (way : Direction) (half : Half) → IsFound way m input (Some half)

@@ -9,6 +9,7 @@ use Rattle.automata_base.specs.Paths.Paths.{KeepsCycles}
 use Rattle.automata_base.specs.Answers.Spans.{IsMatch, IsSpan, TryFinds}
 use Rattle.automata_base.specs.declared.util.search.Direction.TheVariants.{Forward}
 use Rattle.automata_config.specs.declared.error.SearchError.{SearchError}
+use Rattle.automata_hybrid.specs.Cache.Caches.{CacheView}
 use Rattle.automata_hybrid.specs.Searches.Contracts.{IsMemory, unsupported_error}
 use Rattle.automata_hybrid.specs.Searches.Passes.{NoQuitInReach, Skips, tape_in}
 use Rattle.automata_hybrid.specs.Machines.StartSlots.{supports}
