@@ -1,6 +1,7 @@
 //! What a run has read and made, for `--stats`.
 ghost use Rattle.std.specs.Prelude.{◌≡◌, length};
 ghost use Rattle.automata_hybrid.specs.Cache.Caches.{dfa_of};
+ghost use Rattle.automata_hybrid.specs.Cache.States.{held_states};
 ghost use Rattle.automata_hybrid.specs.Known.Events.{usage};
 ghost use Rattle.automata_hybrid.specs.Known.Stores.{known_of};
 
@@ -20,7 +21,7 @@ impl Usage {
     /// What a cache has made.
     pub fn of(cache: &Cache) -> Usage
         ensures clears { result.clears ≡ (known_of cache.now).clears }
-        ensures states { result.states ≡ length (known_of cache.now).rows }
+        ensures states { result.states ≡ length (held_states cache.now.store.table) }
         ensures bytes { result.bytes ≡ usage (dfa_of cache.now) (known_of cache.now) }
     {
         let bytes = cache.memory_usage();
