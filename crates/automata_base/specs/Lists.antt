@@ -12,12 +12,21 @@ abbrev pub Distinct : List ℕ → Type 0
 Distinct [] = Unit {0}
 Distinct (x ∷ xs) = (In x xs → ⊥) × Distinct xs
 
+-- A state has a least key, which is before all keys of the states after it. `P` says what the keys of a state are.
+pub record HasLeastKey (P : ℕ → List ℕ → Type 0) (q : ℕ) (rest : List ℕ) : Type 0 where
+  -- that key
+  pub key : List ℕ
+  -- it is one of the state's
+  pub has : P q key
+  -- no key of the state is less
+  pub least : (other : List ℕ) → P q other → Upto key other
+  -- it is before all keys of the states after it
+  pub before : (later : ℕ) (other : List ℕ) → In later rest → P later other → Before key other
+
 -- Each state has a least key, which is before all keys of the states after it.
 abbrev pub Sorted : (ℕ → List ℕ → Type 0) → List ℕ → Type 0
 Sorted P [] = Unit {0}
-Sorted P (q ∷ rest) =
-    (key : List ℕ) × P q key × ((other : List ℕ) → P q other → Upto key other)
-    × ((later : ℕ) (other : List ℕ) → In later rest → P later other → Before key other) × Sorted P rest
+Sorted P (q ∷ rest) = HasLeastKey P q rest × Sorted P rest
 
 -- The list of the states that have a key, each once, in the order of their least keys.
 abbrev pub IsListOf : (ℕ → List ℕ → Type 0) → List ℕ → Type 0

@@ -9,6 +9,7 @@ use Rattle.automata_base.specs.Paths.Selections.{Pair}
 use Rattle.automata_base.specs.Haystacks.Tapes.{Direction, Forward, Backward, is_split}
 use Rattle.automata_base.specs.declared.util.search.Anchored.TheVariants.{No}
 use Rattle.automata_base.proofs.Paths.Orders.{some_none, some_inj}
+use Rattle.automata_base.proofs.Answers.Tried.{tries_on}
 
 pub haystack_later : (way : Direction) (k : ℕ) (input : Input) → (later way k input).haystack ≡ input.haystack
 haystack_later Forward k input = refl
@@ -46,7 +47,7 @@ module _ (T : Input → Option Pair → Type 0) (S : Type 0) (way : Direction) (
   no_further : (o : Option Half) (k k' : ℕ) → Ends o k → Tries T S way input k' → k < k' → ⊥
   no_further o k k' e c l =
       go o e (c.before k l)
-      (⊎_elim (λ (z : k' ≡ 0). absurd (omega (arith, z, l))) (λ (z : S × (input.anchored ≡ No)). z) c.comes)
+      (tries_on S input k k' l c.comes)
     where
       go :
           (o : Option Half) → Ends o k → (input.start + k ≤ input.end) × IsSplit T way (later way k input) → S

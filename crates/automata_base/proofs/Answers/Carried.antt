@@ -1,12 +1,13 @@
 -- Where the accepting paths of two engines correspond in their order, both answer the same.
-use Rattle.std.proofs.Common.{ℕ, zero, suc, ◌≡◌, ◌<◌, ◌≤◌, ◌+◌, ◌-◌, Bool, List, [], ◌∷◌, ◌⊎◌, ◌↔◌, Option, Some, None}
-use Rattle.std.proofs.Common.{inl, inr, sym, ◌∙◌, subst}
+use Rattle.std.proofs.Common.{ℕ, zero, suc, ◌≡◌, ◌<◌, ◌≤◌, ◌+◌, ◌-◌, Bool, List, [], ◌∷◌, ◌↔◌, Option, Some, None}
+use Rattle.std.proofs.Common.{sym, ◌∙◌, subst}
 use Rattle.std.proofs.Common.{take, drop, refl}
 use Rattle.automata_base.specs.Answers.Answers.{Answers, ArePatternsFound, AreUnsplit, Half, IsAnswer, IsOverlapping}
 use Rattle.automata_base.specs.Answers.Answers.{IsOverlappingFrom, IsSplit}
 use Rattle.automata_base.specs.Answers.Answers.{HasNoAnswerAt, KeepsSplit, OverlapsOver, SelectsFrom, SelectsOver}
 use Rattle.automata_base.specs.Answers.Answers.{SkipsSplit, SpanIsDone}
 use Rattle.automata_base.specs.Answers.Answers.{SpanReportsNone, StopsAtSplit, Tries, WalksNoSpan, WalksSpan, later}
+use Rattle.automata_base.specs.Answers.Answers.{MayTry, IsFirstSpan, SkipsToIt}
 use Rattle.automata_base.specs.Answers.OfPasses.{EndsFrom, EndsOver, IsFarthestAnswer, IsNearestAnswer}
 use Rattle.automata_base.specs.Answers.Spans.{AreMatches, AreSpans, Chooses, FindsHere, FindsLater, IsMatch, IsNextItem}
 use Rattle.automata_base.specs.Answers.Spans.{IsPathStart, IsSpan}
@@ -15,7 +16,7 @@ use Rattle.automata_base.specs.Haystacks.Input.{Input}
 use Rattle.automata_base.specs.Haystacks.Matches.{Match}
 use Rattle.automata_base.specs.Haystacks.Tapes.{IsHaystack, Direction, Forward, Backward, between, tape_of}
 use Rattle.automata_base.specs.Haystacks.Tapes.{forward_tape}
-use Rattle.automata_base.specs.Nfas.Engines.{Engine, Anchored, No, IsSkipping, first_state}
+use Rattle.automata_base.specs.Nfas.Engines.{Engine, Anchored, IsSkipping, first_state}
 use Rattle.automata_base.specs.Nfas.Nfa.{Nfa}
 use Rattle.automata_base.specs.Paths.Order.{Before}
 use Rattle.automata_base.specs.Paths.Paths.{Tape}
@@ -56,9 +57,9 @@ module _ (T U : Input → Option Pair → Type 0) (S V : Type 0) (way : Directio
       (input : Input) (k : ℕ) → IsHaystack input.haystack → Tries T S way input k → Tries U V way input k
   tries_turned input k bytes h = record { comes = first h.comes; before = before }
     where
-      first : (k ≡ 0) ⊎ (S × (input.anchored ≡ No)) → (k ≡ 0) ⊎ (V × (input.anchored ≡ No))
-      first (inl z) = inl z
-      first (inr s) = inr (skips.0 s.0, s.1)
+      first : MayTry S input k → MayTry V input k
+      first (IsFirstSpan z) = IsFirstSpan z
+      first (SkipsToIt s free) = SkipsToIt (skips.0 s) free
 
       before : (j : ℕ) → j < k → (input.start + j ≤ input.end) × IsSplit U way (later way j input)
       before j l = let b = h.before j l in (b.0, split_turned (later way j input) (later_bytes way j input bytes) b.1)
@@ -225,7 +226,11 @@ module _ (d e : Engine) (R : Tape → ℕ → List ℕ → List ℕ → Type 0) 
   pub set_carried :
       (input : Input) (capacity : ℕ) (given found : List ℕ) → IsHaystack input.haystack
       → ArePatternsFound d input capacity given found → ArePatternsFound e input capacity given found
-  set_carried input capacity given found bytes h = (h.0, walk_carried Forward input h.0 bytes h.1, h.2)
+  set_carried input capacity given found bytes h = record {
+    pairs = h.pairs;
+    reports = walk_carried Forward input h.pairs bytes h.reports;
+    members = h.members;
+  }
 
   pub span_carried :
       (input : Input) (answer : Option Match) → IsHaystack input.haystack → IsSpan d input answer

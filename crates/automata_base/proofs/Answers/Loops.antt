@@ -1,7 +1,7 @@
 -- The lazy loop of an unanchored start: its paths are a number of skipped bytes and a path from the anchored start.
 use Rattle.std.proofs.Common.{le-leb, ◌&&◌, ℕ, zero, suc, ◌≡◌, ◌<◌, ◌≤◌, ◌+◌, Bool, true, false, cond, List, [], ◌∷◌}
 use Rattle.std.proofs.Common.{◌++◌, ◌⊎◌, length, Some, None, inl, inr, refl, sym, ap, ap₂, ◌∙◌, subst, arith, ⊎_elim}
-use Rattle.automata_base.specs.Paths.Order.{Before, Begins}
+use Rattle.automata_base.specs.Paths.Order.{Before, Begins, TakesLess, TakesSame}
 use Rattle.automata_base.specs.Haystacks.Looks.{within}
 use Rattle.automata_base.specs.Lists.{In}
 use Rattle.std.specs.Prelude.{slice_get}
@@ -208,6 +208,7 @@ skips_join (suc k) rest = ap (λ v. 1 ∷ 0 ∷ v) (skips_join k rest)
 -- The earlier start is less.
 pub sooner_less : (k k' : ℕ) (rest rest' : List ℕ) → k < k' → Before (skips k (0 ∷ rest)) (skips k' (0 ∷ rest'))
 sooner_less zero zero rest rest' l = absurd (omega (arith, l))
-sooner_less zero (suc k') rest rest' l = inl (omega arith)
+sooner_less zero (suc k') rest rest' l = TakesLess (omega arith)
 sooner_less (suc k) zero rest rest' l = absurd (omega (arith, l))
-sooner_less (suc k) (suc k') rest rest' l = inr (refl, inr (refl, sooner_less k k' rest rest' (omega (arith, l))))
+sooner_less (suc k) (suc k') rest rest' l =
+    TakesSame refl (TakesSame refl (sooner_less k k' rest rest' (omega (arith, l))))

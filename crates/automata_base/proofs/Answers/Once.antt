@@ -1,6 +1,6 @@
 -- Searches have one answer, and spans have one start.
 use Rattle.std.proofs.Common.{ℕ, suc, ◌≡◌, ◌+◌, Bool, true, false, List, [], ◌∷◌, ◌++◌, ◌⊎◌, Option, Some, None}
-use Rattle.std.proofs.Common.{is_some, inl, inr, refl, sym, ap, ap₂, ◌∙◌, subst, arith, ⊎_elim}
+use Rattle.std.proofs.Common.{is_some, inl, inr, refl, sym, ap, ap₂, ◌∙◌, subst, arith}
 use Rattle.automata_base.specs.Paths.Order.{Begins}
 use Rattle.automata_base.specs.Nfas.Nfa.{Nfa, accepts}
 use Rattle.automata_base.specs.Paths.Paths.{Tape, IsPath}
@@ -19,6 +19,7 @@ use Rattle.automata_base.specs.Answers.Answers.{SpanReportsNone, StopsAtSplit}
 use Rattle.automata_base.specs.Haystacks.Input.{Input}
 use Rattle.automata_base.proofs.Answers.Answered.{answers_once}
 use Rattle.automata_base.proofs.Answers.Tried.{ComesTo}
+use Rattle.automata_base.proofs.Answers.Tried.{tries_once}
 use Rattle.automata_base.proofs.Paths.Unique.{upto_both}
 
 pub chosen_once :
@@ -222,7 +223,7 @@ spans_once d input ms ms' s s' =
 -- A search that does not skip is made once.
 plain : (way : Direction) (d : Engine) (input : Input) (k : ℕ) → (IsSkipping d → ⊥) → ComesTo way d input k → k ≡ 0
 plain way d input k f c =
-    ⊎_elim (λ (z : k ≡ 0). z) (λ (z : IsSkipping d × (input.anchored ≡ No)). absurd (f z.0)) c.comes
+    tries_once (IsSkipping d) input k (λ s free. f s) c.comes
 
 clash_from :
     (d : Engine) (v w : Bool) (t : Tape) (o : Option ℕ) (pair : Pair) → SelectsFrom d v t o None

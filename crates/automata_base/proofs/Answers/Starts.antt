@@ -1,6 +1,6 @@
 -- Over a true pair that keeps UTF-8 the reverse search finds the start of the path that the forward search chose.
 use Rattle.std.proofs.Common.{ℕ, ◌≡◌, ◌<◌, ◌≤◌, ◌+◌, ◌-◌, Bool, false, List, [], ◌⊎◌, length, Option, Some, None, inl}
-use Rattle.std.proofs.Common.{inr, refl, sym, ap, ap₂, ◌∙◌, subst, arith, ⊎_elim, eq-or-lt_of_le, true≢false}
+use Rattle.std.proofs.Common.{inr, refl, sym, ap, ap₂, ◌∙◌, subst, arith, eq-or-lt_of_le, true≢false}
 use Rattle.automata_base.specs.Nfas.Nfa.{Nfa, accepts}
 use Rattle.automata_base.specs.Paths.Paths.{Tape, IsPathFrom}
 use Rattle.automata_base.specs.Paths.Selections.{Accepts, Pair, IsFarthest}
@@ -18,6 +18,7 @@ use Rattle.automata_base.specs.Answers.OfPasses.{EndsOver, IsFarthestAnswer}
 use Rattle.automata_base.proofs.Answers.Chosen.{StartsAt, least_start}
 use Rattle.automata_base.proofs.Answers.Text.{unsplit}
 use Rattle.automata_base.proofs.Answers.Backs.{end_inside, forward_bytes, narrow, goes_back, comes_forth}
+use Rattle.automata_base.proofs.Answers.Tried.{tries_once}
 
 pub yes_no : ◌≡◌ {A = Anchored} Yes No → ⊥
 yes_no e = cc
@@ -82,7 +83,7 @@ pub only_once :
     (T : Input → Option Pair → Type 0) (S : Type 0) (h : List ℕ) (b e k : ℕ)
     → Tries T S Backward (anchored_back h b e) k
     → k ≡ 0
-only_once T S h b e k c = ⊎_elim (λ (z : k ≡ 0). z) (λ (z : S × (Yes ≡ No)). absurd (yes_no z.1)) c.comes
+only_once T S h b e k c = tries_once S (anchored_back h b e) k (λ s free. yes_no free) c.comes
 
 -- The greatest place at which a path accepts.
 abbrev pub IsGreatest : Nfa → Tape → ℕ → ℕ → Type 0

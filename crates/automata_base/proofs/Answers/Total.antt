@@ -15,6 +15,7 @@ use Rattle.automata_base.specs.Haystacks.Tapes.{is_split}
 use Rattle.automata_base.specs.Nfas.Engines.{Engine, No, first_state, IsSkipping}
 use Rattle.automata_base.specs.Answers.Answers.{Half, SelectsFrom, SelectsOver, later, offset_in, IsAnswer, IsInput}
 use Rattle.automata_base.specs.Answers.Answers.{HasAnswerAt, IsSound, SpanIsDone, SpanReportsNone, StopsAtSplit}
+use Rattle.automata_base.specs.Answers.Answers.{IsFirstSpan, SkipsToIt}
 use Rattle.automata_base.specs.Haystacks.Input.{Input}
 use Rattle.automata_base.specs.Answers.TruePairs.{IsTruePair, KeepsUtf8}
 use Rattle.automata_base.specs.Answers.Spans.{IsSpan, IsShort, back, Outcome, Found, NotAPair, IsTrySearch, HasStartBy}
@@ -121,7 +122,7 @@ search_from way d input s b skips (suc n) k c l = ⊎_elim
         split : IsSkipping d → (v : Bool) → is_split input.haystack o ≡ v → (o : Option Half) × IsAnswer way d input o
         split z false e = (Some half, (k, c, answer (λ z. e)))
         split z true e = ⊎_elim
-            (λ (free : input.anchored ≡ No). on (record { comes = inr (z, free); before = before free }))
+            (λ (free : input.anchored ≡ No). on (record { comes = SkipsToIt z free; before = before free }))
             (λ (f : input.anchored ≡ No → ⊥). (None, (k, c, StopsAtSplit z f here)))
             (mode_cases input.anchored)
           where
@@ -149,7 +150,7 @@ pub answer_exists :
     → (o : Option Half) × IsAnswer way d input o
 answer_exists way d input s b skips =
     search_from way d input s b skips (suc input.end) 0
-    (record { comes = inl refl; before = λ j l. absurd (omega (arith, l)) }) (omega arith)
+    (record { comes = IsFirstSpan refl; before = λ j l. absurd (omega (arith, l)) }) (omega arith)
 
 pub short_or_not : (f : Engine) (input : Input) (half : Half) → IsShort f input half ⊎ (IsShort f input half → ⊥)
 short_or_not f input half =

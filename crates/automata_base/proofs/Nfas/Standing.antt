@@ -1,16 +1,16 @@
 -- States that stand for lists of those of another NFA, as the code tests them.
-use Rattle.std.proofs.Common.{ℕ, zero, suc, ◌≡◌, ◌<◌, ◌≤◌, ◌+◌, ◌-◌, ◌⊎◌, inl, inr, false, ltb, cond, List, [], ◌∷◌}
-use Rattle.std.proofs.Common.{rules, Result, Ok, Err, ◌++◌, ◌||◌, Option, Some, None, length, get_or, drop, Vec, refl}
+use Rattle.std.proofs.Common.{ℕ, zero, suc, ◌≡◌, ◌<◌, ◌≤◌, ◌+◌, ◌-◌, inl, inr, false, ltb, cond, List, [], ◌∷◌}
+use Rattle.std.proofs.Common.{rules, Result, Ok, Err, ◌||◌, Option, Some, None, length, get_or, drop, Vec, refl}
 use Rattle.std.proofs.Common.{sym, ap, ◌∙◌, subst, arith}
 use Rattle.std.proofs.lemmas.Bool.Decides.{nat_tests}
-use Rattle.std.proofs.lemmas.List.{drop_all}
 use Rattle.std.specs.Prelude.{MatchOption, MatchResult, IfOk, IfSome, is_some, slice_get}
 use Rattle.std.specs.Bool.{Decides}
 use Rattle.std.specs.Cmp.{unsigned_Decides}
 use Rattle.std.specs.declared.alloc.Global.{Global}
 use Rattle.automata_base.specs.Lists.{In}
 use Rattle.automata_base.specs.Nfas.MergedNfas.{IsMergedNfa, KeepsBounds}
-use Rattle.automata_base.specs.Nfas.Merges.{IsMerged, ReadsFor, Shows, list_or_none, stood_for, all_stood_for}
+use Rattle.automata_base.specs.Nfas.Merges.{IsMerged, IsMergedNode, KeepsNode}
+use Rattle.automata_base.specs.Nfas.Merges.{ReadsFor, Shows, list_or_none, stood_for, all_stood_for}
 use Rattle.automata_base.specs.Nfas.Merges.{target_for}
 use Rattle.automata_base.specs.Nfas.Nfa.{Node, Range, Read, Split, accepts_at, node, node_or_fail, takes_at}
 use Rattle.automata_base.specs.Nfas.Nodes.{Automaton, node_of, nodes_of, nfa_of}
@@ -22,7 +22,6 @@ use Rattle.automata_base.specs.contracts.util.primitives.StateIDPartialEq.TheImp
 use Rattle.automata_base.specs.declared.nfa.thompson.Transition.{Transition}
 use Rattle.automata_base.specs.declared.nfa.thompson.State.{State}
 use Rattle.automata_base.proofs.Nfas.Mirrors.Lists.{list_item, lists_length}
-use Rattle.automata_base.proofs.Powersets.Keeping.{next_drop}
 use Rattle.automata_base.proofs.Powersets.Walking.{node_at, nodes_length}
 
 pub same_id : (a b : ℕ) → Decides (ghosts.eq a b) (a ≡ b)
@@ -64,19 +63,6 @@ stood_further count vs k q v least is l e =
 -- A list is what states stand for if its rest is what those from an index on stand for.
 abbrev pub Stand : (count : ℕ) → List (List ℕ) → (ids list : List ℕ) → (i : ℕ) → (rest : List ℕ) → Type 0
 Stand count lists ids list i rest = all_stood_for count lists (drop i ids) ≡ rest → all_stood_for count lists ids ≡ list
-
-pub stand_next :
-    (count : ℕ) (lists : List (List ℕ)) (ids list : List ℕ) (i q : ℕ) (rest next : List ℕ)
-    → i < length ids → q ≡ get_or ids i q → rest ≡ stood_for count lists q ++ next
-    → Stand count lists ids list i rest → Stand count lists ids list (i + 1) next
-stand_next count lists ids list i q rest next l e parts s same =
-    s (ap (all_stood_for count lists) (next_drop ids i q l e)
-    ∙ (ap (λ z. stood_for count lists q ++ z) same ∙ sym parts))
-
-pub stand_all :
-    (count : ℕ) (lists : List (List ℕ)) (ids list : List ℕ) (i : ℕ) (rest : List ℕ)
-    → length ids ≤ i → rest ≡ [] → Stand count lists ids list i rest → all_stood_for count lists ids ≡ list
-stand_all count lists ids list i rest l none s = s (ap (all_stood_for count lists) (drop_all i ids l) ∙ sym none)
 
 -- The node of a state that was found at a number.
 pub node_found :
@@ -154,10 +140,7 @@ shows_union a b lists count m alternates list is split stand further =
 
 -- A state is as it was, or was a union, for whose alternates it stands.
 abbrev pub IsOld : (a b : Automaton) → List (List ℕ) → (now was : Node) → Type 0
-IsOld a b lists now was =
-    (now ≡ was)
-    ⊎ ((alternates : List ℕ) × (was ≡ Split alternates)
-    × Shows (nfa_of a) (nfa_of b) a.start_anchored lists now alternates)
+IsOld a b lists now was = IsMergedNode (nfa_of a) (nfa_of b) a.start_anchored lists was now
 
 pub old_found :
     (a b : Automaton) (lists : List (List ℕ)) (now was now' was' : Node)
@@ -196,7 +179,7 @@ merged_of a b vs terminator reverse count old further = record {
   count =
       (let x = nodes_length a.states in let y = nodes_length b.states in let z = lists_length vs in
       omega (arith, x, y, z, count));
-  old = λ q l. old q (subst (λ z. q < z) (nodes_length a.states) l);
+  first_states = λ q l. old q (subst (λ z. q < z) (nodes_length a.states) l);
   further = λ q least l.
       let x = nodes_length a.states in
       let y = nodes_length b.states in
@@ -220,7 +203,7 @@ merged_self a = record {
     terminator = refl;
     reverse = refl;
     count = omega arith;
-    old = λ q l. inl refl;
+    first_states = λ q l. KeepsNode refl;
     further = λ q least l. absurd (omega (arith, least, l));
   };
 }

@@ -48,13 +48,17 @@ module _ (n m : Nfa) (t : Tape) (q : ℕ) (R : List ℕ → List ℕ → Type 0)
       → Sorted (λ p path. Accepts m t q i p path) ps
   sorted_carried i [] h = tt
   sorted_carried i (p ∷ ps) h =
-      let c = there i p h.0 h.1 in (
-        c.0,
-        c.2,
-        (λ other acc. let d = back i p other acc in upto_carried h.0 c.0 d.0 other c.1 d.1 (h.2 d.0 d.2)),
-        (λ later other is acc.
-            let d = back i later other acc in order h.0 c.0 d.0 other c.1 d.1 (h.3 later d.0 is d.2)),
-        sorted_carried i ps h.4,
+      let c = there i p h.0.key h.0.has in (
+        record {
+          key = c.0;
+          has = c.2;
+          least =
+              λ other acc. (let d = back i p other acc in
+              upto_carried h.0.key c.0 d.0 other c.1 d.1 (h.0.least d.0 d.2));
+          before = λ later other is acc. (
+              let d = back i later other acc in order h.0.key c.0 d.0 other c.1 d.1 (h.0.before later d.0 is d.2));
+        },
+        sorted_carried i ps h.1,
       )
 
   all_carried : (i : ℕ) (ps : List ℕ) → IsAllAt n t q i ps → IsAllAt m t q i ps
@@ -91,8 +95,13 @@ module _ (n m : Nfa) (t : Tape) (q : ℕ) (R : List ℕ → List ℕ → Type 0)
       (kind : MatchKind) (k : ℕ) (pairs : List Pair) → Pairs (ArePatternsAt kind n t q) k pairs
       → Pairs (ArePatternsAt kind m t q) k pairs
   pairs_carried kind zero pairs h = h
-  pairs_carried kind (suc k) pairs h =
-      (h.0, h.1, pairs_carried kind k h.0 h.2, patterns_carried kind k h.1 h.3, h.4)
+  pairs_carried kind (suc k) pairs h = record {
+    earlier = h.earlier;
+    patterns = h.patterns;
+    before = pairs_carried kind k h.earlier h.before;
+    here = patterns_carried kind k h.patterns h.here;
+    joined = h.joined;
+  }
 
   pub overlapping_carried :
       (kind : MatchKind) (pairs : List Pair) → IsOverlappingOn kind n t q pairs → IsOverlappingOn kind m t q pairs

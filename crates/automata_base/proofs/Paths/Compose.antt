@@ -3,7 +3,7 @@
 -- least of them can be joined.
 use Rattle.std.proofs.Common.{ℕ, zero, suc, ◌≡◌, ◌<◌, List, [], ◌∷◌, ◌++◌, ◌⊎◌, Option, Some, None, inl, inr, refl, sym}
 use Rattle.std.proofs.Common.{ap, ◌∙◌, subst, arith}
-use Rattle.automata_base.specs.Paths.Order.{Before, Upto, Begins}
+use Rattle.automata_base.specs.Paths.Order.{Before, Upto, Begins, TakesLess, TakesSame}
 use Rattle.automata_base.specs.Lists.{In, Sorted, IsListOf, cons_some, pick, From}
 use Rattle.std.specs.Prelude.{slice_get}
 use Rattle.automata_base.proofs.Paths.Orders.{cons_head, cons_tail, none_some, before_then, before_after, upto_after}
@@ -46,7 +46,7 @@ pub found :
     (P : ℕ → List ℕ → Type 0) (g : ℕ → Option ℕ) (N : List ℕ) (k r : ℕ)
     → Sorted P N → slice_get (pick g N) k ≡ Some r → Found P g N (pick g N) k r
 found P g [] k r s e = absurd (none_some e)
-found P g (x ∷ xs) k r s e = go (g x) refl k e (λ k'. found P g xs k' r s.4)
+found P g (x ∷ xs) k r s e = go (g x) refl k e (λ k'. found P g xs k' r s.1)
   where
     go :
         (o : Option ℕ) → g x ≡ o → (k : ℕ) → slice_get (cons_some o (pick g xs)) k ≡ Some r
@@ -60,17 +60,17 @@ found P g (x ∷ xs) k r s e = go (g x) refl k e (λ k'. found P g xs k' r s.4)
         rank : Rank P g (x ∷ xs) (pick g xs) k f.1
         rank y r' (inl i) gy = absurd (none_some (sym gx ∙ ap g (sym i) ∙ gy))
         rank y r' (inr i) gy = f.4 y r' i gy
-    go (Some r0) gx zero e ih = (x, s.0, gx ∙ e, s.1, rank)
+    go (Some r0) gx zero e ih = (x, s.0.key, gx ∙ e, s.0.has, rank)
       where
-        rank : Rank P g (x ∷ xs) (r0 ∷ pick g xs) zero s.0
+        rank : Rank P g (x ∷ xs) (r0 ∷ pick g xs) zero s.0.key
         rank y r' (inl i) gy = (
           zero,
           sym gx ∙ ap g (sym i) ∙ gy,
-          inr (inl (refl, λ other h. s.2 other (subst (λ w. P w other) i h))),
+          inr (inl (refl, λ other h. s.0.least other (subst (λ w. P w other) i h))),
         )
         rank y r' (inr i) gy =
             let w = in_pick g xs y r' i gy in
-            (suc w.0, w.1, inl (omega arith, λ other h. s.3 y other i h))
+            (suc w.0, w.1, inl (omega arith, λ other h. s.0.before y other i h))
     go (Some r0) gx (suc k) e ih = (f.0, f.1, f.2, f.3, rank)
       where
         f : Found P g xs (pick g xs) k r
@@ -101,16 +101,18 @@ transfer_least_sorted :
     (P P' : ℕ → List ℕ → Type 0) (xs : List ℕ) → Moved P P' → Sorted P xs → Sorted P' xs
 transfer_least_sorted P P' [] m s = tt
 transfer_least_sorted P P' (x ∷ xs) m s =
-    let i = m x s.0 s.1 s.2 in
-    (i.0, i.1, least i.0 i.2, later i.0 i.2, transfer_least_sorted P P' xs m s.4)
+    let i = m x s.0.key s.0.has s.0.least in (
+      record { key = i.0; has = i.1; least = least i.0 i.2; before = later i.0 i.2 },
+      transfer_least_sorted P P' xs m s.1,
+    )
   where
-    least : (image : List ℕ) → Carries P P' s.0 image → (other : List ℕ) → P' x other → Upto image other
-    least image c other h = let w = c x other h in w.3 (s.2 w.0 w.1)
+    least : (image : List ℕ) → Carries P P' s.0.key image → (other : List ℕ) → P' x other → Upto image other
+    least image c other h = let w = c x other h in w.3 (s.0.least w.0 w.1)
 
     later :
-        (image : List ℕ) → Carries P P' s.0 image → (y : ℕ) (other : List ℕ)
+        (image : List ℕ) → Carries P P' s.0.key image → (y : ℕ) (other : List ℕ)
         → In y xs → P' y other → Before image other
-    later image c y other i h = let w = c y other h in w.2 (s.3 y w.0 i w.1)
+    later image c y other i h = let w = c y other h in w.2 (s.0.before y w.0 i w.1)
 
 pub transfer_least :
     (P P' : ℕ → List ℕ → Type 0) (xs : List ℕ)
@@ -183,11 +185,11 @@ compose_least P g S P' glue N xs h1 h2 n l = transfer_least (From S (pick g N)) 
 
             go : Order3 P k k' f.1 d.0 → Before (k ∷ s) (k' ∷ d.3) → Before (f.1 ++ (glue ++ s)) (d.2 ++ (glue ++ d.3))
             go (inl o) b = before_then f.1 d.2 (glue ++ s) (glue ++ d.3) (o.1 d.2 d.4) apart
-            go (inr (inl o)) (inl b) = absurd (omega (arith, o.0, b))
-            go (inr (inl o)) (inr b) =
-                before_after f.1 d.2 (glue ++ s) (glue ++ d.3) (o.1 d.2 d.4) apart (before_append glue s d.3 b.1)
-            go (inr (inr o)) (inl b) = absurd (omega (arith, o, b))
-            go (inr (inr o)) (inr b) = absurd (omega (arith, o, b.0))
+            go (inr (inl o)) (TakesLess b) = absurd (omega (arith, o.0, b))
+            go (inr (inl o)) (TakesSame e b) =
+                before_after f.1 d.2 (glue ++ s) (glue ++ d.3) (o.1 d.2 d.4) apart (before_append glue s d.3 b)
+            go (inr (inr o)) (TakesLess b) = absurd (omega (arith, o, b))
+            go (inr (inr o)) (TakesSame e b) = absurd (omega (arith, o, e))
 
         upto :
             (d : D) → (k' : ℕ) → Order3 P k k' f.1 d.0 → Upto (k ∷ s) (k' ∷ d.3) → Upto (f.1 ++ (glue ++ s)) other
@@ -220,7 +222,7 @@ compose_least P g S P' glue N xs h1 h2 n l = transfer_least (From S (pick g N)) 
             go (inl o) = before_irrefl p' (before_trans p' f.1 p' b (o.1 p' py))
             go (inr (inl o)) = before_irrefl p' (before_upto p' f.1 p' b (o.1 p' py))
             go (inr (inr o)) = before_irrefl (w.0 ∷ s')
-                (before_upto (w.0 ∷ s') (k ∷ s) (w.0 ∷ s') (inl o) (least (w.0 ∷ s') (r', w.1, sy)))
+                (before_upto (w.0 ∷ s') (k ∷ s) (w.0 ∷ s') (TakesLess o) (least (w.0 ∷ s') (r', w.1, sy)))
 
 pub compose :
     (P : ℕ → List ℕ → Type 0) (g : ℕ → Option ℕ) (S : ℕ → List ℕ → ℕ → Type 0) (P' : ℕ → List ℕ → Type 0)

@@ -85,7 +85,7 @@ Leads_to n P xs m =
 leader_sorted :
     (n : Nfa) (P : ℕ → List ℕ → Type 0) (xs : List ℕ) (m : ℕ) → Sorted P xs → leader n xs ≡ Some m → Leads_to n P xs m
 leader_sorted n P [] m s h = absurd (none_some h)
-leader_sorted n P (x ∷ xs) m s h = go (accepts n x) refl h (leader_sorted n P xs m s.4)
+leader_sorted n P (x ∷ xs) m s h = go (accepts n x) refl h (leader_sorted n P xs m s.1)
   where
     go :
         (o : Option ℕ) → accepts n x ≡ o → (g : first_of_two o x (leader n xs) ≡ Some m)
@@ -95,17 +95,17 @@ leader_sorted n P (x ∷ xs) m s h = go (accepts n x) refl h (leader_sorted n P 
         × ((q : ℕ) → In q (x ∷ xs) → In q (stop_at o x (front n xs)) ⊎ ((key : List ℕ) → P q key → Upto a key))
         × ((q p : ℕ) (key : List ℕ) → In q (x ∷ xs) → accepts n q ≡ Some p → P q key → Upto a key)
     go (Some p) e g ih = (
-      s.0,
-      subst (λ v. P v s.0) (some_inj g) s.1,
+      s.0.key,
+      subst (λ v. P v s.0.key) (some_inj g) s.0.has,
       (p, ap (λ v. accepts n v) (sym (some_inj g)) ∙ e),
       tt,
       λ q i. inr (all q i),
       λ q p key i a h. all q i key h,
     )
       where
-        all : (q : ℕ) → In q (x ∷ xs) → (key : List ℕ) → P q key → Upto s.0 key
-        all q (inl i) key h = s.2 key (subst (λ v. P v key) i h)
-        all q (inr i) key h = inr (s.3 q key i h)
+        all : (q : ℕ) → In q (x ∷ xs) → (key : List ℕ) → P q key → Upto s.0.key key
+        all q (inl i) key h = s.0.least key (subst (λ v. P v key) i h)
+        all q (inr i) key h = inr (s.0.before q key i h)
     go None e g ih = (w.0, w.1, w.2, sorted, placed, matches)
       where
         w : Leads_to n P xs m
@@ -113,10 +113,12 @@ leader_sorted n P (x ∷ xs) m s h = go (accepts n x) refl h (leader_sorted n P 
 
         sorted : Sorted (λ q key. P q key × Before key w.0) (x ∷ front n xs)
         sorted = (
-          s.0,
-          (s.1, s.3 m w.0 (leader_in n xs m g) w.1),
-          λ other h. s.2 other h.0,
-          λ y other i h. s.3 y other (front_in n xs y i) h.0,
+          record {
+            key = s.0.key;
+            has = (s.0.has, s.0.before m w.0 (leader_in n xs m g) w.1);
+            least = λ other h. s.0.least other h.0;
+            before = λ y other i h. s.0.before y other (front_in n xs y i) h.0;
+          },
           w.3,
         )
 

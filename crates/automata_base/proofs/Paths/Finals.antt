@@ -101,14 +101,13 @@ walk_pairs :
     (kind : MatchKind) (n : Nfa) (t : Tape) (start k : ℕ)
     → IsInRange n → start < length n.nodes → Pairs (Reports kind n t start) k (pairs_upto n kind start t k)
 walk_pairs kind n t start zero r l = refl
-walk_pairs kind n t start (suc k) r l = (
-  pairs_upto n kind start t k,
-  reported_of n kind start t k,
-  walk_pairs kind n t start k r l,
-  reported_right n kind
-      start t k r l,
-  refl,
-)
+walk_pairs kind n t start (suc k) r l = record {
+  earlier = pairs_upto n kind start t k;
+  patterns = reported_of n kind start t k;
+  before = walk_pairs kind n t start k r l;
+  here = reported_right n kind start t k r l;
+  joined = refl;
+}
 
 -- Late is right, for walks.
 pub walked_right :

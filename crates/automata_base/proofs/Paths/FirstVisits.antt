@@ -1,7 +1,7 @@
 -- The order of first visits is the order of least paths.
 use Rattle.std.proofs.Common.{ℕ, zero, suc, ◌≡◌, ◌<◌, ◌+◌, Bool, true, false, cond, List, [], ◌∷◌, ◌++◌, ◌⊎◌, length}
 use Rattle.std.proofs.Common.{Some, None, inl, inr, refl, sym, ap, ap₂, ◌∙◌, subst, arith, ⊎_elim}
-use Rattle.automata_base.specs.Paths.Order.{Before, Upto}
+use Rattle.automata_base.specs.Paths.Order.{Before, Upto, EndsFirst, TakesLess, TakesSame}
 use Rattle.automata_base.specs.Lists.{In, Sorted, IsListOf, From}
 use Rattle.std.specs.Prelude.{slice_get}
 use Rattle.automata_base.specs.Nfas.Nfa.{Nfa, Node, Split, Assert, Read, Accept, Truth, node, hop, hop_at}
@@ -192,22 +192,22 @@ module _ (n : Nfa) (A : Truth) (x : ℕ) (S stack : List ℕ) (new : In x S → 
       go (inl c) = (
         c.0 ∷ c.1,
         c.3,
-        (λ b. subst (λ v. Before (0 ∷ (j ∷ p)) v) (sym c.4) (inr (refl, b))),
+        (λ b. subst (λ v. Before (0 ∷ (j ∷ p)) v) (sym c.4) (TakesSame refl b)),
         λ b. subst (λ v. Upto (0 ∷ (j ∷ p)) v) (sym c.4)
             (⊎_elim (λ (e : ◌≡◌ {A = List ℕ} (j ∷ p) (c.0 ∷ c.1)). inl (ap (λ v. 0 ∷ v) e))
-            (λ (u : Before (j ∷ p) (c.0 ∷ c.1)). inr (inr (refl, u))) b),
+            (λ (u : Before (j ∷ p) (c.0 ∷ c.1)). inr (TakesSame refl u)) b),
       )
       go (inr (inl c)) = (
         c.0 ∷ c.2,
         c.5,
-        (λ b. subst (λ v. Before (0 ∷ (j ∷ p)) v) (sym c.6) (inl (omega arith))),
-        λ b. subst (λ v. Upto (0 ∷ (j ∷ p)) v) (sym c.6) (inr (inl (omega arith))),
+        (λ b. subst (λ v. Before (0 ∷ (j ∷ p)) v) (sym c.6) (TakesLess (omega arith))),
+        λ b. subst (λ v. Upto (0 ∷ (j ∷ p)) v) (sym c.6) (inr (TakesLess (omega arith))),
       )
       go (inr (inr c)) = (
         c.0 ∷ c.2,
         c.4,
-        (λ b. subst (λ v. Before (0 ∷ (j ∷ p)) v) (sym c.5) (inl (omega arith))),
-        λ b. subst (λ v. Upto (0 ∷ (j ∷ p)) v) (sym c.5) (inr (inl (omega arith))),
+        (λ b. subst (λ v. Before (0 ∷ (j ∷ p)) v) (sym c.5) (TakesLess (omega arith))),
+        λ b. subst (λ v. Upto (0 ∷ (j ∷ p)) v) (sym c.5) (inr (TakesLess (omega arith))),
       )
 
   carries_second :
@@ -215,8 +215,8 @@ module _ (n : Nfa) (A : Truth) (x : ℕ) (S stack : List ℕ) (new : In x S → 
   carries_second j k p at q other o = go (classify q other o)
     where
       before_no : (e : ℕ) (s : List ℕ) → e < length (children n A x) → Before (j ∷ p) (e ∷ s) → ⊥
-      before_no e s l (inl b) = omega (arith, at, l, b)
-      before_no e s l (inr b) = omega (arith, at, l, b.0)
+      before_no e s l (TakesLess b) = omega (arith, at, l, b)
+      before_no e s l (TakesSame same b) = omega (arith, at, l, same)
 
       upto_no : (e : ℕ) (s : List ℕ) → e < length (children n A x) → Upto (j ∷ p) (e ∷ s) → ⊥
       upto_no e s l (inl b) = let h : j ≡ e = cons_head b in omega (arith, at, l, h)
@@ -238,8 +238,8 @@ module _ (n : Nfa) (A : Truth) (x : ℕ) (S stack : List ℕ) (new : In x S → 
       )
         where
           less : Before (j ∷ p) (c.0 ∷ c.2) → Before (suc k ∷ p) (suc c.1 ∷ c.2)
-          less (inl b) = inl (omega (arith, at, c.3, b))
-          less (inr b) = inr (omega (arith, at, c.3, b.0), b.1)
+          less (TakesLess b) = TakesLess (omega (arith, at, c.3, b))
+          less (TakesSame same b) = TakesSame (omega (arith, at, c.3, same)) b
 
           not_more : Upto (j ∷ p) (c.0 ∷ c.2) → Upto (suc k ∷ p) (suc c.1 ∷ c.2)
           not_more (inl e) =
@@ -274,27 +274,32 @@ module _ (n : Nfa) (A : Truth) (x : ℕ) (S stack : List ℕ) (new : In x S → 
   zero_least : (other : List ℕ) → P' x other → Upto (0 ∷ []) other
   zero_least [] h = absurd h
   zero_least (zero ∷ []) h = inl refl
-  zero_least (zero ∷ (e ∷ p)) h = inr (inr (refl, tt))
-  zero_least (suc k ∷ p) h = inr (inl (omega arith))
+  zero_least (zero ∷ (e ∷ p)) h = inr (TakesSame refl EndsFirst)
+  zero_least (suc k ∷ p) h = inr (TakesLess (omega arith))
 
   zero_before : (q : ℕ) (other : List ℕ) → (q ≡ x → ⊥) → P' q other → Before (0 ∷ []) other
   zero_before q [] d h = absurd h
   zero_before q (zero ∷ []) d h = absurd (d (sym h.2.1 ∙ sym (some_inj h.1)))
-  zero_before q (zero ∷ (e ∷ p)) d h = inr (refl, tt)
-  zero_before q (suc k ∷ p) d h = inl (omega arith)
+  zero_before q (zero ∷ (e ∷ p)) d h = TakesSame refl EndsFirst
+  zero_before q (suc k ∷ p) d h = TakesLess (omega arith)
 
   all_others : (xs : List ℕ) → Sorted Other xs → Sorted P' xs
   all_others [] s = tt
   all_others (y ∷ ys) s = (
-    s.0,
-    s.1.1,
-    (λ other h. s.2 other (s.1.0, h)),
-    (λ z other i h. let w = sorted_has Other ys z s.4 i in s.3 z other i (w.1.0, h)),
-    all_others ys s.4,
+    record {
+      key = s.0.key;
+      has = s.0.has.1;
+      least = λ other h. s.0.least other (s.0.has.0, h);
+      before = λ z other i h. (let w = sorted_has Other ys z s.1 i in s.0.before z other i (w.1.0, h));
+    },
+    all_others ys s.1,
   )
 
   visited : (out : List ℕ) → IsListOf P out → IsListOf P' (x ∷ out)
-  visited out l = (has, (0 ∷ [], (x, refl, (new, refl)), zero_least, later, all_others out m.1))
+  visited out l = (
+    has,
+    (record { key = 0 ∷ []; has = (x, refl, (new, refl)); least = zero_least; before = later }, all_others out m.1),
+  )
     where
       m : IsListOf Other out
       m = transfer P Other out image back l
@@ -328,8 +333,8 @@ skipped n A x S stack out seen l = transfer P P' out image back l
     carries k p q (suc k' ∷ p') h = (k' ∷ p', h, less, not_more)
       where
         less : Before (k ∷ p) (k' ∷ p') → Before (suc k ∷ p) (suc k' ∷ p')
-        less (inl b) = inl (omega (arith, b))
-        less (inr b) = inr (ap suc b.0, b.1)
+        less (TakesLess b) = TakesLess (omega (arith, b))
+        less (TakesSame same b) = TakesSame (ap suc same) b
 
         not_more : Upto (k ∷ p) (k' ∷ p') → Upto (suc k ∷ p) (suc k' ∷ p')
         not_more (inl e) = inl (ap₂ ◌∷◌ (ap suc (cons_head e)) (cons_tail e))

@@ -1,7 +1,7 @@
 use Rattle.std.proofs.lemmas.Bool.{cases_lt}
 use Rattle.std.proofs.Common.{Option, Some, None, ◌≤◌, ℕ, ◌≡◌, ◌<◌, List, [], ◌∷◌, ◌++◌, ◌⊎◌, inl, inr, refl, sym, ap₂}
 use Rattle.std.proofs.Common.{◌∙◌, subst, ⊎_elim, eq-or-lt_of_le, lt_trans, lt_irrefl}
-use Rattle.automata_base.specs.Paths.Order.{Before, Upto, Begins}
+use Rattle.automata_base.specs.Paths.Order.{Before, Upto, Begins, EndsFirst, TakesLess, TakesSame}
 
 -- Less by a difference, so whatever follows.
 abbrev pub Under : List ℕ → List ℕ → Type 0
@@ -12,39 +12,40 @@ Under (x ∷ xs) (y ∷ ys) = (x < y) ⊎ ((x ≡ y) × Under xs ys)
 pub under_append : (xs ys a b : List ℕ) → Under xs ys → Before (xs ++ a) (ys ++ b)
 under_append [] ys a b h = elim h [ ]
 under_append (x ∷ xs) [] a b h = elim h [ ]
-under_append (x ∷ xs) (y ∷ ys) a b (inl h) = inl h
-under_append (x ∷ xs) (y ∷ ys) a b (inr h) = inr (h.0, under_append xs ys a b h.1)
+under_append (x ∷ xs) (y ∷ ys) a b (inl h) = TakesLess h
+under_append (x ∷ xs) (y ∷ ys) a b (inr h) = TakesSame h.0 (under_append xs ys a b h.1)
 
 pub before_append : (xs a b : List ℕ) → Before a b → Before (xs ++ a) (xs ++ b)
 before_append [] a b h = h
-before_append (x ∷ xs) a b h = inr (refl, before_append xs a b h)
+before_append (x ∷ xs) a b h = TakesSame refl (before_append xs a b h)
 
 pub before_cases : (xs ys : List ℕ) → Before xs ys → Under xs ys ⊎ Begins xs ys
 before_cases [] [] h = elim h [ ]
 before_cases [] (y ∷ ys) h = inr (y, ys, refl)
 before_cases (x ∷ xs) [] h = elim h [ ]
-before_cases (x ∷ xs) (y ∷ ys) (inl h) = inl (inl h)
-before_cases (x ∷ xs) (y ∷ ys) (inr h) = go (before_cases xs ys h.1)
+before_cases (x ∷ xs) (y ∷ ys) (TakesLess h) = inl (inl h)
+before_cases (x ∷ xs) (y ∷ ys) (TakesSame e h) = go (before_cases xs ys h)
   where
     go : Under xs ys ⊎ Begins xs ys → Under (x ∷ xs) (y ∷ ys) ⊎ Begins (x ∷ xs) (y ∷ ys)
-    go (inl u) = inl (inr (h.0, u))
-    go (inr b) = inr (b.0, b.1, ap₂ ◌∷◌ (sym h.0) b.2)
+    go (inl u) = inl (inr (e, u))
+    go (inr b) = inr (b.0, b.1, ap₂ ◌∷◌ (sym e) b.2)
 
 pub before_irrefl : (xs : List ℕ) → Before xs xs → ⊥
-before_irrefl [] h = h
-before_irrefl (x ∷ xs) (inl h) = lt_irrefl x h
-before_irrefl (x ∷ xs) (inr h) = before_irrefl xs h.1
+before_irrefl [] h = elim h [ ]
+before_irrefl (x ∷ xs) (TakesLess h) = lt_irrefl x h
+before_irrefl (x ∷ xs) (TakesSame e h) = before_irrefl xs h
 
 pub before_trans : (xs ys zs : List ℕ) → Before xs ys → Before ys zs → Before xs zs
 before_trans [] [] zs h k = elim h [ ]
 before_trans [] (y ∷ ys) [] h k = elim k [ ]
-before_trans [] (y ∷ ys) (z ∷ zs) h k = tt
+before_trans [] (y ∷ ys) (z ∷ zs) h k = EndsFirst
 before_trans (x ∷ xs) [] zs h k = elim h [ ]
 before_trans (x ∷ xs) (y ∷ ys) [] h k = elim k [ ]
-before_trans (x ∷ xs) (y ∷ ys) (z ∷ zs) (inl h) (inl k) = inl (lt_trans h k)
-before_trans (x ∷ xs) (y ∷ ys) (z ∷ zs) (inl h) (inr k) = inl (subst (λ w. x < w) k.0 h)
-before_trans (x ∷ xs) (y ∷ ys) (z ∷ zs) (inr h) (inl k) = inl (subst (λ w. w < z) (sym h.0) k)
-before_trans (x ∷ xs) (y ∷ ys) (z ∷ zs) (inr h) (inr k) = inr (h.0 ∙ k.0, before_trans xs ys zs h.1 k.1)
+before_trans (x ∷ xs) (y ∷ ys) (z ∷ zs) (TakesLess h) (TakesLess k) = TakesLess (lt_trans h k)
+before_trans (x ∷ xs) (y ∷ ys) (z ∷ zs) (TakesLess h) (TakesSame f k) = TakesLess (subst (λ w. x < w) f h)
+before_trans (x ∷ xs) (y ∷ ys) (z ∷ zs) (TakesSame e h) (TakesLess k) = TakesLess (subst (λ w. w < z) (sym e) k)
+before_trans (x ∷ xs) (y ∷ ys) (z ∷ zs) (TakesSame e h) (TakesSame f k) =
+    TakesSame (e ∙ f) (before_trans xs ys zs h k)
 
 pub cons_head : {x y : ℕ} {xs ys : List ℕ} → ◌≡◌ {A = List ℕ} (x ∷ xs) (y ∷ ys) → x ≡ y
 cons_head e = cc
@@ -83,29 +84,29 @@ upto_after p q a b (inr u) apart f = inr (before_then p q a b u apart)
 
 pub before_total : (xs ys : List ℕ) → Before xs ys ⊎ Upto ys xs
 before_total [] [] = inr (inl refl)
-before_total [] (y ∷ ys) = inl tt
-before_total (x ∷ xs) [] = inr (inr tt)
+before_total [] (y ∷ ys) = inl EndsFirst
+before_total (x ∷ xs) [] = inr (inr EndsFirst)
 before_total (x ∷ xs) (y ∷ ys) = go (cases_lt x y) (before_total xs ys)
   where
     eq : x ≡ y → Before xs ys ⊎ Upto ys xs → Before (x ∷ xs) (y ∷ ys) ⊎ Upto (y ∷ ys) (x ∷ xs)
-    eq e (inl h) = inl (inr (e, h))
+    eq e (inl h) = inl (TakesSame e h)
     eq e (inr (inl h)) = inr (inl (ap₂ ◌∷◌ (sym e) h))
-    eq e (inr (inr h)) = inr (inr (inr (sym e, h)))
+    eq e (inr (inr h)) = inr (inr (TakesSame (sym e) h))
 
     go : x < y ⊎ y ≤ x → Before xs ys ⊎ Upto ys xs → Before (x ∷ xs) (y ∷ ys) ⊎ Upto (y ∷ ys) (x ∷ xs)
-    go (inl h) t = inl (inl h)
+    go (inl h) t = inl (TakesLess h)
     go (inr h) t =
-        ⊎_elim (λ (e : y ≡ x). eq (sym e) t) (λ (l : y < x). inr (inr (inl l))) (eq-or-lt_of_le h)
+        ⊎_elim (λ (e : y ≡ x). eq (sym e) t) (λ (l : y < x). inr (inr (TakesLess l))) (eq-or-lt_of_le h)
 
 pub under_append_left : (xs ys a : List ℕ) → Under xs ys → Before (xs ++ a) ys
 under_append_left [] ys a h = elim h [ ]
 under_append_left (x ∷ xs) [] a h = elim h [ ]
-under_append_left (x ∷ xs) (y ∷ ys) a (inl h) = inl h
-under_append_left (x ∷ xs) (y ∷ ys) a (inr h) = inr (h.0, under_append_left xs ys a h.1)
+under_append_left (x ∷ xs) (y ∷ ys) a (inl h) = TakesLess h
+under_append_left (x ∷ xs) (y ∷ ys) a (inr h) = TakesSame h.0 (under_append_left xs ys a h.1)
 
 pub before_begin : (xs : List ℕ) (z : ℕ) (zs : List ℕ) → Before xs (xs ++ (z ∷ zs))
-before_begin [] z zs = tt
-before_begin (x ∷ xs) z zs = inr (refl, before_begin xs z zs)
+before_begin [] z zs = EndsFirst
+before_begin (x ∷ xs) z zs = TakesSame refl (before_begin xs z zs)
 
 pub upto_before : (xs ys zs : List ℕ) → Upto xs ys → Before ys zs → Before xs zs
 upto_before xs ys zs (inl e) k = subst (λ w. Before w zs) (sym e) k

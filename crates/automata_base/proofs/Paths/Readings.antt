@@ -139,29 +139,35 @@ sorted_one P [] [] s k f g = refl
 sorted_one P [] (y ∷ ys) s k f g = absurd (g y (inl refl))
 sorted_one P (x ∷ xs) [] s k f g = absurd (f x (inl refl))
 sorted_one P (x ∷ xs) (y ∷ ys) s k f g =
-    ap₂ ◌∷◌ same_head (sorted_one P xs ys s.4 k.4 down up)
+    ap₂ ◌∷◌ same_head (sorted_one P xs ys s.1 k.1 down up)
   where
     same_head : x ≡ y
     same_head = ⊎_elim (λ (e : x ≡ y). e)
         (λ (i : In x ys). ⊎_elim (λ (e : y ≡ x). sym e)
-        (λ (j : In y xs). absurd (before_irrefl s.0 (before_trans s.0 k.0 s.0 (s.3 y k.0 j k.1) (k.3 x s.0 i s.1))))
+        (λ (j : In y xs). absurd
+        (before_irrefl s.0.key
+        (before_trans s.0.key k.0.key s.0.key (s.0.before y k.0.key j k.0.has) (k.0.before x s.0.key i s.0.has))))
         (g y (inl refl)))
         (f x (inl refl))
 
     down : (q : ℕ) → In q xs → In q ys
     down q i = ⊎_elim
-        (λ (e : q ≡ y). absurd (before_irrefl s.0 (s.3 q s.0 i (subst (λ v. P v s.0) (same_head ∙ sym e) s.1))))
+        (λ (e : q ≡ y). absurd
+        (before_irrefl s.0.key
+        (s.0.before q s.0.key i (subst (λ v. P v s.0.key) (same_head ∙ sym e) s.0.has))))
         (λ (j : In q ys). j) (f q (inr i))
 
     up : (q : ℕ) → In q ys → In q xs
     up q i = ⊎_elim
-        (λ (e : q ≡ x). absurd (before_irrefl k.0 (k.3 q k.0 i (subst (λ v. P v k.0) (sym same_head ∙ sym e) k.1))))
+        (λ (e : q ≡ x). absurd
+        (before_irrefl k.0.key
+        (k.0.before q k.0.key i (subst (λ v. P v k.0.key) (sym same_head ∙ sym e) k.0.has))))
         (λ (j : In q xs). j) (g q (inr i))
 
 pub sorted_has : (P : ℕ → List ℕ → Type 0) (xs : List ℕ) (q : ℕ) → Sorted P xs → In q xs → (key : List ℕ) × P q key
 sorted_has P [] q s i = absurd i
-sorted_has P (x ∷ xs) q s (inl i) = (s.0, subst (λ v. P v s.0) (sym i) s.1)
-sorted_has P (x ∷ xs) q s (inr i) = sorted_has P xs q s.4 i
+sorted_has P (x ∷ xs) q s (inl i) = (s.0.key, subst (λ v. P v s.0.key) (sym i) s.0.has)
+sorted_has P (x ∷ xs) q s (inr i) = sorted_has P xs q s.1 i
 
 pub list_one : (P : ℕ → List ℕ → Type 0) (xs ys : List ℕ) → IsListOf P xs → IsListOf P ys → xs ≡ ys
 list_one P xs ys l m =
@@ -180,7 +186,13 @@ once_none = (has, tt)
     has q (k ∷ s) h = none_some h.1
 
 once_one : (p : ℕ) → IsOnce (p ∷ []) (p ∷ [])
-once_one p = (has, (0 ∷ [], (p, refl, (refl, refl)), least, λ y other i h. absurd i, tt))
+once_one p = (
+  has,
+  (
+    record { key = 0 ∷ []; has = (p, refl, (refl, refl)); least = least; before = λ y other i h. absurd i },
+    tt,
+  ),
+)
   where
     has : (q : ℕ) (key : List ℕ) → From Root (p ∷ []) q key → In q (p ∷ [])
     has q [] h = absurd h

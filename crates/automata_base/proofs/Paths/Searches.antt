@@ -22,13 +22,13 @@ pub pairs_map :
     (At At' : ℕ → List ℕ → Type 0) (k : ℕ) (pairs : List Pair)
     → ((i : ℕ) (patterns : List ℕ) → i < k → At i patterns → At' i patterns) → Pairs At k pairs → Pairs At' k pairs
 pairs_map At At' zero pairs f p = p
-pairs_map At At' (suc k) pairs f p = (
-  p.0,
-  p.1,
-  pairs_map At At' k p.0 (λ i patterns l. f i patterns (omega (arith, l))) p.2,
-  f k p.1 (omega arith) p.3,
-  p.4,
-)
+pairs_map At At' (suc k) pairs f p = record {
+  earlier = p.earlier;
+  patterns = p.patterns;
+  before = pairs_map At At' k p.earlier (λ i patterns l. f i patterns (omega (arith, l))) p.before;
+  here = f k p.patterns (omega arith) p.here;
+  joined = p.joined;
+}
 
 -- The whole list of a walk.
 pub walk_right :
@@ -76,12 +76,12 @@ pub head_least :
     → ArePatternsAt kind n t start i (p ∷ rest)
     → (path : List ℕ) × Accepts n t start i p path
     × ((other : ℕ) (more : List ℕ) → Accepts n t start i other more → Upto path more)
-head_least All n t start i p rest h = (h.1.0, h.1.1, least)
+head_least All n t start i p rest h = (h.1.0.key, h.1.0.has, least)
   where
-    least : (other : ℕ) (more : List ℕ) → Accepts n t start i other more → Upto h.1.0 more
+    least : (other : ℕ) (more : List ℕ) → Accepts n t start i other more → Upto h.1.0.key more
     least other more a = ⊎_elim
-        (λ (e : other ≡ p). h.1.2 more (subst (λ v. Accepts n t start i v more) e a))
-        (λ (k : In other rest). inr (h.1.3 other more k a))
+        (λ (e : other ≡ p). h.1.0.least more (subst (λ v. Accepts n t start i v more) e a))
+        (λ (k : In other rest). inr (h.1.0.before other more k a))
         (h.0 other more a)
 head_least LeftmostFirst n t start i p rest (ReportsNoneAt none h) = absurd (nil_cons (sym none))
 head_least LeftmostFirst n t start i p rest (ReportsLeast q path one h) =

@@ -34,19 +34,27 @@ sift_sorted :
     (P : ℕ → List ℕ → Type 0) (g : ℕ → Option ℕ) (xs : List ℕ)
     → IsSieve g → Sorted P xs → Sorted (Sifted g P) (pick g xs)
 sift_sorted P g [] f s = tt
-sift_sorted P g (x ∷ xs) f s = go (g x) refl (sift_sorted P g xs f s.4)
+sift_sorted P g (x ∷ xs) f s = go (g x) refl (sift_sorted P g xs f s.1)
   where
     go : (o : Option ℕ) → g x ≡ o → Sorted (Sifted g P) (pick g xs) → Sorted (Sifted g P) (cons_some o (pick g xs))
     go None e ih = ih
     go (Some r) e ih = subst (λ w. Sorted (Sifted g P) (w ∷ pick g xs)) (f x r e) here
       where
         later :
-            (y : ℕ) (other : List ℕ) → In y (pick g xs) → Sifted g P y other → Before s.0 other
+            (y : ℕ) (other : List ℕ) → In y (pick g xs) → Sifted g P y other → Before s.0.key other
         later y other i h =
-            let w = in_picked g xs y i in s.3 y other (subst (λ v. In v xs) (f w.0 y w.2) w.1) h.1
+            let w = in_picked g xs y i in s.0.before y other (subst (λ v. In v xs) (f w.0 y w.2) w.1) h.1
 
         here : Sorted (Sifted g P) (x ∷ pick g xs)
-        here = (s.0, (e ∙ ap Some (sym (f x r e)), s.1), λ other h. s.2 other h.1, later, ih)
+        here = (
+          record {
+            key = s.0.key;
+            has = (e ∙ ap Some (sym (f x r e)), s.0.has);
+            least = λ other h. s.0.least other h.1;
+            before = later;
+          },
+          ih,
+        )
 
 pub sift :
     (P : ℕ → List ℕ → Type 0) (g : ℕ → Option ℕ) (xs : List ℕ)
@@ -59,12 +67,13 @@ same_sorted :
     → Sorted P xs → Sorted P' xs
 same_sorted P P' [] f g s = tt
 same_sorted P P' (x ∷ xs) f g s = (
-  s.0,
-  f x s.0 s.1,
-  λ other h. s.2 other (g x other h),
-  λ y other i h. s.3 y other i (g y other h),
-  same_sorted P P'
-      xs f g s.4,
+  record {
+    key = s.0.key;
+    has = f x s.0.key s.0.has;
+    least = λ other h. s.0.least other (g x other h);
+    before = λ y other i h. s.0.before y other i (g y other h);
+  },
+  same_sorted P P' xs f g s.1,
 )
 
 -- Keys said in another way.

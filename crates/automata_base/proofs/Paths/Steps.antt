@@ -150,7 +150,18 @@ first n t start xs m =
     P' = EndsWithin n t start None 0
 
     l : IsListOf P (start ∷ [])
-    l = (λ q key h. inl h.0, ([], (refl, refl), λ other h. inl (sym h.1), λ y other i h. absurd i, tt))
+    l = (
+      λ q key h. inl h.0,
+      (
+        record {
+          key = [];
+          has = (refl, refl);
+          least = λ other h. inl (sym h.1);
+          before = λ y other i h. absurd i;
+        },
+        tt,
+      ),
+    )
 
     there : (q : ℕ) (key : List ℕ) → Ending n (From W (start ∷ [])) q key → From S (start ∷ []) q key
     there q [] h = h.1

@@ -64,7 +64,9 @@ pairs_one :
     → ((i : ℕ) (x y : List ℕ) → At i x → At i y → x ≡ y) → Pairs At k a → Pairs At k b → a ≡ b
 pairs_one At zero a b f h k = h ∙ sym k
 pairs_one At (suc i) a b f h k =
-    h.4 ∙ (ap₂ (λ v w. v ++ at_place i w) (pairs_one At i h.0 k.0 f h.2 k.2) (f i h.1 k.1 h.3 k.3) ∙ sym k.4)
+    h.joined
+    ∙ (ap₂ (λ v w. v ++ at_place i w) (pairs_one At i h.earlier k.earlier f h.before k.before)
+    (f i h.patterns k.patterns h.here k.here) ∙ sym k.joined)
 
 pub walk_one :
     (kind : MatchKind) (n : Nfa) (t : Tape) (start : ℕ) (a b : List Pair)

@@ -8,14 +8,6 @@ use Rattle.automata_base.proofs.Paths.Fuels.{is_in_true, is_in_false}
 use Rattle.automata_base.proofs.Paths.FirstVisits.{in_right}
 use Rattle.automata_base.proofs.Paths.Walks.{in_left, in_either}
 
--- A set with no member marks an empty list.
-pub marks_none : (ys : List ℕ) (m : Members) → ys ≡ [] → m.items ≡ [] → AreMarks ys m
-marks_none ys m e none p below = (
-  λ i. subst (λ z. In p z) (sym e) (subst (λ z. In p z) none i),
-  λ i. subst (λ z. In p z) (sym none)
-      (subst (λ z. In p z) e i),
-)
-
 -- A number that is in the list is found there.
 pub found : (p : ℕ) (ys : List ℕ) → In p ys → is_in p ys ≡ true
 found p ys i = decide (is_in p ys) refl

@@ -36,11 +36,18 @@ abbrev pub IsSplit : (Reports : Input → Option Pair → Type 0) → Direction 
 IsSplit Reports way input =
     (pair : Pair) × Reports input (Some pair) × (is_split input.haystack (offset_in way input pair.place) ≡ true)
 
+-- Why a search may try the span that begins `k` places later.
+pub data MayTry (skipping : Type 0) (input : Input) (k : ℕ) : Type 0 where
+  -- it is the first span
+  IsFirstSpan : k ≡ 0 → MayTry skipping input k
+  -- an unanchored search that skips split places goes on after them
+  SkipsToIt : skipping → input.anchored ≡ No → MayTry skipping input k
+
 -- The search comes to try the span that begins `k` places later.
 pub record Tries (Reports : Input → Option Pair → Type 0) (skipping : Type 0) (way : Direction) (input : Input)
     (k : ℕ) : Type 0 where
-  -- it is the first span, or an unanchored search that skips split places goes on after them
-  pub comes : (k ≡ 0) ⊎ (skipping × (input.anchored ≡ No))
+  -- it may try that span
+  pub comes : MayTry skipping input k
   -- over all the spans before it a split place was reported
   pub before : (j : ℕ) → j < k → (input.start + j ≤ input.end) × IsSplit Reports way (later way j input)
 
@@ -151,12 +158,23 @@ abbrev pub HasPattern : ℕ → List Pair → Type 0
 HasPattern p [] = ⊥
 HasPattern p (pair ∷ pairs) = (p ≡ pair.pattern) ⊎ HasPattern p pairs
 
--- The patterns of a set after a forward walk: the given ones, and those that the walk reports below the capacity; an
--- earliest one reports its first pair alone. `Reports` says which list the walk reports.
-abbrev pub ArePatterns : (Reports : List Pair → Type 0) → Input → ℕ → (given found : List ℕ) → Type 0
-ArePatterns Reports input capacity given found =
-    (pairs : List Pair) × Reports pairs
-    × ((p : ℕ) → In p found ↔ (In p given ⊎ ((p < capacity) × HasPattern p (first_alone input.earliest pairs))))
+-- Why a pattern is in a set after a walk that reports these pairs.
+pub data IsInSet (capacity : ℕ) (given : List ℕ) (pairs : List Pair) (p : ℕ) : Type 0 where
+  -- it was given
+  IsGivenPattern : In p given → IsInSet capacity given pairs p
+  -- it is below the capacity, and the walk reports it
+  IsReportedPattern : p < capacity → HasPattern p pairs → IsInSet capacity given pairs p
+
+-- The patterns of a set after a forward walk: the given ones, and those that the walk reports below the capacity.
+-- `Reports` says which list the walk reports.
+pub record ArePatterns (Reports : List Pair → Type 0) (input : Input) (capacity : ℕ) (given found : List ℕ) :
+    Type 0 where
+  -- the pairs of the walk
+  pub pairs : List Pair
+  -- it reports them
+  pub reports : Reports pairs
+  -- the set has these patterns; an earliest walk reports its first pair alone
+  pub members : (p : ℕ) → In p found ↔ IsInSet capacity given (first_alone input.earliest pairs) p
 
 -- The same by paths.
 abbrev pub ArePatternsFound : Engine → Input → ℕ → (given found : List ℕ) → Type 0

@@ -1,6 +1,6 @@
 -- An NFA some of whose unions are merged: a union becomes a state that reads bytes, or a union of such states, and
 -- further states stand for the lists of states to which the merged ones lead.
-use Rattle.std.specs.Prelude.{ℕ, ◌≡◌, ◌<◌, ◌≤◌, ◌+◌, ◌-◌, cond, ltb, List, [], ◌∷◌, ◌++◌, ◌⊎◌, length, slice_get}
+use Rattle.std.specs.Prelude.{ℕ, ◌≡◌, ◌<◌, ◌≤◌, ◌+◌, ◌-◌, cond, ltb, List, [], ◌∷◌, ◌++◌, length, slice_get}
 use Rattle.std.specs.Prelude.{Option, Some, None}
 use Rattle.automata_base.specs.Lists.{In}
 use Rattle.automata_base.specs.Nfas.Nfa.{Nfa, Node, Range, Split, Assert, Read, Accept, node, takes_in}
@@ -48,6 +48,15 @@ Shows n m anchored lists (Assert look next) list = ⊥
 Shows n m anchored lists (Read ranges) list = ReadsFor n anchored lists ranges list
 Shows n m anchored lists (Accept p) list = ⊥
 
+-- What becomes of a node of the first NFA.
+pub data IsMergedNode (n m : Nfa) (anchored : ℕ) (lists : List (List ℕ)) (was now : Node) : Type 0 where
+  -- it is as it was
+  KeepsNode : now ≡ was → IsMergedNode n m anchored lists was now
+  -- it was a union, and stands for its alternates
+  MergesUnion :
+      (alternates : List ℕ) → was ≡ Split alternates → Shows n m anchored lists now alternates
+      → IsMergedNode n m anchored lists was now
+
 -- The second NFA is the first one with some of its unions merged. The states of the first keep their numbers.
 pub record IsMerged (n m : Nfa) (anchored : ℕ) (lists : List (List ℕ)) : Type 0 where
   -- lines end at the same byte
@@ -57,10 +66,7 @@ pub record IsMerged (n m : Nfa) (anchored : ℕ) (lists : List (List ℕ)) : Typ
   -- there is one further state for each list
   pub count : length m.nodes ≡ length n.nodes + length lists
   -- each state of the first NFA is as it was, or was a union and stands for its alternates
-  pub old :
-      (q : ℕ) → q < length n.nodes
-      → (node m q ≡ node n q)
-      ⊎ ((alternates : List ℕ) × (node n q ≡ Split alternates) × Shows n m anchored lists (node m q) alternates)
+  pub first_states : (q : ℕ) → q < length n.nodes → IsMergedNode n m anchored lists (node n q) (node m q)
   -- each further state stands for its list
   pub further :
       (q : ℕ) → length n.nodes ≤ q → q < length m.nodes

@@ -71,12 +71,25 @@ abbrev pub at_place : ℕ → List ℕ → List Pair
 at_place i [] = []
 at_place i (p ∷ ps) = record { pattern = p; place = i } ∷ at_place i ps
 
+-- Pairs at the places before `i`, and then those at `i`. `Earlier` says which are those before it, `AtPlace` which
+-- patterns are at it.
+pub record AddsPlace (Earlier : List Pair → Type 0) (AtPlace : List ℕ → Type 0) (i : ℕ) (pairs : List Pair) :
+    Type 0 where
+  -- the pairs at the places before
+  pub earlier : List Pair
+  -- the patterns at place `i`
+  pub patterns : List ℕ
+  -- those are the pairs before
+  pub before : Earlier earlier
+  -- these are the patterns at the place
+  pub here : AtPlace patterns
+  -- the pairs are both, in this order
+  pub joined : pairs ≡ earlier ++ at_place i patterns
+
 -- The pairs at the first `k` places, by a rule for one place.
 abbrev pub Pairs : (ℕ → List ℕ → Type 0) → ℕ → List Pair → Type 0
 Pairs At zero pairs = pairs ≡ []
-Pairs At (suc i) pairs =
-    (earlier : List Pair) × (patterns : List ℕ) × Pairs At i earlier × At i patterns
-    × (pairs ≡ earlier ++ at_place i patterns)
+Pairs At (suc i) pairs = AddsPlace (Pairs At i) (At i) i pairs
 
 -- The whole list of a walk, by paths.
 abbrev pub IsOverlappingOn : MatchKind → Nfa → Tape → ℕ → List Pair → Type 0

@@ -1,5 +1,5 @@
 -- Unions whose alternates that read bytes are folded into one state that reads, and the states that it leads to.
-use Rattle.std.specs.Prelude.{ℕ, zero, suc, ◌≡◌, ◌<◌, ◌≤◌, ◌⊎◌, ◌↔◌, List, [], ◌∷◌, ◌++◌, Option, None, Some, slice_get}
+use Rattle.std.specs.Prelude.{ℕ, zero, suc, ◌≡◌, ◌<◌, ◌≤◌, ◌↔◌, List, [], ◌∷◌, ◌++◌, Option, None, Some, slice_get}
 use Rattle.std.specs.Prelude.{Bool, false, leb, length}
 use Rattle.automata_base.specs.declared.nfa.thompson.State.{State}
 use Rattle.automata_base.specs.declared.nfa.thompson.State.TheVariants as is
@@ -82,7 +82,7 @@ pub record IsFoldedUnion (n : Nfa) (free : List ℕ) (made : List Node) (xs : Li
   -- an alternate of the union leads to each of these targets
   pub sound : (u t : ℕ) → In t (targets u) → SomeTakes n xs u t
   -- an alternate of the union stays, or it reads bytes and leads to these targets
-  pub all : (x : ℕ) → In x xs → IsFoldedAlternate n stay targets x
+  pub alternates : (x : ℕ) → In x xs → IsFoldedAlternate n stay targets x
 
 -- What becomes of a node.
 pub data IsFoldedNode (n : Nfa) (free : List ℕ) (made : List Node) (old new : Node) : Type 0 where
@@ -150,6 +150,13 @@ AreTreeHeads free made lists heads count =
     → (targets : List ℕ) × StandsIfAny free made (head_or_none (slice_get heads k)) targets
     × ((t : ℕ) → In t targets ↔ IsOnWay lists k t)
 
+-- What becomes of an alternate of the union.
+pub data StaysOrReads (states : List State) (stay : List ℕ) (x : ℕ) : Type 0 where
+  -- it stays
+  KeepsAlternate : In x stay → StaysOrReads states stay x
+  -- it reads a range
+  ReadsARange : (range : Transition) → ReadsRange states x range → StaysOrReads states stay x
+
 -- A union of the states `xs` becomes a union of those that read no range and of one that reads what the others read.
 pub record IsFoldOf
     (states : List State) (free : List ℕ) (made : List Node) (xs : List ℕ) (folded : Node) : Type 0 where
@@ -165,8 +172,8 @@ pub record IsFoldOf
   pub reads : IsMade free made reader (Read ranges)
   -- the alternates that stay are alternates of the union that read no range
   pub sound : (x : ℕ) → In x stay → In x xs × ((range : Transition) → ReadsRange states x range → ⊥)
-  -- the other ones read a range
-  pub all : (x : ℕ) → In x xs → In x stay ⊎ ((range : Transition) × ReadsRange states x range)
+  -- each alternate of the union stays, or it reads a range
+  pub alternates : (x : ℕ) → In x xs → StaysOrReads states stay x
   -- on each byte the state that reads leads to one that stands for the targets of these ranges
   pub stands :
       (u : ℕ)

@@ -1,5 +1,5 @@
 -- The states of which unions were folded are those of a folded NFA.
-use Rattle.std.proofs.Common.{ℕ, zero, suc, ◌≡◌, ◌≤◌, leb, Bool, true, false, cond, List, [], ◌∷◌, ◌⊎◌, Option, Some}
+use Rattle.std.proofs.Common.{ℕ, zero, suc, ◌≡◌, ◌≤◌, leb, Bool, true, false, cond, List, [], ◌∷◌, Option, Some}
 use Rattle.std.proofs.Common.{None, inl, inr, refl}
 use Rattle.std.proofs.Common.{sym, ap, ◌∙◌, subst}
 use Rattle.std.specs.Prelude.{slice_get}
@@ -20,7 +20,7 @@ use Rattle.automata_base.specs.Powersets.Closure.{children_at}
 use Rattle.automata_base.specs.Retraced.Folds.{AreFolded, IsFolded, IsFoldedFrom, IsFoldedNode, StaysNode, FoldsNode}
 use Rattle.automata_base.specs.Retraced.Folds.{IsFoldedAlternate, StaysAlternate, FoldsAlternate}
 use Rattle.automata_base.specs.Retraced.Folds.{IsFoldedState, StaysState, FoldsState}
-use Rattle.automata_base.specs.Retraced.Folds.{IsFoldedUnion, IsFoldOf}
+use Rattle.automata_base.specs.Retraced.Folds.{IsFoldedUnion, IsFoldOf, StaysOrReads, KeepsAlternate, ReadsARange}
 use Rattle.automata_base.specs.Retraced.Folds.{IsNotFree, ReadsRange, SomeReads, SomeTakes, is_large, is_large_state}
 use Rattle.automata_base.specs.Retraced.Folds.{range_read}
 use Rattle.automata_base.specs.Retraced.Once.{once_from}
@@ -145,7 +145,7 @@ module _ (old new : List State) (root : ℕ) (entries : List ℕ) (flags : Flags
     targets = λ u. (o.stands u).0;
     stands = λ u. (o.stands u).1;
     sound = λ u t i. takes' u t (((o.stands u).2 t).0 i);
-    all = λ y i. all y i (o.all y i);
+    alternates = λ y i. all y i (o.alternates y i);
   }
     where
       takes' : (u t : ℕ) → SomeReads old xs u t → SomeTakes Plain xs u t
@@ -156,18 +156,18 @@ module _ (old new : List State) (root : ℕ) (entries : List ℕ) (flags : Flags
       )
 
       all :
-          (y : ℕ) → In y xs → In y o.stay ⊎ ((range : Transition) × ReadsRange old y range)
+          (y : ℕ) → In y xs → StaysOrReads old o.stay y
           → IsFoldedAlternate Plain o.stay (λ u. (o.stands u).0) y
-      all y i (inl k) = StaysAlternate k
-      all y i (inr k) =
-          FoldsAlternate (range_of k.0 ∷ []) (read_node old y k.0 k.1)
+      all y i (KeepsAlternate k) = StaysAlternate k
+      all y i (ReadsARange range reads) =
+          FoldsAlternate (range_of range ∷ []) (read_node old y range reads)
           (λ u t h.
-          let g = one_taken k.0 u t h in
+          let g = one_taken range u t h in
           ((o.stands u).2 t).1 (record {
             state = y;
-            range = k.0;
+            range = range;
             among = i;
-            reads = k.1;
+            reads = reads;
             leads = g.0;
             begins = g.1;
             ends = g.2;

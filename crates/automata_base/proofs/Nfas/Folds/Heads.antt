@@ -77,13 +77,7 @@ joined_targets free made list None ts k h = (0, kept_then free made 0 list [] ts
 joined_targets free made list (Some z) ts k h =
     (h.0, kept_then free made h.0 list (z ∷ []) ts k (ts, [], h.1, refl, sym (append-nil ts)))
 
--- The only state, or a union of the states, stands for their targets.
-pub only_stands :
-    (free : List ℕ) (made : List Node) (d x : ℕ) (ts : List ℕ) → AreTargetsOf (StandsFor free made d) (x ∷ []) ts
-    → StandsIfAny free made (Some x) ts
-only_stands free made d x ts h =
-    (d, subst (λ v. StandsFor free made d x v) (sym (h.4 ∙ (ap (λ (v : List ℕ). h.0 ++ v) h.3 ∙ append-nil h.0))) h.2)
-
+-- A union of the states stands for their targets.
 pub union_stands :
     (free : List ℕ) (made new : List Node) (x : Node) (d id : ℕ) (xs ts : List ℕ) → new ≡ made ++ x ∷ [] → x ≡ Split xs
     → IsMade free new id x → AreTargetsOf (StandsFor free made d) xs ts → StandsIfAny free new (Some id) ts

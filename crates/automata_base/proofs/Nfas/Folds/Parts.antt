@@ -11,7 +11,8 @@ use Rattle.std.specs.Prelude.{slice_get}
 use Rattle.automata_base.specs.declared.nfa.thompson.State.{State}
 use Rattle.automata_base.specs.declared.nfa.thompson.Transition.{Transition}
 use Rattle.automata_base.specs.Lists.{In}
-use Rattle.automata_base.specs.Retraced.Folds.{range_read, ReadsRange, SomeReads}
+use Rattle.automata_base.specs.Retraced.Folds.{range_read, ReadsRange, SomeReads, StaysOrReads}
+use Rattle.automata_base.specs.Retraced.Folds.{KeepsAlternate, ReadsARange}
 use Rattle.automata_base.specs.Retraced.Segments.{above, IsOnWay}
 use Rattle.automata_base.proofs.Paths.FirstVisits.{in_right}
 use Rattle.automata_base.proofs.Paths.Orders.{none_some, some_inj}
@@ -26,7 +27,7 @@ pub record AreRead (states : List State) (ids : List ℕ) (lists : List (List �
 -- These are those of the states that read no range.
 pub record AreOthers (states : List State) (ids others : List ℕ) : Type 0 where
   pub sound : (x : ℕ) → In x others → In x ids × ((range : Transition) → ReadsRange states x range → ⊥)
-  pub all : (x : ℕ) → In x ids → In x others ⊎ ((range : Transition) × ReadsRange states x range)
+  pub all : (x : ℕ) → In x ids → StaysOrReads states others x
 
 pub take_next : (xs : List ℕ) (i x : ℕ) → i < length xs → x ≡ get_or xs i x → take (i + 1) xs ≡ take i xs ++ x ∷ []
 take_next xs i x l e = rw add-one (take-suc xs i x l ∙ ap (λ v. take i xs ++ v ∷ []) (sym e))
@@ -204,17 +205,13 @@ other_more states ids after others new x e f none r =
         (in_right y ids (x ∷ []) (inl i), λ range k. none range (subst (λ v. ReadsRange states v range) i k))
     sound y (inr (inr i)) = absurd i
 
-    all :
-        (y : ℕ) → In y ids ⊎ In y (x ∷ []) → In y (others ++ x ∷ [])
-        ⊎ ((range : Transition) × ReadsRange states y range)
+    all : (y : ℕ) → In y ids ⊎ In y (x ∷ []) → StaysOrReads states (others ++ x ∷ []) y
     all y (inl i) = go (r.all y i)
       where
-        go :
-            In y others ⊎ ((range : Transition) × ReadsRange states y range)
-            → In y (others ++ x ∷ []) ⊎ ((range : Transition) × ReadsRange states y range)
-        go (inl k) = inl (in_left y others (x ∷ []) k)
-        go (inr k) = inr k
-    all y (inr (inl i)) = inl (in_right y others (x ∷ []) (inl i))
+        go : StaysOrReads states others y → StaysOrReads states (others ++ x ∷ []) y
+        go (KeepsAlternate k) = KeepsAlternate (in_left y others (x ∷ []) k)
+        go (ReadsARange range k) = ReadsARange range k
+    all y (inr (inl i)) = KeepsAlternate (in_right y others (x ∷ []) (inl i))
     all y (inr (inr i)) = absurd i
 
 pub other_less :
@@ -227,9 +224,9 @@ other_less states ids after others x s range e at is r =
       all = λ y i. all y (in_either y ids (x ∷ []) i);
     }
   where
-    all : (y : ℕ) → In y ids ⊎ In y (x ∷ []) → In y others ⊎ ((range : Transition) × ReadsRange states y range)
+    all : (y : ℕ) → In y ids ⊎ In y (x ∷ []) → StaysOrReads states others y
     all y (inl i) = r.all y i
-    all y (inr (inl i)) = inr (range, subst (λ v. ReadsRange states v range) (sym i) (s, at, is))
+    all y (inr (inl i)) = ReadsARange range (subst (λ v. ReadsRange states v range) (sym i) (s, at, is))
     all y (inr (inr i)) = absurd i
 
 pub other_begin : (states : List State) (others : List ℕ) → others ≡ [] → AreOthers states [] others

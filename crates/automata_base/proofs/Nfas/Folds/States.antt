@@ -6,11 +6,10 @@ use Rattle.std.proofs.lemmas.Bool.{cases_lt}
 use Rattle.std.proofs.lemmas.Option.{slice_get_past}
 use Rattle.automata_base.specs.declared.nfa.thompson.State.{State}
 use Rattle.automata_base.specs.declared.nfa.thompson.Transition.{Transition}
-use Rattle.automata_base.specs.Lists.{In}
 use Rattle.automata_base.specs.Nfas.Nfa.{Node, takes_in}
 use Rattle.automata_base.specs.Nfas.Nodes.{node_of}
 use Rattle.automata_base.specs.Retraced.Folds.{IsFoldOf, IsFoldedState, StaysState, FoldsState, IsUnionOf, ReadsRange}
-use Rattle.automata_base.specs.Retraced.Folds.{SomeReads}
+use Rattle.automata_base.specs.Retraced.Folds.{SomeReads, StaysOrReads, KeepsAlternate, ReadsARange}
 use Rattle.automata_base.specs.Retraced.Folds.{is_large_state, range_read}
 use Rattle.automata_base.proofs.Nfas.Folds.Heads.{made_more, any_more, nodes_nil}
 use Rattle.automata_base.proofs.Paths.Orders.{none_some, some_inj}
@@ -27,7 +26,7 @@ module _ (A B : List State) (free : List ℕ) (made more new : List Node) (grows
     union = o.union;
     reads = made_more free made more o.reader _ o.reads;
     sound = λ x i. let k = o.sound x i in (k.0, λ range r. k.1 range (back x range r));
-    all = λ x i. all x (o.all x i);
+    alternates = λ x i. all x (o.alternates x i);
     stands = λ u. (
       (o.stands u).0,
       any_more free made more (takes_in o.ranges u) (o.stands u).0 (o.stands u).1,
@@ -35,11 +34,9 @@ module _ (A B : List State) (free : List ℕ) (made more new : List Node) (grows
     );
   }
     where
-      all :
-          (x : ℕ) → In x o.stay ⊎ ((range : Transition) × ReadsRange A x range)
-          → In x o.stay ⊎ ((range : Transition) × ReadsRange B x range)
-      all x (inl i) = inl i
-      all x (inr k) = inr (k.0, forth x k.0 k.1)
+      all : (x : ℕ) → StaysOrReads A o.stay x → StaysOrReads B o.stay x
+      all x (KeepsAlternate i) = KeepsAlternate i
+      all x (ReadsARange range k) = ReadsARange range (forth x range k)
 
       some :
           (C D : List State) → ((x : ℕ) (range : Transition) → ReadsRange C x range → ReadsRange D x range)

@@ -10,7 +10,7 @@ use Rattle.automata_base.specs.Lists.{In}
 use Rattle.automata_base.specs.Nfas.Nfa.{Node, Split, Read, takes_in}
 use Rattle.automata_base.specs.Nfas.Nodes.{ranges_of}
 use Rattle.automata_base.specs.Retraced.Folds.{AreTreeHeads, IsFoldOf, IsNotFree, IsMade, StandsIfAny, ReadsRange}
-use Rattle.automata_base.specs.Retraced.Folds.{SomeReads}
+use Rattle.automata_base.specs.Retraced.Folds.{SomeReads, StaysOrReads}
 use Rattle.automata_base.specs.Retraced.ReversedEdges.{list_at}
 use Rattle.automata_base.specs.Retraced.Segments.{above, IsOnWay, head_or_none, leaf_head}
 use Rattle.automata_base.proofs.Nfas.Folds.Heads.{any_more}
@@ -70,7 +70,7 @@ pub fold_of :
     → ((u t : ℕ) → u < 256 → IsOnWay lists (u + 256) t ↔ SomeReads states xs u t)
     → ((u t : ℕ) → SomeReads states xs u t → u < 256)
     → ((x : ℕ) → In x others → In x xs × ((range : Transition) → ReadsRange states x range → ⊥))
-    → ((x : ℕ) → In x xs → In x others ⊎ ((range : Transition) × ReadsRange states x range))
+    → ((x : ℕ) → In x xs → StaysOrReads states others x)
     → m2 ≡ m1 ++ Read (ranges_of ts) ∷ [] → IsMade free m2 reader (Read (ranges_of ts)) → stay ≡ others ++ reader ∷ []
     → IsFoldOf states free m2 xs (Split stay)
 fold_of states free m1 m2 xs others stay lists heads ts reader h nodes takes reads low sound all grows made is =
@@ -81,7 +81,7 @@ fold_of states free m1 m2 xs others stay lists heads ts reader h nodes takes rea
       union = ap Split is;
       reads = made;
       sound = sound;
-      all = all;
+      alternates = all;
       stands = λ u. go u (cases_lt u 256);
     }
   where

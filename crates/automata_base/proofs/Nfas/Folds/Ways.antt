@@ -154,7 +154,7 @@ module _ (n m : Nfa) (free : List ℕ) (made : List Node) (f : IsFolded n m free
     forth_folded path i x e xs few s u (inr w) =
         absurd (none_some (sym (ap (λ (v : Node). takes_at v w.1) s) ∙ w.3))
     forth_folded path i x e xs few s u (inl w) =
-        go (u.all w.0 (nth_in xs e w.0 (sym (ap (λ (v : Node). hop_at v (A i) e) s) ∙ w.1)))
+        go (u.alternates w.0 (nth_in xs e w.0 (sym (ap (λ (v : Node). hop_at v (A i) e) s) ∙ w.1)))
       where
         go : IsFoldedAlternate n u.stay u.targets w.0 → There m i x j p
         go (StaysAlternate h) =

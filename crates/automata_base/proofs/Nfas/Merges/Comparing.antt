@@ -1,6 +1,6 @@
 -- The order of lists, their equality, and which begins another, as one comparison.
 use Rattle.std.proofs.Common.{ℕ, ◌≡◌, ◌<◌, List, [], ◌∷◌, ◌++◌, ◌⊎◌, ◌↔◌, inl, inr, refl, sym, ap₂, subst, arith}
-use Rattle.automata_base.specs.Paths.Order.{Before, Begins}
+use Rattle.automata_base.specs.Paths.Order.{Before, Begins, EndsFirst, TakesLess, TakesSame}
 
 -- What holds of two lists: `E` if they are equal, `B` if the first is a proper beginning of the second, and `U` if it
 -- is
@@ -36,18 +36,18 @@ abbrev pub IsBefore : List ℕ → List ℕ → Type 0
 IsBefore xs ys = Compares ⊥ (Unit {0}) (Unit {0}) xs ys
 
 pub before_to : (xs ys : List ℕ) → Before xs ys → IsBefore xs ys
-before_to [] [] h = h
+before_to [] [] h = elim h [ ]
 before_to [] (y ∷ ys) h = tt
-before_to (x ∷ xs) [] h = h
-before_to (x ∷ xs) (y ∷ ys) (inl h) = inl (tt, h)
-before_to (x ∷ xs) (y ∷ ys) (inr h) = inr (h.0, before_to xs ys h.1)
+before_to (x ∷ xs) [] h = elim h [ ]
+before_to (x ∷ xs) (y ∷ ys) (TakesLess h) = inl (tt, h)
+before_to (x ∷ xs) (y ∷ ys) (TakesSame e h) = inr (e, before_to xs ys h)
 
 pub before_from : (xs ys : List ℕ) → IsBefore xs ys → Before xs ys
-before_from [] [] h = h
-before_from [] (y ∷ ys) h = tt
-before_from (x ∷ xs) [] h = h
-before_from (x ∷ xs) (y ∷ ys) (inl h) = inl h.1
-before_from (x ∷ xs) (y ∷ ys) (inr h) = inr (h.0, before_from xs ys h.1)
+before_from [] [] h = absurd h
+before_from [] (y ∷ ys) h = EndsFirst
+before_from (x ∷ xs) [] h = absurd h
+before_from (x ∷ xs) (y ∷ ys) (inl h) = TakesLess h.1
+before_from (x ∷ xs) (y ∷ ys) (inr h) = TakesSame h.0 (before_from xs ys h.1)
 
 -- The same of equal lists.
 abbrev pub IsEqual : List ℕ → List ℕ → Type 0

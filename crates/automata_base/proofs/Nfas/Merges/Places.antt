@@ -7,7 +7,8 @@ use Rattle.std.specs.Prelude.{slice_get}
 use Rattle.automata_base.specs.Haystacks.Looks.{Look, holds}
 use Rattle.automata_base.specs.Lists.{In}
 use Rattle.automata_base.specs.Nfas.Accepted.{IsInRange}
-use Rattle.automata_base.specs.Nfas.Merges.{stood_for, all_stood_for, list_or_none, Shows, IsMerged}
+use Rattle.automata_base.specs.Nfas.Merges.{stood_for, all_stood_for, list_or_none, Shows, IsMerged, IsMergedNode}
+use Rattle.automata_base.specs.Nfas.Merges.{KeepsNode, MergesUnion}
 use Rattle.automata_base.specs.Nfas.Nfa.{Nfa, Node, Split, Assert, Read, Accept, Range, node, node_or_fail, hop_at}
 use Rattle.automata_base.specs.Nfas.Nfa.{accepts}
 use Rattle.automata_base.specs.Nfas.Nfa.{accepts_at}
@@ -173,28 +174,24 @@ module _ (n m : Nfa) (anchored : ℕ) (lists : List (List ℕ)) (merged : IsMerg
     pub union_shows :
         (z : ℕ) (alternates : List ℕ) → z < length n.nodes → node n z ≡ Split alternates
         → Shows n m anchored lists (node m z) alternates
-    union_shows z alternates l e = go (merged.old z l)
+    union_shows z alternates l e = go (merged.first_states z l)
       where
         go :
-            (node m z ≡ node n z)
-            ⊎ ((others : List ℕ) × (node n z ≡ Split others) × Shows n m anchored lists (node m z) others)
-            → Shows n m anchored lists (node m z) alternates
-        go (inl h) =
+            IsMergedNode n m anchored lists (node n z) (node m z) → Shows n m anchored lists (node m z) alternates
+        go (KeepsNode h) =
             subst (λ v. Shows n m anchored lists v alternates) (sym (h ∙ e)) (
               all_old (length n.nodes) lists alternates (alternate_old z alternates e),
               (λ q i far. absurd (omega (arith, far, alternate_old z alternates e q i))),
             )
-        go (inr h) =
-            subst (λ v. Shows n m anchored lists (node m z) v) (split_inj h.0 alternates (sym h.1 ∙ e)) h.2
+        go (MergesUnion others was shows) =
+            subst (λ v. Shows n m anchored lists (node m z) v) (split_inj others alternates (sym was ∙ e)) shows
 
   -- Any other state of the first NFA is as it was.
   pub others_same :
       (z : ℕ) → z < length n.nodes → ((alternates : List ℕ) → node n z ≡ Split alternates → ⊥) → node m z ≡ node n z
-  others_same z l f = go (merged.old z l)
+  others_same z l f = go (merged.first_states z l)
     where
       go :
-          (node m z ≡ node n z)
-          ⊎ ((others : List ℕ) × (node n z ≡ Split others) × Shows n m anchored lists (node m z) others)
-          → node m z ≡ node n z
-      go (inl h) = h
-      go (inr h) = absurd (f h.0 h.1)
+          IsMergedNode n m anchored lists (node n z) (node m z) → node m z ≡ node n z
+      go (KeepsNode h) = h
+      go (MergesUnion others was shows) = absurd (f others was)

@@ -5,7 +5,8 @@ use Rattle.std.proofs.lemmas.Bool.{cases_lt}
 use Rattle.std.specs.Prelude.{slice_get}
 use Rattle.automata_base.specs.Lists.{In, pick}
 use Rattle.automata_base.specs.Nfas.Accepted.{IsInRange}
-use Rattle.automata_base.specs.Nfas.Merges.{stood_for, target_for, ReadsFor, Shows, IsMerged}
+use Rattle.automata_base.specs.Nfas.Merges.{stood_for, target_for, ReadsFor, Shows, IsMerged, IsMergedNode, KeepsNode}
+use Rattle.automata_base.specs.Nfas.Merges.{MergesUnion}
 use Rattle.automata_base.specs.Nfas.Nfa.{Nfa, Node, Split, Assert, Read, Accept, Range, node, hop, hop_at, takes}
 use Rattle.automata_base.specs.Nfas.Nfa.{takes_at, takes_in, accepts, accepts_at}
 use Rattle.automata_base.specs.Nfas.Utf8.{ReadsTo, ends, goes, reads}
@@ -25,9 +26,7 @@ module _ (n m : Nfa) (anchored : ℕ) (lists : List (List ℕ)) (merged : IsMerg
       (k s : ℕ) × (slice_get (stood_for (length n.nodes) lists y) k ≡ Some s) × ReadsTo n s bytes z
 
   abbrev IsAsWas : ℕ → Type 0
-  IsAsWas y =
-      (node m y ≡ node n y)
-      ⊎ ((others : List ℕ) × (node n y ≡ Split others) × Shows n m anchored lists (node m y) others)
+  IsAsWas y = IsMergedNode n m anchored lists (node n y) (node m y)
 
   from_old : (y : ℕ) (bytes : List ℕ) (z : ℕ) → y < length n.nodes → ReadsTo n y bytes z → HasSource y bytes z
   from_old y bytes z l g = (0, y, ap (λ v. slice_get v 0) (old_means (length n.nodes) lists y l), g)
@@ -68,13 +67,13 @@ module _ (n m : Nfa) (anchored : ℕ) (lists : List (List ℕ)) (merged : IsMerg
   hop_step q e r bytes z h c (inr far) =
       hop_source (node m q) (stood_for (length n.nodes) lists q) e r bytes z
       (further_shows n m anchored lists merged q far) h c
-  hop_step q e r bytes z h c (inl l) = go (merged.old q l)
+  hop_step q e r bytes z h c (inl l) = go (merged.first_states q l)
     where
       go : IsAsWas q → HasSource q bytes z
-      go (inr f) =
-          let p = hop_source (node m q) f.0 e r bytes z f.2 h c in
-          from_old q bytes z l (goes p.0 (subst (λ v. hop_at v all_true p.0 ≡ Some p.1) (sym f.1) p.2) p.3)
-      go (inl f) =
+      go (MergesUnion others was shows) =
+          let p = hop_source (node m q) others e r bytes z shows h c in
+          from_old q bytes z l (goes p.0 (subst (λ v. hop_at v all_true p.0 ≡ Some p.1) (sym was) p.2) p.3)
+      go (KeepsNode f) =
           let h2 = subst (λ v. hop_at v all_true e ≡ Some r) f h in
           from_old q bytes z l (goes e h2 (to_old r bytes z (hop_old n m anchored lists merged ranged q e r h2) c))
 
@@ -85,13 +84,13 @@ module _ (n m : Nfa) (anchored : ℕ) (lists : List (List ℕ)) (merged : IsMerg
       read_source (node m q) (stood_for (length n.nodes) lists q) u r bytes z b
       (further_shows n m anchored lists merged q far)
       h c
-  read_step q u r bytes z b h c (inl l) = go (merged.old q l)
+  read_step q u r bytes z b h c (inl l) = go (merged.first_states q l)
     where
       go : IsAsWas q → HasSource q (u ∷ bytes) z
-      go (inr f) =
-          let p = read_source (node m q) f.0 u r bytes z b f.2 h c in
-          from_old q (u ∷ bytes) z l (goes p.0 (subst (λ v. hop_at v all_true p.0 ≡ Some p.1) (sym f.1) p.2) p.3)
-      go (inl f) =
+      go (MergesUnion others was shows) =
+          let p = read_source (node m q) others u r bytes z b shows h c in
+          from_old q (u ∷ bytes) z l (goes p.0 (subst (λ v. hop_at v all_true p.0 ≡ Some p.1) (sym was) p.2) p.3)
+      go (KeepsNode f) =
           let h2 = subst (λ v. takes_at v u ≡ Some r) f h in
           from_old q (u ∷ bytes) z l (reads b h2 (to_old r bytes z (ranged.1 q u r h2) c))
 

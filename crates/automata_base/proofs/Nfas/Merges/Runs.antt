@@ -7,7 +7,7 @@ use Rattle.automata_base.specs.Haystacks.Looks.{Look}
 use Rattle.automata_base.specs.Lists.{In}
 use Rattle.automata_base.specs.Nfas.Accepted.{IsInRange}
 use Rattle.automata_base.specs.Nfas.Engines.{MatchesEmpty}
-use Rattle.automata_base.specs.Nfas.Merges.{stood_for, Shows, IsMerged}
+use Rattle.automata_base.specs.Nfas.Merges.{stood_for, Shows, IsMerged, IsMergedNode, KeepsNode, MergesUnion}
 use Rattle.automata_base.specs.Nfas.Nfa.{Nfa, Node, Split, Assert, Read, Accept, Range, node, hop, hop_at, accepts}
 use Rattle.automata_base.specs.Nfas.Nfa.{accepts_at}
 use Rattle.automata_base.specs.Paths.Paths.{all_true, Run, HasEpsilonPath, IsLookAcyclic}
@@ -52,27 +52,25 @@ module _ (n m : Nfa) (anchored : ℕ) (lists : List (List ℕ)) (merged : IsMerg
   shows_match (Accept r) list p s h = s
 
   pub match_forth : (w p : ℕ) → accepts n w ≡ Some p → accepts m w ≡ Some p
-  match_forth w p h = go (merged.old w (match_may_end n anchored w p h).0)
+  match_forth w p h = go (merged.first_states w (match_may_end n anchored w p h).0)
     where
       go :
-          (node m w ≡ node n w)
-          ⊎ ((others : List ℕ) × (node n w ≡ Split others) × Shows n m anchored lists (node m w) others)
+          IsMergedNode n m anchored lists (node n w) (node m w)
           → accepts m w ≡ Some p
-      go (inl e) = ap accepts_at e ∙ h
-      go (inr e) = absurd (none_some (ap accepts_at (sym e.1) ∙ h))
+      go (KeepsNode e) = ap accepts_at e ∙ h
+      go (MergesUnion others is shows) = absurd (none_some (ap accepts_at (sym is) ∙ h))
 
   pub match_back : (w p : ℕ) → accepts m w ≡ Some p → accepts n w ≡ Some p
   match_back w p h = go (cases_lt w (length n.nodes))
     where
       old :
-          (node m w ≡ node n w)
-          ⊎ ((others : List ℕ) × (node n w ≡ Split others) × Shows n m anchored lists (node m w) others)
+          IsMergedNode n m anchored lists (node n w) (node m w)
           → accepts n w ≡ Some p
-      old (inl e) = ap accepts_at (sym e) ∙ h
-      old (inr e) = absurd (shows_match (node m w) e.0 p e.2 h)
+      old (KeepsNode e) = ap accepts_at (sym e) ∙ h
+      old (MergesUnion others is shows) = absurd (shows_match (node m w) others p shows h)
 
       go : (w < length n.nodes) ⊎ (length n.nodes ≤ w) → accepts n w ≡ Some p
-      go (inl l) = old (merged.old w l)
+      go (inl l) = old (merged.first_states w l)
       go (inr far) =
           absurd (shows_match (node m w) (stood_for (length n.nodes) lists w) p
           (further_shows n m anchored lists merged w far) h)
@@ -82,7 +80,7 @@ module _ (n m : Nfa) (anchored : ℕ) (lists : List (List ℕ)) (merged : IsMerg
     hop_back :
         (q e y : ℕ) → q < length n.nodes → y < length n.nodes → hop m all_true q e ≡ Some y
         → (k : ℕ) × (hop n all_true q k ≡ Some y)
-    hop_back q e y l k h = go (node m q) refl (merged.old q l)
+    hop_back q e y l k h = go (node m q) refl (merged.first_states q l)
       where
         union :
             (x : Node) (others : List ℕ) → node n q ≡ Split others → Shows n m anchored lists x others
@@ -97,12 +95,10 @@ module _ (n m : Nfa) (anchored : ℕ) (lists : List (List ℕ)) (merged : IsMerg
         union (Accept p) others is s f = absurd s
 
         go :
-            (x : Node) → node m q ≡ x
-            → (node m q ≡ node n q)
-            ⊎ ((others : List ℕ) × (node n q ≡ Split others) × Shows n m anchored lists (node m q) others)
+            (x : Node) → node m q ≡ x → IsMergedNode n m anchored lists (node n q) (node m q)
             → (k : ℕ) × (hop n all_true q k ≡ Some y)
-        go x is (inl e2) = (e, subst (λ v. hop_at v all_true e ≡ Some y) e2 h)
-        go x is (inr e2) = union (node m q) e2.0 e2.1 e2.2 h
+        go x is (KeepsNode e2) = (e, subst (λ v. hop_at v all_true e ≡ Some y) e2 h)
+        go x is (MergesUnion others was shows) = union (node m q) others was shows h
 
     -- An edge of the first NFA leads to one of its states.
     pub hop_old : (q e y : ℕ) → hop n all_true q e ≡ Some y → y < length n.nodes
@@ -132,18 +128,17 @@ module _ (n m : Nfa) (anchored : ℕ) (lists : List (List ℕ)) (merged : IsMerg
         union (Accept p) others s f far = absurd s
 
         go :
-            length n.nodes ≤ y
-            → (node m q ≡ node n q)
-            ⊎ ((others : List ℕ) × (node n q ≡ Split others) × Shows n m anchored lists (node m q) others)
+            length n.nodes ≤ y → IsMergedNode n m anchored lists (node n q) (node m q)
             → (ranges : List Range) × (node m y ≡ Read ranges)
-        go far (inl e2) = absurd (omega (arith, far, hop_old q e y (subst (λ v. hop_at v all_true e ≡ Some y) e2 h)))
-        go far (inr e2) = union (node m q) e2.0 e2.2 h far
+        go far (KeepsNode e2) =
+            absurd (omega (arith, far, hop_old q e y (subst (λ v. hop_at v all_true e ≡ Some y) e2 h)))
+        go far (MergesUnion others was shows) = union (node m q) others shows h far
 
         side :
             (y < length n.nodes) ⊎ (length n.nodes ≤ y)
             → (y < length n.nodes) ⊎ ((length n.nodes ≤ y) × ((ranges : List Range) × (node m y ≡ Read ranges)))
         side (inl k) = inl k
-        side (inr far) = inr (far, go far (merged.old q l))
+        side (inr far) = inr (far, go far (merged.first_states q l))
 
     pub run_back :
         (path : List ℕ) (q z : ℕ) → q < length n.nodes → z < length n.nodes → Run m q path z → HasEpsilonPath n q z
@@ -228,20 +223,18 @@ module _ (n m : Nfa) (anchored : ℕ) (lists : List (List ℕ)) (merged : IsMerg
     acyclic_merged none q look r e on = go (cases_lt q (length n.nodes))
       where
         old :
-            q < length n.nodes
-            → (node m q ≡ node n q)
-            ⊎ ((others : List ℕ) × (node n q ≡ Split others) × Shows n m anchored lists (node m q) others) → ⊥
-        old l (inl same) =
+            q < length n.nodes → IsMergedNode n m anchored lists (node n q) (node m q) → ⊥
+        old l (KeepsNode same) =
             let is = sym same ∙ e in
             let next = assert_hop look r on.0 on.1 (subst (λ v. hop_at v all_true on.0 ≡ Some on.1) e on.2) in
             let l2 : on.1 < length n.nodes =
             subst (λ v. v < length n.nodes) (sym next) (assert_old n m anchored lists merged ranged q look r is) in
             none q look r is
             (on.0, on.1, subst (λ v. hop_at v all_true on.0 ≡ Some on.1) same on.2, run_back on.3.0 on.1 q l2 l on.3.1)
-        old l (inr f) = subst (λ v. Shows n m anchored lists v f.0) e f.2
+        old l (MergesUnion others was shows) = subst (λ v. Shows n m anchored lists v others) e shows
 
         go : (q < length n.nodes) ⊎ (length n.nodes ≤ q) → ⊥
-        go (inl l) = old l (merged.old q l)
+        go (inl l) = old l (merged.first_states q l)
         go (inr far) =
             subst (λ v. Shows n m anchored lists v (stood_for (length n.nodes) lists q)) e
             (further_shows n m anchored lists merged q far)

@@ -3,7 +3,7 @@
 //! Of the alternates of a union those that read a range of bytes become one state. For each byte it leads to a state
 //! that stands for all to which these led on it. So a powerset state has one NFA state where it had all that read, and
 //! a step follows the byte once. States that nothing leads to any more are made anew, and no state is added.
-ghost use Rattle.std.specs.Prelude.{ℕ, ◌≡◌, ◌<◌, ◌≤◌, ◌+◌, ◌/◌, ◌^◌, ◌⊎◌, ◌↔◌, ◌++◌, [], ◌∷◌, true, false, List};
+ghost use Rattle.std.specs.Prelude.{ℕ, ◌≡◌, ◌<◌, ◌≤◌, ◌+◌, ◌/◌, ◌^◌, ◌↔◌, ◌++◌, [], ◌∷◌, true, false, List};
 ghost use Rattle.std.specs.Prelude.{IfOk, IfSome, OnOk, IsTrue, length, Some, None, slice_get};
 ghost use Rattle.automata_base.specs.Lists.{In, Distinct, cons_some};
 ghost use Rattle.automata_base.specs.Nfas.Errors.{states_below};
@@ -11,7 +11,8 @@ ghost use Rattle.automata_base.specs.Nfas.Nfa.{Node, Range, Read, Split, takes_i
 ghost use Rattle.automata_base.specs.Nfas.Nodes.{node_of, nodes_of, ranges_of};
 ghost use Rattle.automata_base.specs.Retraced.Folds.{AreTreeHeads, AreTargetsOf, IsNotFree, IsMade};
 ghost use Rattle.automata_base.specs.Retraced.Folds.{StandsFor, StandsIfAny};
-ghost use Rattle.automata_base.specs.Retraced.Folds.{range_read, ReadsRange, SomeReads, is_large, IsFoldOf};
+ghost use Rattle.automata_base.specs.Retraced.Folds.{range_read, ReadsRange, SomeReads, StaysOrReads};
+ghost use Rattle.automata_base.specs.Retraced.Folds.{is_large, IsFoldOf};
 ghost use Rattle.automata_base.specs.Retraced.Folds.{IsFoldedFrom, IsFoldedState, IsUnionOf, IsUnionBelow};
 ghost use Rattle.automata_base.specs.declared.nfa.thompson.Transition.{Transition};
 ghost use Rattle.automata_base.specs.Retraced.Reach.{node_in, targets_of};
@@ -235,7 +236,7 @@ fn others_of(alloc: Global, states: &[State], ids: &[StateID]) -> Result<Vec<Sta
     ensures sound { IfOk result (λ v. (x : ℕ) → In x v.items
         → In x ids.now × ((range : Transition) → ReadsRange states.now x range → ⊥)) }
     ensures all { IfOk result (λ v. (x : ℕ) → In x ids.now
-        → In x v.items ⊎ ((range : Transition) × ReadsRange states.now x range)) }
+        → StaysOrReads states.now v.items x) }
 {
     let mut others = Vec::new(alloc);
     for id in ids {

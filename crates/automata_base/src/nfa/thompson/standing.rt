@@ -1,9 +1,10 @@
 //! Whether the states of one NFA stand for lists of those of another one, of which some unions were merged.
-ghost use Rattle.std.specs.Prelude.{ℕ, ◌≡◌, ◌<◌, ◌≤◌, ◌⊎◌, ◌++◌, List, IfOk, IfSome, IsTrue, length, false, ◌+◌, []};
+ghost use Rattle.std.specs.Prelude.{ℕ, ◌≡◌, ◌<◌, ◌≤◌, ◌++◌, List, IfOk, IfSome, IsTrue, length, false, ◌+◌, []};
 ghost use Rattle.std.specs.Prelude.{Some};
 ghost use Rattle.automata_base.specs.Lists.{In, cons_some};
-ghost use Rattle.automata_base.specs.Nfas.Merges.{IsMerged, Shows, ReadsFor, stood_for, all_stood_for, target_for};
-ghost use Rattle.automata_base.specs.Nfas.Nfa.{Node, Range, Read, Split, node, takes_at};
+ghost use Rattle.automata_base.specs.Nfas.Merges.{IsMerged, IsMergedNode, Shows, ReadsFor};
+ghost use Rattle.automata_base.specs.Nfas.Merges.{stood_for, all_stood_for, target_for};
+ghost use Rattle.automata_base.specs.Nfas.Nfa.{Node, Range, Read, node, takes_at};
 ghost use Rattle.automata_base.specs.Nfas.Nodes.{node_of, nfa_of};
 ghost use Rattle.automata_base.specs.Powersets.Cuts.{has_match, targets};
 ghost use Rattle.automata_base.specs.Retraced.ReversedEdges.{lists_of, list_at};
@@ -333,9 +334,8 @@ fn is_old(
     was: &State,
     state: &State,
 ) -> Result<bool, AllocError>
-    ensures { IfOk result (λ b. IsTrue b → (node_of state.now ≡ node_of was.now)
-        ⊎ ((alternates : List ℕ) × (node_of was.now ≡ Split alternates) × Shows (nfa_of nfa.now) (nfa_of merged.now)
-        nfa.now.start_anchored (lists_of lists.now) (node_of state.now) alternates)) }
+    ensures { IfOk result (λ b. IsTrue b → IsMergedNode (nfa_of nfa.now) (nfa_of merged.now) nfa.now.start_anchored
+        (lists_of lists.now) (node_of was.now) (node_of state.now)) }
 {
     if is_same(was, state) {
         return Ok(true);
@@ -349,10 +349,8 @@ fn is_old(
 /// Whether each state of the NFA is as it was, or was a union, for whose alternates it stands.
 fn are_old(nfa: &NFA, merged: &NFA, lists: &[Vec<StateID>]) -> Result<bool, AllocError>
     ensures { IfOk result (λ b. IsTrue b → (q : ℕ) → q < length nfa.now.states
-        → (node (nfa_of merged.now) q ≡ node (nfa_of nfa.now) q)
-        ⊎ ((alternates : List ℕ) × (node (nfa_of nfa.now) q ≡ Split alternates) × Shows (nfa_of nfa.now)
-        (nfa_of merged.now)
-        nfa.now.start_anchored (lists_of lists.now) (node (nfa_of merged.now) q) alternates)) }
+        → IsMergedNode (nfa_of nfa.now) (nfa_of merged.now) nfa.now.start_anchored (lists_of lists.now)
+        (node (nfa_of nfa.now) q) (node (nfa_of merged.now) q)) }
 {
     let states = nfa.states();
     let new = merged.states();

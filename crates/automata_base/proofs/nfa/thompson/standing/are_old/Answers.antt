@@ -1,4 +1,4 @@
-use Rattle.std.proofs.Common.{below_more, refl, arith}
+use Rattle.std.proofs.Common.{ap, length, below_more, refl, arith}
 use Rattle.automata_base.specs.Nfas.Nodes.{node_of}
 use Rattle.automata_base.specs.Retraced.ReversedEdges.{lists_of}
 use Rattle.automata_base.proofs.Nfas.Standing.{node_found, old_found}
@@ -18,3 +18,9 @@ loop-q-preserved c =
     c.states-states.ensures.same refl
     most c.index-states-q.is)
     (c.in_ok-is_old.ensures c.if-not-branch.false))
+
+pub returns : goal.returns
+returns c = λ t q l.
+    let past = c.loop-q-test.false in
+    let same = ap length c.states-states.ensures.same in
+    c.loop-q.invariant q (omega (arith, l, past, same))
