@@ -8,3 +8,4 @@ pub mod Clears
 pub mod Usage
 pub mod Leaps
 pub mod NewRows
+pub mod Searched

@@ -8,16 +8,11 @@ pub mod Reach
 pub mod Agreement
 pub mod Costs
 pub mod Directions
-pub mod Runs
-pub mod Mixed
 pub mod Bounds
 pub mod Contracts
 pub mod SpanRuns
 pub mod Follows
 pub mod Reads
 pub mod PassContracts
-pub mod SelfLoops
-pub mod Leaps
-pub mod Lanes
 pub mod KnownPasses
 pub mod PieceRuns

@@ -1,3 +1,4 @@
+pub mod Events
 pub mod Effects
 pub mod Ids
 pub mod Starts

@@ -14,20 +14,19 @@
 --     what a search does to it, and what follows           Known.Passes: IsSearchRun; Known.Follows
 --     what walks and sets do to it, and what follows       Known.Walks: IsWalkRun, IsSetRun; Known.WalksFollow
 --     what a step does to it, when it fails, what follows  Known.Steps: IsStepRun, StepFails, IsStartRun; Known.Effects
---     what a search in pieces does to it, what follows     Known.Pieces: IsPieceRun, IsAnswerRun; Known.PiecesFollow
+--     what a search in pieces does to it                   Known.Pieces: IsBeginRun, IsPieceRun, IsAnswerRun
+--     what follows of that                                 Known.PiecesFollow
+--     what a walk in pieces does to it                     Known.Pieces: IsBeginRun, IsWalkCallRun, IsWalkEndRun
 --     what every call keeps of it                          Known.Growth: IsGrown; Known.Cached
 --
 -- What a DFA is stands in Machines; its IDs, for steps and for what one looks at in a cache, in Cache.Ids, Cache.Table
--- and
--- Cache.States. Private has, by the same folders, the words of private functions and of proofs: no contract of a public
--- call reaches them. There the cache's own functions speak of rows, cells and slots; what Known has too ends with
--- in_store there. Steps.BySteps says by `IsPassAnswer` and `IsUnderway` of Searches.PassContracts where a search by
--- steps
--- stands. `marked` of Machines.Machine follows a loop of the code.
+-- and Cache.States. Private has, by the same folders, the words of private functions and of proofs: no contract of a
+-- public call reaches them. There the cache's own functions speak of rows, cells and slots; what Known has too ends
+-- with in_store there. Steps.BySteps says by `IsPassAnswer` and `IsUnderway` of Searches.PassContracts where a search
+-- by steps stands. `marked` of Machines.Machine follows a loop of the code.
 pub mod Machines
 pub mod Cache
 pub mod Steps
-pub mod Calls
 pub mod Searches
 pub mod Walks
 pub mod Pieces

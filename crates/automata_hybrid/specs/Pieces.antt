@@ -1,6 +1,5 @@
 pub mod State
 pub mod Answers
-pub mod Follows
 pub mod Whole
 pub mod Walks
 pub mod Matching

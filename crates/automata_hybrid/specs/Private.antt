@@ -5,3 +5,4 @@ pub mod Pieces
 pub mod Searches
 pub mod Steps
 pub mod Walks
+pub mod Fast

@@ -3,9 +3,7 @@ pub mod Contracts
 pub mod Bounds
 pub mod Agreement
 pub mod Traces
-pub mod Cached
 pub mod Progress
-pub mod Follows
 pub mod PassState
 pub mod PassContracts
 pub mod PieceRuns

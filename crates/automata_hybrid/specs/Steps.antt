@@ -1,3 +1,4 @@
+pub mod Events
 pub mod Starts
 pub mod Steps
 pub mod BySteps

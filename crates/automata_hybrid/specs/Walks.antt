@@ -4,4 +4,3 @@ pub mod Contracts
 pub mod SetsByPaths
 pub mod Cached
 pub mod Progress
-pub mod Follows

@@ -1,19 +1,14 @@
 -- What a look-up of a state finds, and what adding one gives, where it fits and where the cache was cleared first.
 use Rattle.std.proofs.Common.{◌≡◌, ◌∙◌, ◌≤◌, ◌⊎◌, ℕ, length, None, false, ap, subst, sym}
-use Rattle.automata_base.specs.Powersets.Powerset.{Powerset, cost}
-use Rattle.automata_hybrid.specs.Machines.Reachable.{IsStateOf}
+use Rattle.automata_hybrid.proofs.Words.{AddsNext, AddsRow, CacheView, cleared_in_store, cost, Fits, grown, id_of}
+use Rattle.automata_hybrid.proofs.Words.{IsNewState, IsStateOf, KeepsStarts, Lacks, Machine, Powerset, put_found, Row}
+use Rattle.automata_hybrid.proofs.Words.{row_of, Rows, Stored, with_table}
 use Rattle.automata_hybrid.specs.declared.cache.Found.{Found}
-use Rattle.automata_hybrid.specs.declared.cache.row.Row.{Row}
-use Rattle.automata_hybrid.specs.Cache.Caches.{CacheView}
-use Rattle.automata_hybrid.specs.Cache.Table.{row_of, Names, Rows, id_of}
-use Rattle.automata_hybrid.specs.Private.Cache.Changes.{grown, put_found, ClearsFirst, JustGrows}
-use Rattle.automata_hybrid.specs.Private.Cache.Changes.{cleared_saving_in_store, AddsNext, AddsRow}
+use Rattle.automata_hybrid.specs.Private.Cache.Changes.{ClearsFirst, JustGrows}
+use Rattle.automata_hybrid.specs.Private.Cache.Changes.{cleared_saving_in_store, HasGrown, HasSavedRow}
 use Rattle.automata_hybrid.specs.Private.Cache.LookUps.{IsLookedUp}
-use Rattle.automata_hybrid.specs.Machines.Machine.{Machine}
-use Rattle.automata_hybrid.specs.Cache.Stores.{Stored}
-use Rattle.automata_hybrid.specs.Private.Cache.Stores.{KeepsStarts, with_table}
-use Rattle.automata_hybrid.specs.Private.Cache.Table.{Lacks, IsKnownState, IsNewState}
-use Rattle.automata_hybrid.specs.Private.Cache.Usage.{Fits, cleared_in_store, refuses_in_store, IsCleared}
+use Rattle.automata_hybrid.specs.Private.Cache.Table.{IsKnownState}
+use Rattle.automata_hybrid.specs.Private.Cache.Usage.{refuses_in_store, IsCleared}
 use Rattle.automata_hybrid.proofs.Steps.Effects.{only-grown}
 
 -- a state to be added, by the machine that a table is of
@@ -39,7 +34,7 @@ looked_up before after key found at same is h =
     (subst (λ (f : Found). IsLookedUp before.store.table key f) is h)
 
 -- a key's state costs no more than a state may
-pub cheap :
+cheap :
     (m n : Machine) (key target : Powerset)
     → n ≡ m → key ≡ target → cost key ≤ m.greatest → cost target ≤ n.greatest
 cheap m n key target of is h =
@@ -61,14 +56,14 @@ still_starts old between new r keeps e = subst (λ (s : Stored). KeepsStarts old
 -- a state that fits
 adds_fits :
     (old emptied new : Stored) (r : Row) (id : ℕ)
-    → Fits old (cost r.state) → new ≡ grown old r → Names new.table id r.state → AddsRow old emptied new r id
-adds_fits old emptied new r id fits e named = record {
-  effect = JustGrows fits e;
-  named = named;
-  only = only_row old old new r (λ p none. none) e;
-  slots = ap (λ (s : Stored). length s.starts) e;
-  starts = still_starts old old new r (λ slot k. k) e;
-  of = ap (λ (s : Stored). s.table.of) e;
+    → Fits old (cost r.state) → HasGrown old r new id → AddsRow old emptied new r id
+adds_fits old emptied new r id fits g = record {
+  effect = JustGrows fits g.grown;
+  named = g.row.named;
+  only = only_row old old new r (λ p none. none) g.grown;
+  slots = ap (λ (s : Stored). length s.starts) g.grown;
+  starts = still_starts old old new r (λ slot k. k) g.grown;
+  of = ap (λ (s : Stored). s.table.of) g.grown;
 }
 
 -- a state that does not fit: the cache was cleared
@@ -77,69 +72,62 @@ adds_clears :
     → (Fits old (cost r.state) → ⊥) → refuses_in_store old ≡ false
     → ((p : Powerset) → id_of old.table p ≡ None → id_of emptied.table p ≡ None) → KeepsStarts old.starts emptied.starts
     → length emptied.starts ≡ length old.starts → emptied.table.of ≡ old.table.of
-    → new ≡ grown emptied r → Names new.table id r.state → AddsRow old emptied new r id
-adds_clears old emptied new r id full may absent keeps slots of e named = record {
-  effect = ClearsFirst full may e;
-  named = named;
-  only = only_row old emptied new r absent e;
-  slots = ap (λ (s : Stored). length s.starts) e ∙ slots;
-  starts = still_starts old emptied new r keeps e;
-  of = ap (λ (s : Stored). s.table.of) e ∙ of;
+    → HasGrown emptied r new id → AddsRow old emptied new r id
+adds_clears old emptied new r id full may absent keeps slots of g = record {
+  effect = ClearsFirst full may g.grown;
+  named = g.row.named;
+  only = only_row old emptied new r absent g.grown;
+  slots = ap (λ (s : Stored). length s.starts) g.grown ∙ slots;
+  starts = still_starts old emptied new r keeps g.grown;
+  of = ap (λ (s : Stored). s.table.of) g.grown ∙ of;
 }
 
 -- a state stepped to that fits
 pub next_fits :
     (old new : Stored) (from next : ℕ) (q : Powerset)
-    → Fits old (cost q) → new ≡ grown old (record { state = q; started = false })
-    → ((id : ℕ) (p : Powerset) → Names old.table id p → Names new.table id p) → Names new.table next q
+    → Fits old (cost q) → HasGrown old (record { state = q; started = false }) new next
     → AddsNext old new from q from next
-next_fits old new from next q fits e kept named =
+next_fits old new from next q fits g =
     record {
-      row = adds_fits old (cleared_saving_in_store old from) new (record { state = q; started = false }) next
-          fits e named;
-      saved = kept from;
+      row = adds_fits old (cleared_saving_in_store old from) new (record { state = q; started = false }) next fits g;
+      saved = g.row.kept from;
     }
 
 -- a state stepped to that does not fit: the row stepped from was put back
 pub next_clears :
     (old fresh between new : Stored) (from now next : ℕ) (q : Powerset)
     → (Fits old (cost q) → ⊥) → IsCleared old fresh
-    → between ≡ with_table fresh (put_found fresh.table (row_of old.table from)) → between.table.of ≡ fresh.table.of
-    → ((p : Powerset) → Names old.table from p → Names between.table now p)
-    → ((p : Powerset) → id_of old.table p ≡ None → id_of fresh.table p ≡ None → id_of between.table p ≡ None)
-    → new ≡ grown between (record { state = q; started = false })
-    → ((id : ℕ) (p : Powerset) → Names between.table id p → Names new.table id p) → Names new.table next q
-    → AddsNext old new from q now next
-next_clears old fresh between new from now next q full clear put of saved absent e kept named = record {
+    → HasSavedRow old.table from fresh between now → between.table.of ≡ fresh.table.of
+    → HasGrown between (record { state = q; started = false }) new next → AddsNext old new from q now next
+next_clears old fresh between new from now next q full clear put of g = record {
   row =
       subst (λ (s : Stored). AddsRow old s new r next) all
-      (adds_clears old between new r next full clear.allowed (λ p none. absent p none (clear.kept.absent p none))
+      (adds_clears old between new r next full clear.allowed (λ p none. put.absent p none (clear.kept.absent p none))
       (subst (KeepsStarts old.starts) (sym slots) clear.kept.known) (ap (λ xs. length xs) slots ∙ clear.kept.slots)
-      (of ∙ clear.kept.of) e named);
-  saved = λ p n. kept now p (saved p n);
+      (of ∙ clear.kept.of) g);
+  saved = λ p n. g.row.kept now p (put.named p n);
 } where
   r : Row
   r = record { state = q; started = false }
 
   all : between ≡ cleared_saving_in_store old from
-  all = put ∙ (λ i. with_table (clear.value i) (put_found (clear.value i).table (row_of old.table from)))
+  all = put.put ∙ (λ i. with_table (clear.value i) (put_found (clear.value i).table (row_of old.table from)))
 
   slots : between.starts ≡ fresh.starts
-  slots = ap (λ (s : Stored). s.starts) put
+  slots = ap (λ (s : Stored). s.starts) put.put
 
 -- a start state that fits
 pub start_fits :
     (old new : Stored) (r : Row) (id : ℕ)
-    → Fits old (cost r.state) → new ≡ grown old r → Names new.table id r.state
-    → AddsRow old (cleared_in_store old) new r id
-start_fits old new r id fits e named = adds_fits old (cleared_in_store old) new r id fits e named
+    → Fits old (cost r.state) → HasGrown old r new id → AddsRow old (cleared_in_store old) new r id
+start_fits old new r id fits g = adds_fits old (cleared_in_store old) new r id fits g
 
 -- a start state that does not fit
 pub start_clears :
     (old fresh new : Stored) (r : Row) (id : ℕ)
-    → (Fits old (cost r.state) → ⊥) → IsCleared old fresh → new ≡ grown fresh r → Names new.table id r.state
+    → (Fits old (cost r.state) → ⊥) → IsCleared old fresh → HasGrown fresh r new id
     → AddsRow old (cleared_in_store old) new r id
-start_clears old fresh new r id full clear e named =
+start_clears old fresh new r id full clear g =
     subst (λ (s : Stored). AddsRow old s new r id) clear.value
     (adds_clears old fresh new r id full clear.allowed clear.kept.absent clear.kept.known clear.kept.slots clear.kept.of
-    e named)
+    g)

@@ -1,26 +1,20 @@
 use Rattle.std.proofs.Common.{◌≡◌, ℕ, ◌+◌, ◌*◌, ◌^◌, ◌<◌, ◌≤◌, List, [], ◌∷◌, ◌++◌, length, true, false, cond, Option}
 use Rattle.std.proofs.Common.{None, Some, get_or, take, slice_get, refl, sym, ap, ◌∙◌, subst, ◌⊎◌, inl, inr, ⊎_elim}
 use Rattle.std.proofs.Common.{arith, length-append}
-use Rattle.std.proofs.lemmas.List.{get_or_append_left, take_more}
-use Rattle.std.specs.Prelude.{nat_le}
+use Rattle.std.proofs.lemmas.List.{get_or_append_left, take_more, get_or_push}
+use Rattle.automata_hybrid.proofs.Words.{AllStarts, dead_id, id_of, IsSlot, keep_slot, keep_slots, Kept, Leads}
+use Rattle.automata_hybrid.proofs.Words.{LeadsToDead, LeadsToNamed, LeadsToStart, Machine, Names, nat_le, Powerset}
+use Rattle.automata_hybrid.proofs.Words.{powerset_eq, powerset_eq-Decides, Row, row_of, Rows, slot_behind}
+use Rattle.automata_hybrid.proofs.Words.{start_state_of, with_row_in_store}
 use Rattle.std.proofs.lemmas.Bool.Decides.{nat_tests}
 use Rattle.std.proofs.lemmas.Grind.{get_or_default_zero}
 use Rattle.std.proofs.lemmas.Bool.{cases_Bool}
-use Rattle.automata_base.specs.Powersets.Powerset.{Powerset}
-use Rattle.automata_base.specs.Powersets.Equal.{powerset_eq, powerset_eq-Decides}
-use Rattle.automata_base.specs.Retraced.Steps.{start_state_of}
-use Rattle.automata_hybrid.specs.Machines.StartSlots.{slot_behind}
-use Rattle.automata_hybrid.specs.declared.cache.row.Row.{Row}
-use Rattle.automata_hybrid.specs.Cache.Ids.{dead_id}
-use Rattle.automata_hybrid.specs.Machines.Machine.{Machine}
-use Rattle.automata_hybrid.specs.Cache.Table.{Leads, Names, Rows, id_of, row_of}
-use Rattle.automata_hybrid.specs.Private.Cache.Table.{with_row_in_store}
-use Rattle.automata_hybrid.specs.Private.Cache.Clears.{AllStarts, IsSlot, LeadsToStart, with_row_once, Kept, keep_found}
-use Rattle.automata_hybrid.specs.Private.Cache.Clears.{KeepsSlot, keep_slot, keep_slots, IsPut}
-use Rattle.automata_hybrid.proofs.Caches.Rows.{Leads-more, at_push, find_id-push_other}
+use Rattle.automata_hybrid.specs.Private.Cache.Clears.{with_row_once, keep_found}
+use Rattle.automata_hybrid.specs.Private.Cache.Clears.{KeepsSlot, IsPut}
+use Rattle.automata_hybrid.proofs.Caches.Rows.{Leads-more, at_push, find_id-push_other, Leads-Names}
 use Rattle.std.specs.Option.{is_some, unwrap_or}
 
-pub keep_slots-push :
+keep_slots-push :
     (old : Rows) (k : Kept) (ids : List ℕ) (id : ℕ)
     → keep_slots old k (ids ++ id ∷ []) ≡ keep_slot old (keep_slots old k ids) id
 unfolding keep_slots
@@ -33,23 +27,18 @@ with_row_once-of t r = go (id_of t r.state) where
   go None = refl
   go (Some n) = refl
 
-pub with_row_once-length : (t : Rows) (r : Row) → length (with_row_once t r).rows ≤ length t.rows + 1
+with_row_once-length : (t : Rows) (r : Row) → length (with_row_once t r).rows ≤ length t.rows + 1
 with_row_once-length t r = go (id_of t r.state) where
   go : (o : Option ℕ) → length (cond (is_some o) t (with_row_in_store t r)).rows ≤ length t.rows + 1
   go None = omega (arith, length-append t.rows (r ∷ []))
   go (Some n) = omega arith
 
--- a slot's ID without a high tag is that of a row
-pub Leads-row : (t : Rows) (id : ℕ) (q : Powerset) → Leads t id q → id < 2 ^ 29 → Names t id q
-Leads-row t id q (inl (e, d)) l = absurd (omega (arith, e, l))
-Leads-row t id q (inr h) l = h
-
 pub slot_row : (t : Rows) (slot id : ℕ) → IsSlot t slot id → id < 2 ^ 29 → (q : Powerset) × Names t id q
 slot_row t slot id (inl e) l = absurd (omega (arith, e, l))
-slot_row t slot id (inr (q, leads, first)) l = (q, Leads-row t id q leads l)
+slot_row t slot id (inr (q, leads, first)) l = (q, Leads-Names t id q leads l)
 
 -- one more slot
-pub AllStarts-push :
+AllStarts-push :
     (t : Rows) (xs : List ℕ) (y : ℕ) → AllStarts t xs → IsSlot t (length xs) y → AllStarts t (xs ++ y ∷ [])
 AllStarts-push t xs y all h slot id e = go (at_push xs y slot id e) where
   go : (slice_get xs slot ≡ Some id) ⊎ ((slot ≡ length xs) × (y ≡ id)) → IsSlot t slot id
@@ -77,7 +66,7 @@ put_id before after starts r n e named =
     λ i. record { table = sym e i; starts = starts ++ unwrap_or (f i) (2 ^ 31) ∷ [] }
 
 -- a slot that names a row
-pub kept_row :
+kept_row :
     (old before after : Rows) (starts : List ℕ) (id n : ℕ) → IsPut old before after id n → id < 2 ^ 29
     → keep_slot old (record { table = before; starts = starts }) id
     ≡ record { table = after; starts = starts ++ n ∷ [] }
@@ -96,7 +85,7 @@ pub IsPut-length :
 IsPut-length old before after id n p =
     subst (λ (u : Rows). length u.rows ≤ length before.rows + 1) (sym p.put_there) (with_row_once-length before p.row)
 
-pub IsPut-AllStarts :
+IsPut-AllStarts :
     (old before after : Rows) (starts : List ℕ) (id n : ℕ) → IsPut old before after id n → AllStarts before starts
     → LeadsToStart after n (length starts) → AllStarts after (starts ++ n ∷ [])
 IsPut-AllStarts old before after starts id n p all named =
@@ -132,10 +121,6 @@ absent-more old t r q had o n = ⊎_elim
     (λ (e : powerset_eq q r.state ≡ false). find_id-push_other t.of.stride (3 * t.of.stride) q t.rows r e ∙ n)
     (cases_Bool (powerset_eq q r.state))
 
-last_pushed : (xs : List ℕ) (y : ℕ) → get_or (xs ++ y ∷ []) (length xs) 0 ≡ y
-last_pushed [] y = refl
-last_pushed (x ∷ xs) y = last_pushed xs y
-
 -- a slot that names no row is kept as it is
 pub keeps_fixed :
     (old t : Rows) (starts after : List ℕ) (id : ℕ)
@@ -153,7 +138,7 @@ keeps_fixed old t starts after id low high push of all leads =
       few = omega arith;
       slots = length-append starts (id ∷ []);
       front = λ slot l. get_or_append_left starts (id ∷ []) 0 slot l;
-      known = λ k. subst (λ n. n < 2 ^ 31) (sym (last_pushed starts id)) k;
+      known = λ k. subst (λ n. n < 2 ^ 31) (sym (get_or_push starts id 0 (length starts) refl)) k;
       absent = λ q o n. n;
       of = refl;
     })
@@ -171,8 +156,8 @@ keeps_fixed old t starts after id low high push of all leads =
           ∙ ap (λ (m : Machine). start_state_of m.nfa mode behind) (sym of),
     ) where
       step : (q : Powerset) → Leads old id q → Leads t id q
-      step q (inl (e, d)) = inl (e ∙ ap (λ (m : Machine). dead_id m.stride) (sym of), d)
-      step q (inr n) = let l : id < 2 ^ 29 = low id q n in absurd (omega (arith, l, high))
+      step q (LeadsToDead e d) = LeadsToDead (e ∙ ap (λ (m : Machine). dead_id m.stride) (sym of)) d
+      step q (LeadsToNamed n) = let l : id < 2 ^ 29 = low id q n in absurd (omega (arith, l, high))
 
 -- the row that a slot names is kept
 pub keeps_row :
@@ -191,7 +176,7 @@ keeps_row old before after starts slots id n below low push of all leads with_ro
       few = IsPut-length old before after id n with_row_once;
       slots = length-append starts (n ∷ []);
       front = λ slot l. get_or_append_left starts (n ∷ []) 0 slot l;
-      known = λ _. subst (λ k. k < 2 ^ 31) (sym (last_pushed starts n)) (omega (arith, small));
+      known = λ _. subst (λ k. k < 2 ^ 31) (sym (get_or_push starts n 0 (length starts) refl)) (omega (arith, small));
       absent = absent;
       of = IsPut-of old before after id n with_row_once;
     })
@@ -203,7 +188,7 @@ keeps_row old before after starts slots id n below low push of all leads with_ro
     start (inl e) = absurd (omega (arith, e, below))
     start (inr (q, leads, first)) = (
       q,
-      inr (names q (Leads-row old id q leads below)),
+      LeadsToNamed (names q (Leads-Names old id q leads below)),
       λ mode behind at.
           first mode behind (subst (λ (m : Machine). slot_behind m mode behind ≡ length starts) same at)
           ∙ ap (λ (m : Machine). start_state_of m.nfa mode behind) (sym same),

@@ -3,25 +3,20 @@ use Rattle.std.proofs.Common.{ℕ, zero, suc, ◌≡◌, ◌∙◌, ◌+◌, ◌
 use Rattle.std.proofs.Common.{false, List, [], ◌∷◌, ◌++◌, length, refl, slice_index, sym, ap, subst, arith, Option}
 use Rattle.std.proofs.Common.{None, Some, drop, slice_get, slice_set, sum_by, take}
 use Rattle.std.proofs.Math.Nat.{mul-le-mul_left, mul-le-mul_right, pow-le-pow_left}
+use Rattle.std.proofs.Math.Arith.{digits_lt}
 use Rattle.std.proofs.lemmas.Bool.{cases_lt}
 use Rattle.std.proofs.lemmas.List.{get_or-append-add, get_or-drop, get_or-set_other, get_or-take, get_or_append_left}
 use Rattle.std.proofs.lemmas.List.{get_or_push, length-append, length-drop, length-set, length-take-le}
 use Rattle.std.proofs.lemmas.Nat.{div-mul-add, mod-mul-add}
 use Rattle.std.specs.Global.{Box}
-use Rattle.automata_base.specs.Nfas.Nodes.{Automaton}
-use Rattle.automata_base.specs.Powersets.Accounting.{cell_size, entry_size, fixed_rows_cost, minimum_capacity, row_size}
-use Rattle.automata_hybrid.specs.Cache.Ids.{offset_limit, unknown_id}
+use Rattle.automata_hybrid.proofs.Words.{AllStarts, Automaton, cell_at, cell_size, entry_size, fixed_rows_cost, IsCache}
+use Rattle.automata_hybrid.proofs.Words.{IsSlot, LeadsToStart, Machine, minimum_capacity, offset_limit, row_cost}
+use Rattle.automata_hybrid.proofs.Words.{row_size, Rows, RowsFitCells, Settings, Stored, unknown_id, usage_in_store}
+use Rattle.automata_hybrid.proofs.Words.{with_cell, with_next, with_start_in_store}
+use Rattle.automata_hybrid.proofs.Caches.Rows.{leads_on}
 use Rattle.automata_hybrid.specs.Private.Cache.Leaps.{AreCacheParts, AreLeaps, AreLeapSteps, IsLevel, IsLevelCell}
 use Rattle.automata_hybrid.specs.Private.Cache.Leaps.{IsLeapStep, LeadsToRow, LeapsTo, ReachesRow, leaps_bytes, mark}
-use Rattle.automata_hybrid.specs.Cache.Stores.{Stored}
-use Rattle.automata_hybrid.specs.Private.Cache.Stores.{with_next, with_start_in_store}
-use Rattle.automata_hybrid.specs.Private.Cache.Clears.{AllStarts, IsSlot, LeadsToStart}
 use Rattle.automata_base.proofs.Paths.Orders.{some_inj}
-use Rattle.automata_hybrid.specs.Private.Cache.Table.{RowsFitCells, with_cell}
-use Rattle.automata_hybrid.specs.Cache.Table.{Rows, cell_at, row_cost}
-use Rattle.automata_hybrid.specs.Private.Cache.Usage.{usage_in_store, IsCache}
-use Rattle.automata_hybrid.specs.declared.cache.settings.Settings.{Settings}
-use Rattle.automata_hybrid.specs.Machines.Machine.{Machine}
 use Rattle.automata_hybrid.specs.declared.cache.leaps.Leaps.{Leaps}
 
 -- classes are few, and so are sequences of few of them
@@ -32,13 +27,6 @@ power_small n (suc (suc zero)) few short = omega (arith, pow-le-pow_left few 2)
 power_small n (suc (suc (suc zero))) few short = omega (arith, pow-le-pow_left few 3)
 power_small n (suc (suc (suc (suc zero)))) few short = omega (arith, pow-le-pow_left few 4)
 power_small n (suc (suc (suc (suc (suc count))))) few short = absurd (omega (arith, short))
-
--- the place of a class after that of a row
-pub place_below : (rows n row class : ℕ) → class < n → row < rows → row * n + class < rows * n
-place_below rows n row class below known =
-    let l : suc row * n ≤ rows * n = mul-le-mul_right n (omega (arith, known)) in
-    let e : suc row * n ≡ row * n + n = omega arith in
-    omega (arith, l, e, below)
 
 -- so many numbers of a list from a place on
 pub slice_long :
@@ -122,7 +110,7 @@ module _ (t : Rows) (n : ℕ) where
       record { upto = step.upto; reaches = λ known. (place / n, refl, step.leads known) }
 
   -- a level of one class more, after so many places of the one before
-  pub level_more :
+  level_more :
       (count : ℕ) (level steps next more : List ℕ) (i : ℕ) → length steps ≡ (length t.rows + 1) * n → i < length level
       → length next ≡ i * n → length more ≡ length next + n
       → ((k : ℕ) → k < length next → slice_index more k ≡ slice_index next k)
@@ -155,7 +143,7 @@ module _ (t : Rows) (n : ℕ) where
           step : IsLeapStep t n (row * n + class) (slice_index steps (row * n + class))
           step = are (row * n + class) (
               let l : row * n + class < suc (length t.rows) * n =
-              place_below (suc (length t.rows)) n row class low (omega (arith, from.upto)) in
+              digits_lt (omega (arith, from.upto)) low in
               let e : suc (length t.rows) ≡ length t.rows + 1 = omega arith in
               subst (λ k. row * n + class < k) (ap (λ k. k * n) e ∙ sym long) l)
 
@@ -215,7 +203,7 @@ module _ (t : Rows) (id class next : ℕ) (unknown : unknown_id ≤ slice_index 
   reaches_kept n (suc count) place to (row, before, leads) =
       (row, reaches_kept n count (place / n) row before, leads_kept row (place % n) to leads)
 
-  pub leaps_kept : (l : Leaps) → AreLeaps t l → AreLeaps (with_cell t id class next) l
+  leaps_kept : (l : Leaps) → AreLeaps t l → AreLeaps (with_cell t id class next) l
   leaps_kept l are = record {
     of = record { shape = are.of.shape; classes = are.of.classes; rows = are.of.rows };
     cells = are.cells;
@@ -235,10 +223,10 @@ module _ (t : Rows) (id class next : ℕ) (unknown : unknown_id ≤ slice_index 
     })
 
 -- the parts of a cache without leaps, and with those of before
-pub parts_none : (c : Stored) (nfa : Automaton) → nfa ≡ c.table.of.nfa → AreCacheParts c nfa None
+parts_none : (c : Stored) (nfa : Automaton) → nfa ≡ c.table.of.nfa → AreCacheParts c nfa None
 parts_none c nfa same = record { scratch = same; leaps = _; within = _ }
 
-pub parts_kept :
+parts_kept :
     (c new : Stored) (nfa : Automaton) (held : Option (Box Leaps)) → new.table.of ≡ c.table.of
     → ((l : Leaps) → AreLeaps c.table l → AreLeaps new.table l) → usage_in_store new ≡ usage_in_store c
     → AreCacheParts c nfa held → AreCacheParts new nfa held
@@ -261,17 +249,20 @@ used_next c id class next =
 
 pub cache_next : (c : Stored) (s : Settings) (id class next : ℕ) → IsCache c s → IsCache (with_next c id class next) s
 cache_next c s id class next held = record {
-  named = held.named;
+  named = λ slot at is. stays (held.named slot at is);
   within = subst (λ k. k ≤ c.table.of.capacity) (sym (used_next c id class next)) held.within;
   enough = held.enough;
   offsets = held.offsets;
   slots = held.slots;
   same = held.same;
   bounded = held.bounded;
-}
+} where
+  stays : {slot at : ℕ} → IsSlot c.table slot at → IsSlot (with_next c id class next).table slot at
+  stays (inl e) = inl e
+  stays (inr (q, leads, first)) = inr (q, leads_on c.table id class next leads, first)
 
 -- with a transition that was not known
-pub parts_next :
+parts_next :
     (c : Stored) (nfa : Automaton) (held : Option (Box Leaps)) (id class next : ℕ)
     → unknown_id ≤ slice_index c.table.cells (cell_at id class)
     → AreCacheParts c nfa held → AreCacheParts (with_next c id class next) nfa held

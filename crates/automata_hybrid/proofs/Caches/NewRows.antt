@@ -1,15 +1,13 @@
 use Rattle.std.proofs.Common.{◌≡◌, ℕ, zero, suc, arith, ◌<◌, ◌+◌, ◌^◌, List, length, Bool, true, false, cond, set}
 use Rattle.std.proofs.Common.{replicate, refl, sym, ap, ◌∙◌, add-one, length-set}
-use Rattle.automata_base.specs.ByteClasses.Classes.{class_in, is_quit}
-use Rattle.automata_hybrid.specs.Cache.Ids.{quit_id}
-use Rattle.automata_hybrid.specs.Machines.Machine.{marked}
+use Rattle.automata_hybrid.proofs.Words.{class_in, is_quit, marked, quit_id}
 
 pub marked-zero :
     (classes : List ℕ) (quits : List Bool) (stride : ℕ) → marked classes quits stride 0 ≡ replicate stride (2 ^ 31)
 unfolding marked
 marked-zero classes quits stride = refl
 
-pub marked-more :
+marked-more :
     (classes : List ℕ) (quits : List Bool) (stride byte : ℕ)
     → marked classes quits stride (byte + 1)
     ≡ cond (is_quit quits byte) (set (marked classes quits stride byte) (class_in classes byte) (quit_id stride))

@@ -3,22 +3,19 @@ use Rattle.std.proofs.Common.{false, cond, Some, get_or, set, slice_get, refl, s
 use Rattle.std.proofs.Common.{length-set}
 use Rattle.std.proofs.lemmas.Bool.{cases_eq, ltb-true, lt-ltb}
 use Rattle.std.proofs.lemmas.Option.{slice_get_within}
-use Rattle.std.proofs.lemmas.Nat.{div-mul-add, mod-mul-add, bit_set_by_shift}
-use Rattle.std.specs.Prelude.{IsBitSet, bit_and, ◌↔◌}
+use Rattle.std.proofs.lemmas.Nat.{div-mul-add, mod-mul-add, bit_set_by_shift, same_from_place}
+use Rattle.automata_hybrid.proofs.Words.{cell_at, CellLeads, CellQuits, CellUnknown, cost, dead, find_id, has_patterns}
+use Rattle.automata_hybrid.proofs.Words.{HasOnly, IsBitSet, IsCell, IsRowId, IsStateOf, Names, Powerset, powerset_eq}
+use Rattle.automata_hybrid.proofs.Words.{powerset_eq-Decides, Row, row_cost, row_id, Rows, RowsFitCells, with_cell, ◌↔◌}
+use Rattle.std.specs.Prelude.{bit_and}
 use Rattle.std.proofs.lemmas.List.{get_or-set_same, get_or-set_other, take-set-le}
 use Rattle.std.proofs.Math.Nat.{mul-le-mul_right}
-use Rattle.automata_base.specs.Powersets.Powerset.{Powerset, cost, dead}
-use Rattle.automata_base.specs.Powersets.Equal.{powerset_eq, powerset_eq-Decides}
-use Rattle.automata_hybrid.specs.Machines.Reachable.{IsStateOf}
-use Rattle.automata_hybrid.specs.declared.cache.row.Row.{Row}
 use Rattle.automata_hybrid.specs.Cache.Ids.{tags}
-use Rattle.automata_hybrid.specs.Private.Cache.Ids.{HasOnly}
 use Rattle.std.specs.List.{sum_by}
 use Rattle.std.proofs.lemmas.List.Sums.{sum_by-cons}
-use Rattle.automata_hybrid.specs.Private.Cache.Table.{CellLeads, CellQuits, CellUnknown, IsCell, LeadsByClass}
-use Rattle.automata_hybrid.specs.Private.Cache.Table.{RowsFitCells, IsStepped, with_cell, HasState}
-use Rattle.automata_hybrid.specs.Cache.Table.{Rows, has_patterns, find_id, Names, IsRowId, row_id, cell_at, row_cost}
-use Rattle.automata_hybrid.proofs.Caches.Rows.{inside}
+use Rattle.automata_hybrid.specs.Private.Cache.Table.{LeadsByClass}
+use Rattle.automata_hybrid.specs.Private.Cache.Table.{IsStepped, HasState}
+use Rattle.automata_hybrid.proofs.Caches.Rows.{inside, leads_on}
 use Rattle.automata_base.proofs.Paths.Orders.{some_inj}
 
 -- the row that a look-up met
@@ -132,20 +129,14 @@ Placed-IsCell t id class q i p l =
     (subst (λ w. IsCell t w class (get_or t.cells ((p.place + 3) * t.of.stride + class) 0)) p.state
     (i.stepped p.place class p.row p.has l))
 
--- one cell, one row and one class
-pub one_cell : (a b c d s : ℕ) → c < s → d < s → a * s + c ≡ b * s + d → (a ≡ b) × (c ≡ d)
-one_cell a b c d s l m e =
-    let f : a ≡ b = sym (div-mul-add a s c l) ∙ ap (λ n. n / s) e ∙ div-mul-add b s d m in
-    let g : c ≡ d = sym (mod-mul-add a s c l) ∙ ap (λ n. n % s) e ∙ mod-mul-add b s d m in
-    (f, g)
-
 -- what stands in a cell, whatever was written in another
 IsCell-written :
     (t : Rows) (at column next : ℕ) (q : Powerset) (class id : ℕ) → IsCell t q class id
     → IsCell (with_cell t at column next) q class id
 IsCell-written t at column next q class id (CellQuits h e) = CellQuits h e
 IsCell-written t at column next q class id (CellUnknown h e) = CellUnknown h e
-IsCell-written t at column next q class id (CellLeads h l) = CellLeads h l
+IsCell-written t at column next q class id (CellLeads h l) =
+    CellLeads h (λ unit is here. leads_on t at column next (l unit is here))
 
 -- a cell that is written with what names the next state
 pub RowsFitCells-with_cell :
@@ -179,7 +170,8 @@ RowsFitCells-with_cell t id class next q i h l free leads =
                 (k + 3) * t.of.stride + c ≡ cell_at id class
                 → IsCell t r.state c (get_or (set t.cells (cell_at id class) next) ((k + 3) * t.of.stride + c) 0)
             same e =
-                let both = one_cell (k + 3) (p.place + 3) c class t.of.stride lc l (e ∙ ap (λ n. n + class) p.offset) in
+                let both = same_from_place (k + 3) c (p.place + 3) class t.of.stride lc l
+                (e ∙ ap (λ n. n + class) p.offset) in
                 let place : k ≡ p.place = omega (arith, both.0) in
                 let row : Some r ≡ Some p.row = sym has ∙ ap (slice_get t.rows) place ∙ p.has in
                 let state : r.state ≡ q = ap (λ (x : Row). x.state) (some_inj row) ∙ p.state in
@@ -190,7 +182,7 @@ RowsFitCells-with_cell t id class next q i h l free leads =
                 (subst (λ d. IsCell t r.state d next) (sym both.1)
                 (subst (λ w. IsCell t w class next) (sym state) (CellLeads free leads)))
 
-pub costs_le :
+costs_le :
     (rs : List Row) (m : ℕ) → ((k : ℕ) (r : Row) → slice_get rs k ≡ Some r → cost r.state ≤ m)
     → sum_by row_cost rs ≤ length rs * m
 costs_le [] m all = omega arith

@@ -8,15 +8,11 @@ use Rattle.std.proofs.lemmas.Option.{slice_get_within}
 use Rattle.std.proofs.lemmas.List.{get_or_append_left, get_or-append-add, take-append-le}
 use Rattle.std.proofs.Math.Nat.{mul-le-mul_right}
 use Rattle.std.proofs.lemmas.List.Sums.{sum_by_push}
-use Rattle.automata_base.specs.Powersets.Powerset.{Powerset, cost, dead}
-use Rattle.automata_base.specs.Powersets.Equal.{powerset_eq, powerset_eq-Decides}
-use Rattle.automata_hybrid.specs.Machines.Reachable.{IsStateOf}
-use Rattle.automata_hybrid.specs.declared.cache.row.Row.{Row}
-use Rattle.automata_hybrid.specs.Cache.Ids.{quit_id}
-use Rattle.automata_hybrid.specs.Private.Machines.Machine.{IsTemplate}
-use Rattle.automata_hybrid.specs.Private.Cache.Table.{CellLeads, CellQuits, CellUnknown, IsCell, with_row_in_store}
-use Rattle.automata_hybrid.specs.Private.Cache.Table.{RowsFitCells, IsStepped, IsHeld, StateMap}
-use Rattle.automata_hybrid.specs.Cache.Table.{Rows, find_id, id_of, Names, Leads, row_id, row_cost, IsRowState}
+use Rattle.automata_hybrid.proofs.Words.{CellLeads, CellQuits, CellUnknown, cost, dead, find_id, id_of, IsCell}
+use Rattle.automata_hybrid.proofs.Words.{IsRowState, IsStateOf, IsTemplate, Leads, LeadsToDead, LeadsToNamed, Names}
+use Rattle.automata_hybrid.proofs.Words.{Powerset, powerset_eq, powerset_eq-Decides, quit_id, Row, row_cost, row_id}
+use Rattle.automata_hybrid.proofs.Words.{Rows, RowsFitCells, with_cell, with_row_in_store}
+use Rattle.automata_hybrid.specs.Private.Cache.Table.{IsStepped, IsHeld, StateMap}
 
 -- a state that rows have keeps its ID when more come
 find_id-more :
@@ -31,8 +27,19 @@ find_id-more s at q (r ∷ rs) ys id h = go (powerset_eq q r.state) h (find_id-m
   go true h again = h
   go false h again = again h
 
+-- an ID without a high tag that leads to a state is that of a row
+pub Leads-Names : (t : Rows) (id : ℕ) (q : Powerset) → Leads t id q → id < 2 ^ 29 → Names t id q
+Leads-Names t id q (LeadsToDead e d) l = absurd (omega (arith, e, l))
+Leads-Names t id q (LeadsToNamed h) l = h
+
+-- whatever a cell has, an ID leads where it led
+pub leads_on :
+    (t : Rows) (at class next : ℕ) {id : ℕ} {q : Powerset} → Leads t id q → Leads (with_cell t at class next) id q
+leads_on t at class next (LeadsToDead e d) = LeadsToDead e d
+leads_on t at class next (LeadsToNamed h) = LeadsToNamed h
+
 -- a state that is new stands last
-pub find_id-push_new :
+find_id-push_new :
     (s at : ℕ) (rs : List Row) (r : Row) → find_id s at r.state rs ≡ None
     → find_id s at r.state (rs ++ r ∷ []) ≡ Some (row_id (at + length rs * s) r)
 find_id-push_new s at [] r h =
@@ -63,10 +70,10 @@ pub Names-more : (t : Rows) (r : Row) (id : ℕ) (q : Powerset) → Names t id q
 Names-more t r id q h = find_id-more t.of.stride (3 * t.of.stride) q t.rows (r ∷ []) id h
 
 pub Leads-more : (t : Rows) (r : Row) (id : ℕ) (q : Powerset) → Leads t id q → Leads (with_row_in_store t r) id q
-Leads-more t r id q (inl h) = inl h
-Leads-more t r id q (inr h) = inr (Names-more t r id q h)
+Leads-more t r id q (LeadsToDead e d) = LeadsToDead e d
+Leads-more t r id q (LeadsToNamed h) = LeadsToNamed (Names-more t r id q h)
 
-pub IsCell-more :
+IsCell-more :
     (t : Rows) (r : Row) (q : Powerset) (class id : ℕ) → IsCell t q class id → IsCell (with_row_in_store t r) q class id
 IsCell-more t r q class id (CellQuits h e) = CellQuits h e
 IsCell-more t r q class id (CellUnknown h e) = CellUnknown h e
@@ -125,7 +132,7 @@ stepped-with_row t r template whole old k class x h l = go (at_push t.rows r k x
         new (inr u) = CellUnknown u u
 
 -- a new row, after which the rows still fit together
-pub RowsFitCells-with_row :
+RowsFitCells-with_row :
     (t : Rows) (r : Row) → RowsFitCells t → IsTemplate t.of.stride t.of.template → id_of t r.state ≡ None
     → (r.state ≡ dead → ⊥) → cost r.state ≤ t.of.greatest → IsStateOf t.of r.state → length t.cells < 2 ^ 27
     → RowsFitCells (with_row_in_store t r)

@@ -1,13 +1,8 @@
 -- The start states in the slots of a cache.
 use Rattle.std.proofs.Common.{ℕ, inl, inr, Option, refl, subst, arith}
 use Rattle.std.proofs.lemmas.Option.{slice_get-get_or}
-use Rattle.automata_base.specs.Retraced.Steps.{start_state_of}
-use Rattle.automata_base.specs.declared.util.search.Anchored.{Anchored}
-use Rattle.automata_hybrid.specs.Private.Cache.Clears.{AllStarts, IsSlot}
+use Rattle.automata_hybrid.proofs.Words.{AllStarts, Anchored, IsSlot, Leads, slot_behind, start_state_of, Stored}
 use Rattle.automata_hybrid.specs.Cache.States.{LeadsAsStart}
-use Rattle.automata_hybrid.specs.Cache.Stores.{Stored}
-use Rattle.automata_hybrid.specs.Cache.Table.{Leads}
-use Rattle.automata_hybrid.specs.Machines.StartSlots.{slot_behind}
 use Rattle.automata_hybrid.specs.Steps.Starts.{known_start}
 
 -- the ID in a slot leads to its start state

@@ -1,21 +1,15 @@
 -- The states of the rows of a table, one by one.
 use Rattle.std.proofs.Common.{◌≡◌, ◌∙◌, ℕ, ◌+◌, ◌-◌, ◌*◌, ◌%◌, ◌^◌, ◌<◌, ◌≤◌, suc, List, [], ◌∷◌, length, Some, drop}
 use Rattle.std.proofs.Common.{take, get_or, slice_get, ◌⊎◌, inl, inr, Option, refl, sym, ap, subst, arith}
-use Rattle.automata_base.specs.Powersets.Passes.{IsUnit}
-use Rattle.automata_base.specs.Retraced.Steps.{successor}
-use Rattle.automata_config.specs.Options.{match_kind_of}
-use Rattle.automata_hybrid.specs.Cache.Ids.{quit_id}
+use Rattle.automata_hybrid.proofs.Words.{CellLeads, CellQuits, CellUnknown, has_patterns, IsCell, IsUnit, Leads}
+use Rattle.automata_hybrid.proofs.Words.{match_kind_of, Names, quit_id, Row, row_id, RowsFitCells, Stored, successor}
+use Rattle.automata_hybrid.proofs.Words.{unit_class}
 use Rattle.automata_hybrid.specs.Cache.States.{IsTransition, transition_on, HeldState, IsHeldState, held_states}
 use Rattle.automata_hybrid.specs.Cache.States.{states_from}
-use Rattle.automata_hybrid.specs.Private.Cache.Table.{CellLeads, CellQuits, CellUnknown, HasOwnStates, IsCell}
-use Rattle.automata_hybrid.specs.Private.Cache.Table.{RowsFitCells}
-use Rattle.automata_hybrid.specs.Cache.Table.{Leads, Names, has_patterns, row_id}
-use Rattle.automata_hybrid.specs.Machines.Machine.{unit_class}
+use Rattle.automata_hybrid.specs.Private.Cache.Table.{HasOwnStates}
 use Rattle.std.proofs.lemmas.List.{get_or-drop, get_or-take, length-drop}
 use Rattle.std.specs.List.{AllByRecursion}
-use Rattle.automata_hybrid.specs.declared.cache.row.Row.{Row}
 use Rattle.automata_hybrid.specs.Private.Cache.States.{AreRowsLeft}
-use Rattle.automata_hybrid.specs.Cache.Stores.{Stored}
 use Rattle.automata_hybrid.proofs.Caches.Places.{tags_mod}
 
 -- the state of a row

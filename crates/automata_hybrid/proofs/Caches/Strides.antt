@@ -1,12 +1,9 @@
--- A stride is a power of two, which its logarithm tells.
+-- A stride is a power of two, as its logarithm shows.
 use Rattle.std.proofs.Common.{ℕ, zero, suc, ◌≡◌, ◌*◌, ◌<◌, ◌≤◌, ◌^◌, arith}
 use Rattle.std.proofs.Math.Nat.{pow-le-pow_right}
 use Rattle.std.proofs.lemmas.Bool.Decides.{nat_tests}
 use Rattle.automata_base.specs.ByteClasses.Classes.{stride_for}
-
-stride_few : (len : ℕ) → stride_for len ≤ 512
-unfolding stride_for
-stride_few len = grind (arith, nat_tests)
+use Rattle.automata_base.proofs.ByteClasses.Boundaries.{stride_for-few}
 
 big_power : (r : ℕ) → 10 ≤ r → 1024 ≤ 2 ^ r
 big_power r h = pow-le-pow_right {n = 2} (omega arith) {i = 10} {j = r} h
@@ -24,5 +21,9 @@ stride_log len (suc (suc (suc (suc (suc (suc (suc zero))))))) h l = grind (arith
 stride_log len (suc (suc (suc (suc (suc (suc (suc (suc zero)))))))) h l = grind (arith, nat_tests)
 stride_log len (suc (suc (suc (suc (suc (suc (suc (suc (suc zero))))))))) h l = grind (arith, nat_tests)
 stride_log len (suc (suc (suc (suc (suc (suc (suc (suc (suc (suc r)))))))))) h l =
-    absurd (omega
-    (arith, h, stride_few len, big_power (suc (suc (suc (suc (suc (suc (suc (suc (suc (suc r)))))))))) (omega arith)))
+    absurd (omega (
+      arith,
+      h,
+      stride_for-few len,
+      big_power (suc (suc (suc (suc (suc (suc (suc (suc (suc (suc r)))))))))) (omega arith),
+    ))

@@ -1,23 +1,16 @@
 use Rattle.std.proofs.Common.{◌≡◌, ℕ, ◌+◌, ◌*◌, ◌^◌, ◌<◌, ◌≤◌, length, List, sym, ◌∙◌, subst, arith, length-append}
-use Rattle.std.proofs.Common.{replicate, slice_get, Some, inl, inr, ap, [], ◌∷◌, ◌++◌}
+use Rattle.std.proofs.Common.{replicate, slice_get, Some, inl, ap, [], ◌∷◌, ◌++◌}
 use Rattle.std.specs.List.{sum_by}
 use Rattle.std.proofs.Math.Nat.{mul-le-mul_right}
 use Rattle.std.proofs.lemmas.List.Sums.{sum_by_push}
-use Rattle.automata_base.specs.Powersets.Powerset.{Powerset, cost}
-use Rattle.automata_base.specs.Powersets.Accounting.{minimum_capacity}
-use Rattle.automata_hybrid.specs.declared.cache.row.Row.{Row}
-use Rattle.automata_hybrid.specs.Cache.Ids.{dead_id, quit_id}
-use Rattle.automata_hybrid.specs.Machines.Machine.{Machine}
+use Rattle.automata_hybrid.proofs.Words.{AllStarts, cost, dead_id, Fits, IsCache, Leads, LeadsToDead, LeadsToNamed}
+use Rattle.automata_hybrid.proofs.Words.{Machine, minimum_capacity, Names, Powerset, quit_id, Row, row_cost, Rows}
+use Rattle.automata_hybrid.proofs.Words.{Searched, Settings, Stored, usage_in_store, with_row_in_store, with_table}
 use Rattle.std.proofs.lemmas.List.{length-replicate, get_or-replicate}
 use Rattle.std.proofs.lemmas.Option.{slice_get_within, get_or_from_slice_get}
-use Rattle.automata_hybrid.specs.declared.cache.settings.Settings.{Settings}
-use Rattle.automata_hybrid.specs.declared.cache.progress.Searched.{Searched}
-use Rattle.automata_hybrid.specs.Cache.Table.{Rows, Leads, Names, row_cost, fixed_rows}
-use Rattle.automata_hybrid.specs.Private.Cache.Table.{with_row_in_store}
-use Rattle.automata_hybrid.specs.Private.Cache.Clears.{AllStarts}
-use Rattle.automata_hybrid.specs.Cache.Stores.{Stored, fresh_store}
-use Rattle.automata_hybrid.specs.Private.Cache.Stores.{with_table, cache_settings}
-use Rattle.automata_hybrid.specs.Private.Cache.Usage.{usage_in_store, Fits, IsCache}
+use Rattle.automata_hybrid.specs.Cache.Table.{fixed_rows}
+use Rattle.automata_hybrid.specs.Cache.Stores.{fresh_store}
+use Rattle.automata_hybrid.specs.Private.Cache.Stores.{cache_settings}
 
 -- in a cache with so few rows a new state fits
 pub few_fits :
@@ -33,7 +26,7 @@ few_fits n cells most stride slots sum fixed capacity extra few whole cheap enou
     omega (arith, few, whole, cheap, enough, le, le2, e, f, little)
 
 -- so it is within its capacity
-pub few_within :
+few_within :
     (n cells most stride slots sum fixed capacity : ℕ) → n ≤ slots + 1 → cells ≡ (n + 3) * stride → sum ≤ n * most
     → minimum_capacity stride slots most fixed ≤ capacity
     → 4 * cells + 4 * slots + 16 * (n + 3) + 20 * (n + 1) + 39 + sum + fixed ≤ capacity
@@ -180,5 +173,5 @@ IsCache-cleared c settings t starts clears searched i named s n few whole cheap 
 pub Leads-known :
     (t : Rows) (id : ℕ) (q : Powerset) → ((n : ℕ) (p : Powerset) → Names t n p → n < 2 ^ 29) → t.of.stride ≤ 512
     → Leads t id q → id < 2 ^ 31
-Leads-known t id q low small (inl (e, d)) = omega (arith, e, small)
-Leads-known t id q low small (inr h) = omega (arith, low id q h)
+Leads-known t id q low small (LeadsToDead e d) = omega (arith, e, small)
+Leads-known t id q low small (LeadsToNamed h) = omega (arith, low id q h)

@@ -1,28 +1,17 @@
 -- What is true of what each cache of a DFA knows stays true.
 use Rattle.std.proofs.Common.{◌≡◌, ◌∙◌, ℕ, zero, suc, ◌+◌, ◌*◌, ◌≤◌, ◌⊎◌, inl, inr, List, [], ◌∷◌, ◌++◌, length, Bool}
 use Rattle.std.proofs.Common.{true, false, cond, Option, None, Some, refl, sym, subst, arith, length-append}
-use Rattle.std.specs.Prelude.{is_some, slice_get, fold, sum_by}
+use Rattle.automata_hybrid.proofs.Words.{CacheView, cost, counted, Event, is_some, IsStoreOf, keep_row, Known, known_of}
+use Rattle.automata_hybrid.proofs.Words.{Machine, match_kind_of, max_cost, minimum_capacity, Powerset, powerset_eq, Row}
+use Rattle.automata_hybrid.proofs.Words.{row_cost, row_in, rows_of_starts, Searched, slice_get, Start, start_named}
+use Rattle.automata_hybrid.proofs.Words.{start_state_of, StatesReportOwn, Step, successor, sum_by, usage, with_row}
+use Rattle.std.specs.Prelude.{fold}
 use Rattle.std.proofs.lemmas.List.{length-map}
 use Rattle.std.proofs.lemmas.List.Sums.{sum_by-cons}
 use Rattle.automata_base.proofs.Paths.Orders.{none_some, some_inj}
-use Rattle.automata_base.specs.Answers.Within.{StatesReportOwn}
-use Rattle.automata_base.specs.Powersets.Accounting.{max_cost, minimum_capacity}
-use Rattle.automata_base.specs.Powersets.Equal.{powerset_eq}
-use Rattle.automata_base.specs.Powersets.Powerset.{Powerset, cost}
-use Rattle.automata_base.specs.Retraced.Steps.{start_state_of, successor}
-use Rattle.automata_config.specs.Options.{match_kind_of}
-use Rattle.automata_hybrid.specs.Cache.Table.{row_cost}
-use Rattle.automata_hybrid.specs.Calls.Events.{Event, Start, Step}
-use Rattle.automata_hybrid.specs.Cache.Caches.{CacheView}
-use Rattle.automata_hybrid.specs.Private.Cache.Caches.{IsStoreOf}
 use Rattle.automata_hybrid.specs.Known.Bounds.{IsKnown}
-use Rattle.automata_hybrid.specs.Known.Events.{usage}
-use Rattle.automata_hybrid.specs.Known.Known.{Known, counted, keep_row, keep_start, row_in, rows_of_starts, with_row}
-use Rattle.automata_hybrid.proofs.Calls.Events.{asked_state}
-use Rattle.automata_hybrid.specs.Known.Stores.{known_of, start_named}
-use Rattle.automata_hybrid.specs.Machines.Machine.{Machine}
-use Rattle.automata_hybrid.specs.declared.cache.progress.Searched.{Searched}
-use Rattle.automata_hybrid.specs.declared.cache.row.Row.{Row}
+use Rattle.automata_hybrid.specs.Known.Known.{keep_start}
+use Rattle.automata_hybrid.proofs.Steps.Events.{asked_state}
 use Rattle.automata_hybrid.proofs.Caches.Usage.{few_fits}
 use Rattle.automata_hybrid.proofs.Known.Growth.{used_more}
 use Rattle.automata_hybrid.proofs.Machines.Costs.{start_cheap, successor_cheap}

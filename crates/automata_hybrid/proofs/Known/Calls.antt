@@ -1,37 +1,19 @@
 -- What steps and calls for a start state make of what a cache knows.
 use Rattle.std.proofs.Common.{ℕ, ◌≡◌, ◌∙◌, ◌*◌, ◌<◌, ◌≤◌, Option, Some, true, false, cond, refl, sym, ap}
 use Rattle.std.proofs.Common.{subst, arith}
-use Rattle.automata_base.specs.Powersets.Passes.{IsUnit}
-use Rattle.automata_base.specs.Powersets.Powerset.{Powerset}
-use Rattle.automata_base.specs.Retraced.Steps.{start_state_of, successor}
-use Rattle.automata_base.specs.declared.util.search.Anchored.{Anchored}
-use Rattle.automata_config.specs.Options.{match_kind_of}
-use Rattle.automata_config.specs.declared.error.StepError.{StepError}
+use Rattle.automata_hybrid.proofs.Words.{after_event, Anchored, CacheView, counted_in_store, Event, EventFails, find_id}
+use Rattle.automata_hybrid.proofs.Words.{fixed_from, GivesUp, GivesUpInStore, is_cached, IsKnownStart, IsMachine}
+use Rattle.automata_hybrid.proofs.Words.{IsStoreOf, IsUnit, Known, known_of, KnowsStep, LacksMemory, Machine, made}
+use Rattle.automata_hybrid.proofs.Words.{match_kind_of, MayStart, moved, Names, Powerset, quits_on, slot_behind, Start}
+use Rattle.automata_hybrid.proofs.Words.{start_state_of, Step, StepError, successor, unit_class}
 use Rattle.automata_config.specs.declared.error.StepError.TheVariants as step
-use Rattle.automata_hybrid.specs.Cache.Caches.{CacheView}
-use Rattle.automata_hybrid.specs.Private.Cache.Caches.{IsStoreOf}
-use Rattle.automata_hybrid.specs.Private.Cache.Caches.{counted_in_store}
-use Rattle.automata_hybrid.specs.Cache.Ids.{fixed_from}
 use Rattle.automata_hybrid.specs.Cache.Stores.{IsCacheError}
-use Rattle.automata_hybrid.specs.Cache.Table.{Names, find_id}
-use Rattle.automata_hybrid.specs.Calls.Events.{Event, Start, Step}
-use Rattle.automata_hybrid.specs.Known.Events.{after_event, is_cached, made}
-use Rattle.automata_hybrid.specs.Known.Known.{Known, moved}
-use Rattle.automata_hybrid.specs.Known.Passes.{EventFails, GivesUp, LacksMemory}
 use Rattle.automata_hybrid.specs.Known.Steps.{FailsFrom, GivesUpOnStart, IsStartRun, IsStepRun, RunsOutOnStart}
 use Rattle.automata_hybrid.specs.Known.Steps.{StartFails, StepFails, id_in}
-use Rattle.automata_hybrid.specs.Known.Stores.{known_of}
-use Rattle.automata_hybrid.specs.Machines.Machine.{Machine, quits_on, unit_class}
-use Rattle.automata_hybrid.specs.Machines.StartSlots.{slot_behind}
-use Rattle.automata_hybrid.specs.Private.Cache.Stores.{IsKnownStart}
-use Rattle.automata_hybrid.specs.Private.Cache.Usage.{GivesUpInStore}
-use Rattle.automata_hybrid.specs.Private.Machines.Machine.{IsMachine}
 use Rattle.automata_hybrid.specs.Private.Searches.PassState.{step_error}
 use Rattle.automata_hybrid.specs.Private.Searches.Units.{StepMakes}
 use Rattle.automata_hybrid.specs.Private.Steps.Starts.{IsStartSlot, start_error}
-use Rattle.automata_hybrid.specs.Private.Steps.Steps.{KnowsStep}
-use Rattle.automata_hybrid.specs.Steps.Starts.{MayStart}
-use Rattle.automata_hybrid.proofs.Calls.Events.{Makes, MakesStep}
+use Rattle.automata_hybrid.proofs.Steps.Events.{Makes, MakesStep}
 use Rattle.automata_hybrid.proofs.Known.Events.{cached_known, gives_up_known, made_known, uncached_known}
 use Rattle.automata_hybrid.proofs.Searches.PassState.{false_true}
 use Rattle.automata_hybrid.proofs.Steps.Steps.{step_unknown}
@@ -42,13 +24,13 @@ pub after_cached :
 after_cached m e come c known = ap (λ b. cond b (Some c) (made m e come)) known
 
 -- and else makes what it asks for
-pub after_made :
+after_made :
     (m : Machine) (e : Event) (come c new : Known) → is_cached m e c ≡ false → made m e come ≡ Some new
     → after_event m e come c ≡ Some new
 after_made m e come c new unknown makes = ap (λ b. cond b (Some c) (made m e come)) unknown ∙ makes
 
 -- the IDs of what a cache knows are those of its rows
-pub named_in :
+named_in :
     (m : Machine) (c : CacheView) (q : Powerset) (id : ℕ) → IsStoreOf c.store m → id_in m (known_of c) q ≡ Some id
     → Names c.store.table id q
 named_in m c q id sound named =

@@ -1,44 +1,31 @@
 -- What follows of a call of a walk, by what a cache knows.
 use Rattle.std.proofs.Common.{ℕ, zero, suc, ◌≡◌, ◌∙◌, ◌+◌, ◌-◌, ◌<◌, ◌≤◌, ◌⊎◌, inl, inr, List, [], ◌∷◌, ◌++◌, length}
 use Rattle.std.proofs.Common.{Bool, true, false, cond, Option, None, Some, refl, sym, ap, subst, arith}
-use Rattle.std.specs.Prelude.{is_some, option_and_then}
+use Rattle.automata_hybrid.proofs.Words.{after_many, after_unit, begun, behind_offset, counted, Direction, ended}
+use Rattle.automata_hybrid.proofs.Words.{given_up_offset, HasReadNoQuit, Input, is_cached, is_quit, is_some, Known}
+use Rattle.automata_hybrid.proofs.Words.{Machine, MayStart, offset_in, option_and_then, pass_trace, Powerset}
+use Rattle.automata_hybrid.proofs.Words.{powerset_eq, quits_on, Row, row_in, SearchError, Skips, start_event}
+use Rattle.automata_hybrid.proofs.Words.{start_search_error, StartError, tape_in, unit_event, UnitFails}
 use Rattle.std.proofs.lemmas.Bool.{cases_lt}
 use Rattle.automata_base.proofs.Paths.Orders.{none_some, some_none}
-use Rattle.automata_base.specs.Answers.Answers.{offset_in}
-use Rattle.automata_base.specs.ByteClasses.Classes.{is_quit}
-use Rattle.automata_base.specs.Haystacks.Input.{Input}
 use Rattle.automata_base.specs.Paths.Paths.{next as unit_at}
-use Rattle.automata_base.specs.Powersets.Equal.{powerset_eq}
-use Rattle.automata_base.specs.Powersets.Powerset.{Powerset}
-use Rattle.automata_base.specs.declared.util.search.Direction.{Direction}
-use Rattle.automata_config.specs.declared.error.SearchError.{SearchError}
-use Rattle.automata_config.specs.declared.error.StartError.{StartError}
 use Rattle.automata_hybrid.specs.Known.Bounds.{IsKnown}
 use Rattle.automata_hybrid.specs.Known.Cached.{KnowsUnit}
 use Rattle.automata_hybrid.specs.Known.Effects.{EventFollows}
-use Rattle.automata_hybrid.specs.Known.Events.{is_cached}
 use Rattle.automata_hybrid.specs.Known.Growth.{ClearedNothing, HasRoom, IsGrown, IsStill}
-use Rattle.automata_hybrid.specs.Known.Known.{Known, begun, counted, ended, row_in}
-use Rattle.automata_hybrid.specs.Known.Passes.{UnitFails, after_unit, after_many}
 use Rattle.automata_hybrid.specs.Known.Steps.{GivesUpOnStart, IsNotSupported, IsQuitBehind, RunsOutOnStart, StartFails}
-use Rattle.automata_hybrid.specs.Known.Walks.{EndsCall, FailsAfterIt, FailsAtIt, FailsOnItsWay, FailsToGoOn}
-use Rattle.automata_hybrid.specs.Known.Walks.{GivesUpOnIt, IsCallLeftAt, IsNotBack, IsNotResumed, LeavesCall, MayGoOn}
+use Rattle.automata_hybrid.specs.Known.Walks.{CallEnds, FailsAfterIt, FailsAtIt, FailsOnItsWay, FailsToGoOn}
+use Rattle.automata_hybrid.specs.Known.Walks.{GivesUpOnIt, CallFailsAt, IsNotBack, IsNotResumed, CallFails, MayGoOn}
 use Rattle.automata_hybrid.specs.Known.Walks.{ReadsNone, ReadsNoQuit, ReadsSome, RunsOutOnIt, after_going_on}
 use Rattle.automata_hybrid.specs.Known.Walks.{after_resume, has_its_row, with_row_back}
 use Rattle.automata_hybrid.specs.Known.WalksFollow.{CallFollows, CallsFollow, KnowsItsState, KnowsUnits, KnowsWalk}
-use Rattle.automata_hybrid.specs.Machines.Machine.{Machine, quits_on}
-use Rattle.automata_hybrid.specs.Searches.Cached.{IsOfInput}
-use Rattle.automata_hybrid.specs.Searches.Passes.{HasReadNoQuit, Skips, behind_offset, given_up_offset, tape_in}
-use Rattle.automata_hybrid.specs.Searches.Progress.{start_event, unit_event}
-use Rattle.automata_hybrid.specs.Searches.Traces.{pass_trace}
-use Rattle.automata_hybrid.specs.Steps.Starts.{MayStart, start_search_error}
+use Rattle.automata_hybrid.specs.Searches.Contracts.{IsOfInput}
 use Rattle.automata_hybrid.specs.Walks.Answers.{HasReported, HasReportedAt, HasReportedBy, IsSilent, IsUnheld}
 use Rattle.automata_hybrid.specs.Walks.Answers.{ReportsNext, WalkReads, start_count}
 use Rattle.automata_hybrid.specs.Walks.Cached.{IsToRead}
-use Rattle.automata_hybrid.specs.Walks.Follows.{IsHoldError, IsInputError, IsKnownError}
+use Rattle.automata_hybrid.specs.Known.WalksFollow.{IsHoldError, IsInputError, IsKnownError}
 use Rattle.automata_hybrid.specs.Walks.Progress.{ReadsItsUnits}
 use Rattle.automata_hybrid.specs.Walks.State.{At, Ended, Fresh, Ids, Keeping, Stage, States, Walk}
-use Rattle.automata_hybrid.specs.declared.cache.row.Row.{Row}
 use Rattle.automata_hybrid.proofs.Known.Bounds.{HasBounds, known_counted, known_moved}
 use Rattle.automata_hybrid.proofs.Known.Growth.{clears_none, grown_after, grown_counted, grown_less, grown_same}
 use Rattle.automata_hybrid.proofs.Known.Growth.{grown_still, grown_trans, nothing_after, nothing_first, nothing_second}
@@ -188,23 +175,37 @@ module _ (way : Direction) (m : Machine) (input : Input) (bounds : HasBounds m) 
   from_base old first b n mid run =
       subst (λ (c : Known). after_many (pass_trace way m input) way m input w.units n c ≡ Some mid) b.begins run
 
+  -- the units that a call reads lie in the span
+  units_within :
+      (next : Walk) (n i : ℕ) → i ≡ n → next.units ≡ w.units + n → ReadsItsUnits way m input w next
+      → w.units ≤ input.end - input.start + 1 → w.units + n ≤ input.end - input.start + 1
+  units_within next n zero is count its l = omega (arith, is, l)
+  units_within next n (suc i) is count its l =
+      let one : w.units + i ≤ length (tape_in way input).bytes =
+      (its.0 (w.units + i) (omega arith) (omega (arith, is, count))).0.0 in
+      omega (arith, is, one, tape_few way input)
+
+  -- nothing changes then
+  unmoved :
+      (old new : Known) (e : SearchError) (s : Stage) → IsKnown m old → new ≡ old
+      → ((MayStart m input.anchored (tape_in way input).before → KnowsItsState way m old input s) → IsOfInput e)
+      → Unresumed way m input s old new e
+  unmoved old new e s sound same of =
+      let count : new.count ≡ old.count = ap (λ (c : Known). c.count) same in
+      record {
+        cost = omega (arith, count);
+        grown = grown_same m old new same;
+        sound = subst (IsKnown m) (sym same) sound;
+        same = λ knows. count;
+        back = λ q is. same;
+        known = λ knows. (count, of knows);
+      }
+
   not_resumed :
       (old new : Known) (e : SearchError) → IsKnown m old → (s : Stage)
       → HasReportedAt way m input s w.units w.reported k
       → IsNotResumed way m input s w.units old new e → Unresumed way m input s old new e
   not_resumed old new e sound Fresh at fails = go fails.error fails.fails fails.reported where
-    barred : new ≡ old → IsOfInput e → Unresumed way m input Fresh old new e
-    barred same of =
-        let count : new.count ≡ old.count = ap (λ (c : Known). c.count) same in
-        record {
-          cost = omega (arith, count);
-          grown = grown_same m old new same;
-          sound = subst (IsKnown m) (sym same) sound;
-          same = λ knows. count;
-          back = λ q is. absurd (fresh_at q is);
-          known = λ knows. (count, of);
-        }
-
     failed :
         MayStart m input.anchored (tape_in way input).before → is_cached m (start_event way input) old ≡ false
         → new ≡ counted old → Unresumed way m input Fresh old new e
@@ -222,27 +223,18 @@ module _ (way : Direction) (m : Machine) (input : Input) (bounds : HasBounds m) 
         → e ≡ start_search_error error (behind_offset way input) (offset_in way input 0)
         → Unresumed way m input Fresh old new e
     go error (IsQuitBehind byte quits is same) reported =
-        barred same
-        (subst IsOfInput (sym
+        unmoved old new e Fresh sound same
+        (λ _. subst IsOfInput (sym
         (reported ∙ ap (λ x. start_search_error x (behind_offset way input) (offset_in way input 0)) is)) tt)
     go error (IsNotSupported clear lacks is same) reported =
-        barred same
-        (subst IsOfInput (sym
+        unmoved old new e Fresh sound same
+        (λ _. subst IsOfInput (sym
         (reported ∙ ap (λ x. start_search_error x (behind_offset way input) (offset_in way input 0)) is)) tt)
     go error (GivesUpOnStart may free none err is same) reported = failed may free same
     go error (RunsOutOnStart may free is same) reported = failed may free same
   not_resumed old new e sound (At q) at fails = go fails where
     still : new ≡ old → (has_its_row old (At q) ≡ true → ⊥) → Unresumed way m input (At q) old new e
-    still same lacks =
-        let count : new.count ≡ old.count = ap (λ (c : Known). c.count) same in
-        record {
-          cost = omega (arith, count);
-          grown = grown_same m old new same;
-          sound = subst (IsKnown m) (sym same) sound;
-          same = λ knows. count;
-          back = λ p is. same;
-          known = λ knows. absurd (lacks (knows at.may));
-        }
+    still same lacks = unmoved old new e (At q) sound same (λ knows. absurd (lacks (knows at.may)))
 
     go : IsNotBack m q (given_up_offset way input w.units) old new e → Unresumed way m input (At q) old new e
     go (GivesUpOnIt none is same) = still same (λ has. some_none (sym (back_there m q old has) ∙ none))
@@ -360,7 +352,8 @@ module _ (way : Direction) (m : Machine) (input : Input) (bounds : HasBounds m) 
         follows_ok old base new r reads (grows new rest)
         (subst (IsKnown m) (sym ends)
         (known_moved m mid (ended (given_up_offset way input (w.units + (n - 1))) mid).searched g.sound))
-        n (omega (arith, g.counted, same)) (within n refl) keeping next count
+        n (omega (arith, g.counted, same))
+        (units_within next n n refl count its (omega (arith, reads.left))) keeping next count
         (λ nothing j t i more walks quits by. known j t i more walks by
         (nothing_first m (begun (given_up_offset way input w.units) base) mid new g.grown last nothing)
         (cases_lt i next.units))
@@ -392,13 +385,6 @@ module _ (way : Direction) (m : Machine) (input : Input) (bounds : HasBounds m) 
               (subst (λ i. quits_on m (unit_at (tape_in way input) i) ≡ false) place
               (clean (j - w.units) (omega (arith, behind, less))))
               byte unit
-
-        within : (i : ℕ) → i ≡ n → w.units + n ≤ input.end - input.start + 1
-        within zero is = omega (arith, is, reads.left)
-        within (suc i) is =
-            let one : w.units + i ≤ length (tape_in way input).bytes =
-            (its.0 (w.units + i) (omega arith) (omega (arith, is, count))).0.0 in
-            omega (arith, is, one, tape_few way input)
 
         known :
             (j : ℕ) → HasReported way m input w j → (i : ℕ) → w.units ≤ i → WalkReads way m input i
@@ -492,13 +478,13 @@ module _ (way : Direction) (m : Machine) (input : Input) (bounds : HasBounds m) 
         → KnowsUnit way m new input j
 
   pub call_read :
-      (next : Walk) (old new : Known) → IsKnown m old → EndsCall way m input w next old new → Reads next old new
+      (next : Walk) (old new : Known) → IsKnown m old → CallEnds way m input w next old new → Reads next old new
   call_read next old new sound (ReadsNone over none same still) = record {
     few = λ l. omega (arith, l, same);
     learned = λ there nothing j more less. absurd (omega (arith, more, less, same));
   }
   call_read next old new sound (ReadsSome over c) = record {
-    few = within c.units refl;
+    few = λ l. (let x = units_within next c.units c.units refl c.counted c.its l in omega (arith, x, c.counted));
     learned = λ there nothing j more less. (
         let first = nothing_second m old b.base new (b.has.there there) rest nothing in
         subst (λ (v : Known). KnowsUnit way m v input j) (sym parts.2)
@@ -531,17 +517,10 @@ module _ (way : Direction) (m : Machine) (input : Input) (bounds : HasBounds m) 
         grown_trans m b.base parts.0 new
         (grows old b.base b.has (to_read way m input skips w k reported c.some) parts.0 g.grown) last
 
-    within : (i : ℕ) → i ≡ c.units → w.units ≤ input.end - input.start + 1 → next.units ≤ input.end - input.start + 1
-    within zero is l = omega (arith, is, c.counted, l)
-    within (suc i) is l =
-        let one : w.units + i ≤ length (tape_in way input).bytes =
-        (c.its.0 (w.units + i) (omega arith) (omega (arith, is, c.counted))).0.0 in
-        omega (arith, is, c.counted, one, tape_few way input)
-
   -- a call that answered
   pub call_ended :
       (keeping : Keeping) (next : Walk) (old new : Known) → IsKnown m old → ReportsNext way m input w next
-      → EndsCall way m input w next old new → CallFollows keeping way m input w next old new None
+      → CallEnds way m input w next old new → CallFollows keeping way m input w next old new None
   call_ended keeping next old new sound reports (ReadsNone over none same still) =
       let count : new.count ≡ old.count = ap (λ (c : Known). c.count) still in
       record {
@@ -569,7 +548,7 @@ module _ (way : Direction) (m : Machine) (input : Input) (bounds : HasBounds m) 
   -- a call that failed
   pub call_left :
       (keeping : Keeping) (next : Walk) (old new : Known) (e : SearchError) → IsKnown m old
-      → LeavesCall keeping way m input w old new e → CallFollows keeping way m input w next old new (Some e)
+      → CallFails keeping way m input w old new e → CallFollows keeping way m input w next old new (Some e)
   call_left keeping next old new e sound (FailsToGoOn reads fails) =
       let r = to_read way m input skips w k reported reads in
       let u = not_resumed old new e sound w.stage reported fails in
@@ -606,7 +585,7 @@ module _ (way : Direction) (m : Machine) (input : Input) (bounds : HasBounds m) 
     run = from_base old first b s.units s.mid s.run
 
     go :
-        (keeping : Keeping) → IsCallLeftAt keeping way m input (w.units + s.units) s.mid new e
+        (keeping : Keeping) → CallFailsAt keeping way m input (w.units + s.units) s.mid new e
         → CallFollows keeping way m input w next old new (Some e)
     go keeping (FailsAtIt fails) =
         call_stops old b.base b.has r keeping next new s.mid e s.units s.reads s.clean s.silent run fails

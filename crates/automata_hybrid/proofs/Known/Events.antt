@@ -1,33 +1,19 @@
 -- The laws of an event: what is cached, what is made, and when a call gives up.
 use Rattle.std.proofs.Common.{◌≡◌, ◌∙◌, ℕ, ◌^◌, ◌<◌, ◌≤◌, ◌⊎◌, inl, inr, length, Bool, true, false, cond, Option, None}
 use Rattle.std.proofs.Common.{Some, get_or, slice_get, refl, sym, ap, subst, arith}
-use Rattle.std.specs.Prelude.{◌↔◌, ◌&&◌, is_some, nat_lt, option_map, unwrap_or}
+use Rattle.automata_hybrid.proofs.Words.{Anchored, CacheView, cell_at, Event, GivesUpInStore, has_state, id_of, is_some}
+use Rattle.automata_hybrid.proofs.Words.{IsMachine, IsStoreOf, IsUnit, Known, known_of, Machine, match_kind_of, nat_lt}
+use Rattle.automata_hybrid.proofs.Words.{option_map, Powerset, quits_on, Row, Rows, slot_behind, Start, start_named}
+use Rattle.automata_hybrid.proofs.Words.{start_row, Step, Stored, successor, unit_class, unknown_id, unwrap_or, ◌&&◌}
+use Rattle.automata_hybrid.proofs.Words.{◌↔◌}
 use Rattle.std.proofs.lemmas.Bool.{cases_Bool}
 use Rattle.std.proofs.lemmas.Bool.Decides.{nat_tests}
 use Rattle.std.proofs.lemmas.Option.{get_or_from_slice_get, slice_get-get_or, slice_get-map, slice_get_within}
-use Rattle.automata_base.specs.Powersets.Passes.{IsUnit}
-use Rattle.automata_base.specs.Powersets.Powerset.{Powerset}
-use Rattle.automata_base.specs.declared.util.search.Anchored.{Anchored}
-use Rattle.automata_base.specs.Retraced.Steps.{successor}
 use Rattle.automata_base.proofs.Paths.Orders.{none_some}
-use Rattle.automata_config.specs.Options.{match_kind_of}
-use Rattle.automata_hybrid.specs.declared.cache.row.Row.{Row}
-use Rattle.automata_hybrid.specs.Cache.Caches.{CacheView}
-use Rattle.automata_hybrid.specs.Private.Cache.Caches.{IsStoreOf}
-use Rattle.automata_hybrid.specs.Cache.Ids.{unknown_id}
-use Rattle.automata_hybrid.specs.Cache.Stores.{Stored}
-use Rattle.automata_hybrid.specs.Cache.Table.{Rows, cell_at, id_of}
-use Rattle.automata_hybrid.specs.Private.Cache.Usage.{GivesUpInStore}
-use Rattle.automata_hybrid.specs.Calls.Events.{Event, Start, Step}
-use Rattle.automata_hybrid.proofs.Calls.Events.{AsksForUnit, IsCached, Makes, MayAsk, asked_state}
+use Rattle.automata_hybrid.proofs.Steps.Events.{AsksForUnit, IsCached, Makes, MayAsk, asked_state}
 use Rattle.automata_hybrid.specs.Known.Events as events
-use Rattle.automata_hybrid.specs.Known.Known.{Known, has_state}
 use Rattle.automata_hybrid.specs.Known.Known as known
-use Rattle.automata_hybrid.specs.Known.Stores.{has_steps_at, known_of, start_named}
-use Rattle.automata_hybrid.specs.Machines.Machine.{Machine, quits_on, unit_class}
-use Rattle.automata_hybrid.specs.Machines.StartSlots.{slot_behind}
-use Rattle.automata_hybrid.specs.Private.Machines.Machine.{IsMachine}
-use Rattle.automata_hybrid.specs.Steps.Starts.{start_row}
+use Rattle.automata_hybrid.specs.Known.Stores.{has_steps_at}
 use Rattle.automata_hybrid.proofs.Caches.Usage.{Leads-known}
 use Rattle.automata_hybrid.proofs.Known.Made.{computed_known, started_known}
 use Rattle.automata_hybrid.proofs.Known.Rooms.{fits_if, fits_not, known_with, lacks_state, refuses_is, state_lacks}
@@ -36,7 +22,7 @@ use Rattle.automata_hybrid.proofs.Known.Starts.{IsNamed, NamesDead, NamesNone, N
 use Rattle.automata_hybrid.proofs.Known.Steps.{HasSteps, is_known_at, steps_there}
 
 -- rows have a transition at the class of each unit that is no quit byte
-pub unit_steps :
+unit_steps :
     (m : Machine) (unit : Option ℕ) → IsMachine m → IsUnit unit → quits_on m unit ≡ false → unit_class m unit < m.stride
     → HasSteps m (unit_class m unit)
 unit_steps m None machine is clean below = record { below = below; free = machine.end_free }

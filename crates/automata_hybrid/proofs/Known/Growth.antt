@@ -1,21 +1,14 @@
 -- How what a cache knows grows: steps and searches one after another, and room for more states.
 use Rattle.std.proofs.Common.{◌≡◌, ◌∙◌, ℕ, ◌+◌, ◌-◌, ◌*◌, ◌<◌, ◌≤◌, ◌⊎◌, inl, inr, List, [], ◌∷◌, ◌++◌, length, Bool}
 use Rattle.std.proofs.Common.{true, Some, refl, sym, ap, subst, arith, append_assoc, append-nil, length-append}
-use Rattle.std.specs.Prelude.{sum_by, slice_get, nat_le, nat_lt, ◌&&◌}
-use Rattle.std.proofs.Math.Nat.{mul-le-mul_right}
+use Rattle.automata_hybrid.proofs.Words.{cell_size, cost, counted, entry_size, fits, fixed_rows_cost, is_cached, Known}
+use Rattle.automata_hybrid.proofs.Words.{Machine, nat_le, nat_lt, offset_limit, Powerset, Row, row_cost, row_size}
+use Rattle.automata_hybrid.proofs.Words.{slice_get, Start, sum_by, usage, with_row, ◌&&◌}
+use Rattle.std.proofs.Math.Nat.{mul-le-mul_right, lt_of_le_of_lt}
 use Rattle.std.proofs.lemmas.Bool.Decides.{nat_tests}
 use Rattle.std.proofs.lemmas.List.Sums.{sum_by_push}
-use Rattle.automata_base.specs.Powersets.Accounting.{cell_size, entry_size, fixed_rows_cost, row_size}
-use Rattle.automata_base.specs.Powersets.Powerset.{Powerset, cost}
-use Rattle.automata_hybrid.specs.Cache.Ids.{offset_limit}
-use Rattle.automata_hybrid.specs.Cache.Table.{row_cost}
 use Rattle.automata_hybrid.specs.Cache.Usage.{row_usage}
-use Rattle.automata_hybrid.specs.Calls.Events.{Start}
-use Rattle.automata_hybrid.specs.Known.Events.{fits, is_cached, usage}
 use Rattle.automata_hybrid.specs.Known.Growth.{ClearedNothing, HasRoom, HasRow, IsGrown, IsStartRow, IsStill, Keeps}
-use Rattle.automata_hybrid.specs.Known.Known.{Known, counted, with_row}
-use Rattle.automata_hybrid.specs.Machines.Machine.{Machine}
-use Rattle.automata_hybrid.specs.declared.cache.row.Row.{Row}
 
 -- the accounted bytes, by the rows
 abbrev usage_of : Machine → List Row → ℕ
@@ -41,13 +34,10 @@ room_less m c n k less room = record {
   offsets = (
       let few : length c.rows + 2 + k ≤ length c.rows + 2 + n = omega (arith, less) in
       let times = mul-le-mul_right m.stride few in
-      under ((length c.rows + 2 + k) * m.stride) ((length c.rows + 2 + n) * m.stride) offset_limit times room.offsets);
+      lt_of_le_of_lt times room.offsets);
 } where
   below : (u a b most : ℕ) → a ≤ b → u + b ≤ most → u + a ≤ most
   below u a b most l h = omega (arith, l, h)
-
-  under : (a b most : ℕ) → a ≤ b → b < most → a < most
-  under a b most l h = omega (arith, l, h)
 
 -- the accounted bytes with one more row
 pub used_more : (m : Machine) (c : Known) (r : Row) → usage m (with_row r c) ≡ usage m c + row_usage m + cost r.state
@@ -62,14 +52,18 @@ used_more m c r =
 pub used_by : (m : Machine) (old new : Known) → new.rows ≡ old.rows → usage m new ≡ usage m old
 used_by m old new same = ap (usage_of m) same
 
+-- two tests of which both hold, as those of what fits
+pub both_fit : (a b x y : ℕ) → a ≤ b → x < y → (nat_le a b && nat_lt x y) ≡ true
+both_fit a b x y le lt = grind (arith, nat_tests)
+
+pub fit_both : (a b x y : ℕ) → (nat_le a b && nat_lt x y) ≡ true → (a ≤ b) × (x < y)
+fit_both a b x y h = (grind (arith, nat_tests), grind (arith, nat_tests))
+
 -- what fits stays within the capacity
 pub fits_within :
     (m : Machine) (c : Known) (q : Powerset) → fits m c q ≡ true → usage m c + row_usage m + cost q ≤ m.capacity
 fits_within m c q fit =
-    first (usage m c + row_usage m + cost q) m.capacity ((length c.rows + 3) * m.stride) offset_limit fit
-  where
-    first : (a b x y : ℕ) → (nat_le a b && nat_lt x y) ≡ true → a ≤ b
-    first a b x y h = grind (arith, nat_tests)
+    (fit_both (usage m c + row_usage m + cost q) m.capacity ((length c.rows + 3) * m.stride) offset_limit fit).0
 
 -- a state of the greatest cost takes the room of one
 one_room :
@@ -94,28 +88,21 @@ module _ (m : Machine) (c : Known) (r : Row) (n : ℕ) (cheap : cost r.state ≤
           omega (arith, last, room.offsets));
     }
 
-    tests : (a b x y : ℕ) → a ≤ b → x < y → (nat_le a b && nat_lt x y) ≡ true
-    tests a b x y le lt = grind (arith, nat_tests)
-
     -- and fits
     pub room_fits : fits m c r.state ≡ true
     room_fits =
         let one = one_room (usage m c) n (row_usage m) m.greatest (cost r.state) m.capacity cheap room.capacity in
         let few : length c.rows + 3 ≤ length c.rows + 2 + (n + 1) = omega arith in
         let times = mul-le-mul_right m.stride few in
-        tests (usage m c + row_usage m + cost r.state) m.capacity ((length c.rows + 3) * m.stride) offset_limit
+        both_fit (usage m c + row_usage m + cost r.state) m.capacity ((length c.rows + 3) * m.stride) offset_limit
         (first (usage m c + row_usage m + cost r.state) (n * (row_usage m + m.greatest)) m.capacity one)
-        (under ((length c.rows + 3) * m.stride)
-        ((length c.rows + 2 + (n + 1)) * m.stride) offset_limit times room.offsets)
+        (lt_of_le_of_lt times room.offsets)
       where
         first : (a b most : ℕ) → a + b ≤ most → a ≤ most
         first a b most l = omega (arith, l)
 
-        under : (a b most : ℕ) → a ≤ b → b < most → a < most
-        under a b most l h = omega (arith, l, h)
-
 -- nothing lost, and again nothing
-pub keeps_trans : (a b c : Known) → Keeps a b → Keeps b c → Keeps a c
+keeps_trans : (a b c : Known) → Keeps a b → Keeps b c → Keeps a c
 keeps_trans a b c f g = record {
   added = f.added ++ g.added;
   rows = g.rows ∙ ap (λ rows. rows ++ g.added) f.rows ∙ append_assoc a.rows f.added g.added;

@@ -1,26 +1,18 @@
 -- What an event makes of a cache is what it makes of what the cache knows.
-use Rattle.std.proofs.Common.{◌≡◌, ◌∙◌, ℕ, ◌+◌, ◌^◌, ◌<◌, inl, inr, List, [], ◌∷◌, ◌++◌, false, cond, Option, None}
+use Rattle.std.proofs.Common.{◌≡◌, ◌∙◌, ℕ, ◌+◌, ◌^◌, ◌<◌, List, [], ◌∷◌, ◌++◌, false, cond, Option, None}
 use Rattle.std.proofs.Common.{Some, refl, sym, ap, subst}
-use Rattle.std.specs.Prelude.{map, option_map, slice_set}
+use Rattle.automata_hybrid.proofs.Words.{cleared_in_store, grown, id_of, IsComputed, IsStarted, IsStoreOf, keep_row}
+use Rattle.automata_hybrid.proofs.Words.{Kept, kept, Known, Lacks, Leads, LeadsToDead, LeadsToNamed, Machine, Names}
+use Rattle.automata_hybrid.proofs.Words.{option_map, Powerset, put_found, Row, row_in, row_of, Rows, rows_of_starts}
+use Rattle.automata_hybrid.proofs.Words.{saturated, start_named, Stored, with_next, with_row_in_store}
+use Rattle.automata_hybrid.proofs.Words.{with_start_in_store, WritesAdded, WritesKnown}
+use Rattle.std.specs.Prelude.{map, slice_set}
 use Rattle.std.proofs.lemmas.List.{map-set}
-use Rattle.automata_base.specs.Powersets.Powerset.{Powerset}
-use Rattle.automata_hybrid.specs.declared.cache.row.Row.{Row}
-use Rattle.automata_hybrid.specs.Private.Cache.Caches.{IsStoreOf}
-use Rattle.automata_hybrid.specs.Private.Cache.Changes.{ClearsFirst, IsComputed, IsStarted, IsStateAdded, JustGrows}
-use Rattle.automata_hybrid.specs.Private.Cache.Changes.{StartsAdded, StartsKnown, WritesAdded, grown, put_found}
-use Rattle.automata_hybrid.specs.Private.Cache.Changes.{WritesKnown}
-use Rattle.automata_hybrid.specs.Cache.Table.{row_of, Leads, Names, Rows, id_of}
-use Rattle.automata_hybrid.specs.Private.Cache.Clears.{Kept, kept}
-use Rattle.automata_hybrid.specs.Cache.Progress.{progress_cleared, saturated}
-use Rattle.automata_hybrid.specs.Cache.Stores.{Stored}
-use Rattle.automata_hybrid.specs.Private.Cache.Stores.{with_next, with_start_in_store}
-use Rattle.automata_hybrid.specs.Private.Cache.Table.{Lacks, with_row_in_store}
-use Rattle.automata_hybrid.specs.Private.Cache.Usage.{cleared_in_store}
+use Rattle.automata_hybrid.specs.Private.Cache.Changes.{ClearsFirst, IsStateAdded, JustGrows}
+use Rattle.automata_hybrid.specs.Private.Cache.Changes.{StartsAdded, StartsKnown}
+use Rattle.automata_hybrid.specs.Cache.Progress.{progress_cleared}
 use Rattle.automata_hybrid.specs.Known.Events as events
-use Rattle.automata_hybrid.specs.Known.Known.{Known, keep_row, row_in, rows_of_starts}
 use Rattle.automata_hybrid.specs.Known.Known as known
-use Rattle.automata_hybrid.specs.Known.Stores.{start_named}
-use Rattle.automata_hybrid.specs.Machines.Machine.{Machine}
 use Rattle.automata_hybrid.proofs.Known.Rooms.{fits_if, fits_not, known_with, refuses_is, state_lacks, state_there}
 use Rattle.automata_hybrid.proofs.Known.Rows.{HasPlaces, NamedRow, named_row, places_before, places_unwritten}
 use Rattle.automata_hybrid.proofs.Known.Starts.{AllStarts-named, AreNamed, AreNamed-more, AreNamed-read, IsKept}
@@ -132,8 +124,8 @@ begun_known c n slot id q p leads = λ i. record {
   count = n + 1;
 } where
   named : Leads c.table id q → IsNamed c.table id (Some q)
-  named (inl (e, dies)) = NamesDead e (ap Some dies)
-  named (inr is) = NamesRow q is refl
+  named (LeadsToDead e dies) = NamesDead e (ap Some dies)
+  named (LeadsToNamed is) = NamesRow q is refl
 
   starts : slice_set (starts_in c) slot (Some q) ≡ map (start_named c.table) (slice_set c.starts slot id)
   starts =
@@ -232,7 +224,8 @@ module _ (old new : Stored) (n : ℕ) (s : IsStoreOf old old.table.of) (was : Ha
       (adds_known old (kept old.table old.starts).table (kept old.table old.starts).starts between n r
       cleared_rows s cleared_keeps there lacks.0 added)
       ∙ ap Some
-      (begun_known between n slot id r.state there (inr named) ∙ ap (λ (c : Stored). known_with c (n + 1)) (sym e))
+      (begun_known between n slot id r.state there (LeadsToNamed named)
+      ∙ ap (λ (c : Stored). known_with c (n + 1)) (sym e))
     where
       there : HasPlaces between.table
       there = subst (λ (c : Stored). HasPlaces c.table) e p

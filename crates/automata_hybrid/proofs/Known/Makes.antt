@@ -1,37 +1,29 @@
 -- What follows of an event, by what a cache knows: how the cache grows, and what is cached then.
 use Rattle.std.proofs.Common.{◌≡◌, ◌∙◌, ℕ, zero, suc, ◌+◌, ◌-◌, ◌^◌, ◌<◌, ◌≤◌, ◌⊎◌, inl, inr, List, [], ◌∷◌, ◌++◌}
-use Rattle.std.proofs.Common.{length, Bool, true, false, cond, Option, None, Some, refl, sym, ap, subst, arith}
+use Rattle.std.proofs.Common.{length, Bool, true, false, cond, Option, None, Some, refl, sym, ap, subst, arith, ⊎_elim}
 use Rattle.std.proofs.Common.{append-nil, length-set}
-use Rattle.std.specs.Prelude.{is_some, option_map, unwrap_or, slice_get, slice_set, nat_eq, ◌&&◌, ◌||◌}
-use Rattle.std.proofs.lemmas.Bool.{cases_eq}
+use Rattle.automata_hybrid.proofs.Words.{after_event, Anchored, cleared, cost, counted, dead, Event, fits, has_state}
+use Rattle.automata_hybrid.proofs.Words.{is_cached, is_some, Known, Machine, made, match_kind_of, option_map, Powerset}
+use Rattle.automata_hybrid.proofs.Words.{powerset_eq, powerset_eq-Decides, quits_on, Row, row_in, rows_of_starts}
+use Rattle.automata_hybrid.proofs.Words.{saturated, Searched, slice_get, slot_behind, Start, start_row, start_state_of}
+use Rattle.automata_hybrid.proofs.Words.{StartError, Step, StepError, successor, unit_class, unwrap_or, usage}
+use Rattle.automata_hybrid.proofs.Words.{with_new_row, with_row, ◌&&◌, ◌||◌}
+use Rattle.std.specs.Prelude.{slice_set, nat_eq}
+use Rattle.std.proofs.lemmas.Bool.{cases_eq, or_right, and_from, or_left, or_cases}
 use Rattle.std.proofs.lemmas.Bool.Decides.{nat_tests}
 use Rattle.automata_base.proofs.Paths.Orders.{none_some, some_inj}
-use Rattle.automata_base.specs.Powersets.Equal.{powerset_eq, powerset_eq-Decides}
-use Rattle.automata_base.specs.Powersets.Powerset.{Powerset, cost, dead}
-use Rattle.automata_base.specs.Retraced.Steps.{start_state_of, successor}
-use Rattle.automata_base.specs.declared.util.search.Anchored.{Anchored}
-use Rattle.automata_config.specs.Options.{match_kind_of}
-use Rattle.automata_config.specs.declared.error.StartError.{StartError}
-use Rattle.automata_config.specs.declared.error.StepError.{StepError}
-use Rattle.automata_hybrid.specs.Cache.Progress.{progress_cleared, saturated}
-use Rattle.automata_hybrid.specs.Calls.Events.{Event, Start, Step}
+use Rattle.automata_hybrid.specs.Cache.Progress.{progress_cleared}
 use Rattle.automata_hybrid.specs.Known.Bounds.{IsKnown}
 use Rattle.automata_hybrid.specs.Known.Effects.{ClearsAll, ClearsFor, ClearsNothing, EventFollows, EventsFollow}
 use Rattle.automata_hybrid.specs.Known.Effects.{FailureFollows, KnowsId, StartsFollow, StepFollows, StepsFollow}
-use Rattle.automata_hybrid.specs.Known.Effects.{asked_row}
-use Rattle.automata_hybrid.specs.Known.Events.{usage, after_event, fits, is_cached, made, refuses_to_clear}
-use Rattle.automata_hybrid.specs.Known.Events.{with_new_row, with_start, with_state, with_step}
+use Rattle.automata_hybrid.specs.Known.Effects.{asked_row, KnowsFixed, KnowsRow}
+use Rattle.automata_hybrid.specs.Known.Events.{refuses_to_clear}
+use Rattle.automata_hybrid.specs.Known.Events.{with_start, with_state, with_step}
 use Rattle.automata_hybrid.specs.Known.Growth.{ClearedNothing, HasRoom, HasRow, IsGrown, IsStartRow, Keeps}
-use Rattle.automata_hybrid.specs.Known.Known.{Known, counted, cleared, cleared_saving, has_state, row_in}
-use Rattle.automata_hybrid.specs.Known.Known.{rows_of_starts, with_row}
+use Rattle.automata_hybrid.specs.Known.Known.{cleared_saving}
 use Rattle.automata_hybrid.specs.Known.Walks.{with_row_back}
 use Rattle.automata_hybrid.specs.Known.Steps.{GivesUpOnStart, IsNotSupported, IsQuitBehind, IsStepRun, RunsOutOnStart}
 use Rattle.automata_hybrid.specs.Known.Steps.{StartFails, StepFails, id_in}
-use Rattle.automata_hybrid.specs.Machines.Machine.{Machine, quits_on, unit_class}
-use Rattle.automata_hybrid.specs.Machines.StartSlots.{slot_behind}
-use Rattle.automata_hybrid.specs.Steps.Starts.{start_row}
-use Rattle.automata_hybrid.specs.declared.cache.progress.Searched.{Searched}
-use Rattle.automata_hybrid.specs.declared.cache.row.Row.{Row}
 use Rattle.automata_hybrid.proofs.Known.Bounds.{AreOf, HasBounds, IsIn, emptied_within, found_in, in_more, kept_few}
 use Rattle.automata_hybrid.proofs.Known.Bounds.{kept_of, known_counted, known_moved, starts_few, starts_of}
 use Rattle.automata_hybrid.proofs.Known.Growth.{fits_within, used_by, used_more, grown_counted, grown_same, grown_still}
@@ -131,6 +123,14 @@ added m emptied r old new is = there (has_state old r.state) refl is where
   there true has is = WasThere has (sym (some_inj is))
   there false free is = absent (fits m old r.state) free refl is
 
+-- the start states stay then
+starts_between :
+    (m : Machine) (emptied : Known) (r : Row) (old between : Known) → emptied.starts ≡ old.starts
+    → IsAdded m emptied r old between → between.starts ≡ old.starts
+starts_between m emptied r old between same (WasThere there e) = ap (λ (c : Known). c.starts) e
+starts_between m emptied r old between same (DidFit free fit e) = ap (λ (c : Known). c.starts) e
+starts_between m emptied r old between same (WasCleared free full allows e) = ap (λ (c : Known). c.starts) e ∙ same
+
 -- what is written then
 record Writes (m : Machine) (old new : Known) : Type 0 where
   pub rows : new.rows ≡ old.rows
@@ -142,6 +142,15 @@ record Writes (m : Machine) (old new : Known) : Type 0 where
       → is_cached m (Start mode behind) new ≡ true
   pub steps : (q : Powerset) (class : ℕ) → old.steps q class ≡ true → new.steps q class ≡ true
   pub searched : new.searched ≡ old.searched
+
+-- what follows of an event whose state is determinized
+record Determinizes (m : Machine) (e : Event) (old new : Known) : Type 0 where
+  pub grown : IsGrown m old new
+  pub counted : new.count ≡ old.count + 1
+  pub learned : is_cached m e new ≡ true
+  pub sound : IsKnown m new
+  pub rows : (r : Row) → HasRow new r → HasRow old r ⊎ ((r ≡ asked_row m e) × (has_state old r.state ≡ false))
+  pub clears : ClearsFor m (asked_row m e) old new
 
 -- a state is added, and then something written
 module _ (m : Machine) (emptied : Known) (r : Row) (old between new : Known) (sound : IsKnown m old)
@@ -164,12 +173,7 @@ module _ (m : Machine) (emptied : Known) (r : Row) (old between new : Known) (so
   kept_starts mode behind has =
       writes.starts mode behind
       (subst (λ (s : List (Option Powerset)). is_cached m (Start mode behind) (record between { starts = s }) ≡ true)
-      (sym (go adds)) has)
-    where
-      go : IsAdded m emptied r old between → between.starts ≡ old.starts
-      go (WasThere there e) = ap (λ (c : Known). c.starts) e
-      go (DidFit free fit e) = ap (λ (c : Known). c.starts) e
-      go (WasCleared free full allows e) = ap (λ (c : Known). c.starts) e ∙ empties.starts
+      (sym (starts_between m emptied r old between empties.starts adds)) has)
 
   -- the count of clears stays or rises by one
   clears_after : (new.clears ≡ old.clears) ⊎ (new.clears ≡ saturated (old.clears + 1))
@@ -224,61 +228,6 @@ module _ (m : Machine) (emptied : Known) (r : Row) (old between new : Known) (so
     )
     go (WasCleared free full allows e) = absurd (false_true (sym full ∙ room_fits m old r states cheap one))
 
-  -- it is still what a cache of the DFA knows
-  sound_made : IsKnown m new
-  sound_made = record {
-    alive = λ x has. rows_alive adds x (subst (λ (rows : List Row). IsIn rows x) writes.rows has);
-    cheap = λ x has. rows_cheap adds x (subst (λ (rows : List Row). IsIn rows x) writes.rows has);
-    slots = writes.slots ∙ slots_are adds ∙ sound.slots;
-    within = subst (λ n. n ≤ m.capacity) (sym (used_by m between new writes.rows)) (used adds);
-    clears = clears_bound.1;
-  } where
-    few : {k slots starts : ℕ} → k ≤ starts + 1 → starts ≡ slots → k ≤ slots + 1
-    few le same = omega (arith, le, same)
-
-    slots_are : IsAdded m emptied r old between → length between.starts ≡ length old.starts
-    slots_are (WasThere there e) = ap (λ (c : Known). length c.starts) e
-    slots_are (DidFit free fit e) = ap (λ (c : Known). length c.starts) e
-    slots_are (WasCleared free full allows e) =
-        ap (λ (c : Known). length c.starts) e ∙ ap (λ (s : List (Option Powerset)). length s) empties.starts
-
-    alive_one : (r.state ≡ dead → ⊥) → (x : Row) → IsIn old.rows x ⊎ (x ≡ r) → x.state ≡ dead → ⊥
-    alive_one alive x (inl had) dies = sound.alive x had dies
-    alive_one alive x (inr same) dies = alive (subst (λ (y : Row). y.state ≡ dead) same dies)
-
-    cheap_one : (x : Row) → IsIn old.rows x ⊎ (x ≡ r) → cost x.state ≤ m.greatest
-    cheap_one x (inl had) = sound.cheap x had
-    cheap_one x (inr same) = subst (λ (y : Row). cost y.state ≤ m.greatest) (sym same) cheap
-
-    from : (x : Row) → IsIn emptied.rows x ⊎ (x ≡ r) → IsIn old.rows x ⊎ (x ≡ r)
-    from x (inl had) = inl (empties.rows x had)
-    from x (inr same) = inr same
-
-    rows_alive : IsAdded m emptied r old between → (x : Row) → IsIn between.rows x → x.state ≡ dead → ⊥
-    rows_alive (WasThere there e) x has = sound.alive x (subst (λ (c : Known). HasRow c x) e has)
-    rows_alive (DidFit free fit e) x has =
-        alive_one (absent_alive old r.state free) x (in_more old.rows r x (subst (λ (c : Known). HasRow c x) e has))
-    rows_alive (WasCleared free full allows e) x has =
-        alive_one (absent_alive old r.state free) x
-        (from x (in_more emptied.rows r x (subst (λ (c : Known). HasRow c x) e has)))
-
-    rows_cheap : IsAdded m emptied r old between → (x : Row) → IsIn between.rows x → cost x.state ≤ m.greatest
-    rows_cheap (WasThere there e) x has = sound.cheap x (subst (λ (c : Known). HasRow c x) e has)
-    rows_cheap (DidFit free fit e) x has =
-        cheap_one x (in_more old.rows r x (subst (λ (c : Known). HasRow c x) e has))
-    rows_cheap (WasCleared free full allows e) x has =
-        cheap_one x (from x (in_more emptied.rows r x (subst (λ (c : Known). HasRow c x) e has)))
-
-    used : IsAdded m emptied r old between → usage m between ≤ m.capacity
-    used (WasThere there e) = subst (λ (c : Known). usage m c ≤ m.capacity) (sym e) sound.within
-    used (DidFit free fit e) =
-        subst (λ (c : Known). usage m c ≤ m.capacity) (sym e)
-        (subst (λ n. n ≤ m.capacity) (sym (used_more m old r)) (fits_within m old r.state fit))
-    used (WasCleared free full allows e) =
-        subst (λ (c : Known). usage m c ≤ m.capacity) (sym e)
-        (emptied_within m emptied r bounds (few empties.few sound.slots)
-        (λ x has. sound.cheap x (empties.rows x has)) cheap)
-
   -- no other row is added
   rows_made : (x : Row) → HasRow new x → HasRow old x ⊎ ((x ≡ r) × (has_state old x.state ≡ false))
   rows_made x has = go adds (has.0, subst (λ (rows : List Row). slice_get rows has.0 ≡ Some x) writes.rows has.1) where
@@ -297,6 +246,39 @@ module _ (m : Machine) (emptied : Known) (r : Row) (old between new : Known) (so
     go (DidFit free fit e) is = last free (in_more old.rows r x (subst (λ (c : Known). HasRow c x) e is))
     go (WasCleared free full allows e) is =
         last free (from (in_more emptied.rows r x (subst (λ (c : Known). HasRow c x) e is)))
+
+  -- it is still what a cache of the DFA knows
+  sound_made : IsKnown m new
+  sound_made = record {
+    alive = λ x has. alive x (rows_made x has);
+    cheap = λ x has. cheap_one x (rows_made x has);
+    slots =
+        writes.slots
+        ∙ ap (λ (s : List (Option Powerset)). length s) (starts_between m emptied r old between empties.starts adds)
+        ∙ sound.slots;
+    within = subst (λ n. n ≤ m.capacity) (sym (used_by m between new writes.rows)) (used adds);
+    clears = clears_bound.1;
+  } where
+    few : {k slots starts : ℕ} → k ≤ starts + 1 → starts ≡ slots → k ≤ slots + 1
+    few le same = omega (arith, le, same)
+
+    alive : (x : Row) → HasRow old x ⊎ ((x ≡ r) × (has_state old x.state ≡ false)) → x.state ≡ dead → ⊥
+    alive x (inl had) = sound.alive x had
+    alive x (inr new) = absent_alive old x.state new.1
+
+    cheap_one : (x : Row) → HasRow old x ⊎ ((x ≡ r) × (has_state old x.state ≡ false)) → cost x.state ≤ m.greatest
+    cheap_one x (inl had) = sound.cheap x had
+    cheap_one x (inr new) = subst (λ (y : Row). cost y.state ≤ m.greatest) (sym new.0) cheap
+
+    used : IsAdded m emptied r old between → usage m between ≤ m.capacity
+    used (WasThere there e) = subst (λ (c : Known). usage m c ≤ m.capacity) (sym e) sound.within
+    used (DidFit free fit e) =
+        subst (λ (c : Known). usage m c ≤ m.capacity) (sym e)
+        (subst (λ n. n ≤ m.capacity) (sym (used_more m old r)) (fits_within m old r.state fit))
+    used (WasCleared free full allows e) =
+        subst (λ (c : Known). usage m c ≤ m.capacity) (sym e)
+        (emptied_within m emptied r bounds (few empties.few sound.slots)
+        (λ x has. sound.cheap x (empties.rows x has)) cheap)
 
   -- and the cache is cleared for it alone
   clears_made : ClearsFor m r old new
@@ -329,6 +311,18 @@ module _ (m : Machine) (emptied : Known) (r : Row) (old between new : Known) (so
     tagged x started (inr last) =
         inr (subst (IsStartRow m new) (sym last.0) (tags (subst (λ (y : Row). y.started ≡ true) last.0 started)))
 
+  all_made : (e : Event) → r ≡ asked_row m e → is_cached m e new ≡ true → Determinizes m e old new
+  all_made e asked learned = record {
+    grown = grown_made;
+    counted = count;
+    learned = learned;
+    sound = sound_made;
+    rows =
+        λ x has. subst (λ (y : Row). HasRow old x ⊎ ((x ≡ y) × (has_state old x.state ≡ false))) asked
+        (rows_made x has);
+    clears = subst (λ (y : Row). ClearsFor m y old new) asked clears_made;
+  }
+
 -- a state that is put back counts as one that is determinized
 pub record BackFollows (m : Machine) (q : Powerset) (old new : Known) : Type 0 where
   pub grown : IsGrown m old (counted new)
@@ -338,14 +332,6 @@ pub record BackFollows (m : Machine) (q : Powerset) (old new : Known) : Type 0 w
   pub there : is_some (row_in old.rows q) ≡ true → new ≡ old
   -- it is there then
   pub has : (q ≡ dead → ⊥) → is_some (row_in new.rows q) ≡ true
-
-or_right : (a b : Bool) → b ≡ true → (a || b) ≡ true
-or_right true b is = refl
-or_right false b is = is
-
-or_second : (a b : Bool) → (a ≡ true → ⊥) → (a || b) ≡ true → b ≡ true
-or_second true b not is = absurd (not refl)
-or_second false b not is = is
 
 -- the state of the last row has a row
 row_in_last : (rows : List Row) (r : Row) → is_some (row_in (rows ++ r ∷ []) r.state) ≡ true
@@ -401,8 +387,8 @@ back_follows m q old new sound bounds cheap is = record {
   there_then : (q ≡ dead → ⊥) → IsAdded m (cleared old) row old new → is_some (row_in new.rows q) ≡ true
   there_then alive (WasThere there e) =
       subst (λ (c : Known). is_some (row_in c.rows q) ≡ true) (sym e)
-      (or_second (powerset_eq q dead) (is_some (row_in old.rows q))
-      (λ dies. alive ((powerset_eq-Decides q dead).0 dies)) there)
+      (⊎_elim (λ dies. absurd (alive ((powerset_eq-Decides q dead).0 dies))) (λ has. has)
+      (or_cases (powerset_eq q dead) (is_some (row_in old.rows q)) there))
   there_then alive (DidFit free fit e) =
       subst (λ (c : Known). is_some (row_in c.rows q) ≡ true) (sym e) (row_in_last old.rows row)
   there_then alive (WasCleared free full allows e) =
@@ -416,15 +402,6 @@ back_there m q c has =
     (λ b. cond b (Some c)
     (with_new_row m (cleared c) (record { state = q; started = false }) c))
     (or_right (powerset_eq q dead) (is_some (row_in c.rows q)) has)
-
--- what follows of an event whose state is determinized
-record Determinizes (m : Machine) (e : Event) (old new : Known) : Type 0 where
-  pub grown : IsGrown m old new
-  pub counted : new.count ≡ old.count + 1
-  pub learned : is_cached m e new ≡ true
-  pub sound : IsKnown m new
-  pub rows : (r : Row) → HasRow new r → HasRow old r ⊎ ((r ≡ asked_row m e) × (has_state old r.state ≡ false))
-  pub clears : ClearsFor m (asked_row m e) old new
 
 -- what follows of an event to which a search has come
 pub record Follows (m : Machine) (e : Event) (old new : Known) : Type 0 where
@@ -449,9 +426,8 @@ mapped f (Some x) y is = (x, refl, sym (some_inj is))
 
 same_step : (q : Powerset) (class : ℕ) (b : Bool) → ((powerset_eq q q && nat_eq class class) || b) ≡ true
 same_step q class b =
-    let same : powerset_eq q q ≡ true = (powerset_eq-Decides q q).1 refl in
-    let alike : nat_eq class class ≡ true = grind (arith, nat_tests) in
-    ap (λ t. (t && nat_eq class class) || b) same ∙ ap (λ t. t || b) alike
+    or_left (powerset_eq q q && nat_eq class class) b
+    (and_from (powerset_eq q q) (nat_eq class class) ((powerset_eq-Decides q q).1 refl) (grind (arith, nat_tests)))
 
 -- a slot has a start state, or is past the last
 abbrev IsFull : List (Option Powerset) → (at : ℕ) → Type 0
@@ -463,125 +439,96 @@ module _ (m : Machine) (old : Known) (sound : IsKnown m old) (bounds : HasBounds
       (q : Powerset) (unit : Option ℕ) (new : Known)
       → cost (successor m.nfa (match_kind_of m.config) q unit) ≤ m.greatest
       → made m (Step q unit) old ≡ Some new → Determinizes m (Step q unit) old new
-  step_follows q unit new cheap is = subst (Determinizes m (Step q unit) old) (sym from.2) (record {
-    grown =
-        grown_made m (cleared_saving q old) row old from.0 (write from.0) sound bounds cheap (empties_saving q old) adds
-        (writes from.0) untagged;
-    counted =
-        count m (cleared_saving q old) row old from.0 (write from.0) sound bounds cheap (empties_saving q old) adds
-        (writes from.0) untagged;
-    learned = same_step q (unit_class m unit) (from.0.steps q (unit_class m unit));
-    sound =
-        sound_made m (cleared_saving q old) row old from.0 (write from.0) sound bounds cheap (empties_saving q old) adds
-        (writes from.0) untagged;
-    rows =
-        rows_made m (cleared_saving q old) row old from.0 (write from.0) sound bounds cheap (empties_saving q old) adds
-        (writes from.0) untagged;
-    clears =
-        clears_made m (cleared_saving q old) row old from.0 (write from.0) sound bounds cheap
-        (empties_saving q old) adds (writes from.0) untagged;
-  }) where
-    row : Row
-    row = record { state = successor m.nfa (match_kind_of m.config) q unit; started = false }
+  step_follows q unit new cheap is =
+      subst (Determinizes m (Step q unit) old) (sym from.2)
+      (all_made m (cleared_saving q old) row old from.0 (write from.0) sound bounds cheap (empties_saving q old)
+      (added m (cleared_saving q old) row old from.0 from.1) (writes from.0) (λ e. absurd (false_true e)) (Step q unit)
+      refl (same_step q (unit_class m unit) (from.0.steps q (unit_class m unit))))
+    where
+      row : Row
+      row = record { state = successor m.nfa (match_kind_of m.config) q unit; started = false }
 
-    write : Known → Known
-    write c = with_step q (unit_class m unit) c
+      write : Known → Known
+      write c = with_step q (unit_class m unit) c
 
-    from :
-        (between : Known) × (with_state m (cleared_saving q old) row old ≡ Some between)
-        × (new ≡ with_step q (unit_class m unit) between)
-    from = mapped (with_step q (unit_class m unit)) (with_state m (cleared_saving q old) row old) new is
+      from :
+          (between : Known) × (with_state m (cleared_saving q old) row old ≡ Some between)
+          × (new ≡ with_step q (unit_class m unit) between)
+      from = mapped (with_step q (unit_class m unit)) (with_state m (cleared_saving q old) row old) new is
 
-    adds : IsAdded m (cleared_saving q old) row old from.0
-    adds = added m (cleared_saving q old) row old from.0 from.1
-
-    writes : (c : Known) → Writes m c (write c)
-    writes c = record {
-      rows = refl;
-      clears = refl;
-      count = refl;
-      slots = refl;
-      starts = λ mode behind has. has;
-      steps = λ p class known. or_right (powerset_eq p q && nat_eq class (unit_class m unit)) (c.steps p class) known;
-      searched = refl;
-    }
-
-    untagged : false ≡ true → IsStartRow m (write from.0) row
-    untagged e = absurd (false_true e)
+      writes : (c : Known) → Writes m c (write c)
+      writes c = record {
+        rows = refl;
+        clears = refl;
+        count = refl;
+        slots = refl;
+        starts = λ mode behind has. has;
+        steps = λ p class known. or_right (powerset_eq p q && nat_eq class (unit_class m unit)) (c.steps p class) known;
+        searched = refl;
+      }
 
   start_follows :
       (mode : Anchored) (behind : Option ℕ) (new : Known) → cost (start_state_of m.nfa mode behind) ≤ m.greatest
       → is_cached m (Start mode behind) old ≡ false → made m (Start mode behind) old ≡ Some new
       → Determinizes m (Start mode behind) old new
-  start_follows mode behind new cheap free is = subst (Determinizes m (Start mode behind) old) (sym from.2) (record {
-    grown =
-        grown_made m (cleared old) row old from.0 (write from.0) sound bounds cheap (empties_all old) adds writes tags;
-    counted = count m (cleared old) row old from.0 (write from.0) sound bounds cheap (empties_all old) adds writes tags;
-    learned = ap (λ o. unwrap_or (option_map is_some o) true) there;
-    sound =
-        sound_made m (cleared old) row old from.0 (write from.0) sound bounds cheap (empties_all old) adds writes tags;
-    rows =
-        rows_made m (cleared old) row old from.0 (write from.0) sound bounds cheap (empties_all old) adds writes tags;
-    clears =
-        clears_made m (cleared old) row old from.0 (write from.0) sound bounds cheap (empties_all old) adds writes tags;
-  }) where
-    row : Row
-    row = start_row m mode behind
+  start_follows mode behind new cheap free is =
+      subst (Determinizes m (Start mode behind) old) (sym from.2)
+      (all_made m (cleared old) row old from.0 (write from.0) sound bounds cheap (empties_all old) adds writes tags
+      (Start mode behind) refl (ap (λ o. unwrap_or (option_map is_some o) true) there))
+    where
+      row : Row
+      row = start_row m mode behind
 
-    slot : ℕ
-    slot = slot_behind m mode behind
+      slot : ℕ
+      slot = slot_behind m mode behind
 
-    write : Known → Known
-    write c = with_start (slot_behind m mode behind) (start_state_of m.nfa mode behind) c
+      write : Known → Known
+      write c = with_start (slot_behind m mode behind) (start_state_of m.nfa mode behind) c
 
-    from :
-        (between : Known) × (with_state m (cleared old) row old ≡ Some between)
-        × (new ≡ with_start (slot_behind m mode behind) (start_state_of m.nfa mode behind) between)
-    from =
-        mapped (with_start (slot_behind m mode behind) (start_state_of m.nfa mode behind))
-        (with_state m (cleared old) row old) new is
+      from :
+          (between : Known) × (with_state m (cleared old) row old ≡ Some between)
+          × (new ≡ with_start (slot_behind m mode behind) (start_state_of m.nfa mode behind) between)
+      from =
+          mapped (with_start (slot_behind m mode behind) (start_state_of m.nfa mode behind))
+          (with_state m (cleared old) row old) new is
 
-    adds : IsAdded m (cleared old) row old from.0
-    adds = added m (cleared old) row old from.0 from.1
+      adds : IsAdded m (cleared old) row old from.0
+      adds = added m (cleared old) row old from.0 from.1
 
-    same_starts : IsAdded m (cleared old) row old from.0 → from.0.starts ≡ old.starts
-    same_starts (WasThere there e) = ap (λ (c : Known). c.starts) e
-    same_starts (DidFit free fit e) = ap (λ (c : Known). c.starts) e
-    same_starts (WasCleared free full allows e) = ap (λ (c : Known). c.starts) e
+      empty : slice_get from.0.starts slot ≡ Some None
+      empty =
+          subst (λ (s : List (Option Powerset)). slice_get s slot ≡ Some None)
+          (sym (starts_between m (cleared old) row old from.0 refl adds))
+          (slot_free (slice_get old.starts slot) free)
 
-    empty : slice_get from.0.starts slot ≡ Some None
-    empty =
-        subst (λ (s : List (Option Powerset)). slice_get s slot ≡ Some None) (sym (same_starts adds))
-        (slot_free (slice_get old.starts slot) free)
+      there :
+          slice_get (slice_set from.0.starts slot (Some (start_state_of m.nfa mode behind))) slot
+          ≡ Some (Some (start_state_of m.nfa mode behind))
+      there = set_same from.0.starts slot None (Some (start_state_of m.nfa mode behind)) empty
 
-    there :
-        slice_get (slice_set from.0.starts slot (Some (start_state_of m.nfa mode behind))) slot
-        ≡ Some (Some (start_state_of m.nfa mode behind))
-    there = set_same from.0.starts slot None (Some (start_state_of m.nfa mode behind)) empty
+      others : (at : ℕ) → (at ≡ slot) ⊎ (at ≡ slot → ⊥) → IsFull from.0.starts at → IsFull (write from.0).starts at
+      others at (inl here) has =
+          subst (IsFull (write from.0).starts) (sym here) (ap (λ o. unwrap_or (option_map is_some o) true) there)
+      others at (inr other) has =
+          ap (λ o. unwrap_or (option_map is_some o) true)
+          (set_other from.0.starts slot at (Some (start_state_of m.nfa mode behind)) other)
+          ∙ has
 
-    others : (at : ℕ) → (at ≡ slot) ⊎ (at ≡ slot → ⊥) → IsFull from.0.starts at → IsFull (write from.0).starts at
-    others at (inl here) has =
-        subst (IsFull (write from.0).starts) (sym here) (ap (λ o. unwrap_or (option_map is_some o) true) there)
-    others at (inr other) has =
-        ap (λ o. unwrap_or (option_map is_some o) true)
-        (set_other from.0.starts slot at (Some (start_state_of m.nfa mode behind)) other)
-        ∙ has
+      writes : Writes m from.0 (write from.0)
+      writes = record {
+        rows = refl;
+        clears = refl;
+        count = refl;
+        slots = length-set from.0.starts slot (Some (start_state_of m.nfa mode behind));
+        starts = λ other after has. others (slot_behind m other after) (cases_eq (slot_behind m other after) slot) has;
+        steps = λ p class known. known;
+        searched = refl;
+      }
 
-    writes : Writes m from.0 (write from.0)
-    writes = record {
-      rows = refl;
-      clears = refl;
-      count = refl;
-      slots = length-set from.0.starts slot (Some (start_state_of m.nfa mode behind));
-      starts = λ other after has. others (slot_behind m other after) (cases_eq (slot_behind m other after) slot) has;
-      steps = λ p class known. known;
-      searched = refl;
-    }
-
-    tags : (start_row m mode behind).started ≡ true → IsStartRow m (write from.0) (start_row m mode behind)
-    tags e =
-        let cached = ap (λ o. unwrap_or (option_map is_some o) true) there in
-        record { mode = mode; behind = behind; row = refl; known = cached }
+      tags : (start_row m mode behind).started ≡ true → IsStartRow m (write from.0) (start_row m mode behind)
+      tags e =
+          let cached = ap (λ o. unwrap_or (option_map is_some o) true) there in
+          record { mode = mode; behind = behind; row = refl; known = cached }
 
 -- what is not cached is made, whatever the progress of searches is
 makes :
@@ -692,9 +639,9 @@ steps_follow m bounds = record { answered = answered; failed = fails } where
     event clean q named = events_follow m bounds (Step q unit) old new sound (run.does clean q named)
 
     go : KnowsId m old id → (b : Bool) → quits_on m unit ≡ b → StepFollows m id unit old new
-    go (inl fixed) b quits = still id unit old new sound event (run.fixed fixed)
-    go (inr row) true quits = still id unit old new sound event (run.quit quits)
-    go (inr (q, named)) false clean =
+    go (KnowsFixed fixed) b quits = still id unit old new sound event (run.fixed fixed)
+    go (KnowsRow q named) true quits = still id unit old new sound event (run.quit quits)
+    go (KnowsRow q named) false clean =
         let f = event clean q named in
         record {
           grown = f.grown;
@@ -706,8 +653,8 @@ steps_follow m bounds = record { answered = answered; failed = fails } where
   fails :
       (id : ℕ) (unit : Option ℕ) (old new : Known) (e : StepError) → IsKnown m old → KnowsId m old id
       → StepFails m id unit old new e → FailureFollows m old new
-  fails id unit old new e sound (inl fixed) f = absurd (omega (arith, fixed, f.low))
-  fails id unit old new e sound (inr (q, named)) f = failed m old new sound (inr (f.fails q named).unchanged)
+  fails id unit old new e sound (KnowsFixed fixed) f = absurd (omega (arith, fixed, f.low))
+  fails id unit old new e sound (KnowsRow q named) f = failed m old new sound (inr (f.fails q named).unchanged)
 
 pub starts_follow : (m : Machine) → HasBounds m → StartsFollow m
 starts_follow m bounds = record {

@@ -1,38 +1,27 @@
 -- Where nothing else can prevent it, a call fails with out of memory alone, by what a cache knows.
 use Rattle.std.proofs.Common.{ℕ, ◌≡◌, ◌∙◌, ◌+◌, ◌≤◌, Bool, true, false, cond, length, Option, None, Some, refl, sym, ap}
 use Rattle.std.proofs.Common.{arith}
-use Rattle.std.specs.Prelude.{option_map, IfErr, Result, Ok, Err}
-use Rattle.std.specs.Result.{result_err}
+use Rattle.automata_hybrid.proofs.Words.{Backward, CannotStart, CannotStep, cleared, Direction, Err, Event, EventFails}
+use Rattle.automata_hybrid.proofs.Words.{FailsLater, fits, Forward, given_up_offset, GivesUp, has_state, IfErr, Input}
+use Rattle.automata_hybrid.proofs.Words.{is_quit, IsSearchRun, Known, LacksMemory, LacksMode, later, Machine, made}
+use Rattle.automata_hybrid.proofs.Words.{MeetsQuit, minimum_cache_clear_count_of, moved, offset_in, Ok, option_map}
+use Rattle.automata_hybrid.proofs.Words.{pass_trace, PassFails, QuitsBehind, Result, result_err, Row, SearchError}
+use Rattle.automata_hybrid.proofs.Words.{slot_behind, Start, start_event, start_state_of, Step, supports, tape_in}
+use Rattle.automata_hybrid.proofs.Words.{unit_class, unit_event, UnitFails, with_row}
 use Rattle.automata_base.proofs.Paths.Orders.{some_none}
-use Rattle.automata_base.specs.Answers.Answers.{later, offset_in}
-use Rattle.automata_base.specs.ByteClasses.Classes.{is_quit}
-use Rattle.automata_base.specs.Haystacks.Input.{Input}
-use Rattle.automata_base.specs.declared.util.search.Direction.{Direction}
-use Rattle.automata_base.specs.declared.util.search.Direction.TheVariants.{Forward, Backward}
-use Rattle.automata_config.specs.Options.{minimum_cache_clear_count_of}
-use Rattle.automata_config.specs.declared.error.SearchError.{SearchError}
-use Rattle.automata_hybrid.specs.Calls.Events.{Event, Start, Step}
 use Rattle.automata_hybrid.specs.Known.Effects.{asked_row}
-use Rattle.automata_hybrid.specs.Known.Events.{fits, made, refuses_past, refuses_to_clear, with_start, with_state}
+use Rattle.automata_hybrid.specs.Known.Events.{refuses_past, refuses_to_clear, with_start, with_state}
 use Rattle.automata_hybrid.specs.Known.Events.{with_step}
-use Rattle.automata_hybrid.specs.Known.Known.{Known, cleared, cleared_saving, has_state, moved, with_row}
-use Rattle.automata_hybrid.specs.Known.Passes.{EventFails, FailsFor, FailsLater, GivesUp, LacksMemory, LacksMode}
-use Rattle.automata_hybrid.specs.Known.Passes.{IsSearchRun, MeetsQuit, PassFails, QuitsBehind, SearchFails, CannotStart}
-use Rattle.automata_hybrid.specs.Known.Passes.{CannotStep, UnitFails}
-use Rattle.automata_hybrid.specs.Machines.Machine.{Machine, unit_class}
-use Rattle.automata_hybrid.specs.Machines.StartSlots.{slot_behind, supports}
+use Rattle.automata_hybrid.specs.Known.Known.{cleared_saving}
+use Rattle.automata_hybrid.specs.Known.Passes.{FailsFor}
+use Rattle.automata_hybrid.specs.Known.Passes.{SearchFails}
 use Rattle.automata_hybrid.specs.Searches.Contracts.{IsMemory, IsUnhindered}
-use Rattle.automata_hybrid.specs.Searches.Passes.{given_up_offset, tape_in}
-use Rattle.automata_hybrid.specs.Searches.Progress.{start_event, unit_event}
-use Rattle.automata_hybrid.specs.Searches.Traces.{pass_trace}
-use Rattle.automata_hybrid.specs.declared.cache.row.Row.{Row}
-use Rattle.automata_base.specs.Retraced.Steps.{start_state_of}
 use Rattle.automata_hybrid.proofs.Searches.Directions.{later_anchored}
 use Rattle.automata_hybrid.proofs.Searches.PassState.{false_true}
 use Rattle.automata_hybrid.proofs.Searches.Reach.{InReach, behind_reach, is_behind, later_reach, unit_reach}
 
 -- with no limit on clears no call gives up
-pub never_refuses :
+never_refuses :
     (m : Machine) (c : Known) → minimum_cache_clear_count_of m.config ≡ None → refuses_to_clear m c ≡ false
 never_refuses m c free = ap (refuses_past m c) free
 

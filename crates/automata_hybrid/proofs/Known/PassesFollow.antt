@@ -1,29 +1,21 @@
 -- What follows of a pass, by what a cache knows: what it costs, how the cache grows, and what is cached.
 use Rattle.std.proofs.Common.{ℕ, zero, suc, ◌≡◌, ◌∙◌, ◌+◌, ◌-◌, ◌<◌, ◌≤◌, ◌⊎◌, inl, inr, length, true, false, Option}
 use Rattle.std.proofs.Common.{None, Some, refl, sym, ap, subst, arith}
-use Rattle.std.specs.Prelude.{option_and_then, IfSome}
+use Rattle.automata_hybrid.proofs.Words.{after_event, after_many, after_unit, begun, CannotStart, CannotStep, Direction}
+use Rattle.automata_hybrid.proofs.Words.{ended, Event, FailsLater, given_up_offset, HasReadNoQuit, IfSome, Input}
+use Rattle.automata_hybrid.proofs.Words.{is_cached, is_quit, Known, LacksMode, Machine, MayStart, MeetsQuit, moved}
+use Rattle.automata_hybrid.proofs.Words.{next, option_and_then, pass_trace, PassFails, quits_on, QuitsBehind, Reads}
+use Rattle.automata_hybrid.proofs.Words.{SearchError, Start, start_event, Step, tape_in, Trace, unit_event, UnitFails}
+use Rattle.automata_hybrid.proofs.Words.{UnitsEnd}
 use Rattle.std.proofs.lemmas.Bool.{cases_lt}
 use Rattle.automata_base.proofs.Paths.Orders.{none_some, some_inj, some_none}
-use Rattle.automata_base.specs.Haystacks.Input.{Input}
-use Rattle.automata_base.specs.Paths.Paths.{next}
-use Rattle.automata_base.specs.declared.util.search.Direction.{Direction}
-use Rattle.automata_config.specs.declared.error.SearchError.{SearchError}
-use Rattle.automata_hybrid.specs.Calls.Events.{Event, Start, Step}
 use Rattle.automata_hybrid.specs.Known.Bounds.{IsKnown}
 use Rattle.automata_hybrid.specs.Known.Cached.{KnowsItsStart, KnowsPass, KnowsUnit}
-use Rattle.automata_hybrid.specs.Known.Events.{after_event, is_cached}
 use Rattle.automata_hybrid.specs.Known.Growth.{ClearedNothing, IsGrown, IsStill}
-use Rattle.automata_hybrid.specs.Known.Known.{Known, begun, ended, moved}
-use Rattle.automata_hybrid.specs.Known.Passes.{CannotStart, CannotStep, FailsAtUnit, FailsLater, LacksMode, MeetsQuit}
-use Rattle.automata_hybrid.specs.Known.Passes.{PassEnds, PassFails, QuitsBehind, UnitFails, UnitsEnd, after_many}
-use Rattle.automata_hybrid.specs.Known.Passes.{after_start, after_unit}
-use Rattle.automata_base.specs.ByteClasses.Classes.{is_quit}
-use Rattle.automata_hybrid.specs.Machines.Machine.{Machine, quits_on}
-use Rattle.automata_hybrid.specs.Steps.Starts.{MayStart}
-use Rattle.automata_hybrid.specs.Searches.Cached.{IsOfInput}
-use Rattle.automata_hybrid.specs.Searches.Passes.{HasReadNoQuit, Reads, given_up_offset, tape_in}
-use Rattle.automata_hybrid.specs.Searches.Progress.{start_event, unit_event}
-use Rattle.automata_hybrid.specs.Searches.Traces.{Trace, pass_trace}
+use Rattle.automata_hybrid.specs.Known.Passes.{FailsAtUnit}
+use Rattle.automata_hybrid.specs.Known.Passes.{PassEnds}
+use Rattle.automata_hybrid.specs.Known.Passes.{after_start}
+use Rattle.automata_hybrid.specs.Searches.Contracts.{IsOfInput}
 use Rattle.automata_hybrid.proofs.Known.Bounds.{HasBounds, known_counted, known_moved}
 use Rattle.automata_hybrid.proofs.Known.Growth.{grown_counted, grown_same, grown_still, grown_trans, nothing_first}
 use Rattle.automata_hybrid.proofs.Known.Growth.{nothing_second}

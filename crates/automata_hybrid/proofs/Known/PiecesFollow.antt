@@ -1,30 +1,21 @@
 -- What follows of the calls of a search in pieces, by what a cache knows.
 use Rattle.std.proofs.Common.{ℕ, suc, ◌≡◌, ◌∙◌, ◌+◌, ◌-◌, ◌<◌, ◌≤◌, false, List, length, Option, None, Some, refl, sym}
 use Rattle.std.proofs.Common.{ap, subst, arith}
-use Rattle.std.specs.Prelude.{option_map}
+use Rattle.automata_hybrid.proofs.Words.{after_event, after_many, begun, CannotStep, cleared, counted, ended, Event}
+use Rattle.automata_hybrid.proofs.Words.{EventFails, Forward, given_up_offset, Known, Machine, MeetsQuit}
+use Rattle.automata_hybrid.proofs.Words.{minimum_cache_clear_count_of, moved, option_map, Powerset, quits_on, ReadFails}
+use Rattle.automata_hybrid.proofs.Words.{SearchError, Step, tape_in, unit_event}
 use Rattle.automata_base.specs.Paths.Paths.{next as unit_at}
-use Rattle.automata_base.specs.Powersets.Powerset.{Powerset}
-use Rattle.automata_base.specs.declared.util.search.Direction.TheVariants.{Forward}
-use Rattle.automata_config.specs.Options.{minimum_cache_clear_count_of}
-use Rattle.automata_config.specs.declared.error.SearchError.{SearchError}
-use Rattle.automata_hybrid.specs.Calls.Events.{Event, Step}
 use Rattle.automata_hybrid.specs.Known.Bounds.{IsKnown}
-use Rattle.automata_hybrid.specs.Known.Events.{after_event}
 use Rattle.automata_hybrid.specs.Known.Growth.{IsGrown, IsStill}
-use Rattle.automata_hybrid.specs.Known.Known.{Known, begun, cleared, counted, ended, moved}
-use Rattle.automata_hybrid.specs.Known.Passes.{CannotStep, EventFails, MeetsQuit, ReadFails, after_many}
-use Rattle.automata_hybrid.specs.Known.Pieces.{AlreadyOver, Answered, AtByte, AtEnd, EndsAnswer, EndsPiece, FailsAtByte}
-use Rattle.automata_hybrid.specs.Known.Pieces.{FailsAtEnd, GoesOn, LeavesAnswer, LeavesPiece, NotBack, NotHeld}
+use Rattle.automata_hybrid.specs.Known.Pieces.{AlreadyOver, Answered, AtByte, AtEnd, AnswerEnds, PieceEnds, FailsAtByte}
+use Rattle.automata_hybrid.specs.Known.Pieces.{FailsAtEnd, GoesOn, AnswerFails, PieceFails, NotBack, NotHeld}
 use Rattle.automata_hybrid.specs.Known.Pieces.{NotPutBack, ReadsThrough, Through, TooLong, Upto}
-use Rattle.automata_hybrid.specs.Known.PiecesFollow.{IsCostOfUnits, PieceAnswersFollow, PiecesFollow}
+use Rattle.automata_hybrid.specs.Known.PiecesFollow.{IsCostOfUnits, PieceAnswersFollow, PiecesFollow, IsFreePiece}
 use Rattle.automata_hybrid.specs.Known.Walks.{GivesUpOnIt, IsNotBack, RunsOutOnIt, with_row_back}
-use Rattle.automata_hybrid.specs.Machines.Machine.{Machine, quits_on}
-use Rattle.automata_hybrid.specs.Pieces.Follows.{IsFreePiece}
 use Rattle.automata_hybrid.specs.Pieces.State.{IsPiecesOf, PiecesView}
 use Rattle.automata_hybrid.specs.Searches.Contracts.{IsMemory}
-use Rattle.automata_hybrid.specs.Searches.Passes.{given_up_offset, tape_in}
 use Rattle.automata_hybrid.specs.Searches.PieceRuns.{piece_input, piece_trace}
-use Rattle.automata_hybrid.specs.Searches.Progress.{unit_event}
 use Rattle.automata_hybrid.proofs.Known.Bounds.{HasBounds, known_counted, known_moved}
 use Rattle.automata_hybrid.proofs.Known.Growth.{clears_none, grown_after, grown_counted, grown_less, grown_same}
 use Rattle.automata_hybrid.proofs.Known.Growth.{grown_still, grown_trans}
@@ -181,7 +172,7 @@ module _ (m : Machine) (bounds : HasBounds m) (piece : List ℕ) (p : PiecesView
       read_costs q (length piece - 0) (length piece - 0) opened new (omega arith) on t.run
 
   piece_ends :
-      (next : PiecesView) (new : Known) → EndsPiece m piece p next old new → IsCostOfUnits m (length piece) p old new
+      (next : PiecesView) (new : Known) → PieceEnds m piece p next old new → IsCostOfUnits m (length piece) p old new
   piece_ends next new (AlreadyOver none same still) = unchanged m p (length piece) old new sound still
   piece_ends next new (Through q opened on t read) = all_costs q opened new on t
   piece_ends next new (Upto q opened k on t none read) =
@@ -212,7 +203,7 @@ module _ (m : Machine) (bounds : HasBounds m) (piece : List ℕ) (p : PiecesView
       (row_then m f.place 1 opened f.mid new g (byte_fails q f.place (p.read + f.place) f.mid new e g.sound f.fails))))
 
   piece_left :
-      (new : Known) (e : SearchError) → LeavesPiece m piece p old new e → IsCostOfUnits m (length piece) p old new
+      (new : Known) (e : SearchError) → PieceFails m piece p old new e → IsCostOfUnits m (length piece) p old new
   piece_left new e (TooLong q stood back many is) =
       let b = back_follows m q old new sound bounds (of q stood).cheap back in
       from_row m p q (length piece) old new new stood b
@@ -234,7 +225,7 @@ module _ (m : Machine) (bounds : HasBounds m) (piece : List ℕ) (p : PiecesView
       event_memory m (unit_event (piece_trace m piece p.earliest q) Forward (piece_input piece p.earliest) k) at
       (moved (given_up_offset Forward (piece_input piece p.earliest) k) mid) new e free.clears fails
 
-  piece_memory : (new : Known) (e : SearchError) → LeavesPiece m piece p old new e → IsFreePiece m piece p → IsMemory e
+  piece_memory : (new : Known) (e : SearchError) → PieceFails m piece p old new e → IsFreePiece m piece p → IsMemory e
   piece_memory new e (TooLong q stood back many is) free = absurd (let l = free.fits in omega (arith, many, l))
   piece_memory new e (NotPutBack q stood not) free = back_memory m q p.read old new e free.clears not
   piece_memory new e (AtByte q opened on f) free =
@@ -250,7 +241,7 @@ pieces_follow m bounds piece p next old new (Some e) sound of run =
 
 module _ (m : Machine) (bounds : HasBounds m) (ahead : Option ℕ) (p : PiecesView) (old : Known) (sound : IsKnown m old)
     (of : IsPiecesOf p m) where
-  answer_ends : (new : Known) → EndsAnswer m ahead p old new → IsCostOfUnits m 1 p old new
+  answer_ends : (new : Known) → AnswerEnds m ahead p old new → IsCostOfUnits m 1 p old new
   answer_ends new (Answered none same) = unchanged m p 1 old new sound same
   answer_ends new (AtEnd q opened on clean run) =
       let last = mapped (ended p.read) (after_event m (Step q ahead) (moved p.read opened) opened) new run in
@@ -269,7 +260,7 @@ module _ (m : Machine) (bounds : HasBounds m) (ahead : Option ℕ) (p : PiecesVi
   end_fails q mid new e there (CannotStep clean fails) =
       failed_row m (Step q ahead) p.read p.read mid new e there fails
 
-  answer_left : (new : Known) (e : SearchError) → LeavesAnswer m ahead p old new e → IsCostOfUnits m 1 p old new
+  answer_left : (new : Known) (e : SearchError) → AnswerFails m ahead p old new e → IsCostOfUnits m 1 p old new
   answer_left new e (NotBack q stood not) = unchanged m p 1 old new sound (not_back m q p.read old new e not)
   answer_left new e (FailsAtEnd q opened on fails) =
       let b = begins m p q p.read old opened bounds sound of on in
@@ -277,7 +268,7 @@ module _ (m : Machine) (bounds : HasBounds m) (ahead : Option ℕ) (p : PiecesVi
       (row_then m 0 1 b.row opened new b.begins (end_fails q opened new e b.begins.sound fails))
 
   answer_memory :
-      (new : Known) (e : SearchError) → LeavesAnswer m ahead p old new e → quits_on m ahead ≡ false
+      (new : Known) (e : SearchError) → AnswerFails m ahead p old new e → quits_on m ahead ≡ false
       → minimum_cache_clear_count_of m.config ≡ None → IsMemory e
   answer_memory new e (NotBack q stood not) clean free = back_memory m q p.read old new e free not
   answer_memory new e (FailsAtEnd q opened on (MeetsQuit byte is quits reported same)) clean free =

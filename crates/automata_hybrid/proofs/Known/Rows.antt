@@ -2,16 +2,13 @@
 use Rattle.std.proofs.Common.{◌≡◌, ◌∙◌, ℕ, ◌+◌, ◌-◌, ◌*◌, ◌/◌, ◌%◌, ◌^◌, ◌<◌, ◌≤◌, List, [], ◌∷◌, ◌++◌, length, Bool}
 use Rattle.std.proofs.Common.{true, false, cond, Option, None, Some, slice_get, refl, sym, ap, subst, arith}
 use Rattle.std.proofs.Common.{length-append, length-set, zero, suc}
-use Rattle.std.specs.Prelude.{is_some}
+use Rattle.automata_hybrid.proofs.Words.{cell_at, find_id, has_patterns, is_some, Names, Powerset, powerset_eq}
+use Rattle.automata_hybrid.proofs.Words.{powerset_eq-Decides, Row, row_id, row_in, row_of, Rows, RowsFitCells}
+use Rattle.automata_hybrid.proofs.Words.{with_cell, with_row_in_store}
 use Rattle.std.proofs.lemmas.Option.{slice_get_within}
 use Rattle.std.proofs.lemmas.Nat.{div-mul-add}
-use Rattle.automata_base.specs.Powersets.Powerset.{Powerset}
-use Rattle.automata_base.specs.Powersets.Equal.{powerset_eq, powerset_eq-Decides}
 use Rattle.automata_base.proofs.Paths.Orders.{some_inj}
-use Rattle.automata_hybrid.specs.declared.cache.row.Row.{Row}
-use Rattle.automata_hybrid.specs.Cache.Table.{row_of, Names, Rows, cell_at, find_id, has_patterns, row_id}
-use Rattle.automata_hybrid.specs.Private.Cache.Table.{HasRowIds, RowsFitCells, with_cell, with_row_in_store}
-use Rattle.automata_hybrid.specs.Known.Known.{row_in}
+use Rattle.automata_hybrid.specs.Private.Cache.Table.{HasRowIds}
 use Rattle.automata_hybrid.proofs.Caches.Places.{find_id-Found, tags_low, tags_mod}
 use Rattle.automata_hybrid.proofs.Caches.Rows.{Names-more, inside}
 
@@ -26,7 +23,7 @@ row_in-is s at q (r ∷ rs) = go (powerset_eq q r.state) (row_in-is s (at + s) q
   go false e = e
 
 -- a row that is there is found by its state
-pub found_at :
+found_at :
     (s at : ℕ) (rs : List Row) (k : ℕ) (r : Row) → slice_get rs k ≡ Some r
     → (id : ℕ) × (find_id s at r.state rs ≡ Some id)
 found_at s at [] k r h = cc
@@ -83,7 +80,7 @@ one_place s j k positive e =
     omega (arith, f)
 
 -- a row is the one that is met by its state
-pub row_in-at :
+row_in-at :
     (t : Rows) → HasPlaces t → (k : ℕ) (r : Row) → slice_get t.rows k ≡ Some r → row_in t.rows r.state ≡ Some r
 row_in-at t p k r has = go (row_in t.rows r.state) refl where
   s : ℕ
@@ -153,7 +150,7 @@ pub cell_inside :
 cell_inside t id class q p n l = rw (n.offset, p.whole) (inside n.place (length t.rows) t.of.stride class n.within l)
 
 -- an element of a list stays when more come
-pub slice_get-more :
+slice_get-more :
     {A : Type 0} (xs ys : List A) (k : ℕ) (x : A) → slice_get xs k ≡ Some x → slice_get (xs ++ ys) k ≡ Some x
 slice_get-more [] ys k x h = cc
 slice_get-more (y ∷ xs) ys zero x h = h

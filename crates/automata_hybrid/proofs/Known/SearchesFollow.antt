@@ -3,30 +3,23 @@ use Rattle.std.proofs.Common.{ℕ, zero, suc, ◌≡◌, ◌∙◌, ◌+◌, ◌
 use Rattle.std.proofs.Common.{sym, ap, subst, arith}
 use Rattle.std.proofs.lemmas.Bool.{cases_lt}
 use Rattle.automata_base.proofs.Paths.Orders.{some_none}
-use Rattle.automata_base.specs.Answers.Answers.{later}
-use Rattle.automata_base.specs.Haystacks.Input.{Input}
-use Rattle.automata_base.specs.Powersets.Powerset.{cost}
-use Rattle.automata_base.specs.declared.util.search.Anchored.TheVariants.{No}
-use Rattle.automata_base.specs.declared.util.search.Direction.{Direction}
-use Rattle.automata_config.specs.declared.error.SearchError.{SearchError}
+use Rattle.automata_hybrid.proofs.Words.{cost, Direction, Finds, Input, Known, later, Machine, No, pass_trace}
+use Rattle.automata_hybrid.proofs.Words.{PassesEnd, SearchError, Skips, start_event, tape_in, unit_event}
 use Rattle.automata_hybrid.specs.Known.Bounds.{IsKnown}
 use Rattle.automata_hybrid.specs.Known.Cached.{Knows, KnownStays, KnowsItsStart, KnowsPass}
 use Rattle.automata_hybrid.specs.Known.Follows.{AreCostsInTurn, IsCostOfPass, IsCostOfPasses, PassesCost, SearchFollows}
-use Rattle.automata_hybrid.specs.Known.Follows.{SearchesFollow}
+use Rattle.automata_hybrid.specs.Known.Follows.{SearchesFollow, passes_most}
 use Rattle.automata_hybrid.specs.Known.Growth.{ClearedNothing, IsGrown}
-use Rattle.automata_hybrid.specs.Known.Known.{Known}
-use Rattle.automata_hybrid.specs.Known.Passes.{PassesEnd, SearchEnds, SearchFails}
-use Rattle.automata_hybrid.specs.Machines.Machine.{Machine}
-use Rattle.automata_hybrid.specs.Searches.Follows.{passes_most}
-use Rattle.automata_hybrid.specs.Searches.Passes.{Finds, Skips, tape_in}
-use Rattle.automata_hybrid.specs.Searches.Progress.{TriesSpan, TriesSpans, start_event, unit_event}
-use Rattle.automata_hybrid.specs.Searches.Traces.{pass_trace}
+use Rattle.automata_hybrid.specs.Known.Passes.{SearchEnds, SearchFails}
+use Rattle.automata_hybrid.specs.Searches.Progress.{TriesSpan, TriesSpans}
 use Rattle.automata_hybrid.proofs.Known.Bounds.{HasBounds}
 use Rattle.automata_hybrid.proofs.Known.Growth.{clears_none, grown_same, grown_trans, nothing_first, nothing_second}
 use Rattle.automata_hybrid.proofs.Known.Memory.{search_memory}
 use Rattle.automata_hybrid.proofs.Known.PassesFollow.{PassFollows, event_idle, event_still, pass_ended, pass_failed}
-use Rattle.automata_hybrid.proofs.Searches.Costs.{later_none, most_fewer, most_more, most_times, tries_before}
+use Rattle.automata_hybrid.proofs.Searches.Costs.{most_fewer, most_more, most_times, tries_before}
 use Rattle.automata_hybrid.proofs.Searches.Follows.{later_few}
+use Rattle.automata_base.proofs.Answers.Tried.{tries_on}
+use Rattle.automata_hybrid.proofs.Searches.Directions.{later_none}
 
 -- what a pass uses stays cached where nothing is cleared
 pass_still :
@@ -175,10 +168,8 @@ module _ (way : Direction) (m : Machine) (input : Input) where
 
   -- where no place is skipped, or the search is anchored, there is no second pass
   no_second : (k : ℕ) → TriesSpans way m input (suc (suc k)) → (Skips m × (input.anchored ≡ No) → ⊥) → ⊥
-  no_second k tried whole = go (tried (suc k) (omega arith)).0.comes where
-    go : (suc k ≡ 0) ⊎ (Skips m × (input.anchored ≡ No)) → ⊥
-    go (inl e) = omega (arith, e)
-    go (inr free) = whole free
+  no_second k tried whole =
+      whole (tries_on (Skips m) input k (suc k) (omega arith) (tried (suc k) (omega arith)).0.comes)
 
   module _ (old new : Known) (passes : ℕ) (cost : IsCostOfPasses way m input passes old new) (grown : IsGrown m old new)
     where
@@ -198,7 +189,7 @@ module _ (way : Direction) (m : Machine) (input : Input) where
         first begins k less =
             let none : k ≡ 0 = omega (arith, less) in
             subst (λ i. KnowsItsStart way m old (later way i input)) (sym none)
-            (subst (KnowsItsStart way m old) (sym (later_none way input)) begins)
+            (subst (KnowsItsStart way m old) (later_none way input) begins)
 
         started :
             (passes : ℕ) → IsCostOfPasses way m input passes old new → KnowsItsStart way m old input

@@ -2,27 +2,17 @@
 use Rattle.std.proofs.Common.{ℕ, zero, suc, ◌≡◌, ◌∙◌, ◌+◌, ◌-◌, ◌<◌, ◌≤◌, ◌⊎◌, Bool, true, List, Some, None, length}
 use Rattle.std.proofs.Common.{inl, inr, refl, sym, ap, ap₂, subst, arith, take}
 use Rattle.std.proofs.lemmas.Bool.{cases_lt}
-use Rattle.automata_base.specs.Answers.Answers.{AreUnsplit}
-use Rattle.automata_base.specs.Haystacks.Input.{Input}
-use Rattle.automata_base.specs.Laws.Walks.{WalksAreReported}
-use Rattle.automata_base.specs.Paths.Selections.{Pair}
-use Rattle.automata_base.specs.Powersets.Powerset.{Powerset}
-use Rattle.automata_base.specs.declared.util.search.Direction.TheVariants.{Forward}
-use Rattle.automata_config.specs.Options.{match_kind_of}
-use Rattle.automata_config.specs.declared.error.SearchError.{SearchError}
+use Rattle.std.proofs.Math.Seq.{take-append_seam}
+use Rattle.automata_hybrid.proofs.Words.{AreUnsplit, Forward, HasReadNoQuit, Input, Known, Machine, match_kind_of}
+use Rattle.automata_hybrid.proofs.Words.{MayStart, Pair, pass_trace, Powerset, SearchError, Skips, start_event}
+use Rattle.automata_hybrid.proofs.Words.{state_in, tape_in, unit_event, WalksAreReported}
 use Rattle.automata_hybrid.specs.Known.Bounds.{IsKnown}
 use Rattle.automata_hybrid.specs.Known.Cached.{KnowsItsStart, KnowsUnit}
 use Rattle.automata_hybrid.specs.Known.Growth.{ClearedNothing, IsGrown}
-use Rattle.automata_hybrid.specs.Known.Known.{Known}
-use Rattle.automata_hybrid.specs.Known.Walks.{EndsCall, HaveCalled, LeavesSet, NoCall, OneMore, ReadsNone, ReadsSome}
+use Rattle.automata_hybrid.specs.Known.Walks.{CallEnds, HaveCalled, SetFails, NoCall, OneMore, ReadsNone, ReadsSome}
 use Rattle.automata_hybrid.specs.Known.Walks.{has_its_row}
 use Rattle.automata_hybrid.specs.Known.WalksFollow.{CallFollows, KnowsItsState, KnowsWalk, KnowsWhich, SetFollows}
 use Rattle.automata_hybrid.specs.Known.WalksFollow.{SetsFollow}
-use Rattle.automata_hybrid.specs.Machines.Machine.{Machine}
-use Rattle.automata_hybrid.specs.Searches.Passes.{HasReadNoQuit, Skips, state_in, tape_in}
-use Rattle.automata_hybrid.specs.Searches.Progress.{start_event, unit_event}
-use Rattle.automata_hybrid.specs.Searches.Traces.{pass_trace}
-use Rattle.automata_hybrid.specs.Steps.Starts.{MayStart}
 use Rattle.automata_hybrid.specs.Walks.Answers.{AreWalked, HasReported, HasReportedAt, HasReportedBy, ReportsNext}
 use Rattle.automata_hybrid.specs.Walks.Answers.{WalkReads, half_nth, pairs_reported_in, start_count}
 use Rattle.automata_hybrid.specs.Walks.Cached.{IsOpen, IsToRead, NoPair}
@@ -39,19 +29,13 @@ use Rattle.automata_hybrid.proofs.Walks.Calls.{ended_at, fresh_at, place_pair}
 use Rattle.automata_hybrid.proofs.Walks.Follows.{at_state}
 use Rattle.automata_hybrid.proofs.Walks.Progress.{left_reads, of_input, walk_reads_before}
 use Rattle.automata_hybrid.proofs.Walks.Reports.{Begins, walked_begin}
-use Rattle.automata_hybrid.proofs.Walks.Sets.{reported_one, take_front}
+use Rattle.automata_hybrid.proofs.Walks.Sets.{reported_one}
 
 -- a walk has not begun, or its start and all transitions that it took are cached
 abbrev HasLearnedWalk : Machine → Known → Input → Walk → Type 0
 HasLearnedWalk m c input w =
     ((w.stage ≡ Fresh) × (w.units ≡ 0))
     ⊎ (KnowsItsStart Forward m c input × ((j : ℕ) → j < w.units → KnowsUnit Forward m c input j))
-
-fresh_ended : (s : Stage) → s ≡ Fresh → s ≡ Ended → ⊥
-fresh_ended s e f = cc
-
-fresh_stands : (s : Stage) (q : Powerset) → s ≡ Fresh → s ≡ At q → ⊥
-fresh_stands s q e f = cc
 
 -- and so after one call more
 learned_call :
@@ -64,8 +48,8 @@ learned_call :
 learned_call m input old new w v k g nothing reported s may (inl (fresh, none)) knows units =
     let ready : IsToRead input w.stage w.units w.reported = record {
       undone = s;
-      on = fresh_ended w.stage fresh;
-      all_reported = λ q e. absurd (fresh_stands w.stage q fresh e);
+      on = λ e. cc;
+      all_reported = λ q e. absurd (cc);
       left = omega (arith, none);
     } in (
       subst (KnowsItsState Forward m new input) fresh (knows k reported ready may).0,
@@ -101,7 +85,8 @@ module _ (m : Machine) (c : Known) (input : Input) (walk : Walk) (set : List Boo
   still_open n t s l =
       let b : Begins Forward m input t.pairs list.0 =
       walked_begin Forward m input n t.pairs list.0 s (omega (arith, l)) t.unsplit list.1 in
-      subst (IsOpen input set) (ap₂ (λ i (zs : List Pair). take i zs) t.count b.joined ∙ take_front t.pairs b.rest)
+      subst (IsOpen input set) (ap₂ (λ i (zs : List Pair). take i zs) t.count b.joined
+      ∙ take-append_seam t.pairs b.rest)
       (is_open list.0 list.1)
 
   which_walk : has_its_row c walk.stage ≡ true → KnowsWhich m c input set → KnowsWalk Forward m c input walk
@@ -158,7 +143,7 @@ module _ (m : Machine) (bounds : HasBounds m) (skips : Skips m ⊎ (Skips m → 
   module _ (k : ℕ) (before walk : Walk) (mid new : Known) (made : CallsMade k before mid)
       (is_open : IsOpenAfter m input set k)
       (there : has_its_row mid before.stage ≡ true) (reports : ReportsNext Forward m input before walk)
-      (ended : EndsCall Forward m input before walk mid new) where
+      (ended : CallEnds Forward m input before walk mid new) where
     c : CallFollows Ids Forward m input before walk mid new None
     c = call_ended Forward m input bounds skips before k made.reported Ids walk mid new made.known_then reports ended
 
@@ -190,7 +175,7 @@ module _ (m : Machine) (bounds : HasBounds m) (skips : Skips m ⊎ (Skips m → 
           let few : j ≤ length (tape_in Forward input).bytes = reads.0 in
           omega (arith, few, tape_few Forward input, past, same, more, undone)
 
-      go : EndsCall Forward m input before walk mid new → ⊥
+      go : CallEnds Forward m input before walk mid new → ⊥
       go (ReadsNone none reads_none same still) =
           last reads_none same ((reports k made.reported).1 list.0 list.1).0 (none over)
       go (ReadsSome none c) = c.its.1 over (walk_reads_before Forward m input walk.units j more reads)
@@ -218,7 +203,7 @@ module _ (m : Machine) (bounds : HasBounds m) (skips : Skips m ⊎ (Skips m → 
       stops = stops_more;
       done = λ past. kept ended past ∙ made.done past;
     } where
-      kept : EndsCall Forward m input before walk mid new → input.end < input.start → new ≡ mid
+      kept : CallEnds Forward m input before walk mid new → input.end < input.start → new ≡ mid
       kept (ReadsNone none reads_none same still) past = still
       kept (ReadsSome none c) past = absurd (c.some (HasNoneLeft (omega (arith, past))))
 
@@ -306,7 +291,7 @@ module _ (m : Machine) (bounds : HasBounds m) (skips : Skips m ⊎ (Skips m → 
 
   -- a set that failed
   set_left :
-      (joined : List Bool) (new : Known) (e : SearchError) → LeavesSet m input set joined old new e
+      (joined : List Bool) (new : Known) (e : SearchError) → SetFails m input set joined old new e
       → SetFollows m input set old new (Some e)
   set_left joined new e s = record {
     cost = cost;

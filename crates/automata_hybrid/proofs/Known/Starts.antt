@@ -2,20 +2,18 @@
 use Rattle.std.proofs.Common.{◌≡◌, ◌∙◌, ℕ, ◌+◌, ◌*◌, ◌^◌, ◌<◌, ◌≤◌, ◌⊎◌, inl, inr, List, [], ◌∷◌, ◌++◌, length, Bool}
 use Rattle.std.proofs.Common.{true, false, cond, Option, None, Some, get_or, replicate, slice_get, refl, sym, ap, subst}
 use Rattle.std.proofs.Common.{arith, length-append, suc, append_assoc, append-nil}
-use Rattle.std.specs.Prelude.{fold, is_some, map, nat_le, option_map, unwrap_or, option_and_then}
+use Rattle.automata_hybrid.proofs.Words.{AllStarts, dead, dead_id, fresh, id_of, is_some, IsSlot, keep_row, keep_slot}
+use Rattle.automata_hybrid.proofs.Words.{keep_slots, Kept, kept, LeadsToDead, LeadsToNamed, Machine, Names, nat_le}
+use Rattle.automata_hybrid.proofs.Words.{option_and_then, option_map, Powerset, quit_id, Row, row_id, row_in, row_of}
+use Rattle.automata_hybrid.proofs.Words.{Rows, rows_of_starts, RowsFitCells, start_named, unknown_id, unwrap_or}
+use Rattle.automata_hybrid.proofs.Words.{with_row_in_store}
+use Rattle.std.specs.Prelude.{fold, map}
 use Rattle.std.proofs.lemmas.Bool.{cases_lt}
 use Rattle.std.proofs.lemmas.Bool.Decides.{nat_tests}
 use Rattle.std.proofs.lemmas.List.{get_or_append_left, get_or-append-add, length-replicate}
-use Rattle.automata_base.specs.Powersets.Powerset.{Powerset, dead}
-use Rattle.automata_hybrid.specs.declared.cache.row.Row.{Row}
-use Rattle.automata_hybrid.specs.Cache.Ids.{dead_id, quit_id, unknown_id}
-use Rattle.automata_hybrid.specs.Private.Cache.Clears.{AllStarts, IsSlot, Kept, keep_found, keep_slot, keep_slots, kept}
+use Rattle.automata_hybrid.specs.Private.Cache.Clears.{keep_found}
 use Rattle.automata_hybrid.specs.Private.Cache.Clears.{with_row_once}
-use Rattle.automata_hybrid.specs.Cache.Table.{row_of, Names, Rows, fresh, id_of, row_id}
-use Rattle.automata_hybrid.specs.Private.Cache.Table.{RowsFitCells, with_row_in_store}
-use Rattle.automata_hybrid.specs.Known.Known.{keep_row, keep_start, row_in, rows_of_starts}
-use Rattle.automata_hybrid.specs.Known.Stores.{start_named}
-use Rattle.automata_hybrid.specs.Machines.Machine.{Machine}
+use Rattle.automata_hybrid.specs.Known.Known.{keep_start}
 use Rattle.automata_hybrid.proofs.Caches.Clears.{with_row_once-of}
 use Rattle.automata_hybrid.proofs.Caches.Rows.{Names-more, Names-new, inside}
 use Rattle.automata_hybrid.proofs.Known.Rows.{HasPlaces, Met, NamedRow, named_row, row_in-Met, row_in-is}
@@ -50,7 +48,7 @@ AreNamed-more t r (id ∷ ids) [] all = absurd all
 AreNamed-more t r (id ∷ ids) (start ∷ starts) (one, all) =
     (named_more t r id start one, AreNamed-more t r ids starts all)
 
-pub AreNamed-once :
+AreNamed-once :
     (t : Rows) (r : Row) (ids : List ℕ) (starts : List (Option Powerset)) → AreNamed t ids starts
     → AreNamed (with_row_once t r) ids starts
 AreNamed-once t r ids starts all = go (is_some (id_of t r.state)) where
@@ -59,7 +57,7 @@ AreNamed-once t r ids starts all = go (is_some (id_of t r.state)) where
   go false = AreNamed-more t r ids starts all
 
 -- one more slot
-pub AreNamed-push :
+AreNamed-push :
     (t : Rows) (ids : List ℕ) (starts : List (Option Powerset)) (id : ℕ) (start : Option Powerset)
     → AreNamed t ids starts
     → IsNamed t id start → AreNamed t (ids ++ id ∷ []) (starts ++ start ∷ [])
@@ -103,8 +101,9 @@ AreNamed-read t (id ∷ ids) (start ∷ starts) p (one, all) =
 -- each slot of a cache names what is read of it
 pub slot_named : (t : Rows) (slot id : ℕ) → HasPlaces t → IsSlot t slot id → IsNamed t id (start_named t id)
 slot_named t slot id p (inl e) = NamesNone e (named_read t id None p (NamesNone e refl))
-slot_named t slot id p (inr (q, inl (e, dies), first)) = NamesDead e (named_read t id (Some dead) p (NamesDead e refl))
-slot_named t slot id p (inr (q, inr n, first)) = NamesRow q n (named_read t id (Some q) p (NamesRow q n refl))
+slot_named t slot id p (inr (q, LeadsToDead e dies, first)) =
+    NamesDead e (named_read t id (Some dead) p (NamesDead e refl))
+slot_named t slot id p (inr (q, LeadsToNamed n, first)) = NamesRow q n (named_read t id (Some q) p (NamesRow q n refl))
 
 slots_named :
     (t : Rows) (ids : List ℕ) → HasPlaces t → ((k id : ℕ) → slice_get ids k ≡ Some id → (slot : ℕ) × IsSlot t slot id)
@@ -125,7 +124,7 @@ pub record IsUnwritten (t : Rows) : Type 0 where
       (k class : ℕ) → k < length t.rows → class < t.of.stride
       → get_or t.cells ((k + 3) * t.of.stride + class) 0 ≡ get_or t.of.template class 0
 
-pub unwritten_fresh : (m : Machine) → IsUnwritten (fresh m)
+unwritten_fresh : (m : Machine) → IsUnwritten (fresh m)
 unwritten_fresh m =
     let a = length-replicate m.stride unknown_id in
     let b = length-replicate m.stride (dead_id m.stride) in
@@ -158,10 +157,7 @@ unwritten_more t r wide u = record {
   cells :
       (k class : ℕ) → k < length (t.rows ++ r ∷ []) → class < t.of.stride
       → get_or (t.cells ++ t.of.template) ((k + 3) * t.of.stride + class) 0 ≡ get_or t.of.template class 0
-  cells k class l below = go (cases k) where
-    cases : (j : ℕ) → (j < length t.rows) ⊎ (length t.rows ≤ j)
-    cases j = cases_lt j (length t.rows)
-
+  cells k class l below = go (cases_lt k (length t.rows)) where
     go :
         (k < length t.rows) ⊎ (length t.rows ≤ k)
         → get_or (t.cells ++ t.of.template) ((k + 3) * t.of.stride + class) 0 ≡ get_or t.of.template class 0
@@ -175,7 +171,7 @@ unwritten_more t r wide u = record {
         ap (λ n. (n + 3) * t.of.stride + class) last ∙ ap (λ n. n + class) (sym u.whole) in
         ap (λ n. get_or (t.cells ++ t.of.template) n 0) at ∙ get_or-append-add t.cells t.of.template class 0
 
-pub unwritten_once :
+unwritten_once :
     (t : Rows) (r : Row) → length t.of.template ≡ t.of.stride → IsUnwritten t → IsUnwritten (with_row_once t r)
 unwritten_once t r wide u = go (is_some (id_of t r.state)) where
   go : (b : Bool) → IsUnwritten (cond b t (with_row_in_store t r))
@@ -183,7 +179,7 @@ unwritten_once t r wide u = go (is_some (id_of t r.state)) where
   go false = unwritten_more t r wide u
 
 -- the rows with one that was found
-pub rows_once : (t : Rows) (r : Row) → (with_row_once t r).rows ≡ keep_row t.rows (Some r)
+rows_once : (t : Rows) (r : Row) → (with_row_once t r).rows ≡ keep_row t.rows (Some r)
 rows_once t r =
     go (is_some (id_of t r.state))
     ∙ ap (λ b. cond b t.rows (t.rows ++ r ∷ [])) (row_in-is t.of.stride (3 * t.of.stride) r.state t.rows)
@@ -193,7 +189,7 @@ rows_once t r =
     go false = refl
 
 -- its state has an ID then
-pub named_once :
+named_once :
     (t : Rows) (r : Row) → length t.cells ≡ (length t.rows + 3) * t.of.stride
     → (id : ℕ) × Names (with_row_once t r) id r.state
 named_once t r whole = go (id_of t r.state) refl where

@@ -3,20 +3,17 @@
 use Rattle.std.proofs.Common.{◌≡◌, ◌∙◌, ℕ, ◌+◌, ◌*◌, ◌%◌, ◌^◌, ◌<◌, ◌⊎◌, inl, inr, List, [], ◌∷◌, ◌++◌, length, Bool}
 use Rattle.std.proofs.Common.{true, false, Option, None, Some, get_or, set, slice_get, refl, sym, ap, subst, ⊎_elim}
 use Rattle.std.proofs.Common.{arith}
-use Rattle.std.specs.Prelude.{nat_eq, nat_lt, ◌&&◌, ◌||◌, option_map, unwrap_or}
-use Rattle.std.proofs.lemmas.Bool.{cases_Bool, cases_eq}
+use Rattle.automata_hybrid.proofs.Words.{cell_at, has_patterns, id_of, Machine, Names, nat_lt, option_map, Powerset}
+use Rattle.automata_hybrid.proofs.Words.{powerset_eq, powerset_eq-Decides, Row, row_id, Rows, unknown_id, unwrap_or}
+use Rattle.automata_hybrid.proofs.Words.{with_cell, with_row_in_store, ◌&&◌, ◌||◌}
+use Rattle.std.specs.Prelude.{nat_eq}
+use Rattle.std.proofs.lemmas.Bool.{cases_Bool, cases_eq, and_from}
 use Rattle.std.proofs.lemmas.Bool.Decides.{nat_tests}
 use Rattle.std.proofs.lemmas.List.{get_or-set_same, get_or-set_other, get_or_append_left, get_or-append-add}
-use Rattle.automata_base.specs.Powersets.Powerset.{Powerset}
-use Rattle.automata_base.specs.Powersets.Equal.{powerset_eq, powerset_eq-Decides}
+use Rattle.std.proofs.lemmas.Nat.{same_from_place}
 use Rattle.automata_base.proofs.Paths.Orders.{none_some, some_inj}
-use Rattle.automata_hybrid.specs.declared.cache.row.Row.{Row}
-use Rattle.automata_hybrid.specs.Cache.Ids.{unknown_id}
-use Rattle.automata_hybrid.specs.Cache.Table.{Names, Rows, cell_at, has_patterns, id_of, row_id}
-use Rattle.automata_hybrid.specs.Private.Cache.Table.{with_cell, with_row_in_store}
 use Rattle.automata_hybrid.specs.Known.Stores.{has_steps_at}
-use Rattle.automata_hybrid.specs.Machines.Machine.{Machine}
-use Rattle.automata_hybrid.proofs.Caches.Places.{one_cell, tags_mod}
+use Rattle.automata_hybrid.proofs.Caches.Places.{tags_mod}
 use Rattle.automata_hybrid.proofs.Caches.Rows.{Names-new, find_id-push_other}
 use Rattle.automata_hybrid.proofs.Known.Rows.{HasPlaces, NamedRow, cell_inside, named_row, places_before}
 use Rattle.automata_hybrid.proofs.Known.Starts.{IsUnwritten}
@@ -34,7 +31,7 @@ pub record HasSteps (m : Machine) (class : ℕ) : Type 0 where
   pub below : class < m.stride
   pub free : get_or m.template class 0 ≡ unknown_id
 
-pub steps_at : (m : Machine) (class : ℕ) → has_steps_at m class ≡ true → HasSteps m class
+steps_at : (m : Machine) (class : ℕ) → has_steps_at m class ≡ true → HasSteps m class
 steps_at m class h = record { below = grind (arith, nat_tests); free = grind (arith, nat_tests) }
 
 pub steps_there : (m : Machine) (class : ℕ) → HasSteps m class → has_steps_at m class ≡ true
@@ -125,8 +122,7 @@ unwritten_step t p u q class = go (has_steps_at t.of class) refl where
 -- the transition that was written
 both : (q p : Powerset) (other class : ℕ) → q ≡ p → other ≡ class → (powerset_eq q p && nat_eq other class) ≡ true
 both q p other class e f =
-    let same : nat_eq other class ≡ true = grind (arith, nat_tests) in
-    ap (λ b. b && nat_eq other class) ((powerset_eq-Decides q p).1 e) ∙ same
+    and_from (powerset_eq q p) (nat_eq other class) ((powerset_eq-Decides q p).1 e) (grind (arith, nat_tests))
 
 -- is another one
 apart :
@@ -169,7 +165,7 @@ module _ (t : Rows) (id class next : ℕ) (p : Powerset) (places : HasPlaces t) 
   here q other i n below e =
       let cell : (n.place + 3) * t.of.stride + other ≡ (row.place + 3) * t.of.stride + class =
       ap (λ k. k + other) (sym n.offset) ∙ e ∙ ap (λ k. k + class) row.offset in
-      let same = one_cell (n.place + 3) (row.place + 3) other class t.of.stride below has.below cell in
+      let same = same_from_place (n.place + 3) other (row.place + 3) class t.of.stride below has.below cell in
       let place : n.place ≡ row.place = omega (arith, same.0) in
       let rows : n.row ≡ row.row = some_inj (sym n.has ∙ ap (slice_get t.rows) place ∙ row.has) in
       let state : q ≡ p = sym n.state ∙ ap (λ (x : Row). x.state) rows ∙ row.state in

@@ -1,21 +1,11 @@
 -- The state where a walk stands: whether a cache has its row, and what putting it back makes of what the cache knows.
-use Rattle.std.proofs.Common.{◌≡◌, ◌∙◌, ℕ, ◌*◌, true, false, Option, None, Some, cond, refl, sym, ap, subst, inr}
-use Rattle.std.specs.Prelude.{is_some, option_map}
-use Rattle.automata_base.specs.Powersets.Powerset.{Powerset}
-use Rattle.automata_config.specs.declared.error.StepError.{StepError}
+use Rattle.std.proofs.Common.{◌≡◌, ◌∙◌, ℕ, ◌*◌, true, false, Option, None, Some, cond, refl, sym, ap, subst}
+use Rattle.automata_hybrid.proofs.Words.{CacheView, cleared, id_of, is_some, IsMachine, IsStoreOf, Known, known_of}
+use Rattle.automata_hybrid.proofs.Words.{LeadsToNamed, Machine, Names, option_map, Powerset, Row, row_in, StepError}
+use Rattle.automata_hybrid.proofs.Words.{Stored, with_new_row}
 use Rattle.automata_config.specs.declared.error.StepError.TheVariants as step
-use Rattle.automata_hybrid.specs.declared.cache.row.Row.{Row}
-use Rattle.automata_hybrid.specs.Cache.Caches.{CacheView}
-use Rattle.automata_hybrid.specs.Private.Cache.Caches.{IsStoreOf}
-use Rattle.automata_hybrid.specs.Cache.Stores.{Stored}
-use Rattle.automata_hybrid.specs.Cache.Table.{Names, id_of}
-use Rattle.automata_hybrid.specs.Known.Events.{with_new_row}
-use Rattle.automata_hybrid.specs.Known.Known.{Known, cleared, row_in}
-use Rattle.automata_hybrid.specs.Known.Stores.{known_of}
 use Rattle.automata_hybrid.specs.Known.Walks.{GivesUpOnIt, IsNotBack, RunsOutOnIt, with_row_back}
-use Rattle.automata_hybrid.specs.Machines.Machine.{Machine}
-use Rattle.automata_hybrid.specs.Private.Cache.Growth.{AddFails, PutsBack}
-use Rattle.automata_hybrid.specs.Private.Machines.Machine.{IsMachine}
+use Rattle.automata_hybrid.specs.Private.Cache.Growth.{AddFails, HasAdded}
 use Rattle.automata_hybrid.specs.Private.Searches.PassState.{step_error}
 use Rattle.automata_hybrid.proofs.Caches.Places.{Names-alive}
 use Rattle.automata_hybrid.proofs.Known.Events.{gives_up_if, gives_up_so, store_places}
@@ -47,27 +37,29 @@ row_there m q id c named =
     ap
     (λ b. cond b (Some (known_of c))
     (with_new_row m (cleared (known_of c)) (record { state = q; started = false }) (known_of c)))
-    (state_there c.store c.count id q (inr named))
+    (state_there c.store c.count id q (LeadsToNamed named))
 
 -- one that was not there is
 row_back_here :
     (q : Powerset) (old new : CacheView) → IsMachine old.store.table.of → IsStoreOf old.store old.store.table.of
-    → IsStoreOf new.store old.store.table.of → id_of old.store.table q ≡ None → PutsBack q old new
+    → IsStoreOf new.store old.store.table.of → id_of old.store.table q ≡ None → (id : ℕ)
+    → HasAdded old new (record { state = q; started = false }) id
     → with_row_back old.store.table.of q (known_of old) ≡ Some (known_of new)
-row_back_here q old new machine sound after none puts =
+row_back_here q old new machine sound after none id adds =
     put_back_known old.store new.store old.count sound (store_places old.store.table.of old.store machine sound)
     (store_places old.store.table.of new.store machine after) after.of (record { state = q; started = false })
-    (none, Names-alive new.store.table puts.id q after.rows puts.named) puts.added
-    ∙ ap (λ n. Some (known_with new.store n)) (sym puts.counted)
+    (none, Names-alive new.store.table id q after.rows adds.row.named) adds.row.effect
+    ∙ ap (λ n. Some (known_with new.store n)) (sym adds.counted)
 
 pub row_back :
     (m : Machine) (q : Powerset) (old new : CacheView) → IsMachine m → IsStoreOf old.store m → IsStoreOf new.store m
-    → id_of old.store.table q ≡ None → PutsBack q old new → with_row_back m q (known_of old) ≡ Some (known_of new)
-row_back m q old new machine sound after none puts =
+    → id_of old.store.table q ≡ None → (id : ℕ) → HasAdded old new (record { state = q; started = false }) id
+    → with_row_back m q (known_of old) ≡ Some (known_of new)
+row_back m q old new machine sound after none id adds =
     subst
     (λ (d : Machine). IsMachine d → IsStoreOf old.store d → IsStoreOf new.store d
     → with_row_back d q (known_of old) ≡ Some (known_of new))
-    sound.of (λ d s a. row_back_here q old new d s a none puts) machine sound after
+    sound.of (λ d s a. row_back_here q old new d s a none id adds) machine sound after
 
 -- or it could not be added
 none_of : (o : Option Known) → option_map (λ c. c) o ≡ None → o ≡ None

@@ -1,23 +1,19 @@
 use Rattle.std.proofs.Common.{◌≡◌, ℕ, zero, suc, ◌+◌, ◌-◌, ◌*◌, ◌^◌, ◌<◌, ◌≤◌, List, length, Bool, true, false, cond}
 use Rattle.std.proofs.Common.{set, get_or, Option, None, Some, refl, sym, ap, ◌∙◌, subst, ◌⊎◌, inl, inr, ⊎_elim, arith}
 use Rattle.std.proofs.Common.{length-set, lit<}
-use Rattle.std.specs.Prelude.{slice_index}
+use Rattle.automata_hybrid.proofs.Words.{class_in, eoi_class, is_quit, IsMachine, IsOwn, IsUnit, Machine, marked}
+use Rattle.automata_hybrid.proofs.Words.{match_kind_of, minimum_capacity, Powerset, quit_id, slice_index, start_slots}
+use Rattle.automata_hybrid.proofs.Words.{successor, unit_class}
 use Rattle.std.proofs.lemmas.Bool.{cases_lt, cases_eq}
 use Rattle.std.proofs.lemmas.List.{length-replicate, get_or-replicate, get_or-set_same, get_or-set_other}
-use Rattle.automata_base.specs.Powersets.Accounting.{start_slots, minimum_capacity, effective_capacity}
-use Rattle.automata_base.specs.ByteClasses.Classes.{class_in, eoi_class, is_quit, is_boundary, boundary_count, class_of}
+use Rattle.automata_base.specs.Powersets.Accounting.{effective_capacity}
+use Rattle.automata_base.specs.ByteClasses.Classes.{is_boundary, boundary_count, class_of}
 use Rattle.automata_base.specs.ByteClasses.Classes.{alphabet_length, stride_of, stride_for}
-use Rattle.automata_base.specs.Powersets.Powerset.{Powerset}
-use Rattle.automata_base.specs.Retraced.Steps.{successor}
 use Rattle.automata_base.proofs.Powersets.AlikeClasses.{class_step, class_quits}
-use Rattle.automata_config.specs.Options.{starts_for_each_pattern_of, byte_classes_of, match_kind_of, cache_capacity_of}
+use Rattle.automata_config.specs.Options.{starts_for_each_pattern_of, byte_classes_of, cache_capacity_of}
 use Rattle.automata_config.specs.Settled.{Settled}
 use Rattle.automata_config.specs.Settling.{IsSettled, settled_minimum, greatest_offset}
-use Rattle.automata_base.specs.Powersets.Passes.{IsUnit}
-use Rattle.automata_hybrid.specs.Cache.Ids.{quit_id}
-use Rattle.automata_hybrid.specs.Machines.OwnStates.{IsOwn}
-use Rattle.automata_hybrid.specs.Machines.Machine.{IsSized, Machine, marked, unit_class}
-use Rattle.automata_hybrid.specs.Private.Machines.Machine.{IsMachine}
+use Rattle.automata_hybrid.specs.Machines.Machine.{IsSized}
 use Rattle.automata_base.proofs.ByteClasses.Boundaries.{count_grows}
 
 count_up_to : (f : ℕ → Bool) (n m : ℕ) → n ≤ m → boundary_count f n ≤ boundary_count f m

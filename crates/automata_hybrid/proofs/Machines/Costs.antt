@@ -2,22 +2,19 @@
 use Rattle.std.proofs.Common.{ℕ, zero, suc, ◌≡◌, ◌∙◌, ◌≤◌, inl, inr, Bool, true, false, List, [], ◌∷◌, ◌++◌, ◌||◌, eqb}
 use Rattle.std.proofs.Common.{length, Option, None, Some, refl, sym, ap, subst, arith}
 use Rattle.std.proofs.lemmas.Bool.Decides.{Decides-eqb}
+use Rattle.std.proofs.lemmas.Bool.{or_parts}
 use Rattle.automata_base.proofs.Powersets.Distinct.{distinct_below}
 use Rattle.automata_base.proofs.Powersets.Walking.{nodes_length}
-use Rattle.automata_base.specs.Answers.Within.{StatesReportOwn}
-use Rattle.automata_base.specs.Lists.{Distinct, In, cons_some, pick}
+use Rattle.automata_hybrid.proofs.Words.{Anchored, Automaton, cost, In, MatchKind, max_cost, nfa_of, Powerset}
+use Rattle.automata_hybrid.proofs.Words.{start_state_of, StatesReportOwn, successor}
+use Rattle.automata_base.specs.Lists.{Distinct, cons_some, pick}
 use Rattle.automata_base.specs.Nfas.Nfa.{Nfa, Truth, accepts, keep}
-use Rattle.automata_base.specs.Nfas.Nodes.{Automaton, nfa_of}
 use Rattle.automata_base.specs.Paths.Starts.{mode_start}
-use Rattle.automata_base.specs.Powersets.Accounting.{max_cost}
 use Rattle.automata_base.specs.Powersets.Closure.{children}
 use Rattle.automata_base.specs.Powersets.Cuts.{cut_for, targets}
-use Rattle.automata_base.specs.Powersets.Powerset.{Powerset, cost}
 use Rattle.automata_base.specs.Retraced.Computed.{closure_of, decide, first_visits, is_in, known_looks, once_past}
 use Rattle.automata_base.specs.Retraced.Computed.{visits_with}
-use Rattle.automata_base.specs.Retraced.Steps.{start_or_dead, start_state_of, successor}
-use Rattle.automata_base.specs.declared.util.search.Anchored.{Anchored}
-use Rattle.automata_base.specs.declared.util.search.MatchKind.{MatchKind}
+use Rattle.automata_base.specs.Retraced.Steps.{start_or_dead}
 use Rattle.automata_hybrid.proofs.Searches.PassState.{false_true}
 
 -- a closure has at most as many states as were to be visited
@@ -50,16 +47,12 @@ pick_few g (x ∷ xs) = by (g x) (pick_few g xs) where
   by None rest = omega (arith, rest)
   by (Some y) rest = omega (arith, rest)
 
-left_false : (a b : Bool) → (a || b) ≡ false → b ≡ false
-left_false true b is = absurd (false_true (sym is))
-left_false false b is = is
-
 -- what was seen is not met again
 once_apart : (seen xs : List ℕ) (y : ℕ) → In y (once_past seen xs) → is_in y seen ≡ false
 once_apart seen [] y is = absurd is
 once_apart seen (x ∷ xs) y is =
     by (is_in x seen) refl is (once_apart seen xs y)
-    (λ rest. left_false (eqb y x) (is_in y seen) (once_apart (x ∷ seen) xs y rest))
+    (λ rest. (or_parts (eqb y x) (is_in y seen) (once_apart (x ∷ seen) xs y rest)).1)
   where
     by :
         (b : Bool) → is_in x seen ≡ b

@@ -2,7 +2,8 @@
 use Rattle.std.proofs.Common.{ℕ, ◌≡◌, ◌≤◌, ◌&&◌, ◌||◌, not, Bool, true, false, cond, ltb, List, [], ◌∷◌, length, Some}
 use Rattle.std.proofs.Common.{None, refl, sym, ap, subst, arith}
 use Rattle.std.proofs.lemmas.Bool.{le-ltb}
-use Rattle.automata_base.specs.Nfas.Nodes.{Automaton, stack_room}
+use Rattle.automata_hybrid.proofs.Words.{Automaton}
+use Rattle.automata_base.specs.Nfas.Nodes.{stack_room}
 use Rattle.automata_base.specs.declared.nfa.thompson.State.{State}
 use Rattle.automata_base.specs.declared.nfa.thompson.State.TheVariants.{Match, Fail}
 use Rattle.automata_config.specs.Options.{quits_of, unicode_word_boundary_of, unset}

@@ -2,17 +2,12 @@ use Rattle.std.proofs.Common.{◌≡◌, ℕ, zero, suc, ◌+◌, ◌*◌, ◌/�
 use Rattle.std.proofs.Common.{Option, None, Some, refl, sym, ap, ◌∙◌, arith, lit<}
 use Rattle.std.proofs.lemmas.Nat.{div-mul-add, mod-mul-add}
 use Rattle.std.proofs.lemmas.Option.{slice_get_past}
-use Rattle.automata_base.specs.Powersets.Accounting.{start_slots}
-use Rattle.automata_base.specs.Nfas.Nodes.{Automaton}
-use Rattle.automata_base.specs.Powersets.Powerset.{dead}
-use Rattle.automata_base.specs.ByteClasses.LookBehind.{behind_of}
+use Rattle.automata_hybrid.proofs.Words.{Anchored, Automaton, behind_of, dead, Machine, No, slot_behind, start_slots}
+use Rattle.automata_hybrid.proofs.Words.{start_state_of}
 use Rattle.automata_base.specs.Haystacks.Looks.{is_word_byte}
-use Rattle.automata_base.specs.Retraced.Steps.{start_state_of}
-use Rattle.automata_base.specs.declared.util.search.Anchored.{Anchored}
-use Rattle.automata_base.specs.declared.util.search.Anchored.TheVariants.{No, Yes, Pattern}
+use Rattle.automata_base.specs.declared.util.search.Anchored.TheVariants.{Yes, Pattern}
 use Rattle.automata_base.proofs.Powersets.Alike.{behind_alike}
-use Rattle.automata_hybrid.specs.Machines.Machine.{Machine}
-use Rattle.automata_hybrid.specs.Machines.StartSlots.{group_of, slot_behind}
+use Rattle.automata_hybrid.specs.Machines.StartSlots.{group_of}
 
 -- there are six kinds of look-behind
 kind_below : (t : ℕ) (x : Option ℕ) → behind_of t x < 6

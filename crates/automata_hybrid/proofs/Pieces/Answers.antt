@@ -1,36 +1,20 @@
 -- What a search in pieces answers over an input, by what a pass over it does.
 use Rattle.std.proofs.Common.{ℕ, suc, ◌≡◌, ◌<◌, ◌≤◌, ◌+◌, ◌-◌, ◌^◌, true, false, List, [], ◌∷◌, length, Bool, Option}
 use Rattle.std.proofs.Common.{Some, None, refl, sym, ap, ◌∙◌, subst, arith}
-use Rattle.std.specs.Prelude.{Ok}
-use Rattle.automata_base.specs.Answers.OfPasses.{ReportedEndsAreRight, ReportedIsRight}
-use Rattle.automata_base.specs.Answers.Within.{ReportedLiesWithin}
-use Rattle.automata_base.specs.ByteClasses.Classes.{is_quit}
-use Rattle.automata_base.specs.Haystacks.Input.{Input}
-use Rattle.automata_base.specs.Haystacks.Matches.{HalfMatch}
-use Rattle.automata_base.specs.Paths.Paths.{next}
-use Rattle.automata_base.specs.Powersets.Powerset.{Powerset, dead}
-use Rattle.automata_base.specs.Retraced.Steps.{start_state_of}
-use Rattle.automata_base.specs.declared.util.search.Anchored.{Anchored}
-use Rattle.automata_base.specs.declared.util.search.Direction.TheVariants.{Forward}
+use Rattle.automata_hybrid.proofs.Words.{Anchored, CacheView, dead, Forward, half_at, half_of, HalfMatch, HasDeadTag}
+use Rattle.automata_hybrid.proofs.Words.{HasReadNoQuit, Input, is_quit, IsAt, IsAtAlong, IsFound, IsStartAnswer, Known}
+use Rattle.automata_hybrid.proofs.Words.{Leads, Machine, match_kind_of, MayStart, Names, next, Ok, Powerset, Reads}
+use Rattle.automata_hybrid.proofs.Words.{reported_in, ReportedEndsAreRight, ReportedIsRight, ReportedLiesWithin, Rows}
+use Rattle.automata_hybrid.proofs.Words.{Skips, start_state_of, state_in, tape_in, WithoutBase}
 use Rattle.automata_base.proofs.Paths.Orders.{none_some, some_inj, some_none}
-use Rattle.automata_config.specs.Options.{match_kind_of}
-use Rattle.automata_hybrid.specs.Cache.Caches.{CacheView}
-use Rattle.automata_hybrid.specs.Cache.Ids.{HasDeadTag}
-use Rattle.automata_hybrid.specs.Cache.Table.{Leads, Names, Rows}
-use Rattle.automata_hybrid.specs.Known.Known.{Known}
 use Rattle.automata_hybrid.specs.Known.Pieces.{AnswerStands, DiesThere, FindsThere, ReadsPieceUpto}
-use Rattle.automata_hybrid.specs.Machines.Machine.{Machine}
 use Rattle.automata_hybrid.specs.Pieces.Answers.{BeginsAfter, EndsHere, HasBegun, IsPieceAt, IsWhole, ReadsOn}
 use Rattle.automata_hybrid.specs.Pieces.Answers.{StandsAfter, WasGiven, WasGivenAll, from_first}
 use Rattle.automata_hybrid.specs.Pieces.State.{PiecesView}
 use Rattle.automata_hybrid.specs.Private.Pieces.State.{found_in}
 use Rattle.automata_hybrid.specs.Searches.PassContracts.{IsPassAnswer}
-use Rattle.automata_hybrid.specs.Searches.PassState.{IsAt, IsAtAlong, half_at, half_of}
-use Rattle.automata_hybrid.specs.Searches.Passes.{HasReadNoQuit, IsFound, Reads, Skips, WithoutBase, reported_in}
-use Rattle.automata_hybrid.specs.Searches.Passes.{state_in, tape_in}
 use Rattle.automata_hybrid.specs.Searches.PieceRuns.{piece_input, piece_state, piece_trace}
 use Rattle.automata_hybrid.specs.Private.Searches.Units.{IsReadAnswer}
-use Rattle.automata_hybrid.specs.Steps.Starts.{IsStartAnswer, MayStart}
 use Rattle.automata_hybrid.proofs.Pieces.Runs.{pass_clean, pass_found, pass_next, pass_state}
 use Rattle.automata_hybrid.proofs.Searches.Bounds.{lies_in}
 use Rattle.automata_hybrid.proofs.Searches.Directions.{begins_alive, begins_dead}
@@ -38,7 +22,7 @@ use Rattle.automata_hybrid.proofs.Searches.PassState.{clean_all, clean_last, cle
 use Rattle.automata_hybrid.proofs.Searches.PassState.{found_dead, found_first, more_last, reported_quiet}
 use Rattle.automata_hybrid.proofs.Searches.PassState.{reported_stays, starts_at, starts_dead}
 use Rattle.automata_hybrid.proofs.Searches.Skips.{found_reported}
-use Rattle.automata_hybrid.proofs.Searches.Traces.{half_none}
+use Rattle.automata_hybrid.proofs.Searches.Traces.{half_of_none}
 use Rattle.automata_hybrid.proofs.Searches.Units.{forward_unit, forward_units}
 use Rattle.automata_hybrid.proofs.Steps.BySteps.{run_found}
 use Rattle.automata_hybrid.proofs.Steps.Ids.{dead_tagged}
@@ -128,18 +112,6 @@ module _ (m : Machine) (mode : Anchored) (behind : Option ℕ) (earliest : Bool)
           answered = λ e. absurd (some_none e);
         };
   }
-
--- a search whose answer stands reads nothing
-pub reads_none : (m : Machine) (piece : List ℕ) (p : PiecesView) → p.state ≡ None → ReadsOn m piece p p
-reads_none m piece p none input n given here = record {
-  plain = given.plain;
-  undone = given.undone;
-  inside = given.inside;
-  may = given.may;
-  early = given.early;
-  stands = λ q e. absurd (none_some (sym none ∙ e));
-  answered = given.answered;
-}
 
 found_none :
     (start base : ℕ) (o before : Option HalfMatch) → from_first start (found_in o base before) ≡ None → o ≡ None
@@ -267,7 +239,7 @@ module _ (m : Machine) (q : Powerset) (piece : List ℕ) (old new : PiecesView) 
     answer (FindsThere e reports) =
         let first : input.earliest ≡ true = sym given.early ∙ e in
         let some : found ≡ None → ⊥ =
-        λ none. reports (half_none Forward (piece_input piece old.earliest) _ (sym reported ∙ none)) in
+        λ none. reports (half_of_none Forward (piece_input piece old.earliest) _ (sym reported ∙ none)) in
         record {
           found = read ∙ found_first Forward m input (suc (n + k)) (omega (arith, few)) first (some_half some);
           clean = clean_all Forward m input (suc (n + k)) given.may.0 clean (stops first some);
@@ -299,28 +271,20 @@ whole :
     (lies : ReportedLiesWithin m.nfa) (ahead : Option ℕ) (p : PiecesView)
     → WasGivenAll m input ahead p → IsPassAnswer Forward m input half → IsWhole m input half
 whole m input half law ends lies ahead p all pass =
-    let found : WithoutBase (IsFound Forward m input) half = run_found m input half all.given.plain all.given.undone
-    pass in record {
+    let found : WithoutBase (IsFound Forward m input) half =
+    run_found m input half all.given.plain all.given.undone pass in
+    let reported = found_reported Forward m input found.0 found.1 in
+    let right = ends Forward (match_kind_of m.config) input found.0 (all.bytes, all.given.inside) reported in
+    record {
       found = found;
       paths = record {
         answer = λ cycles. (
           found.0,
-          law Forward (match_kind_of m.config) input found.0 cycles (all.bytes, all.given.inside)
-              (found_reported Forward m input found.0 found.1),
+          law Forward (match_kind_of m.config) input found.0 cycles (all.bytes, all.given.inside) reported,
           found.2,
         );
-        nearest = λ early. (
-          found.0,
-          (ends Forward (match_kind_of m.config) input found.0 (all.bytes, all.given.inside)
-              (found_reported Forward m input found.0 found.1)).0 early,
-          found.2,
-        );
-        farthest = λ late kind. (
-          found.0,
-          (ends Forward (match_kind_of m.config) input found.0 (all.bytes, all.given.inside)
-              (found_reported Forward m input found.0 found.1)).1 late kind,
-          found.2,
-        );
+        nearest = λ early. (found.0, right.0 early, found.2);
+        farthest = λ late kind. (found.0, right.1 late kind, found.2);
         within = lies_in m input lies all.given.inside Forward (Ok half) found;
         unsupported = λ u. absurd (false_true (sym u.mode ∙ pass.supported));
         free = λ f. tt;
@@ -335,11 +299,11 @@ pub ends_none :
 ends_none m law ends lies ahead p none input all =
     whole m input (from_first input.start p.found) law ends lies ahead p all (all.given.answered none)
 
-first_half :
+first_given :
     (start at : ℕ) (ps : List ℕ) (found : Option HalfMatch)
     → from_first start (half_at ps at found) ≡ half_at ps (start + at) (from_first start found)
-first_half start at [] found = refl
-first_half start at (p ∷ ps) found = refl
+first_given start at [] found = refl
+first_given start at (p ∷ ps) found = refl
 
 -- one that stands at a state reads the unit that follows
 module _ (m : Machine) (ahead : Option ℕ) (p : PiecesView) (q : Powerset) (old new : CacheView) (id to : ℕ)
@@ -379,7 +343,7 @@ module _ (m : Machine) (ahead : Option ℕ) (p : PiecesView) (q : Powerset) (old
       refl,
       λ s leads.
           ap (from_first input.start) (reports s leads ∙ ap (λ a. half_at s.patterns a p.found) stands.read)
-          ∙ first_half input.start n s.patterns p.found,
+          ∙ first_given input.start n s.patterns p.found,
     )
 
     end_answer : IsPassAnswer Forward m input (from_first input.start half)

@@ -1,12 +1,7 @@
 -- What follows of what the calls of a search in pieces make of their cache.
 use Rattle.std.proofs.Common.{ℕ, ◌≡◌, ◌<◌, ◌+◌, Bool, false, List, length, Option, Some, None, refl, ap, ◌∙◌, arith}
-use Rattle.std.specs.Prelude.{slice_get}
-use Rattle.automata_base.specs.ByteClasses.Classes.{is_quit}
-use Rattle.automata_base.specs.Paths.Paths.{next}
-use Rattle.automata_base.specs.declared.util.search.Direction.TheVariants.{Forward}
+use Rattle.automata_hybrid.proofs.Words.{Forward, is_quit, Machine, next, quits_on, slice_get, tape_in}
 use Rattle.automata_base.proofs.Answers.Bytes.{forward_next}
-use Rattle.automata_hybrid.specs.Machines.Machine.{Machine, quits_on}
-use Rattle.automata_hybrid.specs.Searches.Passes.{tape_in}
 use Rattle.automata_hybrid.specs.Searches.PieceRuns.{piece_input}
 
 -- the units of a piece are its bytes

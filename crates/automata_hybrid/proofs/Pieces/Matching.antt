@@ -2,18 +2,13 @@
 use Rattle.std.proofs.Common.{arith, subst, sym}
 use Rattle.automata_base.specs.Lists.{IsSet}
 use Rattle.automata_base.specs.Nfas.Accepted.{IsChecked}
-use Rattle.automata_base.specs.Nfas.Nodes.{nfa_of}
-use Rattle.automata_base.specs.Retraced.Passes.{reported_at}
-use Rattle.automata_base.specs.declared.util.search.Direction.TheVariants.{Forward}
-use Rattle.automata_base.specs.declared.util.search.MatchKind.{MatchKind}
+use Rattle.automata_hybrid.proofs.Words.{Forward, Machine, MatchKind, nfa_of, reported_at, tape_in}
 use Rattle.automata_base.specs.declared.util.search.MatchKind.TheVariants.{All as KindAll}
 use Rattle.automata_base.proofs.Answers.Total.{tape_units}
 use Rattle.automata_base.proofs.Paths.Finals.{set_right}
 use Rattle.automata_base.proofs.Powersets.PassReports.{reported_is}
 use Rattle.automata_base.proofs.Powersets.ReportsAreRight.{start_below}
-use Rattle.automata_hybrid.specs.Machines.Machine.{Machine}
 use Rattle.automata_hybrid.specs.Pieces.Matching.{MatchesAt, StatesHaveMatching}
-use Rattle.automata_hybrid.specs.Searches.Passes.{tape_in}
 use Rattle.automata_hybrid.proofs.Searches.Units.{forward_units}
 
 pub states_have_matching : (m : Machine) → IsChecked m.nfa → StatesHaveMatching m

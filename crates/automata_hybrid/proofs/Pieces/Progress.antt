@@ -1,40 +1,17 @@
 -- What the calls of a search in pieces make of what their cache knows, from what their parts do.
-use Rattle.std.proofs.Common.{ℕ, ◌≡◌, ◌∙◌, false, sym, ap, subst, cond, inr, Bool, List, Option, Some}
-use Rattle.std.specs.Prelude.{option_map}
-use Rattle.automata_base.specs.Haystacks.Matches.{HalfMatch}
-use Rattle.automata_base.specs.Powersets.Powerset.{Powerset}
-use Rattle.automata_config.specs.declared.error.SearchError.{SearchError}
-use Rattle.automata_hybrid.specs.Cache.Caches.{CacheView, with_store}
-use Rattle.automata_hybrid.specs.Cache.Progress.{progress_finished, progress_started}
-use Rattle.automata_hybrid.specs.Cache.Stores.{with_searched}
-use Rattle.automata_hybrid.specs.Cache.Table.{Names}
-use Rattle.automata_hybrid.specs.Calls.Events.{Step}
-use Rattle.automata_hybrid.specs.Known.Events.{after_event, with_new_row}
-use Rattle.automata_hybrid.specs.Known.Known.{begun, cleared, ended, moved}
-use Rattle.automata_hybrid.specs.Known.Passes.{ReadFails}
-use Rattle.automata_hybrid.specs.Known.Pieces.{AtByte, AtEnd, EndsAnswer, FailsAtEnd, GoesOn, LeavesAnswer, LeavesPiece}
-use Rattle.automata_hybrid.specs.Known.Stores.{known_of}
-use Rattle.automata_hybrid.specs.Known.Walks.{with_row_back}
-use Rattle.automata_hybrid.specs.Machines.Machine.{Machine}
+use Rattle.std.proofs.Common.{ℕ, ◌≡◌, ◌∙◌, sym, ap, subst, Bool, List, Option, Some}
+use Rattle.automata_hybrid.proofs.Words.{after_event, begun, CacheView, ended, HalfMatch, known_of, Machine, moved}
+use Rattle.automata_hybrid.proofs.Words.{Names, option_map, progress_finished, progress_started, ReadFails, SearchError}
+use Rattle.automata_hybrid.proofs.Words.{Step, with_searched, with_store}
+use Rattle.automata_hybrid.specs.Known.Pieces.{AtByte, AtEnd, AnswerEnds, FailsAtEnd, GoesOn, AnswerFails, PieceFails}
 use Rattle.automata_hybrid.specs.Pieces.State.{PiecesView}
 use Rattle.automata_hybrid.specs.Private.Pieces.State.{HasResumed}
 use Rattle.automata_hybrid.specs.Searches.PieceRuns.{piece_input, piece_trace}
-use Rattle.automata_hybrid.specs.Private.Searches.PieceRuns.{IsEndAlong, IsOverAlong, IsPieceEnd, IsPieceStopped}
+use Rattle.automata_hybrid.specs.Private.Searches.PieceRuns.{IsEndAlong, IsOverAlong, IsPieceEnd, PieceFailsAtUnit}
 use Rattle.automata_hybrid.specs.Private.Searches.PieceRuns.{IsThroughAlong}
 use Rattle.automata_hybrid.specs.Private.Searches.Units.{FailsToRead, HasRead}
 use Rattle.automata_hybrid.specs.declared.search.pieces.PieceEnd.{PieceEnd}
 use Rattle.automata_hybrid.specs.declared.search.pieces.PieceEnd.TheVariants.{Over, At}
-use Rattle.automata_hybrid.proofs.Known.Rooms.{state_there}
-
--- a state that has a row is not put back
-pub row_there :
-    (m : Machine) (q : Powerset) (id : ℕ) (c : CacheView) → Names c.store.table id q
-    → with_row_back m q (known_of c) ≡ Some (known_of c)
-row_there m q id c named =
-    ap
-    (λ b. cond b (Some (known_of c))
-    (with_new_row m (cleared (known_of c)) (record { state = q; started = false }) (known_of c)))
-    (state_there c.store c.count id q (inr named))
 
 -- a search goes on
 module _ {m : Machine} {p : PiecesView} {old row : CacheView} {id : ℕ} (on : HasResumed m p old row id) where
@@ -56,7 +33,7 @@ module _ {m : Machine} {p : PiecesView} {old row : CacheView} {id : ℕ} (on : H
     pub answer_ends :
         {ahead : Option ℕ} {next : ℕ} {mid new : CacheView} → HasRead m id ahead at begins mid next
         → new ≡ with_store mid (with_searched mid.store (progress_finished mid.store.searched at))
-        → EndsAnswer m ahead p (known_of old) (known_of new)
+        → AnswerEnds m ahead p (known_of old) (known_of new)
     answer_ends {ahead} {next} {mid} {new} read end =
         AtEnd on.state (known_of begins) begun_there read.answer.clean
         (subst
@@ -69,7 +46,7 @@ module _ {m : Machine} {p : PiecesView} {old row : CacheView} {id : ℕ} (on : H
     -- or not
     pub answer_left :
         {ahead : Option ℕ} {e : SearchError} {new : CacheView} → FailsToRead m id ahead at at begins new e
-        → LeavesAnswer m ahead p (known_of old) (known_of new) e
+        → AnswerFails m ahead p (known_of old) (known_of new) e
     answer_left {ahead} {e} {new} fails =
         FailsAtEnd on.state (known_of begins) begun_there
         (subst (λ a. ReadFails m on.state ahead a a a (known_of begins) (known_of new) e) reads
@@ -106,9 +83,9 @@ module _ {m : Machine} {p : PiecesView} {old row : CacheView} {id : ℕ} (on : H
         through (run_ends end run)
 
     pub run_left :
-        {base : ℕ} {e : SearchError} → base ≡ p.read → IsPieceStopped m piece earliest id base row new e
-        → LeavesPiece m piece p (known_of old) (known_of new) e
+        {base : ℕ} {e : SearchError} → base ≡ p.read → PieceFailsAtUnit m piece earliest id base row new e
+        → PieceFails m piece p (known_of old) (known_of new) e
     run_left {base} {e} reads stopped =
         AtByte on.state (begun 0 (known_of row)) (goes_on 0)
-        (subst (λ b. IsPieceStopped m piece p.earliest id b row new e) reads
-        (subst (λ v. IsPieceStopped m piece v id base row new e) first stopped) on.state on.named)
+        (subst (λ b. PieceFailsAtUnit m piece p.earliest id b row new e) reads
+        (subst (λ v. PieceFailsAtUnit m piece v id base row new e) first stopped) on.state on.named)

@@ -2,29 +2,19 @@
 use Rattle.std.proofs.Common.{ℕ, zero, suc, ◌≡◌, ◌<◌, ◌≤◌, ◌+◌, ◌-◌, ◌^◌, ◌⊎◌, inl, inr, Bool, true, false, List, []}
 use Rattle.std.proofs.Common.{◌∷◌, length, Option, Some, None, refl, sym, ap, ap₂, ◌∙◌, subst, arith}
 use Rattle.std.proofs.lemmas.Bool.{cases_lt}
-use Rattle.std.specs.Prelude.{IfSome, slice_get}
-use Rattle.automata_base.specs.ByteClasses.Classes.{is_quit}
-use Rattle.automata_base.specs.Haystacks.Input.{Input}
-use Rattle.automata_base.specs.Haystacks.Matches.{HalfMatch}
+use Rattle.automata_hybrid.proofs.Words.{earlier_or, first_among, first_reported, Forward, half_of, HalfMatch}
+use Rattle.automata_hybrid.proofs.Words.{HasReadNoQuit, IfSome, Input, is_quit, Machine, match_kind_of, next, Pair}
+use Rattle.automata_hybrid.proofs.Words.{pair_at, Powerset, reported_at, reported_in, reported_upto, slice_get}
+use Rattle.automata_hybrid.proofs.Words.{state_in, successor, tape_in}
 use Rattle.automata_base.specs.Haystacks.Tapes.{forward_tape}
-use Rattle.automata_base.specs.Paths.Paths.{next}
-use Rattle.automata_base.specs.Paths.Selections.{Pair}
-use Rattle.automata_base.specs.Powersets.Powerset.{Powerset}
-use Rattle.automata_base.specs.Retraced.Passes.{earlier_or, first_among, first_reported, last_among, last_reported}
-use Rattle.automata_base.specs.Retraced.Passes.{pair_at, reported_at, reported_upto}
-use Rattle.automata_base.specs.Retraced.Steps.{successor}
-use Rattle.automata_base.specs.declared.util.search.Direction.TheVariants.{Forward}
+use Rattle.automata_base.specs.Retraced.Passes.{last_among, last_reported}
 use Rattle.automata_base.proofs.Answers.Bytes.{forward_next, nth_between}
-use Rattle.automata_config.specs.Options.{match_kind_of}
-use Rattle.automata_hybrid.specs.Machines.Machine.{Machine}
 use Rattle.automata_hybrid.specs.Pieces.Answers.{IsPieceAt, from_first}
 use Rattle.automata_hybrid.specs.Private.Pieces.State.{found_in}
 use Rattle.automata_hybrid.specs.Searches.PieceRuns.{piece_input, piece_state, piece_trace}
 use Rattle.automata_hybrid.specs.Searches.Traces.{reported_along}
-use Rattle.automata_hybrid.specs.Searches.PassState.{half_of}
-use Rattle.automata_hybrid.specs.Searches.Passes.{HasReadNoQuit, reported_in, state_in, tape_in}
 use Rattle.automata_hybrid.proofs.Searches.PassState.{state_more}
-use Rattle.automata_hybrid.proofs.Searches.Traces.{half_none}
+use Rattle.automata_hybrid.proofs.Searches.Traces.{half_of_none, earlier_none}
 
 -- a pair whose place is counted from another one
 abbrev pub shifted : ℕ → Option Pair → Option Pair
@@ -48,16 +38,12 @@ last_split R S n (suc k) same =
     go [] = refl
     go (p ∷ ps) = refl
 
-earlier_none : (o : Option Pair) → o ≡ earlier_or o None
-earlier_none None = refl
-earlier_none (Some pair) = refl
-
 -- the first of them
 first_split :
     (R S : ℕ → List ℕ) (n k : ℕ) → ((i : ℕ) → i < k → R (n + i) ≡ S i)
     → first_among R (n + k) ≡ earlier_or (first_among R n) (shifted n (first_among S k))
 first_split R S n zero same =
-    let none : n + 0 ≡ n = omega arith in ap (first_among R) none ∙ earlier_none (first_among R n)
+    let none : n + 0 ≡ n = omega arith in ap (first_among R) none ∙ sym (earlier_none (first_among R n))
 first_split R S n (suc k) same =
     let more : n + suc k ≡ suc (n + k) = omega arith in
     ap (first_among R) more
@@ -100,7 +86,7 @@ half_joined input own n false None before found at_0 same first = sym same
 half_joined input own n false (Some pair) before found at_0 same first = half_shifted input own n pair found at_0
 half_joined input own n true piece before found at_0 same first =
     ap (λ o. half_of Forward input (earlier_or o (shifted n piece)))
-    (half_none Forward input before (sym same ∙ ap (from_first input.start) (first refl)))
+    (half_of_none Forward input before (sym same ∙ ap (from_first input.start) (first refl)))
     ∙ go piece
   where
     go :

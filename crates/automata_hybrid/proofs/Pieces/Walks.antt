@@ -2,39 +2,25 @@
 use Rattle.std.proofs.Common.{ℕ, zero, suc, ◌≡◌, ◌<◌, ◌≤◌, ◌+◌, ◌-◌, ◌^◌, ◌⊎◌, inl, inr, Bool, true, List, [], ◌∷◌}
 use Rattle.std.proofs.Common.{length, Option, Some, None, refl, sym, ap, ap₂, ◌∙◌, subst, arith}
 use Rattle.std.proofs.lemmas.Bool.{cases_lt}
-use Rattle.automata_base.specs.Haystacks.Input.{Input}
-use Rattle.automata_base.specs.Haystacks.Matches.{HalfMatch}
-use Rattle.automata_base.specs.Paths.Paths.{next}
-use Rattle.automata_base.specs.Paths.Selections.{Pair}
-use Rattle.automata_base.specs.Powersets.Powerset.{Powerset, dead}
-use Rattle.automata_base.specs.Retraced.Passes.{earlier_or, first_among, pair_at}
-use Rattle.automata_base.specs.Retraced.Steps.{successor}
-use Rattle.automata_base.specs.declared.util.search.Anchored.{Anchored}
-use Rattle.automata_base.specs.declared.util.search.Direction.TheVariants.{Forward}
+use Rattle.automata_hybrid.proofs.Words.{Anchored, CacheView, dead, earlier_or, first_among, Forward, half_at, half_of}
+use Rattle.automata_hybrid.proofs.Words.{HalfMatch, HasDeadTag, HasReadNoQuit, Input, IsAtAlong, IsStartAnswer, Known}
+use Rattle.automata_hybrid.proofs.Words.{Leads, LeadsToDead, LeadsToNamed, Machine, match_kind_of, Names, next, Pair}
+use Rattle.automata_hybrid.proofs.Words.{pair_at, Powerset, Rows, Skips, state_in, successor, tape_in}
 use Rattle.automata_base.proofs.Paths.Orders.{none_some, some_inj, some_none}
-use Rattle.automata_config.specs.Options.{match_kind_of}
-use Rattle.automata_hybrid.specs.Cache.Caches.{CacheView}
-use Rattle.automata_hybrid.specs.Cache.Ids.{HasDeadTag}
-use Rattle.automata_hybrid.specs.Cache.Table.{Leads, Names, Rows}
-use Rattle.automata_hybrid.specs.Known.Known.{Known}
 use Rattle.automata_hybrid.specs.Known.Pieces.{AnswerStands, DiesThere, FindsThere, ReadsPieceUpto}
-use Rattle.automata_hybrid.specs.Machines.Machine.{Machine}
 use Rattle.automata_hybrid.specs.Pieces.Answers.{IsPieceAt, from_first}
 use Rattle.automata_hybrid.specs.Pieces.State.{PiecesView}
 use Rattle.automata_hybrid.specs.Private.Pieces.State.{found_in}
 use Rattle.automata_hybrid.specs.Pieces.Walks.{AtMatch, AtPieceEnd, EndsWith, HasBegunWalk, HasWalked, IsAtMatch}
 use Rattle.automata_hybrid.specs.Pieces.Walks.{HasNoMatch, IsWalked, patterns_at, patterns_here}
 use Rattle.automata_hybrid.specs.Private.Pieces.Walks.{StandsInRow}
-use Rattle.automata_hybrid.specs.Searches.PassState.{IsAtAlong, half_at, half_of}
-use Rattle.automata_hybrid.specs.Searches.Passes.{HasReadNoQuit, Skips, state_in, tape_in}
 use Rattle.automata_hybrid.specs.Searches.PieceRuns.{piece_input, piece_state, piece_trace}
 use Rattle.automata_hybrid.specs.Private.Searches.Units.{IsReadAnswer}
-use Rattle.automata_hybrid.specs.Steps.Starts.{IsStartAnswer}
 use Rattle.automata_hybrid.proofs.Pieces.Answers.{leads_begin, may_begin}
 use Rattle.automata_hybrid.proofs.Pieces.Runs.{pass_clean, pass_next, pass_state}
 use Rattle.automata_hybrid.proofs.Searches.Directions.{begins_alive, begins_dead}
 use Rattle.automata_hybrid.proofs.Searches.PassState.{dead_more, starts_at, state_more}
-use Rattle.automata_hybrid.proofs.Searches.Traces.{half_none, pair_half}
+use Rattle.automata_hybrid.proofs.Searches.Traces.{half_of_none, pair_half}
 use Rattle.automata_hybrid.proofs.Searches.Units.{forward_unit}
 
 -- what a walk that begins in a mode after a byte is to one over an input
@@ -111,10 +97,6 @@ first_last :
     → half_of Forward input (first_among R (suc k)) ≡ half_at (R k) (input.start + k) None
 first_last input R k e =
     ap (λ o. half_of Forward input (earlier_or o (pair_at (R k) k None))) e ∙ pair_half Forward input (R k) k None
-
-none_half : (ps : List ℕ) (at : ℕ) → half_at ps at None ≡ None → ps ≡ []
-none_half [] at e = refl
-none_half (p ∷ ps) at e = absurd (some_none e)
 
 half_empty : (ps : List ℕ) (at : ℕ) → ps ≡ [] → half_at ps at None ≡ None
 half_empty [] at e = refl
@@ -217,7 +199,7 @@ module _ (m : Machine) (q : Powerset) (piece : List ℕ) (old new : PiecesView) 
         let none : first_among states (length piece) ≡ None =
         sym (reported_is (length piece))
         ∙ (sym (ap (piece_trace m piece old.earliest q).reported all)
-        ∙ half_none Forward (piece_input piece old.earliest) _ (sym at.reported ∙ at.nothing early)) in (
+        ∙ half_of_none Forward (piece_input piece old.earliest) _ (sym at.reported ∙ at.nothing early)) in (
           record {
             plain = given.plain;
             within = let h = here.within in omega (arith, h);
@@ -260,22 +242,22 @@ module _ (m : Machine) (q : Powerset) (piece : List ℕ) (old new : PiecesView) 
           ∙ first_last (piece_input piece old.earliest) states i before)
 
       -- what it finds is why it stops: if nothing, the state is dead
-      pub dead_upto : found ≡ None → piece_state m piece q (suc i) ≡ dead
+      dead_upto : found ≡ None → piece_state m piece q (suc i) ≡ dead
       dead_upto none = go upto.over where
         go :
             AnswerStands (piece_trace m piece old.earliest q) (piece_input piece old.earliest) i
             → piece_state m piece q (suc i) ≡ dead
         go (DiesThere dies) = dies
         go (FindsThere early some) =
-            absurd (some (half_none Forward (piece_input piece old.earliest) _ (sym reported ∙ none)))
+            absurd (some (half_of_none Forward (piece_input piece old.earliest) _ (sym reported ∙ none)))
 
       -- else the state has a row
       pub named_upto :
           (t : Rows) (id : ℕ) → (found ≡ None → ⊥) → Leads t id (piece_state m piece q (suc i))
           → Names t id (piece_state m piece q (suc i))
-      named_upto t id some (inl dies) =
-          absurd (some (found_is ∙ half_empty (states i) (0 + i) (ap (λ (p : Powerset). p.patterns) dies.1)))
-      named_upto t id some (inr named) = named
+      named_upto t id some (LeadsToDead is dies) =
+          absurd (some (found_is ∙ half_empty (states i) (0 + i) (ap (λ (p : Powerset). p.patterns) dies)))
+      named_upto t id some (LeadsToNamed named) = named
 
       -- after it nothing matches
       pub walks_dead :

@@ -1,15 +1,13 @@
 -- Searches whose pieces are the whole haystack.
 use Rattle.std.proofs.Common.{ℕ, ◌≡◌, ◌+◌, ◌-◌, Bool, List, [], ◌∷◌, ◌++◌, length, take, drop, Option, Some, None, refl}
-use Rattle.std.proofs.Common.{sym, ap, ap₂, ◌∙◌, subst, arith}
+use Rattle.std.proofs.Common.{sym, ap, ap₂, ◌∙◌, subst, arith, append-nil}
 use Rattle.std.proofs.lemmas.List.{append_assoc, length-append}
+use Rattle.std.proofs.lemmas.Option.{slice_get_past}
 use Rattle.std.proofs.Math.Seq.{drop-append_seam, take-append_seam}
-use Rattle.automata_base.specs.Haystacks.Matches.{HalfMatch}
-use Rattle.automata_base.specs.declared.util.search.Anchored.{Anchored}
-use Rattle.automata_hybrid.specs.Machines.Machine.{Machine}
+use Rattle.automata_hybrid.proofs.Words.{Anchored, HalfMatch, Machine}
 use Rattle.automata_hybrid.specs.Pieces.Answers.{IsPieceAt, IsWhole, WasGiven, from_first}
 use Rattle.automata_hybrid.specs.Pieces.State.{PiecesView}
 use Rattle.automata_hybrid.specs.Pieces.Whole.{HasReadAll, PiecesAreWhole, bytes_of_pieces, whole_input}
-use Rattle.automata_hybrid.proofs.Searches.Units.{nth_past}
 
 -- a piece stands where it was put together
 piece_at : (mode : Anchored) (earliest : Bool) (xs piece rest : List ℕ)
@@ -48,10 +46,6 @@ given_all m mode earliest (piece ∷ earlier) p rest (before, read, on) =
     (given_all m mode earliest earlier before (piece ++ rest) read)
     (piece_at mode earliest (bytes_of_pieces earlier) piece rest)))
 
-append_none : (xs : List ℕ) → xs ++ [] ≡ xs
-append_none [] = refl
-append_none (x ∷ xs) = ap (λ (ys : List ℕ). x ∷ ys) (append_none xs)
-
 first_zero : (half : Option HalfMatch) → from_first 0 half ≡ half
 first_zero None = refl
 first_zero (Some half) =
@@ -65,9 +59,9 @@ pieces_are_whole m mode earliest pieces p half bytes read ends =
       bytes = bytes;
       given =
           subst (λ n. WasGiven m (whole_input h mode earliest) n p) all
-          (subst (λ (ys : List ℕ). WasGiven m (whole_input ys mode earliest) (length h) p) (append_none h)
+          (subst (λ (ys : List ℕ). WasGiven m (whole_input ys mode earliest) (length h) p) (append-nil h)
           (given_all m mode earliest pieces p [] read));
-      followed = nth_past h (length h) (omega arith);
+      followed = slice_get_past h (length h) (omega arith);
     }))
   where
     h : List ℕ

@@ -1,15 +1,11 @@
 -- A search finds one answer, and walks report one list.
 use Rattle.std.proofs.Common.{◌∙◌, List, sym, subst}
-use Rattle.automata_base.specs.Nfas.Nodes.{Automaton}
-use Rattle.automata_base.specs.Paths.Selections.{Pair}
+use Rattle.automata_hybrid.proofs.Words.{Automaton, Machine, match_kind_of, MatchKind, Pair, WalksAreReported}
 use Rattle.automata_base.specs.Answers.OfPasses.{IsReported, ReportedIsOne}
-use Rattle.automata_base.specs.Laws.Walks.{AreReported, WalksAreReported}
-use Rattle.automata_base.specs.declared.util.search.MatchKind.{MatchKind}
+use Rattle.automata_base.specs.Laws.Walks.{AreReported}
 use Rattle.automata_hybrid.specs.Searches.Agreement.{AnswersAgree, WalksAgree}
-use Rattle.automata_hybrid.specs.Machines.Machine.{Machine}
 use Rattle.automata_hybrid.specs.Walks.Answers.{AreWalked}
 use Rattle.automata_hybrid.proofs.Searches.Skips.{found_reported}
-use Rattle.automata_config.specs.Options.{match_kind_of}
 
 pub answers_agree : ReportedIsOne → AnswersAgree
 answers_agree one way m other input first second nfa kind f s =

@@ -1,18 +1,11 @@
 -- Answers lie in their span.
 use Rattle.std.proofs.Common.{ℕ, ◌≡◌, ◌≤◌, Option, Some, None, length, sym, subst}
-use Rattle.std.specs.Prelude.{Result, Ok, Err, IfOk, IfSome, option_map}
-use Rattle.automata_base.specs.Answers.Answers.{Half}
-use Rattle.automata_base.specs.Haystacks.Input.{Input}
-use Rattle.automata_base.specs.Haystacks.Matches.{HalfMatch}
-use Rattle.automata_base.specs.declared.util.search.Direction.{Direction}
-use Rattle.automata_base.specs.declared.util.search.Direction.TheVariants.{Forward}
-use Rattle.automata_base.specs.Answers.Within.{ReportedLiesWithin}
-use Rattle.automata_config.specs.declared.error.SearchError.{SearchError}
-use Rattle.automata_hybrid.specs.Machines.Machine.{Machine}
-use Rattle.automata_hybrid.specs.Searches.Passes.{IsFound, WithoutBase, with_base, without_base}
+use Rattle.automata_hybrid.proofs.Words.{Direction, Err, Forward, Half, HalfMatch, IfOk, IfSome, Input, IsFound}
+use Rattle.automata_hybrid.proofs.Words.{Machine, match_kind_of, Ok, option_map, ReportedLiesWithin, Result}
+use Rattle.automata_hybrid.proofs.Words.{SearchError, with_base, WithoutBase}
+use Rattle.automata_hybrid.specs.Searches.Passes.{without_base}
 use Rattle.automata_hybrid.specs.Searches.Bounds.{LiesIn, LiesPast}
 use Rattle.automata_hybrid.proofs.Searches.Skips.{found_reported}
-use Rattle.automata_config.specs.Options.{match_kind_of}
 use Rattle.automata_base.proofs.Paths.Orders.{some_inj, some_none}
 use Rattle.automata_base.proofs.Answers.Within.{reported_within}
 use Rattle.automata_base.specs.Answers.Within.{IsInSpan}

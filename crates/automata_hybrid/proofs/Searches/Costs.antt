@@ -1,13 +1,9 @@
 -- What the passes of a search cost.
-use Rattle.std.proofs.Common.{ℕ, zero, suc, ◌≡◌, ◌<◌, ◌≤◌, ◌+◌, ◌*◌, ◌-◌, ◌⊎◌, inl, inr, Option, refl, sym, ap, subst}
+use Rattle.std.proofs.Common.{ℕ, zero, suc, ◌≡◌, ◌<◌, ◌≤◌, ◌+◌, ◌*◌, ◌-◌, ◌⊎◌, inl, inr, Option, refl, sym, subst}
 use Rattle.std.proofs.Common.{arith, eq-or-lt_of_le}
-use Rattle.automata_base.specs.Answers.Answers.{Tries, later}
-use Rattle.automata_base.specs.declared.util.search.Anchored.TheVariants.{No}
-use Rattle.automata_base.specs.Haystacks.Input.{Input}
-use Rattle.automata_base.specs.Paths.Selections.{Pair}
-use Rattle.automata_base.specs.declared.util.search.Direction.{Direction}
-use Rattle.automata_base.specs.declared.util.search.Direction.TheVariants.{Forward, Backward}
-use Rattle.automata_hybrid.specs.Searches.Follows.{passes_most}
+use Rattle.automata_hybrid.proofs.Words.{Direction, Input, IsFirstSpan, Pair, Tries}
+use Rattle.automata_base.specs.Answers.Answers.{MayTry, SkipsToIt}
+use Rattle.automata_hybrid.specs.Known.Follows.{passes_most}
 
 -- one pass more
 pub most_more :
@@ -50,13 +46,6 @@ tries_before T S way input j k l tries = record {
   comes = first tries.comes;
   before = λ i less. tries.before i (omega (arith, less, l));
 } where
-  first : (k ≡ 0) ⊎ (S × (input.anchored ≡ No)) → (j ≡ 0) ⊎ (S × (input.anchored ≡ No))
-  first (inl e) = inl (omega (arith, e, l))
-  first (inr free) = inr free
-
--- the first span that is tried is the input's
-pub later_none : (way : Direction) (input : Input) → later way 0 input ≡ input
-later_none Forward input =
-    let same : input.start + 0 ≡ input.start = omega arith in ap (λ n. record input { start = n }) same
-later_none Backward input =
-    let same : input.end - 0 ≡ input.end = omega arith in ap (λ n. record input { end = n }) same
+  first : MayTry S input k → MayTry S input j
+  first (IsFirstSpan e) = IsFirstSpan (omega (arith, e, l))
+  first (SkipsToIt skips free) = SkipsToIt skips free

@@ -1,22 +1,12 @@
 -- The directions of a search: the units at its places and their offsets, and where it begins.
-use Rattle.std.specs.Prelude.{IsBitSet, slice_get}
+use Rattle.automata_hybrid.proofs.Words.{Backward, byte_before, dead, Direction, Forward, given_up_offset, Input}
+use Rattle.automata_hybrid.proofs.Words.{is_quit, IsBitSet, later, Leads, Machine, Names, next, offset_in, Powerset}
+use Rattle.automata_hybrid.proofs.Words.{Rows, slice_get, start_state_of, state_in, tape_in, unit_offset}
 use Rattle.std.proofs.Common.{ℕ, suc, ◌≡◌, ◌∙◌, ◌+◌, ◌-◌, ◌≤◌, ◌<◌, ◌^◌, false, List, length, take, drop, get_or}
 use Rattle.std.proofs.Common.{Option, Some, refl, sym, ap, subst, arith}
 use Rattle.std.proofs.lemmas.Simd.{get_or-chunk, length-chunk}
-use Rattle.automata_base.specs.Answers.Answers.{later, offset_in}
-use Rattle.automata_base.specs.ByteClasses.Classes.{is_quit}
-use Rattle.automata_base.specs.Haystacks.Input.{Input}
-use Rattle.automata_base.specs.Paths.Paths.{next}
-use Rattle.automata_base.specs.Powersets.Powerset.{Powerset, dead}
-use Rattle.automata_base.specs.Retraced.Steps.{start_state_of}
-use Rattle.automata_base.specs.Haystacks.Tapes.{byte_before}
-use Rattle.automata_base.specs.declared.util.search.Direction.{Direction}
-use Rattle.automata_base.specs.declared.util.search.Direction.TheVariants.{Forward, Backward}
 use Rattle.automata_base.proofs.Paths.Orders.{some_inj}
-use Rattle.automata_hybrid.specs.Machines.Machine.{Machine}
-use Rattle.automata_hybrid.specs.Searches.Passes.{given_up_offset, state_in, tape_in, unit_offset}
-use Rattle.automata_hybrid.specs.Private.Searches.SelfLoops.{byte_in}
-use Rattle.automata_hybrid.specs.Cache.Table.{Rows, Leads, Names}
+use Rattle.automata_hybrid.specs.Private.Fast.SelfLoops.{byte_in}
 use Rattle.automata_hybrid.proofs.Searches.PassState.{state_first}
 use Rattle.automata_hybrid.proofs.Steps.Ids.{dead_tagged}
 use Rattle.automata_hybrid.proofs.Searches.Units.{backward_read, backward_unit, backward_units, forward_read}

@@ -1,12 +1,8 @@
 -- How many bytes a pass reads, and how many one that begins later.
 use Rattle.std.proofs.Common.{ℕ, ◌-◌, ◌≤◌, List, length, arith, drop}
 use Rattle.std.proofs.lemmas.List.{length-reverse, length-take}
-use Rattle.automata_base.specs.Answers.Answers.{later}
-use Rattle.automata_base.specs.Haystacks.Input.{Input}
+use Rattle.automata_hybrid.proofs.Words.{Backward, Direction, Forward, Input, later, tape_in}
 use Rattle.automata_base.specs.Haystacks.Tapes.{between}
-use Rattle.automata_base.specs.declared.util.search.Direction.{Direction}
-use Rattle.automata_base.specs.declared.util.search.Direction.TheVariants.{Forward, Backward}
-use Rattle.automata_hybrid.specs.Searches.Passes.{tape_in}
 
 -- a tape has no more bytes than its span
 few_between : (h : List ℕ) (s e : ℕ) → length (between h s e) ≤ e - s

@@ -1,41 +1,22 @@
 -- Units that are read one after another, and the end of a pass after them, by what the cache knows.
 use Rattle.std.proofs.Common.{ℕ, zero, suc, ◌≡◌, ◌∙◌, ◌+◌, ◌-◌, ◌<◌, ◌≤◌, ◌⊎◌, inl, inr, length, Option, Some, true}
 use Rattle.std.proofs.Common.{false, refl, sym, ap, subst, arith, eq-or-lt_of_le}
-use Rattle.std.specs.Prelude.{Result, Ok, Err, option_and_then, option_map}
-use Rattle.automata_base.specs.Answers.Answers.{offset_in}
-use Rattle.automata_base.specs.Haystacks.Input.{Input}
-use Rattle.automata_base.specs.Haystacks.Matches.{HalfMatch}
-use Rattle.automata_base.specs.Paths.Paths.{next}
-use Rattle.automata_base.specs.Powersets.Passes.{IsUnit}
-use Rattle.automata_base.specs.Powersets.Powerset.{Powerset}
-use Rattle.automata_base.specs.declared.util.search.Direction.{Direction}
-use Rattle.automata_config.specs.declared.error.SearchError.{SearchError}
-use Rattle.automata_config.specs.declared.error.StartError.{StartError}
-use Rattle.automata_hybrid.specs.Cache.Caches.{CacheView, with_store}
-use Rattle.automata_hybrid.specs.Private.Cache.Caches.{IsStoreOf}
-use Rattle.automata_hybrid.specs.Cache.Progress.{progress_finished, progress_started}
-use Rattle.automata_hybrid.specs.Cache.Stores.{with_searched}
-use Rattle.automata_hybrid.specs.Cache.Table.{Names}
-use Rattle.automata_hybrid.specs.Calls.Events.{Step}
-use Rattle.automata_hybrid.specs.Known.Events.{after_event, is_cached}
-use Rattle.automata_hybrid.specs.Known.Known.{Known, ended, moved}
+use Rattle.automata_hybrid.proofs.Words.{after_event, after_many, after_unit, behind_offset, CacheView, CannotStart}
+use Rattle.automata_hybrid.proofs.Words.{Direction, ended, Err, FailsLater, given_up_offset, GivesUp, HalfMatch}
+use Rattle.automata_hybrid.proofs.Words.{HasReadNoQuit, Input, is_cached, IsMachine, IsStoreOf, IsUnit, Known, known_of}
+use Rattle.automata_hybrid.proofs.Words.{LacksMemory, LacksMode, Machine, moved, Names, next, offset_in, Ok}
+use Rattle.automata_hybrid.proofs.Words.{option_and_then, option_map, pass_trace, PassFails, Powerset}
+use Rattle.automata_hybrid.proofs.Words.{progress_finished, progress_started, quits_on, QuitsBehind, ReadFails, Reads}
+use Rattle.automata_hybrid.proofs.Words.{Result, SearchError, start_search_error, StartError, state_in, Step, tape_in}
+use Rattle.automata_hybrid.proofs.Words.{Trace, unit_class, unit_event, unit_offset, UnitFails, UnitsEnd, with_searched}
+use Rattle.automata_hybrid.proofs.Words.{with_store}
 use Rattle.automata_hybrid.specs.Known.Known as known
-use Rattle.automata_hybrid.specs.Known.Passes.{CannotStart, FailsAtUnit, FailsLater, GivesUp, LacksMemory, LacksMode}
-use Rattle.automata_hybrid.specs.Known.Passes.{PassFails, QuitsBehind, ReadFails, UnitFails, UnitsEnd, after_many}
-use Rattle.automata_hybrid.specs.Known.Passes.{after_unit}
+use Rattle.automata_hybrid.specs.Known.Passes.{FailsAtUnit}
 use Rattle.automata_hybrid.specs.Known.Steps.{GivesUpOnStart, IsNotSupported, IsQuitBehind, IsStartRun, RunsOutOnStart}
 use Rattle.automata_hybrid.specs.Known.Steps.{StartFails, StartFailsAt}
-use Rattle.automata_hybrid.specs.Known.Stores.{known_of}
-use Rattle.automata_hybrid.specs.Machines.Machine.{Machine, quits_on, unit_class}
-use Rattle.automata_hybrid.specs.Private.Machines.Machine.{IsMachine}
 use Rattle.automata_hybrid.specs.Private.Searches.PassContracts.{IsLastRead, IsPassResult, IsRest}
 use Rattle.automata_hybrid.specs.Private.Searches.PassState.{HasLearnedAlong}
 use Rattle.automata_hybrid.specs.Private.Searches.Units.{StepMakes}
-use Rattle.automata_hybrid.specs.Searches.Passes.{HasReadNoQuit, Reads, behind_offset, given_up_offset, state_in}
-use Rattle.automata_hybrid.specs.Searches.Passes.{tape_in, unit_offset}
-use Rattle.automata_hybrid.specs.Searches.Progress.{unit_event}
-use Rattle.automata_hybrid.specs.Searches.Traces.{Trace, pass_trace}
-use Rattle.automata_hybrid.specs.Steps.Starts.{start_search_error}
 use Rattle.automata_hybrid.proofs.Known.Calls.{after_cached}
 use Rattle.automata_hybrid.proofs.Known.Events.{cached_known}
 use Rattle.automata_hybrid.proofs.Searches.PassState.{reads_before, stops_last}
@@ -52,7 +33,7 @@ abbrev pub GoesTo : Direction → Machine → Input → (from to : ℕ) → (old
 GoesTo way m input from to old new = GoesToAlong (pass_trace way m input) way m input from to old new
 
 -- a transition that was learned is cached
-pub learned_cached :
+learned_cached :
     (s : Trace) (way : Direction) (m : Machine) (input : Input) (k : ℕ) (c : CacheView) → IsMachine m
     → IsUnit (next (tape_in way input) k) → IsStoreOf c.store m → quits_on m (next (tape_in way input) k) ≡ false
     → HasLearnedAlong s way m c.store input k → is_cached m (unit_event s way input k) (known_of c) ≡ true

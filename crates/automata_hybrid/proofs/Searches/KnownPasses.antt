@@ -2,40 +2,37 @@
 use Rattle.std.proofs.Common.{ℕ, suc, ◌≡◌, ◌+◌, ◌-◌, ◌<◌, ◌≤◌, ◌⊎◌, inl, inr, length, Option, None, Some, true, false}
 use Rattle.std.proofs.Common.{refl, sym, ap, subst, arith}
 use Rattle.std.proofs.lemmas.Bool.{cases_lt}
-use Rattle.automata_base.specs.Haystacks.Input.{Input}
-use Rattle.automata_base.specs.Haystacks.Matches.{HalfMatch}
-use Rattle.automata_base.specs.declared.util.search.Direction.{Direction}
-use Rattle.automata_base.specs.Answers.Answers.{offset_in}
-use Rattle.automata_base.specs.Paths.Paths.{next}
-use Rattle.automata_base.specs.Powersets.Passes.{IsUnit}
-use Rattle.automata_base.specs.Powersets.Powerset.{Powerset, dead}
-use Rattle.automata_hybrid.specs.Cache.Caches.{CacheView, IsCacheOf, with_store}
-use Rattle.automata_hybrid.specs.Private.Cache.Caches.{IsStoreOf}
-use Rattle.automata_hybrid.specs.Cache.Progress.{distance, progress_started, saturated, total_len}
-use Rattle.automata_hybrid.specs.Private.Cache.Stores.{IsSoundStore}
-use Rattle.automata_hybrid.specs.Cache.Stores.{with_searched}
-use Rattle.automata_hybrid.specs.Cache.Ids.{HasDeadTag, HasQuitTag, quit_id}
-use Rattle.automata_hybrid.specs.Cache.Table.{Leads, Rows}
+use Rattle.automata_hybrid.proofs.Words.{CacheView, dead, Direction, given_up_offset, half_at, HalfMatch, HasDeadTag}
+use Rattle.automata_hybrid.proofs.Words.{HasReadNoQuit, Input, IsCacheOf, IsMachine, IsStepAnswer, IsStoreOf, IsUnit}
+use Rattle.automata_hybrid.proofs.Words.{known_of, KnowsStep, Leads, Machine, next, offset_in, Powerset}
+use Rattle.automata_hybrid.proofs.Words.{progress_started, quit_id, quits_on, Reads, Rows, saturated, state_in, tape_in}
+use Rattle.automata_hybrid.proofs.Words.{total_len, unit_class, UnitsEnd, with_searched, with_store}
+use Rattle.automata_hybrid.specs.Cache.Progress.{distance}
+use Rattle.automata_hybrid.specs.Private.Cache.Table.{IsSoundTable}
+use Rattle.automata_hybrid.specs.Cache.Ids.{HasQuitTag}
 use Rattle.automata_hybrid.specs.Known.Known as known
-use Rattle.automata_hybrid.specs.Known.Passes.{UnitsEnd}
-use Rattle.automata_hybrid.specs.Known.Stores.{known_of}
-use Rattle.automata_hybrid.specs.Machines.Machine.{Machine, quits_on, unit_class}
-use Rattle.automata_hybrid.specs.Private.Machines.Machine.{IsMachine}
 use Rattle.automata_hybrid.specs.Searches.PassContracts.{IsPassAnswer}
-use Rattle.automata_hybrid.specs.Private.Searches.PassContracts.{IsKnownEnd, IsKnownUpto}
-use Rattle.automata_hybrid.specs.Searches.PassState.{half_at}
+use Rattle.automata_hybrid.specs.Private.Searches.PassContracts.{IsKnownEnd, IsKnownStop, IsKnownUpto}
+use Rattle.automata_hybrid.specs.declared.search.plain.known.KnownStop.{KnownStop}
+use Rattle.automata_hybrid.specs.declared.search.plain.known.KnownStop.TheVariants.{Ended, Left, Missing}
 use Rattle.automata_hybrid.specs.Private.Searches.PassState.{HasLearnedUnit}
-use Rattle.automata_hybrid.specs.Searches.Passes.{HasReadNoQuit, Reads, given_up_offset, state_in, tape_in}
 use Rattle.automata_hybrid.specs.Private.Searches.Units.{IsReadAnswer}
-use Rattle.automata_hybrid.specs.Steps.Steps.{IsStepAnswer}
-use Rattle.automata_hybrid.specs.Private.Steps.Steps.{KnowsStep}
 use Rattle.automata_hybrid.proofs.Searches.PassContracts.{dead_answer, dead_stops, first_answer, first_stops}
 use Rattle.automata_hybrid.proofs.Searches.PassContracts.{last_answer}
 use Rattle.automata_hybrid.proofs.Searches.PassState.{at_reads, more_at, more_leads, reads_before, stops_last}
 use Rattle.automata_hybrid.proofs.Steps.Steps.{no_quit_unit}
-use Rattle.automata_hybrid.proofs.Calls.Laws.{searched_sound}
+use Rattle.automata_hybrid.proofs.Caches.Searched.{searched_sound}
 use Rattle.automata_hybrid.proofs.Steps.Ids.{dead_tagged, unquit}
 use Rattle.automata_hybrid.proofs.Searches.Goes.{goes_known, goes_none, pass_last}
+
+-- a pass over cached transitions that has not ended was led to its place by them
+pub known_upto :
+    (way : Direction) (m : Machine) (c : CacheView) (input : Input) (s : KnownStop) (k id : ℕ)
+    (found : Option HalfMatch)
+    → (s ≡ Ended → ⊥) → IsKnownStop way m c input s k id found → IsKnownUpto way m c.store input k id found
+known_upto way m c input Ended k id found on h = absurd (on refl)
+known_upto way m c input Missing k id found on h = h.0
+known_upto way m c input Left k id found on h = h
 
 -- a unit on which a step leads to an ID without the quit tag is no quit byte
 pub clean_unit :
@@ -83,14 +80,14 @@ module _ (way : Direction) (m : Machine) (input : Input) (k id : ℕ) (c : Cache
 -- a pass stands at a place up to which all was cached, and so is the transition on its unit there, which is no quit
 -- byte
 module _ (way : Direction) (m : Machine) (input : Input) (k id : ℕ) (c : CacheView) (before : Option HalfMatch) (to : ℕ)
-    (of : IsCacheOf c m) (sound : IsSoundStore c.store) (upto : IsKnownUpto way m c.store input k id before)
+    (of : IsCacheOf c m) (sound : IsSoundTable c.store.table) (upto : IsKnownUpto way m c.store input k id before)
     (few : k ≤ length (tape_in way input).bytes) (knows : KnowsStep m c.store id (next (tape_in way input) k))
     (step : IsStepAnswer m id (next (tape_in way input) k) c c to)
     (below : unit_class m (next (tape_in way input) k) < m.stride) (clear : HasQuitTag to → ⊥) where
   answer : IsReadAnswer m id (next (tape_in way input) k) c c to
   answer =
       let clean : quits_on m (next (tape_in way input) k) ≡ false =
-      clean_unit m c.store.table to (next (tape_in way input) k) of sound.small clear
+      clean_unit m c.store.table to (next (tape_in way input) k) of sound.template.small clear
       (step.quit (sound.low id (state_in way m input k) upto.at.at.named)) in
       record { clean = clean; named = step.named clean }
 
@@ -127,7 +124,8 @@ module _ (way : Direction) (m : Machine) (input : Input) (k id : ℕ) (c : Cache
       (dead_answer way m input k id (next (tape_in way input) k) before c c upto.at refl to None answer dies few)
     where
       dies : Leads c.store.table to (state_in way m input (suc k)) → state_in way m input (suc k) ≡ dead
-      dies l = (dead_tagged c.store.table to (sound.low to) sound.small (state_in way m input (suc k)) l).0 dead_to
+      dies l =
+          (dead_tagged c.store.table to (sound.low to) sound.template.small (state_in way m input (suc k)) l).0 dead_to
 
   module _ (half : Option HalfMatch) (at : ℕ) (place : at ≡ offset_in way input k)
       (reports : (q : Powerset) → Leads c.store.table to q → half ≡ half_at q.patterns at before) where
@@ -160,7 +158,8 @@ module _ (way : Direction) (m : Machine) (input : Input) (k id : ℕ) (c : Cache
             more_at way m c.store.table c.store.table input k id to (next (tape_in way input) k) before half upto.at.at
             refl answer.named
             (no_quit_unit m (next (tape_in way input) k) answer.clean) (at, place, reports) first
-            (λ l. (dead_tagged c.store.table to (sound.low to) sound.small (state_in way m input (suc k)) l).1 alive);
+            (λ l. (dead_tagged c.store.table to (sound.low to) sound.template.small
+            (state_in way m input (suc k)) l).1 alive);
       };
       known = λ j less. go j (cases_lt j k) less;
     } where

@@ -1,22 +1,11 @@
 -- What a pass answers, from what its parts answer.
 use Rattle.std.proofs.Common.{ℕ, suc, ◌≡◌, ◌≤◌, length, Option, Some, None, true, false, List, Bool}
-use Rattle.automata_base.specs.Answers.Answers.{offset_in}
-use Rattle.automata_base.specs.ByteClasses.Classes.{is_quit}
-use Rattle.automata_base.specs.Haystacks.Input.{Input}
-use Rattle.automata_base.specs.Haystacks.Matches.{HalfMatch}
-use Rattle.automata_base.specs.declared.util.search.Anchored.{Anchored}
+use Rattle.automata_hybrid.proofs.Words.{Anchored, CacheView, dead, Direction, half_at, HalfMatch, Input, is_quit}
+use Rattle.automata_hybrid.proofs.Words.{Leads, Machine, next, offset_in, Powerset, Reads, state_in, tape_in}
 use Rattle.automata_base.specs.declared.util.search.Span.{Span}
-use Rattle.automata_base.specs.Paths.Paths.{next}
-use Rattle.automata_base.specs.Powersets.Powerset.{Powerset, dead}
-use Rattle.automata_base.specs.declared.util.search.Direction.{Direction}
-use Rattle.automata_hybrid.specs.Cache.Caches.{CacheView}
-use Rattle.automata_hybrid.specs.Machines.Machine.{Machine}
 use Rattle.automata_hybrid.specs.Searches.PassContracts.{IsPassAnswer, IsUnderway}
 use Rattle.automata_hybrid.specs.Private.Searches.PassContracts.{input_at}
-use Rattle.automata_hybrid.specs.Searches.PassState.{half_at}
 use Rattle.automata_hybrid.specs.Private.Searches.Units.{IsReadAnswer}
-use Rattle.automata_hybrid.specs.Searches.Passes.{Reads, state_in, tape_in}
-use Rattle.automata_hybrid.specs.Cache.Table.{Leads}
 use Rattle.automata_hybrid.proofs.Searches.PassState.{clean_dead, clean_ends, clean_last, more_dead, more_ends}
 use Rattle.automata_hybrid.proofs.Searches.PassState.{more_last, stops_dead, stops_ends}
 use Rattle.automata_hybrid.proofs.Steps.Steps.{no_quit_unit}

@@ -1,33 +1,22 @@
 -- What a pass has found so far, unit by unit.
 use Rattle.std.proofs.Common.{ℕ, zero, suc, ◌≡◌, ◌<◌, ◌≤◌, ◌⊎◌, inl, inr, Bool, true, false, [], length, Option, Some}
 use Rattle.std.proofs.Common.{None, refl, sym, ap, ◌∙◌, subst, arith, eq-or-lt_of_le}
-use Rattle.automata_base.specs.Answers.Answers.{offset_in}
-use Rattle.automata_base.specs.Retraced.Passes.{pair_at, earlier_or, state_after, reported_at, first_reported}
-use Rattle.automata_base.specs.Retraced.Passes.{reported_upto}
-use Rattle.automata_base.specs.declared.util.search.MatchKind.{MatchKind}
-use Rattle.automata_base.specs.declared.util.search.Anchored.{Anchored}
-use Rattle.automata_base.specs.Haystacks.Input.{Input}
-use Rattle.automata_base.specs.Haystacks.Matches.{HalfMatch}
-use Rattle.automata_base.specs.Nfas.Nodes.{Automaton}
-use Rattle.automata_base.specs.Paths.Paths.{Tape, next}
-use Rattle.automata_base.specs.Powersets.Powerset.{Powerset, dead}
-use Rattle.automata_base.specs.Paths.Selections.{Pair}
-use Rattle.automata_base.specs.Retraced.Steps.{start_state_of, successor}
-use Rattle.automata_base.specs.declared.util.search.Direction.{Direction}
+use Rattle.automata_hybrid.proofs.Words.{Anchored, Automaton, dead, Direction, earlier_or, Err, first_reported, half_at}
+use Rattle.automata_hybrid.proofs.Words.{half_of, HalfMatch, IfErr, Input, is_quit, is_some, IsAt, Leads, Machine}
+use Rattle.automata_hybrid.proofs.Words.{match_kind_of, MatchKind, Names, next, offset_in, Ok, Pair, pair_at, Powerset}
+use Rattle.automata_hybrid.proofs.Words.{quit_behind, Reads, reported_at, reported_in, reported_upto, Result, Rows}
+use Rattle.automata_hybrid.proofs.Words.{start_state_of, state_in, successor, tape_in}
+use Rattle.automata_base.specs.Retraced.Passes.{state_after}
+use Rattle.automata_base.specs.Paths.Paths.{Tape}
 use Rattle.automata_base.proofs.Powersets.Alike.{dead_stays}
-use Rattle.std.specs.Prelude.{Result, Ok, Err, IfErr, is_some}
 use Rattle.std.specs.Result.{IsErrAnd}
-use Rattle.automata_hybrid.specs.Machines.Machine.{Machine}
-use Rattle.automata_hybrid.specs.Searches.PassState.{half_of, half_at, found_over, IsAt}
-use Rattle.automata_hybrid.specs.Searches.Passes.{MeetsNoQuit, Reads, state_in, tape_in, reported_in}
-use Rattle.automata_hybrid.specs.Steps.Starts.{quit_behind}
-use Rattle.automata_hybrid.specs.Cache.Table.{Rows, Leads, Names}
-use Rattle.automata_base.specs.ByteClasses.Classes.{is_quit}
-use Rattle.automata_config.specs.Options.{match_kind_of}
+use Rattle.automata_hybrid.specs.Searches.PassState.{found_over}
+use Rattle.automata_hybrid.specs.Searches.Passes.{MeetsNoQuit}
 use Rattle.std.proofs.lemmas.Bool.{cases_lt}
-use Rattle.automata_hybrid.proofs.Searches.Traces.{at_along, begins_along, clean_along, half_none, leads_along}
+use Rattle.automata_hybrid.proofs.Searches.Traces.{at_along, begins_along, clean_along, half_of_none, leads_along}
 use Rattle.automata_hybrid.proofs.Searches.Traces.{more_along, none_along, pass_is_trace, quiet_along}
 use Rattle.automata_base.proofs.Paths.Orders.{some_none}
+pub use Rattle.std.proofs.lemmas.Bool.{false≢true as false_true}
 
 -- one unit more
 pub state_more :
@@ -35,9 +24,6 @@ pub state_more :
     → state_in way m input (suc k)
     ≡ successor m.nfa (match_kind_of m.config) (state_in way m input k) (next (tape_in way input) k)
 state_more way m input k = (pass_is_trace way m input).steps k
-
-pub false_true : false ≡ true → ⊥
-false_true e = cc
 
 -- the dead state stays, and reports nothing
 pub dead_more :
@@ -143,7 +129,7 @@ pub at_reads :
 at_reads way m t input k id found at l alive = (
   l,
   alive (state_in way m input k) at.named,
-  λ e. half_none way input (reported_in way m input k)
+  λ e. half_of_none way input (reported_in way m input k)
       (sym at.reported ∙ at.nothing e),
 )
 
@@ -186,7 +172,7 @@ module _ (way : Direction) (m : Machine) (t t' : Rows) (input : Input) (k id id'
   pub more_clean : (j byte : ℕ) → j < suc k → next (tape_in way input) j ≡ Some byte → is_quit m.quits byte ≡ false
   more_clean = clean_along (pass_is_trace way m input) t t' k id id' u found found' at unit reads free
 
-  pub more_found :
+  more_found :
       Reports
       → found' ≡ half_of way input (reported_in way m input (suc k))
   more_found reports = more_along (pass_is_trace way m input) t t' k id id' u found found' at unit reads reports
@@ -284,7 +270,7 @@ pub some_is : (o : Option HalfMatch) → true ≡ is_some o → o ≡ None → �
 some_is None h e = false_true (sym h)
 some_is (Some half) h e = cc
 
-pub none_is : (o : Option HalfMatch) → is_some o ≡ false → o ≡ None
+pub none_is : {T : Type 0} (o : Option T) → is_some o ≡ false → o ≡ None
 none_is None h = refl
 none_is (Some half) h = absurd (false_true (sym h))
 

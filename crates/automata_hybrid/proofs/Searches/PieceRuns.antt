@@ -2,37 +2,21 @@
 -- place before it.
 use Rattle.std.proofs.Common.{ℕ, suc, ◌≡◌, ◌∙◌, ◌+◌, ◌-◌, ◌/◌, ◌%◌, ◌^◌, ◌<◌, Bool, true, List, Option, Some, None}
 use Rattle.std.proofs.Common.{refl, sym, ap, arith, slice_get, subst}
-use Rattle.std.specs.Prelude.{option_map}
-use Rattle.automata_base.specs.Answers.Answers.{offset_in}
-use Rattle.automata_base.specs.Haystacks.Input.{Input}
-use Rattle.automata_base.specs.Haystacks.Matches.{HalfMatch}
+use Rattle.automata_hybrid.proofs.Words.{CacheView, CannotStep, dead, ended, Forward, given_up_offset, GivesUp, half_at}
+use Rattle.automata_hybrid.proofs.Words.{half_of, HalfMatch, Input, IsAtAlong, IsTrace, Known, known_of, LacksMemory}
+use Rattle.automata_hybrid.proofs.Words.{Leads, Machine, MeetsQuit, moved, Names, offset_in, option_map, Powerset}
+use Rattle.automata_hybrid.proofs.Words.{progress_finished, ReadFails, Row, Rows, RowsFitCells, SearchError, Step}
+use Rattle.automata_hybrid.proofs.Words.{tape_in, Trace, with_searched, with_store}
 use Rattle.automata_base.specs.Paths.Paths.{next as unit_of}
-use Rattle.automata_base.specs.Powersets.Powerset.{Powerset, dead}
-use Rattle.automata_base.specs.declared.util.search.Direction.TheVariants.{Forward}
-use Rattle.automata_config.specs.declared.error.SearchError.{SearchError}
-use Rattle.automata_hybrid.specs.Cache.Caches.{CacheView, with_store}
-use Rattle.automata_hybrid.specs.Cache.Progress.{progress_finished}
-use Rattle.automata_hybrid.specs.Cache.Stores.{with_searched}
-use Rattle.automata_hybrid.specs.Private.Cache.Table.{RowsFitCells}
-use Rattle.automata_hybrid.specs.Cache.Table.{Leads, Names, Rows}
-use Rattle.automata_hybrid.specs.Calls.Events.{Step}
-use Rattle.automata_hybrid.specs.Known.Known.{Known, ended, moved}
-use Rattle.automata_hybrid.specs.Known.Passes.{CannotStep, FailsFor, GivesUp, LacksMemory, MeetsQuit, ReadFails}
+use Rattle.automata_hybrid.specs.Known.Passes.{FailsFor}
 use Rattle.automata_hybrid.specs.Known.Pieces.{AnswerStands, DiesThere, FailsAlong, FindsThere, ReadsUptoAlong}
-use Rattle.automata_hybrid.specs.Known.Stores.{known_of}
-use Rattle.automata_hybrid.specs.Machines.Machine.{Machine}
-use Rattle.automata_hybrid.specs.Searches.PassState.{IsAtAlong, half_at, half_of}
-use Rattle.automata_hybrid.specs.Searches.Passes.{given_up_offset, tape_in}
 use Rattle.automata_hybrid.specs.Searches.PieceRuns.{ReadsAlong, piece_input, piece_trace}
 use Rattle.automata_hybrid.specs.Private.Searches.PieceRuns.{HasOffset, IsOverAlong, error_from}
-use Rattle.automata_hybrid.specs.Searches.Traces.{Trace}
-use Rattle.automata_hybrid.specs.Private.Searches.Traces.{IsTrace}
 use Rattle.automata_hybrid.specs.Private.Searches.Units.{FailsToRead, HasRead}
-use Rattle.automata_hybrid.specs.declared.cache.row.Row.{Row}
 use Rattle.automata_hybrid.proofs.Caches.Places.{Names-Placed, Placed-HasState}
 use Rattle.automata_hybrid.proofs.Searches.Directions.{quit_free}
 use Rattle.automata_hybrid.proofs.Searches.Goes.{GoesToAlong, ended_here, goes_all, goes_more, left_along, taken_along}
-use Rattle.automata_hybrid.proofs.Searches.Traces.{at_along, clean_along, half_none, leads_along, more_along}
+use Rattle.automata_hybrid.proofs.Searches.Traces.{at_along, clean_along, half_of_none, leads_along, more_along}
 use Rattle.automata_hybrid.proofs.Searches.Traces.{quiet_along}
 
 -- a run that has come to a byte, from an ID that names its state there
@@ -45,7 +29,7 @@ module _ {s : Trace} {m : Machine} {input : Input} (trace : IsTrace Forward m in
   reads_here alive = (
     inside,
     alive (s.state k) at.named,
-    λ e. half_none Forward input (s.reported k) (sym at.reported ∙ at.nothing e),
+    λ e. half_of_none Forward input (s.reported k) (sym at.reported ∙ at.nothing e),
   )
 
   -- the byte was not read

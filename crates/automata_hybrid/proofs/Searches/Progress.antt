@@ -1,16 +1,12 @@
 -- The spans that a search tries.
-use Rattle.std.proofs.Common.{ℕ, suc, ◌+◌, ◌≤◌, inl, refl, arith}
-use Rattle.automata_base.specs.Answers.Answers.{Tries}
-use Rattle.automata_base.specs.Haystacks.Input.{Input}
-use Rattle.automata_base.specs.declared.util.search.Direction.{Direction}
-use Rattle.automata_hybrid.specs.Machines.Machine.{Machine}
+use Rattle.std.proofs.Common.{ℕ, suc, ◌+◌, ◌≤◌, refl, arith}
+use Rattle.automata_hybrid.proofs.Words.{Direction, Finds, Input, IsFirstSpan, Machine, Skips, Tries}
 use Rattle.automata_hybrid.specs.Searches.Progress.{TriesSpans}
-use Rattle.automata_hybrid.specs.Searches.Passes.{Finds, Skips}
 use Rattle.automata_hybrid.proofs.Searches.Costs.{tries_before}
 
 -- it tries the first one
 pub tries_first : (way : Direction) (m : Machine) (input : Input) → Tries (Finds way m) (Skips m) way input 0
-tries_first way m input = record { comes = inl refl; before = λ j less. absurd (omega (arith, less)) }
+tries_first way m input = record { comes = IsFirstSpan refl; before = λ j less. absurd (omega (arith, less)) }
 
 -- the spans before one that a search tries
 pub spans_before :

@@ -1,18 +1,9 @@
 -- The bytes that a pass over a span may look at: those of the span, and the one on either side.
 use Rattle.std.proofs.Common.{ℕ, zero, suc, ◌≡◌, ◌∙◌, ◌≤◌, ◌+◌, ◌-◌, Bool, true, false, cond, length, Option, Some}
 use Rattle.std.proofs.Common.{None, refl, sym, ap, subst, arith}
-use Rattle.automata_base.specs.Answers.Answers.{later}
-use Rattle.automata_base.specs.ByteClasses.Classes.{is_quit}
-use Rattle.automata_base.specs.Haystacks.Input.{Input}
-use Rattle.std.specs.Prelude.{slice_get}
-use Rattle.automata_base.specs.Paths.Paths.{next}
-use Rattle.automata_base.specs.Haystacks.Tapes.{byte_before}
-use Rattle.automata_base.specs.declared.util.search.Direction.{Direction}
-use Rattle.automata_base.specs.declared.util.search.Direction.TheVariants.{Forward, Backward}
+use Rattle.automata_hybrid.proofs.Words.{Backward, byte_before, Direction, Forward, Input, is_quit, later, Machine}
+use Rattle.automata_hybrid.proofs.Words.{next, quit_behind, slice_get, tape_in}
 use Rattle.automata_base.proofs.Paths.Orders.{some_inj, none_some}
-use Rattle.automata_hybrid.specs.Machines.Machine.{Machine}
-use Rattle.automata_hybrid.specs.Searches.Passes.{tape_in}
-use Rattle.automata_hybrid.specs.Steps.Starts.{quit_behind}
 use Rattle.automata_hybrid.proofs.Searches.Units.{forward_unit, forward_units, backward_unit, backward_units}
 
 -- a byte of the haystack in reach of a span

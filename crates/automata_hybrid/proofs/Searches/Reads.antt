@@ -1,26 +1,16 @@
 -- Units that a search reads from an ID, from what the step on each answers and changes.
 use Rattle.std.proofs.Common.{ℕ, ◌≡◌, ◌∙◌, ◌<◌, ◌≤◌, ◌^◌, true, false, Option, Some, sym, ap, subst}
-use Rattle.std.specs.Prelude.{Result, Ok, Err}
+use Rattle.automata_hybrid.proofs.Words.{CacheView, CannotStep, dead, ended, Err, is_quit, IsStepAnswer, known_of}
+use Rattle.automata_hybrid.proofs.Words.{Leads, Machine, match_kind_of, MeetsQuit, Names, Ok, Powerset, quits_on}
+use Rattle.automata_hybrid.proofs.Words.{Result, SearchError, successor}
 use Rattle.std.specs.Result.{IsErrAnd}
-use Rattle.automata_base.specs.Powersets.Powerset.{Powerset, dead}
-use Rattle.automata_config.specs.declared.error.SearchError.{SearchError}
-use Rattle.automata_hybrid.specs.Cache.Caches.{CacheView}
-use Rattle.automata_hybrid.specs.Cache.Table.{Leads, Names}
 use Rattle.automata_base.specs.declared.util.search.MatchErrorKind.TheVariants.{Quit as QuitAt}
 use Rattle.automata_config.specs.declared.error.SearchError.TheVariants as search
-use Rattle.automata_hybrid.specs.Known.Known.{ended}
-use Rattle.automata_hybrid.specs.Known.Passes.{CannotStep, MeetsQuit}
-use Rattle.automata_hybrid.specs.Known.Stores.{known_of}
-use Rattle.automata_base.specs.ByteClasses.Classes.{is_quit}
-use Rattle.automata_base.specs.Retraced.Steps.{successor}
-use Rattle.automata_config.specs.Options.{match_kind_of}
 use Rattle.automata_hybrid.specs.Cache.Ids.{HasQuitTag}
-use Rattle.automata_hybrid.specs.Machines.Machine.{Machine, quits_on}
-use Rattle.automata_hybrid.specs.Steps.Steps.{IsStepAnswer}
 use Rattle.automata_hybrid.specs.Private.Searches.Units.{FailsToRead, FailsToStep, HasRead, HasStepped, IsReadAnswer}
 use Rattle.automata_hybrid.proofs.Steps.Ids.{quits}
 
--- what holds of the error that a call handed on holds of what it answers
+-- what holds of the error that a call passed on holds of what it answers
 pub at_err :
     {A E : Type 0} (r : Result A E) (e : E) (P : Result A E → Type 0) → IsErrAnd r (λ x. x ≡ e) → P (Err e) → P r
 at_err (Ok a) e P h p = absurd h

@@ -1,24 +1,20 @@
 -- Spans tried one after another.
 use Rattle.std.proofs.Common.{ℕ, suc, ◌≡◌, ◌<◌, ◌≤◌, ◌+◌, ◌⊎◌, inl, inr, Bool, true, Option, Some, None, false, refl}
 use Rattle.std.proofs.Common.{sym, ap, ap₂, ◌∙◌, subst, arith}
-use Rattle.automata_base.specs.Answers.Answers.{Half, later, offset_in, IsSplit, SpanIsDone, SpanReportsNone}
-use Rattle.automata_base.specs.Answers.Answers.{StopsAtSplit, Tries}
-use Rattle.automata_base.specs.declared.util.search.Anchored.TheVariants.{No}
-use Rattle.automata_base.specs.Haystacks.Input.{Input}
-use Rattle.automata_base.specs.Haystacks.Matches.{HalfMatch}
-use Rattle.automata_base.specs.Paths.Selections.{Pair}
-use Rattle.automata_base.specs.Haystacks.Tapes.{is_split}
-use Rattle.automata_base.specs.declared.util.search.Direction.{Direction}
+use Rattle.automata_hybrid.proofs.Words.{Direction, Finds, Half, half_of, HalfMatch, Input, is_split, IsFound, later}
+use Rattle.automata_hybrid.proofs.Words.{Machine, match_kind_of, No, offset_in, Pair, Skips, Tries, with_base}
+use Rattle.automata_base.specs.Answers.Answers.{IsSplit, SpanIsDone, SpanReportsNone}
+use Rattle.automata_base.specs.Answers.Answers.{StopsAtSplit}
+use Rattle.automata_base.specs.Answers.Answers.{SkipsToIt}
 use Rattle.automata_base.specs.Answers.OfPasses.{ReportsOver, IsReported, reported_over}
 use Rattle.automata_base.proofs.Answers.Turning.{turn_answers}
-use Rattle.automata_hybrid.specs.Machines.Machine.{Machine}
-use Rattle.automata_hybrid.specs.Searches.PassState.{half_of, found_over}
-use Rattle.automata_hybrid.specs.Searches.Passes.{Finds, Skips, IsFound, MeetsNoQuit, with_base}
+use Rattle.automata_hybrid.specs.Searches.PassState.{found_over}
+use Rattle.automata_hybrid.specs.Searches.Passes.{MeetsNoQuit}
 use Rattle.automata_hybrid.proofs.Searches.PassState.{false_true}
-use Rattle.automata_hybrid.proofs.Searches.Traces.{half_none}
-use Rattle.automata_config.specs.Options.{match_kind_of}
+use Rattle.automata_hybrid.proofs.Searches.Traces.{half_of_none}
 use Rattle.automata_base.proofs.Answers.Answered.{haystack_later}
 use Rattle.automata_base.proofs.Paths.Orders.{some_inj, some_none}
+use Rattle.automata_base.proofs.Answers.Tried.{tries_on as tried_on}
 
 -- offsets inside a character are skipped, or they are not
 pub skips_or_not : {A : Type 0} (b : Bool) → (b ≡ true → A) → (b ≡ false → A → ⊥) → A ⊎ (A → ⊥)
@@ -32,7 +28,7 @@ pub record Stands (way : Direction) (input : Input) (o : Option Pair) (half : Ha
   pub pattern : half.pattern ≡ pair.pattern
   pub offset : half.offset ≡ offset_in way input pair.place
 
-pub half_stands :
+half_stands :
     (way : Direction) (input : Input) (o : Option Pair) (half : HalfMatch) → Some half ≡ half_of way input o
     → Stands way input o half
 half_stands way input None half e = absurd (cc)
@@ -47,10 +43,10 @@ half_stands way input (Some pair) half e =
     }
 
 module _ (T : Input → Option Pair → Type 0) (S : Type 0) (way : Direction) (input : Input) where
-  pub tries_more :
+  tries_more :
       (k : ℕ) → Tries T S way input k → S → input.anchored ≡ No → input.start + k ≤ input.end
       → IsSplit T way (later way k input) → Tries T S way input (suc k)
-  tries_more k tries s free l split = record { comes = inr (s, free); before = before } where
+  tries_more k tries s free l split = record { comes = SkipsToIt s free; before = before } where
     before : (j : ℕ) → j < suc k → (input.start + j ≤ input.end) × IsSplit T way (later way j input)
     before j less = go (eq_or_less j k less) where
       eq_or_less : (j k : ℕ) → j < suc k → (j ≡ k) ⊎ (j < k)
@@ -73,7 +69,7 @@ module _ (way : Direction) (m : Machine) (input now : Input) (k : ℕ) (same : n
   pub finds_none : None ≡ found_over way m now → MeetsNoQuit way m now → IsFound way m input None
   finds_none e c =
       let none : reported_over way m.nfa (match_kind_of m.config) (later way k input) ≡ None =
-      half_none way (later way k input) _ (sym (there None e)) in
+      half_of_none way (later way k input) _ (sym (there None e)) in
       (k, tries, SpanReportsNone (sym none, clear c))
 
   stands :
@@ -140,17 +136,16 @@ module _ (way : Direction) (m : Machine) (input now : Input) (k : ℕ) (same : n
   none_stops e j less tried =
       let split : IsSplit (Finds way m) way (later way k input) = (tried.before k less).1 in
       let none : reported_over way m.nfa (match_kind_of m.config) (later way k input) ≡ None =
-      half_none way (later way k input) _ (sym (there None e)) in
+      half_of_none way (later way k input) _ (sym (there None e)) in
       some_none (split.1.0 ∙ none)
 
   -- or what is not left out
   pub some_stops :
       (half : HalfMatch) → Some half ≡ found_over way m now → (Skips m → is_split now.haystack half.offset ≡ false)
       → (j : ℕ) → k < j → Tries (Finds way m) (Skips m) way input j → ⊥
-  some_stops half e keeps j less tried = go tried.comes where
-    go : (j ≡ 0) ⊎ (Skips m × (input.anchored ≡ No)) → ⊥
-    go (inl z) = omega (arith, z, less)
-    go (inr skips) =
+  some_stops half e keeps j less tried = go (tried_on (Skips m) input k j less tried.comes) where
+    go : Skips m × (input.anchored ≡ No) → ⊥
+    go skips =
         let split : IsSplit (Finds way m) way (later way k input) = (tried.before k less).1 in
         let s : Stands way (later way k input) (reported_over way m.nfa (match_kind_of m.config) (later way k input))
         half = stands half e in
@@ -166,10 +161,7 @@ module _ (way : Direction) (m : Machine) (input now : Input) (k : ℕ) (same : n
 
   -- or where the search is anchored
   pub anchored_stops : (input.anchored ≡ No → ⊥) → (j : ℕ) → k < j → Tries (Finds way m) (Skips m) way input j → ⊥
-  anchored_stops anchored j less tried = go tried.comes where
-    go : (j ≡ 0) ⊎ (Skips m × (input.anchored ≡ No)) → ⊥
-    go (inl z) = omega (arith, z, less)
-    go (inr skips) = anchored skips.1
+  anchored_stops anchored j less tried = anchored (tried_on (Skips m) input k j less tried.comes).1
 
 -- no span is left
 pub finds_no_more :

@@ -1,13 +1,8 @@
 -- What a search makes of what its cache knows, span after span.
 use Rattle.std.proofs.Common.{ℕ, suc, ◌≡◌, ◌+◌, ◌<◌, ◌≤◌, None, Some, subst, arith}
-use Rattle.automata_base.specs.Answers.Answers.{Tries, later}
-use Rattle.automata_base.specs.Haystacks.Input.{Input}
-use Rattle.automata_base.specs.declared.util.search.Direction.{Direction}
-use Rattle.automata_config.specs.declared.error.SearchError.{SearchError}
-use Rattle.automata_hybrid.specs.Known.Known.{Known}
-use Rattle.automata_hybrid.specs.Known.Passes.{HaveTried, IsSearchRun, PassEnds, PassFails, PassesEnd}
-use Rattle.automata_hybrid.specs.Machines.Machine.{Machine}
-use Rattle.automata_hybrid.specs.Searches.Passes.{Finds, Skips}
+use Rattle.automata_hybrid.proofs.Words.{Direction, Finds, HaveTried, Input, IsSearchRun, Known, later, Machine}
+use Rattle.automata_hybrid.proofs.Words.{PassesEnd, PassFails, SearchError, Skips, Tries}
+use Rattle.automata_hybrid.specs.Known.Passes.{PassEnds}
 use Rattle.automata_hybrid.proofs.Searches.Progress.{spans_before, spans_tried}
 
 -- a search has made the passes over the spans before the one that begins `k` places later

@@ -2,27 +2,14 @@
 use Rattle.std.proofs.Common.{ℕ, suc, ◌≡◌, ◌<◌, ◌≤◌, ◌⊎◌, inl, inr, Bool, true, false, List, [], ◌∷◌, Option, Some}
 use Rattle.std.proofs.Common.{None, refl, sym, ap, ◌∙◌, subst, arith}
 use Rattle.std.proofs.lemmas.Bool.{cases_lt}
-use Rattle.automata_base.specs.Answers.Answers.{offset_in}
-use Rattle.automata_base.specs.ByteClasses.Classes.{is_quit}
-use Rattle.automata_base.specs.Haystacks.Input.{Input}
-use Rattle.automata_base.specs.Haystacks.Matches.{HalfMatch}
-use Rattle.automata_base.specs.Nfas.Nodes.{Automaton}
-use Rattle.automata_base.specs.Paths.Paths.{Tape, next}
-use Rattle.automata_base.specs.Paths.Selections.{Pair}
-use Rattle.automata_base.specs.Powersets.Powerset.{Powerset}
-use Rattle.automata_base.specs.Retraced.Passes.{earlier_or, first_among, first_reported, last_among, last_reported}
-use Rattle.automata_base.specs.Retraced.Passes.{pair_at, reported_upto, state_after}
-use Rattle.automata_base.specs.Retraced.Steps.{successor}
-use Rattle.automata_base.specs.declared.util.search.Anchored.{Anchored}
-use Rattle.automata_base.specs.declared.util.search.Direction.{Direction}
-use Rattle.automata_base.specs.declared.util.search.MatchKind.{MatchKind}
-use Rattle.automata_config.specs.Options.{match_kind_of}
-use Rattle.automata_hybrid.specs.Cache.Table.{Leads, Names, Rows}
-use Rattle.automata_hybrid.specs.Machines.Machine.{Machine}
-use Rattle.automata_hybrid.specs.Searches.PassState.{IsAtAlong, half_at, half_of}
-use Rattle.automata_hybrid.specs.Searches.Passes.{tape_in}
-use Rattle.automata_hybrid.specs.Searches.Traces.{Trace, pass_trace, reported_along}
-use Rattle.automata_hybrid.specs.Private.Searches.Traces.{IsTrace}
+use Rattle.automata_hybrid.proofs.Words.{Anchored, Automaton, Direction, earlier_or, first_among, first_reported}
+use Rattle.automata_hybrid.proofs.Words.{half_at, half_of, HalfMatch, Input, is_quit, IsAtAlong, IsTrace, Leads}
+use Rattle.automata_hybrid.proofs.Words.{Machine, match_kind_of, MatchKind, Names, next, offset_in, Pair, pair_at}
+use Rattle.automata_hybrid.proofs.Words.{pass_trace, Powerset, reported_upto, Rows, successor, tape_in, Trace}
+use Rattle.automata_base.specs.Paths.Paths.{Tape}
+use Rattle.automata_base.specs.Retraced.Passes.{last_among, last_reported}
+use Rattle.automata_base.specs.Retraced.Passes.{state_after}
+use Rattle.automata_hybrid.specs.Searches.Traces.{reported_along}
 
 pass_reports :
     (kind : MatchKind) (e : Bool) (a : Automaton) (mode : Anchored) (t : Tape) (k : ℕ)
@@ -39,9 +26,9 @@ pass_is_trace way m input = record {
   reports = λ k. pass_reports (match_kind_of m.config) input.earliest m.nfa input.anchored (tape_in way input) k;
 }
 
-pub half_none : (way : Direction) (input : Input) (o : Option Pair) → half_of way input o ≡ None → o ≡ None
-half_none way input None e = refl
-half_none way input (Some pair) e = cc
+pub half_of_none : (way : Direction) (input : Input) (o : Option Pair) → half_of way input o ≡ None → o ≡ None
+half_of_none way input None e = refl
+half_of_none way input (Some pair) e = cc
 
 pub pair_half :
     (way : Direction) (input : Input) (ps : List ℕ) (k : ℕ) (o : Option Pair)
@@ -58,12 +45,12 @@ found_by way input false state k first =
     pair_half way input (state (suc k)).patterns k (last_among (λ i. (state (suc i)).patterns) k)
 found_by way input true state k first =
     let before : Option Pair = first_among (λ i. (state (suc i)).patterns) k in
-    let none : before ≡ None = half_none way input before (first refl) in
+    let none : before ≡ None = half_of_none way input before (first refl) in
     ap (λ o. half_of way input (earlier_or o (pair_at (state (suc k)).patterns k None))) none
     ∙ (pair_half way input (state (suc k)).patterns k None
     ∙ ap (λ o. half_at (state (suc k)).patterns (offset_in way input k) (half_of way input o)) (sym none))
 
-earlier_none : (o : Option Pair) → earlier_or o None ≡ o
+pub earlier_none : (o : Option Pair) → earlier_or o None ≡ o
 earlier_none None = refl
 earlier_none (Some pair) = refl
 
@@ -121,7 +108,7 @@ module _ {s : Trace} {way : Direction} {m : Machine} {input : Input} (trace : Is
     ReportsAlong =
         (o : ℕ) × (o ≡ offset_in way input k) × ((q : Powerset) → Leads t' id' q → found' ≡ half_at q.patterns o found)
 
-    pub first_along : input.earliest ≡ true → half_of way input (s.reported k) ≡ None
+    first_along : input.earliest ≡ true → half_of way input (s.reported k) ≡ None
     first_along e = sym at.reported ∙ at.nothing e
 
     -- what it has found then

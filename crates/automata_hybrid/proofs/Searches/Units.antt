@@ -1,17 +1,11 @@
 -- The units that a pass reads are bytes of the haystack.
-use Rattle.std.proofs.Common.{ℕ, zero, suc, ◌≡◌, ◌<◌, ◌≤◌, ◌+◌, ◌-◌, List, [], ◌∷◌, length, Some, None, refl, sym, ap}
+use Rattle.std.proofs.Common.{ℕ, suc, ◌≡◌, ◌<◌, ◌≤◌, ◌+◌, ◌-◌, List, length, Some, refl, sym, ap}
 use Rattle.std.proofs.Common.{ap₂, ◌∙◌, arith, get_or}
-use Rattle.automata_base.specs.Answers.Answers.{IsInput}
-use Rattle.automata_base.specs.Haystacks.Input.{Input}
-use Rattle.std.specs.Prelude.{slice_get}
-use Rattle.automata_base.specs.Paths.Paths.{next}
-use Rattle.automata_base.specs.Powersets.Passes.{IsUnit}
-use Rattle.automata_base.specs.Haystacks.Tapes.{byte_before}
-use Rattle.automata_base.specs.declared.util.search.Direction.{Direction}
-use Rattle.automata_base.specs.declared.util.search.Direction.TheVariants.{Forward, Backward}
+use Rattle.std.proofs.lemmas.Option.{slice_get-get_or}
+use Rattle.automata_hybrid.proofs.Words.{Backward, byte_before, Direction, Forward, Input, IsInput, IsUnit, next}
+use Rattle.automata_hybrid.proofs.Words.{slice_get, tape_in}
 use Rattle.automata_base.proofs.Answers.Total.{tape_units}
 use Rattle.automata_base.proofs.Answers.Bytes.{forward_next, forward_length, reverse_next, tape_length}
-use Rattle.automata_hybrid.specs.Searches.Passes.{tape_in}
 
 -- forward the unit at an offset is the byte there
 pub forward_unit :
@@ -40,14 +34,7 @@ pub backward_units :
 backward_units input s l = sym (tape_length input.haystack input.start input.end s l)
 
 pub nth_read : (xs : List ℕ) (k x d : ℕ) → k < length xs → x ≡ get_or xs k d → slice_get xs k ≡ Some x
-nth_read [] k x d l e = absurd (omega (arith, l))
-nth_read (y ∷ ys) zero x d l e = ap Some (sym e)
-nth_read (y ∷ ys) (suc k) x d l e = nth_read ys k x d (omega (arith, l)) e
-
-pub nth_past : (xs : List ℕ) (k : ℕ) → length xs ≤ k → slice_get xs k ≡ None
-nth_past [] k l = refl
-nth_past (y ∷ ys) zero l = absurd (omega (arith, l))
-nth_past (y ∷ ys) (suc k) l = nth_past ys k (omega (arith, l))
+nth_read xs k x d l e = slice_get-get_or xs k d l ∙ ap Some (sym e)
 
 -- what is read of the haystack at an offset is the unit there
 pub forward_read :

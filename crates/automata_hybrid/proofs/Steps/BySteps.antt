@@ -1,42 +1,26 @@
 -- Searches by steps stand where their steps led.
-use Rattle.std.proofs.Common.{ℕ, suc, ◌≡◌, ◌∙◌, ◌+◌, ◌*◌, ◌-◌, ◌<◌, ◌≤◌, inl, inr, Bool, true, false, length, Option}
-use Rattle.std.proofs.Common.{Some, None, refl, sym, ap, subst, arith, get_or, add-zero}
-use Rattle.std.specs.Prelude.{IsBitSet}
-use Rattle.automata_base.specs.Answers.Answers.{later}
-use Rattle.automata_base.specs.ByteClasses.Classes.{is_quit}
-use Rattle.automata_base.specs.Haystacks.Input.{Input}
-use Rattle.automata_base.specs.Haystacks.Matches.{HalfMatch}
-use Rattle.automata_base.specs.Paths.Paths.{next}
-use Rattle.automata_base.specs.Powersets.Powerset.{Powerset, dead}
-use Rattle.automata_base.specs.Retraced.Steps.{start_state_of, successor}
-use Rattle.automata_base.specs.Haystacks.Tapes.{byte_before}
-use Rattle.automata_base.specs.declared.util.search.Direction.TheVariants.{Forward}
-use Rattle.automata_base.specs.Answers.OfPasses.{ReportedEndsAreRight}
-use Rattle.automata_config.specs.Options.{match_kind_of}
-use Rattle.automata_hybrid.specs.Cache.Caches.{CacheView}
-use Rattle.automata_hybrid.specs.Cache.Ids.{dead_id, fixed_from, quit_id}
-use Rattle.automata_hybrid.specs.Machines.Machine.{Machine, quits_on}
+use Rattle.std.proofs.Common.{ℕ, suc, ◌≡◌, ◌∙◌, ◌+◌, ◌*◌, ◌-◌, ◌<◌, ◌≤◌, Bool, true, false, length, Option}
+use Rattle.std.proofs.Common.{Some, None, refl, sym, ap, subst, arith, get_or}
+use Rattle.std.proofs.lemmas.Option.{slice_get_past}
+use Rattle.automata_hybrid.proofs.Words.{byte_before, CacheView, dead, dead_id, fixed_from, Forward, half_at, HalfMatch}
+use Rattle.automata_hybrid.proofs.Words.{Input, is_quit, IsBitSet, IsFirstSpan, IsFound, IsStartAnswer, IsStepAnswer}
+use Rattle.automata_hybrid.proofs.Words.{Leads, LeadsToDead, LeadsToNamed, Machine, match_kind_of, Names, next}
+use Rattle.automata_hybrid.proofs.Words.{Powerset, quit_id, quits_on, ReportedEndsAreRight, Rows, Skips, start_state_of}
+use Rattle.automata_hybrid.proofs.Words.{state_in, successor, tape_in, with_base, WithoutBase}
 use Rattle.automata_hybrid.specs.Searches.PassContracts.{IsUnderway}
-use Rattle.automata_hybrid.specs.Searches.PassState.{half_at}
-use Rattle.automata_hybrid.specs.Searches.Passes.{IsFound, Skips, WithoutBase, state_in, tape_in, with_base}
 use Rattle.automata_hybrid.specs.Steps.BySteps.{FirstMatchIsFound, HasPatterns, IsFirstMatch, IsFirstPattern, IsStepAt}
 use Rattle.automata_hybrid.specs.Steps.BySteps.{IsUnitAt, StandsAt, IsDead, IsUnmatched, LeadsToId}
-use Rattle.automata_hybrid.specs.Steps.Starts.{IsStartAnswer}
-use Rattle.automata_hybrid.specs.Steps.Steps.{IsStepAnswer}
-use Rattle.automata_hybrid.specs.Cache.Table.{Leads, Names, Rows}
 use Rattle.automata_hybrid.proofs.Caches.Places.{bit_of, zero_one}
 use Rattle.automata_hybrid.proofs.Searches.PassState.{clean_dead, clean_ends, clean_last, clean_start, more_at}
 use Rattle.automata_hybrid.proofs.Searches.PassState.{more_dead, more_ends, more_last, starts_at, starts_dead}
 use Rattle.automata_hybrid.proofs.Searches.PassState.{state_first, state_more}
 use Rattle.automata_hybrid.proofs.Searches.Skips.{finds_none, finds_some, found_reported}
 use Rattle.automata_hybrid.proofs.Steps.Ids.{Leads-untagged, low_bit}
-use Rattle.automata_hybrid.proofs.Searches.Units.{forward_unit, forward_units, nth_past, nth_read}
+use Rattle.automata_hybrid.proofs.Searches.Units.{forward_unit, forward_units, nth_read}
 use Rattle.automata_base.proofs.Paths.Orders.{some_none}
 use Rattle.automata_hybrid.proofs.Steps.Steps.{no_quit_unit}
-use Rattle.automata_hybrid.proofs.Searches.Runs.{first_half}
-
-first_span : (input : Input) → input ≡ later Forward 0 input
-first_span input = ap (λ n. record input { start = n }) (sym (add-zero input.start))
+use Rattle.automata_hybrid.proofs.Fast.Runs.{first_half}
+use Rattle.automata_hybrid.proofs.Searches.Directions.{later_none}
 
 -- what the rows of a cache are cached by
 pub record Tagged (m : Machine) (t : Rows) : Type 0 where
@@ -64,7 +48,7 @@ stands_first m input old new id tagged early undone inside answer = record {
   go :
       Leads new.store.table id (start_state_of m.nfa input.anchored (byte_before input.haystack input.start))
       → LeadsToId m new input input.start id
-  go (inl (e, d)) =
+  go (LeadsToDead e d) =
       let dies : state_in Forward m input 0 ≡ dead = sym (state_first Forward m input) ∙ d in
       IsDead (e ∙ ap (λ (n : Machine). dead_id n.stride) tagged.of)
       (record {
@@ -72,7 +56,7 @@ stands_first m input old new id tagged early undone inside answer = record {
         clean = clean_start Forward m input dies answer.may.0;
         supported = answer.may.1;
       })
-  go (inr n) =
+  go (LeadsToNamed n) =
       IsUnmatched (subst (λ k. IsUnderway Forward m new.store.table input k id None) zero_in (record {
         undone = undone;
         may = answer.may;
@@ -98,7 +82,8 @@ unit_in :
     (input : Input) (at : ℕ) (u : Option ℕ) → input.start ≤ at → at ≤ input.end → input.end ≤ length input.haystack
     → IsUnitAt input at u
     → next (tape_in Forward input) (at - input.start) ≡ u
-unit_in input at None from upto inside past = forward_unit input at from upto inside ∙ nth_past input.haystack at past
+unit_in input at None from upto inside past =
+    forward_unit input at from upto inside ∙ slice_get_past input.haystack at past
 unit_in input at (Some byte) from upto inside (less, e) =
     forward_unit input at from upto inside ∙ nth_read input.haystack at byte 0 less e
 
@@ -169,9 +154,9 @@ module _ (m : Machine) (input : Input) (old new : CacheView) (at id to : ℕ) (u
       reads q n = answer.named clean q n
 
       tagged_leads : (q : Powerset) → Leads new.store.table to q → IsBitSet to 27 → 0 < length q.patterns
-      tagged_leads q (inl (e, d)) b =
+      tagged_leads q (LeadsToDead e d) b =
           absurd (dead_matchless m to stride (e ∙ ap (λ (n : Machine). dead_id n.stride) after.of) b)
-      tagged_leads q (inr n) b = (answer.tag q n).0 b
+      tagged_leads q (LeadsToNamed n) b = (answer.tag q n).0 b
 
       found_here :
           IsBitSet to 27 → (pattern : ℕ) → IsFirstPattern new to pattern
@@ -192,9 +177,9 @@ module _ (m : Machine) (input : Input) (old new : CacheView) (at id to : ℕ) (u
             supported = under.may.1;
           } where
             named_first : (q : Powerset) → Leads new.store.table to q → pattern ≡ get_or q.patterns 0 0
-            named_first q (inl (e, d)) =
+            named_first q (LeadsToDead e d) =
                 absurd (dead_matchless m to stride (e ∙ ap (λ (n : Machine). dead_id n.stride) after.of) b)
-            named_first q (inr n) = first q n
+            named_first q (LeadsToNamed n) = first q n
 
       dies_here :
           to ≡ dead_id new.store.table.of.stride
@@ -217,8 +202,8 @@ module _ (m : Machine) (input : Input) (old new : CacheView) (at id to : ℕ) (u
       dead_here :
           Leads new.store.table to (successor m.nfa (match_kind_of m.config) (state_in Forward m input k) u)
           → IsBitSet to 30 → IsFirstMatch m input None
-      dead_here (inl (e, d)) b = dies_here e d
-      dead_here (inr n) b =
+      dead_here (LeadsToDead e d) b = dies_here e d
+      dead_here (LeadsToNamed n) b =
           absurd (let l : to
           < fixed_from =
           after.low to (successor m.nfa (match_kind_of m.config) (state_in Forward m input k) u) n in
@@ -245,8 +230,8 @@ module _ (m : Machine) (input : Input) (old new : CacheView) (at id to : ℕ) (u
         goes_on :
             Leads new.store.table to (successor m.nfa (match_kind_of m.config) (state_in Forward m input k) u)
             → LeadsToId m new input (at + 1) to
-        goes_on (inl (e, d)) = IsDead (e ∙ ap (λ (n : Machine). dead_id n.stride) after.of) (dies_here e d)
-        goes_on (inr n) =
+        goes_on (LeadsToDead e d) = IsDead (e ∙ ap (λ (n : Machine). dead_id n.stride) after.of) (dies_here e d)
+        goes_on (LeadsToNamed n) =
             let there : Names new.store.table to (state_in Forward m input (suc k)) =
             subst (Names new.store.table to)
             (sym (state_more Forward m input k
@@ -306,15 +291,17 @@ pub run_found :
     → (Skips m → ⊥) → input.start ≤ input.end → IsFirstMatch m input half → WithoutBase (IsFound Forward m input) half
 run_found m input None plain undone run = (
   None,
-  finds_none Forward m input input 0 (first_span input)
-      (record { comes = inl refl; before = λ j less. absurd (omega (arith, less)) }) (omega (arith, undone)) run.found
+  finds_none Forward m input input 0 (later_none Forward input)
+      (record { comes = IsFirstSpan refl; before = λ j less. absurd (omega (arith, less)) }) (omega (arith, undone))
+      run.found
       run.clean,
   refl,
 )
 run_found m input (Some half) plain undone run = (
   Some (with_base half input.start),
-  finds_some Forward m input input 0 (first_span input)
-      (record { comes = inl refl; before = λ j less. absurd (omega (arith, less)) }) (omega (arith, undone)) half
+  finds_some Forward m input input 0 (later_none Forward input)
+      (record { comes = IsFirstSpan refl; before = λ j less. absurd (omega (arith, less)) }) (omega (arith, undone))
+      half
       run.found
       run.clean (λ skips. absurd (plain skips)),
   refl,

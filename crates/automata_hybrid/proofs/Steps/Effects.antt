@@ -2,14 +2,10 @@
 use Rattle.std.proofs.Common.{◌≡◌, ℕ, ◌*◌, ◌<◌, None, length, Option, Some, false, refl, sym, ap, ◌∙◌, subst, inl}
 use Rattle.std.proofs.Common.{inr, arith, length-set, true, ⊎_elim, ◌⊎◌}
 use Rattle.std.proofs.lemmas.List.{get_or-set_same}
-use Rattle.automata_base.specs.Powersets.Powerset.{Powerset}
-use Rattle.automata_hybrid.specs.declared.cache.row.Row.{Row}
-use Rattle.automata_hybrid.specs.Cache.Table.{id_of, Rows, Names, cell_at}
-use Rattle.automata_hybrid.specs.Private.Cache.Table.{HasCells, with_row_in_store, IsKnownState}
-use Rattle.automata_hybrid.specs.Cache.Stores.{Stored, cell_of}
-use Rattle.automata_hybrid.specs.Private.Cache.Stores.{with_next}
-use Rattle.automata_hybrid.specs.Private.Cache.Changes.{IsComputed, WritesAdded, WritesKnown}
-use Rattle.automata_base.specs.Powersets.Equal.{powerset_eq, powerset_eq-Decides}
+use Rattle.automata_hybrid.proofs.Words.{cell_at, cell_of, id_of, IsComputed, Names, Powerset, powerset_eq}
+use Rattle.automata_hybrid.proofs.Words.{powerset_eq-Decides, Row, Rows, Stored, with_next, with_row_in_store}
+use Rattle.automata_hybrid.proofs.Words.{WritesAdded, WritesKnown}
+use Rattle.automata_hybrid.specs.Private.Cache.Table.{HasCells, IsKnownState}
 use Rattle.automata_base.proofs.Paths.Orders.{none_some}
 use Rattle.std.proofs.lemmas.Bool.{cases_Bool}
 use Rattle.automata_hybrid.proofs.Caches.Rows.{find_id-push_other}

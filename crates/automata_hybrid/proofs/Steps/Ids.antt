@@ -1,16 +1,9 @@
 use Rattle.std.proofs.Common.{◌≡◌, ℕ, List, ◌∷◌, length, Bool, true, false, Some, [], ◌+◌, ◌*◌, ◌^◌, ◌<◌, ◌≤◌, inl, inr}
 use Rattle.std.proofs.Common.{refl, sym, ap, subst, arith, get_or}
-use Rattle.automata_base.specs.Lists.{In}
-use Rattle.automata_base.specs.Powersets.Powerset.{Powerset, dead}
-use Rattle.automata_hybrid.specs.Machines.Machine.{Machine}
-use Rattle.automata_hybrid.specs.Cache.Table.{Rows, IsRowId, Leads, Names}
-use Rattle.automata_hybrid.specs.Cache.Ids.{quit_id}
-use Rattle.automata_hybrid.specs.Cache.Caches.{CacheView, HoldsRow}
-use Rattle.std.specs.Prelude.{IsBitSet, ◌↔◌}
+use Rattle.automata_hybrid.proofs.Words.{CacheView, dead, HoldsRow, In, is_quit, IsBitSet, IsRowId, Leads, LeadsToDead}
+use Rattle.automata_hybrid.proofs.Words.{LeadsToNamed, Machine, match_kind_of, Names, Powerset, quit_id, Rows}
+use Rattle.automata_hybrid.proofs.Words.{successor, ◌↔◌}
 use Rattle.automata_hybrid.proofs.Caches.Places.{no_patterns, bit_of, zero_one}
-use Rattle.automata_base.specs.ByteClasses.Classes.{is_quit}
-use Rattle.automata_base.specs.Retraced.Steps.{successor}
-use Rattle.automata_config.specs.Options.{match_kind_of}
 
 -- an ID that is not fixed is that of a row
 pub HoldsRow-valid : (c : CacheView) (id : ℕ) → HoldsRow c id → id < 2 ^ 29 → IsRowId c.store.table id
@@ -27,38 +20,34 @@ HoldsRow-matched c id small (inr (inl e)) b =
     absurd (zero_one ((bit_of 27 (2 * c.store.table.of.stride) 4 id (omega (arith, small)) (omega (arith, e))).0 b))
 HoldsRow-matched c id small (inr (inr v)) b = v
 
-pub Leads-Names : (t : Rows) (id : ℕ) (q : Powerset) → Leads t id q → id < 2 ^ 29 → Names t id q
-Leads-Names t id q (inl (e, d)) l = absurd (omega (arith, e, l))
-Leads-Names t id q (inr h) l = h
-
 -- an ID without the match bit reports nothing
 pub Leads-untagged :
     (t : Rows) (id : ℕ) (q : Powerset) → Leads t id q → (Names t id q → IsBitSet id 27 ↔ (0 < length q.patterns))
     → (IsBitSet id 27 → ⊥)
     → q.patterns ≡ []
-Leads-untagged t id q (inl (e, d)) tagged clear = ap (λ (p : Powerset). p.patterns) d
-Leads-untagged t id q (inr h) tagged clear = no_patterns q.patterns (λ some. clear ((tagged h).1 some))
+Leads-untagged t id q (LeadsToDead e d) tagged clear = ap (λ (p : Powerset). p.patterns) d
+Leads-untagged t id q (LeadsToNamed h) tagged clear = no_patterns q.patterns (λ some. clear ((tagged h).1 some))
 
 pub low_bit : (k n : ℕ) → n < 2 ^ k → IsBitSet n k → ⊥
 low_bit k n l b = let z : n ≡ 0 * 2 ^ k + n = omega arith in zero_one ((bit_of k n 0 n l z).0 b)
 
 -- the bit of quit IDs
-pub Leads-quit :
+Leads-quit :
     (t : Rows) (id : ℕ) (q : Powerset) → Leads t id q → (Names t id q → id < 2 ^ 29) → t.of.stride ≤ 512
     → IsBitSet id 29 → ⊥
-Leads-quit t id q (inl (e, d)) low small b =
+Leads-quit t id q (LeadsToDead e d) low small b =
     let n : id ≡ 2 * 2 ^ 29 + t.of.stride = omega (arith, e) in
     zero_one ((bit_of 29 t.of.stride 2 id (omega (arith, small)) n).0 b)
-Leads-quit t id q (inr h) low small b = low_bit 29 id (low h) b
+Leads-quit t id q (LeadsToNamed h) low small b = low_bit 29 id (low h) b
 
 -- an ID has the dead tag exactly if it leads to the dead state, which no row has
 pub dead_tagged :
     (t : Rows) (id : ℕ) → ((q : Powerset) → Names t id q → id < 2 ^ 29) → t.of.stride ≤ 512
     → (q : Powerset) → Leads t id q → (IsBitSet id 30 → q ≡ dead) × ((IsBitSet id 30 → ⊥) → Names t id q)
-dead_tagged t id low small q (inl (e, d)) =
+dead_tagged t id low small q (LeadsToDead e d) =
     let n : id ≡ 1 * 2 ^ 30 + t.of.stride = omega (arith, e) in
     (λ b. d, λ clear. absurd (clear ((bit_of 30 t.of.stride 1 id (omega (arith, small)) n).1 refl)))
-dead_tagged t id low small q (inr h) =
+dead_tagged t id low small q (LeadsToNamed h) =
     (λ b. absurd (let l : id < 2 ^ 29 = low q h in low_bit 30 id (omega (arith, l)) b), λ clear. h)
 
 -- a dead ID is none of the quit state
@@ -72,7 +61,7 @@ dead_clear c id (inl e) low small b q =
 dead_clear c id (inr (inl e)) low small b q = low_bit 30 id (omega (arith, e, small)) b
 dead_clear c id (inr (inr v)) low small b q = low_bit 29 id (low v.0 v.1) q
 
-pub quit_bit : (s : ℕ) → s ≤ 512 → IsBitSet (quit_id s) 29
+quit_bit : (s : ℕ) → s ≤ 512 → IsBitSet (quit_id s) 29
 quit_bit s l =
     let n : quit_id s ≡ 1 * 2 ^ 29 + 2 * s = omega arith in
     (bit_of 29 (2 * s) 1 (quit_id s) (omega (arith, l)) n).1 refl

@@ -1,26 +1,16 @@
 -- Starts: what a call answers and changes, from what its parts do.
-use Rattle.automata_hybrid.specs.Machines.StartSlots.{slot_behind}
-use Rattle.automata_hybrid.specs.Private.Cache.Clears.{IsSlot, LeadsToStart}
+use Rattle.automata_hybrid.proofs.Words.{AddsRow, Anchored, CacheView, cleared_in_store, counted_in_store, HoldsRow}
+use Rattle.automata_hybrid.proofs.Words.{IsCacheOf, IsKnownStart, IsSlot, IsStartAnswer, IsStarted, KeepsStarts, Lacks}
+use Rattle.automata_hybrid.proofs.Words.{Leads, LeadsToDead, LeadsToNamed, LeadsToStart, Machine, Names, Powerset, Row}
+use Rattle.automata_hybrid.proofs.Words.{Rows, slice_index, slot_behind, start_row, start_state_of, Stored, unknown_id}
+use Rattle.automata_hybrid.proofs.Words.{with_start_in_store, with_store}
 use Rattle.std.proofs.Common.{ℕ, ◌≡◌, ◌+◌, ◌^◌, ◌<◌, ◌≤◌, ◌⊎◌, List, get_or, set, Bool, Option}
 use Rattle.std.proofs.Common.{sym, ap, ◌∙◌, subst, arith, inl, inr}
 use Rattle.std.proofs.lemmas.List.{get_or-set_other}
-use Rattle.std.specs.Prelude.{slice_index}
-use Rattle.automata_base.specs.Powersets.Powerset.{Powerset}
-use Rattle.automata_base.specs.Retraced.Steps.{start_state_of}
-use Rattle.automata_base.specs.declared.util.search.Anchored.{Anchored}
-use Rattle.automata_hybrid.specs.declared.cache.row.Row.{Row}
-use Rattle.automata_hybrid.specs.Cache.Ids.{unknown_id}
-use Rattle.automata_hybrid.specs.Machines.Machine.{Machine}
-use Rattle.automata_hybrid.specs.Cache.Table.{HasItsMatchTag, Leads, Names, Rows}
-use Rattle.automata_hybrid.specs.Private.Cache.Table.{Lacks}
-use Rattle.automata_hybrid.specs.Cache.Stores.{Stored}
-use Rattle.automata_hybrid.specs.Private.Cache.Stores.{KeepsStarts, IsKnownStart, with_start_in_store}
-use Rattle.automata_hybrid.specs.Private.Cache.Usage.{cleared_in_store}
-use Rattle.automata_hybrid.specs.Private.Cache.Changes.{IsStarted, StartsAdded, StartsKnown, AddsRow}
-use Rattle.automata_hybrid.specs.Cache.Caches.{CacheView, HoldsRow, IsCacheOf, with_store}
-use Rattle.automata_hybrid.specs.Private.Cache.Caches.{counted_in_store}
-use Rattle.automata_hybrid.proofs.Calls.Events.{MakesStart}
-use Rattle.automata_hybrid.specs.Steps.Starts.{IsStartAnswer, known_start, start_row}
+use Rattle.automata_hybrid.specs.Cache.Table.{HasItsMatchTag}
+use Rattle.automata_hybrid.specs.Private.Cache.Changes.{StartsAdded, StartsKnown}
+use Rattle.automata_hybrid.proofs.Steps.Events.{MakesStart}
+use Rattle.automata_hybrid.specs.Steps.Starts.{known_start}
 use Rattle.automata_hybrid.specs.Private.Steps.Starts.{IsStartSlot}
 use Rattle.automata_hybrid.proofs.Machines.StartSlots.{starts_alike}
 use Rattle.automata_config.specs.Options.{specialize_start_states_of}
@@ -43,8 +33,8 @@ slot_leads m mode behind slot t id q at of same leads = (
 
 -- an ID that names a state or the dead one has a row
 pub leads_row : (c : CacheView) (id : ℕ) (q : Powerset) → Leads c.store.table id q → HoldsRow c id
-leads_row c id q (inl dies) = inl dies.0
-leads_row c id q (inr names) = inr (inr (q, names))
+leads_row c id q (LeadsToDead is dies) = inl is
+leads_row c id q (LeadsToNamed names) = inr (inr (q, names))
 
 -- a start state that is cached is answered as it stands
 pub known_answer :
@@ -139,7 +129,8 @@ computes_new m mode behind old mid between new slot id state key started was add
     found = record {
       done = StartsAdded none between.store added.effect added.named stored;
       leads =
-          inr (subst (λ (s : Stored). Names s.table id (start_state_of m.nfa mode behind)) (sym stored) added.named);
+          LeadsToNamed
+          (subst (λ (s : Stored). Names s.table id (start_state_of m.nfa mode behind)) (sym stored) added.named);
       starts =
           subst (λ (s : Stored). KeepsStarts old.store.starts s.starts) (sym stored)
           (keeps_written old.store.starts between.store.starts slot id added.starts

@@ -1,32 +1,24 @@
 -- Steps: what a call answers and changes, from what its parts do.
 use Rattle.std.proofs.Common.{ℕ, ◌≡◌, ◌+◌, ◌<◌, ◌≤◌, Bool, true, false, Option, None, Some, refl, sym, ap, ◌∙◌, subst}
-use Rattle.std.proofs.Common.{arith, inl, inr}
-use Rattle.std.specs.Prelude.{slice_index}
-use Rattle.automata_base.specs.ByteClasses.Classes.{is_quit}
-use Rattle.automata_base.specs.Powersets.Powerset.{Powerset}
-use Rattle.automata_base.specs.Retraced.Steps.{successor}
+use Rattle.std.proofs.Common.{arith, inl, inr, ◌^◌}
+use Rattle.automata_hybrid.proofs.Words.{AddsNext, CacheView, cell_of, CellLeads, CellQuits, CellUnknown, class_in}
+use Rattle.automata_hybrid.proofs.Words.{counted_in_store, fixed_from, HoldsRow, is_quit, IsCacheOf, IsCell, IsCellRead}
+use Rattle.automata_hybrid.proofs.Words.{IsComputed, IsMachine, IsRowId, IsStepAnswer, IsUnit, KeepsStarts, known_step}
+use Rattle.automata_hybrid.proofs.Words.{KnowsStep, Lacks, Leads, LeadsToNamed, Machine, match_kind_of, Names, Powerset}
+use Rattle.automata_hybrid.proofs.Words.{quit_id, quits_on, Rows, Searched, slice_index, Step, Stored, successor}
+use Rattle.automata_hybrid.proofs.Words.{unit_class, unknown_id, with_next, with_searched, with_store, WritesAdded}
+use Rattle.automata_hybrid.proofs.Words.{WritesKnown}
 use Rattle.automata_base.proofs.Paths.Orders.{none_some, some_inj}
-use Rattle.automata_base.specs.Powersets.Passes.{IsUnit}
-use Rattle.automata_hybrid.specs.Cache.Stores.{Stored, cell_of, with_searched}
-use Rattle.automata_hybrid.specs.declared.cache.progress.Searched.{Searched}
-use Rattle.automata_hybrid.specs.Private.Cache.Stores.{KeepsStarts, IsKnownTransition, with_next}
-use Rattle.automata_hybrid.specs.Private.Cache.Changes.{IsComputed, IsStateAdded, WritesAdded, WritesKnown}
-use Rattle.automata_hybrid.specs.Private.Cache.Changes.{cleared_saving_in_store, AddsNext}
-use Rattle.automata_hybrid.specs.Cache.Caches.{CacheView, HoldsRow, IsCacheOf, with_store}
-use Rattle.automata_hybrid.specs.Private.Cache.Caches.{counted_in_store}
-use Rattle.automata_hybrid.specs.Cache.Ids.{fixed_from, quit_id, unknown_id}
-use Rattle.automata_hybrid.specs.Machines.Machine.{Machine, quits_on, unit_class}
-use Rattle.automata_hybrid.specs.Calls.Events.{Step}
-use Rattle.automata_hybrid.proofs.Calls.Events.{IsCached, MakesStep}
-use Rattle.automata_hybrid.specs.Steps.Steps.{IsStepAnswer, known_step}
-use Rattle.automata_hybrid.specs.Private.Steps.Steps.{KnowsStep, IsCellRead}
-use Rattle.automata_hybrid.specs.Private.Cache.Table.{CellLeads, CellQuits, CellUnknown, HasCells, IsCell, LeadsByClass}
-use Rattle.automata_hybrid.specs.Private.Cache.Table.{Lacks}
-use Rattle.automata_hybrid.specs.Cache.Table.{HasItsMatchTag, IsRowId, Leads, Names, Rows}
+use Rattle.automata_hybrid.specs.Private.Cache.Stores.{IsKnownTransition}
+use Rattle.automata_hybrid.specs.Private.Cache.Changes.{IsStateAdded}
+use Rattle.automata_hybrid.specs.Private.Cache.Changes.{cleared_saving_in_store}
+use Rattle.automata_hybrid.proofs.Steps.Events.{IsCached, MakesStep}
+use Rattle.automata_hybrid.specs.Private.Cache.Table.{HasCells, LeadsByClass}
+use Rattle.automata_hybrid.specs.Cache.Table.{HasItsMatchTag}
 use Rattle.automata_hybrid.proofs.Steps.Effects.{cached-computed, one_id}
 use Rattle.automata_hybrid.proofs.Searches.PassState.{false_true}
 use Rattle.automata_hybrid.proofs.Steps.Starts.{leads_row}
-use Rattle.automata_config.specs.Options.{match_kind_of}
+use Rattle.automata_hybrid.proofs.Caches.Rows.{leads_on}
 
 -- a step that is not cached from an ID is not cached from its state
 pub step_unknown :
@@ -163,6 +155,36 @@ cell_row c q class id unit is at (CellQuits a e) low = inr (inl e)
 cell_row c q class id unit is at (CellUnknown a e) low = absurd (omega (arith, e, low))
 cell_row c q class id unit is at (CellLeads a leads) low = leads_row c id _ (leads unit is at)
 
+-- the cell of a byte's class, if it is no fixed ID, is where the byte leads, and the byte is no quit byte
+pub byte_leads :
+    (m : Machine) (c : Stored) (q : Powerset) (to byte : ℕ)
+    → IsMachine m → c.table.of ≡ m → to < 2 ^ 29 → byte < 256 → IsCell c.table q (class_in m.classes byte) to
+    → (is_quit m.quits byte ≡ false) × Leads c.table to (successor m.nfa (match_kind_of m.config) q (Some byte))
+byte_leads m c q to byte machine of plain few cell = (go (is_quit m.quits byte) refl cell, lead cell) where
+  class : ℕ
+  class = class_in m.classes byte
+
+  -- a class that is not one of quit bytes has no quit byte
+  marked_not : is_quit m.quits byte ≡ true → slice_index c.table.of.template class ≡ unknown_id → ⊥
+  marked_not e unmarked =
+      let quit : slice_index m.template class ≡ quit_id m.stride = machine.quit byte few e in
+      let free : slice_index m.template class ≡ unknown_id =
+      subst (λ (k : Machine). slice_index k.template class ≡ unknown_id) of unmarked in
+      omega (arith, quit, free, machine.template.small)
+
+  go : (b : Bool) → is_quit m.quits byte ≡ b → IsCell c.table q class to → is_quit m.quits byte ≡ false
+  go false e is = e
+  go true e (CellQuits marked quits) = absurd (omega (arith, quits, plain))
+  go true e (CellUnknown unmarked unknown) = absurd (marked_not e unmarked)
+  go true e (CellLeads unmarked leads) = absurd (marked_not e unmarked)
+
+  lead : IsCell c.table q class to → Leads c.table to (successor m.nfa (match_kind_of m.config) q (Some byte))
+  lead (CellQuits marked quits) = absurd (omega (arith, quits, plain))
+  lead (CellUnknown free unknown) = absurd (omega (arith, unknown, plain))
+  lead (CellLeads free leads) =
+      subst (λ (k : Machine). Leads c.table to (successor k.nfa (match_kind_of k.config) q (Some byte))) of
+      (leads (Some byte) few (ap (λ (k : Machine). class_in k.classes byte) of))
+
 -- where the key of a step is cached, a cell leads where each unit of the class does
 pub key_leads :
     (m : Machine) (t : Rows) (q key : Powerset) (unit : Option ℕ) (class to : ℕ) → t.of ≡ m → class ≡ unit_class m unit
@@ -198,7 +220,7 @@ computes_known m id unit old mid new class next key was e leads same =
     (sym (e ∙ ap (λ (v : CacheView). with_store v (with_next v.store id class next)) was))
     (record {
       done = λ q n. WritesKnown (there q n) refl;
-      leads = there;
+      leads = λ q n. leads_on old.store.table id class next (there q n);
       starts = λ slot k. k;
       counted = refl;
     })
@@ -232,7 +254,8 @@ computes_new m id unit old mid between new class from next state key was adds co
           (record { state = p; started = false }) between.store) (is ∙ to) added.row.effect in
           WritesAdded none from between.store grew (added.saved q n)
           (subst (λ (p : Powerset). Names between.store.table next p) (is ∙ to) added.row.named) refl);
-      leads = λ q n. inr (subst (λ (p : Powerset). Names between.store.table next p) (is ∙ same q n) added.row.named);
+      leads = λ q n. LeadsToNamed
+          (subst (λ (p : Powerset). Names between.store.table next p) (is ∙ same q n) added.row.named);
       starts = added.row.starts;
       counted = count ∙ ap (λ (v : CacheView). v.count) was;
     })

@@ -1,18 +1,13 @@
 -- The pairs that walks report lie in their span.
 use Rattle.std.proofs.Common.{ℕ, zero, suc, ◌≡◌, ◌∙◌, ◌≤◌, inl, inr, List, [], ◌∷◌, Option, Some, None, length, refl}
 use Rattle.std.proofs.Common.{sym, ap}
-use Rattle.std.specs.Prelude.{Result, Ok, Err, IfSome, OnErr, OnOk}
-use Rattle.automata_base.specs.Haystacks.Input.{Input}
-use Rattle.automata_base.specs.Haystacks.Matches.{HalfMatch}
-use Rattle.automata_base.specs.Paths.Selections.{Pair}
-use Rattle.automata_base.specs.declared.util.search.Direction.{Direction}
-use Rattle.automata_base.specs.Laws.Walks.{InPairs, WalksAreReported}
-use Rattle.automata_base.specs.Answers.Within.{WalkLiesWithin}
-use Rattle.automata_hybrid.specs.Machines.Machine.{Machine}
+use Rattle.automata_hybrid.proofs.Words.{Direction, Err, HalfMatch, IfSome, Input, Machine, match_kind_of, Ok, OnOk}
+use Rattle.automata_hybrid.proofs.Words.{Pair, Result, WalkLiesWithin, WalksAreReported}
+use Rattle.std.specs.Prelude.{OnErr}
+use Rattle.automata_base.specs.Laws.Walks.{InPairs}
 use Rattle.automata_hybrid.specs.Walks.Answers.{IsWalkOf, ReportsNext, half_nth}
 use Rattle.automata_hybrid.specs.Walks.State.{Walk, without_match}
 use Rattle.automata_hybrid.specs.Searches.Bounds.{LiesIn}
-use Rattle.automata_config.specs.Options.{match_kind_of}
 use Rattle.automata_base.proofs.Paths.Orders.{none_some, some_inj}
 
 -- the pair of a half match
@@ -42,7 +37,7 @@ module _ (way : Direction) (m : Machine) (input : Input) (reported : WalksAreRep
   none_lies None e = tt
   none_lies (Some half) e = absurd (none_some (sym e))
 
-  -- the match of a call, and there is none after a refusal
+  -- the match of a call, and there is none after an error
   pub reported_lies :
       {T E : Type 0} (r : Result T E) → IsWalkOf way m input old → OnOk r (ReportsNext way m input old new)
       → OnErr r (new ≡ without_match old) → IfSome new.found (LiesIn m input)

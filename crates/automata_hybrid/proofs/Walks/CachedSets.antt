@@ -1,13 +1,8 @@
 -- What a set of patterns took to be found is cached.
 use Rattle.std.proofs.Common.{ℕ, zero, suc, ◌≡◌, ◌≤◌, inl, inr, Bool, List, [], ◌∷◌, ◌++◌, length, take, None, refl, ap}
 use Rattle.std.proofs.Common.{subst, arith}
-use Rattle.automata_base.specs.Answers.Answers.{AreUnsplit, HasPattern}
-use Rattle.automata_base.specs.Haystacks.Input.{Input}
-use Rattle.automata_base.specs.Paths.Selections.{Pair}
-use Rattle.automata_base.specs.declared.util.search.Direction.TheVariants.{Forward}
+use Rattle.automata_hybrid.proofs.Words.{AreUnsplit, Forward, HasPattern, Input, Machine, Pair, Skips, tape_in}
 use Rattle.automata_hybrid.specs.Walks.Cached.{IsOpen, LacksOne, NoPair}
-use Rattle.automata_hybrid.specs.Machines.Machine.{Machine}
-use Rattle.automata_hybrid.specs.Searches.Passes.{Skips, tape_in}
 use Rattle.automata_hybrid.specs.Walks.Answers.{AreWalked, HasReported, WalkReads, half_nth, pairs_reported_in}
 use Rattle.automata_hybrid.specs.Walks.State.{Ended, Walk}
 use Rattle.automata_hybrid.proofs.Walks.Calls.{reported_least}

@@ -1,20 +1,15 @@
 -- What a call makes of a walk.
-use Rattle.std.proofs.Common.{ℕ, suc, ◌≡◌, ◌<◌, ◌≤◌, ◌+◌, ◌-◌, ◌⊎◌, ◌↔◌, inl, inr, Bool, false, List, [], ◌∷◌, ◌++◌}
+use Rattle.std.proofs.Common.{ℕ, suc, ◌≡◌, ◌<◌, ◌≤◌, ◌+◌, ◌-◌, ◌⊎◌, ◌↔◌, inl, inr, Bool, false, List, [], ◌++◌, ⊎_elim}
 use Rattle.std.proofs.Common.{length, Some, None, refl, sym, ap, ap₂, ◌∙◌, subst, arith, length-append, get_or}
-use Rattle.std.specs.Prelude.{Err, IsTrue, Ok, OnErr, OnOk, Result}
-use Rattle.automata_base.specs.Answers.Answers.{KeepsSplit, SkipsSplit, WalksNoSpan, offset_in}
-use Rattle.automata_base.specs.Haystacks.Input.{Input}
-use Rattle.automata_base.specs.Haystacks.Matches.{HalfMatch}
-use Rattle.automata_base.specs.Powersets.Powerset.{Powerset}
-use Rattle.automata_base.specs.Paths.Selections.{Pair, at_place}
-use Rattle.automata_base.specs.Haystacks.Tapes.{is_split}
-use Rattle.automata_base.specs.declared.util.search.Direction.{Direction}
+use Rattle.std.proofs.Common.{append_assoc}
+use Rattle.automata_hybrid.proofs.Words.{Direction, Err, HalfMatch, HasReadNoQuit, Input, is_split, IsRowState}
+use Rattle.automata_hybrid.proofs.Words.{KeepsSplit, Machine, match_kind_of, MayStart, offset_in, Ok, OnOk, Pair}
+use Rattle.automata_hybrid.proofs.Words.{Powerset, Result, Rows, Skips, SkipsSplit, state_in, tape_in}
+use Rattle.std.specs.Prelude.{IsTrue, OnErr}
+use Rattle.automata_base.specs.Answers.Answers.{WalksNoSpan}
+use Rattle.automata_base.specs.Paths.Selections.{at_place}
 use Rattle.automata_base.specs.Retraced.Passes.{pairs_reported}
 use Rattle.automata_base.proofs.Powersets.WalkReports.{walks_one}
-use Rattle.automata_hybrid.specs.Machines.Machine.{Machine}
-use Rattle.automata_hybrid.specs.Searches.Passes.{HasReadNoQuit, Skips, state_in, tape_in}
-use Rattle.automata_hybrid.specs.Steps.Starts.{MayStart}
-use Rattle.automata_hybrid.specs.Cache.Table.{IsRowState, Rows}
 use Rattle.automata_hybrid.specs.Walks.Answers.{AreWalked, HasReported, HasReportedAll, HasReportedAt, HasReportedBy}
 use Rattle.automata_hybrid.specs.Walks.Answers.{StandsAtState, ReportsNext, WalkMeetsNoQuit, half_nth, MetNoQuit}
 use Rattle.automata_hybrid.specs.Walks.Answers.{WasDone}
@@ -24,7 +19,6 @@ use Rattle.automata_hybrid.specs.Private.Walks.State.{ended_walk, with_match}
 use Rattle.automata_hybrid.proofs.Searches.PassState.{false_true}
 use Rattle.automata_hybrid.proofs.Walks.Reports.{Begins, finish_all, half_at_place, half_after, half_past, place_length}
 use Rattle.automata_hybrid.proofs.Walks.Reports.{reported_more, reported_rises, walked_all, walked_begin}
-use Rattle.automata_config.specs.Options.{match_kind_of}
 use Rattle.std.proofs.lemmas.Bool.{cases_lt}
 
 pub fresh_at : (q : Powerset) → Fresh ≡ At q → ⊥
@@ -33,25 +27,18 @@ fresh_at q e = cc
 pub ended_at : (q : Powerset) → Ended ≡ At q → ⊥
 ended_at q e = cc
 
-twice : (xs ys zs : List Pair) → (xs ++ ys) ++ zs ≡ xs ++ (ys ++ zs)
-twice [] ys zs = refl
-twice (x ∷ xs) ys zs = ap (λ (ws : List Pair). x ∷ ws) (twice xs ys zs)
-
 pub undone : (b : Bool) (s e : ℕ) → (IsTrue b ↔ (e < s)) → b ≡ false → s ≤ e
-undone b s e done «is» = go (cases_lt e s) where
-  go : (e < s) ⊎ (s ≤ e) → s ≤ e
-  go (inl l) = let f : IsTrue b = done.1 l in absurd (false_true (sym «is» ∙ f))
-  go (inr l) = l
+undone b s e done «is» = ⊎_elim (λ l. absurd (false_true (sym «is» ∙ done.1 l))) (λ l. l) (cases_lt e s)
 
 module _ (way : Direction) (m : Machine) (input : Input) where
   -- nothing is reported by no unit
-  pub reported_none : Skips m ⊎ (Skips m → ⊥) → HasReportedBy way m input 0 0
+  reported_none : Skips m ⊎ (Skips m → ⊥) → HasReportedBy way m input 0 0
   unfolding pairs_reported
   reported_none (inl s) = record { pairs = []; unsplit = SkipsSplit s refl; count = refl }
   reported_none (inr n) = record { pairs = []; unsplit = KeepsSplit n refl; count = refl }
 
   -- all that a place reports
-  pub reported_place :
+  reported_place :
       (place e : ℕ)
       → (Skips m → is_split input.haystack (offset_in way input place) ≡ false) → HasReportedBy way m input place e
       → HasReportedBy way m input (suc place) (e + length (state_in way m input (suc place)).patterns)
@@ -119,7 +106,7 @@ module _ (way : Direction) (m : Machine) (input : Input) where
       walked_begin way m input (suc place) (reported.pairs ++ at_place o ps) pairs s (omega (arith, l))
       (reported_more way m input place reported.pairs free reported.unsplit) walked in
       let joined : pairs ≡ reported.pairs ++ (at_place o ps ++ b.rest) =
-      b.joined ∙ twice reported.pairs (at_place o ps) b.rest in
+      b.joined ∙ append_assoc reported.pairs (at_place o ps) b.rest in
       let long : length pairs ≡ length reported.pairs + length (at_place o ps ++ b.rest) =
       ap (λ (zs : List Pair). length zs) joined ∙ length-append reported.pairs (at_place o ps ++ b.rest) in
       let more : length (at_place o ps ++ b.rest) ≡ length (at_place o ps) + length b.rest =

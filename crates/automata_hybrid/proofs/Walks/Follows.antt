@@ -1,11 +1,7 @@
 -- What follows of what a call of a walk makes of its cache.
 use Rattle.std.proofs.Common.{ℕ, suc, ◌≡◌, ◌∙◌, ◌+◌, ◌<◌, ◌≤◌, ◌⊎◌, length, inl, inr, refl, sym, arith}
 use Rattle.std.proofs.lemmas.Bool.{cases_lt}
-use Rattle.automata_base.specs.Haystacks.Input.{Input}
-use Rattle.automata_base.specs.Powersets.Powerset.{Powerset}
-use Rattle.automata_base.specs.declared.util.search.Direction.{Direction}
-use Rattle.automata_hybrid.specs.Machines.Machine.{Machine}
-use Rattle.automata_hybrid.specs.Searches.Passes.{Skips}
+use Rattle.automata_hybrid.proofs.Words.{Direction, Input, Machine, Powerset, Skips}
 use Rattle.automata_hybrid.specs.Walks.Answers.{HasReported, HasReportedAt, HasReportedBy, WalkReads}
 use Rattle.automata_hybrid.specs.Walks.Cached.{IsToRead}
 use Rattle.automata_hybrid.specs.Walks.Progress.{HasEnded, HasMore, HasNoneLeft, ReadsNoUnit}

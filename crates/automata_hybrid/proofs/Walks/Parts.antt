@@ -1,42 +1,27 @@
 -- Going on with a walk: what the functions under its calls answer, and what they make of their cache.
 use Rattle.std.proofs.Common.{ℕ, suc, ◌≡◌, ◌∙◌, true, false, Option, None, Some, refl, sym, ap, subst, arith}
-use Rattle.std.specs.Prelude.{IfErr, IfOk, OnOk, Result, Ok, Err, option_map}
-use Rattle.std.proofs.lemmas.Result.{IfOk-weaker, on_ok_weaker}
-use Rattle.automata_base.specs.Answers.Answers.{offset_in}
-use Rattle.automata_base.specs.Haystacks.Input.{Input}
-use Rattle.automata_base.specs.Powersets.Powerset.{Powerset}
-use Rattle.automata_base.specs.declared.util.search.Direction.{Direction}
-use Rattle.automata_base.specs.declared.util.search.Anchored.{Anchored}
+use Rattle.automata_hybrid.proofs.Words.{Anchored, behind_offset, CacheView, Direction, Err, given_up_offset, Input}
+use Rattle.automata_hybrid.proofs.Words.{Known, known_of, Leads, Machine, offset_in, Ok, option_map, Powerset}
+use Rattle.automata_hybrid.proofs.Words.{progress_started, quit_behind, Result, Rows, SearchError, start_search_error}
+use Rattle.automata_hybrid.proofs.Words.{StartError, state_in, StepError, supports, tape_in, with_searched, with_store}
 use Rattle.automata_base.specs.declared.util.search.MatchErrorKind.TheVariants.{UnsupportedAnchored as UnsupportedMode}
 use Rattle.automata_base.proofs.Paths.Orders.{none_some}
-use Rattle.automata_config.specs.declared.error.StartError.{StartError}
-use Rattle.automata_config.specs.declared.error.StepError.{StepError}
-use Rattle.automata_config.specs.declared.error.SearchError.{SearchError}
 use Rattle.automata_config.specs.declared.error.SearchError.TheVariants as search
 use Rattle.automata_hybrid.specs.declared.cache.handle.Handle.{Handle}
 use Rattle.automata_hybrid.specs.declared.search.walk.Held.{Held}
 use Rattle.automata_hybrid.specs.declared.search.walk.Held.TheVariants as held
-use Rattle.automata_hybrid.specs.Cache.Caches.{CacheView, with_store}
-use Rattle.automata_hybrid.specs.Cache.Progress.{progress_started}
-use Rattle.automata_hybrid.specs.Cache.Stores.{with_searched}
-use Rattle.automata_hybrid.specs.Cache.Table.{Leads, Rows}
-use Rattle.automata_hybrid.specs.Known.Known.{Known}
 use Rattle.automata_hybrid.specs.Known.Known as known
-use Rattle.automata_hybrid.specs.Known.Steps.{GivesUpOnStart, IsNotSupported, IsQuitBehind, IsStartRun, RunsOutOnStart}
+use Rattle.automata_hybrid.specs.Known.Steps.{GivesUpOnStart, IsNotSupported, IsQuitBehind, RunsOutOnStart}
 use Rattle.automata_hybrid.specs.Known.Steps.{StartFails, StartFailsAt}
-use Rattle.automata_hybrid.specs.Known.Stores.{known_of}
-use Rattle.automata_hybrid.specs.Known.Walks.{EndsCall, FailsOnItsWay, FailsToGoOn, IsNotBack, IsNotResumed, LeavesCall}
+use Rattle.automata_hybrid.specs.Known.Walks.{CallEnds, FailsOnItsWay, FailsToGoOn, IsNotBack, IsNotResumed, CallFails}
 use Rattle.automata_hybrid.specs.Known.Walks.{ReadsNone, ReadsSome, after_going_on, after_resume, has_its_row}
 use Rattle.automata_hybrid.specs.Known.Walks.{with_row_back}
-use Rattle.automata_hybrid.specs.Machines.Machine.{Machine}
-use Rattle.automata_hybrid.specs.Machines.StartSlots.{supports}
 use Rattle.automata_hybrid.specs.Private.Searches.PassState.{step_error}
+use Rattle.automata_hybrid.specs.Private.Steps.Starts.{IsStartResult}
 use Rattle.automata_hybrid.specs.Private.Walks.Answers.{FindsNone, CallGoesOn, ReadsMore, ReportsOneMore}
-use Rattle.automata_hybrid.specs.Private.Walks.Parts.{IsCallAnswer, IsCallResult, IsResumeAnswer}
+use Rattle.automata_hybrid.specs.Private.Walks.Parts.{IsCallAnswer, IsCallResult, IsResumeResult}
 use Rattle.automata_hybrid.specs.Private.Walks.State.{Holds, HoldsNone, IsHeldAt, IsHeldItself, keeping_of}
 use Rattle.automata_hybrid.specs.Searches.Contracts.{IsUnsupported, unsupported_error}
-use Rattle.automata_hybrid.specs.Searches.Passes.{behind_offset, given_up_offset, state_in, tape_in}
-use Rattle.automata_hybrid.specs.Steps.Starts.{IsStartAnswer, quit_behind, start_search_error}
 use Rattle.automata_hybrid.specs.Walks.Answers.{HasReportedAt, IsWalkOf, MetNoQuit, ReportsNext, WasDone}
 use Rattle.automata_hybrid.specs.Walks.Progress.{HasEnded, HasMore, HasNoneLeft, ReadsNoUnit}
 use Rattle.automata_hybrid.specs.Walks.State.{At, Ended, Fresh, Ids, Keeping, Stage, States, Walk, without_match}
@@ -60,7 +45,7 @@ unsupported_start m mode behind behind_at start_at old new e f clear off = f.rep
 -- so is the call that was to begin the walk
 pub unsupported_call :
     (keeping : Keeping) (way : Direction) (m : Machine) (input : Input) (w : Walk) (old new : Known) (e : SearchError)
-    → w.stage ≡ Fresh → IsUnsupported way m input → LeavesCall keeping way m input w old new e
+    → w.stage ≡ Fresh → IsUnsupported way m input → CallFails keeping way m input w old new e
     → e ≡ unsupported_error input
 unsupported_call keeping way m input w old new e fresh u (FailsToGoOn reads fails) =
     unsupported_start m input.anchored (tape_in way input).before (behind_offset way input) (offset_in way input 0) old
@@ -89,7 +74,7 @@ module _ (way : Direction) (m : Machine) (input : Input) (w next : Walk) where
   on_matched (ReadsMore on more) = ReadsMore on more
   on_matched (ReportsOneMore on same more) = ReportsOneMore on same more
 
-  pub answer_matched : IsCallAnswer way m input (without_match w) next → IsCallAnswer way m input w next
+  answer_matched : IsCallAnswer way m input (without_match w) next → IsCallAnswer way m input w next
   answer_matched a = record { reports = a.reports; goes_on = on_matched a.goes_on }
 
   none_matched : ReadsNoUnit input (without_match w) → ReadsNoUnit input w
@@ -103,7 +88,7 @@ module _ (way : Direction) (m : Machine) (input : Input) (w next : Walk) where
   some_matched reads (HasNoneLeft past) = reads (HasNoneLeft past)
 
   ends_matched :
-      (old new : Known) → EndsCall way m input (without_match w) next old new → EndsCall way m input w next old new
+      (old new : Known) → CallEnds way m input (without_match w) next old new → CallEnds way m input w next old new
   ends_matched old new (ReadsNone over none same still) = ReadsNone over (none_matched none) same still
   ends_matched old new (ReadsSome over c) =
       ReadsSome over
@@ -121,7 +106,7 @@ module _ (way : Direction) (m : Machine) (input : Input) (w next : Walk) where
 
   leaves_matched :
       (keeping : Keeping) (old new : Known) (e : SearchError)
-      → LeavesCall keeping way m input (without_match w) old new e → LeavesCall keeping way m input w old new e
+      → CallFails keeping way m input (without_match w) old new e → CallFails keeping way m input w old new e
   leaves_matched keeping old new e (FailsToGoOn reads fails) = FailsToGoOn (some_matched reads) fails
   leaves_matched keeping old new e (FailsOnItsWay reads may begun goes_on stopped) =
       FailsOnItsWay (some_matched reads) may begun goes_on stopped
@@ -170,34 +155,25 @@ held_there c (At q) (held.Row (Some id)) at ids = row_named c.store q id at
 held_there c (At q) (held.Row None) at ids = absurd at
 
 -- a walk that has not begun goes on from its start
-module _ (way : Direction) (m : Machine) (input : Input) (w : Walk) (old new : CacheView) (r : Result ℕ SearchError)
-    (fresh : w.stage ≡ Fresh) where
-  pub start_answer :
-      IsWalkOf way m input w → IfOk r (IsStartAnswer m input.anchored (tape_in way input).before old new)
-      → IfOk r (IsResumeAnswer way m input w new.store)
-  start_answer (k, reported) = IfOk-weaker r _ _ (λ id a. record {
-    leads =
-        subst (λ n. Leads new.store.table id (state_in way m input n)) (sym first)
-        (subst (Leads new.store.table id) (state_first way m input) a.named);
-    may = a.may;
-  }) where
-    first : w.units ≡ 0
-    first = (subst (λ (s : Stage). HasReportedAt way m input s w.units w.reported k) fresh reported).1
-
-  pub start_error :
-      IfErr r (StartFailsAt m input.anchored (tape_in way input).before (behind_offset way input)
-      (offset_in way input 0) (known_of old) (known_of new))
-      → IfErr r (IsNotResumed way m input w.stage w.units (known_of old) (known_of new))
-  start_error h =
-      subst (λ (s : Stage). IfErr r (IsNotResumed way m input s w.units (known_of old) (known_of new))) (sym fresh) h
-
-  pub start_resumed :
-      OnOk r (IsStartRun m input.anchored (tape_in way input).before (known_of old) (known_of new))
-      → OnOk r (after_resume way m input w.stage (known_of old) ≡ Some (known_of new))
-  start_resumed run =
-      subst (λ (s : Stage). OnOk r (after_resume way m input s (known_of old) ≡ Some (known_of new))) (sym fresh)
-      (on_ok_weaker r (λ (x : IsStartRun m input.anchored (tape_in way input).before (known_of old) (known_of new)).
-      x.does) run)
+module _ (way : Direction) (m : Machine) (input : Input) (w : Walk) (old new : CacheView) (fresh : w.stage ≡ Fresh)
+  where
+    pub start_resumes :
+        (r : Result ℕ SearchError) → IsWalkOf way m input w
+        → IsStartResult m input.anchored (tape_in way input).before (behind_offset way input) (offset_in way input 0)
+        old
+        new r → IsResumeResult way m input w old new r
+    start_resumes (Err e) of h =
+        subst (λ (s : Stage). IsNotResumed way m input s w.units (known_of old) (known_of new) e) (sym fresh) h
+    start_resumes (Ok id) (k, reported) h = record {
+      leads =
+          subst (λ n. Leads new.store.table id (state_in way m input n)) (sym first)
+          (subst (Leads new.store.table id) (state_first way m input) h.answer.named);
+      may = h.answer.may;
+      resumed =
+          subst (λ (s : Stage). after_resume way m input s (known_of old) ≡ Some (known_of new)) (sym fresh) h.run.does;
+    } where
+      first : w.units ≡ 0
+      first = (subst (λ (s : Stage). HasReportedAt way m input s w.units w.reported k) fresh reported).1
 
 -- a walk that has begun goes on from the state that it holds
 module _ (way : Direction) (m : Machine) (input : Input) (t : Rows) (w : Walk) (h : Held) (handle : Handle)

@@ -1,33 +1,25 @@
 -- What the calls of a walk make of what its cache knows, unit by unit.
 use Rattle.std.proofs.Common.{ℕ, suc, ◌≡◌, ◌+◌, ◌≤◌, length, refl, sym, subst, arith}
-use Rattle.automata_base.specs.Answers.Answers.{AreUnsplit, IsInput, KeepsSplit, SkipsSplit, with_offsets}
+use Rattle.automata_hybrid.proofs.Words.{AreUnsplit, CacheView, Direction, HasReadNoQuit, Input, IsInput, IsMachine}
+use Rattle.automata_hybrid.proofs.Words.{IsStoreOf, KeepsSplit, Known, known_of, Machine, SearchError, Skips}
+use Rattle.automata_hybrid.proofs.Words.{SkipsSplit, UnitFails}
+use Rattle.automata_base.specs.Answers.Answers.{with_offsets}
 use Rattle.automata_base.specs.Answers.Answers.{without_split}
-use Rattle.automata_base.specs.Haystacks.Input.{Input}
-use Rattle.automata_base.specs.declared.util.search.Direction.{Direction}
-use Rattle.automata_config.specs.declared.error.SearchError.{SearchError}
 use Rattle.automata_hybrid.specs.declared.search.walk.advance.Arrival.{Arrival}
-use Rattle.automata_hybrid.specs.Cache.Caches.{CacheView}
-use Rattle.automata_hybrid.specs.Private.Cache.Caches.{IsStoreOf}
-use Rattle.automata_hybrid.specs.Known.Known.{Known}
-use Rattle.automata_hybrid.specs.Known.Passes.{UnitFails}
-use Rattle.automata_hybrid.specs.Known.Stores.{known_of}
-use Rattle.automata_hybrid.specs.Known.Walks.{FailsAfterIt, FailsAtIt, FailsOnItsWay, FailsToGoOn, IsCallLeftAt}
-use Rattle.automata_hybrid.specs.Known.Walks.{IsCallStopped, LeavesCall}
-use Rattle.automata_hybrid.specs.Machines.Machine.{Machine}
-use Rattle.automata_hybrid.specs.Private.Machines.Machine.{IsMachine}
+use Rattle.automata_hybrid.specs.Known.Walks.{FailsAfterIt, FailsAtIt, FailsOnItsWay, FailsToGoOn, CallFailsAt}
+use Rattle.automata_hybrid.specs.Known.Walks.{CallFailsAtUnit, CallFails}
 use Rattle.automata_hybrid.specs.Private.Searches.PassState.{IsFollowed}
 use Rattle.automata_hybrid.specs.Private.Walks.Answers.{IsArrival}
 use Rattle.automata_hybrid.specs.Private.Walks.Parts.{HasAdvanced}
-use Rattle.automata_hybrid.specs.Searches.Cached.{IsOfInput}
-use Rattle.automata_hybrid.specs.Searches.Passes.{HasReadNoQuit, Skips}
+use Rattle.automata_hybrid.specs.Searches.Contracts.{IsOfInput}
 use Rattle.automata_hybrid.specs.Walks.Answers.{HasReportedBy, IsSilent, WalkReads, pairs_reported_in}
 use Rattle.automata_hybrid.specs.Walks.Cached.{IsToRead}
-use Rattle.automata_hybrid.specs.Walks.Follows.{IsHoldError, IsInputError, IsKnownError}
+use Rattle.automata_hybrid.specs.Known.WalksFollow.{IsHoldError, IsInputError, IsKnownError}
 use Rattle.automata_hybrid.specs.Walks.Progress.{HasEnded, HasMore, HasNoneLeft, ReadsNoUnit}
 use Rattle.automata_hybrid.specs.Walks.State.{Ids, Keeping, States, Walk}
 use Rattle.automata_hybrid.proofs.Searches.PassState.{dead_more}
 use Rattle.automata_hybrid.proofs.Searches.Goes.{GoesTo, goes_known, goes_some}
-use Rattle.automata_hybrid.proofs.Searches.Runs.{followed_clean}
+use Rattle.automata_hybrid.proofs.Fast.Runs.{followed_clean}
 use Rattle.automata_hybrid.proofs.Searches.Units.{units_in}
 use Rattle.automata_hybrid.proofs.Walks.Reports.{reported_rises}
 
@@ -104,7 +96,7 @@ pub call_stopped :
     (way : Direction) (m : Machine) (input : Input) (from k : ℕ) (begun mid new : Known) (e : SearchError)
     → WalkReads way m input k → HasReadNoQuit way m input k → IsSilent way m input from k
     → GoesTo way m input from k begun mid → UnitFails way m input k mid new e
-    → IsCallStopped Ids way m input from begun new e
+    → CallFailsAtUnit Ids way m input from begun new e
 call_stopped way m input from k begun mid new e reads clean silent all fails = record {
   units = all.units;
   reads = subst (WalkReads way m input) (sym all.upto) reads;
@@ -112,7 +104,7 @@ call_stopped way m input from k begun mid new e reads clean silent all fails = r
   silent = subst (IsSilent way m input from) (sym all.upto) silent;
   mid = mid;
   run = all.run;
-  left = subst (λ j. IsCallLeftAt Ids way m input j mid new e) (sym all.upto) (FailsAtIt fails);
+  left = subst (λ j. CallFailsAt Ids way m input j mid new e) (sym all.upto) (FailsAtIt fails);
 }
 
 -- a call that is to read units reads some
@@ -125,21 +117,21 @@ reads_some input w r (HasNoneLeft past) = omega (arith, r.undone, r.left, past)
 -- a call that fails is to read units
 pub left_reads :
     (keeping : Keeping) (way : Direction) (m : Machine) (input : Input) (w : Walk) (old new : Known)
-    (e : SearchError) → LeavesCall keeping way m input w old new e → ReadsNoUnit input w → ⊥
+    (e : SearchError) → CallFails keeping way m input w old new e → ReadsNoUnit input w → ⊥
 left_reads keeping way m input w old new e (FailsToGoOn reads fails) = reads
 left_reads keeping way m input w old new e (FailsOnItsWay reads may begun goes_on stopped) = reads
 
 step_leaves :
     (keeping : Keeping) (way : Direction) (m : Machine) (input : Input) (k : ℕ) (old new : Known) (e : SearchError)
-    → IsCallLeftAt Ids way m input k old new e → IsCallLeftAt keeping way m input k old new e
+    → CallFailsAt Ids way m input k old new e → CallFailsAt keeping way m input k old new e
 step_leaves keeping way m input k old new e (FailsAtIt fails) = FailsAtIt fails
 step_leaves keeping way m input k old new e (FailsAfterIt kept unheld read) =
     absurd (let is : Ids ≡ States = kept in cc)
 
 pub call_leaves :
     (keeping : Keeping) (way : Direction) (m : Machine) (input : Input) (from : ℕ) (begun new : Known)
-    (e : SearchError) → IsCallStopped Ids way m input from begun new e
-    → IsCallStopped keeping way m input from begun new e
+    (e : SearchError) → CallFailsAtUnit Ids way m input from begun new e
+    → CallFailsAtUnit keeping way m input from begun new e
 call_leaves keeping way m input from begun new e stopped = record {
   units = stopped.units;
   reads = stopped.reads;

@@ -1,21 +1,13 @@
 -- Where no quit byte is in reach, no clear limit is set and the mode is supported, a walk call fails by memory alone.
 use Rattle.std.proofs.Common.{ℕ, ◌≡◌, ◌≤◌, ◌+◌, ◌<◌, ◌⊎◌, inl, inr, Bool, List, false, true, length, None, arith}
 use Rattle.std.proofs.lemmas.Bool.{cases_lt}
-use Rattle.std.specs.Prelude.{Err, IfErr, Ok, Result}
-use Rattle.std.specs.Result.{result_err}
-use Rattle.automata_base.specs.ByteClasses.Classes.{is_quit}
-use Rattle.automata_base.specs.Haystacks.Input.{Input}
-use Rattle.automata_base.specs.declared.util.search.Direction.{Direction}
-use Rattle.automata_base.specs.declared.util.search.Direction.TheVariants.{Forward}
-use Rattle.automata_config.specs.Options.{minimum_cache_clear_count_of}
-use Rattle.automata_config.specs.declared.error.SearchError.{SearchError}
-use Rattle.automata_hybrid.specs.Known.Known.{Known, cleared}
+use Rattle.automata_hybrid.proofs.Words.{cleared, Direction, Err, Forward, IfErr, Input, is_quit, Known, Machine}
+use Rattle.automata_hybrid.proofs.Words.{minimum_cache_clear_count_of, Ok, Result, result_err, SearchError, supports}
+use Rattle.automata_hybrid.proofs.Words.{tape_in}
 use Rattle.automata_hybrid.specs.Known.Walks.{FailsAfterIt, FailsAtIt, FailsOnItsWay, FailsToGoOn, GivesUpOnIt}
-use Rattle.automata_hybrid.specs.Known.Walks.{IsCallLeftAt, IsNotResumed, IsSetRun, LeavesCall, LeavesSet, RunsOutOnIt}
-use Rattle.automata_hybrid.specs.Machines.Machine.{Machine}
-use Rattle.automata_hybrid.specs.Machines.StartSlots.{supports}
+use Rattle.automata_hybrid.specs.Known.Walks.{CallFailsAt, IsNotResumed, IsSetRun, CallFails, SetFails, RunsOutOnIt}
 use Rattle.automata_hybrid.specs.Searches.Contracts.{IsMemory, IsUnhindered}
-use Rattle.automata_hybrid.specs.Searches.Passes.{NoQuitInReach, tape_in}
+use Rattle.automata_hybrid.specs.Searches.Passes.{NoQuitInReach}
 use Rattle.automata_hybrid.specs.Walks.Progress.{HasNoneLeft, ReadsNoUnit}
 use Rattle.automata_hybrid.specs.Walks.State.{At, Ended, Fresh, Ids, Keeping, Stage, Walk}
 use Rattle.automata_hybrid.proofs.Known.Memory.{pass_memory, state_made, unit_memory}
@@ -47,13 +39,13 @@ module _ (way : Direction) (m : Machine) (input : Input) (few : input.end ≤ le
 
   at_memory :
       (keeping : Keeping) (j : ℕ) (mid new : Known) (e : SearchError) → input.start ≤ input.end
-      → j ≤ length (tape_in way input).bytes → IsCallLeftAt keeping way m input j mid new e → IsMemory e
+      → j ≤ length (tape_in way input).bytes → CallFailsAt keeping way m input j mid new e → IsMemory e
   at_memory keeping j mid new e undone within (FailsAtIt fails) =
       unit_memory way m input undone few clean mode free j mid new e within fails
   at_memory keeping j mid new e undone within (FailsAfterIt kept unheld read) = unheld.memory
 
   pub call_memory :
-      (keeping : Keeping) (w : Walk) (old new : Known) (e : SearchError) → LeavesCall keeping way m input w old new e
+      (keeping : Keeping) (w : Walk) (old new : Known) (e : SearchError) → CallFails keeping way m input w old new e
       → IsMemory e
   call_memory keeping w old new e (FailsToGoOn reads fails) =
       resume_memory w.stage w.units old new e (reads_undone input w reads) fails
@@ -67,5 +59,5 @@ pub set_memory :
     → IfErr r IsMemory
 set_memory m input set joined old new (Ok t) few f run = tt
 set_memory m input set joined old new (Err e) few f run = go run where
-  go : LeavesSet m input set joined old new e → IsMemory e
+  go : SetFails m input set joined old new e → IsMemory e
   go s = call_memory Forward m input few f.reach f.supported f.clears Ids s.walk s.mid new e s.left

@@ -1,19 +1,14 @@
 -- What a walk reports, unit by unit.
 use Rattle.std.proofs.Common.{ℕ, zero, suc, ◌≡◌, ◌<◌, ◌≤◌, ◌+◌, ◌⊎◌, inl, inr, Bool, true, false, cond, List, [], ◌∷◌}
 use Rattle.std.proofs.Common.{◌++◌, length, Some, None, refl, sym, ap, ap₂, ◌∙◌, subst, arith, length-append}
-use Rattle.std.proofs.Common.{eq-or-lt_of_le, get_or}
-use Rattle.automata_base.specs.Answers.Answers.{AreUnsplit, KeepsSplit, SkipsSplit, WalksNoSpan, WalksSpan, offset_in}
+use Rattle.std.proofs.Common.{eq-or-lt_of_le, get_or, append_assoc, append-nil}
+use Rattle.automata_hybrid.proofs.Words.{AreUnsplit, dead, Direction, HasReadNoQuit, Input, is_quit, is_split}
+use Rattle.automata_hybrid.proofs.Words.{KeepsSplit, Machine, next, offset_in, Pair, Powerset, Skips, SkipsSplit}
+use Rattle.automata_hybrid.proofs.Words.{state_in, tape_in}
+use Rattle.automata_base.specs.Answers.Answers.{WalksNoSpan, WalksSpan}
 use Rattle.automata_base.specs.Answers.Answers.{with_offsets, without_split}
-use Rattle.automata_base.specs.ByteClasses.Classes.{is_quit}
-use Rattle.automata_base.specs.Haystacks.Input.{Input}
-use Rattle.automata_base.specs.Paths.Paths.{next}
-use Rattle.automata_base.specs.Powersets.Powerset.{Powerset, dead}
-use Rattle.automata_base.specs.Paths.Selections.{Pair, at_place}
-use Rattle.automata_base.specs.Haystacks.Tapes.{is_split}
-use Rattle.automata_base.specs.declared.util.search.Direction.{Direction}
+use Rattle.automata_base.specs.Paths.Selections.{at_place}
 use Rattle.automata_base.specs.Retraced.Passes.{pairs_reported}
-use Rattle.automata_hybrid.specs.Machines.Machine.{Machine}
-use Rattle.automata_hybrid.specs.Searches.Passes.{HasReadNoQuit, Skips, state_in, tape_in}
 use Rattle.automata_hybrid.specs.Walks.Answers.{AreWalked, HasReportedBy, IsSilent, WalkMeetsNoQuit, half_nth}
 use Rattle.automata_hybrid.specs.Walks.Answers.{pairs_reported_in}
 use Rattle.automata_hybrid.specs.Private.Walks.Answers.{Finishes}
@@ -64,10 +59,6 @@ pub place_length : (o : ℕ) (ps : List ℕ) → length (at_place o ps) ≡ leng
 place_length o [] = refl
 place_length o (p ∷ ps) = ap suc (place_length o ps)
 
-join_none : (xs : List Pair) → xs ++ [] ≡ xs
-join_none [] = refl
-join_none (x ∷ xs) = ap (λ (zs : List Pair). x ∷ zs) (join_none xs)
-
 module _ (way : Direction) (m : Machine) (input : Input) where
   -- the patterns of the state after the unit at a place
   abbrev pub at : ℕ → List ℕ
@@ -114,13 +105,13 @@ module _ (way : Direction) (m : Machine) (input : Input) where
       ∙ (ap₂ (λ (xs ys : List Pair). xs ++ ys) (sym e)
       (ap (without_split input.haystack) (place_offsets way input i (at i))
       ∙ place_split input.haystack (offset_in way input i) (at i) split)
-      ∙ join_none pairs)))))
+      ∙ append-nil pairs)))))
 
   -- a state without patterns
   pairs_none : (i : ℕ) → at i ≡ [] → pairs_reported_in way m input (suc i) ≡ pairs_reported_in way m input i
   pairs_none i e =
       pairs_more i
-      ∙ (ap (λ ps. pairs_reported_in way m input i ++ at_place i ps) e ∙ join_none (pairs_reported_in way m input i))
+      ∙ (ap (λ ps. pairs_reported_in way m input i ++ at_place i ps) e ∙ append-nil (pairs_reported_in way m input i))
 
   pub silent_none : (i : ℕ) → at i ≡ [] → IsSilent way m input i (suc i)
   silent_none i e k t =
@@ -131,7 +122,7 @@ module _ (way : Direction) (m : Machine) (input : Input) where
         count = t.count;
       }
 
-  pub silent_skipped :
+  silent_skipped :
       (i : ℕ) → Skips m → is_split input.haystack (offset_in way input i) ≡ true → IsSilent way m input i (suc i)
   silent_skipped i s split k t =
       record { pairs = t.pairs; unsplit = reported_skipped i t.pairs s split t.unsplit; count = t.count }
@@ -143,7 +134,7 @@ module _ (way : Direction) (m : Machine) (input : Input) where
   silent_trans a b c f g k t = g k (f k t)
 
   -- the dead state reports nothing from there on
-  pub silent_dead : (k n : ℕ) → k ≤ n → state_in way m input k ≡ dead → IsSilent way m input k n
+  silent_dead : (k n : ℕ) → k ≤ n → state_in way m input k ≡ dead → IsSilent way m input k n
   silent_dead k zero l e = let z : k ≡ 0 = omega (arith, l) in subst (λ i. IsSilent way m input k i) z (silent_same k)
   silent_dead k (suc n) l e = go (λ more. silent_dead k n more e) (eq-or-lt_of_le l) where
     go : (k ≤ n → IsSilent way m input k n) → (k ≡ suc n) ⊎ (k < suc n) → IsSilent way m input k (suc n)
@@ -232,17 +223,13 @@ module _ (way : Direction) (m : Machine) (input : Input) where
     pub rest : List Pair
     pub joined : ys ≡ xs ++ rest
 
-  join_twice : (xs ys zs : List Pair) → (xs ++ ys) ++ zs ≡ xs ++ (ys ++ zs)
-  join_twice [] ys zs = refl
-  join_twice (x ∷ xs) ys zs = ap (λ (ws : List Pair). x ∷ ws) (join_twice xs ys zs)
-
   pairs_begin : (i n : ℕ) → i ≤ n → Begins (pairs_reported_in way m input i) (pairs_reported_in way m input n)
   pairs_begin i zero l =
       let z : i ≡ 0 = omega (arith, l) in
       record {
         rest = [];
         joined = ap (pairs_reported_in way m input) (sym z)
-            ∙ sym (join_none (pairs_reported_in way m input i));
+            ∙ sym (append-nil (pairs_reported_in way m input i));
       }
   pairs_begin i (suc n) l = go (λ more. pairs_begin i n more) (eq-or-lt_of_le l) where
     go :
@@ -252,7 +239,7 @@ module _ (way : Direction) (m : Machine) (input : Input) where
         record {
           rest = [];
           joined = ap (pairs_reported_in way m input) (sym same)
-              ∙ sym (join_none (pairs_reported_in way m input i));
+              ∙ sym (append-nil (pairs_reported_in way m input i));
         }
     go again (inr less) =
         let b : Begins (pairs_reported_in way m input i) (pairs_reported_in way m input n) =
@@ -262,7 +249,7 @@ module _ (way : Direction) (m : Machine) (input : Input) where
           joined =
               pairs_more n
               ∙ (ap (λ (zs : List Pair). zs ++ at_place n (at n)) b.joined
-              ∙ join_twice (pairs_reported_in way m input i) b.rest (at_place n (at n)));
+              ∙ append_assoc (pairs_reported_in way m input i) b.rest (at_place n (at n)));
         }
 
   unsplit_begin :

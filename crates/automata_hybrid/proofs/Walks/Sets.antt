@@ -1,28 +1,21 @@
 -- The patterns that a walk puts into a set.
 use Rattle.std.proofs.Common.{ℕ, zero, suc, ◌≡◌, ◌<◌, ◌≤◌, ◌+◌, ◌-◌, ◌*◌, ◌⊎◌, ◌↔◌, inl, inr, Bool, true, false, List}
-use Rattle.std.proofs.Common.{[], ◌∷◌, length, take, set, Option, Some, None, refl, sym, ap, ◌∙◌, ◌++◌, subst, arith}
+use Rattle.std.proofs.Common.{[], ◌∷◌, length, take, set, Option, Some, None, refl, sym, ap, ◌∙◌, subst, arith}
 use Rattle.std.proofs.Common.{length-set}
 use Rattle.std.proofs.lemmas.Bool.{cases_eq}
 use Rattle.std.proofs.lemmas.List.{get_or-set_other, get_or-set_same}
-use Rattle.automata_base.specs.Answers.Answers.{ArePatterns, ArePatternsFound, HasPattern, IsInput, first_alone}
-use Rattle.automata_base.specs.Haystacks.Input.{Input}
-use Rattle.automata_base.specs.Lists.{In}
-use Rattle.automata_base.specs.Haystacks.Matches.{HalfMatch}
-use Rattle.automata_base.specs.Nfas.Nodes.{nfa_of}
+use Rattle.automata_hybrid.proofs.Words.{cost, Forward, HalfMatch, HasPattern, In, Input, IsInput, Known, Machine}
+use Rattle.automata_hybrid.proofs.Words.{match_kind_of, members, nfa_of, Pair, Powerset, tape_in}
+use Rattle.automata_base.specs.Answers.Answers.{ArePatterns, ArePatternsFound, IsInSet}
+use Rattle.automata_base.specs.Answers.Answers.{IsGivenPattern, IsReportedPattern, first_alone}
 use Rattle.automata_base.specs.Paths.Paths.{KeepsCycles}
-use Rattle.automata_base.specs.Haystacks.PatternSet.{has, members, members_from}
-use Rattle.automata_base.specs.Paths.Selections.{Pair}
-use Rattle.automata_base.specs.declared.util.search.Direction.TheVariants.{Forward}
+use Rattle.automata_base.specs.Haystacks.PatternSet.{has, members_from}
 use Rattle.automata_base.specs.Laws.Walks.{WalkIsRight}
-use Rattle.automata_config.specs.Options.{match_kind_of}
 use Rattle.automata_base.proofs.ByteClasses.PatternsInSets.{members-few}
-use Rattle.automata_hybrid.specs.Known.Known.{Known}
 use Rattle.automata_hybrid.specs.Known.Walks.{HaveCalled, NoCall}
 use Rattle.automata_hybrid.specs.Walks.Cached.{IsOpen, LacksOne, NoPair}
-use Rattle.automata_hybrid.specs.Machines.Machine.{Machine, engine}
-use Rattle.automata_base.specs.Powersets.Powerset.{Powerset, cost}
+use Rattle.automata_hybrid.specs.Machines.Machine.{engine}
 use Rattle.automata_hybrid.specs.Walks.Progress.{IsJoined, IsJoinedAfter}
-use Rattle.automata_hybrid.specs.Searches.Passes.{tape_in}
 use Rattle.automata_hybrid.specs.Walks.Answers.{AreWalked, HasReported, HasReportedAt, ReportsNext, half_nth}
 use Rattle.automata_hybrid.specs.Private.Walks.Answers.{CallGoesOn, FindsNone, ReadsMore, ReportsOneMore}
 use Rattle.automata_hybrid.specs.Walks.State.{At, Ended, Fresh, Stage, Walk, fresh_walk}
@@ -57,7 +50,7 @@ in_has (true ∷ xs) j p (inl e) = record { index = 0; place = omega (arith, e);
 in_has (true ∷ xs) j p (inr i) = has_later true xs j p (in_has xs (suc j) p i)
 in_has (false ∷ xs) j p i = has_later false xs j p (in_has xs (suc j) p i)
 
-pub flag_in : (xs : List Bool) (p : ℕ) → has xs p ≡ true → In p (members xs)
+flag_in : (xs : List Bool) (p : ℕ) → has xs p ≡ true → In p (members xs)
 flag_in xs p e = let z : 0 + p ≡ p = omega arith in subst (λ n. In n (members xs)) z (has_in xs 0 p e)
 
 in_flag : (xs : List Bool) (p : ℕ) → In p (members xs) → has xs p ≡ true
@@ -67,7 +60,7 @@ in_flag xs p i =
     subst (λ n. has xs n ≡ true) z h.flag
 
 -- a full set has each pattern below its capacity
-pub full_at : (xs : List Bool) (j p : ℕ) → length (members_from j xs) ≡ length xs → p < length xs → has xs p ≡ true
+full_at : (xs : List Bool) (j p : ℕ) → length (members_from j xs) ≡ length xs → p < length xs → has xs p ≡ true
 full_at [] j p e l = absurd (omega (arith, l))
 full_at (true ∷ xs) j zero e l = refl
 full_at (true ∷ xs) j (suc p) e l = full_at xs (suc j) p (omega (arith, e)) (omega (arith, l))
@@ -181,10 +174,10 @@ pub record Joins (m : Machine) (input : Input) (walk : Walk) (old new : List Boo
   pub open_at : (k ≡ 0) ⊎ IsLacking new
 
 joined_none : (xs : List Bool) → IsJoined [] xs xs
-joined_none xs p = (λ h. inl h, λ h. go h) where
-  go : In p (members xs) ⊎ ((p < length xs) × ⊥) → In p (members xs)
-  go (inl h) = h
-  go (inr (l, h)) = absurd h
+joined_none xs p = (λ h. IsGivenPattern h, λ h. go h) where
+  go : IsInSet (length xs) (members xs) [] p → In p (members xs)
+  go (IsGivenPattern h) = h
+  go (IsReportedPattern l h) = absurd h
 
 module _ (m : Machine) (input : Input) (old : List Bool) where
   module _ (walk next : Walk) (new : List Bool) (j : Joins m input walk old new)
@@ -205,51 +198,39 @@ module _ (m : Machine) (input : Input) (old : List Bool) where
         more = more_pattern ps j.k p half e
 
         there :
-            In p (members new) ⊎ ((p < length new) × (p ≡ half.pattern))
-            → In p (members old) ⊎ ((p < length old) × HasPattern p (take (suc j.k) ps))
+            In p (members new) ⊎ ((p < length new) × (p ≡ half.pattern)) → IsInSet (length old) (members old)
+            (take (suc j.k) ps) p
         there (inl h) = go ((before p).0 h) where
-          go :
-              In p (members old) ⊎ ((p < length old) × HasPattern p (take j.k ps))
-              → In p (members old) ⊎ ((p < length old) × HasPattern p (take (suc j.k) ps))
-          go (inl g) = inl g
-          go (inr (l, g)) = inr (l, more.1 (inl g))
-        there (inr (l, e)) = inr (omega (arith, l, j.capacity), more.1 (inr e))
+          go : IsInSet (length old) (members old) (take j.k ps) p → IsInSet (length old) (members old)
+              (take (suc j.k) ps) p
+          go (IsGivenPattern g) = IsGivenPattern g
+          go (IsReportedPattern l g) = IsReportedPattern l (more.1 (inl g))
+        there (inr (l, e)) = IsReportedPattern (omega (arith, l, j.capacity)) (more.1 (inr e))
 
-        back :
-            In p (members old) ⊎ ((p < length old) × HasPattern p (take (suc j.k) ps))
-            → In p (members (set new half.pattern true))
-        back (inl h) = (insert_in new half.pattern p).1 (inl ((before p).1 (inl h)))
-        back (inr (l, h)) = go (more.0 h) where
+        back : IsInSet (length old) (members old) (take (suc j.k) ps) p → In p (members (set new half.pattern true))
+        back (IsGivenPattern h) = (insert_in new half.pattern p).1 (inl ((before p).1 (IsGivenPattern h)))
+        back (IsReportedPattern l h) = go (more.0 h) where
           go : HasPattern p (take j.k ps) ⊎ (p ≡ half.pattern) → In p (members (set new half.pattern true))
-          go (inl g) = (insert_in new half.pattern p).1 (inl ((before p).1 (inr (l, g))))
+          go (inl g) = (insert_in new half.pattern p).1 (inl ((before p).1 (IsReportedPattern l g)))
           go (inr g) = (insert_in new half.pattern p).1 (inr (omega (arith, l, j.capacity), g))
 
     -- no match is left
     pub joins_all :
         next.found ≡ None → ArePatterns (AreWalked Forward m input) input (length old) (members old) (members new)
-    joins_all e = (pairs, list.1, go input.earliest refl)
+    joins_all e = record {
+      pairs = pairs;
+      reports = list.1;
+      members = subst (λ (ps : List Pair). IsJoined ps old new) (go input.earliest refl) (j.joined pairs list.1);
+    }
       where
         whole : take j.k pairs ≡ pairs
         whole = take_all pairs j.k (sym found ∙ e)
 
-        joined : IsJoined pairs old new
-        joined = subst (λ (ps : List Pair). IsJoined ps old new) whole (j.joined pairs list.1)
-
-        none : j.k ≡ 0 → pairs ≡ []
-        none z = sym whole ∙ ap (λ n. take n pairs) z
-
-        go :
-            (b : Bool) → input.earliest ≡ b
-            → (p : ℕ)
-            → In p (members new) ↔ (In p (members old) ⊎ ((p < length old) × HasPattern p (first_alone b pairs)))
-        go false s p =
-            subst (λ (ps : List Pair). In p (members new) ↔ (In p (members old) ⊎ ((p < length old) × HasPattern p ps)))
-            (sym (all_of pairs)) (joined p)
-        go true s p =
-            let z : pairs ≡ [] = none (j.first s) in
-            let same : pairs ≡ first_alone true pairs = z ∙ ap (first_alone true) (sym z) in
-            subst (λ (ps : List Pair). In p (members new) ↔ (In p (members old) ⊎ ((p < length old) × HasPattern p ps)))
-            same (joined p)
+        go : (b : Bool) → input.earliest ≡ b → take j.k pairs ≡ first_alone b pairs
+        go false s = whole ∙ sym (all_of pairs)
+        go true s =
+            let none : pairs ≡ [] = sym whole ∙ ap (λ n. take n pairs) (j.first s) in
+            whole ∙ none ∙ ap (first_alone true) (sym none)
 
     -- one is, and its pattern is put in
     module _ (half : HalfMatch) (is_found : next.found ≡ Some half) where
@@ -264,27 +245,28 @@ module _ (m : Machine) (input : Input) (old : List Bool) where
           length (members (set new half.pattern true)) ≡ length (set new half.pattern true)
           → ArePatterns (AreWalked Forward m input) input (length old) (members old)
           (members (set new half.pattern true))
-      joins_full full = (pairs, list.1, λ p. (λ h. there p ((joined_more p).0 h) input.earliest refl, λ h. back p h))
+      joins_full full = record {
+        pairs = pairs;
+        reports = list.1;
+        members = λ p. (λ h. there p ((joined_more p).0 h) input.earliest refl, λ h. back p h);
+      }
         where
           there :
-              (p : ℕ) → In p (members old) ⊎ ((p < length old) × HasPattern p (take (suc j.k) pairs))
-              → (b : Bool) → input.earliest ≡ b → In p (members old)
-              ⊎ ((p < length old) × HasPattern p (first_alone b pairs))
-          there p (inl h) b s = inl h
-          there p (inr (l, h)) false s =
-              inr (l, subst (HasPattern p) (sym (all_of pairs)) (taken_pattern pairs (suc j.k) p h))
-          there p (inr (l, h)) true s =
-              inr (
-                l,
-                subst (HasPattern p) (sym (one_of pairs))
-                    (subst (λ n. HasPattern p (take (suc n) pairs)) (j.first s) h),
-              )
+              (p : ℕ) → IsInSet (length old) (members old) (take (suc j.k) pairs) p
+              → (b : Bool) → input.earliest ≡ b → IsInSet (length old) (members old) (first_alone b pairs) p
+          there p (IsGivenPattern h) b s = IsGivenPattern h
+          there p (IsReportedPattern l h) false s =
+              IsReportedPattern l (subst (HasPattern p) (sym (all_of pairs)) (taken_pattern pairs (suc j.k) p h))
+          there p (IsReportedPattern l h) true s =
+              IsReportedPattern l
+              (subst (HasPattern p) (sym (one_of pairs))
+              (subst (λ n. HasPattern p (take (suc n) pairs)) (j.first s) h))
 
           back :
-              (p : ℕ) → In p (members old) ⊎ ((p < length old) × HasPattern p (first_alone input.earliest pairs))
+              (p : ℕ) → IsInSet (length old) (members old) (first_alone input.earliest pairs) p
               → In p (members (set new half.pattern true))
-          back p (inl h) = (joined_more p).1 (inl h)
-          back p (inr (l, h)) =
+          back p (IsGivenPattern h) = (joined_more p).1 (IsGivenPattern h)
+          back p (IsReportedPattern l h) =
               flag_in (set new half.pattern true) p
               (full_at (set new half.pattern true) 0 p full
               (omega (arith, l, j.capacity, length-set new half.pattern true)))
@@ -296,13 +278,12 @@ module _ (m : Machine) (input : Input) (old : List Bool) where
           (members (set new half.pattern true))
       joins_first e =
           let one : take (suc j.k) pairs ≡ first_alone input.earliest pairs =
-          ap (λ n. take (suc n) pairs) (j.first e) ∙ (sym (one_of pairs) ∙ ap (λ b. first_alone b pairs) (sym e)) in (
-            pairs,
-            list.1,
-            λ p. subst
-                (λ (ps : List Pair). In p (members (set new half.pattern true))
-                ↔ (In p (members old) ⊎ ((p < length old) × HasPattern p ps))) one (joined_more p),
-          )
+          ap (λ n. take (suc n) pairs) (j.first e) ∙ (sym (one_of pairs) ∙ ap (λ b. first_alone b pairs) (sym e)) in
+          record {
+            pairs = pairs;
+            reports = list.1;
+            members = subst (λ (ps : List Pair). IsJoined ps old (set new half.pattern true)) one joined_more;
+          }
 
       -- and any other goes on
       pub joins_more :
@@ -396,7 +377,11 @@ pub patterns_of :
     → KeepsCycles (nfa_of m.nfa)
     → ArePatterns (AreWalked Forward m input) input (length old) (members old) (members new)
     → ArePatternsFound (engine m) input (length old) (members old) (members new)
-patterns_of m input law good old new kept h = (h.0, law Forward (match_kind_of m.config) input h.0 kept good h.1, h.2)
+patterns_of m input law good old new kept h = record {
+  pairs = h.pairs;
+  reports = law Forward (match_kind_of m.config) input h.pairs kept good h.reports;
+  members = h.members;
+}
 
 none_half : (half : HalfMatch) → ◌≡◌ {A = Option HalfMatch} None (Some half) → ⊥
 none_half half e = cc
@@ -429,10 +414,6 @@ reported_one m input w a b on t u = go w.stage on t u where
       omega (arith, up, down, t.count, u.count)
   go Ended on t u = absurd (on refl)
 
-pub take_front : (xs ys : List Pair) → take (length xs) (xs ++ ys) ≡ xs
-take_front [] ys = refl
-take_front (x ∷ xs) ys = ap (λ (zs : List Pair). x ∷ zs) (take_front xs ys)
-
 -- a walk that has reported a pair has a span that is not done
 pub reported_undone :
     (m : Machine) (input : Input) (w : Walk) (k : ℕ)
@@ -461,8 +442,8 @@ open_after m input walk old new j pairs walked = go j.open_at input.earliest ref
       (λ i. false_true (sym lacks.absent ∙ in_flag new lacks.pattern i)) in
       let below : lacks.pattern < length old = omega (arith, lacks.below, j.capacity) in
       LacksOne e lacks.pattern below
-      (λ i. absent ((j.joined pairs walked lacks.pattern).1 (inl i)))
-      (λ h. absent ((j.joined pairs walked lacks.pattern).1 (inr (below, h))))
+      (λ i. absent ((j.joined pairs walked lacks.pattern).1 (IsGivenPattern i)))
+      (λ h. absent ((j.joined pairs walked lacks.pattern).1 (IsReportedPattern below h)))
 
 -- an earliest set or a full one is not gone on with
 pub closes :
@@ -479,6 +460,6 @@ closes input old new pairs k half found capacity joined stop is_open = go is_ope
   go (LacksOne e p below absent other) (inl early) = false_true (sym e ∙ early)
   go (LacksOne e p below absent other) (inr full) =
       among ((joined p).0 (flag_in new p (full_at new 0 p full (omega (arith, below, capacity))))) where
-        among : In p (members old) ⊎ ((p < length old) × HasPattern p (take (suc k) pairs)) → ⊥
-        among (inl i) = absent i
-        among (inr (b, h)) = other h
+        among : IsInSet (length old) (members old) (take (suc k) pairs) p → ⊥
+        among (IsGivenPattern i) = absent i
+        among (IsReportedPattern b h) = other h

@@ -1,28 +1,20 @@
 -- A walk of `MatchKind::All` reports the patterns of the accepting paths.
 use Rattle.std.proofs.Common.{ℕ, ◌≡◌, ◌<◌, ◌≤◌, ◌⊎◌, inl, inr, Bool, true, false, List, [], ◌∷◌, length, Some, refl}
 use Rattle.std.proofs.Common.{sym, ap, subst}
-use Rattle.std.specs.Prelude.{◌↔◌}
-use Rattle.automata_base.specs.Answers.Answers.{HasPattern, IsInput, first_alone}
-use Rattle.automata_base.specs.Haystacks.Input.{Input}
-use Rattle.automata_base.specs.Lists.{In}
-use Rattle.automata_base.specs.Haystacks.PatternSet.{members}
-use Rattle.automata_base.specs.Paths.Selections.{Pair}
+use Rattle.automata_hybrid.proofs.Words.{Forward, HasPattern, In, Input, IsInput, Machine, match_kind_of, MatchKind}
+use Rattle.automata_hybrid.proofs.Words.{members, Pair, WalkLiesWithin, WalksAreReported, ◌↔◌}
+use Rattle.automata_base.specs.Answers.Answers.{IsGivenPattern, IsInSet, IsReportedPattern, first_alone}
 use Rattle.automata_base.specs.Paths.Starts.{mode_start}
-use Rattle.automata_base.specs.declared.util.search.Direction.TheVariants.{Forward}
-use Rattle.automata_base.specs.Laws.Walks.{AllPairsAreReported, AreReported, InPairs, WalksAreReported}
-use Rattle.automata_base.specs.Answers.Within.{WalkLiesWithin}
-use Rattle.automata_base.specs.declared.util.search.MatchKind.{MatchKind}
+use Rattle.automata_base.specs.Laws.Walks.{AllPairsAreReported, AreReported, InPairs}
 use Rattle.automata_base.specs.declared.util.search.MatchKind.TheVariants.{All as KindAll}
-use Rattle.automata_config.specs.Options.{match_kind_of}
 use Rattle.automata_hybrid.specs.Walks.SetsByPaths.{MatchesIn, SetsHaveMatching}
-use Rattle.automata_hybrid.specs.Machines.Machine.{Machine}
 use Rattle.automata_hybrid.specs.Walks.Contracts.{JoinsReported}
 
-pair_of :
+pair_with :
     (p : ℕ) (pairs : List Pair) → HasPattern p pairs → (at : ℕ) × InPairs (record { pattern = p; place = at }) pairs
-pair_of p [] h = elim h [ ]
-pair_of p (pair ∷ pairs) (inl e) = (pair.place, inl (ap (λ v. record { pattern = v; place = pair.place }) e))
-pair_of p (pair ∷ pairs) (inr h) = let rest = pair_of p pairs h in (rest.0, inr rest.1)
+pair_with p [] h = elim h [ ]
+pair_with p (pair ∷ pairs) (inl e) = (pair.place, inl (ap (λ v. record { pattern = v; place = pair.place }) e))
+pair_with p (pair ∷ pairs) (inr h) = let rest = pair_with p pairs h in (rest.0, inr rest.1)
 
 has_pair : (p at : ℕ) (pairs : List Pair) → InPairs (record { pattern = p; place = at }) pairs → HasPattern p pairs
 has_pair p at [] h = elim h [ ]
@@ -50,7 +42,7 @@ module _ (m : Machine) (all : AllPairsAreReported m.nfa) (reported : WalksAreRep
   module _ (pairs : List Pair) (walked : AreReported Forward m.nfa KindAll input pairs) where
     matches : (p : ℕ) → HasPattern p pairs → MatchesIn m input start p
     matches p h =
-        let inside = pair_of p pairs h in
+        let inside = pair_with p pairs h in
         record {
           at = inside.0;
           accepted =
@@ -68,25 +60,28 @@ module _ (m : Machine) (all : AllPairsAreReported m.nfa) (reported : WalksAreRep
       (old new : List Bool) → match_kind_of m.config ≡ KindAll → input.earliest ≡ false → JoinsReported m input old new
       → (p : ℕ) → In p (members new) ↔ (In p (members old) ⊎ ((p < length old) × MatchesIn m input start p))
   sets old new kind full found p =
-      let walked : AreReported Forward m.nfa KindAll input found.0 =
-      subst (λ (k : MatchKind). AreReported Forward m.nfa k input found.0) kind found.1 in
-      let same : first_alone input.earliest found.0 ≡ found.0 = all_pairs input.earliest found.0 full in
-      (λ h. forth found.0 walked same ((found.2 p).0 h), λ h. (found.2 p).1 (back found.0 walked same h)) where
+      let walked : AreReported Forward m.nfa KindAll input found.pairs =
+      subst (λ (k : MatchKind). AreReported Forward m.nfa k input found.pairs) kind found.reports in
+      let same : first_alone input.earliest found.pairs ≡ found.pairs = all_pairs input.earliest found.pairs full in (
+        λ h. forth found.pairs walked same ((found.members p).0 h),
+        λ h. (found.members p).1 (back found.pairs walked same h),
+      ) where
         forth :
             (pairs : List Pair) → AreReported Forward m.nfa KindAll input pairs
             → first_alone input.earliest pairs ≡ pairs
-            → (In p (members old) ⊎ ((p < length old) × HasPattern p (first_alone input.earliest pairs)))
+            → IsInSet (length old) (members old) (first_alone input.earliest pairs) p
             → In p (members old) ⊎ ((p < length old) × MatchesIn m input start p)
-        forth pairs walked same (inl h) = inl h
-        forth pairs walked same (inr (l, h)) = inr (l, matches pairs walked p (subst (HasPattern p) same h))
+        forth pairs walked same (IsGivenPattern h) = inl h
+        forth pairs walked same (IsReportedPattern l h) = inr (l, matches pairs walked p (subst (HasPattern p) same h))
 
         back :
             (pairs : List Pair) → AreReported Forward m.nfa KindAll input pairs
             → first_alone input.earliest pairs ≡ pairs
             → (In p (members old) ⊎ ((p < length old) × MatchesIn m input start p))
-            → In p (members old) ⊎ ((p < length old) × HasPattern p (first_alone input.earliest pairs))
-        back pairs walked same (inl h) = inl h
-        back pairs walked same (inr (l, h)) = inr (l, subst (HasPattern p) (sym same) (has_all pairs walked p h))
+            → IsInSet (length old) (members old) (first_alone input.earliest pairs) p
+        back pairs walked same (inl h) = IsGivenPattern h
+        back pairs walked same (inr (l, h)) =
+            IsReportedPattern l (subst (HasPattern p) (sym same) (has_all pairs walked p h))
 
 pub sets_have_matching :
     (m : Machine) → AllPairsAreReported m.nfa → WalksAreReported m.nfa → WalkLiesWithin m.nfa → SetsHaveMatching m

@@ -1,34 +1,21 @@
 -- One call of a walk that reads units: what it makes of what its cache knows.
 use Rattle.std.proofs.Common.{ℕ, suc, ◌≡◌, ◌∙◌, ◌+◌, ◌-◌, ◌≤◌, ◌<◌, false, length, Option, None, Some, refl, sym, ap}
 use Rattle.std.proofs.Common.{subst, arith}
-use Rattle.std.specs.Prelude.{Result, Ok, Err, option_map}
-use Rattle.automata_base.specs.Answers.Answers.{offset_in}
-use Rattle.automata_base.specs.Haystacks.Input.{Input}
-use Rattle.automata_base.specs.Haystacks.Tapes.{is_split}
+use Rattle.automata_hybrid.proofs.Words.{after_many, after_unit, CacheView, dead, Direction, ended, Err}
+use Rattle.automata_hybrid.proofs.Words.{given_up_offset, Input, is_split, Known, known_of, Leads, Machine}
+use Rattle.automata_hybrid.proofs.Words.{match_kind_of, Names, offset_in, Ok, option_map, pass_trace, Powerset}
+use Rattle.automata_hybrid.proofs.Words.{progress_finished, quits_on, Result, Rows, SearchError, Skips, state_in}
+use Rattle.automata_hybrid.proofs.Words.{successor, tape_in, unit_offset, with_searched, with_store}
 use Rattle.automata_base.specs.Paths.Paths.{next as unit_at}
-use Rattle.automata_base.specs.Powersets.Powerset.{Powerset, dead}
-use Rattle.automata_base.specs.Retraced.Steps.{successor}
-use Rattle.automata_base.specs.declared.util.search.Direction.{Direction}
-use Rattle.automata_config.specs.Options.{match_kind_of}
-use Rattle.automata_config.specs.declared.error.SearchError.{SearchError}
 use Rattle.automata_config.specs.declared.error.SearchError.TheVariants as search
 use Rattle.automata_hybrid.specs.declared.search.walk.advance.Arrival.{Arrival}
-use Rattle.automata_hybrid.specs.Cache.Caches.{CacheView, with_store}
-use Rattle.automata_hybrid.specs.Cache.Progress.{progress_finished}
-use Rattle.automata_hybrid.specs.Cache.Stores.{with_searched}
-use Rattle.automata_hybrid.specs.Cache.Table.{Leads, Names, Rows}
-use Rattle.automata_hybrid.specs.Known.Known.{Known, ended}
-use Rattle.automata_hybrid.specs.Known.Passes.{after_many, after_unit}
-use Rattle.automata_hybrid.specs.Known.Stores.{known_of}
-use Rattle.automata_hybrid.specs.Known.Walks.{EndsCall, FailsAfterIt, FailsOnItsWay, IsCallStopped, LeavesCall, MayGoOn}
+use Rattle.automata_hybrid.specs.Known.Walks.{CallEnds, FailsAfterIt, FailsOnItsWay, CallFailsAtUnit, CallFails}
+use Rattle.automata_hybrid.specs.Known.Walks.{MayGoOn}
 use Rattle.automata_hybrid.specs.Known.Walks.{ReadsSome, after_going_on}
-use Rattle.automata_hybrid.specs.Machines.Machine.{Machine, quits_on}
 use Rattle.automata_hybrid.specs.Private.Searches.Units.{IsRead}
 use Rattle.automata_hybrid.specs.Private.Walks.Answers.{Arrives, IsArrival}
 use Rattle.automata_hybrid.specs.Private.Walks.Parts.{HasAdvanced, IsUnitResult}
 use Rattle.automata_hybrid.specs.Private.Walks.State.{ended_walk}
-use Rattle.automata_hybrid.specs.Searches.Passes.{Skips, given_up_offset, state_in, tape_in, unit_offset}
-use Rattle.automata_hybrid.specs.Searches.Traces.{pass_trace}
 use Rattle.automata_hybrid.specs.Walks.Answers.{IsSilent, IsUnheld, WalkReads}
 use Rattle.automata_hybrid.specs.Walks.Cached.{IsToRead}
 use Rattle.automata_hybrid.specs.Walks.State.{Ended, States, Walk}
@@ -89,7 +76,7 @@ pub run_dead :
     → after_going_on way m input w.stage w.units old ≡ Some (known_of begun) → state_in way m input w.units ≡ dead
     → (new : CacheView) (at : ℕ) → at ≡ given_up_offset way input w.units
     → new ≡ with_store begun (with_searched begun.store (progress_finished begun.store.searched at))
-    → EndsCall way m input w (ended_walk w w.units) old (known_of new)
+    → CallEnds way m input w (ended_walk w w.units) old (known_of new)
 unfolding after_many
 run_dead way m input w old begun r may goes_on dies new at place ends =
     let first : w.units + (0 - 1) ≡ w.units = omega arith in
@@ -123,7 +110,7 @@ module _ (way : Direction) (m : Machine) (input : Input) (w : Walk) (old : Known
       → at ≡ given_up_offset way input (arrival.units - 1)
       → new ≡ with_store mid (with_searched mid.store (progress_finished mid.store.searched at))
       → (next.stage ≡ Ended → (next.found ≡ None) × (WalkReads way m input arrival.units → ⊥))
-      → EndsCall way m input w next old (known_of new)
+      → CallEnds way m input w next old (known_of new)
   run_on next new at units place ends stops =
       let last : w.units + (suc a.before - 1) ≡ arrival.units - 1 = omega (arith, a.counted) in
       ReadsSome (λ over. (stops over).0)
@@ -172,7 +159,7 @@ module _ (way : Direction) (m : Machine) (input : Input) (w : Walk) (old : Known
 
     left_unheld :
         after_many (pass_trace way m input) way m input w.units (suc a.before) (known_of begun) ≡ Some (known_of mid)
-        → IsCallStopped States way m input w.units (known_of begun) (known_of mid) search.OutOfMemory
+        → CallFailsAtUnit States way m input w.units (known_of begun) (known_of mid) search.OutOfMemory
     unfolding after_many
     left_unheld run =
         let parts =
@@ -188,5 +175,5 @@ module _ (way : Direction) (m : Machine) (input : Input) (w : Walk) (old : Known
           left = FailsAfterIt refl unheld_on parts.2;
         }
 
-    pub run_unheld : LeavesCall States way m input w old (known_of mid) search.OutOfMemory
+    pub run_unheld : CallFails States way m input w old (known_of mid) search.OutOfMemory
     run_unheld = FailsOnItsWay (reads_some input w r) may (known_of begun) goes_on (left_unheld a.goes)

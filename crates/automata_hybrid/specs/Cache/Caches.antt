@@ -7,9 +7,9 @@ use Rattle.automata_hybrid.specs.Cache.Stores.{Stored, fresh_store}
 
 -- what contracts see of a cache: its states, and how often it determinized
 pub record CacheView : Type 0 where
-  -- Its rows, its start slots, how often it was cleared, and the progress of searches.
+  -- its rows, its start slots, how often it was cleared, and the progress of searches
   pub store : Stored
-  -- The count of determinizations.
+  -- the count of determinizations
   pub count : ℕ
 
 -- the DFA that a cache belongs to
@@ -24,7 +24,7 @@ IsCacheOf c m = dfa_of c ≡ m
 abbrev pub fresh_cache : Machine → CacheView
 fresh_cache m = record { store = fresh_store m; count = 0 }
 
--- with other states
+-- a cache with another store
 abbrev pub with_store : CacheView → Stored → CacheView
 with_store c s = record { store = s; count = c.count }
 

@@ -11,7 +11,7 @@ distance p = (p.place - p.start) + (p.start - p.place)
 abbrev pub saturated : ℕ → ℕ
 saturated n = min n (2 ^ 64 - 1)
 
--- so many bytes, with those of the open search
+-- so many bytes and those of the open search, if there is one
 abbrev pub with_open : Option Progress → ℕ → ℕ
 with_open None n = n
 with_open (Some p) n = saturated (n + distance p)
@@ -35,7 +35,7 @@ progress_updated s at = record {
 abbrev pub progress_finished : Searched → ℕ → Searched
 progress_finished s at = record { bytes = total_len (progress_updated s at); running = None }
 
--- what a clear makes of it: nothing was searched, and an open search begins where it is
+-- the progress after a clear: nothing was searched, and an open search begins where it is
 abbrev pub progress_cleared : Searched → Searched
 progress_cleared s = record {
   bytes = 0;

@@ -16,11 +16,11 @@ use Rattle.automata_hybrid.specs.Cache.Table.{Leads, Names, Rows, row_id}
 
 -- a state that a cache holds
 pub record HeldState : Type 0 where
-  -- The ID of its row, tags included.
+  -- the ID of its row, tags included
   pub id : ℕ
-  -- Its powerset state.
+  -- its powerset state
   pub state : Powerset
-  -- What stands in its cell at each class: the ID that its transition leads to, or the unknown one.
+  -- what stands in its cell at each class: the ID that its transition leads to, or the unknown one
   pub transitions : List ℕ
 
 -- the states of rows of so many cells each, the first of them at an offset
@@ -46,13 +46,13 @@ IsTransition c s unit =
 
 -- a cache holds a state so: its row has this ID, and its transitions are those of the row
 pub record IsHeldState (c : Stored) (s : HeldState) : Type 0 where
-  -- The ID is that of the row of the state.
+  -- the ID is that of the row of the state
   pub named : Names c.table s.id s.state
-  -- What stands at a class is what stands in the row's cell.
+  -- what stands at a class is what stands in the row's cell
   pub cells : (class : ℕ) → class < c.table.of.stride → slice_index s.transitions class ≡ cell_of c s.id class
-  -- If a transition is cached, it is the ID of quit, or leads to the next state on each unit of its class.
+  -- if a transition is cached, it is the ID of quit, or leads to the next state on each unit of its class
   pub leads : (unit : Option ℕ) → IsUnit unit → unit_class c.table.of unit < c.table.of.stride → IsTransition c s unit
-  -- It is a state of the automaton.
+  -- it is a state of the automaton
   pub own : IsOwn c.table.of.nfa s.state
 
 -- a start state that is cached: the ID in its slot leads to it

@@ -1,4 +1,4 @@
--- What contracts see of a cache, its starts and its transitions, and how one of these is written.
+-- The store of a cache: what a clear replaces.
 use Rattle.std.specs.Prelude.{ℕ, List, None, slice_index, replicate}
 use Rattle.automata_hybrid.specs.declared.cache.progress.Searched.{Searched}
 use Rattle.automata_config.specs.declared.error.StepError.{StepError}
@@ -7,15 +7,15 @@ use Rattle.automata_hybrid.specs.Cache.Ids.{unknown_id}
 use Rattle.automata_hybrid.specs.Machines.Machine.{Machine}
 use Rattle.automata_hybrid.specs.Cache.Table.{Rows, cell_at, fresh}
 
--- what contracts see of a cache
+-- what contracts see of the store of a cache
 pub record Stored : Type 0 where
-  -- The rows of states, and their transitions.
+  -- the rows of states, and their transitions
   pub table : Rows
-  -- The ID in each start slot, or the unknown one.
+  -- the ID in each start slot, or the unknown one
   pub starts : List ℕ
-  -- How often it was cleared, up to the greatest number of 64 bits.
+  -- how often it was cleared, up to the greatest number of 64 bits
   pub clears : ℕ
-  -- The progress of searches.
+  -- the progress of searches
   pub searched : Searched
 
 -- a step failed for lack of room, and not of memory
@@ -27,7 +27,7 @@ IsCacheError OutOfMemory = ⊥
 abbrev pub cell_of : Stored → ℕ → ℕ → ℕ
 cell_of c id class = slice_index c.table.cells (cell_at id class)
 
--- a cache that nothing was done to
+-- the store of a fresh cache
 abbrev pub fresh_store : Machine → Stored
 fresh_store m = record {
   table = fresh m;
@@ -36,6 +36,6 @@ fresh_store m = record {
   searched = record { bytes = 0; running = None };
 }
 
--- with another progress
+-- a store with another progress
 abbrev pub with_searched : Stored → Searched → Stored
 with_searched c s = record { table = c.table; starts = c.starts; clears = c.clears; searched = s }

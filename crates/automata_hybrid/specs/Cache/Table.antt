@@ -1,5 +1,5 @@
 -- What contracts see of the table: the rows of the states, and what their identifiers name.
-use Rattle.std.specs.Prelude.{◌≡◌, ℕ, ◌+◌, ◌*◌, ◌%◌, ◌<◌, ◌≤◌, ◌⊎◌, ◌↔◌, List, [], ◌∷◌, ◌++◌, length, Bool, cond}
+use Rattle.std.specs.Prelude.{◌≡◌, ℕ, ◌+◌, ◌*◌, ◌%◌, ◌<◌, ◌≤◌, ◌↔◌, List, [], ◌∷◌, ◌++◌, length, Bool, cond}
 use Rattle.std.specs.Prelude.{nat_lt, Option, None, Some, replicate, ◌-◌, ◌/◌, slice_get}
 use Rattle.automata_base.specs.Powersets.Powerset.{Powerset, cost, dead}
 use Rattle.automata_base.specs.Powersets.Equal.{powerset_eq}
@@ -22,11 +22,11 @@ row_cost r = cost r.state
 
 -- what contracts see of a table: the rows after the three fixed ones, and all cells
 pub record Rows : Type 0 where
-  -- The DFA that the table belongs to.
+  -- the DFA that the table belongs to
   pub of : Machine
-  -- The cells of all rows, those of the three fixed ones first.
+  -- the cells of all rows, those of the three fixed ones first
   pub cells : List ℕ
-  -- The rows after the fixed ones, each with its state.
+  -- the rows after the fixed ones, each with its state
   pub rows : List Row
 
 -- the ID that rows give a state, the first of them standing at an offset
@@ -50,9 +50,12 @@ Names t id q = id_of t q ≡ Some id
 abbrev pub HasItsMatchTag : Rows → ℕ → Type 0
 HasItsMatchTag t id = (q : Powerset) → Names t id q → HasMatchTag id ↔ (0 < length q.patterns)
 
--- the dead ID for the dead state, and else a row's
-abbrev pub Leads : Rows → ℕ → Powerset → Type 0
-Leads t id q = ((id ≡ dead_id t.of.stride) × (q ≡ dead)) ⊎ Names t id q
+-- an ID leads to a state
+pub data Leads (t : Rows) (id : ℕ) (q : Powerset) : Type 0 where
+  -- it is the dead ID, and the state is dead
+  LeadsToDead : id ≡ dead_id t.of.stride → q ≡ dead → Leads t id q
+  -- it is the ID of the row of this state
+  LeadsToNamed : Names t id q → Leads t id q
 
 -- the three fixed rows
 abbrev pub fixed_rows : ℕ → List ℕ
@@ -64,11 +67,11 @@ fresh m = record { of = m; cells = fixed_rows m.stride; rows = [] }
 
 -- a state that a row may have: one of the DFA, which costs no more than a state may, and is not dead
 pub record IsRowState (m : Machine) (q : Powerset) : Type 0 where
-  -- It is a state of the DFA.
+  -- it is a state of the DFA
   pub own : IsStateOf m q
-  -- It costs no more than a state may.
+  -- it costs no more than a state may
   pub cheap : cost q ≤ m.greatest
-  -- It is not dead.
+  -- it is not dead
   pub alive : q ≡ dead → ⊥
 
 -- some row has exactly this ID

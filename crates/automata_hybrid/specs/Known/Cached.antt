@@ -1,4 +1,4 @@
--- Searches whose start and transitions are all cached.
+-- Searches whose start states and transitions are all cached.
 use Rattle.std.specs.Prelude.{ℕ, suc, ◌≡◌, true}
 use Rattle.automata_base.specs.Answers.Answers.{later}
 use Rattle.automata_base.specs.Haystacks.Input.{Input}

@@ -8,7 +8,7 @@ use Rattle.automata_config.specs.declared.error.StartError.{StartError}
 use Rattle.automata_config.specs.declared.error.StepError.{StepError}
 use Rattle.automata_hybrid.specs.Cache.Ids.{fixed_from}
 use Rattle.automata_hybrid.specs.Cache.Progress.{progress_cleared, saturated}
-use Rattle.automata_hybrid.specs.Calls.Events.{Event, Start, Step}
+use Rattle.automata_hybrid.specs.Steps.Events.{Event, Start, Step}
 use Rattle.automata_hybrid.specs.Known.Bounds.{IsKnown}
 use Rattle.automata_hybrid.specs.Known.Events.{after_event, fits, is_cached, refuses_to_clear}
 use Rattle.automata_hybrid.specs.Known.Growth.{HasRow, IsGrown}
@@ -50,14 +50,17 @@ pub record EventFollows (m : Machine) (e : Event) (old new : Known) : Type 0 whe
   -- the cache is cleared only for that row, if it does not fit, and else no progress moves
   pub clears : ClearsFor m (asked_row m e) old new
 
--- All this follows of each event over a cache of the DFA.
+-- what follows of each event over a cache of the DFA
 abbrev pub EventsFollow : Machine → Type 0
 EventsFollow m =
     (e : Event) (old new : Known) → IsKnown m old → after_event m e old old ≡ Some new → EventFollows m e old new
 
--- an ID is known: it is a fixed one, or that of a row
-abbrev pub KnowsId : Machine → Known → (id : ℕ) → Type 0
-KnowsId m c id = (fixed_from ≤ id) ⊎ ((q : Powerset) × (id_in m c q ≡ Some id))
+-- an ID is known
+pub data KnowsId (m : Machine) (c : Known) (id : ℕ) : Type 0 where
+  -- it is a fixed one
+  KnowsFixed : fixed_from ≤ id → KnowsId m c id
+  -- it is that of a row
+  KnowsRow : (q : Powerset) → id_in m c q ≡ Some id → KnowsId m c id
 
 -- what follows of a step that returns Ok
 pub record StepFollows (m : Machine) (id : ℕ) (unit : Option ℕ) (old new : Known) : Type 0 where
@@ -80,7 +83,7 @@ pub record FailureFollows (m : Machine) (old new : Known) : Type 0 where
   -- nothing changes but the count of determinizations
   pub unchanged : (new ≡ old) ⊎ (new ≡ counted old)
 
--- All this follows of each step over a cache of the DFA, from an ID that is known.
+-- what follows of each step over a cache of the DFA, from an ID that is known
 pub record StepsFollow (m : Machine) : Type 0 where
   -- if it returns Ok
   pub answered :
@@ -91,7 +94,7 @@ pub record StepsFollow (m : Machine) : Type 0 where
       (id : ℕ) (unit : Option ℕ) (old new : Known) (e : StepError) → IsKnown m old → KnowsId m old id
       → StepFails m id unit old new e → FailureFollows m old new
 
--- And of each call for a start state.
+-- what follows of each call for a start state over a cache of the DFA
 pub record StartsFollow (m : Machine) : Type 0 where
   -- if it returns Ok
   pub answered :

@@ -11,7 +11,7 @@ use Rattle.automata_hybrid.specs.Cache.Ids.{offset_limit}
 use Rattle.automata_hybrid.specs.Cache.Progress.{total_len}
 use Rattle.automata_hybrid.specs.Cache.Table.{row_cost}
 use Rattle.automata_hybrid.specs.Cache.Usage.{row_usage, short_of}
-use Rattle.automata_hybrid.specs.Calls.Events.{Event, Start, Step}
+use Rattle.automata_hybrid.specs.Steps.Events.{Event, Start, Step}
 use Rattle.automata_hybrid.specs.Known.Known.{Known, cleared, cleared_saving, has_state, with_row}
 use Rattle.automata_hybrid.specs.Machines.Machine.{Machine, unit_class}
 use Rattle.automata_hybrid.specs.Machines.StartSlots.{slot_behind}
@@ -41,23 +41,24 @@ refuses_past m c (Some limit) =
 abbrev pub refuses_to_clear : Machine → Known → Bool
 refuses_to_clear m c = refuses_past m c (minimum_cache_clear_count_of m.config)
 
--- with a row that is not there: it fits, or the cache is cleared first; none, if the clear rule does not allow that
+-- what is known with a row that was not there: it fits, or the cache is cleared first; none, if the clear rule does not
+-- allow that
 abbrev pub with_new_row : Machine → (emptied : Known) → Row → Known → Option Known
 with_new_row m emptied r c =
     cond (fits m c r.state) (Some (with_row r c)) (cond (refuses_to_clear m c) None (Some (with_row r emptied)))
 
--- with a row for a state, unless the state is there; none, if the call gives up
+-- what is known with a row for a state, which is added unless the state is there; none, if the call gives up
 abbrev pub with_state : Machine → (emptied : Known) → Row → Known → Option Known
 with_state m emptied r c = cond (has_state c r.state) (Some c) (with_new_row m emptied r c)
 
--- with one more transition, by one determinization
+-- what is known with one more transition, by one determinization
 abbrev pub with_step : Powerset → (class : ℕ) → Known → Known
 with_step q class c = record c {
   steps = λ p other. (powerset_eq p q && nat_eq other class) || c.steps p other;
   count = c.count + 1;
 }
 
--- with one more start state, by one determinization
+-- what is known with one more start state, by one determinization
 abbrev pub with_start : (slot : ℕ) → Powerset → Known → Known
 with_start slot q c = record c { starts = slice_set c.starts slot (Some q); count = c.count + 1 }
 
@@ -71,7 +72,7 @@ made m (Step q unit) c =
     (with_state m (cleared_saving q c)
     (record { state = successor m.nfa (match_kind_of m.config) q unit; started = false }) c)
 
--- what an event asks for is cached: a mode of a pattern past the last asks for nothing
+-- what an event asks for is cached: the anchored mode of a pattern past the last asks for nothing
 abbrev pub is_cached : Machine → Event → Known → Bool
 is_cached m (Start mode behind) c = unwrap_or (option_map is_some (slice_get c.starts (slot_behind m mode behind))) true
 is_cached m (Step q unit) c = c.steps q (unit_class m unit)

@@ -12,11 +12,15 @@ use Rattle.automata_hybrid.specs.Known.Growth.{ClearedNothing, HasRoom, IsGrown,
 use Rattle.automata_hybrid.specs.Known.Known.{Known}
 use Rattle.automata_hybrid.specs.Known.Passes.{HaveTried, IsSearchRun}
 use Rattle.automata_hybrid.specs.Machines.Machine.{Machine}
-use Rattle.automata_hybrid.specs.Searches.Cached.{IsOfInput}
-use Rattle.automata_hybrid.specs.Searches.Contracts.{IsMemory, IsUnhindered}
-use Rattle.automata_hybrid.specs.Searches.Follows.{passes_most}
+use Rattle.automata_hybrid.specs.Searches.Contracts.{IsOfInput, IsMemory, IsUnhindered}
 use Rattle.automata_hybrid.specs.Searches.Passes.{Skips}
 use Rattle.automata_hybrid.specs.Searches.Progress.{TriesSpans}
+
+-- the most determinizations of so many passes, the first over so many bytes and each later one over one byte less: a
+-- pass determinizes at most once for each byte, for its start and at its end
+abbrev pub passes_most : (passes bytes : ℕ) → ℕ
+passes_most zero bytes = 0
+passes_most (suc passes) bytes = passes_most passes bytes + (bytes - passes + 2)
 
 -- what a pass over the span of an input costs
 pub record IsCostOfPass (way : Direction) (m : Machine) (input : Input) (old new : Known) : Type 0 where
@@ -75,13 +79,13 @@ pub record SearchFollows (way : Direction) (m : Machine) (input : Input) (old ne
   -- with a span that is done, it changes nothing at all
   pub done : input.end < input.start → new ≡ old
 
--- All this follows of each search over a cache of the DFA.
+-- what follows of each search over a cache of the DFA
 abbrev pub SearchesFollow : Machine → Type 0
 SearchesFollow m =
     (way : Direction) (input : Input) (old new : Known) (error : Option SearchError)
     → IsKnown m old → IsSearchRun way m input old new error → SearchFollows way m input old new error
 
--- What passes cost that have ended one after another, each over the next span that is tried.
+-- what passes cost that have ended one after another, each over the next span that is tried
 abbrev pub PassesCost : Machine → Type 0
 PassesCost m =
     (way : Direction) (input : Input) (passes : ℕ) (old new : Known) → IsKnown m old

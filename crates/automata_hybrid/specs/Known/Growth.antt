@@ -5,7 +5,7 @@ use Rattle.automata_base.specs.Powersets.Powerset.{Powerset}
 use Rattle.automata_base.specs.declared.util.search.Anchored.{Anchored}
 use Rattle.automata_hybrid.specs.Cache.Ids.{offset_limit}
 use Rattle.automata_hybrid.specs.Cache.Usage.{row_usage}
-use Rattle.automata_hybrid.specs.Calls.Events.{Start}
+use Rattle.automata_hybrid.specs.Steps.Events.{Start}
 use Rattle.automata_hybrid.specs.Known.Events.{is_cached, usage}
 use Rattle.automata_hybrid.specs.Known.Known.{Known}
 use Rattle.automata_hybrid.specs.Machines.Machine.{Machine}

@@ -32,16 +32,16 @@ row_in rows q = find (λ (r : Row). powerset_eq q r.state) rows
 abbrev pub has_state : Known → Powerset → Bool
 has_state c q = powerset_eq q dead || is_some (row_in c.rows q)
 
--- with one more row
+-- what is known with one more row
 abbrev pub with_row : Row → Known → Known
 with_row r c = record c { rows = c.rows ++ r ∷ [] }
 
--- with the row that was found, if one was and its state has none yet
+-- rows with the row that was found, if one was and its state has none yet
 abbrev pub keep_row : List Row → Option Row → List Row
 keep_row rows None = rows
 keep_row rows (Some r) = cond (is_some (row_in rows r.state)) rows (rows ++ r ∷ [])
 
--- with the row of the start state of a slot, if it is cached
+-- rows with that of the start state of a slot, if it is cached
 abbrev pub keep_start : (old kept : List Row) → (start : Option Powerset) → List Row
 keep_start old kept start = keep_row kept (option_and_then (row_in old) start)
 
@@ -49,7 +49,7 @@ keep_start old kept start = keep_row kept (option_and_then (row_in old) start)
 abbrev pub rows_of_starts : (old : List Row) → (starts : List (Option Powerset)) → List Row
 rows_of_starts old starts = fold (keep_start old) [] starts
 
--- cleared: the start states are kept
+-- what is known after a clear, which keeps the start states
 abbrev pub cleared : Known → Known
 cleared c = record c {
   rows = rows_of_starts c.rows c.starts;
@@ -58,7 +58,7 @@ cleared c = record c {
   searched = progress_cleared c.searched;
 }
 
--- cleared, with the row of one more state
+-- what is known after a clear that keeps the row of one more state
 abbrev pub cleared_saving : Powerset → Known → Known
 cleared_saving q c = record (cleared c) { rows = keep_row (rows_of_starts c.rows c.starts) (row_in c.rows q) }
 
@@ -74,6 +74,6 @@ moved at c = record c { searched = progress_updated c.searched at }
 abbrev pub ended : (at : ℕ) → Known → Known
 ended at c = record c { searched = progress_finished c.searched at }
 
--- one more determinization
+-- what is known with one more determinization counted
 abbrev pub counted : Known → Known
 counted c = record c { count = c.count + 1 }

@@ -10,7 +10,7 @@ use Rattle.automata_base.specs.declared.util.search.MatchErrorKind.TheVariants.{
 use Rattle.automata_base.specs.declared.util.search.MatchErrorKind.TheVariants.{UnsupportedAnchored as UnsupportedMode}
 use Rattle.automata_config.specs.declared.error.SearchError.{SearchError}
 use Rattle.automata_config.specs.declared.error.SearchError.TheVariants as search
-use Rattle.automata_hybrid.specs.Calls.Events.{Event, Step}
+use Rattle.automata_hybrid.specs.Steps.Events.{Event, Step}
 use Rattle.automata_hybrid.specs.Known.Events.{after_event, is_cached, made}
 use Rattle.automata_hybrid.specs.Known.Known.{Known, begun, counted, ended, moved}
 use Rattle.automata_hybrid.specs.Machines.Machine.{Machine, quits_on}
@@ -26,13 +26,13 @@ use Rattle.automata_hybrid.specs.Steps.Starts.{MayStart, quit_behind}
 abbrev pub after_unit : Trace → Direction → Machine → Input → (k : ℕ) → Known → Option Known
 after_unit s way m input k c = after_event m (unit_event s way input k) (moved (given_up_offset way input k) c) c
 
--- and by so many units from a place on, one after another
+-- what a run along a trace makes of a cache by so many units from a place on, one after another
 unfoldable pub after_many : Trace → Direction → Machine → Input → (from units : ℕ) → Known → Option Known
 after_many s way m input from zero c = Some c
 after_many s way m input from (suc units) c =
     option_and_then (after_unit s way m input (from + units)) (after_many s way m input from units c)
 
--- what a pass makes of it by its start state, where it begins
+-- what a pass makes of a cache by its start state, where it begins
 abbrev pub after_start : Direction → Machine → Input → Known → Option Known
 after_start way m input c =
     option_map (begun (given_up_offset way input 0)) (after_event m (start_event way input) c c)
@@ -120,7 +120,7 @@ pub data PassFails (way : Direction) (m : Machine) (input : Input) (old new : Kn
   QuitsBehind :
       (byte : ℕ) → quit_behind m (tape_in way input).before ≡ Some byte
       → error ≡ search.Match (QuitAt byte (behind_offset way input)) → new ≡ old → PassFails way m input old new error
-  -- its mode is not supported
+  -- its anchored mode is not supported
   LacksMode :
       quit_behind m (tape_in way input).before ≡ None → supports m input.anchored ≡ false
       → error ≡ search.Match (UnsupportedMode input.anchored) → new ≡ old → PassFails way m input old new error

@@ -11,7 +11,7 @@ use Rattle.automata_config.specs.declared.error.SearchError.{SearchError}
 use Rattle.automata_config.specs.declared.error.SearchError.TheVariants as search
 use Rattle.automata_config.specs.declared.error.StartError.{StartError}
 use Rattle.automata_config.specs.declared.error.StartError.TheVariants as start
-use Rattle.automata_hybrid.specs.Calls.Events.{Step}
+use Rattle.automata_hybrid.specs.Steps.Events.{Step}
 use Rattle.automata_hybrid.specs.Known.Events.{after_event}
 use Rattle.automata_hybrid.specs.Known.Known.{Known, begun, ended, moved}
 use Rattle.automata_hybrid.specs.Known.Passes.{ReadFails, after_many}
@@ -111,17 +111,17 @@ ReadsPieceUpto m piece p q k begun new =
     ReadsUptoAlong (piece_trace m piece p.earliest q) m (piece_input piece p.earliest) k begun new
 
 -- what reading a piece makes of the search and of the cache, if it returns Ok: each piece is a search that begins at 0
-pub data EndsPiece (m : Machine) (piece : List ℕ) (p next : PiecesView) (old new : Known) : Type 0 where
+pub data PieceEnds (m : Machine) (piece : List ℕ) (p next : PiecesView) (old new : Known) : Type 0 where
   -- the answer of the search stood before, and nothing has changed
-  AlreadyOver : p.state ≡ None → next ≡ p → new ≡ old → EndsPiece m piece p next old new
+  AlreadyOver : p.state ≡ None → next ≡ p → new ≡ old → PieceEnds m piece p next old new
   -- all bytes of the piece are read
   Through :
       (q : Powerset) (begun : Known) → GoesOn m p q 0 old begun → ReadsThrough m piece p q begun new
-      → next.read ≡ p.read + length piece → EndsPiece m piece p next old new
+      → next.read ≡ p.read + length piece → PieceEnds m piece p next old new
   -- the answer stands after one of its bytes, up to which they are read
   Upto :
       (q : Powerset) (begun : Known) (k : ℕ) → GoesOn m p q 0 old begun → ReadsPieceUpto m piece p q k begun new
-      → next.state ≡ None → next.read ≡ p.read + suc k → EndsPiece m piece p next old new
+      → next.state ≡ None → next.read ≡ p.read + suc k → PieceEnds m piece p next old new
 
 -- a search has failed at a byte of a piece
 abbrev pub FailsAtByte :
@@ -130,94 +130,94 @@ FailsAtByte m piece p q begun new e =
     FailsAlong (piece_trace m piece p.earliest q) m (piece_input piece p.earliest) p.read begun new e
 
 -- why a piece is not read, and what that makes of the cache
-pub data LeavesPiece (m : Machine) (piece : List ℕ) (p : PiecesView) (old new : Known) (e : SearchError) :
+pub data PieceFails (m : Machine) (piece : List ℕ) (p : PiecesView) (old new : Known) (e : SearchError) :
     Type 0 where
   -- the bytes are more than a number of 64 bits counts
   TooLong :
       (q : Powerset) → p.state ≡ Some q → with_row_back m q old ≡ Some new → 2 ^ 64 ≤ p.read + length piece
-      → e ≡ search.Match (GaveUp p.read) → LeavesPiece m piece p old new e
+      → e ≡ search.Match (GaveUp p.read) → PieceFails m piece p old new e
   -- the state where the search stands is not put back
-  NotPutBack : (q : Powerset) → p.state ≡ Some q → IsNotBack m q p.read old new e → LeavesPiece m piece p old new e
+  NotPutBack : (q : Powerset) → p.state ≡ Some q → IsNotBack m q p.read old new e → PieceFails m piece p old new e
   -- the step on a byte of the piece fails
   AtByte :
       (q : Powerset) (begun : Known) → GoesOn m p q 0 old begun → FailsAtByte m piece p q begun new e
-      → LeavesPiece m piece p old new e
+      → PieceFails m piece p old new e
   -- the state after the piece cannot be held: the count of those who share it cannot rise
   NotHeld :
       (q : Powerset) (begun : Known) → GoesOn m p q 0 old begun → ReadsThrough m piece p q begun new
-      → e ≡ search.OutOfMemory → LeavesPiece m piece p old new e
+      → e ≡ search.OutOfMemory → PieceFails m piece p old new e
 
 -- what reading a piece makes of the search and of what the cache knows, by the error that it returns, if it fails
 abbrev pub IsPieceRun :
     Machine → (piece : List ℕ) → (p next : PiecesView) → (old new : Known) → Option SearchError → Type 0
 IsPieceRun m piece p next old new error =
-    MatchOption error (EndsPiece m piece p next old new) (LeavesPiece m piece p old new)
+    MatchOption error (PieceEnds m piece p next old new) (PieceFails m piece p old new)
 
 -- what asking for the answer makes of the cache, if that returns Ok
-pub data EndsAnswer (m : Machine) (ahead : Option ℕ) (p : PiecesView) (old new : Known) : Type 0 where
+pub data AnswerEnds (m : Machine) (ahead : Option ℕ) (p : PiecesView) (old new : Known) : Type 0 where
   -- the answer stood before, and nothing has changed
-  Answered : p.state ≡ None → new ≡ old → EndsAnswer m ahead p old new
+  Answered : p.state ≡ None → new ≡ old → AnswerEnds m ahead p old new
   -- the unit that follows is read, which is no quit byte, and the search ends there
   AtEnd :
       (q : Powerset) (begun : Known) → GoesOn m p q p.read old begun → quits_on m ahead ≡ false
       → option_map (ended p.read) (after_event m (Step q ahead) (moved p.read begun) begun) ≡ Some new
-      → EndsAnswer m ahead p old new
+      → AnswerEnds m ahead p old new
 
 -- why there is no answer, and what that makes of the cache
-pub data LeavesAnswer (m : Machine) (ahead : Option ℕ) (p : PiecesView) (old new : Known) (e : SearchError) :
+pub data AnswerFails (m : Machine) (ahead : Option ℕ) (p : PiecesView) (old new : Known) (e : SearchError) :
     Type 0 where
   -- the state where the search stands is not put back
-  NotBack : (q : Powerset) → p.state ≡ Some q → IsNotBack m q p.read old new e → LeavesAnswer m ahead p old new e
+  NotBack : (q : Powerset) → p.state ≡ Some q → IsNotBack m q p.read old new e → AnswerFails m ahead p old new e
   -- reading the unit that follows fails
   FailsAtEnd :
       (q : Powerset) (begun : Known) → GoesOn m p q p.read old begun
-      → ReadFails m q ahead p.read p.read p.read begun new e → LeavesAnswer m ahead p old new e
+      → ReadFails m q ahead p.read p.read p.read begun new e → AnswerFails m ahead p old new e
 
 -- what asking for the answer makes of what the cache knows, by the error that it returns, if it fails
 abbrev pub IsAnswerRun : Machine → (ahead : Option ℕ) → PiecesView → (old new : Known) → Option SearchError → Type 0
 IsAnswerRun m ahead p old new error =
-    MatchOption error (EndsAnswer m ahead p old new) (LeavesAnswer m ahead p old new)
+    MatchOption error (AnswerEnds m ahead p old new) (AnswerFails m ahead p old new)
 
 -- what a call of a walk over a piece makes of the walk and of the cache, if it returns Ok
-pub data EndsWalkCall (m : Machine) (piece : List ℕ) (w next : PiecesView) (old new : Known) : Type 0 where
+pub data WalkCallEnds (m : Machine) (piece : List ℕ) (w next : PiecesView) (old new : Known) : Type 0 where
   -- nothing could match any more, and nothing has changed
-  AlreadyDone : w.state ≡ None → next ≡ w → new ≡ old → EndsWalkCall m piece w next old new
+  AlreadyDone : w.state ≡ None → next ≡ w → new ≡ old → WalkCallEnds m piece w next old new
   -- all bytes of the piece are read
   WalksThrough :
       (q : Powerset) (begun : Known) → GoesOn m w q 0 old begun → ReadsThrough m piece w q begun new
-      → next.read ≡ w.read + length piece → EndsWalkCall m piece w next old new
+      → next.read ≡ w.read + length piece → WalkCallEnds m piece w next old new
   -- they are read up to one at which patterns match, or after which nothing can
   WalksUpto :
       (q : Powerset) (begun : Known) (i : ℕ) → GoesOn m w q 0 old begun → ReadsPieceUpto m piece w q i begun new
-      → next.read ≡ w.read + suc i → EndsWalkCall m piece w next old new
+      → next.read ≡ w.read + suc i → WalkCallEnds m piece w next old new
 
 -- why a call of a walk fails, and what that makes of the cache
-pub data LeavesWalkCall (m : Machine) (piece : List ℕ) (w : PiecesView) (old new : Known) (e : SearchError) :
+pub data WalkCallFails (m : Machine) (piece : List ℕ) (w : PiecesView) (old new : Known) (e : SearchError) :
     Type 0 where
   -- as a search in pieces that ends at its first match
-  AsSearch : LeavesPiece m piece w old new e → LeavesWalkCall m piece w old new e
+  AsSearch : PieceFails m piece w old new e → WalkCallFails m piece w old new e
   -- the state at the match cannot be held: the count of those who share it cannot rise
   NotHeldAt :
       (q : Powerset) (begun : Known) (i : ℕ) → GoesOn m w q 0 old begun → ReadsPieceUpto m piece w q i begun new
-      → e ≡ search.OutOfMemory → LeavesWalkCall m piece w old new e
+      → e ≡ search.OutOfMemory → WalkCallFails m piece w old new e
 
 -- what a call of a walk over a piece makes of the walk and of what the cache knows, by the error that it returns, if it
 -- fails
 abbrev pub IsWalkCallRun :
     Machine → (piece : List ℕ) → (w next : PiecesView) → (old new : Known) → Option SearchError → Type 0
 IsWalkCallRun m piece w next old new error =
-    MatchOption error (EndsWalkCall m piece w next old new) (LeavesWalkCall m piece w old new)
+    MatchOption error (WalkCallEnds m piece w next old new) (WalkCallFails m piece w old new)
 
 -- why asking for the end of a walk fails, and what that makes of the cache
-pub data LeavesEnd (m : Machine) (ahead : Option ℕ) (w : PiecesView) (old new : Known) (e : SearchError) :
+pub data WalkEndFails (m : Machine) (ahead : Option ℕ) (w : PiecesView) (old new : Known) (e : SearchError) :
     Type 0 where
   -- as a search in pieces that is asked for its answer
-  AsForAnswer : LeavesAnswer m ahead w old new e → LeavesEnd m ahead w old new e
+  AsForAnswer : AnswerFails m ahead w old new e → WalkEndFails m ahead w old new e
   -- the state at the end cannot be held: the count of those who share it cannot rise
-  CannotHoldEnd : EndsAnswer m ahead w old new → e ≡ search.OutOfMemory → LeavesEnd m ahead w old new e
+  CannotHoldEnd : AnswerEnds m ahead w old new → e ≡ search.OutOfMemory → WalkEndFails m ahead w old new e
 
 -- what asking for the end of a walk makes of what the cache knows, by the error that it returns, if it fails
 abbrev pub IsWalkEndRun :
     Machine → (ahead : Option ℕ) → PiecesView → (old new : Known) → Option SearchError → Type 0
 IsWalkEndRun m ahead w old new error =
-    MatchOption error (EndsAnswer m ahead w old new) (LeavesEnd m ahead w old new)
+    MatchOption error (AnswerEnds m ahead w old new) (WalkEndFails m ahead w old new)

@@ -1,5 +1,6 @@
 -- What follows of what the calls of a search in pieces make of what their cache knows.
-use Rattle.std.specs.Prelude.{ℕ, ◌≡◌, ◌+◌, ◌≤◌, true, false, List, length, Option, None, Some, IfSome}
+use Rattle.std.specs.Prelude.{ℕ, ◌≡◌, ◌+◌, ◌^◌, ◌<◌, ◌≤◌, true, false, List, length, Option, None, Some, IfSome}
+use Rattle.std.specs.Prelude.{slice_get}
 use Rattle.automata_base.specs.Powersets.Powerset.{Powerset}
 use Rattle.automata_config.specs.Options.{minimum_cache_clear_count_of}
 use Rattle.automata_config.specs.declared.error.SearchError.{SearchError}
@@ -9,10 +10,20 @@ use Rattle.automata_hybrid.specs.Known.Known.{Known, counted}
 use Rattle.automata_hybrid.specs.Known.Pieces.{IsAnswerRun, IsPieceRun}
 use Rattle.automata_hybrid.specs.Known.Walks.{has_its_row}
 use Rattle.automata_hybrid.specs.Machines.Machine.{Machine, quits_on}
-use Rattle.automata_hybrid.specs.Pieces.Follows.{IsFreePiece}
 use Rattle.automata_hybrid.specs.Pieces.State.{IsPiecesOf, PiecesView}
 use Rattle.automata_hybrid.specs.Searches.Contracts.{IsMemory}
 use Rattle.automata_hybrid.specs.Walks.State.{At}
+use Rattle.automata_base.specs.ByteClasses.Classes.{is_quit}
+
+-- nothing but a lack of memory can prevent that a piece is read: it has no quit byte, its bytes can be counted, and no
+-- limit on clears is set
+pub record IsFreePiece (m : Machine) (piece : List ℕ) (p : PiecesView) : Type 0 where
+  -- it has no quit byte
+  pub clean : (k byte : ℕ) → slice_get piece k ≡ Some byte → is_quit m.quits byte ≡ false
+  -- its bytes can be counted
+  pub fits : p.read + length piece < 2 ^ 64
+  -- no limit on clears is set
+  pub clears : minimum_cache_clear_count_of m.config ≡ None
 
 -- what a call that reads at most so many units costs
 pub record IsCostOfUnits (m : Machine) (units : ℕ) (p : PiecesView) (old new : Known) : Type 0 where
@@ -28,15 +39,15 @@ pub record IsCostOfUnits (m : Machine) (units : ℕ) (p : PiecesView) (old new :
   -- what the cache knows then is still what one of the DFA knows
   pub sound : IsKnown m new
 
--- What follows of reading a piece: what it costs, and that it fails with out of memory alone if nothing else can
--- prevent that it is read.
+-- what follows of reading a piece: what it costs, and that it fails with out of memory alone if nothing else can
+-- prevent that it is read
 abbrev pub PiecesFollow : Machine → Type 0
 PiecesFollow m =
     (piece : List ℕ) (p next : PiecesView) (old new : Known) (error : Option SearchError)
     → IsKnown m old → IsPiecesOf p m → IsPieceRun m piece p next old new error
     → IsCostOfUnits m (length piece) p old new × (IsFreePiece m piece p → IfSome error IsMemory)
 
--- What follows of asking a search in pieces for its answer, which reads one unit at most.
+-- what follows of asking a search in pieces for its answer, which reads one unit at most
 abbrev pub PieceAnswersFollow : Machine → Type 0
 PieceAnswersFollow m =
     (ahead : Option ℕ) (p : PiecesView) (old new : Known) (error : Option SearchError)

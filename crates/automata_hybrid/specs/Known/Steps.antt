@@ -10,7 +10,7 @@ use Rattle.automata_config.specs.declared.error.StepError.{StepError}
 use Rattle.automata_hybrid.specs.Cache.Ids.{fixed_from}
 use Rattle.automata_hybrid.specs.Cache.Stores.{IsCacheError}
 use Rattle.automata_hybrid.specs.Cache.Table.{find_id}
-use Rattle.automata_hybrid.specs.Calls.Events.{Start, Step}
+use Rattle.automata_hybrid.specs.Steps.Events.{Start, Step}
 use Rattle.automata_hybrid.specs.Known.Events.{after_event, is_cached, made}
 use Rattle.automata_hybrid.specs.Known.Known.{Known, counted}
 use Rattle.automata_hybrid.specs.Machines.Machine.{Machine, quits_on}
@@ -32,7 +32,7 @@ pub record IsStepRun (m : Machine) (id : ℕ) (unit : Option ℕ) (old new : Kno
       quits_on m unit ≡ false → (q : Powerset) → id_in m old q ≡ Some id
       → after_event m (Step q unit) old old ≡ Some new
 
--- what holds if it fails, of the state that the ID names
+-- what holds if a step from a state fails
 pub record FailsFrom (m : Machine) (q : Powerset) (unit : Option ℕ) (old new : Known) (e : StepError) : Type 0 where
   -- the transition is not cached
   pub unknown : is_cached m (Step q unit) old ≡ false
@@ -50,14 +50,14 @@ pub record StepFails (m : Machine) (id : ℕ) (unit : Option ℕ) (old new : Kno
   -- it is the step from the state that the ID names
   pub fails : (q : Powerset) → id_in m old q ≡ Some id → FailsFrom m q unit old new e
 
--- what a call for a start state makes of it, if it returns Ok
+-- what a call for a start state makes of what the cache knows, if it returns Ok
 pub record IsStartRun (m : Machine) (mode : Anchored) (behind : Option ℕ) (old new : Known) : Type 0 where
   -- a search may start so
   pub may : MayStart m mode behind
   -- it asks for the start state
   pub does : after_event m (Start mode behind) old old ≡ Some new
 
--- why a call for a start state fails, and what that makes of it
+-- why a call for a start state fails, and what that makes of what the cache knows
 pub data StartFails (m : Machine) (mode : Anchored) (behind : Option ℕ) (old new : Known) (e : StartError) :
     Type 0 where
   -- the look-behind byte is a quit byte

@@ -23,8 +23,8 @@ use Rattle.automata_hybrid.specs.Walks.Answers.{IsSilent, IsUnheld, ReportsNext,
 use Rattle.automata_hybrid.specs.Walks.Progress.{IsClosedAfter, IsJoinedAfter, IsOpenAfter, ReadsItsUnits, ReadsNoUnit}
 use Rattle.automata_hybrid.specs.Walks.State.{At, Ended, Fresh, Ids, Keeping, Stage, States, Walk, fresh_walk}
 
--- with a row for a state where a walk stands: it is there, or is put back, without the start tag; none, if the call
--- gives up
+-- what is known with a row for a state where a walk stands: it is there, or is put back, without the start tag; none,
+-- if the call gives up
 abbrev pub with_row_back : Machine → Powerset → Known → Option Known
 with_row_back m q c = with_state m (cleared c) (record { state = q; started = false }) c
 
@@ -35,7 +35,7 @@ after_resume way m input Fresh c = after_event m (start_event way input) c c
 after_resume way m input (At q) c = with_row_back m q c
 after_resume way m input Ended c = None
 
--- what a walk that goes on from a place makes of it by this state, where the call begins
+-- what a walk that goes on from a place makes of the cache by its state there, where the call begins
 abbrev pub after_going_on : Direction → Machine → Input → Stage → (from : ℕ) → Known → Option Known
 after_going_on way m input stage from c =
     option_map (begun (given_up_offset way input from)) (after_resume way m input stage c)
@@ -75,15 +75,15 @@ pub record CallReads (way : Direction) (m : Machine) (input : Input) (walk next 
       ≡ Some new
 
 -- what a call that answers makes of its walk and its cache; a walk that has ended has no match
-pub data EndsCall (way : Direction) (m : Machine) (input : Input) (walk next : Walk) (old new : Known) : Type 0 where
+pub data CallEnds (way : Direction) (m : Machine) (input : Input) (walk next : Walk) (old new : Known) : Type 0 where
   -- it reads no unit, and changes nothing
   ReadsNone :
       (next.stage ≡ Ended → next.found ≡ None) → ReadsNoUnit input walk → next.units ≡ walk.units → new ≡ old
-      → EndsCall way m input walk next old new
+      → CallEnds way m input walk next old new
   -- it reads its units
   ReadsSome :
       (next.stage ≡ Ended → next.found ≡ None) → CallReads way m input walk next old new
-      → EndsCall way m input walk next old new
+      → CallEnds way m input walk next old new
 
 -- why the state where a walk stands is not put back, and nothing changes
 pub data IsNotBack (m : Machine) (q : Powerset) (at : ℕ) (old new : Known) (e : SearchError) : Type 0 where
@@ -104,17 +104,17 @@ IsNotResumed way m input (At q) units old new e = IsNotBack m q (given_up_offset
 IsNotResumed way m input Ended units old new e = ⊥
 
 -- how a call fails at the unit at place `k`
-pub data IsCallLeftAt (keeping : Keeping) (way : Direction) (m : Machine) (input : Input) (k : ℕ) (old new : Known)
+pub data CallFailsAt (keeping : Keeping) (way : Direction) (m : Machine) (input : Input) (k : ℕ) (old new : Known)
     (e : SearchError) : Type 0 where
   -- the step on it fails
-  FailsAtIt : UnitFails way m input k old new e → IsCallLeftAt keeping way m input k old new e
+  FailsAtIt : UnitFails way m input k old new e → CallFailsAt keeping way m input k old new e
   -- states are kept: the unit is read, and the state after it cannot be held
   FailsAfterIt :
       keeping ≡ States → IsUnheld way m input k e → after_unit (pass_trace way m input) way m input k old ≡ Some new
-      → IsCallLeftAt keeping way m input k old new e
+      → CallFailsAt keeping way m input k old new e
 
 -- a call that has begun at a place reads some units from there on, which report nothing, and fails at the next one
-pub record IsCallStopped (keeping : Keeping) (way : Direction) (m : Machine) (input : Input) (from : ℕ)
+pub record CallFailsAtUnit (keeping : Keeping) (way : Direction) (m : Machine) (input : Input) (from : ℕ)
     (begun new : Known) (e : SearchError) : Type 0 where
   -- how many units are read
   pub units : ℕ
@@ -129,26 +129,26 @@ pub record IsCallStopped (keeping : Keeping) (way : Direction) (m : Machine) (in
   -- they made this of it
   pub run : after_many (pass_trace way m input) way m input from units begun ≡ Some mid
   -- it fails at the next one
-  pub left : IsCallLeftAt keeping way m input (from + units) mid new e
+  pub left : CallFailsAt keeping way m input (from + units) mid new e
 
 -- what a call that is to read units makes of its cache, if it fails
-pub data LeavesCall (keeping : Keeping) (way : Direction) (m : Machine) (input : Input) (walk : Walk)
+pub data CallFails (keeping : Keeping) (way : Direction) (m : Machine) (input : Input) (walk : Walk)
     (old new : Known) (e : SearchError) : Type 0 where
   -- the walk cannot go on from where it is
   FailsToGoOn :
       (ReadsNoUnit input walk → ⊥) → IsNotResumed way m input walk.stage walk.units old new e
-      → LeavesCall keeping way m input walk old new e
+      → CallFails keeping way m input walk old new e
   -- it goes on, and fails at a unit
   FailsOnItsWay :
       (ReadsNoUnit input walk → ⊥) → MayGoOn way m input walk.stage → (begun : Known)
       → after_going_on way m input walk.stage walk.units old ≡ Some begun
-      → IsCallStopped keeping way m input walk.units begun new e → LeavesCall keeping way m input walk old new e
+      → CallFailsAtUnit keeping way m input walk.units begun new e → CallFails keeping way m input walk old new e
 
 -- what a call of a walk makes of what its cache knows, by the error that it returns, if it fails
 abbrev pub IsWalkRun :
     Keeping → Direction → Machine → Input → (walk next : Walk) → (old new : Known) → Option SearchError → Type 0
 IsWalkRun keeping way m input walk next old new error =
-    MatchOption error (EndsCall way m input walk next old new) (LeavesCall keeping way m input walk old new)
+    MatchOption error (CallEnds way m input walk next old new) (CallFails keeping way m input walk old new)
 
 -- the cache has the row of the state that a walk goes on from
 abbrev pub has_its_row : Known → Stage → Bool
@@ -165,10 +165,10 @@ pub data HaveCalled (m : Machine) (input : Input) (set : List Bool) (old : Known
   OneMore :
       (calls : ℕ) (before walk : Walk) (mid new : Known) → HaveCalled m input set old calls before mid
       → IsOpenAfter m input set calls → has_its_row mid before.stage ≡ true → ReportsNext Forward m input before walk
-      → EndsCall Forward m input before walk mid new → HaveCalled m input set old (suc calls) walk new
+      → CallEnds Forward m input before walk mid new → HaveCalled m input set old (suc calls) walk new
 
 -- a search for a set that returns Ok makes calls of its walk, up to one that finds no match or leaves the set closed
-pub record EndsSet (m : Machine) (input : Input) (set : List Bool) (old new : Known) : Type 0 where
+pub record SetEnds (m : Machine) (input : Input) (set : List Bool) (old new : Known) : Type 0 where
   -- how many calls it makes
   pub calls : ℕ
   -- the walk after them
@@ -179,7 +179,7 @@ pub record EndsSet (m : Machine) (input : Input) (set : List Bool) (old new : Kn
   pub last : (walk.stage ≡ Ended) ⊎ IsClosedAfter m input set calls
 
 -- a search for a set that fails makes calls of its walk, and the next one fails
-pub record LeavesSet (m : Machine) (input : Input) (set joined : List Bool) (old new : Known) (e : SearchError) :
+pub record SetFails (m : Machine) (input : Input) (set joined : List Bool) (old new : Known) (e : SearchError) :
     Type 0 where
   -- how many calls it makes before
   pub calls : ℕ
@@ -196,11 +196,11 @@ pub record LeavesSet (m : Machine) (input : Input) (set joined : List Bool) (old
   -- the cache has the state where the walk stands
   pub there : has_its_row mid walk.stage ≡ true
   -- the next call fails
-  pub left : LeavesCall Ids Forward m input walk mid new e
+  pub left : CallFails Ids Forward m input walk mid new e
 
 -- what the search for a set makes of what its cache knows, and of the set if it fails, by the error that it returns
 -- then
 abbrev pub IsSetRun :
     Machine → Input → (set joined : List Bool) → (old new : Known) → Option SearchError → Type 0
 IsSetRun m input set joined old new error =
-    MatchOption error (EndsSet m input set old new) (LeavesSet m input set joined old new)
+    MatchOption error (SetEnds m input set old new) (SetFails m input set joined old new)

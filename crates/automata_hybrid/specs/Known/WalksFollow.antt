@@ -14,15 +14,23 @@ use Rattle.automata_hybrid.specs.Known.Growth.{ClearedNothing, HasRoom, IsGrown,
 use Rattle.automata_hybrid.specs.Known.Known.{Known, counted}
 use Rattle.automata_hybrid.specs.Known.Walks.{IsSetRun, IsWalkRun, has_its_row, with_row_back}
 use Rattle.automata_hybrid.specs.Machines.Machine.{Machine}
-use Rattle.automata_hybrid.specs.Searches.Cached.{IsOfInput}
+use Rattle.automata_hybrid.specs.Searches.Contracts.{IsOfInput}
 use Rattle.automata_hybrid.specs.Searches.Passes.{HasReadNoQuit, Skips, tape_in}
 use Rattle.automata_hybrid.specs.Steps.Starts.{MayStart}
 use Rattle.automata_hybrid.specs.Walks.Answers.{HasReported, HasReportedBy, IsWalkOf, ReportsNext, WalkReads}
-use Rattle.automata_hybrid.specs.Walks.Answers.{pairs_reported_in, start_count}
+use Rattle.automata_hybrid.specs.Walks.Answers.{pairs_reported_in, start_count, IsUnheld}
 use Rattle.automata_hybrid.specs.Walks.Cached.{IsOpen, IsToRead}
-use Rattle.automata_hybrid.specs.Walks.Follows.{IsKnownError}
 use Rattle.automata_hybrid.specs.Walks.Progress.{ReadsNoUnit}
-use Rattle.automata_hybrid.specs.Walks.State.{At, Ended, Fresh, Keeping, Stage, Walk}
+use Rattle.automata_hybrid.specs.Walks.State.{At, Ended, Fresh, Keeping, Stage, Walk, States}
+
+-- why a call fails though all that it uses is cached
+pub data IsKnownError (keeping : Keeping) (way : Direction) (m : Machine) (input : Input) (walk : Walk)
+    (e : SearchError) : Type 0 where
+  -- because of its input
+  IsInputError : IsOfInput e → IsKnownError keeping way m input walk e
+  -- states are kept, and the one after the unit at this place, which reports the next pair, cannot be held
+  IsHoldError :
+      keeping ≡ States → (j : ℕ) → walk.units ≤ j → IsUnheld way m input j e → IsKnownError keeping way m input walk e
 
 -- what a walk goes on from is cached: its start, or the row of the state where it stands
 abbrev pub KnowsItsState : Direction → Machine → Known → Input → Stage → Type 0
@@ -79,7 +87,7 @@ pub record CallFollows (keeping : Keeping) (way : Direction) (m : Machine) (inpu
   -- one that reads no unit changes nothing at all
   pub ready : ReadsNoUnit input walk → new ≡ old
 
--- All this follows of each call of a walk over an input and a cache of the DFA.
+-- what follows of each call of a walk over an input and a cache of the DFA
 abbrev pub CallsFollow : Machine → Type 0
 CallsFollow m =
     (keeping : Keeping) (way : Direction) (input : Input) (walk next : Walk) (old new : Known)
@@ -119,7 +127,7 @@ pub record SetFollows (m : Machine) (input : Input) (set : List Bool) (old new :
   -- with a span that is done, it changes nothing at all
   pub done : input.end < input.start → new ≡ old
 
--- All this follows of each search for a set over a cache of the DFA.
+-- what follows of each search for a set over a cache of the DFA
 abbrev pub SetsFollow : Machine → Type 0
 SetsFollow m =
     (input : Input) (set joined : List Bool) (old new : Known) (error : Option SearchError)

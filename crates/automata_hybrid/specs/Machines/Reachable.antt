@@ -8,7 +8,7 @@ use Rattle.automata_hybrid.specs.Machines.Machine.{Machine, quits_on}
 use Rattle.automata_hybrid.specs.Machines.OwnStates.{IsOwn}
 use Rattle.automata_hybrid.specs.Machines.StartSlots.{slot_behind}
 
--- so many units, none a quit byte, lead to a state from the start state of some mode that has a slot
+-- so many units, none a quit byte, lead to a state from the start state of some anchored mode that has a slot
 pub data IsReachableBy (m : Machine) : (units : ℕ) → Powerset → Type 0 where
   -- it is this start state
   AtStart :
@@ -25,7 +25,7 @@ IsReachable m q = ∥ ((units : ℕ) × IsReachableBy m units q) ∥₁
 
 -- a state of a lazy DFA
 pub record IsStateOf (m : Machine) (q : Powerset) : Type 0 where
-  -- It is made of what the automaton has.
+  -- it is made of what the automaton has
   pub own : IsOwn m.nfa q
-  -- A search can come to it.
+  -- a search can come to it
   pub reached : IsReachable m q

@@ -59,7 +59,7 @@ pub record WasGiven (m : Machine) (input : Input) (n : ℕ) (p : PiecesView) : T
   -- if it stands at none, it has found what the whole span has
   pub answered : p.state ≡ None → IsPassAnswer Forward m input (from_first input.start p.found)
 
--- a search in pieces may be one of this input: its span begins after this byte, in this mode
+-- a search in pieces may be one of this input: its span begins after this byte, in this anchored mode
 pub record BeginsAfter (mode : Anchored) (behind : Option ℕ) (earliest : Bool) (input : Input) : Type 0 where
   -- the span is not done
   pub undone : input.start ≤ input.end

@@ -1,9 +1,6 @@
 pub mod Contracts
-pub mod Leaps
 pub mod PassContracts
 pub mod PassState
 pub mod PieceRuns
-pub mod SelfLoops
 pub mod Traces
 pub mod Units
-pub mod Cached

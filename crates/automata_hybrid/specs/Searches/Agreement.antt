@@ -9,8 +9,8 @@ use Rattle.automata_hybrid.specs.Walks.Answers.{HasReported, ReportsNext}
 use Rattle.automata_hybrid.specs.Walks.State.{Walk}
 use Rattle.automata_config.specs.Options.{match_kind_of}
 
--- Searches over two caches of one DFA find the same, and so do two DFAs of one automaton and one kind, in whatever else
--- they differ: capacity, limits, byte classes, tags of starts, quit bytes.
+-- searches over two caches of one DFA find the same, and so do two DFAs of one automaton and one kind, in whatever else
+-- they differ: capacity, limits, byte classes, tags of starts, quit bytes
 abbrev pub AnswersAgree : Type 0
 AnswersAgree =
     (way : Direction) (m other : Machine) (input : Input) (first second : Option Half)
@@ -18,8 +18,8 @@ AnswersAgree =
     → IsFound way m input first → IsFound way other input second
     → first ≡ second
 
--- Two walks over one input that have each reported `k` pairs report the same match by the next call that answers,
--- whatever cache it uses; and so do walks of two DFAs of one NFA and one match kind.
+-- two walks over one input that have each reported `k` pairs report the same match by the next call that answers,
+-- whatever cache it uses; and so do walks of two DFAs of one NFA and one match kind
 abbrev pub WalksAgree : Machine → Type 0
 WalksAgree m =
     (way : Direction) (other : Machine) (input : Input) (first second first_reported second_reported : Walk) (k : ℕ)

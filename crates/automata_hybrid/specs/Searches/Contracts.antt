@@ -19,6 +19,7 @@ use Rattle.automata_hybrid.specs.Machines.StartSlots.{supports}
 use Rattle.automata_hybrid.specs.Steps.Starts.{quit_behind}
 use Rattle.automata_hybrid.specs.Searches.Bounds.{LiesIn, LiesPast}
 use Rattle.automata_config.specs.Options.{match_kind_of, minimum_cache_clear_count_of}
+use Rattle.automata_base.specs.declared.util.search.MatchErrorKind.TheVariants.{GaveUp}
 
 -- the error is out of memory
 abbrev pub IsMemory : SearchError → Type 0
@@ -27,46 +28,46 @@ IsMemory e = e ≡ search.OutOfMemory
 -- nothing but a lack of memory can prevent an answer: no quit byte is in reach, the anchored mode is supported, and no
 -- limit on clears is set
 pub record IsUnhindered (m : Machine) (input : Input) : Type 0 where
-  -- No quit byte is in reach.
+  -- no quit byte is in reach
   pub reach : NoQuitInReach m input
-  -- The anchored mode is supported.
+  -- the anchored mode is supported
   pub supported : supports m input.anchored ≡ true
-  -- No limit on clears is set.
+  -- no limit on clears is set
   pub clears : minimum_cache_clear_count_of m.config ≡ None
 
 -- the span is not done, the look-behind byte is no quit byte, and the anchored mode is not supported
 pub record IsUnsupported (way : Direction) (m : Machine) (input : Input) : Type 0 where
-  -- The span is not done.
+  -- the span is not done
   pub undone : input.start ≤ input.end
-  -- The look-behind byte is no quit byte.
+  -- the look-behind byte is no quit byte
   pub behind : quit_behind m (tape_in way input).before ≡ None
-  -- The anchored mode is not supported.
+  -- the anchored mode is not supported
   pub mode : supports m input.anchored ≡ false
 
--- the error that reports it
+-- the error of an anchored mode that is not supported
 abbrev pub unsupported_error : Input → SearchError
 unsupported_error input = search.Match (UnsupportedMode input.anchored)
 
 -- what a search in a direction returns: an option, seen as an answer by `Is`, which lies where `Lies` says
 pub record IsAnswered {A : Type 0} (Is : (Option Half → Type 0) → Option A → Type 0) (Lies : Option A → Type 0)
     (way : Direction) (m : Machine) (input : Input) (result : Result (Option A) SearchError) : Type 0 where
-  -- By the paths of the NFA alone, if it keeps its cycles: the answer of the ordered paths.
+  -- by the paths of the NFA alone, if it keeps its cycles: the answer of the ordered paths
   pub answer :
       KeepsCycles (nfa_of m.nfa) → IfOk result (Is (IsAnswer way (engine m) input))
-  -- For every NFA, in an earliest search: the nearest end.
+  -- for every NFA, in an earliest search: the nearest end
   pub nearest :
       input.earliest ≡ true → IfOk result (Is (IsNearestAnswer way (engine m) input))
-  -- For every NFA, in any other search under `MatchKind::All`: the farthest end.
+  -- for every NFA, in any other search under `MatchKind::All`: the farthest end
   pub farthest :
       input.earliest ≡ false → match_kind_of m.config ≡ KindAll
       → IfOk result (Is (IsFarthestAnswer way (engine m) input))
-  -- It lies in the input's span, and its pattern is one of the NFA's.
+  -- it lies in the input's span, and its pattern is one of the NFA's
   pub within : IfOk result Lies
-  -- In a span that is done there is no match.
+  -- in a span that is done there is no match
   pub done : input.end < input.start → result ≡ Ok None
-  -- An anchored mode that is not supported is reported.
+  -- an anchored mode that is not supported is reported
   pub unsupported : IsUnsupported way m input → result ≡ Err (unsupported_error input)
-  -- If nothing else can prevent an answer, the only error is out of memory.
+  -- if nothing else can prevent an answer, the only error is out of memory
   pub free : IsUnhindered m input → IfErr result IsMemory
 
 -- what a search in a direction returns: a match's pattern and end, or none
@@ -81,3 +82,10 @@ based_half = option_map (λ p. with_base p.0 p.1)
 abbrev pub IsBased : Machine → Input → Result (Option (HalfMatch × ℕ)) SearchError → Type 0
 IsBased m input result =
     IsAnswered (λ P o. P (based_half o)) (λ o. IfSome o (λ p. LiesPast m input p.0 p.1)) Forward m input result
+
+-- a search fails because of its input, and not for lack of room or memory
+abbrev pub IsOfInput : SearchError → Type 0
+IsOfInput (search.Match (GaveUp offset)) = ⊥
+IsOfInput (search.Match kind) = Unit {0}
+IsOfInput search.OutOfMemory = ⊥
+IsOfInput search.NotAPair = ⊥

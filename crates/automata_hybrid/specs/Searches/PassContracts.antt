@@ -1,4 +1,4 @@
--- What a pass answers, and what it makes of its cache: the whole of it, or from some unit on.
+-- What a pass answers, and where it is after its first units.
 use Rattle.std.specs.Prelude.{ℕ, ◌≡◌, ◌≤◌, true, Option}
 use Rattle.automata_base.specs.Haystacks.Input.{Input}
 use Rattle.automata_base.specs.Haystacks.Matches.{HalfMatch}
@@ -12,19 +12,19 @@ use Rattle.automata_hybrid.specs.Cache.Table.{Rows}
 
 -- what a pass over the span of an input answers
 pub record IsPassAnswer (way : Direction) (m : Machine) (input : Input) (half : Option HalfMatch) : Type 0 where
-  -- It is what the pass finds.
+  -- it is what the pass finds
   pub found : half ≡ found_over way m input
-  -- The pass met no quit byte.
+  -- the pass met no quit byte
   pub clean : MeetsNoQuit way m input
-  -- The mode is supported.
+  -- the anchored mode is supported
   pub supported : supports m input.anchored ≡ true
 
 -- a pass over the span of an input has read its first `k` units
 pub record IsUnderway (way : Direction) (m : Machine) (t : Rows) (input : Input) (k id : ℕ)
     (found : Option HalfMatch) : Type 0 where
-  -- The span is not done.
+  -- the span is not done
   pub undone : input.start ≤ input.end
-  -- The search may start.
+  -- the search may start
   pub may : MayStart m input.anchored (tape_in way input).before
-  -- The ID names the state after those units, and what they report was found.
+  -- the ID names the state after those units, and what they report was found
   pub at : IsAt way m t input k id found

@@ -38,6 +38,6 @@ pub record IsAtAlong (s : Trace) (way : Direction) (m : Machine) (t : Rows) (inp
   -- none of these units is a quit byte
   pub clean : HasReadNoQuit way m input k
 
--- a pass has read them, and stands so
+-- a pass has read `k` units, none a quit byte: the ID names its state there, and this was found
 abbrev pub IsAt : Direction → Machine → Rows → Input → (k id : ℕ) → Option HalfMatch → Type 0
 IsAt way m t input k id found = IsAtAlong (pass_trace way m input) way m t input k id found

@@ -26,7 +26,7 @@ tape_in way input = tape_of way input.haystack input.start input.end
 abbrev pub state_in : Direction → Machine → Input → ℕ → Powerset
 state_in way m input k = state_after m.nfa (match_kind_of m.config) input.anchored (tape_in way input) k
 
--- what its first `k` units report
+-- what the first `k` units of a pass report
 abbrev pub reported_in : Direction → Machine → Input → ℕ → Option Pair
 reported_in way m input k =
     reported_upto (match_kind_of m.config) input.earliest m.nfa input.anchored (tape_in way input) k
@@ -72,7 +72,7 @@ Finds way m input reported =
 abbrev pub Skips : Machine → Type 0
 Skips m = IsSkipping (engine m)
 
--- what a search finds: what is reported over the first span for which that is nothing or not split. No pass that it
+-- What a search finds: what is reported over the first span for which that is nothing or not split. No pass that it
 -- made met a quit byte.
 abbrev pub IsFound : Direction → Machine → Input → Option Half → Type 0
 IsFound way m input answer = Answers (Finds way m) (Skips m) way input answer

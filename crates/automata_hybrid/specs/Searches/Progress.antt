@@ -1,10 +1,10 @@
--- What the passes of a search make of their cache: their events, unit by unit, up to one that fails.
+-- What a pass asks for, which units it reads, and which spans a search tries.
 use Rattle.std.specs.Prelude.{ℕ, ◌<◌, ◌≤◌, ◌+◌}
 use Rattle.automata_base.specs.Answers.Answers.{Tries}
 use Rattle.automata_base.specs.Haystacks.Input.{Input}
 use Rattle.automata_base.specs.Paths.Paths.{next}
 use Rattle.automata_base.specs.declared.util.search.Direction.{Direction}
-use Rattle.automata_hybrid.specs.Calls.Events.{Event, Start, Step}
+use Rattle.automata_hybrid.specs.Steps.Events.{Event, Start, Step}
 use Rattle.automata_hybrid.specs.Machines.Machine.{Machine}
 use Rattle.automata_hybrid.specs.Searches.Passes.{Finds, Reads, Skips, tape_in}
 use Rattle.automata_hybrid.specs.Searches.Traces.{Trace}

@@ -19,25 +19,25 @@ IsFirstMatch m input half = IsPassAnswer Forward m input half
 
 -- where the bytes of the span before an offset lead a search that ends at its first match: to this ID
 pub data LeadsToId (m : Machine) (c : CacheView) (input : Input) (at id : ℕ) : Type 0 where
-  -- It is dead, and there is no match.
+  -- it is dead, and there is no match
   IsDead : id ≡ dead_id m.stride → IsFirstMatch m input None → LeadsToId m c input at id
-  -- They led to its state, no match among them and no quit byte.
+  -- they led to its state, no match among them and no quit byte
   IsUnmatched : IsUnderway Forward m c.store.table input (at - input.start) id None → LeadsToId m c input at id
 
 -- a search over an input that ends at its first match has read the bytes of the span before an offset, and is in the
 -- state of this ID
 pub record StandsAt (m : Machine) (c : CacheView) (input : Input) (at id : ℕ) : Type 0 where
-  -- It ends at its first match.
+  -- it ends at its first match
   pub early : input.earliest ≡ true
-  -- The offset is at or after the span's start.
+  -- the offset is at or after the span's start
   pub from : input.start ≤ at
-  -- The offset is at or before the span's end.
+  -- the offset is at or before the span's end
   pub upto : at ≤ input.end
-  -- The span ends in the haystack.
+  -- the span ends in the haystack
   pub inside : input.end ≤ length input.haystack
-  -- The cache has the row of the ID.
+  -- the cache has the row of the ID
   pub row : HoldsRow c id
-  -- The bytes led to the ID.
+  -- the bytes led to the ID
   pub state : LeadsToId m c input at id
 
 -- the unit at an offset: this byte of the haystack, or its end
@@ -55,20 +55,20 @@ HasPatterns c id = (q : Powerset) → Names c.store.table id q → 0 < length q.
 
 -- a step over the unit at an offset led to this ID
 pub record IsStepAt (m : Machine) (c : CacheView) (input : Input) (at next : ℕ) : Type 0 where
-  -- The cache has the row of the ID.
+  -- the cache has the row of the ID
   pub row : HoldsRow c next
-  -- With the match tag its state has patterns.
+  -- with the match tag its state has patterns
   pub reports : HasMatchTag next → HasPatterns c next
-  -- With the match tag a match ends at the offset: matches are delayed by one unit.
+  -- with the match tag a match ends at the offset: matches are delayed by one unit
   pub found :
       HasMatchTag next → (pattern : ℕ) → IsFirstPattern c next pattern
       → IsFirstMatch m input (Some (record { pattern = pattern; offset = at }))
-  -- With the dead tag there is no match.
+  -- with the dead tag there is no match
   pub dead : HasDeadTag next → IsFirstMatch m input None
-  -- Without the match tag, and if the unit was no quit byte, the search stands one offset later, if the span has more
-  -- bytes.
+  -- without the match tag, and if the unit was no quit byte, the search stands one offset later, if the span has more
+  -- bytes
   pub on : (HasMatchTag next → ⊥) → (HasQuitTag next → ⊥) → at < input.end → StandsAt m c input (at + 1) next
-  -- If the span has no more bytes, there is no match.
+  -- if the span has no more bytes, there is no match
   pub last : (HasMatchTag next → ⊥) → (HasQuitTag next → ⊥) → at ≡ input.end → IsFirstMatch m input None
 
 -- a search that ends at its first match, and whose span is not done, stands at its start by this ID

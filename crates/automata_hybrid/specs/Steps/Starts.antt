@@ -1,5 +1,5 @@
--- Start states: when there is one, what it is, and why a call for it fails. What it makes of the cache stands in
--- Calls.Steps.
+-- Start states: when there is one, what it is, and why a call for it fails. What the call makes of the cache stands in
+-- Known.Steps.
 use Rattle.std.specs.Prelude.{ℕ, ◌≡◌, ◌<◌, ◌≤◌, true, cond, Option, None, Some, slice_index}
 use Rattle.automata_base.specs.ByteClasses.Classes.{is_quit}
 use Rattle.automata_base.specs.Retraced.Steps.{start_state_of}
@@ -28,7 +28,7 @@ quit_behind m (Some byte) = cond (is_quit m.quits byte) (Some byte) None
 abbrev pub MayStart : Machine → Anchored → Option ℕ → Type 0
 MayStart m mode behind = (quit_behind m behind ≡ None) × (supports m mode ≡ true)
 
--- the mode has a start slot: it has none for a pattern past the last
+-- the anchored mode has a start slot: it has none for a pattern past the last
 abbrev pub HasSlot : Machine → Anchored → Option ℕ → Type 0
 HasSlot m mode behind = slot_behind m mode behind < m.slots
 
@@ -53,15 +53,16 @@ start_search_error start.OutOfMemory behind at = search.OutOfMemory
 -- the ID of a start state that a call returns
 pub record IsStartAnswer (m : Machine) (mode : Anchored) (behind : Option ℕ) (old new : CacheView) (id : ℕ) :
     Type 0 where
-  -- The call returns Ok only if a search may start: the look-behind byte is no quit byte, and the mode is supported.
+  -- the call returns Ok only if a search may start: the look-behind byte is no quit byte, and the anchored mode is
+  -- supported
   pub may : MayStart m mode behind
-  -- Its row is there.
+  -- its row is there
   pub row : HoldsRow new id
-  -- It names the start state.
+  -- it names the start state
   pub named : Leads new.store.table id (start_state_of m.nfa mode behind)
-  -- It has the match tag exactly if its state has patterns.
+  -- it has the match tag exactly if its state has patterns
   pub tag : HasItsMatchTag new.store.table id
-  -- Past the last pattern the start is dead.
+  -- past the last pattern the start is dead
   pub past : m.slots ≤ slot_behind m mode behind → id ≡ dead_id m.stride
-  -- From then on it is cached, also if the call cleared the cache.
+  -- from then on it is cached, also if the call cleared the cache
   pub cached : HasSlot m mode behind → known_start m new.store mode behind ≡ id

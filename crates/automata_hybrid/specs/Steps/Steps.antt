@@ -1,4 +1,4 @@
--- Steps: the ID that a call returns, on a byte or on the end. What it makes of the cache stands in Calls.Steps.
+-- Steps: the ID that a call returns, on a byte or on the end. What it makes of the cache stands in Known.Steps.
 use Rattle.std.specs.Prelude.{ℕ, ◌≡◌, ◌<◌, ◌≤◌, true, false, Option}
 use Rattle.automata_base.specs.Powersets.Powerset.{Powerset}
 use Rattle.automata_base.specs.Retraced.Steps.{successor}
@@ -15,20 +15,20 @@ known_step m c id unit = cell_of c id (unit_class m unit)
 
 -- the ID that a step from an ID on a unit returns
 pub record IsStepAnswer (m : Machine) (id : ℕ) (unit : Option ℕ) (old new : CacheView) (next : ℕ) : Type 0 where
-  -- Its row is there.
+  -- its row is there
   pub row : HoldsRow new next
-  -- It has the match tag exactly if its state has patterns.
+  -- it has the match tag exactly if its state has patterns
   pub tag : HasItsMatchTag new.store.table next
-  -- Dead leads to dead, and quit to quit.
+  -- dead leads to dead, and quit to quit
   pub fixed : fixed_from ≤ id → next ≡ id
-  -- A quit byte leads to quit.
+  -- a quit byte leads to quit
   pub quit : id < fixed_from → quits_on m unit ≡ true → next ≡ quit_id m.stride
-  -- Any other unit leads from a state to its successor.
+  -- any other unit leads from a state to its successor
   pub named :
       quits_on m unit ≡ false → (q : Powerset) → Names old.store.table id q
       → Leads new.store.table next (successor m.nfa (match_kind_of m.config) q unit)
-  -- From then on the transition to this ID is cached, at the row that the state has then, also if the call cleared the
-  -- cache.
+  -- from then on the transition to this ID is cached, at the row that the state has then, also if the call cleared the
+  -- cache
   pub cached :
       (q : Powerset) → Names old.store.table id q
       → (now : ℕ) × Names new.store.table now q × (known_step m new.store now unit ≡ next)

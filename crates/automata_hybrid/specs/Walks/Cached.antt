@@ -1,4 +1,4 @@
--- Walk calls whose start or held state, and whose transitions, are all cached.
+-- When a call of a walk reads units, and when a set is open.
 use Rattle.std.specs.Prelude.{ℕ, ◌≡◌, ◌<◌, ◌≤◌, ◌-◌, List, [], length, Bool, false}
 use Rattle.automata_base.specs.Answers.Answers.{HasPattern}
 use Rattle.automata_base.specs.Haystacks.Input.{Input}

@@ -1,5 +1,5 @@
 -- What a call of a walk and a set answer by their DFA and their input alone, whatever the cache, and what they make of
--- their cache.
+-- the walk and of the set.
 use Rattle.std.specs.Prelude.{ℕ, ◌≡◌, ◌<◌, Bool, List, length, None, Result, Err, IfErr, IfSome, IsOk, OnOk, OnErr}
 use Rattle.automata_base.specs.Answers.Answers.{ArePatterns, ArePatternsFound, IsOverlapping}
 use Rattle.automata_base.specs.Haystacks.Input.{Input}

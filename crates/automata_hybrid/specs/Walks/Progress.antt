@@ -1,6 +1,6 @@
--- What the calls of a walk make of their cache and of the progress, unit by unit.
-use Rattle.std.specs.Prelude.{ℕ, ◌≡◌, ◌<◌, ◌≤◌, ◌+◌, ◌⊎◌, ◌↔◌, Bool, List, length, take}
-use Rattle.automata_base.specs.Answers.Answers.{HasPattern}
+-- Which units a call of a walk reads, and what a set has after some pairs.
+use Rattle.std.specs.Prelude.{ℕ, ◌≡◌, ◌<◌, ◌≤◌, ◌+◌, ◌↔◌, Bool, List, length, take}
+use Rattle.automata_base.specs.Answers.Answers.{IsInSet}
 use Rattle.automata_base.specs.Haystacks.Input.{Input}
 use Rattle.automata_base.specs.Haystacks.PatternSet.{members}
 use Rattle.automata_base.specs.Lists.{In}
@@ -41,8 +41,7 @@ IsClosedAfter m input set reported =
 
 -- a set joined with the patterns of these pairs that are below its capacity
 abbrev pub IsJoined : List Pair → (set joined : List Bool) → Type 0
-IsJoined pairs set joined =
-    (p : ℕ) → In p (members joined) ↔ (In p (members set) ⊎ ((p < length set) × HasPattern p pairs))
+IsJoined pairs set joined = (p : ℕ) → In p (members joined) ↔ IsInSet (length set) (members set) pairs p
 
 -- a set joined with the patterns of the first pairs of its walk
 abbrev pub IsJoinedAfter : Machine → Input → (set joined : List Bool) → (reported : ℕ) → Type 0

@@ -14,20 +14,20 @@ use Rattle.automata_hybrid.specs.Walks.Contracts.{JoinsReported}
 
 -- some path of the pattern from the start, through the span of an input, ends in a match, at some offset
 pub record MatchesIn (m : Machine) (input : Input) (start pattern : ℕ) : Type 0 where
-  -- The offset where the path ends.
+  -- the offset where the path ends
   pub at : ℕ
-  -- Some path of the pattern ends there in a match.
+  -- some path of the pattern ends there in a match
   pub accepted : IsAccepted Forward m.nfa input start (record { pattern = pattern; place = at })
 
 -- under `MatchKind::All`, for every NFA, and by the start of the input's anchored mode
 pub record SetsHaveMatching (m : Machine) : Type 0 where
-  -- A set has, after a call that answers, what it had and the patterns below its capacity that match in the span.
+  -- a set has, after a call that answers, what it had and the patterns below its capacity that match in the span
   pub sets :
       (input : Input) (start : ℕ) (old new : List Bool)
       → match_kind_of m.config ≡ KindAll → mode_start m.nfa input.anchored ≡ Some start → input.earliest ≡ false
       → IsInput input → input.start ≤ input.end → JoinsReported m input old new
       → (p : ℕ) → In p (members new) ↔ (In p (members old) ⊎ ((p < length old) × MatchesIn m input start p))
-  -- A pattern that matches in a span is one of the NFA's.
+  -- a pattern that matches in a span is one of the NFA's
   pub own :
       (input : Input) (start p : ℕ)
       → mode_start m.nfa input.anchored ≡ Some start → IsInput input → input.start ≤ input.end

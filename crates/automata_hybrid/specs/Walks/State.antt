@@ -12,7 +12,8 @@ pub data Stage : Type 0 where
   -- it has ended
   Ended : Stage
 
--- how many units it has read, how many patterns of its state it has reported, and its match
+-- what contracts see of a walk: where it stands, how many units it has read, how many patterns of its state it has
+-- reported, and its match
 pub record Walk : Type 0 where
   -- where it stands
   pub stage : Stage

@@ -13,7 +13,7 @@ pub(crate) struct Handle {
 }
 
 impl Handle {
-    /// It allocates nothing. It fails only if the state cannot be shared once more.
+    /// A handle on a state. It allocates nothing. It fails only if the state cannot be shared once more.
     pub(crate) fn of(state: &State) -> Result<Handle, AllocError>
         ensures { IfOk result (λ handle. IsHandle handle state.now) }
     {

@@ -17,19 +17,18 @@ ghost use Rattle.automata_hybrid.specs.Machines.OwnStates.{IsOwn};
 ghost use Rattle.automata_hybrid.specs.Machines.Machine.{quits_on, unit_class};
 ghost use Rattle.automata_hybrid.specs.Cache.Ids.{dead_id, unknown_id, offset_limit};
 ghost use Rattle.automata_hybrid.specs.Cache.Table.{id_of, Names, IsRowId, HasItsMatchTag, IsRowState};
-ghost use Rattle.automata_hybrid.specs.Private.Cache.Table.{IsCell, LeadsByClass, HasState, IsNewState};
+ghost use Rattle.automata_hybrid.specs.Private.Cache.Table.{IsCell, IsSoundTable, LeadsByClass, HasState, IsNewState};
 ghost use Rattle.automata_hybrid.specs.Private.Cache.Leaps.{AreLeaps, IsShapeOf, making_bytes};
-ghost use Rattle.automata_hybrid.specs.Private.Cache.Stores.{IsSoundStore, with_next, with_start_in_store};
+ghost use Rattle.automata_hybrid.specs.Private.Cache.Stores.{with_next, with_start_in_store};
 ghost use Rattle.automata_hybrid.specs.Cache.Stores.{cell_of, with_searched};
-ghost use Rattle.automata_hybrid.specs.Private.Cache.Usage.{usage_in_store, cleared_in_store, Fits};
-ghost use Rattle.automata_hybrid.specs.Private.Cache.Changes.{AddsNext, AddsRow};
+ghost use Rattle.automata_hybrid.specs.Private.Cache.Usage.{usage_in_store, Fits};
 ghost use Rattle.automata_hybrid.specs.Cache.Caches.{HoldsRow, IsCacheOf, dfa_of, fresh_cache};
 ghost use Rattle.automata_hybrid.specs.Private.Cache.Caches.{counted_in_store};
 ghost use Rattle.automata_hybrid.specs.Cache.Caches.{with_store};
 ghost use Rattle.automata_hybrid.specs.Private.Cache.Caches.{IsStoreOf};
 ghost use Rattle.automata_hybrid.specs.Known.Events.{usage};
 ghost use Rattle.automata_hybrid.specs.Known.Stores.{known_of};
-ghost use Rattle.automata_hybrid.specs.Private.Cache.Growth.{PutsBack, AddFails};
+ghost use Rattle.automata_hybrid.specs.Private.Cache.Growth.{AddFails, HasAdded, HasAddedNext};
 ghost use Rattle.automata_hybrid.specs.Private.Steps.Starts.{IsStartSlot};
 ghost use Rattle.automata_hybrid.specs.Private.Walks.State.{IsHandle};
 ghost use Rattle.automata_hybrid.specs.Cache.Progress.{progress_finished, progress_started, progress_updated};
@@ -209,8 +208,8 @@ impl Cache {
         Ok(Found::New(state))
     }
 
-    /// The ID of a state, if the cache has it. It is a call, since a set takes 3% more where a walk has its text,
-    /// although no set asks.
+    /// The ID of a state, if the cache has it.
+    // Not inlined: with its text in `resume` the search for a set, which never calls it, takes 3% longer.
     #[inline(never)]
     pub(crate) fn find(&self, key: &Key) -> Option<LazyStateID>
         ensures { result ≡ id_of self.now.store.table key.now }
@@ -242,8 +241,7 @@ impl Cache {
         requires dfa { IsCacheOf self.old dfa.now }
         requires new { IsNewState self.old.store.table state.now }
         ensures of { IsCacheOf self.new dfa.now }
-        ensures named { IfOk result (λ id. Names self.new.store.table id state.now) }
-        ensures back { OnOk result (PutsBack state.now self.old self.new) }
+        ensures added { IfOk result (HasAdded self.old self.new (record { state = state.now; started = false })) }
         ensures refused { IfErr result (AddFails self.old self.new state.now) }
     {
         self.see_bounds();
@@ -356,8 +354,7 @@ impl Cache {
         requires dfa { IsCacheOf self.old dfa.now }
         requires valid { IsRowId self.old.store.table from }
         requires new { IsNewState self.old.store.table state }
-        ensures answer { IfOk result (λ p. AddsNext self.old.store self.new.store from state p.0 p.1) }
-        ensures counted { self.new.count ≡ self.old.count }
+        ensures added { IfOk result (λ p. HasAddedNext self.old self.new from state p.0 p.1) }
         ensures refused { IfErr result (AddFails self.old self.new state) }
     {
         let bytes = self.store.cost_of(&state);
@@ -370,7 +367,7 @@ impl Cache {
     }
 
     /// Adds the state that comes next where it does not fit: clears first, and keeps the row that the step is from.
-    /// What a clear needs on the stack is prepared here alone.
+    // Not inlined, so that what a clear needs on the stack is prepared here alone.
     #[inline(never)]
     fn clear_and_add_next(
         &mut self,
@@ -384,8 +381,7 @@ impl Cache {
         requires new { IsNewState self.old.store.table state }
         requires bytes { bytes ≡ cost state }
         requires full { Fits self.old.store (cost state) → ⊥ }
-        ensures answer { IfOk result (λ p. AddsNext self.old.store self.new.store from state p.0 p.1) }
-        ensures counted { self.new.count ≡ self.old.count }
+        ensures added { IfOk result (λ p. HasAddedNext self.old self.new from state p.0 p.1) }
         ensures refused { IfErr result (AddFails self.old self.new state) }
     {
         let mut fresh = self.store.cleared(dfa)?;
@@ -444,9 +440,7 @@ impl Cache {
     ) -> Result<LazyStateID, StepError>
         requires dfa { IsCacheOf self.old dfa.now }
         requires new { IsNewState self.old.store.table state }
-        ensures answer { IfOk result (AddsRow self.old.store (cleared_in_store self.old.store) self.new.store
-            (record { state = state; started = started })) }
-        ensures counted { self.new.count ≡ self.old.count }
+        ensures added { IfOk result (HasAdded self.old self.new (record { state = state; started = started })) }
         ensures refused { IfErr result (AddFails self.old self.new state) }
     {
         let bytes = self.store.cost_of(&state);
@@ -471,9 +465,7 @@ impl Cache {
         requires new { IsNewState self.old.store.table state }
         requires bytes { bytes ≡ cost state }
         requires full { Fits self.old.store (cost state) → ⊥ }
-        ensures answer { IfOk result (AddsRow self.old.store (cleared_in_store self.old.store) self.new.store
-            (record { state = state; started = started })) }
-        ensures counted { self.new.count ≡ self.old.count }
+        ensures added { IfOk result (HasAdded self.old self.new (record { state = state; started = started })) }
         ensures refused { IfErr result (AddFails self.old self.new state) }
     {
         let fresh = self.store.cleared(dfa)?;
@@ -635,7 +627,6 @@ impl Cache {
         ensures value { self.new ≡ with_store self.old (with_searched self.old.store
             (progress_started self.old.store.searched at)) }
         ensures table { self.new.store.table ≡ self.old.store.table }
-        ensures counted { self.new.count ≡ self.old.count }
     {
         self.store.searched.start(at);
     }
@@ -663,7 +654,6 @@ impl Cache {
         ensures value { self.new ≡ with_store self.old (with_searched self.old.store
             (progress_updated self.old.store.searched at)) }
         ensures table { self.new.store.table ≡ self.old.store.table }
-        ensures counted { self.new.count ≡ self.old.count }
     {
         self.store.searched.update(at);
     }
@@ -673,7 +663,6 @@ impl Cache {
         ensures value { self.new ≡ with_store self.old (with_searched self.old.store
             (progress_finished self.old.store.searched at)) }
         ensures table { self.new.store.table ≡ self.old.store.table }
-        ensures counted { self.new.count ≡ self.old.count }
     {
         self.store.searched.finish(at);
     }
@@ -719,7 +708,7 @@ impl Cache {
     /// nothing.
     pub(crate) fn see_bounds(&self)
         ensures bounds { IsStoreOf self.now.store self.now.store.table.of }
-        ensures sound { IsSoundStore self.now.store }
+        ensures sound { IsSoundTable self.now.store.table }
     {
         let _clears = self.store.clears;
         self.store.table.see_rows();

@@ -98,7 +98,7 @@ impl Searched {
         self.bytes = self.bytes.saturating_add(bytes);
     }
 
-    /// What a clear makes of it.
+    /// The progress after a clear: no bytes, and an open search as if it began where it is.
     pub fn cleared(&self) -> Searched
         ensures { result ≡ progress_cleared self.now }
     {

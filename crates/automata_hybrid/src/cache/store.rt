@@ -1,18 +1,18 @@
 //! What a clear replaces: the table of states, the start slots, the count of clears and the progress of searches. The
 //! rules of the settings are here: what a state costs, whether it fits, and whether a search gives up in place of a
 //! clear.
-ghost use Rattle.std.specs.Prelude.{ℕ, ◌≡◌, ◌+◌, ◌*◌, ◌<◌, ◌≤◌, ◌↔◌, None, IfOk, IfErr, OnOk, OnErr, length, IsTrue};
+ghost use Rattle.std.specs.Prelude.{◌≡◌, ◌+◌, ◌*◌, ◌<◌, ◌≤◌, ◌↔◌, None, IfOk, IfErr, OnOk, OnErr, length, IsTrue};
 ghost use Rattle.std.specs.Prelude.{true};
-ghost use Rattle.automata_base.specs.Powersets.Powerset.{Powerset, cost};
+ghost use Rattle.automata_base.specs.Powersets.Powerset.{cost};
 ghost use Rattle.automata_base.specs.Powersets.Accounting.{minimum_capacity};
 ghost use Rattle.automata_hybrid.specs.Cache.Ids.{offset_limit};
 ghost use Rattle.automata_hybrid.specs.Private.Machines.Machine.{IsTemplate};
-ghost use Rattle.automata_hybrid.specs.Cache.Table.{id_of, Names, IsRowId, row_of};
+ghost use Rattle.automata_hybrid.specs.Cache.Table.{IsRowId};
 ghost use Rattle.automata_hybrid.specs.Private.Cache.Table.{IsNewState};
 ghost use Rattle.automata_hybrid.specs.Cache.Stores.{IsCacheError, fresh_store};
-ghost use Rattle.automata_hybrid.specs.Private.Cache.Stores.{with_table, cache_settings};
+ghost use Rattle.automata_hybrid.specs.Private.Cache.Stores.{cache_settings};
 ghost use Rattle.automata_hybrid.specs.Private.Cache.Usage.{usage_in_store, Fits, refuses_in_store, FitsAny, IsCleared};
-ghost use Rattle.automata_hybrid.specs.Private.Cache.Changes.{grown, put_found};
+ghost use Rattle.automata_hybrid.specs.Private.Cache.Changes.{HasGrown, HasSavedRow};
 
 use crate::cache::clears::{keep_row, keep_starts};
 use crate::cache::progress::Searched;
@@ -30,7 +30,7 @@ use std::marker::Model;
 /// How many rows a new cache has room for, so that a short search does not move them.
 const FIRST_ROWS: usize = 8;
 
-/// A lazy DFA's cache, whose accounted bytes never pass its capacity.
+/// What a clear of a cache replaces: rows, start slots and progress. Its accounted bytes never pass the capacity.
 #[derive(Drop)]
 pub struct Store {
     pub(super) table: Table,
@@ -137,7 +137,7 @@ impl Store {
 
     /// The bytes of the capacity that are not taken.
     pub fn room(&self) -> usize
-        ensures { usage_in_store self.now + result ≤ self.now.table.of.capacity }
+        ensures { usage_in_store self.now + result ≡ self.now.table.of.capacity }
     {
         self.settings.capacity - self.memory_usage()
     }
@@ -198,10 +198,7 @@ impl Store {
         requires new { IsNewState self.old.table state }
         requires bytes { bytes ≡ cost state }
         requires fits { Fits self.old (cost state) }
-        ensures ok { OnOk result (self.new ≡ grown self.old (record { state = state; started = started })) }
-        ensures named { IfOk result (λ id. Names self.new.table id state) }
-        ensures kept { OnOk result ((id : ℕ) (q : Powerset) → Names self.old.table id q → Names self.new.table id q) }
-        ensures of { OnOk result (self.new.table.of ≡ self.old.table.of) }
+        ensures grown { IfOk result (HasGrown self.old (record { state = state; started = started }) self.new) }
         ensures err { OnErr result (self.new ≡ self.old) }
     {
         self.table.see_rows();
@@ -214,11 +211,7 @@ impl Store {
         requires valid { IsRowId old.now id }
         requires of { self.old.table.of ≡ old.now.of }
         requires few { length self.old.table.rows ≤ length self.old.starts }
-        ensures row { OnOk result (self.new ≡ with_table self.old (put_found self.old.table (row_of old.now id))) }
-        ensures named { IfOk result (λ n. (q : Powerset) → Names old.now id q → Names self.new.table n q) }
-        ensures room { OnOk result (FitsAny self.new) }
-        ensures absent { OnOk result ((q : Powerset) → id_of old.now q ≡ None → id_of self.old.table q ≡ None
-            → id_of self.new.table q ≡ None) }
+        ensures saved { IfOk result (HasSavedRow old.now id self.old self.new) }
         ensures of { OnOk result (self.new.table.of ≡ self.old.table.of) }
     {
         self.table.see_rows();
@@ -238,10 +231,7 @@ impl Store {
         requires room { FitsAny fresh }
         requires bytes { bytes ≡ cost state }
         requires new { IsNewState fresh.table state }
-        ensures ok { OnOk result (self.new ≡ grown fresh (record { state = state; started = started })) }
-        ensures named { IfOk result (λ id. Names self.new.table id state) }
-        ensures kept { OnOk result ((id : ℕ) (q : Powerset) → Names fresh.table id q → Names self.new.table id q) }
-        ensures of { OnOk result (self.new.table.of ≡ fresh.table.of) }
+        ensures grown { IfOk result (HasGrown fresh (record { state = state; started = started }) self.new) }
         ensures err { OnErr result (self.new ≡ self.old) }
     {
         let id = fresh.add_row(state, started, bytes)?;

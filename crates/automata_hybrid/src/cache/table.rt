@@ -1,8 +1,8 @@
 //! The transition table: a row of cells for each state, after the three fixed rows (unknown, dead and quit), and the
 //! map from states to the IDs of their rows. An ID has the offset of its row, so that a step adds a class and loads
 //! one cell. The cell is unknown until the step has been taken once.
-ghost use Rattle.std.specs.Prelude.{ℕ, ◌≡◌, ◌+◌, ◌-◌, ◌*◌, ◌/◌, ◌%◌, ◌^◌, ◌<◌, ◌≤◌, None, Some, IfOk, IsTrue, ◌↔◌};
-ghost use Rattle.std.specs.Prelude.{OnOk, OnErr, length, slice_index, slice_set, slice_get, sum_by, false, cond};
+ghost use Rattle.std.specs.Prelude.{ℕ, ◌≡◌, ◌+◌, ◌-◌, ◌*◌, ◌/◌, ◌%◌, ◌^◌, ◌<◌, ◌≤◌, IfOk, IsTrue, ◌↔◌};
+ghost use Rattle.std.specs.Prelude.{OnErr, length, slice_index, slice_set, sum_by, false, cond};
 ghost use Rattle.automata_base.specs.Powersets.Powerset.{Powerset, cost, dead};
 ghost use Rattle.automata_base.specs.ByteClasses.Classes.{eoi_class, stride_for};
 ghost use Rattle.automata_hybrid.specs.Machines.Reachable.{IsStateOf};
@@ -10,7 +10,8 @@ ghost use Rattle.automata_hybrid.specs.Cache.Ids.{unknown_id, offset_limit};
 ghost use Rattle.automata_hybrid.specs.Machines.Machine.{marked};
 ghost use Rattle.automata_hybrid.specs.Private.Machines.Machine.{IsTemplate};
 ghost use Rattle.automata_hybrid.specs.Cache.Table.{id_of, fresh, Names, row_cost, IsRowId, cell_at};
-ghost use Rattle.automata_hybrid.specs.Private.Cache.Table.{LeadsByClass, with_row_in_store, HasState, IsNewState};
+ghost use Rattle.automata_hybrid.specs.Private.Cache.Table.{LeadsByClass, HasState, IsNewState};
+ghost use Rattle.automata_hybrid.specs.Private.Cache.Table.{HasNewRow, IsCopiedRow};
 ghost use Rattle.automata_hybrid.specs.Private.Cache.Table.{IsSoundTable, IsCell, with_cell};
 ghost use Rattle.automata_hybrid.specs.Private.Cache.Leaps.{LeadsToRow};
 ghost use Rattle.automata_hybrid.specs.Cache.States.{held_states};
@@ -82,7 +83,7 @@ fn rows_before(offset: usize, stride: usize) -> usize
 }
 
 impl Table {
-    /// The ID of a state, where the table has it.
+    /// The ID of a state, if the table has a row for it.
     #[inline(always)]
     pub fn get(&self, state: &Key) -> Option<LazyStateID>
         ensures { result ≡ id_of self.now state.now }
@@ -160,9 +161,7 @@ impl Table {
         requires bytes { bytes ≡ cost state }
         requires fits { length self.old.cells < offset_limit }
         requires costs { sum_by row_cost self.old.rows + cost state < 2 ^ 64 }
-        ensures ok { OnOk result (self.new ≡ with_row_in_store self.old (record { state = state; started = started })) }
-        ensures named { IfOk result (λ id. Names self.new id state) }
-        ensures kept { OnOk result ((id : ℕ) (q : Powerset) → Names self.old id q → Names self.new id q) }
+        ensures added { IfOk result (HasNewRow self.old (record { state = state; started = started }) self.new) }
         ensures err { OnErr result (self.new ≡ self.old) }
     {
         self.cells.reserve(self.stride)?;
@@ -307,11 +306,7 @@ impl Table {
     /// A copy of a row: its state, and whether its ID has the start tag.
     pub fn copied_row(&self, row: usize) -> Result<Row, AllocError>
         requires { row < length self.now.rows }
-        ensures value { IfOk result (λ r. slice_get self.now.rows row ≡ Some r) }
-        ensures alive { IfOk result (λ r. r.state ≡ dead → ⊥) }
-        ensures had { IfOk result (λ r. id_of self.now r.state ≡ None → ⊥) }
-        ensures cost { IfOk result (λ r. cost r.state ≤ self.now.of.greatest) }
-        ensures of { IfOk result (λ r. IsStateOf self.now.of r.state) }
+        ensures { IfOk result (IsCopiedRow self.now row) }
     {
         let row = &self.rows[row];
         let copy = row.clone()?;

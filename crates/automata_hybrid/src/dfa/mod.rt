@@ -1,7 +1,7 @@
 //! The lazy DFA itself: its NFA, settings, byte classes and quit bytes. It has no states of its own: they are in a
 //! `Cache`. `start` and `step` find an ID in the cache, or determinize its state and add a row. `builder` makes DFAs,
 //! with the limits of their caches.
-ghost use Rattle.std.specs.Prelude.{ℕ, ◌≡◌, ◌<◌, ◌≤◌, ◌^◌, IfOk, OnOk, OnErr, Some, None, true, false, slice_index};
+ghost use Rattle.std.specs.Prelude.{◌≡◌, ◌<◌, ◌≤◌, IfOk, OnOk, OnErr, Some, None, true, false, slice_index};
 ghost use Rattle.std.specs.Prelude.{length};
 ghost use Rattle.automata_base.specs.ByteClasses.Classes.{AreClasses, class_in, eoi_class, is_quit};
 ghost use Rattle.automata_base.specs.Powersets.Passes.{IsUnit};
@@ -9,7 +9,7 @@ ghost use Rattle.automata_base.specs.Powersets.Accounting.{start_slots};
 ghost use Rattle.automata_hybrid.specs.Cache.Ids.{quit_id, unknown_id};
 ghost use Rattle.automata_hybrid.specs.Private.Machines.Machine.{IsMachine};
 ghost use Rattle.automata_config.specs.Settling.{IsSettled};
-ghost use Rattle.automata_config.specs.Options.{unset, starts_for_each_pattern_of};
+ghost use Rattle.automata_config.specs.Options.{unset};
 ghost use Rattle.automata_hybrid.specs.Cache.Caches.{fresh_cache};
 ghost use Rattle.automata_hybrid.specs.Machines.Builds.{built_machine};
 ghost use Rattle.automata_hybrid.specs.Cache.Stores.{fresh_store};
@@ -86,7 +86,7 @@ impl Clone for DFA {
 }
 
 impl DFA {
-    /// The settings to configure.
+    /// The default settings, to set options of.
     pub fn config() -> Config
         ensures { result ≡ unset }
     {
@@ -161,7 +161,7 @@ impl DFA {
         0
     }
 
-    /// The NFA.
+    /// The NFA that the DFA was built from.
     pub fn get_nfa(&self) -> &NFA
         ensures { result.now ≡ self.now.nfa }
     {
@@ -219,10 +219,6 @@ impl DFA {
     pub(crate) fn see_machine(&self)
         ensures machine { IsMachine self.now }
         ensures rising { AreClasses self.now.classes }
-        ensures bytes { (byte : ℕ) → byte < 256 → class_in self.now.classes byte < self.now.stride }
-        ensures end { eoi_class self.now.classes < self.now.stride }
-        ensures number { self.now.slots ≡ start_slots self.now.nfa (starts_for_each_pattern_of self.now.config) }
-        ensures fits { self.now.slots < 2 ^ 64 }
     {
         let _len = self.classes.alphabet_len();
     }

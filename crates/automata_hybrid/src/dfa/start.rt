@@ -9,11 +9,11 @@ ghost use Rattle.automata_base.specs.ByteClasses.Classes.{is_quit};
 ghost use Rattle.automata_base.specs.Retraced.Steps.{start_state_of};
 ghost use Rattle.automata_base.specs.Haystacks.Tapes.{byte_before};
 ghost use Rattle.automata_hybrid.specs.Steps.Starts.{quit_behind, start_search_error, IsStartAnswer};
-ghost use Rattle.automata_hybrid.specs.Private.Steps.Starts.{start_error, IsStartSlot};
+ghost use Rattle.automata_hybrid.specs.Private.Steps.Starts.{HasStarted, IsStartSlot, start_error};
 ghost use Rattle.automata_hybrid.specs.Known.Steps.{IsStartRun, StartFails, StartFailsAt};
 ghost use Rattle.automata_hybrid.specs.Known.Stores.{known_of};
 ghost use Rattle.automata_hybrid.specs.Known.Events.{is_cached};
-ghost use Rattle.automata_hybrid.specs.Calls.Events as events;
+ghost use Rattle.automata_hybrid.specs.Steps.Events as events;
 ghost use Rattle.automata_hybrid.specs.Machines.StartSlots.{supports, slot_of};
 ghost use Rattle.automata_hybrid.specs.Steps.BySteps.{StartsAt};
 ghost use Rattle.automata_hybrid.specs.Cache.Caches.{IsCacheOf};
@@ -68,10 +68,9 @@ impl Cache {
         requires slot { IsStartSlot dfa.now mode prev slot }
         requires unknown { is_cached dfa.now (events.Start mode prev) (known_of self.old) ≡ false }
         ensures of { IsCacheOf self.new dfa.now }
-        ensures answer { IfOk result (IsStartAnswer dfa.now mode prev self.old self.new) }
+        ensures started { IfOk result (HasStarted dfa.now mode prev self.old self.new) }
         ensures refusal { IfErr result
             (λ e. StartFails dfa.now mode prev (known_of self.old) (known_of self.new) (start_error e)) }
-        ensures run { OnOk result (IsStartRun dfa.now mode prev (known_of self.old) (known_of self.new)) }
     {
         dfa.see_machine();
         self.see_bounds();

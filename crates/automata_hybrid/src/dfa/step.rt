@@ -12,7 +12,7 @@ ghost use Rattle.automata_hybrid.specs.Steps.BySteps.{StepsOn};
 ghost use Rattle.automata_hybrid.specs.Known.Steps.{IsStepRun, StepFails};
 ghost use Rattle.automata_hybrid.specs.Known.Stores.{known_of};
 ghost use Rattle.automata_hybrid.specs.Steps.Steps.{IsStepAnswer};
-ghost use Rattle.automata_hybrid.specs.Private.Steps.Steps.{KnowsStep};
+ghost use Rattle.automata_hybrid.specs.Private.Steps.Steps.{HasTakenStep, KnowsStep};
 ghost use Rattle.automata_hybrid.specs.Machines.Machine.{quits_on};
 ghost use Rattle.automata_config.specs.Options.{match_kind_of};
 
@@ -68,9 +68,8 @@ impl Cache {
         requires clean { quits_on dfa.now unit ≡ false }
         requires unknown { KnowsStep dfa.now self.old.store id unit → ⊥ }
         ensures of { IsCacheOf self.new dfa.now }
-        ensures answer { IfOk result (IsStepAnswer dfa.now id unit self.old self.new) }
+        ensures taken { IfOk result (HasTakenStep dfa.now id unit self.old self.new) }
         ensures refusal { IfErr result (StepFails dfa.now id unit (known_of self.old) (known_of self.new)) }
-        ensures run { OnOk result (IsStepRun dfa.now id unit (known_of self.old) (known_of self.new)) }
     {
         dfa.see_machine();
         self.see_bounds();
@@ -121,10 +120,10 @@ impl DFA {
         cache.next(self, id, Some(byte))
     }
 
-    /// The ID of the state after the haystack's end, on the same condition. Take this step once, after the last byte:
-    /// matches are delayed by one byte. Dead leads to dead, and quit to quit. A cached
-    /// transition allocates nothing. It fails if the state does not fit and the settings allow no clear, and if memory
-    /// runs out; then nothing has changed.
+    /// The ID of the state after the haystack's end. The given ID has to name a row of the cache and not be the unknown
+    /// one, as for `next_state`. Take this step once, after the last byte: matches are delayed by one byte. Dead leads
+    /// to dead, and quit to quit. A cached transition allocates nothing. It fails if the state does not fit and the
+    /// settings allow no clear, and if memory runs out; then nothing has changed.
     pub fn next_eoi_state(
         &self,
         cache: &mut Cache,
@@ -162,23 +161,6 @@ impl DFA {
         ensures row { result < unknown_id → HoldsRow cache.now result }
     {
         cache.cell_in_row(id, id.untagged() as usize, self.class_of(byte))
-    }
-
-    /// The ID of the state after a byte, from an ID that may have a tag; unknown if the transition is not cached.
-    #[inline(always)]
-    pub(crate) fn next_state_known(&self, cache: &Cache, id: LazyStateID, byte: u8) -> LazyStateID
-        requires of { IsCacheOf cache.now self.now }
-        requires valid { IsRowId cache.now.store.table id }
-        ensures value { result ≡ cell_of cache.now.store id (class_in self.now.classes byte) }
-        ensures below { class_in self.now.classes byte < self.now.stride }
-        ensures quit { is_quit self.now.quits byte ≡ true → result ≡ quit_id self.now.stride }
-        ensures named { is_quit self.now.quits byte ≡ false → result < unknown_id
-            → (q : Powerset) → Names cache.now.store.table id q
-            → Leads cache.now.store.table result
-            (successor self.now.nfa (match_kind_of self.now.config) q (Some byte)) }
-        ensures row { result < unknown_id → HoldsRow cache.now result }
-    {
-        cache.cell(id, self.class_of(byte))
     }
 
     /// How many patterns match at a match state: at least one. The ID has to name a row of the cache and have the match

@@ -1,15 +1,13 @@
 //! All in which the directions of a search differ. A place is counted from where the search begins; an offset is one of
 //! the haystack.
-ghost use Rattle.std.specs.Prelude.{ℕ, ◌≡◌, ◌+◌, ◌-◌, ◌^◌, ◌<◌, ◌≤◌, IfErr, IfOk, OnOk, Some, true, false, length};
+ghost use Rattle.std.specs.Prelude.{ℕ, ◌≡◌, ◌+◌, ◌-◌, ◌^◌, ◌<◌, ◌≤◌, Some, true, false, length};
 ghost use Rattle.automata_base.specs.Answers.Answers.{later, offset_in};
 ghost use Rattle.automata_base.specs.Paths.Paths.{next};
-ghost use Rattle.automata_hybrid.specs.Known.Stores.{known_of};
-ghost use Rattle.automata_hybrid.specs.Known.Steps.{IsStartRun, StartFailsAt};
 ghost use Rattle.automata_hybrid.specs.Cache.Caches.{IsCacheOf};
 ghost use Rattle.automata_hybrid.specs.Cache.Progress.{distance};
 ghost use Rattle.automata_hybrid.specs.Searches.Passes.{behind_offset, given_up_offset, tape_in, unit_offset};
-ghost use Rattle.automata_hybrid.specs.Steps.Starts.{IsStartAnswer};
-ghost use Rattle.automata_hybrid.specs.Private.Searches.SelfLoops.{byte_in};
+ghost use Rattle.automata_hybrid.specs.Private.Steps.Starts.{IsStartResult};
+ghost use Rattle.automata_hybrid.specs.Private.Fast.SelfLoops.{byte_in};
 
 use crate::cache::Cache;
 use crate::dfa::DFA;
@@ -185,28 +183,21 @@ pub(crate) fn begin_later(input: &mut Input<'_>, way: Direction) -> bool
     }
 }
 
-impl DFA {
-    /// The start state of a search in a direction.
-    #[inline(always)]
-    pub(crate) fn walk_start(
-        &self,
-        cache: &mut Cache,
-        input: &Input<'_>,
-        way: Direction,
-    ) -> Result<LazyStateID, SearchError>
-        requires { IsCacheOf cache.old self.now }
-        ensures of { IsCacheOf cache.new self.now }
-        ensures answer { IfOk result (IsStartAnswer self.now input.now.anchored (tape_in way input.now).before
-            cache.old cache.new) }
-        ensures refusal { IfErr result
-            (StartFailsAt self.now input.now.anchored (tape_in way input.now).before (behind_offset way input.now)
-            (offset_in way input.now 0) (known_of cache.old) (known_of cache.new)) }
-        ensures run { OnOk result (IsStartRun self.now input.now.anchored (tape_in way input.now).before
-            (known_of cache.old) (known_of cache.new)) }
-    {
-        match way {
-            Direction::Forward => self.start_state_forward(cache, input),
-            Direction::Backward => self.start_state_reverse(cache, input),
-        }
+/// The start state of a search in a direction.
+#[inline(always)]
+pub(crate) fn walk_start(
+    dfa: &DFA,
+    cache: &mut Cache,
+    input: &Input<'_>,
+    way: Direction,
+) -> Result<LazyStateID, SearchError>
+    requires { IsCacheOf cache.old dfa.now }
+    ensures of { IsCacheOf cache.new dfa.now }
+    ensures started { IsStartResult dfa.now input.now.anchored (tape_in way input.now).before
+        (behind_offset way input.now) (offset_in way input.now 0) cache.old cache.new result }
+{
+    match way {
+        Direction::Forward => dfa.start_state_forward(cache, input),
+        Direction::Backward => dfa.start_state_reverse(cache, input),
     }
 }

@@ -24,6 +24,7 @@ pub mod walk;
 use crate::cache::Cache;
 use crate::dfa::DFA;
 use crate::id::LazyStateID;
+use crate::search::plain::known::known_step;
 use automata_base::util::primitives::PatternID;
 use automata_base::util::search::{HalfMatch, Input, MatchError};
 use automata_config::error::{SearchError, StepError};
@@ -68,172 +69,172 @@ impl DFA {
         }
         nfa.has_empty()
     }
+}
 
-    /// Whether a match at an offset is skipped, since the offset is inside a character.
-    fn skips_at(&self, input: &Input<'_>, offset: usize) -> bool
-        ensures yes { result ≡ true → Skips self.now × (is_split input.now.haystack offset ≡ true) }
-        ensures no { result ≡ false → Skips self.now → is_split input.now.haystack offset ≡ false }
-    {
-        if !self.skips() {
-            return false;
-        }
-        splits(input, offset)
+/// Whether a match at an offset is skipped, since the offset is inside a character.
+fn skips_at(dfa: &DFA, input: &Input<'_>, offset: usize) -> bool
+    ensures yes { result ≡ true → Skips dfa.now × (is_split input.now.haystack offset ≡ true) }
+    ensures no { result ≡ false → Skips dfa.now → is_split input.now.haystack offset ≡ false }
+{
+    if !dfa.skips() {
+        return false;
     }
+    splits(input, offset)
+}
 
-    /// The state after a unit, which is the quit state at a quit byte. `cell` was read in the row, so that a step that
-    /// is not cached is computed without another look. The search moves to the unit if it is computed. An error is at
-    /// this offset.
-    // It has no `inline(always)`: each one makes `search` grow, until the compiler drops the mark of that.
-    fn step(
-        &self,
-        cache: &mut Cache,
-        id: LazyStateID,
-        cell: LazyStateID,
-        unit: Option<u8>,
-        at: usize,
-    ) -> Result<LazyStateID, SearchError>
-        requires of { IsCacheOf cache.old self.now }
-        requires valid { IsRowId cache.old.store.table id }
-        requires cell { IsCellRead self.now cache.old.store id unit cell }
-        ensures of { IsCacheOf cache.new self.now }
-        ensures step { IsStepResult self.now id unit at cache.old cache.new result }
-    {
-        self.see_machine();
-        cache.see_bounds();
-        let _cell = cache.cell(id, self.unit_class(unit));
-        if !cell.is_unknown() {
-            return Ok(cell);
-        }
-        cache.move_search(at);
-        match cache.compute_next(self, id, unit) {
-            Ok(next) => Ok(next),
-            Err(error) => Err(step_error(error, at)),
-        }
+/// The state after a unit, which is the quit state at a quit byte. `cell` was read in the row, so that a step that
+/// is not cached is computed without another look. The search moves to the unit if it is computed. An error is at
+/// this offset.
+// It has no `inline(always)`: each one makes `search` grow, until the compiler drops the mark of that.
+fn step(
+    dfa: &DFA,
+    cache: &mut Cache,
+    id: LazyStateID,
+    cell: LazyStateID,
+    unit: Option<u8>,
+    at: usize,
+) -> Result<LazyStateID, SearchError>
+    requires of { IsCacheOf cache.old dfa.now }
+    requires valid { IsRowId cache.old.store.table id }
+    requires cell { IsCellRead dfa.now cache.old.store id unit cell }
+    ensures of { IsCacheOf cache.new dfa.now }
+    ensures step { IsStepResult dfa.now id unit at cache.old cache.new result }
+{
+    dfa.see_machine();
+    cache.see_bounds();
+    let _cell = cache.cell(id, dfa.unit_class(unit));
+    if !cell.is_unknown() {
+        return Ok(cell);
     }
+    cache.move_search(at);
+    match cache.compute_next(dfa, id, unit) {
+        Ok(next) => Ok(next),
+        Err(error) => Err(step_error(error, at)),
+    }
+}
 
-    /// The state after a unit. `cell` was read in the row. A quit byte ends the search, and is an error at its own
-    /// offset.
-    #[inline(always)]
-    fn read_met(
-        &self,
-        cache: &mut Cache,
-        id: LazyStateID,
-        cell: LazyStateID,
-        unit: Option<u8>,
-        quit_at: usize,
-        at: usize,
-    ) -> Result<LazyStateID, SearchError>
-        requires of { IsCacheOf cache.old self.now }
-        requires valid { IsRowId cache.old.store.table id }
-        requires cell { IsCellRead self.now cache.old.store id unit cell }
-        ensures of { IsCacheOf cache.new self.now }
-        ensures read { IsRead self.now id unit quit_at at cache.old cache.new result }
-    {
-        self.see_machine();
-        cache.see_bounds();
-        let next = self.step(cache, id, cell, unit, at)?;
-        cache.see_bounds();
-        match unit {
-            None => Ok(next),
-            Some(byte) => {
-                if next.is_quit() {
-                    cache.end_search(at);
-                    return Err(quit(byte, quit_at));
-                }
-                Ok(next)
+/// The state after a unit. `cell` was read in the row. A quit byte ends the search, and is an error at its own
+/// offset.
+#[inline(always)]
+fn read_met(
+    dfa: &DFA,
+    cache: &mut Cache,
+    id: LazyStateID,
+    cell: LazyStateID,
+    unit: Option<u8>,
+    quit_at: usize,
+    at: usize,
+) -> Result<LazyStateID, SearchError>
+    requires of { IsCacheOf cache.old dfa.now }
+    requires valid { IsRowId cache.old.store.table id }
+    requires cell { IsCellRead dfa.now cache.old.store id unit cell }
+    ensures of { IsCacheOf cache.new dfa.now }
+    ensures read { IsRead dfa.now id unit quit_at at cache.old cache.new result }
+{
+    dfa.see_machine();
+    cache.see_bounds();
+    let next = step(dfa, cache, id, cell, unit, at)?;
+    cache.see_bounds();
+    match unit {
+        None => Ok(next),
+        Some(byte) => {
+            if next.is_quit() {
+                cache.end_search(at);
+                return Err(quit(byte, quit_at));
             }
+            Ok(next)
         }
     }
+}
 
-    /// The ID after a unit: the one that was met, or if none was, what stands in the row.
-    #[inline(always)]
-    fn met_or_cell(
-        &self,
-        cache: &Cache,
-        id: LazyStateID,
-        met: LazyStateID,
-        unit: Option<u8>,
-    ) -> LazyStateID
-        requires of { IsCacheOf cache.now self.now }
-        requires valid { IsRowId cache.now.store.table id }
-        requires met { met < unknown_id → met ≡ known_step self.now cache.now.store id unit }
-        ensures { IsCellRead self.now cache.now.store id unit result }
-    {
-        if met.is_unknown() {
-            return self.known_step(cache, id, unit);
-        }
-        met
+/// The ID after a unit: the one that was met, or if none was, what stands in the row.
+#[inline(always)]
+fn met_or_cell(
+    dfa: &DFA,
+    cache: &Cache,
+    id: LazyStateID,
+    met: LazyStateID,
+    unit: Option<u8>,
+) -> LazyStateID
+    requires of { IsCacheOf cache.now dfa.now }
+    requires valid { IsRowId cache.now.store.table id }
+    requires met { met < unknown_id → met ≡ known_step dfa.now cache.now.store id unit }
+    ensures { IsCellRead dfa.now cache.now.store id unit result }
+{
+    if met.is_unknown() {
+        return known_step(dfa, cache, id, unit);
     }
+    met
+}
 
-    /// The state after a unit. `met` is the next ID if the caller has seen it, and else unknown. A quit byte ends the
-    /// search, and is an error at its own offset.
-    #[inline(always)]
-    fn read(
-        &self,
-        cache: &mut Cache,
-        id: LazyStateID,
-        met: LazyStateID,
-        unit: Option<u8>,
-        quit_at: usize,
-        at: usize,
-    ) -> Result<LazyStateID, SearchError>
-        requires of { IsCacheOf cache.old self.now }
-        requires valid { IsRowId cache.old.store.table id }
-        requires met { met < unknown_id → met ≡ known_step self.now cache.old.store id unit }
-        ensures of { IsCacheOf cache.new self.now }
-        ensures read { IsRead self.now id unit quit_at at cache.old cache.new result }
-    {
-        let cell = self.met_or_cell(cache, id, met, unit);
-        self.read_met(cache, id, cell, unit, quit_at, at)
-    }
+/// The state after a unit. `met` is the next ID if the caller has seen it, and else unknown. A quit byte ends the
+/// search, and is an error at its own offset.
+#[inline(always)]
+fn read(
+    dfa: &DFA,
+    cache: &mut Cache,
+    id: LazyStateID,
+    met: LazyStateID,
+    unit: Option<u8>,
+    quit_at: usize,
+    at: usize,
+) -> Result<LazyStateID, SearchError>
+    requires of { IsCacheOf cache.old dfa.now }
+    requires valid { IsRowId cache.old.store.table id }
+    requires met { met < unknown_id → met ≡ known_step dfa.now cache.old.store id unit }
+    ensures of { IsCacheOf cache.new dfa.now }
+    ensures read { IsRead dfa.now id unit quit_at at cache.old cache.new result }
+{
+    let cell = met_or_cell(dfa, cache, id, met, unit);
+    read_met(dfa, cache, id, cell, unit, quit_at, at)
+}
 
-    /// The first pattern of a match state. An NFA of one pattern needs no look-up.
-    #[inline(always)]
-    fn first_pattern(&self, cache: &Cache, id: LazyStateID) -> PatternID
-        requires of { IsCacheOf cache.now self.now }
-        requires valid { IsRowId cache.now.store.table id }
-        requires tagged { HasMatchTag id }
-        ensures { (q : Powerset) → Names cache.now.store.table id q → result ≡ slice_index q.patterns 0 }
-    {
-        cache.see_bounds();
-        if self.pattern_len() == 1 {
-            return PatternID::ZERO;
-        }
-        self.first_of_many(cache, id)
+/// The first pattern of a match state. An NFA of one pattern needs no look-up.
+#[inline(always)]
+fn first_pattern(dfa: &DFA, cache: &Cache, id: LazyStateID) -> PatternID
+    requires of { IsCacheOf cache.now dfa.now }
+    requires valid { IsRowId cache.now.store.table id }
+    requires tagged { HasMatchTag id }
+    ensures { (q : Powerset) → Names cache.now.store.table id q → result ≡ slice_index q.patterns 0 }
+{
+    cache.see_bounds();
+    if dfa.pattern_len() == 1 {
+        return PatternID::ZERO;
     }
+    first_of_many(dfa, cache, id)
+}
 
-    /// The first pattern of a match state of an NFA of several patterns, looked up in its row.
-    #[inline(never)]
-    fn first_of_many(&self, cache: &Cache, id: LazyStateID) -> PatternID
-        requires of { IsCacheOf cache.now self.now }
-        requires valid { IsRowId cache.now.store.table id }
-        requires tagged { HasMatchTag id }
-        ensures { (q : Powerset) → Names cache.now.store.table id q → result ≡ slice_index q.patterns 0 }
-    {
-        cache.see_bounds();
-        cache.match_pattern(id, 0)
-    }
+/// The first pattern of a match state of an NFA of several patterns, looked up in its row.
+#[inline(never)]
+fn first_of_many(dfa: &DFA, cache: &Cache, id: LazyStateID) -> PatternID
+    requires of { IsCacheOf cache.now dfa.now }
+    requires valid { IsRowId cache.now.store.table id }
+    requires tagged { HasMatchTag id }
+    ensures { (q : Powerset) → Names cache.now.store.table id q → result ≡ slice_index q.patterns 0 }
+{
+    cache.see_bounds();
+    cache.match_pattern(id, 0)
+}
 
-    /// What was found last, once the state of an ID has matched at an offset.
-    #[inline(always)]
-    fn found_at(
-        &self,
-        cache: &Cache,
-        id: LazyStateID,
-        at: usize,
-        found: Option<HalfMatch>,
-    ) -> Option<HalfMatch>
-        requires of { IsCacheOf cache.now self.now }
-        requires leads { (q : Powerset) × Leads cache.now.store.table id q }
-        ensures { (q : Powerset) → Leads cache.now.store.table id q → result ≡ half_at q.patterns at found }
-    {
-        cache.see_bounds();
-        if id.is_fixed() {
-            return found;
-        }
-        if id.is_match() {
-            return Some(HalfMatch::new(self.first_pattern(cache, id), at));
-        }
-        found
+/// What was found last, once the state of an ID has matched at an offset.
+#[inline(always)]
+fn found_at(
+    dfa: &DFA,
+    cache: &Cache,
+    id: LazyStateID,
+    at: usize,
+    found: Option<HalfMatch>,
+) -> Option<HalfMatch>
+    requires of { IsCacheOf cache.now dfa.now }
+    requires leads { (q : Powerset) × Leads cache.now.store.table id q }
+    ensures { (q : Powerset) → Leads cache.now.store.table id q → result ≡ half_at q.patterns at found }
+{
+    cache.see_bounds();
+    if id.is_fixed() {
+        return found;
     }
+    if id.is_match() {
+        return Some(HalfMatch::new(first_pattern(dfa, cache, id), at));
+    }
+    found
 }

@@ -1,5 +1,5 @@
 use Rattle.std.proofs.Common.{subst}
-use Rattle.automata_base.specs.Answers.Within.{StatesReportOwn}
+use Rattle.automata_hybrid.proofs.Words.{StatesReportOwn}
 use Rattle.automata_hybrid.proofs.Known.CallsFollow.{calls_follow}
 use Rattle.automata_hybrid.proofs.Known.Bounds.{dfa_bounds}
 use Rattle.automata_hybrid.proofs.Searches.Skips.{skips_or_not}

@@ -1,5 +1,5 @@
 use Rattle.std.proofs.Common.{subst}
-use Rattle.automata_base.specs.Answers.OfPasses.{ReportedEndsAreRight}
+use Rattle.automata_hybrid.proofs.Words.{ReportedEndsAreRight}
 use Rattle.automata_hybrid.proofs.Steps.BySteps.{first_match_is_found}
 use Rattle.automata_hybrid.proofs.laws.first_match_is_found.Goals as goal
 

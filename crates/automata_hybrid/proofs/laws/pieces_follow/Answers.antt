@@ -1,5 +1,5 @@
 use Rattle.std.proofs.Common.{subst}
-use Rattle.automata_base.specs.Answers.Within.{StatesReportOwn}
+use Rattle.automata_hybrid.proofs.Words.{StatesReportOwn}
 use Rattle.automata_hybrid.proofs.Known.Bounds.{HasBounds, dfa_bounds}
 use Rattle.automata_hybrid.proofs.Known.PiecesFollow.{piece_answers_follow, pieces_follow}
 use Rattle.automata_hybrid.proofs.laws.pieces_follow.Goals as goal

@@ -1,6 +1,5 @@
 use Rattle.std.proofs.Common.{subst}
-use Rattle.automata_base.specs.Answers.Within.{StatesReportOwn}
-use Rattle.automata_base.specs.Laws.Walks.{WalksAreReported}
+use Rattle.automata_hybrid.proofs.Words.{StatesReportOwn, WalksAreReported}
 use Rattle.automata_hybrid.proofs.Known.Bounds.{dfa_bounds}
 use Rattle.automata_hybrid.proofs.Known.SetsFollow.{sets_follow}
 use Rattle.automata_hybrid.proofs.Searches.Skips.{skips_or_not}

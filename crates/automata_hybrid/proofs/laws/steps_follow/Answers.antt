@@ -1,5 +1,5 @@
 use Rattle.std.proofs.Common.{subst}
-use Rattle.automata_base.specs.Answers.Within.{StatesReportOwn}
+use Rattle.automata_hybrid.proofs.Words.{StatesReportOwn}
 use Rattle.automata_hybrid.proofs.Known.Bounds.{HasBounds, dfa_bounds}
 use Rattle.automata_hybrid.proofs.Known.Makes.{events_follow, starts_follow, steps_follow}
 use Rattle.automata_hybrid.proofs.laws.steps_follow.Goals as goal

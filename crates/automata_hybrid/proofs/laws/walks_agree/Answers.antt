@@ -1,5 +1,5 @@
 use Rattle.std.proofs.Common.{subst}
-use Rattle.automata_base.specs.Laws.Walks.{WalksAreReported}
+use Rattle.automata_hybrid.proofs.Words.{WalksAreReported}
 use Rattle.automata_hybrid.proofs.Searches.Agreement.{walks_agree}
 use Rattle.automata_hybrid.proofs.laws.walks_agree.Goals as goal
 

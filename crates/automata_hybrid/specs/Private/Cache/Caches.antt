@@ -1,4 +1,4 @@
--- What private functions and proofs need beside `Cache/Caches`; no contract of a public call reaches it.
+-- When the rows, start slots and accounted bytes of a store are those of a cache of a DFA.
 use Rattle.std.specs.Prelude.{◌≡◌, ◌^◌, ◌<◌, ◌≤◌, length, ◌+◌}
 use Rattle.automata_hybrid.specs.Machines.Machine.{Machine}
 use Rattle.automata_hybrid.specs.Private.Cache.Table.{RowsFitCells}
@@ -7,26 +7,26 @@ use Rattle.automata_hybrid.specs.Private.Cache.Usage.{usage_in_store}
 use Rattle.automata_hybrid.specs.Cache.Stores.{Stored}
 use Rattle.automata_hybrid.specs.Cache.Caches.{CacheView}
 
--- one more determinization
+-- a cache with one more determinization counted
 abbrev pub counted_in_store : CacheView → CacheView
 counted_in_store c = record { store = c.store; count = c.count + 1 }
 
 -- a cache of this DFA: its rows fit together, each start slot has its own start or none yet, and its accounted bytes
 -- are within the settings
 pub record IsStoreOf (c : Stored) (m : Machine) : Type 0 where
-  -- It belongs to the DFA.
+  -- it belongs to the DFA
   pub of : c.table.of ≡ m
-  -- Its rows and cells fit each other.
+  -- its rows and cells fit each other
   pub rows : RowsFitCells c.table
-  -- Each start slot has its own start state, or none yet.
+  -- each start slot has its own start state, or none yet
   pub starts : AllStarts c.table c.starts
-  -- There are as many start slots as the DFA has.
+  -- there are as many start slots as the DFA has
   pub slots : length c.starts ≡ m.slots
-  -- Its accounted bytes are within the capacity.
+  -- its accounted bytes are within the capacity
   pub within : usage_in_store c ≤ m.capacity
-  -- A row has at most 512 cells.
+  -- a row has at most 512 cells
   pub small : c.table.of.stride ≤ 512
-  -- A new row has as many cells as each row.
+  -- a new row has as many cells as each row
   pub wide : length c.table.of.template ≡ c.table.of.stride
-  -- The count of clears is a number of 64 bits.
+  -- the count of clears is a number of 64 bits
   pub clears : c.clears < 2 ^ 64

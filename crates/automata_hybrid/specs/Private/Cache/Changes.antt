@@ -1,24 +1,42 @@
--- What private functions and proofs need beside `Cache/Changes`; no contract of a public call reaches it.
+-- What adding a state, a transition or a start state makes of the store.
 use Rattle.std.specs.Prelude.{◌≡◌, ℕ, ◌⊎◌, false, length, Option, None, Some}
 use Rattle.automata_base.specs.Powersets.Powerset.{Powerset, cost}
 use Rattle.automata_hybrid.specs.declared.cache.row.Row.{Row}
-use Rattle.automata_hybrid.specs.Cache.Table.{Names, Leads, row_of, Rows}
-use Rattle.automata_hybrid.specs.Private.Cache.Table.{Lacks, IsKnownState, with_row_in_store}
+use Rattle.automata_hybrid.specs.Cache.Table.{Names, Leads, id_of, row_of, Rows}
+use Rattle.automata_hybrid.specs.Private.Cache.Table.{HasNewRow, Lacks, IsKnownState, with_row_in_store}
 use Rattle.automata_hybrid.specs.Cache.Stores.{Stored}
 use Rattle.automata_hybrid.specs.Private.Cache.Stores.{KeepsStarts, with_table, with_next, with_start_in_store}
-use Rattle.automata_hybrid.specs.Private.Cache.Usage.{Fits, cleared_in_store, refuses_in_store}
+use Rattle.automata_hybrid.specs.Private.Cache.Usage.{Fits, FitsAny, cleared_in_store, refuses_in_store}
 use Rattle.automata_hybrid.specs.Private.Cache.Clears.{with_row_once}
 
--- with the row that was found, if one was
+-- a table with the row that was found, if one was
 abbrev pub put_found : Rows → Option Row → Rows
 put_found t None = t
 put_found t (Some r) = with_row_once t r
 
--- with one more row
+-- a store with one more row
 abbrev pub grown : Stored → Row → Stored
 grown c r = with_table c (with_row_in_store c.table r)
 
--- cleared, the state of this ID saved, and with a new row
+-- a store has got a row, with this ID
+pub record HasGrown (old : Stored) (r : Row) (new : Stored) (id : ℕ) : Type 0 where
+  -- It has the row after the others.
+  pub grown : new ≡ grown old r
+  -- So has its table, under this ID.
+  pub row : HasNewRow old.table r new.table id
+
+-- a store has the row of an ID of another table, under this ID
+pub record HasSavedRow (t : Rows) (id : ℕ) (old new : Stored) (now : ℕ) : Type 0 where
+  -- The row was put there, unless its state had one.
+  pub put : new ≡ with_table old (put_found old.table (row_of t id))
+  -- The ID names the state of the row.
+  pub named : (q : Powerset) → Names t id q → Names new.table now q
+  -- Any state fits yet.
+  pub room : FitsAny new
+  -- A state that both lacked has no row.
+  pub absent : (q : Powerset) → id_of t q ≡ None → id_of old.table q ≡ None → id_of new.table q ≡ None
+
+-- a store that was cleared, with the row of the state of this ID
 abbrev pub cleared_saving_in_store : Stored → ℕ → Stored
 cleared_saving_in_store c id =
     with_table (cleared_in_store c) (put_found (cleared_in_store c).table (row_of c.table id))
@@ -55,22 +73,22 @@ pub data IsStarted (old : Stored) (slot : ℕ) (r : Row) (new : Stored) (id : �
 
 -- what adding a state that is absent returns: its ID
 pub record AddsRow (old emptied new : Stored) (r : Row) (id : ℕ) : Type 0 where
-  -- The cache grew, or was cleared first.
+  -- the cache grew, or was cleared first
   pub effect : IsStateAdded old emptied r new
-  -- The ID names the state.
+  -- the ID names the state
   pub named : Names new.table id r.state
-  -- No other state was added.
+  -- no other state was added
   pub only : (p : Powerset) → IsKnownState new.table p → IsKnownState old.table p ⊎ (p ≡ r.state)
-  -- There are as many slots as before.
+  -- there are as many slots as before
   pub slots : length new.starts ≡ length old.starts
-  -- Each start state that was cached is cached.
+  -- each start state that was cached is cached
   pub starts : KeepsStarts old.starts new.starts
-  -- The cache belongs to the same machine.
+  -- the cache belongs to the same machine
   pub of : new.table.of ≡ old.table.of
 
 -- what adding a state that is absent returns, stepped to from a row: the ID of that row as it is now, and the new one
 pub record AddsNext (old new : Stored) (from : ℕ) (q : Powerset) (now next : ℕ) : Type 0 where
-  -- The state was added; a clear saves the row that was stepped from.
+  -- the state was added; a clear saves the row that was stepped from
   pub row : AddsRow old (cleared_saving_in_store old from) new (record { state = q; started = false }) next
-  -- That row is there, and has this ID now.
+  -- that row is there, and has this ID now
   pub saved : (p : Powerset) → Names old.table from p → Names new.table now p

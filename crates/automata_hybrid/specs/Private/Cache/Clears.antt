@@ -1,4 +1,4 @@
--- What private functions and proofs need beside `Cache/Clears`; no contract of a public call reaches it.
+-- What a clear keeps of the rows and the slots, one slot after another.
 use Rattle.std.specs.Prelude.{◌≡◌, ℕ, ◌+◌, ◌<◌, ◌≤◌, List, length, None, Some, slice_index, ◌⊎◌, [], ◌∷◌, ◌++◌}
 use Rattle.std.specs.Prelude.{cond, Option, is_some, slice_get, nat_le, unwrap_or}
 use Rattle.automata_base.specs.Powersets.Powerset.{Powerset}
@@ -11,7 +11,7 @@ use Rattle.automata_base.specs.declared.util.search.Anchored.{Anchored}
 use Rattle.automata_hybrid.specs.Machines.StartSlots.{slot_behind}
 use Rattle.automata_hybrid.specs.Private.Cache.Table.{with_row_in_store}
 
--- an ID leads to the start state of a slot: that of each mode after each look-behind byte that has it
+-- an ID leads to the start state of a slot: that of each anchored mode after each look-behind byte that has it
 abbrev pub LeadsToStart : Rows → ℕ → (slot : ℕ) → Type 0
 LeadsToStart t id slot =
     (q : Powerset) × Leads t id q
@@ -26,15 +26,15 @@ IsSlot t slot id = (id ≡ unknown_id) ⊎ LeadsToStart t id slot
 abbrev pub AllStarts : Rows → List ℕ → Type 0
 AllStarts t starts = (slot id : ℕ) → slice_get starts slot ≡ Some id → IsSlot t slot id
 
--- with this row, unless its state has one
+-- a table with this row, unless its state has one
 abbrev pub with_row_once : Rows → Row → Rows
 with_row_once t r = cond (is_some (id_of t r.state)) t (with_row_in_store t r)
 
 -- rows and slots while start states are kept
 pub record Kept : Type 0 where
-  -- The rows kept so far, after the fixed ones.
+  -- the rows kept so far, after the fixed ones
   pub table : Rows
-  -- The slots kept so far, each with its new ID.
+  -- the slots kept so far, each with its new ID
   pub starts : List ℕ
 
 -- the row that was found is put there, and its slot has its new ID
@@ -62,47 +62,47 @@ kept old starts = keep_slots old (record { table = fresh old.of; starts = [] }) 
 
 -- the row of an ID was put into a table, where it has a new ID
 pub record IsPut (old before after : Rows) (id new : ℕ) : Type 0 where
-  -- There is a row.
+  -- there is a row
   pub row : Row
-  -- The ID names it in the old table.
+  -- the ID names it in the old table
   pub at : row_of old id ≡ Some row
-  -- It was put into the other one, unless its state was there.
+  -- it was put into the other one, unless its state was there
   pub put_there : after ≡ with_row_once before row
-  -- The new ID names its state there.
+  -- the new ID names its state there
   pub named : Names after new row.state
 
 -- what keeping one more slot of an old table makes of the rows and the slots that are kept
 pub record KeepsSlot (old : Rows) (id : ℕ) (before after : Kept) : Type 0 where
-  -- It is kept as a clear keeps it.
+  -- it is kept as a clear keeps it
   pub value : after ≡ keep_slot old before id
-  -- Each slot has its start.
+  -- each slot has its start
   pub named : AllStarts after.table after.starts
-  -- There is at most one row more.
+  -- there is at most one row more
   pub few : length after.table.rows ≤ length before.table.rows + 1
-  -- There is one slot more.
+  -- there is one slot more
   pub slots : length after.starts ≡ length before.starts + 1
-  -- The slots before it are as they were.
+  -- the slots before it are as they were
   pub front : (slot : ℕ) → slot < length before.starts → slice_index after.starts slot ≡ slice_index before.starts slot
-  -- If its start state was cached, it is cached.
+  -- if its start state was cached, it is cached
   pub known : id < unknown_id → slice_index after.starts (length before.starts) < unknown_id
-  -- No state is there that neither table had.
+  -- no state is there that neither table had
   pub absent : (q : Powerset) → id_of old q ≡ None → id_of before.table q ≡ None → id_of after.table q ≡ None
-  -- The rows belong to the same machine.
+  -- the rows belong to the same machine
   pub of : after.table.of ≡ before.table.of
 
 -- the rows and the slots that are kept of an old table
 pub record KeepsAllStarts (old : Rows) (starts : List ℕ) (k : Kept) : Type 0 where
-  -- These rows and slots are kept.
+  -- these rows and slots are kept
   pub value : k ≡ kept old starts
-  -- Each slot has its start.
+  -- each slot has its start
   pub named : AllStarts k.table k.starts
-  -- There are no more rows than slots.
+  -- there are no more rows than slots
   pub few : length k.table.rows ≤ length starts
-  -- There are as many slots as before.
+  -- there are as many slots as before
   pub slots : length k.starts ≡ length starts
-  -- Each start state that was cached is cached.
+  -- each start state that was cached is cached
   pub known : KeepsStarts starts k.starts
-  -- No state is there that was not there before.
+  -- no state is there that was not there before
   pub absent : (q : Powerset) → id_of old q ≡ None → id_of k.table q ≡ None
-  -- The rows belong to the same machine.
+  -- the rows belong to the same machine
   pub of : k.table.of ≡ old.of

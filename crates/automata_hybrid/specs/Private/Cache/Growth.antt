@@ -1,30 +1,30 @@
--- What private functions and proofs need beside `Cache/Growth`; no contract of a public call reaches it.
-use Rattle.std.specs.Prelude.{◌≡◌, ◌↔◌, ℕ, false}
+-- What putting a state back makes of a cache, and when a state cannot be added.
+use Rattle.std.specs.Prelude.{◌≡◌, ◌↔◌, ℕ}
 use Rattle.automata_base.specs.Powersets.Powerset.{Powerset}
 use Rattle.automata_config.specs.declared.error.StepError.{StepError}
 use Rattle.automata_hybrid.specs.Cache.Stores.{IsCacheError}
-use Rattle.automata_hybrid.specs.Private.Cache.Stores.{KeepsStarts}
 use Rattle.automata_hybrid.specs.Private.Cache.Usage.{GivesUpInStore, cleared_in_store}
 use Rattle.automata_hybrid.specs.Cache.Caches.{CacheView}
-use Rattle.automata_hybrid.specs.Private.Cache.Changes.{IsStateAdded}
-use Rattle.automata_hybrid.specs.Cache.Table.{Names}
+use Rattle.automata_hybrid.specs.Private.Cache.Changes.{AddsNext, AddsRow}
+use Rattle.automata_hybrid.specs.declared.cache.row.Row.{Row}
 
--- a state that the cache lacks is added again, without the start tag; the cache is cleared for it only if it does not
--- fit, and nothing is determinized
-pub record PutsBack (q : Powerset) (old new : CacheView) : Type 0 where
-  -- the ID that the state has then
-  pub id : ℕ
-  -- it names the state
-  pub named : Names new.store.table id q
-  -- the state was added; if it did not fit, the cache was cleared first
-  pub added : IsStateAdded old.store (cleared_in_store old.store) (record { state = q; started = false }) new.store
-  -- each start state that was cached is cached
-  pub starts : KeepsStarts old.store.starts new.store.starts
+-- a cache has got a row for a state that it lacked, with this ID
+pub record HasAdded (old new : CacheView) (r : Row) (id : ℕ) : Type 0 where
+  -- the row was added; if it did not fit, the cache was cleared first
+  pub row : AddsRow old.store (cleared_in_store old.store) new.store r id
   -- nothing was determinized
   pub counted : new.count ≡ old.count
 
--- a state could not be added: nothing changed. The call gave up exactly if it had to: out of memory comes only where
--- the state fits, or the cache may be cleared for it
+-- a cache has got a row for a state that it lacked, stepped to from a row: the ID of that row as it is now, and the new
+-- one
+pub record HasAddedNext (old new : CacheView) (from : ℕ) (q : Powerset) (now next : ℕ) : Type 0 where
+  -- the row was added; a clear saves the row that was stepped from
+  pub row : AddsNext old.store new.store from q now next
+  -- nothing was determinized
+  pub counted : new.count ≡ old.count
+
+-- A state could not be added: nothing changed. The call gave up exactly if it had to: out of memory comes only where
+-- the state fits, or the cache may be cleared for it.
 pub record AddFails (old new : CacheView) (q : Powerset) (e : StepError) : Type 0 where
   -- nothing changed
   pub kept : new ≡ old

@@ -1,4 +1,4 @@
--- What private functions and proofs need beside `Cache/Ids`; no contract of a public call reaches it.
+-- The tags of the IDs that a run over cached transitions follows: none, or the match tag.
 use Rattle.std.specs.Prelude.{ℕ, ◌+◌, ◌%◌, ◌<◌, ◌≤◌, ◌≡◌}
 use Rattle.automata_hybrid.specs.Cache.Ids.{offset_limit}
 

@@ -79,8 +79,7 @@ abbrev pub leaps_bytes : ℕ → ℕ
 leaps_bytes cells = 64 + 4 * cells
 
 -- the bytes that stand while leaps are made: these leaps, where one byte leads from each row and from none, and where
--- one
--- byte less than a leap takes leads from each row
+-- one byte less than a leap takes leads from each row
 abbrev pub making_bytes : Shape → ℕ
 making_bytes s = leaps_bytes (s.rows * s.width) + 4 * ((s.rows + 1) * s.classes + s.rows * (s.width / max s.classes 1))
 

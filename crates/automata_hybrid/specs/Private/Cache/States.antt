@@ -1,13 +1,13 @@
--- What private functions and proofs need beside `Cache/States`; no contract of a public call reaches it.
+-- What is left of the rows and the cells of a table while its states are listed.
 use Rattle.std.specs.Prelude.{ℕ, ◌≡◌, ◌+◌, ◌*◌, ◌<◌, ◌≤◌, List, length}
 use Rattle.automata_hybrid.specs.declared.cache.row.Row.{Row}
 use Rattle.automata_hybrid.specs.Cache.Ids.{offset_limit}
 
 -- rows that are left, with their cells: there are as many cells as they have, and their offsets are below the limit
 pub record AreRowsLeft (stride at : ℕ) (cells : List ℕ) (rows : List Row) : Type 0 where
-  -- There are as many cells as the rows have.
+  -- there are as many cells as the rows have
   pub whole : length cells ≡ length rows * stride
-  -- The offset of the last row is below the limit.
+  -- the offset of the last row is below the limit
   pub small : at + length cells < offset_limit + stride
-  -- A row has at most 512 cells.
+  -- a row has at most 512 cells
   pub narrow : stride ≤ 512

@@ -1,4 +1,4 @@
--- What private functions and proofs need beside `Cache/Table`; no contract of a public call reaches it.
+-- What is true of each table: how its rows, their IDs and their cells fit each other.
 use Rattle.std.specs.Prelude.{◌≡◌, ℕ, ◌*◌, ◌≤◌, List, length, Some, slice_get, sum_by, ◌+◌, ◌<◌, [], ◌∷◌, ◌++◌, Option}
 use Rattle.std.specs.Prelude.{None, slice_index, slice_set, take}
 use Rattle.std.specs.HashMap.{HashMap, get}
@@ -26,11 +26,11 @@ LeadsByClass t id q class =
 
 -- what stands in a cell of a state's row: the template says which classes are quit classes
 pub data IsCell (t : Rows) (q : Powerset) (class id : ℕ) : Type 0 where
-  -- At a quit class it is the quit ID.
+  -- at a quit class it is the quit ID
   CellQuits : slice_index t.of.template class ≡ quit_id t.of.stride → id ≡ quit_id t.of.stride → IsCell t q class id
-  -- At another class it may be unknown yet.
+  -- at another class it may be unknown yet
   CellUnknown : slice_index t.of.template class ≡ unknown_id → id ≡ unknown_id → IsCell t q class id
-  -- Else it leads to the next state.
+  -- else it leads to the next state
   CellLeads : slice_index t.of.template class ≡ unknown_id → LeadsByClass t id q class → IsCell t q class id
 
 -- each cached cell of a row names the next state of that row's state
@@ -48,17 +48,17 @@ HasRowIds t =
 -- rows and cells fit each other: the fixed rows come first, no state has two rows, and each cached cell leads where its
 -- row's state goes
 pub record RowsFitCells (t : Rows) : Type 0 where
-  -- There are as many cells as all rows have.
+  -- there are as many cells as all rows have
   pub whole : length t.cells ≡ (length t.rows + 3) * t.of.stride
-  -- The offset of the last row is below the limit.
+  -- the offset of the last row is below the limit
   pub small : length t.cells < offset_limit + t.of.stride
-  -- The fixed rows come first.
+  -- the fixed rows come first
   pub fixed : take (3 * t.of.stride) t.cells ≡ fixed_rows t.of.stride
-  -- Each cached cell leads where its row's state goes.
+  -- each cached cell leads where its row's state goes
   pub stepped : IsStepped t
-  -- Each row is found by its state, and its offset is below the limit.
+  -- each row is found by its state, and its offset is below the limit
   pub ids : HasRowIds t
-  -- Each row has a state that a row may have.
+  -- each row has a state that a row may have
   pub states : (k : ℕ) (r : Row) → slice_get t.rows k ≡ Some r → IsRowState t.of r.state
 
 -- each row has a cell for each class
@@ -81,19 +81,37 @@ HasOwnStates t = (id : ℕ) (q : Powerset) → Names t id q → IsOwn t.of.nfa q
 abbrev pub Lacks : Rows → Powerset → Type 0
 Lacks t q = (id_of t q ≡ None) × (q ≡ dead → ⊥)
 
--- with one more row
+-- a table with one more row
 abbrev pub with_row_in_store : Rows → Row → Rows
 with_row_in_store t r = record { of = t.of; cells = t.cells ++ t.of.template; rows = t.rows ++ r ∷ [] }
 
--- with a cell written
+-- a table with a cell written
 abbrev pub with_cell : Rows → ℕ → ℕ → ℕ → Rows
 with_cell t id class next = record { of = t.of; cells = slice_set t.cells (cell_at id class) next; rows = t.rows }
 
+-- a table has got a row, with this ID
+pub record HasNewRow (old : Rows) (r : Row) (new : Rows) (id : ℕ) : Type 0 where
+  -- It has the row after the others.
+  pub more : new ≡ with_row_in_store old r
+  -- The ID names the state of the row.
+  pub named : Names new id r.state
+  -- Each ID names the state that it named.
+  pub kept : (n : ℕ) (q : Powerset) → Names old n q → Names new n q
+
+-- a copy of the row at an index of a table
+pub record IsCopiedRow (t : Rows) (k : ℕ) (r : Row) : Type 0 where
+  -- It is that row.
+  pub value : slice_get t.rows k ≡ Some r
+  -- Its state is one that a row may have.
+  pub state : IsRowState t.of r.state
+  -- The table has its state.
+  pub had : id_of t r.state ≡ None → ⊥
+
 -- some row has this state
 pub record IsKnownState (t : Rows) (q : Powerset) : Type 0 where
-  -- The ID of that row.
+  -- the ID of that row
   pub id : ℕ
-  -- It names the state.
+  -- it names the state
   pub named : Names t id q
 
 -- the map from states to IDs
@@ -102,21 +120,21 @@ StateMap = HashMap Powerset ℕ (BuildHasherDefault FoldHasher)
 
 -- what is true of the rows of each table
 pub record IsSoundTable (t : Rows) : Type 0 where
-  -- Rows and cells fit each other.
+  -- rows and cells fit each other
   pub rows : RowsFitCells t
-  -- Each cell of a new row is quit or unknown.
+  -- each cell of a new row is quit or unknown
   pub template : IsTemplate t.of.stride t.of.template
-  -- The states cost no more than so many of the dearest.
+  -- the states cost no more than so many of the dearest
   pub costs : sum_by row_cost t.rows ≤ length t.rows * t.of.greatest
-  -- IDs of rows have no high tag.
+  -- IDs of rows have no high tag
   pub low : HasLowIds t
-  -- An ID has the match tag exactly if its state has patterns.
+  -- an ID has the match tag exactly if its state has patterns
   pub tagged : (id : ℕ) → HasItsMatchTag t id
-  -- No row has the dead state.
+  -- no row has the dead state
   pub alive : HasNoDeadRow t
-  -- Each row has a state of the automaton.
+  -- each row has a state of the automaton
   pub own : HasOwnStates t
-  -- Each row has a cell for each class.
+  -- each row has a cell for each class
   pub cells : HasCells t
 
 -- the row at an index has this state
@@ -125,25 +143,25 @@ HasState t k q = (r : Row) × (slice_get t.rows k ≡ Some r) × (r.state ≡ q)
 
 -- a state that may be added to a table
 pub record IsNewState (t : Rows) (q : Powerset) : Type 0 where
-  -- No row has it, and it is not dead.
+  -- no row has it, and it is not dead
   pub lacks : Lacks t q
-  -- It costs no more than a state may.
+  -- it costs no more than a state may
   pub cheap : cost q ≤ t.of.greatest
-  -- It is a state of the DFA.
+  -- it is a state of the DFA
   pub own : IsStateOf t.of q
 
 -- the parts of a table: its rows fit together, a new row and the length of each are its machine's, the map finds each
 -- state's row, and the costs are those of all states
 pub record IsHeld (t : Rows) (s : ℕ) (row : List ℕ) (map : StateMap) (costs : ℕ) : Type 0 where
-  -- Rows and cells fit each other.
+  -- rows and cells fit each other
   pub rows : RowsFitCells t
-  -- Each cell of a new row is quit or unknown.
+  -- each cell of a new row is quit or unknown
   pub cells : IsTemplate t.of.stride t.of.template
-  -- The length of a row is that of the machine.
+  -- the length of a row is that of the machine
   pub stride : s ≡ t.of.stride
-  -- A new row is that of the machine.
+  -- a new row is that of the machine
   pub template : row ≡ t.of.template
-  -- The map has for each state the ID of its row.
+  -- the map has for each state the ID of its row
   pub mapped : (q : Powerset) → get powerset_eq map q ≡ id_of t q
-  -- The costs are those of all states.
+  -- the costs are those of all states
   pub costs_of : costs ≡ sum_by row_cost t.rows

@@ -1,4 +1,4 @@
--- What private functions and proofs need beside `Machines/Machine`; no contract of a public call reaches it.
+-- What is true of the numbers and the classes of each lazy DFA.
 use Rattle.std.specs.Prelude.{ℕ, ◌+◌, ◌*◌, ◌<◌, ◌≤◌, List, true, false, Option, slice_index, length, ◌≡◌, ◌⊎◌}
 use Rattle.automata_base.specs.Powersets.Powerset.{Powerset}
 use Rattle.automata_base.specs.ByteClasses.Classes.{class_in, eoi_class, is_quit, stride_for}

@@ -1,5 +1,5 @@
--- What private functions and proofs need beside `Pieces/State`; no contract of a public call reaches it.
-use Rattle.std.specs.Prelude.{Option, Some, None, ℕ, ◌+◌, ◌≡◌}
+-- What a search in pieces holds between its calls, and how it goes on from that over a cache.
+use Rattle.std.specs.Prelude.{Option, Some, None, Result, Ok, Err, ℕ, ◌+◌, ◌≡◌}
 use Rattle.automata_base.specs.Powersets.Powerset.{Powerset}
 use Rattle.automata_base.specs.Haystacks.Matches.{HalfMatch}
 use Rattle.automata_config.specs.declared.error.SearchError.{SearchError}
@@ -43,7 +43,7 @@ pub record HasResumed (m : Machine) (p : PiecesView) (old new : CacheView) (id :
   -- the ID names it
   pub named : Names new.store.table id state
 
--- it has not, and the row is not put back
+-- a cache lacks the row of the state where a search stands, and it is not put back
 pub record FailsToResume (m : Machine) (p : PiecesView) (old new : CacheView) (e : SearchError) : Type 0 where
   -- the state
   pub state : Powerset
@@ -51,3 +51,10 @@ pub record FailsToResume (m : Machine) (p : PiecesView) (old new : CacheView) (e
   pub stood : p.state ≡ Some state
   -- why its row is not put back
   pub fails : IsNotBack m state p.read (known_of old) (known_of new) e
+
+-- what going on with a search returns: the ID of the state where it stands; none, once its answer stands; or why the
+-- row of that state is not put back
+abbrev pub IsResumed : Machine → PiecesView → (old new : CacheView) → Result (Option ℕ) SearchError → Type 0
+IsResumed m p old new (Ok None) = (p.state ≡ None) × (known_of new ≡ known_of old)
+IsResumed m p old new (Ok (Some id)) = HasResumed m p old new id
+IsResumed m p old new (Err e) = FailsToResume m p old new e

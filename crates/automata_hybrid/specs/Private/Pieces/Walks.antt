@@ -1,4 +1,4 @@
--- What private functions and proofs need beside `Pieces/Walks`; no contract of a public call reaches it.
+-- What a walk over pieces holds between its calls, and the row at which it stands.
 use Rattle.std.specs.Prelude.{ℕ, ◌≡◌, true, List, [], Option, Some, None}
 use Rattle.automata_base.specs.Haystacks.Matches.{HalfMatch}
 use Rattle.automata_base.specs.Powersets.Powerset.{Powerset}

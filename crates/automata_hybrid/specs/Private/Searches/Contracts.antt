@@ -1,4 +1,4 @@
--- What private functions and proofs need beside `Searches/Contracts`; no contract of a public call reaches it.
+-- What a search returns, and what it has made of what its cache knows then.
 use Rattle.std.specs.Prelude.{ℕ, ◌≡◌, ◌+◌, ◌-◌, Option, Some, None, option_map, IfSome, Result, Ok, Err}
 use Rattle.automata_base.specs.Haystacks.Input.{Input}
 use Rattle.automata_base.specs.Haystacks.Matches.{HalfMatch}
@@ -11,7 +11,7 @@ use Rattle.automata_hybrid.specs.Searches.Passes.{IsFound}
 use Rattle.automata_hybrid.specs.Known.Known.{Known}
 use Rattle.automata_hybrid.specs.Known.Passes.{HaveTried, IsSearchRun}
 
--- answers without it
+-- what a search returns, without the start of its span
 abbrev pub halves : Result (Option (HalfMatch × ℕ)) SearchError → Result (Option HalfMatch) SearchError
 halves (Ok found) = Ok (option_map (λ p. p.0) found)
 halves (Err e) = Err e
@@ -19,11 +19,11 @@ halves (Err e) = Err e
 -- what a search that answers has found, and what it has made of what its cache knows
 pub record HasSearched (way : Direction) (m : Machine) (input : Input) (old new : Known)
     (half : Option (HalfMatch × ℕ)) : Type 0 where
-  -- It is what the search finds.
+  -- it is what the search finds
   pub found : IsFound way m input (based_half half)
-  -- The passes over the spans that it tries have ended.
+  -- the passes over the spans that it tries have ended
   pub effect : IsSearchRun way m input old new None
-  -- Forward, it makes no pass after the one over the span that gave its answer.
+  -- forward, it makes no pass after the one over the span that gave its answer
   pub upto : way ≡ Forward → IfSome half (λ p. HaveTried Forward m input (p.1 - input.start + 1) old new)
 
 -- what a search returns: what it finds, or why it fails

@@ -1,4 +1,4 @@
--- What private functions and proofs need beside `Searches/PassContracts`; no contract of a public call reaches it.
+-- What the functions under a search return: of a run over cached transitions, of a pass, and of the rest of one.
 use Rattle.std.specs.Prelude.{ℕ, List, Bool, suc, ◌≡◌, ◌-◌, ◌<◌, ◌≤◌, true, false, Option, Some, None, Result, Ok, Err}
 use Rattle.automata_base.specs.Haystacks.Input.{Input, IsAllowed}
 use Rattle.automata_base.specs.Haystacks.Matches.{HalfMatch}
@@ -7,11 +7,15 @@ use Rattle.automata_base.specs.declared.util.search.Anchored.{Anchored}
 use Rattle.automata_base.specs.declared.util.search.Span.{Span}
 use Rattle.automata_config.specs.declared.error.SearchError.{SearchError}
 use Rattle.automata_hybrid.specs.Cache.Caches.{CacheView, IsCacheOf}
+use Rattle.automata_hybrid.specs.Cache.Ids.{unknown_id}
 use Rattle.automata_hybrid.specs.Machines.Machine.{Machine}
 use Rattle.automata_hybrid.specs.Searches.PassState.{IsAtAlong}
 use Rattle.automata_hybrid.specs.Private.Searches.PassState.{HasLearnedUnit, HasRun, IsFollowedAlong, IsMetAlong}
+use Rattle.automata_hybrid.specs.Private.Searches.PassState.{IsNextCell}
 use Rattle.automata_hybrid.specs.Searches.Traces.{Trace, pass_trace}
 use Rattle.automata_hybrid.specs.declared.search.fast.follow.Stop.{Stop}
+use Rattle.automata_hybrid.specs.declared.search.plain.known.KnownStop.{KnownStop}
+use Rattle.automata_hybrid.specs.declared.search.plain.known.KnownStop.TheVariants.{Ended, Left, Missing}
 use Rattle.automata_hybrid.specs.declared.search.plain.pass.Place.{Place}
 use Rattle.automata_hybrid.specs.Cache.Stores.{Stored}
 use Rattle.automata_hybrid.specs.Known.Known.{Known, ended}
@@ -24,31 +28,31 @@ abbrev pub input_at : List ℕ → Span → Anchored → (earliest : Bool) → I
 input_at haystack span anchored earliest =
     record { haystack = haystack; start = span.start; end = span.end; anchored = anchored; earliest = earliest }
 
--- a search over an input that is rebuilt from haystack, span, mode and flag may begin with a cache
+-- a search over an input that is rebuilt from its parts may begin with a cache
 pub record MayBegin (m : Machine) (c : CacheView) (input : Input) : Type 0 where
-  -- The cache belongs to the DFA.
+  -- the cache belongs to the DFA
   pub of : IsCacheOf c m
-  -- The span lies in the haystack.
+  -- the span lies in the haystack
   pub allowed : IsAllowed input
 
 -- a pass over the span of an input has read its first `k` units, all by cached transitions
 pub record IsKnownUpto (way : Direction) (m : Machine) (c : Stored) (input : Input) (k id : ℕ)
     (found : Option HalfMatch) : Type 0 where
-  -- These units are bytes of the span.
+  -- these units are bytes of the span
   pub within : k ≤ input.end - input.start
-  -- The pass has read them, is in the state of the ID, and has found this.
+  -- the pass has read them, is in the state of the ID, and has found this
   pub at : IsUnderway way m c.table input k id found
-  -- The transition on each of them is cached.
+  -- the transition on each of them is cached
   pub known : (j : ℕ) → j < k → HasLearnedUnit way m c input j
 
 -- cached transitions led a run on from a place to this stop, each to an ID that has this tag and no other
 pub record FollowsAlong (s : Trace) (way : Direction) (m : Machine) (c : Stored) (input : Input) (tag from : ℕ)
     (to : Stop) : Type 0 where
-  -- The stop is in the span.
+  -- the stop is in the span
   pub within : to.at ≤ input.end - input.start
-  -- Cached transitions led the run there, each to an ID that has this tag and no other.
+  -- cached transitions led the run there, each to an ID that has this tag and no other
   pub followed : IsFollowedAlong s way m c input tag from to.at to.id
-  -- The ID that was met next is the one that the next byte leads to, unless it is the unknown one.
+  -- the ID that was met next is the one that the next byte leads to, unless it is the unknown one
   pub met : IsMetAlong s way m c input to.at to.id to.next
 
 -- cached transitions led a pass from a place to this stop, each to an ID that has this tag and no other
@@ -59,11 +63,11 @@ FollowsTo way m c input tag from to = FollowsAlong (pass_trace way m input) way 
 -- next
 pub record RunsAlong (s : Trace) (way : Direction) (m : Machine) (c : Stored) (input : Input) (from : ℕ)
     (to : Place) : Type 0 where
-  -- Cached transitions led the run there.
+  -- cached transitions led the run there
   pub run : HasRun s way m c input from to.at
-  -- It has this ID there, and has found this.
+  -- it has this ID there, and has found this
   pub at : IsAtAlong s way m c.table input to.at to.id to.found
-  -- The ID that was met next is the one that the next byte leads to, unless it is the unknown one.
+  -- the ID that was met next is the one that the next byte leads to, unless it is the unknown one
   pub met : IsMetAlong s way m c input to.at to.id to.next
 
 -- a half match by its parts, if there is one
@@ -71,37 +75,46 @@ abbrev pub half_if : Bool → (pattern offset : ℕ) → Option HalfMatch
 half_if true pattern offset = Some (record { pattern = pattern; offset = offset })
 half_if false pattern offset = None
 
--- a pass over an input that is rebuilt from haystack, span, mode and flag has read its first `k` units so
+-- a pass over an input that is rebuilt from its parts has read its first `k` units, all by cached transitions
 pub record IsTakenUp (way : Direction) (m : Machine) (c : Stored) (input : Input) (k id : ℕ)
     (found : Option HalfMatch) : Type 0 where
-  -- The span lies in the haystack.
+  -- the span lies in the haystack
   pub allowed : IsAllowed input
-  -- The pass has read its first `k` units by cached transitions.
+  -- the pass has read its first `k` units by cached transitions
   pub upto : IsKnownUpto way m c input k id found
 
 -- cached transitions led a pass to its unit at place `k`, which it reads from a state that this ID names by a cached
 -- transition too, and it reads none after it: this is what it answers
 pub record IsKnownEnd (way : Direction) (m : Machine) (c : CacheView) (input : Input) (k id : ℕ)
     (half : Option HalfMatch) : Type 0 where
-  -- This was found before.
+  -- this was found before
   pub before : Option HalfMatch
-  -- Cached transitions led the pass to the unit.
+  -- cached transitions led the pass to the unit
   pub upto : IsKnownUpto way m c.store input k id before
-  -- It is what the pass answers.
+  -- it is what the pass answers
   pub answer : IsPassAnswer way m input half
-  -- The pass reads the unit.
+  -- the pass reads the unit
   pub reads : Reads way m input k
-  -- It reads none after it.
+  -- it reads none after it
   pub stops : (j : ℕ) → suc k ≤ j → Reads way m input j → ⊥
-  -- Its transition is cached.
+  -- its transition is cached
   pub known : HasLearnedUnit way m c.store input k
+
+-- cached transitions led a pass to a place and to what it found: it has ended with the unit there, or goes on from it,
+-- where the transition may not be cached
+abbrev pub IsKnownStop :
+    Direction → Machine → CacheView → Input → KnownStop → (k id : ℕ) → Option HalfMatch → Type 0
+IsKnownStop way m c input Ended k id found = IsKnownEnd way m c input k id found
+IsKnownStop way m c input Missing k id found =
+    IsKnownUpto way m c.store input k id found × IsNextCell way m c.store input k id unknown_id
+IsKnownStop way m c input Left k id found = IsKnownUpto way m c.store input k id found
 
 -- a pass that has begun returns a half match
 pub record HasReturned (way : Direction) (m : Machine) (input : Input) (begun new : Known) (half : Option HalfMatch) :
     Type 0 where
-  -- It is what the pass answers.
+  -- it is what the pass answers
   pub answer : IsPassAnswer way m input half
-  -- The pass has read its units, and has ended at the last of them.
+  -- the pass has read its units, and has ended at the last of them
   pub ended : UnitsEnd way m input begun new
 
 -- what the rest of a pass that has begun returns: what it answers, or why it fails at a unit
@@ -113,16 +126,16 @@ IsRest way m input begun new (Err e) = FailsAtUnit way m input begun new e
 -- the unit after the span's bytes is read, the last one of a pass, which returns a half match
 pub record HasReadLast (way : Direction) (m : Machine) (input : Input) (old new : Known) (half : Option HalfMatch) :
     Type 0 where
-  -- It is what the pass answers.
+  -- it is what the pass answers
   pub answer : IsPassAnswer way m input half
-  -- What the cache knows once the unit is read.
+  -- what the cache knows once the unit is read
   pub mid : Known
-  -- Reading it made this.
+  -- reading it made this
   pub read : after_unit (pass_trace way m input) way m input (input.end - input.start) old ≡ Some mid
-  -- Then the search ends.
+  -- then the search ends
   pub ended : new ≡ ended (given_up_offset way input (input.end - input.start)) mid
 
--- what reading that unit returns: what the pass answers, or why the step on it fails
+-- what reading the unit after the span's bytes returns: what the pass answers, or why the step on it fails
 abbrev pub IsLastRead :
     Direction → Machine → Input → (old new : Known) → Result (Option HalfMatch) SearchError → Type 0
 IsLastRead way m input old new (Ok half) = HasReadLast way m input old new half
@@ -131,9 +144,9 @@ IsLastRead way m input old new (Err e) = UnitFails way m input (input.end - inpu
 -- a pass has returned a half match
 pub record HasPassed (way : Direction) (m : Machine) (input : Input) (old new : Known) (half : Option HalfMatch) :
     Type 0 where
-  -- It is what the pass answers.
+  -- it is what the pass answers
   pub answer : IsPassAnswer way m input half
-  -- The pass has ended.
+  -- the pass has ended
   pub ends : PassEnds way m input old new
 
 -- what a pass returns: what it answers, or why it failed

@@ -1,4 +1,4 @@
--- What private functions and proofs need beside `Searches/PassState`; no contract of a public call reaches it.
+-- Where a run is, over which cached transitions it came there, and which ID it met.
 use Rattle.std.specs.Prelude.{ℕ, suc, ◌≡◌, ◌+◌, ◌-◌, ◌^◌, ◌<◌, ◌≤◌, false, Some}
 use Rattle.automata_base.specs.ByteClasses.Classes.{is_quit}
 use Rattle.automata_base.specs.Haystacks.Input.{Input}
@@ -13,13 +13,18 @@ use Rattle.automata_hybrid.specs.Machines.Machine.{Machine, unit_class}
 use Rattle.automata_hybrid.specs.Cache.Table.{Rows, Names}
 use Rattle.automata_hybrid.specs.Searches.Passes.{tape_in}
 use Rattle.automata_hybrid.specs.Cache.Stores.{Stored}
-use Rattle.automata_hybrid.specs.Private.Searches.Cached.{KnowsAlong}
 use Rattle.automata_hybrid.specs.Searches.Traces.{Trace, pass_trace}
 use Rattle.automata_hybrid.specs.Private.Searches.Traces.{IsTrace}
 use Rattle.automata_hybrid.specs.Cache.Ids.{HasMatchTag, unknown_id}
 use Rattle.automata_hybrid.specs.Private.Cache.Ids.{HasOnly, IsRunTag}
 use Rattle.automata_hybrid.specs.Steps.Steps.{known_step}
 use Rattle.automata_hybrid.specs.Private.Steps.Steps.{IsCellRead}
+use Rattle.automata_hybrid.specs.Private.Cache.Stores.{IsKnownTransition}
+
+-- the transition that a run along a trace takes on its unit at place `k` is cached
+abbrev pub KnowsAlong : Trace → Direction → Machine → Stored → Input → ℕ → Type 0
+KnowsAlong s way m c input k =
+    (id : ℕ) × Names c.table id (s.state k) × IsKnownTransition c id (unit_class m (next (tape_in way input) k))
 
 -- the error of a step, as a search reports it at an offset
 abbrev pub step_error : StepError → (at : ℕ) → SearchError
@@ -89,7 +94,7 @@ pub record IsTagAt (s : Trace) (way : Direction) (m : Machine) (t : Rows) (input
   -- it names the state of a trace after these units
   pub on : IsOnTrace s way m t input k id
 
--- cached transitions led a run so, and this ID too has that tag and no other
+-- cached transitions led a run to this ID, which has a tag and no other, as those before it have
 pub record IsRun (s : Trace) (way : Direction) (m : Machine) (c : Stored) (input : Input) (tag from to id : ℕ) :
     Type 0 where
   -- cached transitions led the run to this ID, each to an ID that has this tag and no other
@@ -116,11 +121,11 @@ pub record IsNextId (s : Trace) (way : Direction) (m : Machine) (c : Stored) (in
 abbrev pub IsMetAlong : Trace → Direction → Machine → Stored → Input → (k id met : ℕ) → Type 0
 IsMetAlong s way m c input k id met = met < unknown_id → IsNextId s way m c input k id met
 
--- a pass met it so
+-- a pass met this ID after another one
 abbrev pub IsMet : Direction → Machine → Stored → Input → (k id met : ℕ) → Type 0
 IsMet way m c input k id met = IsMetAlong (pass_trace way m input) way m c input k id met
 
--- the ID that was met so has the match tag and no other
+-- a run met an ID that has the match tag and no other
 pub record MeetsMatch (s : Trace) (way : Direction) (m : Machine) (c : Stored) (input : Input) (k id to : ℕ) :
     Type 0 where
   -- this ID was met after the other one

@@ -1,5 +1,5 @@
--- What private functions and proofs need beside `Searches/PieceRuns`; no contract of a public call reaches it.
-use Rattle.std.specs.Prelude.{ℕ, suc, ◌+◌, Bool, List, ◌≡◌, ◌-◌, Option}
+-- How a run over a piece ends, and how it fails at a byte.
+use Rattle.std.specs.Prelude.{ℕ, suc, ◌+◌, Bool, List, ◌≡◌, ◌-◌, Option, Result, Ok, Err}
 use Rattle.automata_base.specs.Haystacks.Input.{Input}
 use Rattle.automata_base.specs.Powersets.Powerset.{Powerset}
 use Rattle.automata_base.specs.declared.util.search.Direction.TheVariants.{Forward}
@@ -22,19 +22,19 @@ use Rattle.automata_hybrid.specs.Searches.PassState.{IsAtAlong, half_of}
 -- a run along a trace that has begun is over with the byte at place `k`, whatever comes after it
 pub record IsOverAlong (s : Trace) (m : Machine) (input : Input) (k id : ℕ) (found : Option HalfMatch)
     (begun : Known) (new : CacheView) : Type 0 where
-  -- The bytes up to it are read.
+  -- the bytes up to it are read
   pub upto : ReadsUptoAlong s m input k begun (known_of new)
-  -- What was found is what they report.
+  -- what was found is what they report
   pub reported : found ≡ half_of Forward input (s.reported (suc k))
-  -- The ID leads to the state after them.
+  -- the ID leads to the state after them
   pub leads : Leads new.store.table id (s.state (suc k))
 
 -- a run along a trace that has begun has read all bytes of the span
 pub record IsThroughAlong (s : Trace) (m : Machine) (input : Input) (id : ℕ) (found : Option HalfMatch)
     (begun : Known) (new : CacheView) : Type 0 where
-  -- They are read.
+  -- they are read
   pub all : ReadsAllAlong s m input begun (known_of new)
-  -- The ID names the state after them, and they report what was found.
+  -- the ID names the state after them, and they report what was found
   pub at : IsAtAlong s Forward m new.store.table input (input.end - input.start) id found
 
 -- how a run along a trace that has begun ends
@@ -51,12 +51,25 @@ IsPieceEnd m piece earliest from old new end =
 
 -- a run over a piece fails at a byte: the error has the byte's offset, counted from a place so many bytes before the
 -- piece
-abbrev pub IsPieceStopped :
+abbrev pub PieceFailsAtUnit :
     Machine → (piece : List ℕ) → (earliest : Bool) → (from base : ℕ) → (old new : CacheView) → SearchError → Type 0
-IsPieceStopped m piece earliest from base old new e =
+PieceFailsAtUnit m piece earliest from base old new e =
     (q : Powerset) → Names old.store.table from q
     → FailsAlong (piece_trace m piece earliest q) m (piece_input piece earliest) base (begun 0 (known_of old))
     (known_of new) e
+
+-- what a run over a piece returns that begins at the state of an ID: how it ends, or why it fails
+abbrev pub IsPieceResult :
+    Machine → (piece : List ℕ) → (earliest : Bool) → (from base : ℕ) → (old new : CacheView)
+    → Result PieceEnd SearchError → Type 0
+IsPieceResult m piece earliest from base old new (Ok end) = IsPieceEnd m piece earliest from old new end
+IsPieceResult m piece earliest from base old new (Err e) = PieceFailsAtUnit m piece earliest from base old new e
+
+-- what a run along a trace returns that has begun: how it ends, or why it fails
+abbrev pub IsRunResult :
+    Trace → Machine → Input → (begun : Known) → (new : CacheView) → Result PieceEnd SearchError → Type 0
+IsRunResult s m input begun new (Ok end) = IsEndAlong s m input begun new end
+IsRunResult s m input begun new (Err e) = FailsAlong s m input input.start begun (known_of new) e
 
 -- an error whose offset is counted from so many bytes before
 abbrev pub error_from : (base : ℕ) → SearchError → SearchError
@@ -64,7 +77,7 @@ error_from base (search.Match (QuitAt byte offset)) = search.Match (QuitAt byte 
 error_from base (search.Match (GaveUp offset)) = search.Match (GaveUp (base + offset))
 error_from base e = e
 
--- the offset of an error, if it has one, is such a number
+-- the offset of an error, if it has one, is a number of this kind
 abbrev pub HasOffset : (Is : ℕ → Type 0) → SearchError → Type 0
 HasOffset Is (search.Match (QuitAt byte offset)) = Is offset
 HasOffset Is (search.Match (GaveUp offset)) = Is offset

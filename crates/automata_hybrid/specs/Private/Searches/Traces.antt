@@ -1,4 +1,4 @@
--- What private functions and proofs need beside `Searches/Traces`; no contract of a public call reaches it.
+-- When a trace is one of the units of a span.
 use Rattle.std.specs.Prelude.{ℕ, suc, ◌≡◌}
 use Rattle.automata_base.specs.Haystacks.Input.{Input}
 use Rattle.automata_base.specs.Paths.Paths.{next}

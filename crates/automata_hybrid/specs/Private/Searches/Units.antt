@@ -6,7 +6,7 @@ use Rattle.automata_config.specs.Options.{match_kind_of}
 use Rattle.automata_config.specs.declared.error.SearchError.{SearchError}
 use Rattle.automata_hybrid.specs.Cache.Caches.{CacheView}
 use Rattle.automata_hybrid.specs.Cache.Table.{Leads, Names}
-use Rattle.automata_hybrid.specs.Calls.Events.{Step}
+use Rattle.automata_hybrid.specs.Steps.Events.{Step}
 use Rattle.automata_hybrid.specs.Known.Events.{after_event}
 use Rattle.automata_hybrid.specs.Known.Known.{moved}
 use Rattle.automata_hybrid.specs.Known.Passes.{EventFails, ReadFails}
@@ -21,20 +21,20 @@ StepMakes m q unit at old new =
 
 -- a step of a search from an ID has returned this ID
 pub record HasStepped (m : Machine) (id : ℕ) (unit : Option ℕ) (at : ℕ) (old new : CacheView) (next : ℕ) : Type 0 where
-  -- The ID is what the step answers.
+  -- the ID is what the step answers
   pub answer : IsStepAnswer m id unit old new next
-  -- At a quit byte nothing changes.
+  -- at a quit byte nothing changes
   pub quit : quits_on m unit ≡ true → new ≡ old
-  -- At any other unit the step is made from the state that the ID names.
+  -- at any other unit the step is made from the state that the ID names
   pub taken :
       quits_on m unit ≡ false → (q : Powerset) → Names old.store.table id q → StepMakes m q unit at old new
 
 -- a step of a search from an ID fails
 pub record FailsToStep (m : Machine) (id : ℕ) (unit : Option ℕ) (at : ℕ) (old new : CacheView) (e : SearchError) :
     Type 0 where
-  -- The unit is no quit byte.
+  -- the unit is no quit byte
   pub clean : quits_on m unit ≡ false
-  -- It is the step from the state that the ID names, once the search has come to the unit.
+  -- it is the step from the state that the ID names, once the search has come to the unit
   pub fails :
       (q : Powerset) → Names old.store.table id q
       → EventFails m (Step q unit) at (moved at (known_of old)) (known_of new) e
@@ -47,28 +47,28 @@ IsStepResult m id unit at old new (Err e) = FailsToStep m id unit at old new e
 
 -- the ID that reading a unit from an ID returns
 pub record IsReadAnswer (m : Machine) (id : ℕ) (unit : Option ℕ) (old new : CacheView) (next : ℕ) : Type 0 where
-  -- The unit is no quit byte.
+  -- the unit is no quit byte
   pub clean : quits_on m unit ≡ false
-  -- It leads from a state to its successor.
+  -- it leads from a state to its successor
   pub named :
       (q : Powerset) → Names old.store.table id q
       → Leads new.store.table next (successor m.nfa (match_kind_of m.config) q unit)
 
 -- a unit was read from an ID, which returns this ID
 pub record HasRead (m : Machine) (id : ℕ) (unit : Option ℕ) (at : ℕ) (old new : CacheView) (next : ℕ) : Type 0 where
-  -- The ID leads to the state after the unit.
+  -- the ID leads to the state after the unit
   pub answer : IsReadAnswer m id unit old new next
-  -- The state that it begins from is not dead.
+  -- the state that it begins from is not dead
   pub alive : (q : Powerset) → Names old.store.table id q → q ≡ dead → ⊥
-  -- The step was made from that state.
+  -- the step was made from that state
   pub taken : (q : Powerset) → Names old.store.table id q → StepMakes m q unit at old new
 
 -- a unit was not read from an ID, which returns this error: a quit byte and the "gave up" error each have an offset
 pub record FailsToRead (m : Machine) (id : ℕ) (unit : Option ℕ) (quit_at at : ℕ) (old new : CacheView)
     (e : SearchError) : Type 0 where
-  -- The state that it begins from is not dead.
+  -- the state that it begins from is not dead
   pub alive : (q : Powerset) → Names old.store.table id q → q ≡ dead → ⊥
-  -- The reading fails from that state.
+  -- the reading fails from that state
   pub fails :
       (q : Powerset) → Names old.store.table id q → ReadFails m q unit quit_at at at (known_of old) (known_of new) e
 

@@ -1,9 +1,12 @@
--- What private functions and proofs need beside `Steps/Steps`; no contract of a public call reaches it.
+-- Whether the transition on a unit is cached, and what was read in its cell.
 use Rattle.std.specs.Prelude.{ℕ, ◌≡◌, ◌<◌, ◌≤◌, Option}
+use Rattle.automata_hybrid.specs.Cache.Caches.{CacheView}
 use Rattle.automata_hybrid.specs.Cache.Stores.{Stored}
 use Rattle.automata_hybrid.specs.Cache.Ids.{unknown_id}
+use Rattle.automata_hybrid.specs.Known.Steps.{IsStepRun}
+use Rattle.automata_hybrid.specs.Known.Stores.{known_of}
 use Rattle.automata_hybrid.specs.Machines.Machine.{Machine, unit_class}
-use Rattle.automata_hybrid.specs.Steps.Steps.{known_step}
+use Rattle.automata_hybrid.specs.Steps.Steps.{IsStepAnswer, known_step}
 use Rattle.automata_hybrid.specs.Private.Cache.Stores.{IsKnownTransition}
 
 -- the transition from a state on a unit is cached
@@ -14,3 +17,10 @@ KnowsStep m c id unit = IsKnownTransition c id (unit_class m unit)
 abbrev pub IsCellRead : Machine → Stored → (id : ℕ) → (unit : Option ℕ) → (cell : ℕ) → Type 0
 IsCellRead m c id unit cell =
     (cell < unknown_id → cell ≡ known_step m c id unit) × (unknown_id ≤ cell → KnowsStep m c id unit → ⊥)
+
+-- a step from an ID on a unit returns this ID
+pub record HasTakenStep (m : Machine) (id : ℕ) (unit : Option ℕ) (old new : CacheView) (next : ℕ) : Type 0 where
+  -- It is what the step answers.
+  pub answer : IsStepAnswer m id unit old new next
+  -- It makes this of what the cache knows.
+  pub run : IsStepRun m id unit (known_of old) (known_of new)

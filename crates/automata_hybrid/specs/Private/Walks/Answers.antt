@@ -1,4 +1,4 @@
--- What private functions and proofs need beside `Walks/Answers`; no contract of a public call reaches it.
+-- Where a walk comes to from its first units on, and how a call of it has gone on.
 use Rattle.std.specs.Prelude.{ℕ, suc, ◌≡◌, ◌<◌, ◌≤◌, false, length, Option, None, Some}
 use Rattle.automata_base.specs.Answers.Answers.{offset_in}
 use Rattle.automata_base.specs.Haystacks.Input.{Input}

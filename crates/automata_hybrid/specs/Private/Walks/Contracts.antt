@@ -1,4 +1,4 @@
--- What private functions and proofs need beside `Walks/Contracts`; no contract of a public call reaches it.
+-- What the search for a set joins the set with, by passes and by paths.
 use Rattle.std.specs.Prelude.{◌≡◌, ◌<◌, Bool, List, length, Result, Err, IsOk, OnOk}
 use Rattle.automata_base.specs.Answers.Answers.{ArePatternsFound}
 use Rattle.automata_base.specs.Haystacks.Input.{Input}

@@ -3,17 +3,20 @@ use Rattle.std.specs.Prelude.{ℕ, suc, ◌≡◌, ◌+◌, ◌-◌, ◌≤◌, 
 use Rattle.automata_base.specs.ByteClasses.Classes.{is_quit}
 use Rattle.automata_base.specs.Haystacks.Input.{Input}
 use Rattle.automata_base.specs.Paths.Paths.{next as unit_at}
+use Rattle.automata_base.specs.Powersets.Powerset.{Powerset}
 use Rattle.automata_base.specs.declared.util.search.Direction.{Direction}
 use Rattle.automata_config.specs.declared.error.SearchError.{SearchError}
+use Rattle.automata_config.specs.declared.error.StepError.{StepError}
 use Rattle.automata_hybrid.specs.declared.search.walk.advance.Arrival.{Arrival}
-use Rattle.automata_hybrid.specs.Cache.Stores.{Stored}
 use Rattle.automata_hybrid.specs.Cache.Caches.{CacheView}
 use Rattle.automata_hybrid.specs.Known.Known.{Known}
 use Rattle.automata_hybrid.specs.Known.Passes.{UnitFails, after_many, after_unit}
 use Rattle.automata_hybrid.specs.Known.Stores.{known_of}
-use Rattle.automata_hybrid.specs.Known.Walks.{EndsCall, IsCallStopped, LeavesCall}
+use Rattle.automata_hybrid.specs.Known.Walks.{CallEnds, CallFailsAtUnit, IsNotBack, IsNotResumed, CallFails}
+use Rattle.automata_hybrid.specs.Known.Walks.{after_resume, with_row_back}
 use Rattle.automata_hybrid.specs.Walks.Cached.{IsToRead}
 use Rattle.automata_hybrid.specs.Machines.Machine.{Machine}
+use Rattle.automata_hybrid.specs.Private.Searches.PassState.{step_error}
 use Rattle.automata_hybrid.specs.Searches.Passes.{state_in, tape_in}
 use Rattle.automata_hybrid.specs.Searches.Traces.{pass_trace}
 use Rattle.automata_hybrid.specs.Steps.Starts.{MayStart}
@@ -69,22 +72,43 @@ pub record AnswersCall (way : Direction) (m : Machine) (input : Input) (walk nex
   -- this is its answer
   pub answer : IsCallAnswer way m input walk next
   -- and this is what it makes of what its cache knows
-  pub effect : EndsCall way m input walk next old new
+  pub effect : CallEnds way m input walk next old new
 
 -- what a call of a walk returns: its answer, or why it fails
 abbrev pub IsCallResult :
     Keeping → Direction → Machine → Input → (walk next : Walk) → (old new : Known)
     → Result (Unit {0}) SearchError → Type 0
 IsCallResult keeping way m input walk next old new (Ok unit) = AnswersCall way m input walk next old new
-IsCallResult keeping way m input walk next old new (Err e) = LeavesCall keeping way m input walk old new e
+IsCallResult keeping way m input walk next old new (Err e) = CallFails keeping way m input walk old new e
 
--- the ID that a walk goes on from
-pub record IsResumeAnswer (way : Direction) (m : Machine) (input : Input) (walk : Walk) (new : Stored) (id : ℕ) :
+-- a walk goes on from this ID
+pub record IsResumeAnswer (way : Direction) (m : Machine) (input : Input) (walk : Walk) (old new : CacheView) (id : ℕ) :
     Type 0 where
   -- it leads to the state after the units read
-  pub leads : Leads new.table id (state_in way m input walk.units)
+  pub leads : Leads new.store.table id (state_in way m input walk.units)
   -- the walk may start, or has started
   pub may : MayStart m input.anchored (tape_in way input).before
+  -- its state makes this of what the cache knows
+  pub resumed : after_resume way m input walk.stage (known_of old) ≡ Some (known_of new)
+
+-- what a walk gets that is to go on: the ID that it goes on from, or why it lacks it
+abbrev pub IsResumeResult :
+    Direction → Machine → Input → Walk → (old new : CacheView) → Result ℕ SearchError → Type 0
+IsResumeResult way m input walk old new (Ok id) = IsResumeAnswer way m input walk old new id
+IsResumeResult way m input walk old new (Err e) =
+    IsNotResumed way m input walk.stage walk.units (known_of old) (known_of new) e
+
+-- a cache has the row of a state that a walk holds, under this ID
+pub record HasPutBack (m : Machine) (q : Powerset) (old new : CacheView) (id : ℕ) : Type 0 where
+  -- the ID names the state
+  pub named : Names new.store.table id q
+  -- its row was there, or is put back
+  pub back : with_row_back m q (known_of old) ≡ Some (known_of new)
+
+-- what putting back a state that a walk holds returns: its ID, or why it has no row, with an error at any offset
+abbrev pub IsPutBackResult : Machine → Powerset → (old new : CacheView) → Result ℕ StepError → Type 0
+IsPutBackResult m q old new (Ok id) = HasPutBack m q old new id
+IsPutBackResult m q old new (Err e) = (at : ℕ) → IsNotBack m q at (known_of old) (known_of new) (step_error e at)
 
 -- a walk has read so many units, and at least one is left: the ID names its state there
 pub record StandsAfterUnits (way : Direction) (m : Machine) (t : Rows) (input : Input) (units id : ℕ) : Type 0 where
@@ -131,4 +155,4 @@ abbrev pub IsAdvanceResult :
     Direction → Machine → Input → (units : ℕ) → (old new : CacheView) → Result Arrival SearchError → Type 0
 IsAdvanceResult way m input units old new (Ok a) = HasAdvanced way m input units old new a
 IsAdvanceResult way m input units old new (Err e) =
-    IsCallStopped Ids way m input units (known_of old) (known_of new) e
+    CallFailsAtUnit Ids way m input units (known_of old) (known_of new) e

@@ -1,4 +1,4 @@
--- What private functions and proofs need beside `Walks/State`; no contract of a public call reaches it.
+-- What is held of the state where a walk stands, and what contracts see of a walk.
 use Rattle.std.specs.Prelude.{ℕ, ◌≡◌, suc, length, Option, None, Some}
 use Rattle.automata_base.specs.Haystacks.Matches.{HalfMatch}
 use Rattle.automata_base.specs.Powersets.Powerset.{Powerset}
@@ -11,11 +11,11 @@ use Rattle.automata_hybrid.specs.declared.search.walk.Stage.TheVariants as stage
 use Rattle.automata_hybrid.specs.declared.search.walk.Cursor.TheInside.{Inside}
 use Rattle.automata_hybrid.specs.Walks.State.{At, Ended, Fresh, Ids, Keeping, Stage, States, Walk}
 
--- with the next pattern of its state reported
+-- a walk after it has reported the next pattern of its state
 abbrev pub with_match : Walk → HalfMatch → Walk
 with_match w half = record { stage = w.stage; units = w.units; reported = suc w.reported; found = Some half }
 
--- at its end, when it has read so many units
+-- a walk that has ended, when it has read so many units
 abbrev pub ended_walk : Walk → ℕ → Walk
 ended_walk w units = record { stage = Ended; units = units; reported = 0; found = None }
 

@@ -1,6 +1,6 @@
 //! Following cached transitions, eight a turn: into states that report nothing or into match states, and along
 //! self-loops.
-ghost use Rattle.std.specs.Prelude.{ℕ, ◌≡◌, ◌+◌, ◌-◌, ◌^◌, ◌<◌, ◌≤◌};
+ghost use Rattle.std.specs.Prelude.{◌≡◌, ◌+◌, ◌-◌, ◌^◌, ◌<◌, ◌≤◌};
 ghost use Rattle.automata_hybrid.specs.Cache.Caches.{IsCacheOf};
 ghost use Rattle.automata_hybrid.specs.Cache.Ids.{fixed_from};
 ghost use Rattle.automata_hybrid.specs.Private.Cache.Ids.{HasOnly, IsRunTag};
@@ -8,13 +8,15 @@ ghost use Rattle.automata_hybrid.specs.Private.Searches.PassContracts.{FollowsAl
 ghost use Rattle.automata_hybrid.specs.Private.Searches.PassState.{IsMatchRun, IsMetAlong, IsNextCell, IsOnTrace};
 ghost use Rattle.automata_hybrid.specs.Private.Searches.PassState.{IsRun, IsTagAt, MayFollow, MeetsMatch};
 ghost use Rattle.automata_hybrid.specs.Searches.Traces.{Trace};
-ghost use Rattle.automata_hybrid.specs.Private.Searches.SelfLoops.{IsSelfLoop};
+ghost use Rattle.automata_hybrid.specs.Private.Fast.SelfLoops.{IsSelfLoop};
 ghost use Rattle.automata_hybrid.specs.Cache.Table.{IsRowId};
 
 use crate::cache::Cache;
 use crate::dfa::DFA;
 use crate::id::LazyStateID;
 use crate::search::direction::{byte_at, bytes_from, last_place};
+use crate::search::fast::self_loop::follow_self_loop;
+use crate::search::plain::known::known_step;
 use automata_base::util::search::{Direction, Input};
 
 /// How many bytes are followed before a self-loop is looked for again, if one was looked for in vain. That look reads
@@ -30,241 +32,249 @@ pub(crate) struct Stop {
     pub(crate) next: LazyStateID,
 }
 
-impl DFA {
-    /// Follows cached transitions to IDs that have a tag and no other, up to a place, and a self-loop beyond it. From
-    /// an ID that has another tag it follows none.
-    #[inline(always)]
-    pub(crate) fn follow(
-        &self,
-        cache: &Cache,
-        input: &Input<'_>,
-        way: Direction,
-        start: usize,
-        from: LazyStateID,
-        tag: u32,
-        end: usize,
-    ) -> Stop
-        ghost trace: { Trace }
-        requires of { IsCacheOf cache.now self.now }
-        requires may { MayFollow trace way self.now cache.now.store.table input.now start end from }
-        requires kind { IsRunTag tag }
-        ensures to { FollowsAlong trace way self.now cache.now.store input.now tag start result }
-        ensures read { result.at < end
-            → IsNextCell way self.now cache.now.store input.now result.at result.id result.next }
-        ensures only { HasOnly tag from → HasOnly tag result.id }
-    {
-        let _haystack = input.haystack();
-        if !from.has_only(tag) {
+/// Follows cached transitions to IDs that have a tag and no other, up to a place, and a self-loop beyond it. From
+/// an ID that has another tag it follows none.
+#[inline(always)]
+pub(crate) fn follow(
+    dfa: &DFA,
+    cache: &Cache,
+    input: &Input<'_>,
+    way: Direction,
+    start: usize,
+    from: LazyStateID,
+    tag: u32,
+    end: usize,
+) -> Stop
+    ghost trace: { Trace }
+    requires of { IsCacheOf cache.now dfa.now }
+    requires may { MayFollow trace way dfa.now cache.now.store.table input.now start end from }
+    requires kind { IsRunTag tag }
+    ensures to { FollowsAlong trace way dfa.now cache.now.store input.now tag start result }
+    ensures read { result.at < end
+        → IsNextCell way dfa.now cache.now.store input.now result.at result.id result.next }
+    ensures only { HasOnly tag from → HasOnly tag result.id }
+{
+    let _haystack = input.haystack();
+    if !from.has_only(tag) {
+        return Stop {
+            at: start,
+            id: from,
+            next: next_known(dfa, cache, input, way, start, from, end),
+        };
+    }
+    if start + 8 > end {
+        return follow_rest(dfa, cache, input, way, start, from, tag, end);
+    }
+    let mut at = start;
+    let mut id = from;
+    let mut again = start;
+    'eights: while at + 8 <= end {
+        let eight = follow_eight(dfa, cache, input, way, at, id, tag);
+        if eight.at != at + 8 {
+            return eight;
+        }
+        let same = eight.id == id;
+        at = eight.at;
+        id = eight.id;
+        if at < again || !same {
+            continue;
+        }
+        let stop = follow_loop(dfa, cache, input, way, at, id);
+        if stop == at {
+            again = at.saturating_add(PATIENCE);
+        }
+        at = stop;
+    }
+    follow_rest(dfa, cache, input, way, at, id, tag, end)
+}
+
+/// The ID that comes next at a place, if that is before another one: unknown if the transition is not cached, and
+/// if the place is not before it.
+#[inline(always)]
+pub(crate) fn next_known(
+    dfa: &DFA,
+    cache: &Cache,
+    input: &Input<'_>,
+    way: Direction,
+    at: usize,
+    id: LazyStateID,
+    end: usize,
+) -> LazyStateID
+    ghost trace: { Trace }
+    requires of { IsCacheOf cache.now dfa.now }
+    requires may { MayFollow trace way dfa.now cache.now.store.table input.now at end id }
+    ensures met { IsMetAlong trace way dfa.now cache.now.store input.now at id result }
+    ensures read { at < end → IsNextCell way dfa.now cache.now.store input.now at id result }
+{
+    if at >= end {
+        return LazyStateID::UNKNOWN;
+    }
+    known_step(dfa, cache, id, Some(byte_at(input, way, at)))
+}
+
+/// Follows cached transitions into states that have patterns, from an ID after which one with the match tag alone
+/// was met.
+#[inline(always)]
+pub(crate) fn follow_matches(
+    dfa: &DFA,
+    cache: &Cache,
+    input: &Input<'_>,
+    way: Direction,
+    start: usize,
+    from: LazyStateID,
+    next: LazyStateID,
+) -> Stop
+    ghost trace: { Trace }
+    requires of { IsCacheOf cache.now dfa.now }
+    requires on { IsOnTrace trace way dfa.now cache.now.store.table input.now start from }
+    requires met { MeetsMatch trace way dfa.now cache.now.store input.now start from next }
+    requires open { input.now.start ≤ input.now.end }
+    ensures run { IsMatchRun trace way dfa.now cache.now.store input.now start result.at result.id }
+    ensures met { IsMetAlong trace way dfa.now cache.now.store input.now result.at result.id result.next }
+    ensures read { result.at < input.now.end - input.now.start
+        → IsNextCell way dfa.now cache.now.store input.now result.at result.id result.next }
+{
+    let last = last_place(input);
+    follow(
+        dfa,
+        cache,
+        input,
+        way,
+        start + 1,
+        next,
+        LazyStateID::MATCH,
+        last,
+    )
+}
+
+/// Follows cached transitions over eight bytes, or over those before the first that does not lead to an ID with the tag
+/// alone.
+#[inline(always)]
+fn follow_eight(
+    dfa: &DFA,
+    cache: &Cache,
+    input: &Input<'_>,
+    way: Direction,
+    start: usize,
+    from: LazyStateID,
+    tag: u32,
+) -> Stop
+    ghost trace: { Trace }
+    requires of { IsCacheOf cache.now dfa.now }
+    requires at { IsTagAt trace way dfa.now cache.now.store.table input.now tag start from }
+    requires within { start + 8 ≤ input.now.end - input.now.start }
+    requires room { start + 8 < 2 ^ 64 }
+    ensures upto { result.at ≤ start + 8 }
+    ensures run { IsRun trace way dfa.now cache.now.store input.now tag start result.at result.id }
+    ensures met { IsMetAlong trace way dfa.now cache.now.store input.now result.at result.id result.next }
+    ensures read { result.at < start + 8
+        → IsNextCell way dfa.now cache.now.store input.now result.at result.id result.next }
+{
+    let mut row = from.offset_by(tag);
+    for k in 0..8usize {
+        let id = LazyStateID::at_offset(row, tag);
+        let next = follow_byte(dfa, cache, input, way, start + k, id, row, tag);
+        let offset = next.offset_by(tag);
+        if offset >= LazyStateID::OFFSET_LIMIT {
             return Stop {
-                at: start,
-                id: from,
-                next: self.next_known(cache, input, way, start, from, end),
+                at: start + k,
+                id,
+                next,
             };
         }
-        if start + 8 > end {
-            return self.follow_rest(cache, input, way, start, from, tag, end);
-        }
-        let mut at = start;
-        let mut id = from;
-        let mut again = start;
-        'eights: while at + 8 <= end {
-            let eight = self.follow_eight(cache, input, way, at, id, tag);
-            if eight.at != at + 8 {
-                return eight;
-            }
-            let same = eight.id == id;
-            at = eight.at;
-            id = eight.id;
-            if at < again || !same {
-                continue;
-            }
-            let stop = self.follow_loop(cache, input, way, at, id);
-            if stop == at {
-                again = at.saturating_add(PATIENCE);
-            }
-            at = stop;
-        }
-        self.follow_rest(cache, input, way, at, id, tag, end)
+        row = offset;
     }
+    Stop {
+        at: start + 8,
+        id: LazyStateID::at_offset(row, tag),
+        next: LazyStateID::UNKNOWN,
+    }
+}
 
-    /// The ID that comes next at a place, if that is before another one: unknown if the transition is not cached, and
-    /// if the place is not before it.
-    #[inline(always)]
-    pub(crate) fn next_known(
-        &self,
-        cache: &Cache,
-        input: &Input<'_>,
-        way: Direction,
-        at: usize,
-        id: LazyStateID,
-        end: usize,
-    ) -> LazyStateID
-        ghost trace: { Trace }
-        requires of { IsCacheOf cache.now self.now }
-        requires may { MayFollow trace way self.now cache.now.store.table input.now at end id }
-        ensures met { IsMetAlong trace way self.now cache.now.store input.now at id result }
-        ensures read { at < end → IsNextCell way self.now cache.now.store input.now at id result }
-    {
-        if at >= end {
-            return LazyStateID::UNKNOWN;
+/// Follows cached transitions to IDs that have a tag and no other, one by one, up to a place.
+#[inline(always)]
+fn follow_rest(
+    dfa: &DFA,
+    cache: &Cache,
+    input: &Input<'_>,
+    way: Direction,
+    start: usize,
+    from: LazyStateID,
+    tag: u32,
+    end: usize,
+) -> Stop
+    ghost trace: { Trace }
+    requires of { IsCacheOf cache.now dfa.now }
+    requires may { MayFollow trace way dfa.now cache.now.store.table input.now start end from }
+    requires kind { IsRunTag tag }
+    requires only { HasOnly tag from }
+    ensures within { result.at ≤ input.now.end - input.now.start }
+    ensures run { IsRun trace way dfa.now cache.now.store input.now tag start result.at result.id }
+    ensures met { IsMetAlong trace way dfa.now cache.now.store input.now result.at result.id result.next }
+    ensures read { result.at < end
+        → IsNextCell way dfa.now cache.now.store input.now result.at result.id result.next }
+{
+    let mut at = start;
+    let mut row = from.offset_by(tag);
+    'rest: while at < end {
+        let id = LazyStateID::at_offset(row, tag);
+        let next = follow_byte(dfa, cache, input, way, at, id, row, tag);
+        let offset = next.offset_by(tag);
+        if offset >= LazyStateID::OFFSET_LIMIT {
+            return Stop { at, id, next };
         }
-        self.next_state_known(cache, id, byte_at(input, way, at))
+        row = offset;
+        at += 1;
     }
+    Stop {
+        at,
+        id: LazyStateID::at_offset(row, tag),
+        next: LazyStateID::UNKNOWN,
+    }
+}
 
-    /// Follows cached transitions into states that have patterns, from an ID after which one with the match tag alone
-    /// was met.
-    #[inline(always)]
-    pub(crate) fn follow_matches(
-        &self,
-        cache: &Cache,
-        input: &Input<'_>,
-        way: Direction,
-        start: usize,
-        from: LazyStateID,
-        next: LazyStateID,
-    ) -> Stop
-        ghost trace: { Trace }
-        requires of { IsCacheOf cache.now self.now }
-        requires on { IsOnTrace trace way self.now cache.now.store.table input.now start from }
-        requires met { MeetsMatch trace way self.now cache.now.store input.now start from next }
-        requires open { input.now.start ≤ input.now.end }
-        ensures run { IsMatchRun trace way self.now cache.now.store input.now start result.at result.id }
-        ensures met { IsMetAlong trace way self.now cache.now.store input.now result.at result.id result.next }
-        ensures read { result.at < input.now.end - input.now.start
-            → IsNextCell way self.now cache.now.store input.now result.at result.id result.next }
-    {
-        let last = last_place(input);
-        self.follow(cache, input, way, start + 1, next, LazyStateID::MATCH, last)
-    }
+/// The ID after the byte at a place, or unknown if it is not cached, of an ID that has a tag and no other.
+fn follow_byte(
+    dfa: &DFA,
+    cache: &Cache,
+    input: &Input<'_>,
+    way: Direction,
+    place: usize,
+    id: LazyStateID,
+    row: usize,
+    tag: u32,
+) -> LazyStateID
+    ghost trace: { Trace }
+    requires of { IsCacheOf cache.now dfa.now }
+    requires at { IsTagAt trace way dfa.now cache.now.store.table input.now tag place id }
+    requires row { id ≡ row + tag }
+    requires within { place < input.now.end - input.now.start }
+    ensures run { HasOnly tag result
+        → IsRun trace way dfa.now cache.now.store input.now tag place (place + 1) result }
+    ensures met { IsMetAlong trace way dfa.now cache.now.store input.now place id result }
+    ensures read { IsNextCell way dfa.now cache.now.store input.now place id result }
+{
+    let class = dfa.class_of(byte_at(input, way, place));
+    cache.table().cell_in_row(id, row, class)
+}
 
-    /// Follows eight of them, or those before the first other one.
-    #[inline(always)]
-    fn follow_eight(
-        &self,
-        cache: &Cache,
-        input: &Input<'_>,
-        way: Direction,
-        start: usize,
-        from: LazyStateID,
-        tag: u32,
-    ) -> Stop
-        ghost trace: { Trace }
-        requires of { IsCacheOf cache.now self.now }
-        requires at { IsTagAt trace way self.now cache.now.store.table input.now tag start from }
-        requires within { start + 8 ≤ input.now.end - input.now.start }
-        requires room { start + 8 < 2 ^ 64 }
-        ensures upto { result.at ≤ start + 8 }
-        ensures run { IsRun trace way self.now cache.now.store input.now tag start result.at result.id }
-        ensures met { IsMetAlong trace way self.now cache.now.store input.now result.at result.id result.next }
-        ensures read { result.at < start + 8
-            → IsNextCell way self.now cache.now.store input.now result.at result.id result.next }
-    {
-        let mut row = from.offset_by(tag);
-        for k in 0..8usize {
-            let id = LazyStateID::at_offset(row, tag);
-            let next = self.follow_byte(cache, input, way, start + k, id, row, tag);
-            let offset = next.offset_by(tag);
-            if offset >= LazyStateID::OFFSET_LIMIT {
-                return Stop {
-                    at: start + k,
-                    id,
-                    next,
-                };
-            }
-            row = offset;
-        }
-        Stop {
-            at: start + 8,
-            id: LazyStateID::at_offset(row, tag),
-            next: LazyStateID::UNKNOWN,
-        }
-    }
-
-    /// Follows them one by one, up to a place.
-    #[inline(always)]
-    fn follow_rest(
-        &self,
-        cache: &Cache,
-        input: &Input<'_>,
-        way: Direction,
-        start: usize,
-        from: LazyStateID,
-        tag: u32,
-        end: usize,
-    ) -> Stop
-        ghost trace: { Trace }
-        requires of { IsCacheOf cache.now self.now }
-        requires may { MayFollow trace way self.now cache.now.store.table input.now start end from }
-        requires kind { IsRunTag tag }
-        requires only { HasOnly tag from }
-        ensures within { result.at ≤ input.now.end - input.now.start }
-        ensures run { IsRun trace way self.now cache.now.store input.now tag start result.at result.id }
-        ensures met { IsMetAlong trace way self.now cache.now.store input.now result.at result.id result.next }
-        ensures read { result.at < end
-            → IsNextCell way self.now cache.now.store input.now result.at result.id result.next }
-    {
-        let mut at = start;
-        let mut row = from.offset_by(tag);
-        'rest: while at < end {
-            let id = LazyStateID::at_offset(row, tag);
-            let next = self.follow_byte(cache, input, way, at, id, row, tag);
-            let offset = next.offset_by(tag);
-            if offset >= LazyStateID::OFFSET_LIMIT {
-                return Stop { at, id, next };
-            }
-            row = offset;
-            at += 1;
-        }
-        Stop {
-            at,
-            id: LazyStateID::at_offset(row, tag),
-            next: LazyStateID::UNKNOWN,
-        }
-    }
-
-    /// The ID after the byte at a place, or unknown if it is not cached, of an ID that has a tag and no other.
-    fn follow_byte(
-        &self,
-        cache: &Cache,
-        input: &Input<'_>,
-        way: Direction,
-        place: usize,
-        id: LazyStateID,
-        row: usize,
-        tag: u32,
-    ) -> LazyStateID
-        ghost trace: { Trace }
-        requires of { IsCacheOf cache.now self.now }
-        requires at { IsTagAt trace way self.now cache.now.store.table input.now tag place id }
-        requires row { id ≡ row + tag }
-        requires within { place < input.now.end - input.now.start }
-        ensures run { HasOnly tag result
-            → IsRun trace way self.now cache.now.store input.now tag place (place + 1) result }
-        ensures met { IsMetAlong trace way self.now cache.now.store input.now place id result }
-        ensures read { IsNextCell way self.now cache.now.store input.now place id result }
-    {
-        let class = self.class_of(byte_at(input, way, place));
-        cache.table().cell_in_row(id, row, class)
-    }
-
-    /// Follows the self-loop of an ID that may have a tag, if its row has one.
-    #[inline(always)]
-    fn follow_loop(
-        &self,
-        cache: &Cache,
-        input: &Input<'_>,
-        way: Direction,
-        start: usize,
-        id: LazyStateID,
-    ) -> usize
-        requires of { IsCacheOf cache.now self.now }
-        requires valid { IsRowId cache.now.store.table id }
-        requires plain { id < fixed_from }
-        requires open { input.now.start ≤ input.now.end }
-        requires within { start ≤ input.now.end - input.now.start }
-        ensures within { result ≤ input.now.end - input.now.start }
-        ensures loops { IsSelfLoop way self.now cache.now.store input.now id start result }
-    {
-        start + self.follow_self_loop(cache, id, way, bytes_from(input, way, start))
-    }
+/// Follows the self-loop of an ID that may have a tag, if its row has one.
+#[inline(always)]
+fn follow_loop(
+    dfa: &DFA,
+    cache: &Cache,
+    input: &Input<'_>,
+    way: Direction,
+    start: usize,
+    id: LazyStateID,
+) -> usize
+    requires of { IsCacheOf cache.now dfa.now }
+    requires valid { IsRowId cache.now.store.table id }
+    requires plain { id < fixed_from }
+    requires open { input.now.start ≤ input.now.end }
+    requires within { start ≤ input.now.end - input.now.start }
+    ensures within { result ≤ input.now.end - input.now.start }
+    ensures loops { IsSelfLoop way dfa.now cache.now.store input.now id start result }
+{
+    start + follow_self_loop(dfa, cache, id, way, bytes_from(input, way, start))
 }

@@ -1,7 +1,7 @@
 //! Which of 32 bytes are in a range, or in one of two, all compared at once.
 ghost use Rattle.std.specs.Prelude.{◌+◌, ◌<◌, ◌≡◌, ◌≤◌, ◌^◌, ℕ, IsTrue, length, slice_index};
 ghost use Rattle.std.specs.Int.{bit_at};
-ghost use Rattle.automata_hybrid.specs.Private.Searches.SelfLoops.{HasByte, HasEither, steps_above, byte_in, lane_of};
+ghost use Rattle.automata_hybrid.specs.Private.Fast.SelfLoops.{HasByte, HasEither, steps_above, byte_in, lane_of};
 
 use crate::cache::self_loops::LoopRange;
 use automata_base::util::search::Direction;
@@ -38,7 +38,7 @@ fn outside_at(way: Direction, range: LoopRange, bytes: &[u8], at: usize) -> u64
     outside(range.low, range.size, bytes, from)
 }
 
-/// Outside both of two ranges.
+/// A bit for each of the 32 bytes from a place on, as `outside_at`: 0 only if the byte is in one of two ranges.
 #[inline(always)]
 fn outside_both(way: Direction, first: LoopRange, second: LoopRange, bytes: &[u8], at: usize) -> u64
     requires { at + 32 ≤ length bytes.now }
@@ -58,7 +58,7 @@ pub(crate) fn are_in(way: Direction, range: LoopRange, bytes: &[u8], at: usize) 
     outside_at(way, range, bytes, at) == 0
 }
 
-/// Whether each of them is in one of two ranges.
+/// Whether all 32 bytes from a place on are in one of two ranges.
 #[inline(always)]
 pub(crate) fn are_in_either(
     way: Direction,
@@ -74,7 +74,7 @@ pub(crate) fn are_in_either(
     outside_both(way, first, second, bytes, at) == 0
 }
 
-/// How many of them are, before the first that is not.
+/// How many of the 32 bytes from a place on come before the first that is in neither of two ranges.
 #[inline(always)]
 pub(crate) fn count_in_either(
     way: Direction,

@@ -7,10 +7,10 @@ ghost use Rattle.automata_hybrid.specs.Cache.Ids.{offset_limit};
 ghost use Rattle.automata_hybrid.specs.Private.Cache.Ids.{HasOnly};
 ghost use Rattle.automata_hybrid.specs.Private.Cache.Leaps.{AreLeaps};
 ghost use Rattle.automata_hybrid.specs.Cache.Table.{IsRowId};
-ghost use Rattle.automata_hybrid.specs.Private.Searches.Leaps.{IsLeapt, LeadsIds, column_of};
+ghost use Rattle.automata_hybrid.specs.Private.Fast.Leaps.{IsLeapt, LeadsIds, column_of};
 ghost use Rattle.automata_hybrid.specs.Private.Searches.PassContracts.{FollowsAlong, MayBegin, input_at};
 ghost use Rattle.automata_hybrid.specs.Private.Searches.PassState.{IsMetAlong, IsNextCell, IsOnTrace, IsRun, MayFollow};
-ghost use Rattle.automata_hybrid.specs.Private.Searches.SelfLoops.{byte_in};
+ghost use Rattle.automata_hybrid.specs.Private.Fast.SelfLoops.{byte_in};
 ghost use Rattle.automata_hybrid.specs.Searches.Traces.{Trace};
 ghost use Rattle.automata_hybrid.specs.Private.Searches.Traces.{IsTrace};
 
@@ -19,7 +19,7 @@ use crate::cache::leaps::{Leaps, MARK};
 use crate::dfa::DFA;
 use crate::id::LazyStateID;
 use crate::search::direction::{bytes_from, last_place, span_offset};
-use crate::search::fast::follow::Stop;
+use crate::search::fast::follow::{Stop, follow, next_known};
 use crate::search::fast::self_loop::byte_at;
 use crate::search::plain::pass::input_of;
 use automata_base::util::search::{Anchored, Direction, Input, Span};
@@ -72,309 +72,308 @@ fn wait_after(len: usize, wait: usize) -> usize
     if len < SHORT { MANY.min(2 * wait) } else { FEW }
 }
 
-impl DFA {
-    /// Goes on by leaps from a place, if there are some.
-    #[inline(always)]
-    pub(crate) fn leap_on(
-        &self,
-        cache: &mut Cache,
-        input: &Input<'_>,
-        way: Direction,
-        near: Stop,
-    ) -> Stop
-        ghost trace: { Trace }
-        requires of { IsCacheOf cache.old self.now }
-        requires near { FollowsAlong trace way self.now cache.old.store input.now 0 near.at near }
-        requires trace { IsTrace way self.now input.now trace }
-        requires open { input.now.start ≤ input.now.end }
-        ensures same { cache.new ≡ cache.old }
-        ensures far { FollowsAlong trace way self.now cache.new.store input.now 0 near.at result }
-        ensures read { result.at < input.now.end - input.now.start
-            → IsNextCell way self.now cache.new.store input.now result.at result.id result.next }
-    {
-        let far = self.follow_far(
-            cache,
-            input.haystack(),
-            input.get_span(),
-            input.get_anchored(),
-            input.get_earliest(),
-            way,
-            near.at,
-            near.id,
-        );
-        Stop {
-            at: far.at,
-            id: far.id,
-            next: far.next,
+/// Goes on by leaps from a place, if there are some.
+#[inline(always)]
+pub(crate) fn leap_on(
+    dfa: &DFA,
+    cache: &mut Cache,
+    input: &Input<'_>,
+    way: Direction,
+    near: Stop,
+) -> Stop
+    ghost trace: { Trace }
+    requires of { IsCacheOf cache.old dfa.now }
+    requires near { FollowsAlong trace way dfa.now cache.old.store input.now 0 near.at near }
+    requires trace { IsTrace way dfa.now input.now trace }
+    requires open { input.now.start ≤ input.now.end }
+    ensures same { cache.new ≡ cache.old }
+    ensures far { FollowsAlong trace way dfa.now cache.new.store input.now 0 near.at result }
+    ensures read { result.at < input.now.end - input.now.start
+        → IsNextCell way dfa.now cache.new.store input.now result.at result.id result.next }
+{
+    let far = follow_far(
+        dfa,
+        cache,
+        input.haystack(),
+        input.get_span(),
+        input.get_anchored(),
+        input.get_earliest(),
+        way,
+        near.at,
+        near.id,
+    );
+    Stop {
+        at: far.at,
+        id: far.id,
+        next: far.next,
+    }
+}
+
+/// The column of the classes of the bytes from a place on.
+#[inline(always)]
+fn column(dfa: &DFA, classes: usize, reach: usize, way: Direction, bytes: &[u8], at: usize) -> usize
+    requires rising { AreClasses dfa.now.classes }
+    requires classes { classes ≡ eoi_class dfa.now.classes }
+    requires few { classes ≤ 32 }
+    requires short { reach ≤ 4 }
+    requires within { at + reach ≤ length bytes.now }
+    ensures value { result ≡ column_of dfa.now.classes classes way bytes.now at reach }
+    ensures below { result < classes ^ reach }
+{
+    let mut column = 0;
+    for k in 0..reach {
+        column = column * classes + dfa.class_of(byte_at(way, bytes, at + k));
+    }
+    column
+}
+
+/// Leaps as far as leaps lead, or until the same row has come again and again.
+#[inline(always)]
+fn leap_by(
+    dfa: &DFA,
+    cache: &Cache,
+    leaps: &Leaps,
+    reach: usize,
+    way: Direction,
+    bytes: &[u8],
+    index: usize,
+) -> Leapt
+    requires of { IsCacheOf cache.now dfa.now }
+    requires leaps { AreLeaps cache.now.store.table leaps.now }
+    requires reach { reach ≡ leaps.now.shape.reach }
+    requires row { index < leaps.now.shape.rows }
+    ensures { IsLeapt cache.now.store.table leaps.now.shape way bytes.now index result.len result.row }
+{
+    dfa.see_machine();
+    let end = bytes.len();
+    let classes = leaps.shape.classes;
+    let mut at = 0;
+    let mut row = (index * leaps.shape.width) as u32;
+    let mut again = 0usize;
+    'leaps: while end - at >= reach {
+        let next = leaps.cell(row, column(dfa, classes, reach, way, bytes, at));
+        if next == MARK || again >= LOOPS {
+            return Leapt { len: at, row };
+        }
+        at += reach;
+        again = again_after(next == row, again);
+        row = next;
+    }
+    Leapt { len: at, row }
+}
+
+/// Leaps from a row in a direction that is known, by a loop of its own for each number of bytes that a leap takes.
+#[inline(always)]
+fn leap_reach(
+    dfa: &DFA,
+    cache: &Cache,
+    leaps: &Leaps,
+    way: Direction,
+    bytes: &[u8],
+    index: usize,
+) -> Leapt
+    requires of { IsCacheOf cache.now dfa.now }
+    requires leaps { AreLeaps cache.now.store.table leaps.now }
+    requires row { index < leaps.now.shape.rows }
+    ensures { IsLeapt cache.now.store.table leaps.now.shape way bytes.now index result.len result.row }
+{
+    match leaps.shape.reach {
+        4 => leap_by(dfa, cache, leaps, 4, way, bytes, index),
+        3 => leap_by(dfa, cache, leaps, 3, way, bytes, index),
+        2 => leap_by(dfa, cache, leaps, 2, way, bytes, index),
+        _ => leap_by(dfa, cache, leaps, 1, way, bytes, index),
+    }
+}
+
+/// Leaps from a row.
+#[inline(never)]
+fn leap(
+    dfa: &DFA,
+    cache: &Cache,
+    leaps: &Leaps,
+    way: Direction,
+    bytes: &[u8],
+    index: usize,
+) -> Leapt
+    requires of { IsCacheOf cache.now dfa.now }
+    requires leaps { AreLeaps cache.now.store.table leaps.now }
+    requires row { index < leaps.now.shape.rows }
+    ensures { IsLeapt cache.now.store.table leaps.now.shape way bytes.now index result.len result.row }
+{
+    match way {
+        Direction::Forward => leap_reach(dfa, cache, leaps, Direction::Forward, bytes, index),
+        Direction::Backward => leap_reach(dfa, cache, leaps, Direction::Backward, bytes, index),
+    }
+}
+
+/// Leaps from an ID without a tag.
+fn leap_from(
+    dfa: &DFA,
+    cache: &Cache,
+    leaps: &Leaps,
+    way: Direction,
+    bytes: &[u8],
+    id: LazyStateID,
+) -> Landing
+    requires of { IsCacheOf cache.now dfa.now }
+    requires leaps { AreLeaps cache.now.store.table leaps.now }
+    requires valid { IsRowId cache.now.store.table id }
+    requires untagged { id < offset_limit }
+    ensures leads { LeadsIds cache.now.store.table way bytes.now result.len id result.id }
+    ensures bytes { (k : ℕ) → byte_in way bytes.now k < 256 }
+{
+    cache.see_bounds();
+    let index = cache.row_index(id);
+    if index >= leaps.shape.rows {
+        return Landing { len: 0, id };
+    }
+    let leapt = leap(dfa, cache, leaps, way, bytes, index);
+    Landing {
+        len: leapt.len,
+        id: cache.row_at(leapt.row as usize / leaps.shape.width),
+    }
+}
+
+/// Leaps, and follows some bytes one by one where leaps do not lead on: the more, the shorter leaps have been.
+#[inline(always)]
+fn follow_leaps(
+    dfa: &DFA,
+    cache: &Cache,
+    leaps: &Leaps,
+    input: &Input<'_>,
+    way: Direction,
+    start: usize,
+    from: LazyStateID,
+) -> Stop
+    ghost trace: { Trace }
+    requires of { IsCacheOf cache.now dfa.now }
+    requires leaps { AreLeaps cache.now.store.table leaps.now }
+    requires may { MayFollow trace way dfa.now cache.now.store.table input.now start
+        (input.now.end - input.now.start) from }
+    requires only { HasOnly 0 from }
+    ensures within { result.at ≤ input.now.end - input.now.start }
+    ensures run { IsRun trace way dfa.now cache.now.store input.now 0 start result.at result.id }
+    ensures met { IsMetAlong trace way dfa.now cache.now.store input.now result.at result.id result.next }
+    ensures read { result.at < input.now.end - input.now.start
+        → IsNextCell way dfa.now cache.now.store input.now result.at result.id result.next }
+{
+    dfa.see_machine();
+    cache.see_bounds();
+    let last = last_place(input);
+    let mut at = start;
+    let mut id = from;
+    let mut wait = FEW;
+    'turns: while last - at >= 16 {
+        let far = leap_from(dfa, cache, leaps, way, bytes_from(input, way, at), id);
+        at += far.len;
+        wait = wait_after(far.len, wait);
+        let end = last.min(at + wait);
+        let few = follow(dfa, cache, input, way, at, far.id, 0, end);
+        if few.at < end {
+            return few;
+        }
+        at = few.at;
+        id = few.id;
+    }
+    Stop {
+        at,
+        id,
+        next: next_known(dfa, cache, input, way, at, id, last),
+    }
+}
+
+/// Leaps in a direction, by a loop of its own.
+#[inline(always)]
+fn leap_along(
+    dfa: &DFA,
+    cache: &Cache,
+    leaps: &Leaps,
+    input: &Input<'_>,
+    way: Direction,
+    start: usize,
+    from: LazyStateID,
+) -> Stop
+    ghost trace: { Trace }
+    requires of { IsCacheOf cache.now dfa.now }
+    requires leaps { AreLeaps cache.now.store.table leaps.now }
+    requires may { MayFollow trace way dfa.now cache.now.store.table input.now start
+        (input.now.end - input.now.start) from }
+    requires only { HasOnly 0 from }
+    ensures within { result.at ≤ input.now.end - input.now.start }
+    ensures run { IsRun trace way dfa.now cache.now.store input.now 0 start result.at result.id }
+    ensures met { IsMetAlong trace way dfa.now cache.now.store input.now result.at result.id result.next }
+    ensures read { result.at < input.now.end - input.now.start
+        → IsNextCell way dfa.now cache.now.store input.now result.at result.id result.next }
+{
+    match way {
+        Direction::Forward => {
+            follow_leaps(dfa, cache, leaps, input, Direction::Forward, start, from)
+        }
+        Direction::Backward => {
+            follow_leaps(dfa, cache, leaps, input, Direction::Backward, start, from)
         }
     }
+}
 
-    /// The column of the classes of the bytes from a place on.
-    #[inline(always)]
-    fn column(&self, classes: usize, reach: usize, way: Direction, bytes: &[u8], at: usize) -> usize
-        requires rising { AreClasses self.now.classes }
-        requires classes { classes ≡ eoi_class self.now.classes }
-        requires few { classes ≤ 32 }
-        requires short { reach ≤ 4 }
-        requires within { at + reach ≤ length bytes.now }
-        ensures value { result ≡ column_of self.now.classes classes way bytes.now at reach }
-        ensures below { result < classes ^ reach }
-    {
-        let mut column = 0;
-        for k in 0..reach {
-            column = column * classes + self.class_of(byte_at(way, bytes, at + k));
-        }
-        column
-    }
+/// Makes leaps, if they are due, and goes on by them if there are some. It is given the parts of the input, so that
+/// a search without leaps keeps its numbers in registers.
+#[inline(never)]
+fn follow_far(
+    dfa: &DFA,
+    cache: &mut Cache,
+    haystack: &[u8],
+    span: Span,
+    anchored: Anchored,
+    earliest: bool,
+    way: Direction,
+    start: usize,
+    from: LazyStateID,
+) -> Stop
+    ghost trace: { Trace }
+    requires may { MayBegin dfa.now cache.old (input_at haystack.now span anchored earliest) }
+    requires on { IsOnTrace trace way dfa.now cache.old.store.table
+        (input_at haystack.now span anchored earliest) start from }
+    requires open { span.start ≤ span.end }
+    requires within { start ≤ span.end - span.start }
+    ensures same { cache.new ≡ cache.old }
+    ensures far { FollowsAlong trace way dfa.now cache.old.store
+        (input_at haystack.now span anchored earliest) 0 start result }
+    ensures read { result.at < span.end - span.start
+        → IsNextCell way dfa.now cache.old.store
+        (input_at haystack.now span anchored earliest) result.at result.id result.next }
+{
+    let own = input_of(haystack, span, anchored, earliest);
+    cache.prepare_leaps(dfa, span_offset(&own, way, start));
+    leap_if(dfa, cache, &own, way, start, from)
+}
 
-    /// Leaps as far as leaps lead, or until the same row has come again and again.
-    #[inline(always)]
-    fn leap_by(
-        &self,
-        cache: &Cache,
-        leaps: &Leaps,
-        reach: usize,
-        way: Direction,
-        bytes: &[u8],
-        index: usize,
-    ) -> Leapt
-        requires of { IsCacheOf cache.now self.now }
-        requires leaps { AreLeaps cache.now.store.table leaps.now }
-        requires reach { reach ≡ leaps.now.shape.reach }
-        requires row { index < leaps.now.shape.rows }
-        ensures { IsLeapt cache.now.store.table leaps.now.shape way bytes.now index result.len result.row }
-    {
-        self.see_machine();
-        let end = bytes.len();
-        let classes = leaps.shape.classes;
-        let mut at = 0;
-        let mut row = (index * leaps.shape.width) as u32;
-        let mut again = 0usize;
-        'leaps: while end - at >= reach {
-            let next = leaps.cell(row, self.column(classes, reach, way, bytes, at));
-            if next == MARK || again >= LOOPS {
-                return Leapt { len: at, row };
-            }
-            at += reach;
-            again = again_after(next == row, again);
-            row = next;
-        }
-        Leapt { len: at, row }
-    }
-
-    /// Leaps from a row in a direction that is known, by a loop of its own for each number of bytes that a leap takes.
-    #[inline(always)]
-    fn leap_reach(
-        &self,
-        cache: &Cache,
-        leaps: &Leaps,
-        way: Direction,
-        bytes: &[u8],
-        index: usize,
-    ) -> Leapt
-        requires of { IsCacheOf cache.now self.now }
-        requires leaps { AreLeaps cache.now.store.table leaps.now }
-        requires row { index < leaps.now.shape.rows }
-        ensures { IsLeapt cache.now.store.table leaps.now.shape way bytes.now index result.len result.row }
-    {
-        match leaps.shape.reach {
-            4 => self.leap_by(cache, leaps, 4, way, bytes, index),
-            3 => self.leap_by(cache, leaps, 3, way, bytes, index),
-            2 => self.leap_by(cache, leaps, 2, way, bytes, index),
-            _ => self.leap_by(cache, leaps, 1, way, bytes, index),
+/// Leaps, if there are leaps and from an ID without a tag.
+#[inline(always)]
+fn leap_if(
+    dfa: &DFA,
+    cache: &Cache,
+    input: &Input<'_>,
+    way: Direction,
+    start: usize,
+    from: LazyStateID,
+) -> Stop
+    ghost trace: { Trace }
+    requires of { IsCacheOf cache.now dfa.now }
+    requires on { IsOnTrace trace way dfa.now cache.now.store.table input.now start from }
+    requires within { start ≤ input.now.end - input.now.start }
+    requires open { input.now.start ≤ input.now.end }
+    ensures far { FollowsAlong trace way dfa.now cache.now.store input.now 0 start result }
+    ensures read { result.at < input.now.end - input.now.start
+        → IsNextCell way dfa.now cache.now.store input.now result.at result.id result.next }
+{
+    if from.has_only(0) {
+        if let Some(leaps) = cache.leaps() {
+            return leap_along(dfa, cache, leaps, input, way, start, from);
         }
     }
-
-    /// Leaps from a row.
-    #[inline(never)]
-    fn leap(
-        &self,
-        cache: &Cache,
-        leaps: &Leaps,
-        way: Direction,
-        bytes: &[u8],
-        index: usize,
-    ) -> Leapt
-        requires of { IsCacheOf cache.now self.now }
-        requires leaps { AreLeaps cache.now.store.table leaps.now }
-        requires row { index < leaps.now.shape.rows }
-        ensures { IsLeapt cache.now.store.table leaps.now.shape way bytes.now index result.len result.row }
-    {
-        match way {
-            Direction::Forward => self.leap_reach(cache, leaps, Direction::Forward, bytes, index),
-            Direction::Backward => self.leap_reach(cache, leaps, Direction::Backward, bytes, index),
-        }
-    }
-
-    /// Leaps from an ID without a tag.
-    fn leap_from(
-        &self,
-        cache: &Cache,
-        leaps: &Leaps,
-        way: Direction,
-        bytes: &[u8],
-        id: LazyStateID,
-    ) -> Landing
-        requires of { IsCacheOf cache.now self.now }
-        requires leaps { AreLeaps cache.now.store.table leaps.now }
-        requires valid { IsRowId cache.now.store.table id }
-        requires untagged { id < offset_limit }
-        ensures leads { LeadsIds cache.now.store.table way bytes.now result.len id result.id }
-        ensures bytes { (k : ℕ) → byte_in way bytes.now k < 256 }
-    {
-        cache.see_bounds();
-        let index = cache.row_index(id);
-        if index >= leaps.shape.rows {
-            return Landing { len: 0, id };
-        }
-        let leapt = self.leap(cache, leaps, way, bytes, index);
-        Landing {
-            len: leapt.len,
-            id: cache.row_at(leapt.row as usize / leaps.shape.width),
-        }
-    }
-
-    /// Leaps, and follows some bytes one by one where leaps do not lead on: the more, the shorter leaps have been.
-    #[inline(always)]
-    fn follow_leaps(
-        &self,
-        cache: &Cache,
-        leaps: &Leaps,
-        input: &Input<'_>,
-        way: Direction,
-        start: usize,
-        from: LazyStateID,
-    ) -> Stop
-        ghost trace: { Trace }
-        requires of { IsCacheOf cache.now self.now }
-        requires leaps { AreLeaps cache.now.store.table leaps.now }
-        requires may { MayFollow trace way self.now cache.now.store.table input.now start
-            (input.now.end - input.now.start) from }
-        requires only { HasOnly 0 from }
-        ensures within { result.at ≤ input.now.end - input.now.start }
-        ensures run { IsRun trace way self.now cache.now.store input.now 0 start result.at result.id }
-        ensures met { IsMetAlong trace way self.now cache.now.store input.now result.at result.id result.next }
-        ensures read { result.at < input.now.end - input.now.start
-            → IsNextCell way self.now cache.now.store input.now result.at result.id result.next }
-    {
-        self.see_machine();
-        cache.see_bounds();
-        let last = last_place(input);
-        let mut at = start;
-        let mut id = from;
-        let mut wait = FEW;
-        'turns: while last - at >= 16 {
-            let far = self.leap_from(cache, leaps, way, bytes_from(input, way, at), id);
-            at += far.len;
-            wait = wait_after(far.len, wait);
-            let end = last.min(at + wait);
-            let few = self.follow(cache, input, way, at, far.id, 0, end);
-            if few.at < end {
-                return few;
-            }
-            at = few.at;
-            id = few.id;
-        }
-        Stop {
-            at,
-            id,
-            next: self.next_known(cache, input, way, at, id, last),
-        }
-    }
-
-    /// Leaps in a direction, by a loop of its own.
-    #[inline(always)]
-    fn leap_along(
-        &self,
-        cache: &Cache,
-        leaps: &Leaps,
-        input: &Input<'_>,
-        way: Direction,
-        start: usize,
-        from: LazyStateID,
-    ) -> Stop
-        ghost trace: { Trace }
-        requires of { IsCacheOf cache.now self.now }
-        requires leaps { AreLeaps cache.now.store.table leaps.now }
-        requires may { MayFollow trace way self.now cache.now.store.table input.now start
-            (input.now.end - input.now.start) from }
-        requires only { HasOnly 0 from }
-        ensures within { result.at ≤ input.now.end - input.now.start }
-        ensures run { IsRun trace way self.now cache.now.store input.now 0 start result.at result.id }
-        ensures met { IsMetAlong trace way self.now cache.now.store input.now result.at result.id result.next }
-        ensures read { result.at < input.now.end - input.now.start
-            → IsNextCell way self.now cache.now.store input.now result.at result.id result.next }
-    {
-        match way {
-            Direction::Forward => {
-                self.follow_leaps(cache, leaps, input, Direction::Forward, start, from)
-            }
-            Direction::Backward => {
-                self.follow_leaps(cache, leaps, input, Direction::Backward, start, from)
-            }
-        }
-    }
-
-    /// Makes leaps, if they are due, and goes on by them if there are some. It is given the parts of the input, so that
-    /// a search without leaps keeps its numbers in registers.
-    #[inline(never)]
-    fn follow_far(
-        &self,
-        cache: &mut Cache,
-        haystack: &[u8],
-        span: Span,
-        anchored: Anchored,
-        earliest: bool,
-        way: Direction,
-        start: usize,
-        from: LazyStateID,
-    ) -> Stop
-        ghost trace: { Trace }
-        requires may { MayBegin self.now cache.old (input_at haystack.now span anchored earliest) }
-        requires on { IsOnTrace trace way self.now cache.old.store.table
-            (input_at haystack.now span anchored earliest) start from }
-        requires open { span.start ≤ span.end }
-        requires within { start ≤ span.end - span.start }
-        ensures same { cache.new ≡ cache.old }
-        ensures far { FollowsAlong trace way self.now cache.old.store
-            (input_at haystack.now span anchored earliest) 0 start result }
-        ensures read { result.at < span.end - span.start
-            → IsNextCell way self.now cache.old.store
-            (input_at haystack.now span anchored earliest) result.at result.id result.next }
-    {
-        let own = input_of(haystack, span, anchored, earliest);
-        cache.prepare_leaps(self, span_offset(&own, way, start));
-        self.leap_if(cache, &own, way, start, from)
-    }
-
-    /// Leaps, if there are leaps and from an ID without a tag.
-    #[inline(always)]
-    fn leap_if(
-        &self,
-        cache: &Cache,
-        input: &Input<'_>,
-        way: Direction,
-        start: usize,
-        from: LazyStateID,
-    ) -> Stop
-        ghost trace: { Trace }
-        requires of { IsCacheOf cache.now self.now }
-        requires on { IsOnTrace trace way self.now cache.now.store.table input.now start from }
-        requires within { start ≤ input.now.end - input.now.start }
-        requires open { input.now.start ≤ input.now.end }
-        ensures far { FollowsAlong trace way self.now cache.now.store input.now 0 start result }
-        ensures read { result.at < input.now.end - input.now.start
-            → IsNextCell way self.now cache.now.store input.now result.at result.id result.next }
-    {
-        if from.has_only(0) {
-            if let Some(leaps) = cache.leaps() {
-                return self.leap_along(cache, leaps, input, way, start, from);
-            }
-        }
-        Stop {
-            at: start,
-            id: from,
-            next: self.next_known(cache, input, way, start, from, last_place(input)),
-        }
+    Stop {
+        at: start,
+        id: from,
+        next: next_known(dfa, cache, input, way, start, from, last_place(input)),
     }
 }

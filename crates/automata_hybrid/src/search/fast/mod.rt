@@ -4,6 +4,6 @@
 
 pub(crate) mod follow;
 mod lanes;
-mod leap;
+pub(crate) mod leap;
 mod loop_range;
 pub(crate) mod self_loop;

@@ -1,25 +1,25 @@
 //! A search forward whose haystack comes in pieces. Between two pieces it holds its powerset state, as a walk does, so
 //! that its cache may serve other searches and be cleared, and another cache of the same DFA may take over. `walk` is
 //! one that stops at each match.
-ghost use Rattle.std.specs.Prelude.{ℕ, ◌≡◌, ◌+◌, ◌-◌, ◌^◌, ◌<◌, ◌≤◌, length, IfOk, IfErr, IfNone, IfSome, OnOk, OnErr};
+ghost use Rattle.std.specs.Prelude.{◌≡◌, ◌+◌, ◌-◌, ◌^◌, ◌<◌, ◌≤◌, length, IfOk, IfSome, OnOk, OnErr};
 ghost use Rattle.std.specs.Prelude.{slice_index, Some, None, true, false};
 ghost use Rattle.std.specs.Result.{result_err};
 ghost use Rattle.automata_base.specs.declared.util.search.Direction.TheVariants.{Forward};
 ghost use Rattle.automata_hybrid.specs.Cache.Caches.{IsCacheOf};
-ghost use Rattle.automata_hybrid.specs.Cache.Table.{IsRowId, IsRowState, Names};
+ghost use Rattle.automata_hybrid.specs.Cache.Table.{IsRowId, IsRowState};
 ghost use Rattle.automata_hybrid.specs.Pieces.Answers.{EndsHere, HasBegun, ReadsOn};
 ghost use Rattle.automata_hybrid.specs.Known.Known.{begun};
-ghost use Rattle.automata_hybrid.specs.Known.Pieces.{FailsAlong, IsAnswerRun, IsBeginRun, IsPieceRun};
+ghost use Rattle.automata_hybrid.specs.Known.Pieces.{IsAnswerRun, IsBeginRun, IsPieceRun};
 ghost use Rattle.automata_hybrid.specs.Known.Stores.{known_of};
-ghost use Rattle.automata_hybrid.specs.Known.Walks.{IsNotBack, with_row_back};
 ghost use Rattle.automata_hybrid.specs.Pieces.State.{IsPiecesOf};
-ghost use Rattle.automata_hybrid.specs.Private.Pieces.State.{FailsToResume, HasResumed, found_in};
+ghost use Rattle.automata_hybrid.specs.Private.Pieces.State.{IsResumed, found_in};
 ghost use Rattle.automata_hybrid.specs.Pieces.Walks.{HasBegunWalk, patterns_here};
 ghost use Rattle.automata_hybrid.specs.Private.Searches.PassState.{IsOnTrace, step_error};
-ghost use Rattle.automata_hybrid.specs.Private.Searches.PieceRuns.{HasOffset, IsEndAlong, IsPieceEnd, IsPieceStopped};
+ghost use Rattle.automata_hybrid.specs.Private.Searches.PieceRuns.{HasOffset, IsPieceResult, IsRunResult};
 ghost use Rattle.automata_hybrid.specs.Private.Searches.PieceRuns.{error_from};
 ghost use Rattle.automata_hybrid.specs.Searches.Passes.{given_up_offset};
 ghost use Rattle.automata_hybrid.specs.Searches.Traces.{Trace};
+ghost use Rattle.automata_hybrid.specs.Private.Walks.Parts.{IsPutBackResult};
 ghost use Rattle.automata_hybrid.specs.Private.Walks.State.{IsHandle};
 
 pub mod walk;
@@ -29,8 +29,10 @@ use crate::cache::handle::Handle;
 use crate::dfa::DFA;
 use crate::id::LazyStateID;
 use crate::search::direction::{byte_at, byte_offset, last_place, place_offset, span_offset};
-use crate::search::plain::pass::{Place, near_end};
-use crate::search::step_error;
+use crate::search::fast::follow::next_known;
+use crate::search::plain::pass::{Place, go_far, near_end, run_to_match};
+use crate::search::walk::overlapping::put_back;
+use crate::search::{found_at, read, read_met, step_error};
 use automata_base::laws::reported_is_right;
 use automata_base::util::primitives::PatternID;
 use automata_base::util::search::{Direction, HalfMatch, Input, MatchError, MatchErrorKind};
@@ -119,7 +121,7 @@ impl Pieces {
         self.read
     }
 
-    /// Whether it ends at its first match.
+    /// Whether the search ends at its first match.
     fn is_earliest(&self) -> bool
         ensures { result ≡ self.now.earliest }
     {
@@ -137,7 +139,7 @@ impl Pieces {
         }
     }
 
-    /// One of these patterns.
+    /// A pattern of the state where the search stands, by its index below `match_len`.
     pub(crate) fn match_pattern(&self, index: usize) -> PatternID
         requires { index < length (patterns_here self.now) }
         ensures { result ≡ slice_index (patterns_here self.now) index }
@@ -148,7 +150,7 @@ impl Pieces {
         }
     }
 
-    /// Its answer stands after so many bytes.
+    /// The search has read so many bytes, and its answer stands.
     pub(crate) fn end(&mut self, read: usize, found: Option<HalfMatch>)
         ensures state { self.new.state ≡ None }
         ensures read { self.new.read ≡ read }
@@ -160,7 +162,7 @@ impl Pieces {
         self.found = found;
     }
 
-    /// It stands after so many bytes at the state that is held by this handle, which has this ID.
+    /// The search has read so many bytes, and stands at the state that is held by this handle, which has this ID.
     pub(crate) fn stand(
         &mut self,
         handle: Handle,
@@ -253,53 +255,7 @@ impl DFA {
         ensures effect { IsBeginRun self.now config.now.anchored config.now.look_behind
             (known_of cache.old) (known_of cache.new) (result_err result) }
     {
-        self.start_pieces(cache, config, earliest)
-    }
-
-    /// Begins a search in pieces, or a walk.
-    pub(crate) fn start_pieces(
-        &self,
-        cache: &mut Cache,
-        config: &start::Config,
-        earliest: bool,
-    ) -> Result<Pieces, BeginError>
-        requires { IsCacheOf cache.old self.now }
-        ensures of { IsCacheOf cache.new self.now }
-        ensures pieces { IfOk result (λ p. IsPiecesOf p self.now) }
-        ensures begun { IfOk result (HasBegun self.now config.now.anchored config.now.look_behind earliest) }
-        ensures walk { IfOk result (HasBegunWalk self.now config.now.anchored config.now.look_behind) }
-        ensures early { IfOk result (λ p. p.earliest ≡ earliest) }
-        ensures effect { IsBeginRun self.now config.now.anchored config.now.look_behind
-            (known_of cache.old) (known_of cache.new) (result_err result) }
-    {
-        if self.skips() {
-            return Err(BeginError::Skips);
-        }
-        let id = match self.start_state(cache, config) {
-            Ok(id) => id,
-            Err(error) => return Err(BeginError::Start(error)),
-        };
-        cache.see_bounds();
-        if id.is_dead() {
-            return Ok(Pieces {
-                held: None,
-                row: id,
-                read: 0,
-                earliest,
-                found: None,
-            });
-        }
-        let _state = cache.snapshot(id);
-        match cache.handle(id) {
-            Ok(handle) => Ok(Pieces {
-                held: Some(handle),
-                row: id,
-                read: 0,
-                earliest,
-                found: None,
-            }),
-            Err(_) => Err(BeginError::Start(StartError::OutOfMemory)),
-        }
+        start_pieces(self, cache, config, earliest)
     }
 
     /// Reads the next piece, with any cache of the DFA. Once the answer stands (`Pieces::is_done`) it reads nothing.
@@ -323,14 +279,14 @@ impl DFA {
         ensures effect { IsPieceRun self.now piece.now pieces.old pieces.new
             (known_of cache.old) (known_of cache.new) (result_err result) }
     {
-        let Some(from) = self.resume_pieces(cache, pieces)? else {
+        let Some(from) = resume_pieces(self, cache, pieces)? else {
             return Ok(());
         };
         let base = pieces.bytes_read();
         let Some(after) = base.checked_add(piece.len()) else {
             return Err(SearchError::Match(MatchError::gave_up(base)));
         };
-        match self.run_piece(cache, piece, pieces.is_earliest(), from, base)? {
+        match run_piece(self, cache, piece, pieces.is_earliest(), from, base)? {
             PieceEnd::Over(at, _, found) => {
                 let found = found_in(found, base, pieces.get_match());
                 pieces.end(base + at + 1, found);
@@ -366,146 +322,188 @@ impl DFA {
             (result_err result) }
     {
         reported_is_right(self.get_nfa());
-        let Some(from) = self.resume_pieces(cache, pieces)? else {
+        let Some(from) = resume_pieces(self, cache, pieces)? else {
             return Ok(pieces.get_match());
         };
         let at = pieces.bytes_read();
         cache.search_start(at);
-        let next = self.read(cache, from, LazyStateID::UNKNOWN, look_ahead, at, at)?;
+        let next = read(self, cache, from, LazyStateID::UNKNOWN, look_ahead, at, at)?;
         cache.end_search(at);
-        Ok(self.found_at(cache, next, at, pieces.get_match()))
+        Ok(found_at(self, cache, next, at, pieces.get_match()))
     }
+}
 
-    /// The ID of the state where a search stands, whose row the cache has then; none once its answer stands.
-    #[inline(always)]
-    pub(crate) fn resume_pieces(
-        &self,
-        cache: &mut Cache,
-        pieces: &Pieces,
-    ) -> Result<Option<LazyStateID>, SearchError>
-        requires of { IsCacheOf cache.old self.now }
-        requires pieces { IsPiecesOf pieces.now self.now }
-        ensures of { IsCacheOf cache.new self.now }
-        ensures none { IfOk result (λ o. IfNone o
-            ((pieces.now.state ≡ None) × (known_of cache.new ≡ known_of cache.old))) }
-        ensures some { IfOk result (λ o. IfSome o (HasResumed self.now pieces.now cache.old cache.new)) }
-        ensures left { IfErr result (FailsToResume self.now pieces.now cache.old cache.new) }
-    {
-        let Some(handle) = &pieces.held else {
-            return Ok(None);
-        };
-        match self.row_of(cache, handle, pieces.row) {
-            Ok(id) => Ok(Some(id)),
-            Err(error) => Err(step_error(error, pieces.read)),
-        }
+/// Begins a search in pieces, or a walk.
+pub(crate) fn start_pieces(
+    dfa: &DFA,
+    cache: &mut Cache,
+    config: &start::Config,
+    earliest: bool,
+) -> Result<Pieces, BeginError>
+    requires { IsCacheOf cache.old dfa.now }
+    ensures of { IsCacheOf cache.new dfa.now }
+    ensures pieces { IfOk result (λ p. IsPiecesOf p dfa.now) }
+    ensures begun { IfOk result (HasBegun dfa.now config.now.anchored config.now.look_behind earliest) }
+    ensures walk { IfOk result (HasBegunWalk dfa.now config.now.anchored config.now.look_behind) }
+    ensures early { IfOk result (λ p. p.earliest ≡ earliest) }
+    ensures effect { IsBeginRun dfa.now config.now.anchored config.now.look_behind
+        (known_of cache.old) (known_of cache.new) (result_err result) }
+{
+    if dfa.skips() {
+        return Err(BeginError::Skips);
     }
-
-    /// The ID of the state that is held: the one that it had, if its row is still there.
-    #[inline(always)]
-    fn row_of(
-        &self,
-        cache: &mut Cache,
-        handle: &Handle,
-        row: LazyStateID,
-    ) -> Result<LazyStateID, StepError>
-        requires of { IsCacheOf cache.old self.now }
-        requires key { handle.now.key ≡ handle.now.state }
-        requires state { IsRowState self.now handle.now.state }
-        ensures of { IsCacheOf cache.new self.now }
-        ensures named { IfOk result (λ id. Names cache.new.store.table id handle.now.state) }
-        ensures row { OnOk result (with_row_back self.now handle.now.state (known_of cache.old)
-            ≡ Some (known_of cache.new)) }
-        ensures refused { IfErr result (λ e. (at : ℕ)
-            → IsNotBack self.now handle.now.state at (known_of cache.old) (known_of cache.new) (step_error e at)) }
-    {
-        let table = cache.table();
-        if table.has_row(row) && *table.state(row) == handle.state {
-            return Ok(row);
-        }
-        self.put_back(cache, handle)
-    }
-
-    /// Runs over the bytes of a piece from a row. Errors have offsets of the whole, of which `base` bytes come before
-    /// the piece; what is found, one of the piece. The cache counts the piece as a search that begins at 0.
-    // It is given the parts of the input, so that it keeps its numbers in registers.
-    #[inline(never)]
-    pub(crate) fn run_piece(
-        &self,
-        cache: &mut Cache,
-        piece: &[u8],
-        earliest: bool,
-        from: LazyStateID,
-        base: usize,
-    ) -> Result<PieceEnd, SearchError>
-        requires of { IsCacheOf cache.old self.now }
-        requires valid { IsRowId cache.old.store.table from }
-        requires room { base + length piece.now < 2 ^ 64 }
-        ensures of { IsCacheOf cache.new self.now }
-        ensures end { IfOk result (IsPieceEnd self.now piece.now earliest from cache.old cache.new) }
-        ensures left { IfErr result (IsPieceStopped self.now piece.now earliest from base cache.old cache.new) }
-    {
-        self.see_machine();
-        cache.see_bounds();
-        let own = Input::new(piece).earliest(earliest);
-        match self.run_span(cache, &own, from) {
-            Ok(end) => Ok(end),
-            Err(error) => Err(error_from(base, error)),
-        }
-    }
-
-    /// Runs over the bytes of a span from a row.
-    #[inline(always)]
-    fn run_span(
-        &self,
-        cache: &mut Cache,
-        input: &Input<'_>,
-        from: LazyStateID,
-    ) -> Result<PieceEnd, SearchError>
-        ghost trace: { Trace }
-        requires of { IsCacheOf cache.old self.now }
-        requires on { IsOnTrace trace Forward self.now cache.old.store.table input.now 0 from }
-        requires open { input.now.start ≤ input.now.end }
-        ensures of { IsCacheOf cache.new self.now }
-        ensures end { IfOk result (IsEndAlong trace self.now input.now
-            (begun (given_up_offset Forward input.now 0) (known_of cache.old)) cache.new) }
-        ensures left { IfErr result (FailsAlong trace self.now input.now input.now.start
-            (begun (given_up_offset Forward input.now 0) (known_of cache.old)) (known_of cache.new)) }
-    {
-        self.see_machine();
-        let _haystack = input.haystack();
-        let way = Direction::Forward;
-        let last = last_place(input);
-        cache.search_start(span_offset(input, way, 0));
-        let mut run = Place {
-            at: 0,
-            id: from,
+    let id = match dfa.start_state(cache, config) {
+        Ok(id) => id,
+        Err(error) => return Err(BeginError::Start(error)),
+    };
+    cache.see_bounds();
+    if id.is_dead() {
+        return Ok(Pieces {
+            held: None,
+            row: id,
+            read: 0,
+            earliest,
             found: None,
-            next: self.next_known(cache, input, way, 0, from, last),
-        };
-        let mut end = near_end(cache, input, way, 0);
-        while run.at < last {
-            let offset = byte_offset(input, way, run.at);
-            let byte = byte_at(input, way, run.at);
-            let next = match self.read_met(cache, run.id, run.next, Some(byte), offset, offset) {
-                Ok(next) => next,
-                Err(error) => return Err(error),
-            };
-            cache.see_bounds();
-            if next.is_dead() {
-                cache.end_search(offset);
-                return Ok(PieceEnd::Over(run.at, next, run.found));
-            }
-            let found = self.found_at(cache, next, place_offset(input, way, run.at), run.found);
-            if input.get_earliest() && found.is_some() {
-                cache.end_search(offset);
-                return Ok(PieceEnd::Over(run.at, next, found));
-            }
-            let near = self.run(cache, input, way, run.at + 1, next, found, end);
-            let (far, due) = self.go_far(cache, input, way, near, end);
-            run = far;
-            end = due;
-        }
-        cache.end_search(span_offset(input, way, last));
-        Ok(PieceEnd::At(run.id, run.found))
+        });
     }
+    let _state = cache.snapshot(id);
+    match cache.handle(id) {
+        Ok(handle) => Ok(Pieces {
+            held: Some(handle),
+            row: id,
+            read: 0,
+            earliest,
+            found: None,
+        }),
+        Err(_) => Err(BeginError::Start(StartError::OutOfMemory)),
+    }
+}
+
+/// The ID of the state where a search stands, whose row the cache has then; none once its answer stands.
+#[inline(always)]
+pub(crate) fn resume_pieces(
+    dfa: &DFA,
+    cache: &mut Cache,
+    pieces: &Pieces,
+) -> Result<Option<LazyStateID>, SearchError>
+    requires of { IsCacheOf cache.old dfa.now }
+    requires pieces { IsPiecesOf pieces.now dfa.now }
+    ensures of { IsCacheOf cache.new dfa.now }
+    ensures resumed { IsResumed dfa.now pieces.now cache.old cache.new result }
+{
+    let Some(handle) = &pieces.held else {
+        return Ok(None);
+    };
+    match row_of(dfa, cache, handle, pieces.row) {
+        Ok(id) => Ok(Some(id)),
+        Err(error) => Err(step_error(error, pieces.read)),
+    }
+}
+
+/// The ID of the state that is held: the one that it had, if its row is still there.
+#[inline(always)]
+fn row_of(
+    dfa: &DFA,
+    cache: &mut Cache,
+    handle: &Handle,
+    row: LazyStateID,
+) -> Result<LazyStateID, StepError>
+    requires of { IsCacheOf cache.old dfa.now }
+    requires key { handle.now.key ≡ handle.now.state }
+    requires state { IsRowState dfa.now handle.now.state }
+    ensures of { IsCacheOf cache.new dfa.now }
+    ensures back { IsPutBackResult dfa.now handle.now.state cache.old cache.new result }
+{
+    let table = cache.table();
+    if table.has_row(row) && *table.state(row) == handle.state {
+        return Ok(row);
+    }
+    put_back(dfa, cache, handle)
+}
+
+/// Runs over the bytes of a piece from a row. Errors have offsets of the whole, of which `base` bytes come before
+/// the piece; what is found, one of the piece. The cache counts the piece as a search that begins at 0.
+// It is given the parts of the input, so that it keeps its numbers in registers.
+#[inline(never)]
+pub(crate) fn run_piece(
+    dfa: &DFA,
+    cache: &mut Cache,
+    piece: &[u8],
+    earliest: bool,
+    from: LazyStateID,
+    base: usize,
+) -> Result<PieceEnd, SearchError>
+    requires of { IsCacheOf cache.old dfa.now }
+    requires valid { IsRowId cache.old.store.table from }
+    requires room { base + length piece.now < 2 ^ 64 }
+    ensures of { IsCacheOf cache.new dfa.now }
+    ensures ran { IsPieceResult dfa.now piece.now earliest from base cache.old cache.new result }
+{
+    dfa.see_machine();
+    cache.see_bounds();
+    let own = Input::new(piece).earliest(earliest);
+    match run_span(dfa, cache, &own, from) {
+        Ok(end) => Ok(end),
+        Err(error) => Err(error_from(base, error)),
+    }
+}
+
+/// Runs over the bytes of a span from a row.
+#[inline(always)]
+fn run_span(
+    dfa: &DFA,
+    cache: &mut Cache,
+    input: &Input<'_>,
+    from: LazyStateID,
+) -> Result<PieceEnd, SearchError>
+    ghost trace: { Trace }
+    requires of { IsCacheOf cache.old dfa.now }
+    requires on { IsOnTrace trace Forward dfa.now cache.old.store.table input.now 0 from }
+    requires open { input.now.start ≤ input.now.end }
+    ensures of { IsCacheOf cache.new dfa.now }
+    ensures ran { IsRunResult trace dfa.now input.now
+        (begun (given_up_offset Forward input.now 0) (known_of cache.old)) cache.new result }
+{
+    dfa.see_machine();
+    let _haystack = input.haystack();
+    let way = Direction::Forward;
+    let last = last_place(input);
+    cache.search_start(span_offset(input, way, 0));
+    let mut run = Place {
+        at: 0,
+        id: from,
+        found: None,
+        next: next_known(dfa, cache, input, way, 0, from, last),
+    };
+    let mut end = near_end(cache, input, way, 0);
+    while run.at < last {
+        let offset = byte_offset(input, way, run.at);
+        let byte = byte_at(input, way, run.at);
+        let next = match read_met(dfa, cache, run.id, run.next, Some(byte), offset, offset) {
+            Ok(next) => next,
+            Err(error) => return Err(error),
+        };
+        cache.see_bounds();
+        if next.is_dead() {
+            cache.end_search(offset);
+            return Ok(PieceEnd::Over(run.at, next, run.found));
+        }
+        let found = found_at(
+            dfa,
+            cache,
+            next,
+            place_offset(input, way, run.at),
+            run.found,
+        );
+        if input.get_earliest() && found.is_some() {
+            cache.end_search(offset);
+            return Ok(PieceEnd::Over(run.at, next, found));
+        }
+        let near = run_to_match(dfa, cache, input, way, run.at + 1, next, found, end);
+        let (far, due) = go_far(dfa, cache, input, way, near, end);
+        run = far;
+        end = due;
+    }
+    cache.end_search(span_offset(input, way, last));
+    Ok(PieceEnd::At(run.id, run.found))
 }

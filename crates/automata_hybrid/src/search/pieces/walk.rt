@@ -14,7 +14,10 @@ use crate::cache::Cache;
 use crate::cache::handle::Handle;
 use crate::dfa::DFA;
 use crate::id::LazyStateID;
-use crate::search::pieces::{BeginError, PieceEnd, Pieces, found_in};
+use crate::search::pieces::{
+    BeginError, PieceEnd, Pieces, found_in, resume_pieces, run_piece, start_pieces,
+};
+use crate::search::read;
 use automata_base::util::primitives::PatternID;
 use automata_base::util::search::{HalfMatch, MatchError};
 use automata_base::util::start;
@@ -71,7 +74,7 @@ impl PiecesWalk {
         self.pieces.match_len()
     }
 
-    /// One of these patterns, by its index.
+    /// A pattern that matches up to the offset of `get_match`, by its index below `match_len`.
     pub fn match_pattern(&self, index: usize) -> PatternID
         requires { index < length (patterns_here self.now) }
         ensures { result ≡ slice_index (patterns_here self.now) index }
@@ -128,7 +131,7 @@ impl Model for WalkEnd {
 }
 
 impl WalkEnd {
-    /// How many patterns match there.
+    /// How many patterns match at the end of the walk's haystack.
     pub fn match_len(&self) -> usize
         ensures { result ≡ length self.now }
     {
@@ -138,7 +141,7 @@ impl WalkEnd {
         }
     }
 
-    /// One of them, by its index.
+    /// A pattern that matches at the end of the walk's haystack, by its index below `match_len`.
     pub fn match_pattern(&self, index: usize) -> PatternID
         requires { index < length self.now }
         ensures { result ≡ slice_index self.now index }
@@ -152,7 +155,8 @@ impl WalkEnd {
 
 impl DFA {
     /// Begins a walk whose haystack comes in pieces, for an anchored mode and after the byte before the first piece, as
-    /// `begin_pieces` begins a search. It fails for the same reasons.
+    /// `begin_pieces` begins a search. It fails if the DFA skips ends inside characters, and if there is no start
+    /// state.
     pub fn begin_walk(
         &self,
         cache: &mut Cache,
@@ -165,7 +169,7 @@ impl DFA {
         ensures effect { IsBeginRun self.now config.now.anchored config.now.look_behind
             (known_of cache.old) (known_of cache.new) (result_err result) }
     {
-        match self.start_pieces(cache, config, true) {
+        match start_pieces(self, cache, config, true) {
             Ok(pieces) => Ok(PiecesWalk { pieces }),
             Err(error) => Err(error),
         }
@@ -194,48 +198,7 @@ impl DFA {
         ensures effect { IsWalkCallRun self.now piece.now walk.old walk.new
             (known_of cache.old) (known_of cache.new) (result_err result) }
     {
-        self.walk_pieces(cache, &mut walk.pieces, piece)
-    }
-
-    /// One call of a walk, by the search that it holds.
-    fn walk_pieces(
-        &self,
-        cache: &mut Cache,
-        pieces: &mut Pieces,
-        piece: &[u8],
-    ) -> Result<usize, SearchError>
-        requires of { IsCacheOf cache.old self.now }
-        requires pieces { IsPiecesOf pieces.old self.now }
-        requires walk { IsPiecesWalk pieces.old }
-        ensures of { IsCacheOf cache.new self.now }
-        ensures walk { IsPiecesOf pieces.new self.now × IsPiecesWalk pieces.new }
-        ensures walked { IfOk result (IsWalked self.now piece.now pieces.old pieces.new) }
-        ensures unchanged { OnErr result (pieces.new ≡ pieces.old) }
-        ensures effect { IsWalkCallRun self.now piece.now pieces.old pieces.new
-            (known_of cache.old) (known_of cache.new) (result_err result) }
-    {
-        let Some(from) = self.resume_pieces(cache, pieces)? else {
-            return Ok(piece.len());
-        };
-        let base = pieces.bytes_read();
-        let Some(after) = base.checked_add(piece.len()) else {
-            return Err(SearchError::Match(MatchError::gave_up(base)));
-        };
-        match self.run_piece(cache, piece, true, from, base)? {
-            PieceEnd::Over(at, id, found) => {
-                if found.is_none() {
-                    pieces.end(base + at + 1, None);
-                    return Ok(piece.len());
-                }
-                let found = found_in(found, base, None);
-                self.stand_in_row(cache, pieces, id, base + at + 1, found)?;
-                Ok(at + 1)
-            }
-            PieceEnd::At(id, _) => {
-                self.stand_in_row(cache, pieces, id, after, None)?;
-                Ok(piece.len())
-            }
-        }
+        walk_pieces(self, cache, &mut walk.pieces, piece)
     }
 
     /// The patterns that match up to the end of the pieces so far, if the haystack ends here, or if this byte follows,
@@ -255,71 +218,111 @@ impl DFA {
         ensures effect { IsWalkEndRun self.now look_ahead walk.now (known_of cache.old) (known_of cache.new)
             (result_err result) }
     {
-        self.end_pieces_walk(cache, &walk.pieces, look_ahead)
+        end_pieces_walk(self, cache, &walk.pieces, look_ahead)
     }
+}
 
-    /// The end of a walk, by the search that it holds.
-    fn end_pieces_walk(
-        &self,
-        cache: &mut Cache,
-        pieces: &Pieces,
-        look_ahead: Option<u8>,
-    ) -> Result<WalkEnd, SearchError>
-        requires of { IsCacheOf cache.old self.now }
-        requires pieces { IsPiecesOf pieces.now self.now }
-        ensures of { IsCacheOf cache.new self.now }
-        ensures ends { IfOk result (EndsWith self.now pieces.now look_ahead) }
-        ensures effect { IsWalkEndRun self.now look_ahead pieces.now (known_of cache.old) (known_of cache.new)
-            (result_err result) }
-    {
-        let Some(from) = self.resume_pieces(cache, pieces)? else {
-            return Ok(WalkEnd { held: None });
-        };
-        let at = pieces.bytes_read();
-        cache.search_start(at);
-        let next = self.read(cache, from, LazyStateID::UNKNOWN, look_ahead, at, at)?;
-        cache.end_search(at);
-        match self.end_at(cache, next) {
-            Ok(end) => Ok(end),
-            Err(error) => Err(error),
+/// One call of a walk, by the search that it holds.
+fn walk_pieces(
+    dfa: &DFA,
+    cache: &mut Cache,
+    pieces: &mut Pieces,
+    piece: &[u8],
+) -> Result<usize, SearchError>
+    requires of { IsCacheOf cache.old dfa.now }
+    requires pieces { IsPiecesOf pieces.old dfa.now }
+    requires walk { IsPiecesWalk pieces.old }
+    ensures of { IsCacheOf cache.new dfa.now }
+    ensures walk { IsPiecesOf pieces.new dfa.now × IsPiecesWalk pieces.new }
+    ensures walked { IfOk result (IsWalked dfa.now piece.now pieces.old pieces.new) }
+    ensures unchanged { OnErr result (pieces.new ≡ pieces.old) }
+    ensures effect { IsWalkCallRun dfa.now piece.now pieces.old pieces.new
+        (known_of cache.old) (known_of cache.new) (result_err result) }
+{
+    let Some(from) = resume_pieces(dfa, cache, pieces)? else {
+        return Ok(piece.len());
+    };
+    let base = pieces.bytes_read();
+    let Some(after) = base.checked_add(piece.len()) else {
+        return Err(SearchError::Match(MatchError::gave_up(base)));
+    };
+    match run_piece(dfa, cache, piece, true, from, base)? {
+        PieceEnd::Over(at, id, found) => {
+            if found.is_none() {
+                pieces.end(base + at + 1, None);
+                return Ok(piece.len());
+            }
+            let found = found_in(found, base, None);
+            stand_in_row(dfa, cache, pieces, id, base + at + 1, found)?;
+            Ok(at + 1)
+        }
+        PieceEnd::At(id, _) => {
+            stand_in_row(dfa, cache, pieces, id, after, None)?;
+            Ok(piece.len())
         }
     }
+}
 
-    /// The patterns of the state to which an ID leads.
-    fn end_at(&self, cache: &Cache, id: LazyStateID) -> Result<WalkEnd, SearchError>
-        requires of { IsCacheOf cache.now self.now }
-        requires leads { (q : Powerset) × Leads cache.now.store.table id q }
-        ensures patterns { IfOk result (λ end. (q : Powerset) → Leads cache.now.store.table id q → end ≡ q.patterns) }
-        ensures error { IfErr result (λ e. e ≡ SearchError.OutOfMemory) }
-    {
-        cache.see_bounds();
-        if id.is_dead() {
-            return Ok(WalkEnd { held: None });
-        }
-        let handle = cache.handle(id)?;
-        Ok(WalkEnd { held: Some(handle) })
+/// The end of a walk, by the search that it holds.
+fn end_pieces_walk(
+    dfa: &DFA,
+    cache: &mut Cache,
+    pieces: &Pieces,
+    look_ahead: Option<u8>,
+) -> Result<WalkEnd, SearchError>
+    requires of { IsCacheOf cache.old dfa.now }
+    requires pieces { IsPiecesOf pieces.now dfa.now }
+    ensures of { IsCacheOf cache.new dfa.now }
+    ensures ends { IfOk result (EndsWith dfa.now pieces.now look_ahead) }
+    ensures effect { IsWalkEndRun dfa.now look_ahead pieces.now (known_of cache.old) (known_of cache.new)
+        (result_err result) }
+{
+    let Some(from) = resume_pieces(dfa, cache, pieces)? else {
+        return Ok(WalkEnd { held: None });
+    };
+    let at = pieces.bytes_read();
+    cache.search_start(at);
+    let next = read(dfa, cache, from, LazyStateID::UNKNOWN, look_ahead, at, at)?;
+    cache.end_search(at);
+    match end_at(dfa, cache, next) {
+        Ok(end) => Ok(end),
+        Err(error) => Err(error),
     }
+}
 
-    /// Holds the state of a row, and stands there after so many bytes.
-    fn stand_in_row(
-        &self,
-        cache: &Cache,
-        pieces: &mut Pieces,
-        id: LazyStateID,
-        read: usize,
-        found: Option<HalfMatch>,
-    ) -> Result<(), SearchError>
-        requires of { IsCacheOf cache.now self.now }
-        requires valid { IsRowId cache.now.store.table id }
-        ensures pieces { OnOk result (IsPiecesOf pieces.new self.now) }
-        ensures stands { OnOk result (StandsInRow cache.now.store.table id read found pieces.old pieces.new) }
-        ensures unchanged { OnErr result (pieces.new ≡ pieces.old) }
-        ensures error { IfErr result (λ e. e ≡ SearchError.OutOfMemory) }
-    {
-        cache.see_bounds();
-        let _state = cache.snapshot(id);
-        let handle = cache.handle(id)?;
-        pieces.stand(handle, id, read, found);
-        Ok(())
+/// The patterns of the state to which an ID leads.
+fn end_at(dfa: &DFA, cache: &Cache, id: LazyStateID) -> Result<WalkEnd, SearchError>
+    requires of { IsCacheOf cache.now dfa.now }
+    requires leads { (q : Powerset) × Leads cache.now.store.table id q }
+    ensures patterns { IfOk result (λ end. (q : Powerset) → Leads cache.now.store.table id q → end ≡ q.patterns) }
+    ensures error { IfErr result (λ e. e ≡ SearchError.OutOfMemory) }
+{
+    cache.see_bounds();
+    if id.is_dead() {
+        return Ok(WalkEnd { held: None });
     }
+    let handle = cache.handle(id)?;
+    Ok(WalkEnd { held: Some(handle) })
+}
+
+/// Holds the state of a row, and stands there after so many bytes.
+fn stand_in_row(
+    dfa: &DFA,
+    cache: &Cache,
+    pieces: &mut Pieces,
+    id: LazyStateID,
+    read: usize,
+    found: Option<HalfMatch>,
+) -> Result<(), SearchError>
+    requires of { IsCacheOf cache.now dfa.now }
+    requires valid { IsRowId cache.now.store.table id }
+    ensures stands { OnOk result (IsPiecesOf pieces.new dfa.now
+        × StandsInRow cache.now.store.table id read found pieces.old pieces.new) }
+    ensures fails { IfErr result (λ e. (e ≡ SearchError.OutOfMemory) × (pieces.new ≡ pieces.old)) }
+{
+    cache.see_bounds();
+    let _state = cache.snapshot(id);
+    let handle = cache.handle(id)?;
+    pieces.stand(handle, id, read, found);
+    Ok(())
 }

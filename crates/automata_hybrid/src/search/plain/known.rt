@@ -4,20 +4,22 @@ ghost use Rattle.automata_base.specs.Paths.Paths.{next};
 ghost use Rattle.automata_hybrid.specs.Known.Stores.{known_of};
 ghost use Rattle.automata_hybrid.specs.Known.Steps.{IsStartRun};
 ghost use Rattle.automata_hybrid.specs.Cache.Caches.{IsCacheOf};
-ghost use Rattle.automata_hybrid.specs.Cache.Ids.{unknown_id};
+ghost use Rattle.automata_hybrid.specs.Cache.Ids.{quit_id, unknown_id};
 ghost use Rattle.automata_hybrid.specs.Cache.Table.{IsRowId, Names};
 ghost use Rattle.automata_hybrid.specs.Searches.PassContracts.{IsUnderway};
-ghost use Rattle.automata_hybrid.specs.Private.Searches.PassContracts.{IsKnownEnd, IsKnownUpto};
-ghost use Rattle.automata_hybrid.specs.Private.Searches.PassState.{IsMet, IsNextCell};
+ghost use Rattle.automata_hybrid.specs.Private.Searches.PassContracts.{IsKnownStop};
+ghost use Rattle.automata_hybrid.specs.Private.Searches.PassState.{IsMet};
 ghost use Rattle.automata_hybrid.specs.Searches.Passes.{state_in, tape_in};
 ghost use Rattle.automata_hybrid.specs.Steps.Starts.{IsStartAnswer};
 ghost use Rattle.automata_hybrid.specs.Steps.Steps.{IsStepAnswer, known_step};
-ghost use Rattle.automata_hybrid.specs.Machines.Machine.{unit_class};
+ghost use Rattle.automata_hybrid.specs.Machines.Machine.{quits_on, unit_class};
 
 use crate::cache::Cache;
 use crate::dfa::DFA;
 use crate::id::LazyStateID;
 use crate::search::direction::{byte_at, byte_behind, last_place, place_offset, unit_at};
+use crate::search::found_at;
+use crate::search::plain::pass::run_to_match;
 use automata_base::util::search::{Direction, HalfMatch, Input};
 
 /// How many bytes a pass follows before it leaves the others to its rest, which looks for leaps. A self-loop is
@@ -26,7 +28,7 @@ const FIRST_RUN: usize = 1024;
 
 /// Why a pass over cached transitions stopped.
 #[derive(Clone, Copy)]
-pub(crate) enum KnownStop {
+enum KnownStop {
     /// The pass has ended with the unit at the place.
     Ended,
     /// The transition on the byte at the place is not cached.
@@ -37,8 +39,8 @@ pub(crate) enum KnownStop {
 
 /// How far cached transitions led a pass.
 #[derive(Drop)]
-pub(crate) struct Known {
-    pub(crate) stop: KnownStop,
+pub(crate) struct KnownPass {
+    stop: KnownStop,
     pub(crate) at: usize,
     /// The ID of the state at the place.
     pub(crate) id: LazyStateID,
@@ -46,12 +48,12 @@ pub(crate) struct Known {
     pub(crate) found: Option<HalfMatch>,
 }
 
-impl Known {
+impl KnownPass {
     /// A pass stopped so at a place.
-    fn new(stop: KnownStop, at: usize, id: LazyStateID, found: Option<HalfMatch>) -> Known
+    fn new(stop: KnownStop, at: usize, id: LazyStateID, found: Option<HalfMatch>) -> KnownPass
         ensures { result ≡ record { stop = stop; at = at; id = id; found = found } }
     {
-        Known {
+        KnownPass {
             stop,
             at,
             id,
@@ -81,114 +83,114 @@ impl Known {
     }
 }
 
-impl DFA {
-    /// The start state of a search, if it may start and that is cached, and else the unknown ID.
-    #[inline(always)]
-    pub(crate) fn known_start(
-        &self,
-        cache: &Cache,
-        input: &Input<'_>,
-        way: Direction,
-    ) -> LazyStateID
-        requires { IsCacheOf cache.now self.now }
-        ensures answer { result < unknown_id → IsStartAnswer self.now input.now.anchored
-            (tape_in way input.now).before cache.now cache.now result }
-        ensures run { result < unknown_id → IsStartRun self.now input.now.anchored
-            (tape_in way input.now).before (known_of cache.now) (known_of cache.now) }
-    {
-        self.start_state_known(cache, input.get_anchored(), byte_behind(input, way))
-    }
+/// The start state of a search, if it may start and that is cached, and else the unknown ID.
+#[inline(always)]
+pub(crate) fn known_start(
+    dfa: &DFA,
+    cache: &Cache,
+    input: &Input<'_>,
+    way: Direction,
+) -> LazyStateID
+    requires { IsCacheOf cache.now dfa.now }
+    ensures answer { result < unknown_id → IsStartAnswer dfa.now input.now.anchored
+        (tape_in way input.now).before cache.now cache.now result }
+    ensures run { result < unknown_id → IsStartRun dfa.now input.now.anchored
+        (tape_in way input.now).before (known_of cache.now) (known_of cache.now) }
+{
+    dfa.start_state_known(cache, input.get_anchored(), byte_behind(input, way))
+}
 
-    /// The ID after a unit: the unknown one if it is not cached.
-    #[inline(always)]
-    pub(crate) fn known_step(&self, cache: &Cache, id: LazyStateID, unit: Option<u8>) -> LazyStateID
-        requires of { IsCacheOf cache.now self.now }
-        requires valid { IsRowId cache.now.store.table id }
-        ensures value { result ≡ known_step self.now cache.now.store id unit }
-        ensures answer { result < unknown_id → IsStepAnswer self.now id unit cache.now cache.now result }
-        ensures below { unit_class self.now unit < self.now.stride }
-    {
-        cache.see_bounds();
-        cache.cell(id, self.unit_class(unit))
-    }
+/// The ID after a unit, from an ID that may have a tag: the unknown one if the transition is not cached.
+#[inline(always)]
+pub(crate) fn known_step(dfa: &DFA, cache: &Cache, id: LazyStateID, unit: Option<u8>) -> LazyStateID
+    requires of { IsCacheOf cache.now dfa.now }
+    requires valid { IsRowId cache.now.store.table id }
+    ensures value { result ≡ known_step dfa.now cache.now.store id unit }
+    ensures answer { result < unknown_id → IsStepAnswer dfa.now id unit cache.now cache.now result }
+    ensures quit { quits_on dfa.now unit ≡ true → result ≡ quit_id dfa.now.stride }
+    ensures below { unit_class dfa.now unit < dfa.now.stride }
+{
+    cache.see_bounds();
+    cache.cell(id, dfa.unit_class(unit))
+}
 
-    /// The ID after the unit at a place: the one that was met there. At the last place it is looked up, and
-    /// unknown if it is not cached.
-    #[inline(always)]
-    fn known_next(
-        &self,
-        cache: &Cache,
-        input: &Input<'_>,
-        way: Direction,
-        at: usize,
-        id: LazyStateID,
-        met: LazyStateID,
-    ) -> LazyStateID
-        requires of { IsCacheOf cache.now self.now }
-        requires open { input.now.start ≤ input.now.end }
-        requires within { at ≤ input.now.end - input.now.start }
-        requires named { Names cache.now.store.table id (state_in way self.now input.now at) }
-        requires met { IsMet way self.now cache.now.store input.now at id met }
-        ensures value { result < unknown_id
-            → result ≡ known_step self.now cache.now.store id (next (tape_in way input.now) at) }
-        ensures answer { result < unknown_id → IsStepAnswer self.now id
-            (next (tape_in way input.now) at) cache.now cache.now result }
-        ensures below { result < unknown_id
-            → unit_class self.now (next (tape_in way input.now) at) < self.now.stride }
-        ensures met { unknown_id ≤ result → unknown_id ≤ met }
-    {
-        if met.is_unknown() {
-            if at < last_place(input) {
-                return LazyStateID::UNKNOWN;
-            }
-            return self.known_step(cache, id, unit_at(input, way, at));
+/// The ID after the unit at a place: the one that was met there. At the last place it is looked up, and
+/// unknown if it is not cached.
+#[inline(always)]
+fn known_next(
+    dfa: &DFA,
+    cache: &Cache,
+    input: &Input<'_>,
+    way: Direction,
+    at: usize,
+    id: LazyStateID,
+    met: LazyStateID,
+) -> LazyStateID
+    requires of { IsCacheOf cache.now dfa.now }
+    requires open { input.now.start ≤ input.now.end }
+    requires within { at ≤ input.now.end - input.now.start }
+    requires named { Names cache.now.store.table id (state_in way dfa.now input.now at) }
+    requires met { IsMet way dfa.now cache.now.store input.now at id met }
+    ensures value { result < unknown_id
+        → result ≡ known_step dfa.now cache.now.store id (next (tape_in way input.now) at) }
+    ensures answer { result < unknown_id → IsStepAnswer dfa.now id
+        (next (tape_in way input.now) at) cache.now cache.now result }
+    ensures below { result < unknown_id
+        → unit_class dfa.now (next (tape_in way input.now) at) < dfa.now.stride }
+    ensures met { unknown_id ≤ result → unknown_id ≤ met }
+{
+    if met.is_unknown() {
+        if at < last_place(input) {
+            return LazyStateID::UNKNOWN;
         }
-        let _next = self.known_step(cache, id, Some(byte_at(input, way, at)));
-        met
+        return known_step(dfa, cache, id, unit_at(input, way, at));
     }
+    let _next = known_step(dfa, cache, id, Some(byte_at(input, way, at)));
+    met
+}
 
-    /// A pass over cached transitions from its start state, as far as these lead.
-    #[inline(always)]
-    pub(crate) fn known_pass(
-        &self,
-        cache: &Cache,
-        input: &Input<'_>,
-        way: Direction,
-        start: LazyStateID,
-    ) -> Known
-        requires of { IsCacheOf cache.now self.now }
-        requires at { IsUnderway way self.now cache.now.store.table input.now 0 start None }
-        ensures ended { result.stop ≡ KnownStop.Ended
-            → IsKnownEnd way self.now cache.now input.now result.at result.id result.found }
-        ensures left { (result.stop ≡ KnownStop.Ended → ⊥)
-            → IsKnownUpto way self.now cache.now.store input.now result.at result.id result.found }
-        ensures missing { result.stop ≡ KnownStop.Missing
-            → IsNextCell way self.now cache.now.store input.now result.at result.id unknown_id }
-    {
-        cache.see_bounds();
-        let last = last_place(input);
-        let run = self.run(cache, input, way, 0, start, None, last.min(FIRST_RUN));
-        let next = self.known_next(cache, input, way, run.at, run.id, run.next);
-        if next.is_unknown() {
-            // Two comparisons: the end of the first run would have to be kept for one.
-            if run.at < FIRST_RUN && run.at < last {
-                return Known::new(KnownStop::Missing, run.at, run.id, run.found);
-            }
-            return Known::new(KnownStop::Left, run.at, run.id, run.found);
+/// A pass over cached transitions from its start state, as far as these lead.
+#[inline(always)]
+pub(crate) fn known_pass(
+    dfa: &DFA,
+    cache: &Cache,
+    input: &Input<'_>,
+    way: Direction,
+    start: LazyStateID,
+) -> KnownPass
+    requires of { IsCacheOf cache.now dfa.now }
+    requires at { IsUnderway way dfa.now cache.now.store.table input.now 0 start None }
+    ensures { IsKnownStop way dfa.now cache.now input.now result.stop result.at result.id result.found }
+{
+    cache.see_bounds();
+    let last = last_place(input);
+    let run = run_to_match(dfa, cache, input, way, 0, start, None, last.min(FIRST_RUN));
+    let next = known_next(dfa, cache, input, way, run.at, run.id, run.next);
+    if next.is_unknown() {
+        // Two comparisons: the end of the first run would have to be kept for one.
+        if run.at < FIRST_RUN && run.at < last {
+            return KnownPass::new(KnownStop::Missing, run.at, run.id, run.found);
         }
-        if next.is_dead() {
-            return Known::new(KnownStop::Ended, run.at, run.id, run.found);
-        }
-        if next.is_quit() {
-            return Known::new(KnownStop::Left, run.at, run.id, run.found);
-        }
-        let found = self.found_at(cache, next, place_offset(input, way, run.at), run.found);
-        if run.at >= last {
-            return Known::new(KnownStop::Ended, run.at, run.id, found);
-        }
-        if input.get_earliest() && found.is_some() {
-            return Known::new(KnownStop::Ended, run.at, run.id, found);
-        }
-        Known::new(KnownStop::Left, run.at + 1, next, found)
+        return KnownPass::new(KnownStop::Left, run.at, run.id, run.found);
     }
+    if next.is_dead() {
+        return KnownPass::new(KnownStop::Ended, run.at, run.id, run.found);
+    }
+    if next.is_quit() {
+        return KnownPass::new(KnownStop::Left, run.at, run.id, run.found);
+    }
+    let found = found_at(
+        dfa,
+        cache,
+        next,
+        place_offset(input, way, run.at),
+        run.found,
+    );
+    if run.at >= last {
+        return KnownPass::new(KnownStop::Ended, run.at, run.id, found);
+    }
+    if input.get_earliest() && found.is_some() {
+        return KnownPass::new(KnownStop::Ended, run.at, run.id, found);
+    }
+    KnownPass::new(KnownStop::Left, run.at + 1, next, found)
 }

@@ -17,7 +17,10 @@ use crate::id::LazyStateID;
 use crate::search::direction::{
     byte_at, last_place, place_offset, span_offset, unit_at, unit_offset,
 };
-use crate::search::fast::follow::Stop;
+use crate::search::fast::follow::{Stop, follow};
+use crate::search::fast::leap::leap_on;
+use crate::search::plain::known::known_step;
+use crate::search::{read, skips_at};
 use automata_base::util::search::{Direction, Input};
 use automata_config::error::SearchError;
 
@@ -31,221 +34,221 @@ pub(crate) struct Arrival {
     pub(crate) units: usize,
 }
 
-impl DFA {
-    /// The state after what a walk reads at a place, to which the search moves. `met` is the next ID if the caller has
-    /// seen it, and else unknown.
-    #[inline(always)]
-    fn read_unit(
-        &self,
-        cache: &mut Cache,
-        input: &Input<'_>,
-        way: Direction,
-        id: LazyStateID,
-        met: LazyStateID,
-        place: usize,
-    ) -> Result<LazyStateID, SearchError>
-        requires of { IsCacheOf cache.old self.now }
-        requires at { StandsAfterUnits way self.now cache.old.store.table input.now place id }
-        requires met { IsMet way self.now cache.old.store input.now place id met }
-        ensures of { IsCacheOf cache.new self.now }
-        ensures reads { WalkReads way self.now input.now place }
-        ensures unit { IsUnitResult way self.now input.now place cache.old cache.new result }
-    {
-        cache.see_bounds();
-        let at = span_offset(input, way, place);
-        let quit_at = unit_offset(input, way, place);
-        self.read(cache, id, met, unit_at(input, way, place), quit_at, at)
-    }
+/// The state after what a walk reads at a place, to which the search moves. `met` is the next ID if the caller has
+/// seen it, and else unknown.
+#[inline(always)]
+fn read_unit(
+    dfa: &DFA,
+    cache: &mut Cache,
+    input: &Input<'_>,
+    way: Direction,
+    id: LazyStateID,
+    met: LazyStateID,
+    place: usize,
+) -> Result<LazyStateID, SearchError>
+    requires of { IsCacheOf cache.old dfa.now }
+    requires at { StandsAfterUnits way dfa.now cache.old.store.table input.now place id }
+    requires met { IsMet way dfa.now cache.old.store input.now place id met }
+    ensures of { IsCacheOf cache.new dfa.now }
+    ensures reads { WalkReads way dfa.now input.now place }
+    ensures unit { IsUnitResult way dfa.now input.now place cache.old cache.new result }
+{
+    cache.see_bounds();
+    let at = span_offset(input, way, place);
+    let quit_at = unit_offset(input, way, place);
+    read(dfa, cache, id, met, unit_at(input, way, place), quit_at, at)
+}
 
-    /// Whether a state's patterns match at a place of a walk that is not skipped.
-    #[inline(always)]
-    fn reports(
-        &self,
-        cache: &Cache,
-        input: &Input<'_>,
-        way: Direction,
-        id: LazyStateID,
-        place: usize,
-    ) -> bool
-        requires of { IsCacheOf cache.now self.now }
-        requires open { input.now.start ≤ input.now.end }
-        requires within { place ≤ input.now.end - input.now.start }
-        requires valid { IsRowId cache.now.store.table id }
-        ensures yes { result ≡ true
-            → (Skips self.now → is_split input.now.haystack (offset_in way input.now place) ≡ false)
-            × ((q : Powerset) → Names cache.now.store.table id q → 0 < length q.patterns) }
-        ensures no { result ≡ false
-            → (Skips self.now × (is_split input.now.haystack (offset_in way input.now place) ≡ true))
-            ⊎ ((q : Powerset) → Names cache.now.store.table id q → q.patterns ≡ []) }
-    {
-        cache.see_bounds();
-        if !id.is_match() {
-            return false;
-        }
-        !self.skips_at(input, place_offset(input, way, place))
+/// Whether a state's patterns match at a place of a walk that is not skipped.
+#[inline(always)]
+fn reports(
+    dfa: &DFA,
+    cache: &Cache,
+    input: &Input<'_>,
+    way: Direction,
+    id: LazyStateID,
+    place: usize,
+) -> bool
+    requires of { IsCacheOf cache.now dfa.now }
+    requires open { input.now.start ≤ input.now.end }
+    requires within { place ≤ input.now.end - input.now.start }
+    requires valid { IsRowId cache.now.store.table id }
+    ensures yes { result ≡ true
+        → (Skips dfa.now → is_split input.now.haystack (offset_in way input.now place) ≡ false)
+        × ((q : Powerset) → Names cache.now.store.table id q → 0 < length q.patterns) }
+    ensures no { result ≡ false
+        → (Skips dfa.now × (is_split input.now.haystack (offset_in way input.now place) ≡ true))
+        ⊎ ((q : Powerset) → Names cache.now.store.table id q → q.patterns ≡ []) }
+{
+    cache.see_bounds();
+    if !id.is_match() {
+        return false;
     }
+    !skips_at(dfa, input, place_offset(input, way, place))
+}
 
-    /// Follows one cached transition from an ID with a tag to one without, so that a walk goes on from a match as it
-    /// does from any other state. From an ID without a tag, it follows none.
-    fn leave_tag(
-        &self,
-        cache: &Cache,
-        input: &Input<'_>,
-        way: Direction,
-        start: usize,
-        from: LazyStateID,
-    ) -> Stop
-        requires of { IsCacheOf cache.now self.now }
-        requires open { input.now.start ≤ input.now.end }
-        requires within { start ≤ input.now.end - input.now.start }
-        requires named { Names cache.now.store.table from (state_in way self.now input.now start) }
-        ensures within { result.at ≤ input.now.end - input.now.start }
-        ensures followed { IsFollowed way self.now cache.now.store input.now 0 start result.at result.id }
-        ensures met { IsMet way self.now cache.now.store input.now result.at result.id result.next }
-    {
-        if from.has_only(0) || start >= last_place(input) {
-            return Stop {
-                at: start,
-                id: from,
-                next: LazyStateID::UNKNOWN,
-            };
-        }
-        let next = self.next_state_known(cache, from, byte_at(input, way, start));
-        if next.has_only(0) {
-            return Stop {
-                at: start + 1,
-                id: next,
-                next: LazyStateID::UNKNOWN,
-            };
-        }
-        Stop {
+/// Follows one cached transition from an ID with a tag to one without, so that a walk goes on from a match as it
+/// does from any other state. From an ID without a tag, it follows none.
+fn leave_tag(
+    dfa: &DFA,
+    cache: &Cache,
+    input: &Input<'_>,
+    way: Direction,
+    start: usize,
+    from: LazyStateID,
+) -> Stop
+    requires of { IsCacheOf cache.now dfa.now }
+    requires open { input.now.start ≤ input.now.end }
+    requires within { start ≤ input.now.end - input.now.start }
+    requires named { Names cache.now.store.table from (state_in way dfa.now input.now start) }
+    ensures within { result.at ≤ input.now.end - input.now.start }
+    ensures followed { IsFollowed way dfa.now cache.now.store input.now 0 start result.at result.id }
+    ensures met { IsMet way dfa.now cache.now.store input.now result.at result.id result.next }
+{
+    if from.has_only(0) || start >= last_place(input) {
+        return Stop {
             at: start,
             id: from,
-            next,
-        }
+            next: LazyStateID::UNKNOWN,
+        };
     }
-
-    /// Follows cached transitions to IDs without a tag, up to a place, and a self-loop beyond it: each direction has
-    /// its own loop.
-    #[inline(always)]
-    fn follow_walk(
-        &self,
-        cache: &Cache,
-        input: &Input<'_>,
-        way: Direction,
-        start: usize,
-        from: LazyStateID,
-        end: usize,
-    ) -> Stop
-        requires of { IsCacheOf cache.now self.now }
-        requires open { input.now.start ≤ input.now.end }
-        requires within { start ≤ input.now.end - input.now.start }
-        requires upto { end ≤ input.now.end - input.now.start }
-        requires named { Names cache.now.store.table from (state_in way self.now input.now start) }
-        ensures { FollowsTo way self.now cache.now.store input.now 0 start result }
-    {
-        let first = self.leave_tag(cache, input, way, start, from);
-        if !first.id.has_only(0) {
-            return first;
-        }
-        match way {
-            Direction::Forward => self.follow(
-                cache,
-                input,
-                Direction::Forward,
-                first.at,
-                first.id,
-                0,
-                end,
-            ),
-            Direction::Backward => self.follow(
-                cache,
-                input,
-                Direction::Backward,
-                first.at,
-                first.id,
-                0,
-                end,
-            ),
-        }
+    let next = known_step(dfa, cache, from, Some(byte_at(input, way, start)));
+    if next.has_only(0) {
+        return Stop {
+            at: start + 1,
+            id: next,
+            next: LazyStateID::UNKNOWN,
+        };
     }
-
-    /// Goes on by leaps, where a walk has come to the place where it looks for them; and the place where it looks for
-    /// them next.
-    #[inline(always)]
-    fn walk_far(
-        &self,
-        cache: &mut Cache,
-        input: &Input<'_>,
-        way: Direction,
-        near: Stop,
-        end: usize,
-    ) -> (Stop, usize)
-        requires of { IsCacheOf cache.old self.now }
-        requires open { input.now.start ≤ input.now.end }
-        requires upto { end ≤ input.now.end - input.now.start }
-        requires near { FollowsTo way self.now cache.old.store input.now 0 near.at near }
-        ensures same { cache.new ≡ cache.old }
-        ensures far { FollowsTo way self.now cache.new.store input.now 0 near.at result.0 }
-        ensures upto { result.1 ≤ input.now.end - input.now.start }
-    {
-        let _haystack = input.haystack();
-        let last = last_place(input);
-        if near.at < end || near.at >= last {
-            return (near, end);
-        }
-        let far = self.leap_on(cache, input, way, near);
-        (far, last.min(far.at + NEAR))
+    Stop {
+        at: start,
+        id: from,
+        next,
     }
+}
 
-    /// Goes on with a walk from its state to the next one whose patterns match. The search stays open at the last byte
-    /// that is read.
-    #[inline(always)]
-    pub(crate) fn advance(
-        &self,
-        cache: &mut Cache,
-        input: &Input<'_>,
-        way: Direction,
-        from: LazyStateID,
-        units: usize,
-    ) -> Result<Arrival, SearchError>
-        requires of { IsCacheOf cache.old self.now }
-        requires from { StandsAfterUnits way self.now cache.old.store.table input.now units from }
-        requires clean { HasReadNoQuit way self.now input.now units }
-        ensures of { IsCacheOf cache.new self.now }
-        ensures advanced { IsAdvanceResult way self.now input.now units cache.old cache.new result }
-    {
-        self.see_machine();
-        let _haystack = input.haystack();
+/// Follows cached transitions to IDs without a tag, up to a place, and a self-loop beyond it: each direction has
+/// its own loop.
+#[inline(always)]
+fn follow_walk(
+    dfa: &DFA,
+    cache: &Cache,
+    input: &Input<'_>,
+    way: Direction,
+    start: usize,
+    from: LazyStateID,
+    end: usize,
+) -> Stop
+    requires of { IsCacheOf cache.now dfa.now }
+    requires open { input.now.start ≤ input.now.end }
+    requires within { start ≤ input.now.end - input.now.start }
+    requires upto { end ≤ input.now.end - input.now.start }
+    requires named { Names cache.now.store.table from (state_in way dfa.now input.now start) }
+    ensures { FollowsTo way dfa.now cache.now.store input.now 0 start result }
+{
+    let first = leave_tag(dfa, cache, input, way, start, from);
+    if !first.id.has_only(0) {
+        return first;
+    }
+    match way {
+        Direction::Forward => follow(
+            dfa,
+            cache,
+            input,
+            Direction::Forward,
+            first.at,
+            first.id,
+            0,
+            end,
+        ),
+        Direction::Backward => follow(
+            dfa,
+            cache,
+            input,
+            Direction::Backward,
+            first.at,
+            first.id,
+            0,
+            end,
+        ),
+    }
+}
+
+/// Goes on by leaps, where a walk has come to the place where it looks for them; and the place where it looks for
+/// them next.
+#[inline(always)]
+fn walk_far(
+    dfa: &DFA,
+    cache: &mut Cache,
+    input: &Input<'_>,
+    way: Direction,
+    near: Stop,
+    end: usize,
+) -> (Stop, usize)
+    requires of { IsCacheOf cache.old dfa.now }
+    requires open { input.now.start ≤ input.now.end }
+    requires upto { end ≤ input.now.end - input.now.start }
+    requires near { FollowsTo way dfa.now cache.old.store input.now 0 near.at near }
+    ensures same { cache.new ≡ cache.old }
+    ensures far { FollowsTo way dfa.now cache.new.store input.now 0 near.at result.0 }
+    ensures upto { result.1 ≤ input.now.end - input.now.start }
+{
+    let _haystack = input.haystack();
+    let last = last_place(input);
+    if near.at < end || near.at >= last {
+        return (near, end);
+    }
+    let far = leap_on(dfa, cache, input, way, near);
+    (far, last.min(far.at + NEAR))
+}
+
+/// Goes on with a walk from its state to the next one whose patterns match. The search stays open at the last byte
+/// that is read.
+#[inline(always)]
+pub(crate) fn advance(
+    dfa: &DFA,
+    cache: &mut Cache,
+    input: &Input<'_>,
+    way: Direction,
+    from: LazyStateID,
+    units: usize,
+) -> Result<Arrival, SearchError>
+    requires of { IsCacheOf cache.old dfa.now }
+    requires from { StandsAfterUnits way dfa.now cache.old.store.table input.now units from }
+    requires clean { HasReadNoQuit way dfa.now input.now units }
+    ensures of { IsCacheOf cache.new dfa.now }
+    ensures advanced { IsAdvanceResult way dfa.now input.now units cache.old cache.new result }
+{
+    dfa.see_machine();
+    let _haystack = input.haystack();
+    cache.see_bounds();
+    let last = last_place(input);
+    let mut id = from;
+    let mut read = units;
+    let mut end = last.min(read + NEAR);
+    while read <= last {
+        let near = follow_walk(dfa, cache, input, way, read, id, end);
+        let (stop, due) = walk_far(dfa, cache, input, way, near, end);
+        end = due;
+        let next = read_unit(dfa, cache, input, way, stop.id, stop.next, stop.at)?;
         cache.see_bounds();
-        let last = last_place(input);
-        let mut id = from;
-        let mut read = units;
-        let mut end = last.min(read + NEAR);
-        while read <= last {
-            let near = self.follow_walk(cache, input, way, read, id, end);
-            let (stop, due) = self.walk_far(cache, input, way, near, end);
-            end = due;
-            let next = self.read_unit(cache, input, way, stop.id, stop.next, stop.at)?;
-            cache.see_bounds();
-            if next.is_dead() {
-                return Ok(Arrival {
-                    id: None,
-                    units: stop.at + 1,
-                });
-            }
-            if self.reports(cache, input, way, next, stop.at) {
-                return Ok(Arrival {
-                    id: Some(next),
-                    units: stop.at + 1,
-                });
-            }
-            id = next;
-            read = stop.at + 1;
+        if next.is_dead() {
+            return Ok(Arrival {
+                id: None,
+                units: stop.at + 1,
+            });
         }
-        Ok(Arrival {
-            id: None,
-            units: read,
-        })
+        if reports(dfa, cache, input, way, next, stop.at) {
+            return Ok(Arrival {
+                id: Some(next),
+                units: stop.at + 1,
+            });
+        }
+        id = next;
+        read = stop.at + 1;
     }
+    Ok(Arrival {
+        id: None,
+        units: read,
+    })
 }

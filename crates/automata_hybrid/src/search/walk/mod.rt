@@ -8,7 +8,7 @@ ghost use Rattle.automata_hybrid.specs.Private.Walks.State.{ended_walk, keeping_
 ghost use Rattle.automata_hybrid.specs.Private.Walks.State.{with_match};
 
 mod advance;
-mod overlapping;
+pub(crate) mod overlapping;
 mod which;
 
 use crate::cache::Cache;
@@ -178,14 +178,14 @@ impl Cursor {
         }
     }
 
-    /// Forgets the match.
+    /// The walk has no match from here on.
     pub(crate) fn forget_match(&mut self)
         ensures { self.new ≡ without_match self.old }
     {
         self.found = None;
     }
 
-    /// Reports the next pattern of its state.
+    /// The walk reports this match, the next pattern of its state.
     pub(crate) fn report(&mut self, half: HalfMatch)
         requires { self.old.reported + 1 < 2 ^ 64 }
         ensures { self.new ≡ with_match self.old half }
@@ -194,7 +194,7 @@ impl Cursor {
         self.found = Some(half);
     }
 
-    /// Goes to a state with so many patterns, of which it has reported none.
+    /// The walk goes to a state with so many patterns, of which it has reported none.
     pub(crate) fn go_to(&mut self, state: Snapshot<State>, patterns: usize, units: usize)
         requires { patterns ≡ length state.value.patterns }
         ensures { self.new ≡ record { stage = At state.value; units = units; reported = 0; found = None } }
@@ -206,7 +206,7 @@ impl Cursor {
         self.found = None;
     }
 
-    /// Ends.
+    /// The walk ends, when it has read so many units.
     pub(crate) fn end(&mut self, units: usize)
         ensures { self.new ≡ ended_walk self.old units }
     {

@@ -1,5 +1,5 @@
 //! Overlapping searches: each call reports the next match, with any cache of the DFA.
-ghost use Rattle.std.specs.Prelude.{ℕ, ◌≡◌, ◌+◌, ◌-◌, ◌<◌, ◌≤◌, ◌^◌, IfOk, IfErr, IfNone, IfSome, OnOk, OnErr, Some};
+ghost use Rattle.std.specs.Prelude.{ℕ, ◌≡◌, ◌+◌, ◌-◌, ◌<◌, ◌≤◌, ◌^◌, IfNone, IfSome, OnOk, OnErr, Some};
 ghost use Rattle.std.specs.Prelude.{length, slice_index};
 ghost use Rattle.std.specs.Result.{result_err};
 ghost use Rattle.automata_base.specs.Powersets.Powerset.{Powerset};
@@ -7,10 +7,9 @@ ghost use Rattle.automata_base.specs.declared.util.search.Direction.TheVariants.
 ghost use Rattle.automata_hybrid.specs.Cache.Caches.{IsCacheOf};
 ghost use Rattle.automata_hybrid.specs.Walks.Contracts.{IsWalkCall};
 ghost use Rattle.automata_hybrid.specs.Private.Walks.Parts.{HoldsOn, IsCallResult, IsHeldWalk, IsKeptWalk};
-ghost use Rattle.automata_hybrid.specs.Private.Walks.Parts.{IsResumeAnswer, ReadsNext};
+ghost use Rattle.automata_hybrid.specs.Private.Walks.Parts.{IsPutBackResult, IsResumeResult, ReadsNext};
 ghost use Rattle.automata_hybrid.specs.Known.Stores.{known_of};
-ghost use Rattle.automata_hybrid.specs.Known.Walks.{IsNotBack, IsNotResumed, IsWalkRun, after_resume, with_row_back};
-ghost use Rattle.automata_hybrid.specs.Private.Searches.PassState.{step_error};
+ghost use Rattle.automata_hybrid.specs.Known.Walks.{IsWalkRun};
 ghost use Rattle.automata_hybrid.specs.Searches.Passes.{tape_in};
 ghost use Rattle.automata_hybrid.specs.Steps.Starts.{MayStart};
 ghost use Rattle.automata_hybrid.specs.Cache.Table.{IsRowState, Names};
@@ -23,8 +22,9 @@ use crate::cache::Cache;
 use crate::cache::handle::Handle;
 use crate::dfa::DFA;
 use crate::id::LazyStateID;
-use crate::search::direction::{last_place, place_offset, span_offset};
+use crate::search::direction::{last_place, place_offset, span_offset, walk_start};
 use crate::search::step_error;
+use crate::search::walk::advance::advance;
 use crate::search::walk::{Cursor, Held, OverlappingState};
 use automata_base::laws::walk_is_right;
 use automata_base::util::primitives::PatternID;
@@ -44,7 +44,9 @@ impl DFA {
     /// ```
     ///
     /// The error of a quit byte has the byte's offset; the "gave up" error has the offset of the byte that was to be
-    /// read, or the span's start or end. After an error the state is unchanged, except that it has no match.
+    /// read, or the span's start or end. An anchored mode that the DFA does not support is an error
+    /// (`Config::starts_for_each_pattern`), and so is out of memory. After an error the state is unchanged, except that
+    /// it has no match.
     pub fn try_search_overlapping_fwd(
         &self,
         cache: &mut Cache,
@@ -89,134 +91,6 @@ impl DFA {
         self.try_search_overlapping(cache, input, Direction::Backward, state)
     }
 
-    /// The ID of a state that a walk holds, which is added again if the cache lacks it.
-    pub(crate) fn put_back(
-        &self,
-        cache: &mut Cache,
-        handle: &Handle,
-    ) -> Result<LazyStateID, StepError>
-        requires of { IsCacheOf cache.old self.now }
-        requires key { handle.now.key ≡ handle.now.state }
-        requires state { IsRowState self.now handle.now.state }
-        ensures of { IsCacheOf cache.new self.now }
-        ensures named { IfOk result (λ id. Names cache.new.store.table id handle.now.state) }
-        ensures row { OnOk result
-            (with_row_back self.now handle.now.state (known_of cache.old) ≡ Some (known_of cache.new)) }
-        ensures refused { IfErr result (λ e. (at : ℕ) → IsNotBack self.now handle.now.state at
-            (known_of cache.old) (known_of cache.new) (step_error e at)) }
-    {
-        self.see_machine();
-        cache.see_bounds();
-        if let Some(id) = cache.find(&handle.key) {
-            return Ok(id);
-        }
-        let id = cache.add_again(self, &handle.state)?;
-        cache.see_bounds();
-        Ok(id)
-    }
-
-    /// The ID of the state that a walk goes on from: its start state, or what is held of its state.
-    #[inline(always)]
-    fn resume(
-        &self,
-        cache: &mut Cache,
-        input: &Input<'_>,
-        way: Direction,
-        walk: &Cursor,
-        held: &Held,
-    ) -> Result<LazyStateID, SearchError>
-        requires of { IsCacheOf cache.old self.now }
-        requires walk { ReadsNext way self.now input.now cache.old.store.table walk.now held.now }
-        ensures of { IsCacheOf cache.new self.now }
-        ensures answer { IfOk result
-            (IsResumeAnswer way self.now input.now walk.now cache.new.store) }
-        ensures refusal { IfErr result (IsNotResumed way self.now input.now walk.now.stage walk.now.units
-            (known_of cache.old) (known_of cache.new)) }
-        ensures resumed { OnOk result
-            (after_resume way self.now input.now walk.now.stage (known_of cache.old) ≡ Some (known_of cache.new)) }
-    {
-        if walk.is_fresh() {
-            return self.walk_start(cache, input, way);
-        }
-        match held {
-            Held::Row(Some(id)) => Ok(*id),
-            Held::State(Some(handle)) => match self.put_back(cache, handle) {
-                Ok(id) => Ok(id),
-                Err(error) => Err(step_error(error, span_offset(input, way, walk.units()))),
-            },
-            Held::Row(None) | Held::State(None) => Err(SearchError::OutOfMemory),
-        }
-    }
-
-    /// Goes on with a walk that has reported all patterns of its state, to the next match. Its new state is held before
-    /// the search ends.
-    #[inline(always)]
-    fn walk_on(
-        &self,
-        cache: &mut Cache,
-        input: &Input<'_>,
-        way: Direction,
-        walk: &mut Cursor,
-        held: &mut Held,
-    ) -> Result<(), SearchError>
-        requires of { IsCacheOf cache.old self.now }
-        requires walk { ReadsNext way self.now input.now cache.old.store.table walk.old held.old }
-        ensures of { IsCacheOf cache.new self.now }
-        ensures held { OnOk result (HoldsOn cache.new.store.table walk.new held.old held.new) }
-        ensures err { OnErr result ((walk.new ≡ walk.old) × (held.new ≡ held.old)) }
-        ensures called { IsCallResult (keeping_of held.old) way self.now input.now walk.old walk.new
-            (known_of cache.old) (known_of cache.new) result }
-    {
-        let _skips = self.skips();
-        let from = self.resume(cache, input, way, walk, held)?;
-        let place = span_offset(input, way, walk.units());
-        cache.search_start(place);
-        cache.see_bounds();
-        if from.is_dead() {
-            cache.end_search(place);
-            walk.end(walk.units());
-            return Ok(());
-        }
-        let arrival = self.advance(cache, input, way, from, walk.units())?;
-        let last = span_offset(input, way, arrival.units - 1);
-        let Some(id) = arrival.id else {
-            cache.end_search(last);
-            walk.end(arrival.units);
-            return Ok(());
-        };
-        held.move_to(cache, id)?;
-        cache.end_search(last);
-        self.stand(cache, input, way, walk, id, arrival.units);
-        Ok(())
-    }
-
-    /// Takes a walk to a state whose patterns match, and reports the first one.
-    #[inline(always)]
-    fn stand(
-        &self,
-        cache: &Cache,
-        input: &Input<'_>,
-        way: Direction,
-        walk: &mut Cursor,
-        id: LazyStateID,
-        units: usize,
-    )
-        requires of { IsCacheOf cache.now self.now }
-        requires open { input.now.start ≤ input.now.end }
-        requires may { MayStart self.now input.now.anchored (tape_in way input.now).before }
-        requires here { (k : ℕ) → HasReported way self.now input.now walk.old k
-            → HasReportedBy way self.now input.now walk.old.units k }
-        requires arrives { Arrives way self.now cache.now.store.table input.now walk.old.units id units }
-        ensures reports { ReportsNext way self.now input.now walk.old walk.new }
-        ensures units { walk.new.units ≡ units }
-        ensures at { (q : Powerset) × (walk.new.stage ≡ At q) × Names cache.now.store.table id q }
-    {
-        let at = place_offset(input, way, units - 1);
-        let half = HalfMatch::new(cache.match_pattern(id, 0), at);
-        walk.go_to(cache.snapshot(id), cache.match_len(id), units);
-        walk.report(half);
-    }
-
     /// One call of an overlapping search in a direction, as `try_search_overlapping_fwd` makes it forward and
     /// `try_search_overlapping_rev` backward.
     pub fn try_search_overlapping(
@@ -234,96 +108,216 @@ impl DFA {
         ensures effect { IsWalkRun States way self.now input.now walk.old walk.new
             (known_of cache.old) (known_of cache.new) (result_err result) }
     {
-        self.call_held(cache, input, way, &mut walk.cursor, &mut walk.held)
+        call_held(self, cache, input, way, &mut walk.cursor, &mut walk.held)
     }
+}
 
-    /// One call of an overlapping search, given where the walk is and what is held of its state.
-    fn call_held(
-        &self,
-        cache: &mut Cache,
-        input: &Input<'_>,
-        way: Direction,
-        walk: &mut Cursor,
-        held: &mut Held,
-    ) -> Result<(), SearchError>
-        requires of { IsCacheOf cache.old self.now }
-        requires walk { IsKeptWalk way self.now input.now walk.old held.old }
-        ensures of { IsCacheOf cache.new self.now }
-        ensures walk { IsKeptWalk way self.now input.now walk.new held.new }
-        ensures call { IsWalkCall way self.now input.now walk.old walk.new result }
-        ensures effect { IsWalkRun States way self.now input.now walk.old walk.new
-            (known_of cache.old) (known_of cache.new) (result_err result) }
-    {
-        walk_is_right(self.get_nfa());
-        let _haystack = input.haystack();
-        match self.go_on(cache, input, way, walk, held) {
-            Ok(()) => {
-                held.release(walk);
-                Ok(())
-            }
-            Err(error) => Err(error),
-        }
+/// The ID of a state that a walk holds, which is added again if the cache lacks it.
+pub(crate) fn put_back(
+    dfa: &DFA,
+    cache: &mut Cache,
+    handle: &Handle,
+) -> Result<LazyStateID, StepError>
+    requires of { IsCacheOf cache.old dfa.now }
+    requires key { handle.now.key ≡ handle.now.state }
+    requires state { IsRowState dfa.now handle.now.state }
+    ensures of { IsCacheOf cache.new dfa.now }
+    ensures back { IsPutBackResult dfa.now handle.now.state cache.old cache.new result }
+{
+    dfa.see_machine();
+    cache.see_bounds();
+    if let Some(id) = cache.find(&handle.key) {
+        return Ok(id);
     }
+    let id = cache.add_again(dfa, &handle.state)?;
+    cache.see_bounds();
+    Ok(id)
+}
 
-    /// One call of a walk, by what is held of its state.
-    #[inline(always)]
-    pub(crate) fn go_on(
-        &self,
-        cache: &mut Cache,
-        input: &Input<'_>,
-        way: Direction,
-        walk: &mut Cursor,
-        held: &mut Held,
-    ) -> Result<(), SearchError>
-        requires of { IsCacheOf cache.old self.now }
-        requires walk { IsHeldWalk way self.now input.now cache.old.store.table walk.old held.old }
-        ensures of { IsCacheOf cache.new self.now }
-        ensures held { OnOk result (HoldsOn cache.new.store.table walk.new held.old held.new) }
-        ensures err { OnErr result ((walk.new ≡ without_match walk.old) × (held.new ≡ held.old)) }
-        ensures called { IsCallResult (keeping_of held.old) way self.now input.now walk.old walk.new
-            (known_of cache.old) (known_of cache.new) result }
-    {
-        walk.forget_match();
-        if walk.has_ended() {
-            return Ok(());
-        }
-        if input.is_done() {
-            walk.end(walk.units());
-            return Ok(());
-        }
-        if let Some(pattern) = self.next_pattern(cache, walk, held) {
-            let place = place_offset(input, way, walk.units() - 1);
-            walk.report(HalfMatch::new(pattern, place));
-            return Ok(());
-        }
-        if walk.units() > last_place(input) {
-            walk.end(walk.units());
-            return Ok(());
-        }
-        self.walk_on(cache, input, way, walk, held)
+/// The ID of the state that a walk goes on from: its start state, or what is held of its state.
+#[inline(always)]
+fn resume(
+    dfa: &DFA,
+    cache: &mut Cache,
+    input: &Input<'_>,
+    way: Direction,
+    walk: &Cursor,
+    held: &Held,
+) -> Result<LazyStateID, SearchError>
+    requires of { IsCacheOf cache.old dfa.now }
+    requires walk { ReadsNext way dfa.now input.now cache.old.store.table walk.now held.now }
+    ensures of { IsCacheOf cache.new dfa.now }
+    ensures resumed { IsResumeResult way dfa.now input.now walk.now cache.old cache.new result }
+{
+    if walk.is_fresh() {
+        return walk_start(dfa, cache, input, way);
     }
+    match held {
+        Held::Row(Some(id)) => Ok(*id),
+        Held::State(Some(handle)) => match put_back(dfa, cache, handle) {
+            Ok(id) => Ok(id),
+            Err(error) => Err(step_error(error, span_offset(input, way, walk.units()))),
+        },
+        Held::Row(None) | Held::State(None) => Err(SearchError::OutOfMemory),
+    }
+}
 
-    /// The pattern that a walk reports next at its state.
-    #[inline(always)]
-    fn next_pattern(&self, cache: &Cache, walk: &Cursor, held: &Held) -> Option<PatternID>
-        requires on { walk.now.stage ≡ Ended → ⊥ }
-        requires held { IsHeldAt cache.now.store.table walk.now.stage held.now }
-        ensures left { IfSome result (λ p. (q : Powerset) × (walk.now.stage ≡ At q)
-            × (walk.now.reported < length q.patterns) × (p ≡ slice_index q.patterns walk.now.reported)) }
-        ensures room { IfSome result (λ p. walk.now.reported + 1 < 2 ^ 64) }
-        ensures none { IfNone result ((q : Powerset) → walk.now.stage ≡ At q → length q.patterns ≤ walk.now.reported) }
-    {
-        if !walk.has_more() {
-            return None;
+/// Goes on with a walk that has reported all patterns of its state, to the next match. Its new state is held before
+/// the search ends.
+#[inline(always)]
+fn walk_on(
+    dfa: &DFA,
+    cache: &mut Cache,
+    input: &Input<'_>,
+    way: Direction,
+    walk: &mut Cursor,
+    held: &mut Held,
+) -> Result<(), SearchError>
+    requires of { IsCacheOf cache.old dfa.now }
+    requires walk { ReadsNext way dfa.now input.now cache.old.store.table walk.old held.old }
+    ensures of { IsCacheOf cache.new dfa.now }
+    ensures held { OnOk result (HoldsOn cache.new.store.table walk.new held.old held.new) }
+    ensures err { OnErr result ((walk.new ≡ walk.old) × (held.new ≡ held.old)) }
+    ensures called { IsCallResult (keeping_of held.old) way dfa.now input.now walk.old walk.new
+        (known_of cache.old) (known_of cache.new) result }
+{
+    let _skips = dfa.skips();
+    let from = resume(dfa, cache, input, way, walk, held)?;
+    let place = span_offset(input, way, walk.units());
+    cache.search_start(place);
+    cache.see_bounds();
+    if from.is_dead() {
+        cache.end_search(place);
+        walk.end(walk.units());
+        return Ok(());
+    }
+    let arrival = advance(dfa, cache, input, way, from, walk.units())?;
+    let last = span_offset(input, way, arrival.units - 1);
+    let Some(id) = arrival.id else {
+        cache.end_search(last);
+        walk.end(arrival.units);
+        return Ok(());
+    };
+    held.move_to(cache, id)?;
+    cache.end_search(last);
+    stand(dfa, cache, input, way, walk, id, arrival.units);
+    Ok(())
+}
+
+/// Takes a walk to a state whose patterns match, and reports the first one.
+#[inline(always)]
+fn stand(
+    dfa: &DFA,
+    cache: &Cache,
+    input: &Input<'_>,
+    way: Direction,
+    walk: &mut Cursor,
+    id: LazyStateID,
+    units: usize,
+)
+    requires of { IsCacheOf cache.now dfa.now }
+    requires open { input.now.start ≤ input.now.end }
+    requires may { MayStart dfa.now input.now.anchored (tape_in way input.now).before }
+    requires here { (k : ℕ) → HasReported way dfa.now input.now walk.old k
+        → HasReportedBy way dfa.now input.now walk.old.units k }
+    requires arrives { Arrives way dfa.now cache.now.store.table input.now walk.old.units id units }
+    ensures reports { ReportsNext way dfa.now input.now walk.old walk.new }
+    ensures units { walk.new.units ≡ units }
+    ensures at { (q : Powerset) × (walk.new.stage ≡ At q) × Names cache.now.store.table id q }
+{
+    let at = place_offset(input, way, units - 1);
+    let half = HalfMatch::new(cache.match_pattern(id, 0), at);
+    walk.go_to(cache.snapshot(id), cache.match_len(id), units);
+    walk.report(half);
+}
+
+/// One call of an overlapping search (`go_on`), after which a walk that has ended holds nothing.
+fn call_held(
+    dfa: &DFA,
+    cache: &mut Cache,
+    input: &Input<'_>,
+    way: Direction,
+    walk: &mut Cursor,
+    held: &mut Held,
+) -> Result<(), SearchError>
+    requires of { IsCacheOf cache.old dfa.now }
+    requires walk { IsKeptWalk way dfa.now input.now walk.old held.old }
+    ensures of { IsCacheOf cache.new dfa.now }
+    ensures walk { IsKeptWalk way dfa.now input.now walk.new held.new }
+    ensures call { IsWalkCall way dfa.now input.now walk.old walk.new result }
+    ensures effect { IsWalkRun States way dfa.now input.now walk.old walk.new
+        (known_of cache.old) (known_of cache.new) (result_err result) }
+{
+    walk_is_right(dfa.get_nfa());
+    let _haystack = input.haystack();
+    match go_on(dfa, cache, input, way, walk, held) {
+        Ok(()) => {
+            held.release(walk);
+            Ok(())
         }
-        let reported = walk.reported();
-        match held {
-            Held::Row(Some(id)) => {
-                let _state = cache.snapshot(*id);
-                Some(cache.match_pattern(*id, reported))
-            }
-            Held::State(Some(handle)) => Some(handle.state.match_pattern(reported)),
-            Held::Row(None) | Held::State(None) => None,
+        Err(error) => Err(error),
+    }
+}
+
+/// One call of an overlapping search, given where the walk is and what is held of its state. It leaves what is held as
+/// it is where the walk has ended.
+#[inline(always)]
+pub(crate) fn go_on(
+    dfa: &DFA,
+    cache: &mut Cache,
+    input: &Input<'_>,
+    way: Direction,
+    walk: &mut Cursor,
+    held: &mut Held,
+) -> Result<(), SearchError>
+    requires of { IsCacheOf cache.old dfa.now }
+    requires walk { IsHeldWalk way dfa.now input.now cache.old.store.table walk.old held.old }
+    ensures of { IsCacheOf cache.new dfa.now }
+    ensures held { OnOk result (HoldsOn cache.new.store.table walk.new held.old held.new) }
+    ensures err { OnErr result ((walk.new ≡ without_match walk.old) × (held.new ≡ held.old)) }
+    ensures called { IsCallResult (keeping_of held.old) way dfa.now input.now walk.old walk.new
+        (known_of cache.old) (known_of cache.new) result }
+{
+    walk.forget_match();
+    if walk.has_ended() {
+        return Ok(());
+    }
+    if input.is_done() {
+        walk.end(walk.units());
+        return Ok(());
+    }
+    if let Some(pattern) = next_pattern(dfa, cache, walk, held) {
+        let place = place_offset(input, way, walk.units() - 1);
+        walk.report(HalfMatch::new(pattern, place));
+        return Ok(());
+    }
+    if walk.units() > last_place(input) {
+        walk.end(walk.units());
+        return Ok(());
+    }
+    walk_on(dfa, cache, input, way, walk, held)
+}
+
+/// The pattern that a walk reports next at its state.
+#[inline(always)]
+fn next_pattern(dfa: &DFA, cache: &Cache, walk: &Cursor, held: &Held) -> Option<PatternID>
+    requires on { walk.now.stage ≡ Ended → ⊥ }
+    requires held { IsHeldAt cache.now.store.table walk.now.stage held.now }
+    ensures left { IfSome result (λ p. (q : Powerset) × (walk.now.stage ≡ At q)
+        × (walk.now.reported < length q.patterns) × (p ≡ slice_index q.patterns walk.now.reported)) }
+    ensures room { IfSome result (λ p. walk.now.reported + 1 < 2 ^ 64) }
+    ensures none { IfNone result ((q : Powerset) → walk.now.stage ≡ At q → length q.patterns ≤ walk.now.reported) }
+{
+    if !walk.has_more() {
+        return None;
+    }
+    let reported = walk.reported();
+    match held {
+        Held::Row(Some(id)) => {
+            let _state = cache.snapshot(*id);
+            Some(cache.match_pattern(*id, reported))
         }
+        Held::State(Some(handle)) => Some(handle.state.match_pattern(reported)),
+        Held::Row(None) | Held::State(None) => None,
     }
 }

@@ -9,6 +9,7 @@ ghost use Rattle.automata_hybrid.specs.Known.Walks.{IsSetRun};
 
 use crate::cache::Cache;
 use crate::dfa::DFA;
+use crate::search::walk::overlapping::go_on;
 use crate::search::walk::{Cursor, Held};
 use automata_base::laws::walk_is_right;
 use automata_base::util::pattern_set::PatternSet;
@@ -43,39 +44,39 @@ impl DFA {
         ensures effect { IsSetRun self.now input.now patset.old patset.new (known_of cache.old) (known_of cache.new)
             (result_err result) }
     {
-        self.collect(cache, input, patset)
+        collect(self, cache, input, patset)
     }
+}
 
-    /// Takes one match after another, until there is none, the set is full, or an earliest search has one.
-    fn collect(
-        &self,
-        cache: &mut Cache,
-        input: &Input<'_>,
-        patset: &mut PatternSet,
-    ) -> Result<(), SearchError>
-        requires { IsCacheOf cache.old self.now }
-        ensures of { IsCacheOf cache.new self.now }
-        ensures reported { IsSetReported self.now input.now patset.old patset.new result }
-        ensures effect { IsSetRun self.now input.now patset.old patset.new (known_of cache.old) (known_of cache.new)
-            (result_err result) }
-        ensures inside { input.now.end ≤ length input.now.haystack }
-    {
-        walk_is_right(self.get_nfa());
-        let _haystack = input.haystack();
-        let mut walk = Cursor::start();
-        let mut held = Held::Row(None);
-        'walk: loop {
-            self.go_on(cache, input, Direction::Forward, &mut walk, &mut held)?;
-            let Some(half) = walk.get_match() else {
-                return Ok(());
-            };
-            let _ = patset.try_insert(half.pattern());
-            if patset.is_full() {
-                return Ok(());
-            }
-            if input.get_earliest() {
-                return Ok(());
-            }
+/// Takes one match after another, until there is none, the set is full, or an earliest search has one.
+fn collect(
+    dfa: &DFA,
+    cache: &mut Cache,
+    input: &Input<'_>,
+    patset: &mut PatternSet,
+) -> Result<(), SearchError>
+    requires { IsCacheOf cache.old dfa.now }
+    ensures of { IsCacheOf cache.new dfa.now }
+    ensures reported { IsSetReported dfa.now input.now patset.old patset.new result }
+    ensures effect { IsSetRun dfa.now input.now patset.old patset.new (known_of cache.old) (known_of cache.new)
+        (result_err result) }
+    ensures inside { input.now.end ≤ length input.now.haystack }
+{
+    walk_is_right(dfa.get_nfa());
+    let _haystack = input.haystack();
+    let mut walk = Cursor::start();
+    let mut held = Held::Row(None);
+    'walk: loop {
+        go_on(dfa, cache, input, Direction::Forward, &mut walk, &mut held)?;
+        let Some(half) = walk.get_match() else {
+            return Ok(());
+        };
+        let _ = patset.try_insert(half.pattern());
+        if patset.is_full() {
+            return Ok(());
+        }
+        if input.get_earliest() {
+            return Ok(());
         }
     }
 }

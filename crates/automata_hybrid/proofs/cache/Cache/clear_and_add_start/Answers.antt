@@ -1,10 +1,5 @@
-use Rattle.std.proofs.Common.{sym, subst}
-use Rattle.automata_hybrid.specs.declared.cache.row.Row.{Row}
-use Rattle.automata_hybrid.specs.Cache.Caches.{CacheView}
-use Rattle.automata_base.specs.Powersets.Powerset.{cost}
-use Rattle.automata_hybrid.specs.Private.Cache.Usage.{Fits, cleared_in_store}
-use Rattle.automata_hybrid.specs.Private.Cache.Changes.{AddsRow}
-use Rattle.automata_hybrid.specs.Private.Cache.Table.{IsNewState}
+use Rattle.std.proofs.Common.{ap, sym, subst}
+use Rattle.automata_hybrid.proofs.Words.{AddsRow, CacheView, cleared_in_store, cost, Fits, IsNewState, Row}
 use Rattle.automata_hybrid.proofs.Caches.Additions.{new_there, start_clears}
 use Rattle.automata_hybrid.proofs.cache.Cache.clear_and_add_start.Goals as goal
 
@@ -15,11 +10,15 @@ replace-requires-clause-new c =
     new_there c.self.inside.store.table c.in_ok-fresh.fresh.table c.args.state c.in_ok-fresh.ensures.cleared.kept.of
     (c.in_ok-fresh.ensures.cleared.kept.absent c.args.state new.lacks.0) new
 
-pub returns-clause-answer : goal.returns-clause-answer
-returns-clause-answer c =
+pub returns-clause-added : goal.returns-clause-added
+returns-clause-added c =
     let r : Row = record { state = c.args.state; started = c.args.started } in
-    subst (λ (v : CacheView). AddsRow v.store (cleared_in_store v.store) c.replace.new.self r c.in_ok-id.id)
-    c.self.view_is
-    (start_clears c.self.inside.store c.in_ok-fresh.fresh c.replace.new.self r c.in_ok-id.id
-    (subst (λ (v : CacheView). Fits v.store (cost c.args.state) → ⊥) (sym c.self.view_is) c.requires.full)
-    c.in_ok-fresh.ensures.cleared c.in_ok-id.ensures.ok c.in_ok-id.ensures.named)
+    record {
+      row =
+          subst (λ (v : CacheView). AddsRow v.store (cleared_in_store v.store) c.replace.new.self r c.in_ok-id.id)
+          c.self.view_is
+          (start_clears c.self.inside.store c.in_ok-fresh.fresh c.replace.new.self r c.in_ok-id.id
+          (subst (λ (v : CacheView). Fits v.store (cost c.args.state) → ⊥) (sym c.self.view_is) c.requires.full)
+          c.in_ok-fresh.ensures.cleared c.in_ok-id.ensures.grown);
+      counted = ap (λ (v : CacheView). v.count) c.self.view_is;
+    }

@@ -1,5 +1,5 @@
 use Rattle.std.proofs.Common.{◌∙◌, ap}
-use Rattle.automata_hybrid.specs.Cache.Caches.{CacheView}
+use Rattle.automata_hybrid.proofs.Words.{CacheView}
 use Rattle.automata_hybrid.specs.declared.cache.Cache.TheInside.{Inside}
 use Rattle.automata_hybrid.proofs.cache.Cache.clear_count.Goals as goal
 

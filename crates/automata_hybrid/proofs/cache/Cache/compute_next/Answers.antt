@@ -1,11 +1,7 @@
-use Rattle.std.proofs.Common.{◌≡◌, ◌∙◌, ◌<◌, ◌^◌, ap, inr, sym, subst}
-use Rattle.automata_base.specs.Powersets.Powerset.{Powerset}
-use Rattle.automata_hybrid.specs.Cache.Caches.{CacheView}
-use Rattle.automata_hybrid.specs.Private.Cache.Caches.{counted_in_store}
+use Rattle.std.proofs.Common.{◌≡◌, ◌∙◌, ◌<◌, ◌^◌, ap, sym, subst}
+use Rattle.automata_hybrid.proofs.Words.{CacheView, counted_in_store, GivesUpInStore, IsNewState, Leads, LeadsToNamed}
+use Rattle.automata_hybrid.proofs.Words.{Names, Powerset}
 use Rattle.automata_hybrid.specs.Private.Cache.LookUps.{IsLookedUp}
-use Rattle.automata_hybrid.specs.Cache.Table.{Leads, Names}
-use Rattle.automata_hybrid.specs.Private.Cache.Table.{IsNewState}
-use Rattle.automata_hybrid.specs.Private.Cache.Usage.{GivesUpInStore}
 use Rattle.automata_hybrid.specs.declared.cache.Found.TheVariants.{Known, New}
 use Rattle.automata_config.specs.declared.error.StepError.TheVariants as step
 use Rattle.automata_hybrid.proofs.Caches.Additions.{looked_up, new_state}
@@ -40,8 +36,8 @@ new c =
     computes_new c.args.dfa.now c.args.id c.args.unit c.args.self.now c.resolve.new.self c.add_next.new.self
     c.set_next-in-New.new.self c.unit_class-class.result c.in_ok-from-in-New.from c.in_ok-from-in-New.to c.in-New.state
     c.in_ok-key.key
-    (c.resolve.ensures.same ∙ c.determinize.ensures.counted) c.in_ok-from-in-New.ensures.answer
-    c.in_ok-from-in-New.ensures.counted c.set_next-in-New.ensures found.0 found.1 c.in_ok-key.ensures.value
+    (c.resolve.ensures.same ∙ c.determinize.ensures.counted) c.in_ok-from-in-New.ensures.added.row
+    c.in_ok-from-in-New.ensures.added.counted c.set_next-in-New.ensures found.0 found.1 c.in_ok-key.ensures.value
 
 after_known : (c : After-see_bounds-in-Known) → c.set_next.new.self.store.table.of ≡ c.args.dfa.now
 after_known c =
@@ -52,7 +48,7 @@ after_known c =
 after_new : (c : After-see_bounds-in-New) → c.set_next-in-New.new.self.store.table.of ≡ c.args.dfa.now
 after_new c =
     ap (λ (v : CacheView). v.store.table.of) c.set_next-in-New.ensures
-    ∙ (c.in_ok-from-in-New.ensures.answer.row.of
+    ∙ (c.in_ok-from-in-New.ensures.added.row.row.of
     ∙ (ap (λ (v : CacheView). v.store.table.of) (c.resolve.ensures.same ∙ c.determinize.ensures.counted)
     ∙ c.requires.of))
 
@@ -78,7 +74,7 @@ set_next-requires-in-New-clause-next c =
     let found : IsLookedUp c.resolve.new.self.store.table c.in_ok-key.key (New c.in-New.state) =
     looked_up c.determinize.new.self c.resolve.new.self c.in_ok-key.key _ (New c.in-New.state) c.resolve.ensures.same
     c.in-New.is c.in_ok-to.ensures.found in
-    let answer = c.in_ok-from-in-New.ensures.answer in (
+    let answer = c.in_ok-from-in-New.ensures.added.row in (
       c.requires.valid.0,
       answer.saved c.requires.valid.0
           (subst (λ (v : CacheView). Names v.store.table c.args.id c.requires.valid.0) (sym same) c.requires.valid.1),
@@ -87,7 +83,8 @@ set_next-requires-in-New-clause-next c =
           (answer.row.of ∙ (ap (λ (v : CacheView). v.store.table.of) same ∙ c.requires.of))
           c.unit_class-class.ensures.value
           (c.in_ok-key.ensures.alike c.requires.valid.0 c.requires.valid.1)
-          (inr (subst (Names c.add_next.new.self.store.table c.in_ok-from-in-New.to) found.0 answer.row.named)),
+          (LeadsToNamed
+          (subst (Names c.add_next.new.self.store.table c.in_ok-from-in-New.to) found.0 answer.row.named)),
     )
 
 pub add_next-requires-clause-new : goal.add_next-requires-clause-new
@@ -120,48 +117,53 @@ returns-in_err-from-in-New-clause-refusal c =
     (subst (λ (v : CacheView). GivesUpInStore v.store c.in-New.state) same
     (c.in_err-from-in-New.ensures.refused.gives_up.0 cache))))
 
-pub returns-in-Known-clause-answer : goal.returns-in-Known-clause-answer
-returns-in-Known-clause-answer c =
-    computed_answer c.args.dfa.now c.args.id c.args.unit c.args.self.now c.set_next.new.self c.unit_class-class.result
-    c.in-Known.to (known c)
-    c.requires.valid (c.see_bounds.ensures.sound.low c.args.id c.requires.valid.0 c.requires.valid.1) c.requires.clean
-    c.requires.unknown c.unit_class-class.ensures.value c.unit_class-class.ensures.below
-    (after_known c) c.see_bounds-in-Known.ensures.sound.cells (c.see_bounds-in-Known.ensures.sound.tagged c.in-Known.to)
-
-pub returns-in-Known-clause-run : goal.returns-in-Known-clause-run
-returns-in-Known-clause-run c =
+pub returns-in-Known-clause-taken : goal.returns-in-Known-clause-taken
+returns-in-Known-clause-taken c =
     let low : c.args.id < 2 ^ 29 = c.see_bounds.ensures.sound.low c.args.id c.requires.valid.0 c.requires.valid.1 in
-    made_run c.args.dfa.now c.args.id c.args.unit c.args.self.now c.set_next.new.self
-    c.see_machine.ensures.machine c.unit_class-class.ensures.unit
-    (is_store c.args.self.now.store c.args.dfa.now c.requires.of c.see_bounds.ensures.bounds) low c.requires.clean
-    (subst (λ k. k < c.args.dfa.now.stride) c.unit_class-class.ensures.value c.unit_class-class.ensures.below)
-    c.requires.unknown
-    (is_store c.set_next.new.self.store c.args.dfa.now (after_known c) c.see_bounds-in-Known.ensures.bounds)
-    (computed_makes c.args.dfa.now c.args.id c.args.unit c.args.self.now c.set_next.new.self
-    c.unit_class-class.result c.in-Known.to (known c) c.requires.valid low c.requires.clean c.requires.unknown
-    c.unit_class-class.ensures.value c.unit_class-class.ensures.below)
+    record {
+      answer =
+          computed_answer c.args.dfa.now c.args.id c.args.unit c.args.self.now c.set_next.new.self
+          c.unit_class-class.result
+          c.in-Known.to (known c)
+          c.requires.valid low c.requires.clean
+          c.requires.unknown c.unit_class-class.ensures.value c.unit_class-class.ensures.below
+          (after_known c) c.see_bounds-in-Known.ensures.sound.cells
+          (c.see_bounds-in-Known.ensures.sound.tagged c.in-Known.to);
+      run =
+          made_run c.args.dfa.now c.args.id c.args.unit c.args.self.now c.set_next.new.self
+          c.see_machine.ensures.machine c.unit_class-class.ensures.unit
+          (is_store c.args.self.now.store c.args.dfa.now c.requires.of c.see_bounds.ensures.bounds) low c.requires.clean
+          (subst (λ k. k < c.args.dfa.now.stride) c.unit_class-class.ensures.value c.unit_class-class.ensures.below)
+          c.requires.unknown
+          (is_store c.set_next.new.self.store c.args.dfa.now (after_known c) c.see_bounds-in-Known.ensures.bounds)
+          (computed_makes c.args.dfa.now c.args.id c.args.unit c.args.self.now c.set_next.new.self
+          c.unit_class-class.result c.in-Known.to (known c) c.requires.valid low c.requires.clean c.requires.unknown
+          c.unit_class-class.ensures.value c.unit_class-class.ensures.below);
+    }
 
-pub returns-in_ok-from-in-New-clause-answer : goal.returns-in_ok-from-in-New-clause-answer
-returns-in_ok-from-in-New-clause-answer c =
-    computed_answer c.args.dfa.now c.args.id c.args.unit c.args.self.now c.set_next-in-New.new.self
-    c.unit_class-class.result c.in_ok-from-in-New.to (new c)
-    c.requires.valid (c.see_bounds.ensures.sound.low c.args.id c.requires.valid.0 c.requires.valid.1) c.requires.clean
-    c.requires.unknown c.unit_class-class.ensures.value c.unit_class-class.ensures.below
-    (after_new c) c.see_bounds-in-New.ensures.sound.cells
-    (c.see_bounds-in-New.ensures.sound.tagged c.in_ok-from-in-New.to)
-
-pub returns-in_ok-from-in-New-clause-run : goal.returns-in_ok-from-in-New-clause-run
-returns-in_ok-from-in-New-clause-run c =
+pub returns-in_ok-from-in-New-clause-taken : goal.returns-in_ok-from-in-New-clause-taken
+returns-in_ok-from-in-New-clause-taken c =
     let low : c.args.id < 2 ^ 29 = c.see_bounds.ensures.sound.low c.args.id c.requires.valid.0 c.requires.valid.1 in
-    made_run c.args.dfa.now c.args.id c.args.unit c.args.self.now c.set_next-in-New.new.self
-    c.see_machine.ensures.machine c.unit_class-class.ensures.unit
-    (is_store c.args.self.now.store c.args.dfa.now c.requires.of c.see_bounds.ensures.bounds) low c.requires.clean
-    (subst (λ k. k < c.args.dfa.now.stride) c.unit_class-class.ensures.value c.unit_class-class.ensures.below)
-    c.requires.unknown
-    (is_store c.set_next-in-New.new.self.store c.args.dfa.now (after_new c) c.see_bounds-in-New.ensures.bounds)
-    (computed_makes c.args.dfa.now c.args.id c.args.unit c.args.self.now c.set_next-in-New.new.self
-    c.unit_class-class.result c.in_ok-from-in-New.to (new c) c.requires.valid low c.requires.clean c.requires.unknown
-    c.unit_class-class.ensures.value c.unit_class-class.ensures.below)
+    record {
+      answer =
+          computed_answer c.args.dfa.now c.args.id c.args.unit c.args.self.now c.set_next-in-New.new.self
+          c.unit_class-class.result c.in_ok-from-in-New.to (new c)
+          c.requires.valid low c.requires.clean
+          c.requires.unknown c.unit_class-class.ensures.value c.unit_class-class.ensures.below
+          (after_new c) c.see_bounds-in-New.ensures.sound.cells
+          (c.see_bounds-in-New.ensures.sound.tagged c.in_ok-from-in-New.to);
+      run =
+          made_run c.args.dfa.now c.args.id c.args.unit c.args.self.now c.set_next-in-New.new.self
+          c.see_machine.ensures.machine c.unit_class-class.ensures.unit
+          (is_store c.args.self.now.store c.args.dfa.now c.requires.of c.see_bounds.ensures.bounds) low c.requires.clean
+          (subst (λ k. k < c.args.dfa.now.stride) c.unit_class-class.ensures.value c.unit_class-class.ensures.below)
+          c.requires.unknown
+          (is_store c.set_next-in-New.new.self.store c.args.dfa.now (after_new c) c.see_bounds-in-New.ensures.bounds)
+          (computed_makes c.args.dfa.now c.args.id c.args.unit c.args.self.now c.set_next-in-New.new.self
+          c.unit_class-class.result c.in_ok-from-in-New.to (new c) c.requires.valid low c.requires.clean
+          c.requires.unknown
+          c.unit_class-class.ensures.value c.unit_class-class.ensures.below);
+    }
 
 pub returns-in_err-to-clause-refusal : goal.returns-in_err-to-clause-refusal
 returns-in_err-to-clause-refusal c =

@@ -1,11 +1,7 @@
-use Rattle.std.proofs.Common.{◌≡◌, ◌∙◌, ◌<◌, ◌^◌, ap, arith, inr, sym, subst}
-use Rattle.automata_base.specs.Powersets.Powerset.{Powerset}
-use Rattle.automata_hybrid.specs.Cache.Caches.{CacheView}
-use Rattle.automata_hybrid.specs.Private.Cache.Caches.{counted_in_store}
-use Rattle.automata_hybrid.specs.Private.Cache.Usage.{GivesUpInStore}
+use Rattle.std.proofs.Common.{◌≡◌, ◌∙◌, ◌<◌, ◌^◌, ap, arith, sym, subst}
+use Rattle.automata_hybrid.proofs.Words.{CacheView, counted_in_store, GivesUpInStore, IsNewState, Leads, LeadsToNamed}
+use Rattle.automata_hybrid.proofs.Words.{Names, Powerset}
 use Rattle.automata_hybrid.specs.Private.Cache.LookUps.{IsLookedUp}
-use Rattle.automata_hybrid.specs.Cache.Table.{Leads, Names}
-use Rattle.automata_hybrid.specs.Private.Cache.Table.{IsNewState}
 use Rattle.automata_hybrid.specs.declared.cache.Found.TheVariants.{Known, New}
 use Rattle.automata_hybrid.proofs.Caches.Additions.{looked_up, new_state}
 use Rattle.automata_hybrid.proofs.Caches.Usage.{Leads-known}
@@ -31,7 +27,7 @@ known c =
     leads in
     let found : c.in-Known.id < 2 ^ 31 =
     Leads-known c.set_start.new.self.store.table c.in-Known.id c.in_ok-key.key c.see_bounds-in-Known.ensures.sound.low
-    c.see_bounds-in-Known.ensures.sound.small there in
+    c.see_bounds-in-Known.ensures.bounds.small there in
     computes_known c.args.dfa.now c.args.mode c.args.prev c.args.self.now c.resolve.new.self c.set_start.new.self
     c.args.slot c.in-Known.id c.in_ok-key.key
     (c.resolve.ensures.same ∙ c.determinize_start.ensures.counted) c.set_start.ensures.value leads
@@ -48,14 +44,14 @@ new c =
     c.resolve.ensures.same c.in-New.is c.in_ok-id.ensures.found in
     let named =
     subst (λ (v : CacheView). Names v.store.table c.in_ok-id-in-New.id c.in-New.state)
-    (sym c.set_start-in-New.ensures.value) c.in_ok-id-in-New.ensures.answer.named in
+    (sym c.set_start-in-New.ensures.value) c.in_ok-id-in-New.ensures.added.row.named in
     let low : c.in_ok-id-in-New.id < 2 ^ 29 =
     c.see_bounds-in-New.ensures.sound.low c.in_ok-id-in-New.id c.in-New.state named in
     computes_new c.args.dfa.now c.args.mode c.args.prev c.args.self.now c.resolve.new.self c.add_start.new.self
     c.set_start-in-New.new.self c.args.slot c.in_ok-id-in-New.id c.in-New.state c.in_ok-key.key
     c.get_specialize_start_states-started.result
-    (c.resolve.ensures.same ∙ c.determinize_start.ensures.counted) c.in_ok-id-in-New.ensures.answer
-    c.in_ok-id-in-New.ensures.counted c.set_start-in-New.ensures.value found.0 found.1 c.in_ok-key.ensures.value
+    (c.resolve.ensures.same ∙ c.determinize_start.ensures.counted) c.in_ok-id-in-New.ensures.added.row
+    c.in_ok-id-in-New.ensures.added.counted c.set_start-in-New.ensures.value found.0 found.1 c.in_ok-key.ensures.value
     (c.get_specialize_start_states-started.ensures
     ∙ ap (λ (o : Options). specialize_start_states_of o) c.get_config.ensures)
     c.set_start-in-New.ensures.written
@@ -70,7 +66,7 @@ after_known c =
 after_new : (c : After-see_bounds-in-New) → c.set_start-in-New.new.self.store.table.of ≡ c.args.dfa.now
 after_new c =
     ap (λ (v : CacheView). v.store.table.of) c.set_start-in-New.ensures.value
-    ∙ (c.in_ok-id-in-New.ensures.answer.of
+    ∙ (c.in_ok-id-in-New.ensures.added.row.of
     ∙ (ap (λ (v : CacheView). v.store.table.of) (c.resolve.ensures.same ∙ c.determinize_start.ensures.counted)
     ∙ c.requires.of))
 
@@ -97,8 +93,8 @@ set_start-requires-in-New-clause-leads c =
     ap (λ (v : CacheView). v.store.table.of) (c.resolve.ensures.same ∙ c.determinize_start.ensures.counted)
     ∙ c.requires.of in
     slot_leads c.args.dfa.now c.args.mode c.args.prev c.args.slot c.add_start.new.self.store.table c.in_ok-id-in-New.id
-    c.in-New.state c.requires.slot (c.in_ok-id-in-New.ensures.answer.of ∙ of) (found.0 ∙ c.in_ok-key.ensures.value)
-    (inr c.in_ok-id-in-New.ensures.answer.named)
+    c.in-New.state c.requires.slot (c.in_ok-id-in-New.ensures.added.row.of ∙ of) (found.0 ∙ c.in_ok-key.ensures.value)
+    (LeadsToNamed c.in_ok-id-in-New.ensures.added.row.named)
 
 pub add_start-requires-clause-new : goal.add_start-requires-clause-new
 add_start-requires-clause-new c =
@@ -113,37 +109,39 @@ add_start-requires-clause-new c =
     c.in_ok-key.ensures.is_of in
     subst (λ (q : Powerset). IsNewState c.resolve.new.self.store.table q) (sym found.0) key
 
-pub returns-in-Known-clause-answer : goal.returns-in-Known-clause-answer
-returns-in-Known-clause-answer c =
-    computed_answer c.args.dfa.now c.args.mode c.args.prev c.args.self.now c.set_start.new.self c.args.slot
-    c.in-Known.id (known c)
-    c.requires.slot (c.see_bounds-in-Known.ensures.sound.tagged c.in-Known.id)
+pub returns-in-Known-clause-started : goal.returns-in-Known-clause-started
+returns-in-Known-clause-started c =
+    record {
+      answer =
+          computed_answer c.args.dfa.now c.args.mode c.args.prev c.args.self.now c.set_start.new.self c.args.slot
+          c.in-Known.id (known c)
+          c.requires.slot (c.see_bounds-in-Known.ensures.sound.tagged c.in-Known.id);
+      run =
+          made_start_run c.args.dfa.now c.args.mode c.args.prev c.args.self.now c.set_start.new.self
+          c.see_machine.ensures.machine
+          (is_store c.args.self.now.store c.args.dfa.now c.requires.of c.see_bounds.ensures.bounds) c.requires.slot.may
+          c.requires.unknown
+          (is_store c.set_start.new.self.store c.args.dfa.now (after_known c) c.see_bounds-in-Known.ensures.bounds)
+          (computed_makes c.args.dfa.now c.args.mode c.args.prev c.args.self.now c.set_start.new.self c.args.slot
+          c.in-Known.id (known c) c.requires.slot);
+    }
 
-pub returns-in-Known-clause-run : goal.returns-in-Known-clause-run
-returns-in-Known-clause-run c =
-    made_start_run c.args.dfa.now c.args.mode c.args.prev c.args.self.now c.set_start.new.self
-    c.see_machine.ensures.machine
-    (is_store c.args.self.now.store c.args.dfa.now c.requires.of c.see_bounds.ensures.bounds) c.requires.slot.may
-    c.requires.unknown
-    (is_store c.set_start.new.self.store c.args.dfa.now (after_known c) c.see_bounds-in-Known.ensures.bounds)
-    (computed_makes c.args.dfa.now c.args.mode c.args.prev c.args.self.now c.set_start.new.self c.args.slot
-    c.in-Known.id (known c) c.requires.slot)
-
-pub returns-in_ok-id-in-New-clause-answer : goal.returns-in_ok-id-in-New-clause-answer
-returns-in_ok-id-in-New-clause-answer c =
-    computed_answer c.args.dfa.now c.args.mode c.args.prev c.args.self.now c.set_start-in-New.new.self c.args.slot
-    c.in_ok-id-in-New.id (new c)
-    c.requires.slot (c.see_bounds-in-New.ensures.sound.tagged c.in_ok-id-in-New.id)
-
-pub returns-in_ok-id-in-New-clause-run : goal.returns-in_ok-id-in-New-clause-run
-returns-in_ok-id-in-New-clause-run c =
-    made_start_run c.args.dfa.now c.args.mode c.args.prev c.args.self.now c.set_start-in-New.new.self
-    c.see_machine.ensures.machine
-    (is_store c.args.self.now.store c.args.dfa.now c.requires.of c.see_bounds.ensures.bounds) c.requires.slot.may
-    c.requires.unknown
-    (is_store c.set_start-in-New.new.self.store c.args.dfa.now (after_new c) c.see_bounds-in-New.ensures.bounds)
-    (computed_makes c.args.dfa.now c.args.mode c.args.prev c.args.self.now c.set_start-in-New.new.self c.args.slot
-    c.in_ok-id-in-New.id (new c) c.requires.slot)
+pub returns-in_ok-id-in-New-clause-started : goal.returns-in_ok-id-in-New-clause-started
+returns-in_ok-id-in-New-clause-started c =
+    record {
+      answer =
+          computed_answer c.args.dfa.now c.args.mode c.args.prev c.args.self.now c.set_start-in-New.new.self c.args.slot
+          c.in_ok-id-in-New.id (new c)
+          c.requires.slot (c.see_bounds-in-New.ensures.sound.tagged c.in_ok-id-in-New.id);
+      run =
+          made_start_run c.args.dfa.now c.args.mode c.args.prev c.args.self.now c.set_start-in-New.new.self
+          c.see_machine.ensures.machine
+          (is_store c.args.self.now.store c.args.dfa.now c.requires.of c.see_bounds.ensures.bounds) c.requires.slot.may
+          c.requires.unknown
+          (is_store c.set_start-in-New.new.self.store c.args.dfa.now (after_new c) c.see_bounds-in-New.ensures.bounds)
+          (computed_makes c.args.dfa.now c.args.mode c.args.prev c.args.self.now c.set_start-in-New.new.self c.args.slot
+          c.in_ok-id-in-New.id (new c) c.requires.slot);
+    }
 
 pub returns-in_err-id-in-New-clause-refusal : goal.returns-in_err-id-in-New-clause-refusal
 returns-in_err-id-in-New-clause-refusal c =

@@ -1,19 +1,13 @@
 use Rattle.std.proofs.Common.{◌≡◌, ◌≤◌, ◌∙◌, ap, subst, suc, sym}
 use Rattle.std.proofs.Math.Logic.{∥∥₁_map}
-use Rattle.automata_base.specs.Nfas.Nodes.{Automaton}
-use Rattle.automata_base.specs.Powersets.Accounting.{max_cost}
-use Rattle.automata_base.specs.Powersets.Powerset.{Powerset, cost}
+use Rattle.automata_hybrid.proofs.Words.{Automaton, CacheView, cost, IsOwn, IsStateOf, Machine, match_kind_of, max_cost}
+use Rattle.automata_hybrid.proofs.Words.{Names, Powerset, successor}
 use Rattle.automata_base.specs.Paths.Starts.{IsOf, NeedsOwnLooks}
 use Rattle.automata_base.specs.Answers.Within.{ReportsOwn}
-use Rattle.automata_base.specs.Retraced.Steps.{successor}
-use Rattle.automata_hybrid.specs.Machines.OwnStates.{IsOwn}
-use Rattle.automata_hybrid.specs.Machines.Machine.{Machine}
-use Rattle.automata_hybrid.specs.Machines.Reachable.{IsReachableBy, IsStateOf, OverUnit}
-use Rattle.automata_hybrid.specs.Cache.Table.{Names}
-use Rattle.automata_hybrid.specs.Cache.Caches.{CacheView}
+use Rattle.automata_hybrid.specs.Machines.Reachable.{IsReachableBy, OverUnit}
 use Rattle.automata_hybrid.specs.declared.cache.Cache.TheInside.{Inside}
 use Rattle.automata_hybrid.proofs.cache.Cache.determinize.Goals as goal
-use Rattle.automata_config.specs.Options.{Options, match_kind_of}
+use Rattle.automata_config.specs.Options.{Options}
 
 pub next_key-requires-clause-is_of : goal.next_key-requires-clause-is_of
 unfolding IsOwn

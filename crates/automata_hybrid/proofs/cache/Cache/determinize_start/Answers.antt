@@ -1,11 +1,7 @@
 use Rattle.std.proofs.Common.{◌≡◌, ◌<◌, ◌≤◌, ◌∙◌, ap, subst, sym}
-use Rattle.automata_base.specs.Nfas.Nodes.{Automaton}
-use Rattle.automata_base.specs.Powersets.Accounting.{max_cost}
-use Rattle.automata_base.specs.Powersets.Powerset.{cost}
+use Rattle.automata_hybrid.proofs.Words.{Automaton, cost, IsOwn, max_cost, start_state_of}
 use Rattle.automata_base.specs.Paths.Starts.{IsOf, NeedsOwnLooks}
 use Rattle.automata_base.specs.Answers.Within.{ReportsOwn}
-use Rattle.automata_base.specs.Retraced.Steps.{start_state_of}
-use Rattle.automata_hybrid.specs.Machines.OwnStates.{IsOwn}
 use Rattle.automata_hybrid.specs.Machines.Reachable.{AtStart, IsReachableBy}
 use Rattle.automata_hybrid.proofs.cache.Cache.determinize_start.Goals as goal
 

@@ -1,7 +1,5 @@
 use Rattle.std.proofs.Common.{◌≡◌, ◌∙◌, ◌≤◌, ap, subst, sym, arith}
-use Rattle.automata_base.specs.ByteClasses.Classes.{eoi_class}
-use Rattle.automata_hybrid.specs.Cache.Caches.{CacheView}
-use Rattle.automata_hybrid.specs.Machines.Machine.{Machine}
+use Rattle.automata_hybrid.proofs.Words.{CacheView, eoi_class, Machine}
 use Rattle.automata_hybrid.specs.declared.cache.Cache.TheInside.{Inside}
 use Rattle.automata_hybrid.proofs.cache.Cache.leaps_of.Goals as goal
 
@@ -12,4 +10,5 @@ of_table-requires-clause-stride c =
     ∙ (ap (λ (v : CacheView). v.store.table.of) c.self.view_is ∙ c.requires.dfa) in
     let same : c.args.shape.classes ≡ eoi_class c.args.dfa.now.classes =
     c.requires.of.classes ∙ ap (λ (m : Machine). eoi_class m.classes) c.requires.dfa in
-    subst (λ (m : Machine). c.args.shape.classes ≤ m.stride) (sym of) (omega (arith, same, c.see_machine.ensures.end))
+    subst (λ (m : Machine). c.args.shape.classes ≤ m.stride) (sym of)
+    (omega (arith, same, c.see_machine.ensures.machine.below))

@@ -1,6 +1,5 @@
 use Rattle.std.proofs.Common.{◌∙◌, ap, sym}
-use Rattle.automata_hybrid.specs.Cache.Caches.{CacheView}
-use Rattle.automata_hybrid.specs.Private.Cache.Usage.{usage_in_store}
+use Rattle.automata_hybrid.proofs.Words.{CacheView, usage_in_store}
 use Rattle.automata_hybrid.proofs.Known.Rooms.{usage_is}
 use Rattle.automata_hybrid.proofs.cache.Cache.memory_usage.Goals as goal
 

@@ -1,6 +1,6 @@
 use Rattle.std.proofs.Common.{◌^◌, ◌<◌, ◌≤◌, arith, subst}
 use Rattle.std.proofs.lemmas.Grind.{common_steps}
-use Rattle.automata_hybrid.specs.Cache.Table.{IsRowId}
+use Rattle.automata_hybrid.proofs.Words.{IsRowId}
 use Rattle.automata_hybrid.proofs.Steps.BySteps.{stands_step}
 use Rattle.automata_hybrid.proofs.Known.Calls.{cached_run, fixed_run}
 use Rattle.automata_hybrid.proofs.Steps.Steps.{cell_known, fixed_answer, known_answer, unknown_clean, unknown_free}
@@ -76,24 +76,24 @@ compute_next-requires-clause-unknown c =
 pub returns-then-is_fixed-clause-stands : goal.returns-then-is_fixed-clause-stands
 returns-then-is_fixed-clause-stands c = λ input at stands unit.
     stands_step c.args.dfa.now input c.args.self.now c.args.self.now at c.args.id c.args.id c.args.unit
-    (record { of = c.requires.of; low = c.see_bounds.ensures.sound.low; small = c.see_bounds.ensures.sound.small })
-    (record { of = c.requires.of; low = c.see_bounds.ensures.sound.low; small = c.see_bounds.ensures.sound.small })
+    (record { of = c.requires.of; low = c.see_bounds.ensures.sound.low; small = c.see_bounds.ensures.bounds.small })
+    (record { of = c.requires.of; low = c.see_bounds.ensures.sound.low; small = c.see_bounds.ensures.bounds.small })
     stands unit (returns-then-is_fixed-clause-answer c)
 
 pub returns-then-not-is_unknown-clause-stands : goal.returns-then-not-is_unknown-clause-stands
 returns-then-not-is_unknown-clause-stands c = λ input at stands unit.
     stands_step c.args.dfa.now input c.args.self.now c.args.self.now at c.args.id c.cell-cell.result c.args.unit
-    (record { of = c.requires.of; low = c.see_bounds.ensures.sound.low; small = c.see_bounds.ensures.sound.small })
-    (record { of = c.requires.of; low = c.see_bounds.ensures.sound.low; small = c.see_bounds.ensures.sound.small })
+    (record { of = c.requires.of; low = c.see_bounds.ensures.sound.low; small = c.see_bounds.ensures.bounds.small })
+    (record { of = c.requires.of; low = c.see_bounds.ensures.sound.low; small = c.see_bounds.ensures.bounds.small })
     stands unit (returns-then-not-is_unknown-clause-answer c)
 
 pub returns-clause-stands : goal.returns-clause-stands
 returns-clause-stands c = λ input at stands unit.
     stands_step c.args.dfa.now input c.args.self.now c.compute_next.new.self at c.args.id c.in_ok-next.next c.args.unit
-    (record { of = c.requires.of; low = c.see_bounds.ensures.sound.low; small = c.see_bounds.ensures.sound.small })
+    (record { of = c.requires.of; low = c.see_bounds.ensures.sound.low; small = c.see_bounds.ensures.bounds.small })
     (record {
       of = c.in_ok-next.ensures.of;
       low = c.see_bounds-2.ensures.sound.low;
-      small = c.see_bounds-2.ensures.sound.small;
+      small = c.see_bounds-2.ensures.bounds.small;
     })
-    stands unit c.in_ok-next.ensures.answer
+    stands unit c.in_ok-next.ensures.taken.answer

@@ -1,8 +1,6 @@
 use Rattle.std.proofs.Common.{◌∙◌, ap}
 use Rattle.automata_hybrid.specs.declared.cache.Cache.TheInside.{Inside}
-use Rattle.automata_hybrid.specs.Cache.Stores.{with_searched}
-use Rattle.automata_hybrid.specs.Cache.Caches.{CacheView, with_store}
-use Rattle.automata_hybrid.specs.Cache.Progress.{progress_started}
+use Rattle.automata_hybrid.proofs.Words.{CacheView, progress_started, with_searched, with_store}
 use Rattle.automata_hybrid.proofs.cache.Cache.search_start.Goals as goal
 
 pub returns-clause-value : goal.returns-clause-value

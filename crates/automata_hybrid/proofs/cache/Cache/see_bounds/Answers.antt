@@ -1,7 +1,6 @@
 use Rattle.std.proofs.Common.{refl, subst, arith}
-use Rattle.automata_hybrid.specs.Cache.Caches.{CacheView}
-use Rattle.automata_hybrid.specs.Private.Cache.Caches.{IsStoreOf}
-use Rattle.automata_hybrid.specs.Private.Cache.Stores.{IsSoundStore}
+use Rattle.automata_hybrid.proofs.Words.{CacheView, IsStoreOf}
+use Rattle.automata_hybrid.specs.Private.Cache.Table.{IsSoundTable}
 use Rattle.automata_hybrid.specs.declared.cache.Cache.TheInside.{Inside}
 use Rattle.automata_hybrid.proofs.cache.Cache.see_bounds.Goals as goal
 
@@ -22,17 +21,5 @@ returns-clause-bounds c =
 
 pub returns-clause-sound : goal.returns-clause-sound
 returns-clause-sound c =
-    let r = c.see_rows.ensures in
-    subst (λ (v : CacheView). IsSoundStore v.store) c.self.view_is
-    (subst (λ (i : Inside). IsSoundStore i.store) c.self-inside.view_is (record {
-      small = r.template.small;
-      wide = r.template.whole;
-      ids = r.rows.ids;
-      low = r.low;
-      tagged = r.tagged;
-      alive = r.alive;
-      own = r.own;
-      cells = r.cells;
-      slots = c.self-inside.invariant.slots;
-      clears = omega arith;
-    }))
+    subst (λ (v : CacheView). IsSoundTable v.store.table) c.self.view_is
+    (subst (λ (i : Inside). IsSoundTable i.store.table) c.self-inside.view_is c.see_rows.ensures)

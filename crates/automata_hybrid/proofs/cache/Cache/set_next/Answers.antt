@@ -1,8 +1,6 @@
 use Rattle.std.proofs.Common.{◌≤◌, subst, sym}
-use Rattle.automata_hybrid.specs.Cache.Ids.{unknown_id}
+use Rattle.automata_hybrid.proofs.Words.{IsCache, Rows, unknown_id}
 use Rattle.automata_hybrid.specs.Private.Cache.Leaps.{AreCacheParts}
-use Rattle.automata_hybrid.specs.Cache.Table.{Rows}
-use Rattle.automata_hybrid.specs.Private.Cache.Usage.{IsCache}
 use Rattle.automata_hybrid.specs.declared.cache.Cache.TheInside.{Inside}
 use Rattle.automata_hybrid.proofs.Caches.Leaps.{cache_next, parts_written}
 use Rattle.automata_hybrid.proofs.cache.Cache.set_next.Goals as goal

@@ -1,6 +1,5 @@
 use Rattle.std.proofs.Common.{subst, sym}
-use Rattle.automata_hybrid.specs.Cache.Caches.{CacheView}
-use Rattle.automata_hybrid.specs.Private.Cache.Clears.{LeadsToStart}
+use Rattle.automata_hybrid.proofs.Words.{CacheView, LeadsToStart}
 use Rattle.automata_hybrid.specs.declared.cache.Cache.TheInside.{Inside}
 use Rattle.automata_hybrid.proofs.Caches.Leaps.{cache_start}
 use Rattle.automata_hybrid.proofs.cache.Cache.set_start.Goals as goal

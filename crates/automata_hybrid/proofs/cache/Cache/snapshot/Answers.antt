@@ -1,9 +1,6 @@
 use Rattle.std.proofs.Common.{◌≡◌, ◌∙◌, ◌≤◌, subst, sym}
-use Rattle.automata_base.specs.Powersets.Powerset.{Powerset, cost}
-use Rattle.automata_hybrid.specs.Machines.Reachable.{IsStateOf}
+use Rattle.automata_hybrid.proofs.Words.{CacheView, cost, IsStateOf, Names, Powerset}
 use Rattle.automata_hybrid.specs.declared.cache.Cache.TheInside.{Inside}
-use Rattle.automata_hybrid.specs.Cache.Caches.{CacheView}
-use Rattle.automata_hybrid.specs.Cache.Table.{Names}
 use Rattle.automata_hybrid.proofs.cache.Cache.snapshot.Goals as goal
 
 pub returns-clause-row : goal.returns-clause-row

@@ -1,8 +1,7 @@
 use Rattle.std.proofs.Common.{◌^◌, ◌<◌, ◌≤◌, arith, subst, sym}
 use Rattle.std.proofs.lemmas.Grind.{common_steps}
 use Rattle.automata_hybrid.specs.Known.Steps.{StartFails}
-use Rattle.automata_hybrid.specs.Known.Stores.{known_of}
-use Rattle.automata_hybrid.specs.Private.Cache.Stores.{IsKnownStart}
+use Rattle.automata_hybrid.proofs.Words.{IsKnownStart, known_of}
 use Rattle.automata_hybrid.proofs.Known.Calls.{cached_start_run, unknown_start}
 use Rattle.automata_hybrid.proofs.Searches.Contracts.{is_store}
 use Rattle.automata_hybrid.proofs.Steps.Starts.{known_answer}

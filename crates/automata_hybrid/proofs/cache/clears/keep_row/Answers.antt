@@ -1,14 +1,11 @@
 use Rattle.std.proofs.Common.{◌≡◌, ◌≤◌, sym, None, subst, rules}
-use Rattle.automata_base.specs.Powersets.Powerset.{cost}
-use Rattle.automata_hybrid.specs.Machines.Reachable.{IsStateOf}
-use Rattle.automata_hybrid.specs.Machines.Machine.{Machine}
-use Rattle.automata_hybrid.specs.Cache.Table.{Rows, id_of}
+use Rattle.automata_hybrid.proofs.Words.{cost, id_of, IsStateOf, Machine, Rows}
 use Rattle.automata_hybrid.proofs.Caches.Clears.{absent-more}
 use Rattle.automata_hybrid.proofs.cache.clears.keep_row.Goals as goal
 
 pub returns-clause-absent : goal.returns-clause-absent
 returns-clause-absent c =
-    λ q o n. subst (λ (u : Rows). id_of u q ≡ None) (sym c.in_ok-added.ensures.ok)
+    λ q o n. subst (λ (u : Rows). id_of u q ≡ None) (sym c.in_ok-added.ensures.added.more)
     (absent-more c.args.old.now c.args.kept.now
     (record { state = c.in_ok-row.row.state; started = c.in_ok-row.row.started }) q c.in_ok-row.ensures.had o n)
 
@@ -16,8 +13,10 @@ pub add-requires-clause-new : goal.add-requires-clause-new
 add-requires-clause-new c =
     let lacks : id_of c.args.kept.now c.in_ok-row.row.state ≡ None = search rules in
     record {
-      lacks = (lacks, c.in_ok-row.ensures.alive);
+      lacks = (lacks, c.in_ok-row.ensures.state.alive);
       cheap =
-          subst (λ (m : Machine). cost c.in_ok-row.row.state ≤ m.greatest) (sym c.requires.of) c.in_ok-row.ensures.cost;
-      own = subst (λ (m : Machine). IsStateOf m c.in_ok-row.row.state) (sym c.requires.of) c.in_ok-row.ensures.of;
+          subst (λ (m : Machine). cost c.in_ok-row.row.state ≤ m.greatest) (sym c.requires.of)
+          c.in_ok-row.ensures.state.cheap;
+      own = subst (λ (m : Machine). IsStateOf m c.in_ok-row.row.state) (sym c.requires.of)
+          c.in_ok-row.ensures.state.own;
     }

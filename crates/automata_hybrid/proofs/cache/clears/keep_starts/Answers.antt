@@ -5,10 +5,8 @@ use Rattle.std.proofs.lemmas.Option.{slice_get_read}
 use Rattle.std.proofs.lemmas.List.{get_or_past, take_all}
 use Rattle.std.proofs.lemmas.Bool.{cases_lt}
 use Rattle.std.proofs.Math.Nat.{mul-le-mul_right}
-use Rattle.std.specs.Prelude.{sum_by}
-use Rattle.automata_hybrid.specs.Machines.Machine.{Machine}
-use Rattle.automata_hybrid.specs.Cache.Table.{Rows, fresh, row_cost}
-use Rattle.automata_hybrid.specs.Private.Cache.Clears.{IsSlot, keep_slot, keep_slots, kept, Kept}
+use Rattle.automata_hybrid.proofs.Words.{fresh, IsSlot, keep_slot, keep_slots, Kept, kept, Machine, row_cost, Rows}
+use Rattle.automata_hybrid.proofs.Words.{sum_by}
 use Rattle.automata_hybrid.proofs.Caches.Clears.{kept_step, AllStarts-none}
 use Rattle.automata_hybrid.proofs.cache.clears.keep_starts.Goals as goal
 

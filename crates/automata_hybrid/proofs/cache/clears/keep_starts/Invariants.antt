@@ -1,7 +1,5 @@
 use Rattle.std.proofs.Common.{None, ◌≡◌, ℕ, ◌≤◌, ◌<◌, ◌^◌, get_or, take, length, []}
-use Rattle.automata_hybrid.specs.Cache.Table.{fresh, id_of}
-use Rattle.automata_base.specs.Powersets.Powerset.{Powerset}
-use Rattle.automata_hybrid.specs.Private.Cache.Clears.{AllStarts, keep_slots}
+use Rattle.automata_hybrid.proofs.Words.{AllStarts, fresh, id_of, keep_slots, Powerset}
 use Rattle.automata_hybrid.proofs.cache.clears.keep_starts.Given as goal
 
 abbrev pub invariant-loop-id : goal.invariant-loop-id

@@ -1,7 +1,7 @@
 use Rattle.std.proofs.Common.{◌≡◌, ◌∙◌, ap, sym, length, arith, replicate, ◌^◌}
 use Rattle.std.proofs.lemmas.List.{length-replicate}
 use Rattle.std.proofs.lemmas.Grind.{common_steps}
-use Rattle.automata_base.specs.ByteClasses.Classes.{class_in}
+use Rattle.automata_hybrid.proofs.Words.{class_in}
 use Rattle.automata_hybrid.proofs.Caches.NewRows.{marked-zero, marked-step, marked-none, length-cond}
 use Rattle.automata_hybrid.proofs.cache.table.new_row.Goals as goal
 

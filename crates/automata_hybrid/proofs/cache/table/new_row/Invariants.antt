@@ -1,5 +1,5 @@
 use Rattle.std.proofs.Common.{◌≡◌, length}
-use Rattle.automata_hybrid.specs.Machines.Machine.{marked}
+use Rattle.automata_hybrid.proofs.Words.{marked}
 use Rattle.automata_hybrid.proofs.cache.table.new_row.Given as goal
 
 abbrev pub invariant-loop-byte : goal.invariant-loop-byte

@@ -2,7 +2,7 @@ use Rattle.std.proofs.Common.{ℕ, ◌≡◌, ◌∙◌, ◌+◌, ◌<◌, List,
 use Rattle.std.specs.List.{range_with_len}
 use Rattle.std.specs.Prelude.{eqb, if◌then◌else◌}
 use Rattle.std.proofs.lemmas.List.FromFn.{get_or-map-range_with_len}
-use Rattle.automata_base.specs.ByteClasses.LookBehind.{behind_of}
+use Rattle.automata_hybrid.proofs.Words.{behind_of}
 use Rattle.automata_base.specs.Haystacks.Looks.{is_word_byte}
 use Rattle.automata_hybrid.proofs.dfa.DFA.behind.Goals as goal
 

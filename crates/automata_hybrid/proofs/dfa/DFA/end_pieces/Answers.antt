@@ -1,13 +1,8 @@
 use Rattle.std.proofs.Common.{◌∙◌, ap₂, subst, sym}
-use Rattle.std.specs.Result.{result_err}
-use Rattle.automata_base.specs.Answers.OfPasses.{ReportedEndsAreRight, ReportedIsRight}
-use Rattle.automata_base.specs.Answers.Within.{ReportedLiesWithin}
-use Rattle.automata_base.specs.Nfas.Nodes.{Automaton}
-use Rattle.automata_hybrid.specs.Cache.Table.{Leads, Rows}
+use Rattle.automata_hybrid.proofs.Words.{Automaton, half_at, known_of, Leads, ReportedEndsAreRight, ReportedIsRight}
+use Rattle.automata_hybrid.proofs.Words.{ReportedLiesWithin, result_err, Rows}
 use Rattle.automata_hybrid.specs.Known.Pieces.{IsAnswerRun, NotBack}
-use Rattle.automata_hybrid.specs.Known.Stores.{known_of}
 use Rattle.automata_hybrid.specs.Pieces.Answers.{EndsHere}
-use Rattle.automata_hybrid.specs.Searches.PassState.{half_at}
 use Rattle.automata_hybrid.proofs.Pieces.Answers.{ends_none, ends_some}
 use Rattle.automata_hybrid.proofs.Pieces.Progress.{answer_ends, answer_left, named_there}
 use Rattle.automata_hybrid.proofs.Searches.Reads.{at_err}
@@ -15,7 +10,7 @@ use Rattle.automata_hybrid.proofs.dfa.DFA.end_pieces.Goals as goal
 
 pub returns-in_err-from-clause-effect : goal.returns-in_err-from-clause-effect
 returns-in_err-from-clause-effect c =
-    let left = c.in_err-from.ensures.left in
+    let left = c.in_err-from.ensures.resumed in
     at_err c.from_residual.result _
     (λ r. IsAnswerRun c.args.self.now c.args.look_ahead c.args.pieces.now (known_of c.args.cache.now)
     (known_of c.resume_pieces.new.cache) (result_err r))
@@ -28,11 +23,11 @@ returns-in_default-clause-answer c =
     let lies = subst ReportedLiesWithin c.get_nfa.ensures c.reported_is_right.ensures.within in
     subst (EndsHere c.args.self.now c.args.pieces.now c.args.look_ahead) (sym c.get_match.ensures)
     (ends_none c.args.self.now law ends lies c.args.look_ahead c.args.pieces.now
-    (rw c.in_default.is at c.in_ok-from.ensures.none).0)
+    (rw c.in_default.is at c.in_ok-from.ensures.resumed).0)
 
 pub returns-in_err-next-clause-effect : goal.returns-in_err-next-clause-effect
 returns-in_err-next-clause-effect c =
-    let on = rw c.in-Some.is at c.in_ok-from.ensures.some in
+    let on = rw c.in-Some.is at c.in_ok-from.ensures.resumed in
     at_err c.from_residual-in_err-next.result _
     (λ r. IsAnswerRun c.args.self.now c.args.look_ahead c.args.pieces.now (known_of c.args.cache.now)
     (known_of c.read.new.cache) (result_err r))
@@ -44,7 +39,7 @@ returns-clause-answer c =
     let law = subst (λ (a : Automaton). ReportedIsRight a) c.get_nfa.ensures c.reported_is_right.ensures.answer in
     let ends = subst (λ (a : Automaton). ReportedEndsAreRight a) c.get_nfa.ensures c.reported_is_right.ensures.ends in
     let lies = subst ReportedLiesWithin c.get_nfa.ensures c.reported_is_right.ensures.within in
-    let on = rw c.in-Some.is at c.in_ok-from.ensures.some in
+    let on = rw c.in-Some.is at c.in_ok-from.ensures.resumed in
     ends_some c.args.self.now c.args.look_ahead c.args.pieces.now on.state c.search_start.new.self c.read.new.cache
     c.in-Some.from c.in_ok-next.next c.found_at.result on.stood
     (named_there on c.bytes_read-at.ensures c.search_start.ensures.value) c.in_ok-next.ensures.read.answer
@@ -55,6 +50,6 @@ returns-clause-answer c =
 
 pub returns-clause-effect : goal.returns-clause-effect
 returns-clause-effect c =
-    let on = rw c.in-Some.is at c.in_ok-from.ensures.some in
+    let on = rw c.in-Some.is at c.in_ok-from.ensures.resumed in
     answer_ends on c.bytes_read-at.ensures c.search_start.ensures.value c.in_ok-next.ensures.read
     c.end_search.ensures.value

@@ -1,7 +1,6 @@
 use Rattle.std.proofs.Common.{subst, sym}
-use Rattle.std.specs.Result.{result_err}
+use Rattle.automata_hybrid.proofs.Words.{known_of, result_err}
 use Rattle.automata_hybrid.specs.Known.Pieces.{IsWalkEndRun}
-use Rattle.automata_hybrid.specs.Known.Stores.{known_of}
 use Rattle.automata_hybrid.specs.Pieces.State.{IsPiecesOf, PiecesView}
 use Rattle.automata_hybrid.proofs.dfa.DFA.end_walk.Goals as goal
 

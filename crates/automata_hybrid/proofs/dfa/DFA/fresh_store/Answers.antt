@@ -1,11 +1,7 @@
 use Rattle.std.proofs.Common.{◌≡◌, ◌+◌, ◌*◌, ◌<◌, ◌≤◌, ◌∙◌, ap, sym, subst, List, ℕ}
-use Rattle.automata_base.specs.Powersets.Accounting.{start_slots, minimum_capacity}
-use Rattle.automata_base.specs.ByteClasses.Classes.{eoi_class}
+use Rattle.automata_hybrid.proofs.Words.{eoi_class, IsTemplate, Machine, marked, minimum_capacity, offset_limit}
+use Rattle.automata_hybrid.proofs.Words.{Settings, start_slots}
 use Rattle.automata_hybrid.specs.Private.Machines.Fields.{machine_of}
-use Rattle.automata_hybrid.specs.Cache.Ids.{offset_limit}
-use Rattle.automata_hybrid.specs.Machines.Machine.{Machine, marked}
-use Rattle.automata_hybrid.specs.Private.Machines.Machine.{IsTemplate}
-use Rattle.automata_hybrid.specs.declared.cache.settings.Settings.{Settings}
 use Rattle.automata_hybrid.proofs.dfa.DFA.fresh_store.Goals as goal
 
 stride_is : (c : goal.After-settings) → c.stride-stride.result ≡ c.args.self.now.stride

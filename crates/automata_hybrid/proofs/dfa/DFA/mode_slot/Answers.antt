@@ -1,8 +1,5 @@
 use Rattle.std.proofs.Common.{◌≡◌, ◌∙◌, ℕ, suc, ◌+◌, ◌*◌, ◌≤◌, length, ap, sym, subst, arith}
-use Rattle.automata_base.specs.ByteClasses.LookBehind.{behind_of}
-use Rattle.automata_base.specs.Powersets.Powerset.{dead}
-use Rattle.automata_base.specs.Retraced.Steps.{start_state_of}
-use Rattle.automata_base.specs.declared.util.search.Anchored.{Anchored}
+use Rattle.automata_hybrid.proofs.Words.{Anchored, behind_of, dead, start_state_of}
 use Rattle.automata_hybrid.specs.Machines.StartSlots.{slot_of}
 use Rattle.automata_hybrid.proofs.Machines.StartSlots.{past_patterns, few_slots}
 use Rattle.automata_hybrid.proofs.dfa.DFA.mode_slot.Goals as goal
@@ -40,7 +37,7 @@ returns-then-pattern-pattern_len-clause-behind c =
     let k : ℕ = behind_of c.args.self.now.nfa.flags.line_terminator c.args.prev in
     let few : c.args.self.now.slots ≤ 12 + 6 * length c.args.self.now.nfa.start_pattern =
     few_slots c.args.self.now.nfa (starts_for_each_pattern_of c.args.self.now.config) c.args.self.now.slots
-    c.see_machine.ensures.number in
+    c.see_machine.ensures.machine.sizes.slots in
     let past : c.args.self.now.slots ≤ suc (suc c.in-Pattern.pattern) * 6 + k =
     omega (arith, few, c.if-pattern-pattern_len.true, c.pattern_len.ensures, c.as_usize-pattern.ensures.value) in
     subst (λ (m : Anchored). c.args.self.now.slots ≤ slot_of m k) (sym c.in-Pattern.is) past

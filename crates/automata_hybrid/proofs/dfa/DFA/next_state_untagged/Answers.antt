@@ -1,7 +1,5 @@
 use Rattle.std.proofs.Common.{◌∙◌, Some, ap, arith, sym}
-use Rattle.automata_base.specs.ByteClasses.Classes.{class_in}
-use Rattle.automata_hybrid.specs.Cache.Table.{IsRowId}
-use Rattle.automata_hybrid.specs.Machines.Machine.{Machine}
+use Rattle.automata_hybrid.proofs.Words.{class_in, IsRowId, Machine}
 use Rattle.automata_hybrid.proofs.Steps.Ids.{HoldsRow-valid}
 use Rattle.automata_hybrid.proofs.Steps.Steps.{cell_row}
 use Rattle.automata_hybrid.proofs.dfa.DFA.next_state_untagged.Goals as goal

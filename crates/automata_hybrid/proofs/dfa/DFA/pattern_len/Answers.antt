@@ -1,5 +1,5 @@
 use Rattle.std.proofs.Common.{◌∙◌, ap, length}
-use Rattle.automata_hybrid.specs.Machines.Machine.{Machine}
+use Rattle.automata_hybrid.proofs.Words.{Machine}
 use Rattle.automata_hybrid.proofs.dfa.DFA.pattern_len.Goals as goal
 
 pub returns : goal.returns

@@ -1,7 +1,6 @@
 use Rattle.std.proofs.Common.{rules, ◌≡◌, ◌≤◌, Some, refl}
 use Rattle.automata_hybrid.specs.Known.Steps.{IsQuitBehind}
-use Rattle.automata_hybrid.specs.Machines.StartSlots.{slot_behind}
-use Rattle.automata_hybrid.specs.Steps.Starts.{MayStart, quit_behind}
+use Rattle.automata_hybrid.proofs.Words.{MayStart, quit_behind, slot_behind}
 use Rattle.automata_hybrid.proofs.Known.Calls.{past_start_run}
 use Rattle.automata_hybrid.proofs.Searches.Contracts.{is_store}
 use Rattle.automata_hybrid.proofs.dfa.DFA.start_state.Goals as goal

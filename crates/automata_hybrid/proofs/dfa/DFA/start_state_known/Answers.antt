@@ -1,20 +1,13 @@
-use Rattle.std.proofs.Common.{ℕ, Bool, ◌≡◌, ◌∙◌, ◌^◌, ◌<◌, Option, None, Some, subst, sym, refl, false, true}
-use Rattle.std.specs.Prelude.{Result, Ok, Err, IfSome}
-use Rattle.std.specs.Option.{is_some}
-use Rattle.automata_base.specs.declared.util.search.Anchored.{Anchored}
-use Rattle.automata_config.specs.declared.error.StartError.{StartError}
+use Rattle.std.proofs.Common.{ℕ, Bool, ◌≡◌, ◌∙◌, ◌^◌, ◌<◌, Option, None, subst, sym, refl, false, true}
+use Rattle.automata_hybrid.proofs.Words.{Anchored, Err, IfSome, Ok, quit_behind, Result, slot_behind, StartError}
+use Rattle.automata_hybrid.proofs.Words.{supports}
 use Rattle.automata_config.specs.declared.error.StartError.TheVariants.{UnsupportedAnchored}
-use Rattle.automata_hybrid.specs.Machines.StartSlots.{slot_behind, supports}
-use Rattle.automata_hybrid.specs.Steps.Starts.{quit_behind}
 use Rattle.automata_hybrid.specs.Private.Steps.Starts.{IsStartSlot}
 use Rattle.automata_hybrid.proofs.Known.Calls.{cached_start_run}
 use Rattle.automata_hybrid.proofs.Steps.Starts.{known_answer}
 use Rattle.automata_hybrid.proofs.Searches.Contracts.{is_store}
+use Rattle.automata_hybrid.proofs.Searches.PassState.{none_is}
 use Rattle.automata_hybrid.proofs.dfa.DFA.start_state_known.Goals as goal
-
-is_none : (o : Option ℕ) → is_some o ≡ false → o ≡ None
-is_none None e = refl
-is_none (Some n) e = cc
 
 supported :
     (o : Option ℕ) (mode : Anchored) (b : Bool)
@@ -26,7 +19,7 @@ supported o mode false refused =
 slot_here : (c : goal.After-start_slot) → IsStartSlot c.args.self.now c.args.mode c.args.prev c.in-Ok-Some.slot
 slot_here c =
     let none : quit_behind c.args.self.now c.args.prev ≡ None =
-    sym c.quits_behind.ensures ∙ is_none c.quits_behind.result (sym c.is_some.ensures ∙ c.if-is_some.false) in
+    sym c.quits_behind.ensures ∙ none_is c.quits_behind.result (sym c.is_some.ensures ∙ c.if-is_some.false) in
     record {
       may = (
         none,

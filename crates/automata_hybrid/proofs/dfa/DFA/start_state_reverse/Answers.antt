@@ -1,8 +1,7 @@
 use Rattle.std.proofs.Common.{ℕ, ◌∙◌, ap, subst}
 use Rattle.automata_base.specs.Haystacks.StartConfig.{StartConfig}
 use Rattle.automata_hybrid.specs.Known.Steps.{IsStartRun, StartFails}
-use Rattle.automata_hybrid.specs.Known.Stores.{known_of}
-use Rattle.automata_hybrid.specs.Steps.Starts.{IsStartAnswer, start_search_error}
+use Rattle.automata_hybrid.proofs.Words.{IsStartAnswer, known_of, start_search_error}
 use Rattle.automata_hybrid.proofs.dfa.DFA.start_state_reverse.Goals as goal
 
 pub returns-in-Ok-clause-answer : goal.returns-in-Ok-clause-answer

@@ -1,18 +1,12 @@
-use Rattle.std.proofs.Common.{◌∙◌, sym, ap, subst}
-use Rattle.std.specs.Result.{result_err}
+use Rattle.std.proofs.Common.{sym, ap, subst}
 use Rattle.std.proofs.lemmas.Result.{IfOk-weaker}
-use Rattle.automata_base.specs.Nfas.Nodes.{Automaton}
-use Rattle.automata_base.specs.declared.util.search.Direction.TheVariants.{Forward}
-use Rattle.automata_base.specs.Answers.OfPasses.{ReportedEndsAreRight, ReportedIsRight}
-use Rattle.automata_base.specs.Answers.Within.{ReportedLiesWithin}
-use Rattle.automata_config.specs.Options.{match_kind_of}
+use Rattle.automata_hybrid.proofs.Words.{Automaton, Forward, IsFound, known_of, match_kind_of, ReportedEndsAreRight}
+use Rattle.automata_hybrid.proofs.Words.{ReportedIsRight, ReportedLiesWithin}
 use Rattle.automata_hybrid.specs.Searches.Contracts.{IsHalf}
 use Rattle.automata_hybrid.specs.Private.Searches.Contracts.{halves}
-use Rattle.automata_hybrid.specs.Searches.Passes.{IsFound}
-use Rattle.automata_hybrid.specs.Known.Passes.{IsSearchRun}
-use Rattle.automata_hybrid.specs.Known.Stores.{known_of}
 use Rattle.automata_hybrid.proofs.Known.Memory.{call_memory}
-use Rattle.automata_hybrid.proofs.Searches.Contracts.{halves_err, halves_error, halves_ok}
+use Rattle.automata_hybrid.proofs.Searches.Contracts.{half_found, half_run, halves_err, halves_ok, search_done}
+use Rattle.automata_hybrid.proofs.Searches.Contracts.{search_found, search_run, search_unsupported}
 use Rattle.automata_hybrid.proofs.Searches.Skips.{found_reported}
 use Rattle.automata_hybrid.proofs.Searches.Bounds.{lies_in}
 use Rattle.automata_hybrid.proofs.dfa.DFA.try_search_fwd.Goals as goal
@@ -21,42 +15,47 @@ pub returns-clause-half : goal.returns-clause-half
 returns-clause-half c =
     let m = c.args.self.now in
     let input = c.args.input.now in
-    let s = c.search-found.ensures in
+    let old = known_of c.args.cache.now in
+    let new = known_of c.search-found.new.cache in
     let r = c.search-found.result in
+    let s = c.search-found.ensures.searched in
+    let finds = search_found Forward m input old new r s in
     let haystack = c.haystack-haystack.ensures in
     let reported = subst (λ (a : Automaton). ReportedIsRight a) c.get_nfa.ensures c.reported_is_right.ensures.answer in
     let ends = subst (λ (a : Automaton). ReportedEndsAreRight a) c.get_nfa.ensures c.reported_is_right.ensures.ends in
     let lies = subst ReportedLiesWithin c.get_nfa.ensures c.reported_is_right.ensures.within in
-    let found = halves_ok (IsFound Forward m input) r s.found in
+    let found = halves_ok (IsFound Forward m input) r finds in
     subst (λ v. IsHalf Forward m input v) (sym c.without_base.ensures)
     (record {
       answer = λ cycles.
           halves_ok _ r (IfOk-weaker r _ _
           (λ o found. reported Forward (match_kind_of m.config) input _ cycles (haystack.bytes, haystack.within.1)
           (found_reported Forward m input _ found))
-          s.found);
+          finds);
       nearest = λ early.
           halves_ok _ r (IfOk-weaker r _ _
           (λ o found. (ends Forward (match_kind_of m.config) input _ (haystack.bytes, haystack.within.1)
           (found_reported Forward m input _ found)).0 early)
-          s.found);
+          finds);
       farthest = λ late all.
           halves_ok _ r (IfOk-weaker r _ _
           (λ o found. (ends Forward (match_kind_of m.config) input _ (haystack.bytes, haystack.within.1)
           (found_reported Forward m input _ found)).1 late all)
-          s.found);
+          finds);
       within = lies_in m input lies haystack.within.1 Forward (halves r) found;
-      unsupported = λ u. ap halves (s.unsupported u);
+      unsupported = λ u. ap halves (search_unsupported Forward m input u old new r s);
       free = λ f.
           halves_err _ r
-          (call_memory Forward m input (known_of c.args.cache.now) (known_of c.search-found.new.cache) r
-          haystack.within.1 f s.effect);
-      done = λ past. ap halves (s.done past);
+          (call_memory Forward m input old new r haystack.within.1 f (search_run Forward m input old new r s));
+      done = λ past. ap halves (search_done Forward m input old new r s past);
     })
+
+pub returns-clause-found : goal.returns-clause-found
+returns-clause-found c =
+    half_found Forward c.args.self.now c.args.input.now (known_of c.args.cache.now) (known_of c.search-found.new.cache)
+    c.search-found.result c.without_base.result c.without_base.ensures c.search-found.ensures.searched
 
 pub returns-clause-effect : goal.returns-clause-effect
 returns-clause-effect c =
-    subst
-    (IsSearchRun Forward c.args.self.now c.args.input.now (known_of c.args.cache.now)
-    (known_of c.search-found.new.cache))
-    (sym (ap result_err c.without_base.ensures ∙ halves_error c.search-found.result)) c.search-found.ensures.effect
+    half_run Forward c.args.self.now c.args.input.now (known_of c.args.cache.now) (known_of c.search-found.new.cache)
+    c.search-found.result c.without_base.result c.without_base.ensures c.search-found.ensures.searched

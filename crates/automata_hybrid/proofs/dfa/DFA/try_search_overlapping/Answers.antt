@@ -1,6 +1,5 @@
 use Rattle.std.proofs.Common.{sym, subst}
-use Rattle.std.specs.Result.{result_err}
-use Rattle.automata_hybrid.specs.Known.Stores.{known_of}
+use Rattle.automata_hybrid.proofs.Words.{known_of, result_err}
 use Rattle.automata_hybrid.specs.Known.Walks.{IsWalkRun}
 use Rattle.automata_hybrid.specs.Walks.Answers.{IsWalkOf}
 use Rattle.automata_hybrid.specs.Walks.Contracts.{IsWalkCall}

@@ -1,4 +1,4 @@
-use Rattle.automata_hybrid.specs.Known.Stores.{known_of}
+use Rattle.automata_hybrid.proofs.Words.{known_of}
 use Rattle.automata_hybrid.proofs.Walks.Reach.{set_memory}
 use Rattle.automata_hybrid.proofs.dfa.DFA.try_which_overlapping_matches.Goals as goal
 

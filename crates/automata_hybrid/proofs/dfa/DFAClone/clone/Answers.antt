@@ -1,6 +1,5 @@
 use Rattle.std.proofs.Common.{◌∙◌, ap, sym, subst}
-use Rattle.automata_base.specs.Nfas.Nodes.{Automaton}
-use Rattle.automata_hybrid.specs.Private.Machines.Machine.{IsMachine}
+use Rattle.automata_hybrid.proofs.Words.{Automaton, IsMachine}
 use Rattle.automata_hybrid.specs.Private.Machines.Fields.{machine_of}
 use Rattle.automata_hybrid.proofs.dfa.DFAClone.clone.Goals as goal
 

@@ -1,6 +1,7 @@
 use Rattle.std.proofs.Common.{ℕ, ◌≡◌, ◌∙◌, ◌-◌, List, length, get_or, sym, ap, arith}
-use Rattle.automata_base.specs.Haystacks.Tapes.{byte_before}
-use Rattle.automata_hybrid.proofs.Searches.Units.{nth_past, nth_read}
+use Rattle.std.proofs.lemmas.Option.{slice_get_past}
+use Rattle.automata_hybrid.proofs.Words.{byte_before}
+use Rattle.automata_hybrid.proofs.Searches.Units.{nth_read}
 use Rattle.automata_hybrid.proofs.Searches.Directions.{backward_within, before_read, unit_backward, unit_forward}
 use Rattle.automata_hybrid.proofs.search.direction.unit_at.Goals as goal
 
@@ -43,4 +44,4 @@ returns-else-at-haystack c =
     ap (λ (x : List ℕ). length x) c.haystack-haystack.ensures.same in
     sym (unit_forward c.args.way c.args.input.now c.args.place c.place_offset-at.result c.in-Forward.is
     c.requires.«open» c.requires.within c.haystack-haystack.ensures.within.1 c.place_offset-at.ensures.value
-    ∙ nth_past c.args.input.now.haystack c.place_offset-at.result (omega (arith, h, c.if-at-haystack.false)))
+    ∙ slice_get_past c.args.input.now.haystack c.place_offset-at.result (omega (arith, h, c.if-at-haystack.false)))

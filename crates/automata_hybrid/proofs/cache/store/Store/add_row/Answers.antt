@@ -1,10 +1,6 @@
-use Rattle.std.proofs.Common.{subst, sym}
-use Rattle.automata_base.specs.Powersets.Powerset.{cost}
-use Rattle.automata_hybrid.specs.declared.cache.row.Row.{Row}
-use Rattle.automata_hybrid.specs.Private.Cache.Clears.{AllStarts}
-use Rattle.automata_hybrid.specs.Cache.Stores.{Stored}
-use Rattle.automata_hybrid.specs.Cache.Table.{Rows}
-use Rattle.automata_hybrid.specs.Private.Cache.Usage.{Fits}
+use Rattle.std.proofs.Common.{ap, subst, sym}
+use Rattle.automata_hybrid.proofs.Words.{AllStarts, cost, Fits, Row, Rows, Stored, with_table}
+use Rattle.automata_hybrid.specs.Private.Cache.Changes.{HasGrown}
 use Rattle.automata_hybrid.proofs.Caches.Clears.{AllStarts-more}
 use Rattle.automata_hybrid.proofs.Caches.Usage.{IsCache-grown}
 use Rattle.automata_hybrid.proofs.cache.store.Store.add_row.Goals as goal
@@ -22,7 +18,21 @@ invariant_of-self-2 c =
     subst (λ (v : Stored). Fits v (cost c.args.state)) (sym c.self.view_is) c.requires.fits in
     let r : Row = record { state = c.args.state; started = c.args.started } in
     let starts : AllStarts c.add.new.self old.starts =
-    subst (λ (t : Rows). AllStarts t old.starts) (sym c.in_ok-added.ensures.ok)
+    subst (λ (t : Rows). AllStarts t old.starts) (sym c.in_ok-added.ensures.added.more)
     (AllStarts-more c.self.inside.table r old.starts c.self.invariant.named) in
     IsCache-grown old c.self.inside.settings c.add.new.self r c.self.invariant c.see_rows.ensures.template.whole starts
-    c.in_ok-added.ensures.ok fits
+    c.in_ok-added.ensures.added.more fits
+
+pub returns-clause-grown : goal.returns-clause-grown
+returns-clause-grown c =
+    let old : Stored =
+    record {
+      table = c.self.inside.table;
+      starts = c.self.inside.starts.items;
+      clears = c.self.inside.clears;
+      searched = c.self.inside.searched;
+    } in
+    let r : Row = record { state = c.args.state; started = c.args.started } in
+    let added = c.in_ok-added.ensures.added in
+    subst (λ (v : Stored). HasGrown v r (with_table old c.add.new.self) c.in_ok-added.added) c.self.view_is
+    (record { grown = ap (λ (t : Rows). with_table old t) added.more; row = added })

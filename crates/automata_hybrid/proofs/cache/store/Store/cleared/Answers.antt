@@ -1,7 +1,6 @@
 use Rattle.std.proofs.Common.{◌≡◌, ◌+◌, ◌≤◌, ◌∙◌, ap, sym, subst, length, List, ℕ, rules, arith}
 use Rattle.automata_hybrid.specs.Private.Cache.Clears.{KeepsAllStarts}
-use Rattle.automata_hybrid.specs.Cache.Stores.{Stored}
-use Rattle.automata_hybrid.specs.Private.Cache.Usage.{cleared_in_store}
+use Rattle.automata_hybrid.proofs.Words.{cleared_in_store, Stored}
 use Rattle.automata_hybrid.proofs.Caches.Usage.{Fits-few, IsCache-cleared}
 use Rattle.automata_hybrid.proofs.cache.store.Store.cleared.Goals as goal
 

@@ -1,5 +1,5 @@
 use Rattle.std.proofs.Common.{◌<◌, ◌^◌, arith, subst}
-use Rattle.automata_hybrid.specs.Cache.Stores.{Stored}
+use Rattle.automata_hybrid.proofs.Words.{Stored}
 use Rattle.automata_hybrid.proofs.Caches.Usage.{IsCache-most}
 use Rattle.automata_hybrid.proofs.cache.store.Store.cost_of.Goals as goal
 

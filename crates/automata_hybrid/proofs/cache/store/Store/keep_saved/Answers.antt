@@ -1,10 +1,6 @@
-use Rattle.std.proofs.Common.{◌≡◌, ◌∙◌, ◌+◌, ◌≤◌, length, arith, ap, subst, sym}
+use Rattle.std.proofs.Common.{◌≡◌, ◌∙◌, ◌+◌, ◌≤◌, length, arith, rules, ap, subst, sym}
 use Rattle.std.proofs.lemmas.Grind.{common_steps}
-use Rattle.automata_hybrid.specs.Cache.Stores.{Stored}
-use Rattle.automata_hybrid.specs.Private.Cache.Stores.{with_table}
-use Rattle.automata_hybrid.specs.Cache.Table.{Rows}
-use Rattle.automata_hybrid.specs.Private.Cache.Clears.{AllStarts}
-use Rattle.automata_hybrid.specs.Private.Cache.Usage.{IsCache}
+use Rattle.automata_hybrid.proofs.Words.{AllStarts, IsCache, Rows, Stored, with_table}
 use Rattle.automata_hybrid.proofs.Caches.Usage.{Fits-few, IsCache-few}
 use Rattle.automata_hybrid.proofs.Caches.Clears.{AllStarts-put, IsPut-length, IsPut-of}
 use Rattle.automata_hybrid.proofs.cache.store.Store.keep_saved.Goals as goal
@@ -46,8 +42,14 @@ invariant_of-self-2 c = kept c
 pub returns-clause-of : goal.returns-clause-of
 returns-clause-of c = kept_of c ∙ ap (λ (v : Stored). v.table.of) c.self.view_is
 
-pub returns-clause-room : goal.returns-clause-room
+pub returns-clause-saved : goal.returns-clause-saved
 unfolding before
-returns-clause-room c =
-    Fits-few (with_table (before c) c.keep_row.new.kept) c.self.inside.settings (kept c) (kept_few c)
-    c.see_rows-2.ensures.rows.whole c.see_rows-2.ensures.costs
+returns-clause-saved c =
+    record {
+      put = search rules;
+      named = search rules;
+      room =
+          Fits-few (with_table (before c) c.keep_row.new.kept) c.self.inside.settings (kept c) (kept_few c)
+          c.see_rows-2.ensures.rows.whole c.see_rows-2.ensures.costs;
+      absent = search rules;
+    }

@@ -1,10 +1,7 @@
 use Rattle.std.proofs.Common.{◌≡◌, ◌+◌, ◌*◌, replicate, ◌^◌, ◌<◌, ◌≤◌, subst, arith}
 use Rattle.std.proofs.lemmas.Grind.{common_steps}
-use Rattle.automata_base.specs.Powersets.Accounting.{minimum_capacity}
-use Rattle.automata_hybrid.specs.Machines.Machine.{Machine}
+use Rattle.automata_hybrid.proofs.Words.{IsCache, Machine, minimum_capacity, Settings}
 use Rattle.automata_hybrid.specs.Cache.Stores.{fresh_store}
-use Rattle.automata_hybrid.specs.Private.Cache.Usage.{IsCache}
-use Rattle.automata_hybrid.specs.declared.cache.settings.Settings.{Settings}
 use Rattle.automata_hybrid.proofs.Caches.Usage.{IsCache-fresh}
 use Rattle.automata_hybrid.proofs.cache.store.Store.new.Goals as goal
 

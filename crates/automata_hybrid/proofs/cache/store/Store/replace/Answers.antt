@@ -1,4 +1,4 @@
-use Rattle.automata_base.specs.Powersets.Powerset.{cost}
+use Rattle.automata_hybrid.proofs.Words.{cost}
 use Rattle.automata_hybrid.proofs.cache.store.Store.replace.Goals as goal
 
 pub add_row-requires-clause-fits : goal.add_row-requires-clause-fits

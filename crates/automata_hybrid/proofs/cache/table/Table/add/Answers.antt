@@ -1,12 +1,9 @@
-use Rattle.std.proofs.Common.{◌≡◌, [], ◌∷◌, ◌++◌, ◌^◌, ◌<◌, ◌≤◌, length, cond, Some, arith, None}
+use Rattle.std.proofs.Common.{◌≡◌, [], ◌∷◌, ◌++◌, ◌^◌, ◌<◌, ◌≤◌, length, cond, Some, arith, None, subst}
 use Rattle.std.specs.HashMap.{get}
 use Rattle.std.proofs.lemmas.Grind.{common_steps}
-use Rattle.automata_hybrid.specs.Machines.Reachable.{IsStateOf}
+use Rattle.automata_hybrid.proofs.Words.{cost, id_of, IsStateOf, Names, Powerset, powerset_eq, Row, row_id, Rows}
 use Rattle.automata_hybrid.proofs.Caches.Rows.{IsHeld-with_row, IsHeld-map, Names-new, Names-more}
-use Rattle.automata_hybrid.specs.Cache.Table.{Rows, Names, id_of, row_id}
-use Rattle.automata_hybrid.specs.declared.cache.row.Row.{Row}
-use Rattle.automata_base.specs.Powersets.Powerset.{Powerset, cost}
-use Rattle.automata_base.specs.Powersets.Equal.{powerset_eq}
+use Rattle.automata_hybrid.specs.Private.Cache.Table.{HasNewRow}
 use Rattle.automata_hybrid.proofs.cache.table.Table.add.Goals as goal
 
 pub invariant_of-self-in_err-reserve-3 : goal.invariant_of-self-in_err-reserve-3
@@ -45,42 +42,27 @@ invariant_of-self-2 c =
     (IsHeld-with_row _ r _ _ c.self.inside.map c.insert-inserted.new.self c.self.inside.costs c.self.invariant absent
     c.requires.new.lacks.1 cheap of fits map)
 
-pub returns-clause-named : goal.returns-clause-named
-returns-clause-named c =
+pub returns-clause-added : goal.returns-clause-added
+returns-clause-added c =
     let q = c.args.state in
     let r : Row = record { state = c.args.state; started = c.args.started } in
+    let old : Rows =
+    record { of = c.self.inside.of.value; cells = c.self.inside.cells.items; rows = c.self.inside.rows.items } in
+    let new : Rows =
+    record {
+      of = c.self.inside.of.value;
+      cells = c.extend_from_slice-grown.new.self.items;
+      rows = c.push-pushed.new.self.items;
+    } in
     let cells : c.extend_from_slice-grown.new.self.items ≡ c.self.inside.cells.items
     ++ c.self.inside.of.value.template = grind (arith, common_steps, c.self.invariant.template) in
     let rows : c.push-pushed.new.self.items ≡ c.self.inside.rows.items ++ r ∷ [] = grind (arith, common_steps) in
-    let absent : id_of
-    (record { of = c.self.inside.of.value; cells = c.self.inside.cells.items; rows = c.self.inside.rows.items }) q
-    ≡ None = rw (← c.self.view_is) at c.requires.new.lacks.0 in
+    let absent : id_of old q ≡ None = rw (← c.self.view_is) at c.requires.new.lacks.0 in
     let id : c.of_row-id.result ≡ row_id (length c.self.inside.cells.items) r = grind (arith, common_steps) in
-    let t : Rows =
-    record {
-      of = c.self.inside.of.value;
-      cells = c.extend_from_slice-grown.new.self.items;
-      rows = c.push-pushed.new.self.items;
-    } in
-    let named : Names t c.of_row-id.result q =
-    rw (rows, id)
-    (Names-new
-    (record { of = c.self.inside.of.value; cells = c.self.inside.cells.items; rows = c.self.inside.rows.items }) r
-    c.self.invariant.rows.whole absent) in
-    named
-
-pub returns-clause-kept : goal.returns-clause-kept
-returns-clause-kept c = λ id q h.
-    let r : Row = record { state = c.args.state; started = c.args.started } in
-    let t : Rows =
-    record { of = c.self.inside.of.value; cells = c.self.inside.cells.items; rows = c.self.inside.rows.items } in
-    let rows : c.push-pushed.new.self.items ≡ c.self.inside.rows.items ++ r ∷ [] = grind (arith, common_steps) in
-    let before : Names t id q = rw (← c.self.view_is) at h in
-    let u : Rows =
-    record {
-      of = c.self.inside.of.value;
-      cells = c.extend_from_slice-grown.new.self.items;
-      rows = c.push-pushed.new.self.items;
-    } in
-    let named : Names u id q = rw rows (Names-more t r id q before) in
-    named
+    let named : Names new c.of_row-id.result q = rw (rows, id) (Names-new old r c.self.invariant.rows.whole absent) in
+    subst (λ (t : Rows). HasNewRow t r new c.of_row-id.result) c.self.view_is
+    (record {
+      more = λ i. record { of = c.self.inside.of.value; cells = cells i; rows = rows i };
+      named = named;
+      kept = λ n p there. rw rows (Names-more old r n p there);
+    })

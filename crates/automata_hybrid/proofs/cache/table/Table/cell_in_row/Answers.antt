@@ -1,11 +1,8 @@
 use Rattle.std.proofs.Common.{◌≡◌, ◌∙◌, ℕ, List, sym, ap, ◌+◌, ◌-◌, ◌%◌, ◌<◌, drop, length, get_or, arith, subst}
 use Rattle.std.proofs.lemmas.Grind.{common_steps, get_or_default_zero}
 use Rattle.std.proofs.lemmas.List.{get_or-drop, get_or-take}
-use Rattle.automata_base.specs.Powersets.Powerset.{Powerset}
+use Rattle.automata_hybrid.proofs.Words.{cell_at, IsCell, Names, offset_limit, Powerset, Rows, RowsFitCells}
 use Rattle.automata_hybrid.proofs.Caches.Places.{Names-Placed, Placed-cell, Placed-IsCell}
-use Rattle.automata_hybrid.specs.Cache.Ids.{offset_limit}
-use Rattle.automata_hybrid.specs.Private.Cache.Table.{RowsFitCells, IsCell}
-use Rattle.automata_hybrid.specs.Cache.Table.{Names, Rows, cell_at}
 use Rattle.automata_hybrid.proofs.cache.table.Table.cell_in_row.Goals as goal
 
 -- the cell of a row stands in the table

@@ -1,6 +1,6 @@
 use Rattle.std.proofs.Common.{subst}
 use Rattle.automata_hybrid.proofs.Caches.Places.{RowsFitCells-costs}
-use Rattle.automata_hybrid.specs.Private.Cache.Table.{RowsFitCells}
+use Rattle.automata_hybrid.proofs.Words.{RowsFitCells}
 use Rattle.automata_hybrid.proofs.cache.table.Table.costs.Goals as goal
 
 pub returns-clause-most : goal.returns-clause-most

@@ -2,11 +2,9 @@ use Rattle.std.proofs.Common.{◌≡◌, ◌<◌, ◌≤◌, ◌∙◌, sym, ap,
 use Rattle.std.proofs.Common.{length, vec_len, get_or, slice_get, Some}
 use Rattle.std.proofs.lemmas.Bool.{eqb-true, eq-eqb}
 use Rattle.std.proofs.lemmas.Option.{slice_get_read}
-use Rattle.automata_hybrid.specs.declared.cache.row.Row.{Row}
+use Rattle.automata_hybrid.proofs.Words.{IsRowId, Row, row_id, Rows, RowsFitCells}
 use Rattle.automata_hybrid.proofs.Caches.Places.{placed_valid, valid_at}
 use Rattle.automata_base.proofs.Paths.Orders.{some_inj}
-use Rattle.automata_hybrid.specs.Private.Cache.Table.{RowsFitCells}
-use Rattle.automata_hybrid.specs.Cache.Table.{Rows, IsRowId, row_id}
 use Rattle.automata_hybrid.proofs.cache.table.Table.has_row.Goals as goal
 use Rattle.automata_hybrid.proofs.cache.table.Table.has_row.Goals.{then-index-lt3-via-then-index-lt3}
 use Rattle.automata_hybrid.proofs.cache.table.Table.has_row.Goals.{then-index-lt3-via-else-index-lt3+then-len-index}

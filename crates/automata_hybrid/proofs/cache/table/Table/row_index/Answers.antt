@@ -1,7 +1,6 @@
 use Rattle.std.proofs.Common.{◌≡◌, ◌∙◌, ap, ◌+◌, ◌/◌, ◌%◌, ◌^◌, ◌<◌, arith, subst, refl, sym}
 use Rattle.automata_hybrid.proofs.Caches.Places.{Names-Placed, Placed-place, Placed-HasState}
-use Rattle.automata_hybrid.specs.Private.Cache.Table.{RowsFitCells}
-use Rattle.automata_hybrid.specs.Cache.Table.{Rows}
+use Rattle.automata_hybrid.proofs.Words.{Rows, RowsFitCells}
 use Rattle.automata_hybrid.proofs.cache.table.Table.row_index.Goals as goal
 
 pub rows_before-requires : goal.rows_before-requires

@@ -1,9 +1,7 @@
 use Rattle.std.proofs.Common.{subst}
 use Rattle.automata_hybrid.proofs.Caches.Places.{RowsFitCells-costs, Names-Placed, Names-alive, Names-own, Names-tagged}
 use Rattle.automata_hybrid.proofs.Caches.Places.{Placed-cell}
-use Rattle.automata_hybrid.specs.Private.Cache.Table.{RowsFitCells}
-use Rattle.automata_hybrid.specs.Cache.Table.{Rows}
-use Rattle.automata_hybrid.specs.Private.Machines.Machine.{IsTemplate}
+use Rattle.automata_hybrid.proofs.Words.{IsTemplate, Rows, RowsFitCells}
 use Rattle.automata_hybrid.proofs.cache.table.Table.see_rows.Goals as goal
 
 pub returns : goal.returns

@@ -1,8 +1,7 @@
 use Rattle.std.proofs.Common.{◌≡◌, ap, ℕ, ◌+◌, ◌%◌, ◌^◌, ◌<◌, length, set, arith, subst, refl}
 use Rattle.std.proofs.lemmas.Grind.{common_steps}
 use Rattle.automata_hybrid.proofs.Caches.Places.{RowsFitCells-with_cell, Names-Placed, Placed-cell}
-use Rattle.automata_hybrid.specs.Private.Cache.Table.{RowsFitCells, with_cell}
-use Rattle.automata_hybrid.specs.Cache.Table.{Rows, cell_at}
+use Rattle.automata_hybrid.proofs.Words.{cell_at, Rows, RowsFitCells, with_cell}
 use Rattle.automata_hybrid.proofs.cache.table.Table.set_cell.Goals as goal
 
 pub index_mut-requires : goal.index_mut-requires

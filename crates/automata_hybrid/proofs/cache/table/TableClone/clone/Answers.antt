@@ -2,8 +2,7 @@ use Rattle.std.proofs.Common.{◌≡◌, ◌∙◌, ap, sym, subst}
 use Rattle.std.specs.List.{each_same}
 use Rattle.std.specs.Map.{lookup}
 use Rattle.std.proofs.lemmas.Map.Entries.{entries_from_clone}
-use Rattle.automata_base.specs.Powersets.Equal.{powerset_eq}
-use Rattle.automata_hybrid.specs.Cache.Table.{Rows}
+use Rattle.automata_hybrid.proofs.Words.{powerset_eq, Rows}
 use Rattle.automata_hybrid.specs.Private.Cache.Table.{IsHeld}
 use Rattle.automata_hybrid.proofs.Caches.Rows.{IsHeld-map}
 use Rattle.automata_hybrid.proofs.cache.table.TableClone.clone.Goals as goal

@@ -1,6 +1,6 @@
 use Rattle.std.proofs.lemmas.Bool.{eqb-true}
-use Rattle.automata_hybrid.specs.Private.Searches.SelfLoops.{HasByte}
-use Rattle.automata_hybrid.proofs.Searches.Lanes.{all_near}
+use Rattle.automata_hybrid.specs.Private.Fast.SelfLoops.{HasByte}
+use Rattle.automata_hybrid.proofs.Fast.Lanes.{all_near}
 use Rattle.automata_hybrid.proofs.search.fast.lanes.are_in.Goals as goal
 
 pub returns : goal.returns

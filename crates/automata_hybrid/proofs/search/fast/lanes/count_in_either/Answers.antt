@@ -1,8 +1,7 @@
 use Rattle.std.proofs.Common.{◌≡◌, subst, sym, arith}
-use Rattle.automata_base.specs.declared.util.search.Direction.{Direction}
-use Rattle.std.specs.Int.{bit_at}
-use Rattle.automata_hybrid.specs.Private.Searches.SelfLoops.{HasEither, lane_of}
-use Rattle.automata_hybrid.proofs.Searches.Lanes.{all_near, leading_clear, near_upto, trailing_clear, trailing_few}
+use Rattle.automata_hybrid.proofs.Words.{bit_at, Direction}
+use Rattle.automata_hybrid.specs.Private.Fast.SelfLoops.{HasEither, lane_of}
+use Rattle.automata_hybrid.proofs.Fast.Lanes.{all_near, leading_clear, near_upto, trailing_clear, trailing_few}
 use Rattle.automata_hybrid.proofs.search.fast.lanes.count_in_either.Goals as goal
 
 pub returns-then-outside-eq0-clause-near : goal.returns-then-outside-eq0-clause-near

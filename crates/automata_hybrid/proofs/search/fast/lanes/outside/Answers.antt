@@ -1,4 +1,4 @@
-use Rattle.automata_hybrid.proofs.Searches.Lanes.{mask_near, mask_small}
+use Rattle.automata_hybrid.proofs.Fast.Lanes.{mask_near, mask_small}
 use Rattle.automata_hybrid.proofs.search.fast.lanes.outside.Goals as goal
 
 pub returns-clause-small : goal.returns-clause-small

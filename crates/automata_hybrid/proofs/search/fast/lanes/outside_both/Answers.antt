@@ -1,8 +1,8 @@
 use Rattle.std.proofs.Common.{◌≡◌, arith, ⊎_elim, inl, inr}
-use Rattle.std.specs.Int.{bit_at}
+use Rattle.automata_hybrid.proofs.Words.{bit_at}
 use Rattle.std.proofs.lemmas.Nat.{and_le_l}
-use Rattle.automata_hybrid.specs.Private.Searches.SelfLoops.{lane_of}
-use Rattle.automata_hybrid.proofs.Searches.Lanes.{both_clear}
+use Rattle.automata_hybrid.specs.Private.Fast.SelfLoops.{lane_of}
+use Rattle.automata_hybrid.proofs.Fast.Lanes.{both_clear}
 use Rattle.automata_hybrid.proofs.search.fast.lanes.outside_both.Goals as goal
 
 pub returns-clause-small : goal.returns-clause-small

@@ -1,0 +1,5 @@
+pub mod SelfLoops
+pub mod Leaps
+pub mod Lanes
+pub mod Runs
+pub mod Mixed

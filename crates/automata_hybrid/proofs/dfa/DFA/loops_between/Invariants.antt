@@ -1,6 +1,0 @@
-use Rattle.std.proofs.Common.{ℕ, ◌<◌, ◌≤◌}
-use Rattle.automata_hybrid.proofs.Searches.SelfLoops.{LoopsIn}
-use Rattle.automata_hybrid.proofs.dfa.DFA.loops_between.Given as goal
-
-abbrev pub invariant-loop-class : goal.invariant-loop-class
-invariant-loop-class l = (class : ℕ) → l.first ≤ class → class < l.class → LoopsIn l.cache.store l.id class

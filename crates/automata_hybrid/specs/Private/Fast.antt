@@ -1,0 +1,2 @@
+pub mod SelfLoops
+pub mod Leaps
