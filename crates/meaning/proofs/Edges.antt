@@ -7,7 +7,7 @@ use Rattle.std.specs.Option.{option_or}
 use Rattle.automata_base.specs.Haystacks.Matches.{HalfMatch}
 use Rattle.automata_base.specs.Lists.{In}
 use Rattle.automata_base.specs.Nfas.Nfa.{Nfa, hop, takes, accepts}
-use Rattle.automata_base.specs.Paths.Order.{Before, Upto}
+use Rattle.automata_base.specs.Paths.Order.{Before, Upto, EndsFirst, TakesLess, TakesSame}
 use Rattle.automata_base.specs.Paths.Paths.{Tape, IsPathFrom, Moves, truth}
 use Rattle.automata_base.specs.Paths.Paths.{StaysHere, ReadsByte}
 use Rattle.automata_base.proofs.Paths.Orders.{some_inj, none_some}
@@ -15,14 +15,14 @@ use Rattle.meaning.specs.Agreeing.{IsLeastEnd}
 
 pub upto_cons : (x : ℕ) (a b path : List ℕ) → path ≡ x ∷ b → Upto a b → Upto (x ∷ a) path
 upto_cons x a b path e (inl h) = inl (ap (λ v. x ∷ v) h ∙ sym e)
-upto_cons x a b path e (inr h) = inr (subst (λ v. Before (x ∷ a) v) (sym e) (inr (refl, h)))
+upto_cons x a b path e (inr h) = inr (subst (λ v. Before (x ∷ a) v) (sym e) (TakesSame refl h))
 
 upto_less : (x y : ℕ) (a b path : List ℕ) → path ≡ y ∷ b → x < y → Upto (x ∷ a) path
-upto_less x y a b path e l = inr (subst (λ v. Before (x ∷ a) v) (sym e) (inl l))
+upto_less x y a b path e l = inr (subst (λ v. Before (x ∷ a) v) (sym e) (TakesLess l))
 
 upto_nil : (path : List ℕ) → Upto [] path
 upto_nil [] = inl refl
-upto_nil (x ∷ path) = inr tt
+upto_nil (x ∷ path) = inr EndsFirst
 
 module _ (n : Nfa) (t : Tape) (s p : ℕ) (seen : List ℕ) (q : ℕ) where
   -- a path that goes on by this edge to this state
@@ -104,15 +104,15 @@ module _ (n : Nfa) (t : Tape) (s p : ℕ) (seen : List ℕ) (q : ℕ) where
             (inner other j z h),
       )
       go (Some half) o2 b d = (
-        e ∷ b.0,
-        b.1,
-        b.2,
-        StaysHere r leads new b.3,
-        b.4,
-        b.5,
+        e ∷ b.path,
+        b.place,
+        b.state,
+        StaysHere r leads new b.is_path,
+        b.accepted,
+        b.ends,
         λ other j z pattern h acc. ⊎_elim
-            (λ (w : Follows e r other j z). upto_cons e b.0 w.0 other w.1 (b.6 w.0 j z pattern w.2 acc))
-            (λ (w : IsPast (suc e) other j z). upto_less e w.0 b.0 w.4.0 other w.4.1 (omega (arith, w.2)))
+            (λ (w : Follows e r other j z). upto_cons e b.path w.0 other w.1 (b.least w.0 j z pattern w.2 acc))
+            (λ (w : IsPast (suc e) other j z). upto_less e w.0 b.path w.4.0 other w.4.1 (omega (arith, w.2)))
             (inner other j z h),
       )
 
@@ -129,15 +129,15 @@ module _ (n : Nfa) (t : Tape) (s p : ℕ) (seen : List ℕ) (q : ℕ) where
 
       go : (o : Option HalfMatch) → IsLeastPast 0 o → IsLeastEnd n t s p seen q o
       go None b = λ path j z pattern h acc. b path j z pattern (inner path j z pattern h acc) acc
-      go (Some half) b = (
-        b.0,
-        b.1,
-        b.2,
-        b.3,
-        b.4,
-        b.5,
-        λ other j z pattern h acc. b.6 other j z pattern (inner other j z pattern h acc) acc,
-      )
+      go (Some half) b = record {
+        path = b.0;
+        place = b.1;
+        state = b.2;
+        is_path = b.3;
+        accepted = b.4;
+        ends = b.5;
+        least = λ other j z pattern h acc. b.6 other j z pattern (inner other j z pattern h acc) acc;
+      }
 
   -- no edge
   pub none_best :
@@ -163,16 +163,16 @@ module _ (n : Nfa) (t : Tape) (s p : ℕ) (seen : List ℕ) (q : ℕ) where
 
       go : (o : Option HalfMatch) → IsLeastEnd n t s (suc p) [] r o → IsLeastEnd n t s p seen q o
       go None b = λ path j z pattern h acc. let w = inner path j z pattern h acc in b w.0 j z pattern w.2 acc
-      go (Some half) b = (
-        0 ∷ b.0,
-        b.1,
-        b.2,
-        ReadsByte r refl (u, here, leads) b.3,
-        b.4,
-        b.5,
-        λ other j z pattern h acc. let w = inner other j z pattern h acc in
-            upto_cons 0 b.0 w.0 other w.1 (b.6 w.0 j z pattern w.2 acc),
-      )
+      go (Some half) b = record {
+        path = 0 ∷ b.path;
+        place = b.place;
+        state = b.state;
+        is_path = ReadsByte r refl (u, here, leads) b.is_path;
+        accepted = b.accepted;
+        ends = b.ends;
+        least = λ other j z pattern h acc. (let w = inner other j z pattern h acc in
+            upto_cons 0 b.path w.0 other w.1 (b.least w.0 j z pattern w.2 acc));
+      }
 
   -- a state that reads: `f` is where it leads on a byte, raised by `b`, and `go` what is given from there
   pub read_best : (b : ℕ) (f : ℕ → Option ℕ) (go : ℕ → Option HalfMatch) (o : Option ℕ) → AcceptsNot →
@@ -194,4 +194,12 @@ module _ (n : Nfa) (t : Tape) (s p : ℕ) (seen : List ℕ) (q : ℕ) where
   -- the path that ends here is the least of all
   pub here_best :
       (half : HalfMatch) → accepts n q ≡ Some half.pattern → s + p ≡ half.offset → IsLeastEnd n t s p seen q (Some half)
-  here_best half acc e = ([], p, q, (refl, refl), acc, e, λ other j z pattern h a. upto_nil other)
+  here_best half acc e = record {
+    path = [];
+    place = p;
+    state = q;
+    is_path = (refl, refl);
+    accepted = acc;
+    ends = e;
+    least = λ other j z pattern h a. upto_nil other;
+  }

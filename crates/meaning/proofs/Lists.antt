@@ -62,10 +62,6 @@ nodes_push b p ts old made x own i d inside h e =
     ∙ ap (kits.nodes_of b p ts) (sym (take-suc own i d inside) ∙ ap (λ v. take v own) (sym (add-one i))))
 
 -- one more pattern
-pub size_push : (ks : List kit_nfa.Nfa) (k : kit_nfa.Nfa) → size_of (ks ++ k ∷ []) ≡ size_of ks + length k.states.items
-size_push [] k = omega arith
-size_push (x ∷ ks) k = let rest = size_push ks k in omega (arith, rest)
-
 pub nodes_of_all_push : (b p : ℕ) (ks : List kit_nfa.Nfa) (k : kit_nfa.Nfa) →
     nodes_of_all b p (ks ++ k ∷ [])
     ≡ nodes_of_all b p ks ++ nodes_of (b + size_of ks) (p + length ks) k.transitions.items k.states.items

@@ -17,6 +17,7 @@ use Rattle.automata_base.specs.declared.util.search.Direction.TheVariants.{Forwa
 use Rattle.automata_base.specs.Nfas.Engines.{Engine, IsSkipping}
 use Rattle.automata_base.specs.Paths.Selections.{Accepts}
 use Rattle.automata_base.proofs.Answers.Tried.{ComesTo}
+use Rattle.automata_base.proofs.Answers.Tried.{tries_once}
 use Rattle.meaning.specs.Agreeing.{Each, HasSameLooks, ImplementAll}
 use Rattle.meaning.specs.Patterns.{any_of, HasPart, numbered_match, span_input}
 use Rattle.meaning.specs.Translated.{joined_engine}
@@ -29,7 +30,9 @@ module _ (d : Engine) (all : IsSkipping d → ⊥) (hay : List ℕ) (s stop : �
   over e = record (span_input hay s stop) { earliest = e }
 
   once : (e : Bool) (k : ℕ) → ComesTo Forward d (over e) k → s + k ≡ s
-  once e k tries = ⊎_elim (λ (z : k ≡ 0). omega (arith, z)) (λ w. absurd (all w.0)) tries.comes
+  once e k tries =
+      let first : k ≡ 0 = tries_once (IsSkipping d) (over e) k (λ skips free. all skips) tries.comes in
+      omega (arith, first)
 
   accepts_none : (e : Bool) → IsAnswer Forward d (over e) None → (i pattern : ℕ) (path : List ℕ) →
       Accepts d.nfa (forward_tape hay s stop) d.unanchored i pattern path → ⊥

@@ -101,10 +101,10 @@ module _ (ks : List kit_nfa.Nfa) (res : List Re) (is : ImplementAll ks res) (hay
       → half.offset ≤ length hay
   ends_inside i half inside own =
       let l =
-      path_inside (joined_nfa ks) (forward_tape hay i (length hay)) 0 [] (size_of ks) own.0 own.1 own.2 (omega arith)
-      own.3 in
+      path_inside (joined_nfa ks) (forward_tape hay i (length hay)) 0 [] (size_of ks) own.path own.place own.state
+      (omega arith) own.is_path in
       let count = forward_length hay i (length hay) inside (omega arith) in
-      let e = own.5 in
+      let e = own.ends in
       omega (arith, l, count, e, inside)
 
   -- over text, under the UTF-8 promise
@@ -122,13 +122,13 @@ module _ (ks : List kit_nfa.Nfa) (res : List Re) (is : ImplementAll ks res) (hay
       (ends_inside i _ inside own))
       (λ i trace inside e empty.
       let own = here i trace inside e in
-      let still : own.1 ≡ 0 = let f = own.5 in omega (arith, f, empty) in (
+      let still : own.place ≡ 0 = let f = own.ends in omega (arith, f, empty) in (
         refl,
         empty_start (joined_nfa ks) (forward_tape hay i (length hay)) 0 (size_of ks) (starts_of 0 ks) (union_is ks)
-            own.0 own.2
+            own.path own.state
             (first_at res hay i)
-            (subst (λ v. IsPathFrom (joined_nfa ks) (forward_tape hay i (length hay)) 0 [] (size_of ks) own.0 v own.2)
-            still own.3) own.4,
+            (subst (λ v. IsPathFrom (joined_nfa ks) (forward_tape hay i (length hay)) 0 [] (size_of ks) own.path v
+            own.state) still own.is_path) own.accepted,
       ))
       s
 

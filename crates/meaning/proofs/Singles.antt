@@ -125,8 +125,18 @@ module _ (n : Nfa) (hay : List ℕ) (s u place : ℕ) (inside : s + place ≤ le
       (is.0.0 hay (s + place) ∙ ap (λ v. attempt hay v accept (s + place)) (some_inj at) ∙ found)
       (pattern_finds n hay s (length hay) u place (s + place) (omega arith) refl inside b p k holds.0 same.0
       (omega (arith, room))) in
-      let number : p ≡ p + 0 = omega arith in
-      (b + k.start, refl, (least.0, least.1, least.2, least.3, least.4 ∙ ap (λ v. Some v) number, least.5))
+      let number : p ≡ p + 0 = omega arith in (
+        b + k.start,
+        refl,
+        (
+          least.path,
+          least.place,
+          least.state,
+          least.is_path,
+          least.accepted ∙ ap (λ v. Some v) number,
+          least.ends,
+        ),
+      )
   match_has_path b p (k ∷ ks) (x ∷ res) holds is same room (suc e) re trace at found =
       let rest =
       match_has_path (b + length k.states.items) (suc p) ks res holds.1 is.1 same.1 (omega (arith, room)) e re trace at

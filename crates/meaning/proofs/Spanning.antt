@@ -11,6 +11,7 @@ use Rattle.regex_hir.proofs.FindLemmas.{IsFirst, IsFirst-of_first_between, first
 use Rattle.regex_hir.proofs.FindLemmas.{first_between_of_IsFirst, first_between_past, none_of_first_between}
 use Rattle.regex_hir.proofs.OptionLemmas.{option_cases}
 use Rattle.automata_base.specs.Answers.Answers.{SpanIsDone, SpanReportsNone, later}
+use Rattle.automata_base.specs.Answers.Answers.{IsFirstSpan, SkipsToIt}
 use Rattle.automata_base.specs.Answers.Spans.{IsSpan, IsPathStart, Chooses}
 use Rattle.automata_base.specs.Haystacks.Input.{Input}
 use Rattle.automata_base.specs.Haystacks.Matches.{Match}
@@ -103,14 +104,14 @@ module _ (n : Nfa) (a u x : ℕ) (starts : List ℕ) (utf8 : Bool) (loop : Loops
     room = let count = forward_length hay s stop inside fits in omega (arith, count, fit)
 
     abbrev pub path : List ℕ
-    path = skips place (0 ∷ own.0)
+    path = skips place (0 ∷ own.path)
 
-    accepted : Accepts n (tape s) u own.1 (number m.start) path
+    accepted : Accepts n (tape s) u own.place (number m.start) path
     accepted = (
-      own.2,
-      skipping n (tape s) u a x loop.0 loop.1 loop.2 has place 0 own.0 own.1 own.2 (omega (arith, room))
-          (subst (λ v. IsPathFrom n (tape s) v [] a own.0 own.1 own.2) (omega arith) own.3),
-      own.4,
+      own.state,
+      skipping n (tape s) u a x loop.0 loop.1 loop.2 has place 0 own.path own.place own.state (omega (arith, room))
+          (subst (λ v. IsPathFrom n (tape s) v [] a own.path own.place own.state) (omega arith) own.is_path),
+      own.accepted,
     )
 
     least : (j pattern : ℕ) (other : List ℕ) → Accepts n (tape s) u j pattern other → Upto path other
@@ -120,12 +121,13 @@ module _ (n : Nfa) (a u x : ℕ) (starts : List ℕ) (utf8 : Bool) (loop : Loops
         absurd (none_at s w.0 w.3 (first.before (s + w.0) (omega arith) (omega (arith, l, there))) w.1 j w.2.1.0 pattern
         w.2.1.1 w.2.1.2))
         (λ (l : place ≤ w.0). ⊎_elim
-        (λ (c : place < w.0). subst (λ v. Upto path v) (sym w.2.0) (inr (sooner_less place w.0 own.0 w.1 c)))
+        (λ (c : place < w.0). subst (λ v. Upto path v) (sym w.2.0) (inr (sooner_less place w.0 own.path w.1 c)))
         (λ (c : w.0 ≤ place).
         let same : w.0 ≡ place = omega (arith, l, c) in
         subst (λ v. Upto path v) (sym (w.2.0 ∙ ap (λ k. skips k (0 ∷ w.1)) same))
-        (upto_skips place own.0 w.1
-        (own.6 w.1 j w.2.1.0 pattern (subst (λ v. IsPathFrom n (tape s) v [] a w.1 j w.2.1.0) same w.2.1.1) w.2.1.2)))
+        (upto_skips place own.path w.1
+        (own.least w.1 j w.2.1.0 pattern (subst (λ v. IsPathFrom n (tape s) v [] a w.1 j w.2.1.0) same w.2.1.1)
+        w.2.1.2)))
         (cases_lt place w.0))
         (cases_lt w.0 place)
       where
@@ -133,21 +135,22 @@ module _ (n : Nfa) (a u x : ℕ) (starts : List ℕ) (utf8 : Bool) (loop : Loops
         w = reach s inside j pattern other h
 
     abbrev pub pair : Pair
-    pair = record { pattern = number m.start; place = own.1 }
+    pair = record { pattern = number m.start; place = own.place }
 
-    pub ends_there : s + own.1 ≡ m.trace.end
-    ends_there = own.5
+    pub ends_there : s + own.place ≡ m.trace.end
+    ends_there = own.ends
 
     pub selects_some : Selects LeftmostFirst false n (tape s) u (Some pair)
     selects_some = (path, accepted, λ j pattern other h. least j pattern other h)
 
-    pub chooses : Chooses searched false (tape s) u own.1 (number m.start) path
+    pub chooses : Chooses searched false (tape s) u own.place (number m.start) path
     chooses = (accepted, λ j p other h. least j p other h)
 
     pub begins : IsPathStart searched No (tape s) path place
     begins =
-        lazy_start searched x (tape s) place own.1 (number m.start) path own.0 loop has
-        (path_inside n (tape s) place [] a own.0 own.1 own.2 room own.3) (refl, (own.2, own.3, own.4))
+        lazy_start searched x (tape s) place own.place (number m.start) path own.path loop has
+        (path_inside n (tape s) place [] a own.path own.place own.state room own.is_path)
+        (refl, (own.state, own.is_path, own.accepted))
 
   module _ (s : ℕ) where
     abbrev input : Input
@@ -181,7 +184,7 @@ module _ (n : Nfa) (a u x : ℕ) (starts : List ℕ) (utf8 : Bool) (loop : Loops
       );
       first = u;
       is_first = refl;
-      length = (own (s + k) inside m first).1;
+      length = (own (s + k) inside m first).place;
       ends = sym (ends_there (s + k) inside m first);
       path = path (s + k) inside m first;
       chosen = chooses (s + k) inside m first;
@@ -196,7 +199,7 @@ module _ (n : Nfa) (a u x : ℕ) (starts : List ℕ) (utf8 : Bool) (loop : Loops
         inside = omega (arith, first.from, first.to)
 
     at_once : ComesTo Forward searched input 0
-    at_once = record { comes = inl refl; before = λ j l. absurd (omega (arith, l)) }
+    at_once = record { comes = IsFirstSpan refl; before = λ j l. absurd (omega (arith, l)) }
 
     from_here : first_between at (s + 0) stop ≡ first_between at s stop
     from_here = ap (λ v. first_between at v stop) (omega arith)
@@ -274,7 +277,10 @@ module _ (n : Nfa) (a u x : ℕ) (starts : List ℕ) (utf8 : Bool) (loop : Loops
           subst (λ o. IsSpan searched (span_input hay s stop) (option_map (numbered number) o))
           (sym (first_between_next at_starts (s + k) stop none_here
           ∙ ap (λ v. first_between at_starts v stop) one_more))
-          (more (record { comes = inr (skips_there m.start m.trace first.to first.here empty, refl); before = tried }))
+          (more (record {
+            comes = SkipsToIt (skips_there m.start m.trace first.to first.here empty) refl;
+            before = tried;
+          }))
         where
           one_more : s + k + 1 ≡ s + suc k
           one_more = omega arith

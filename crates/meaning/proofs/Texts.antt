@@ -85,13 +85,16 @@ module _ (d : Engine) (keeps : KeepsUtf8 Forward d) (utf8 : d.utf8 ≡ true) (ha
       IsLeastEnd d.nfa (forward_tape hay i (length hay)) i 0 [] d.anchored (Some half) → half.offset ≤ length hay →
       (i ≡ half.offset) ⊎ ((is_split hay i ≡ false) × (is_split hay half.offset ≡ false))
   whole_match i half inside own fits =
-      ⊎_elim (λ (l : 0 < own.1). inr (longer l)) (λ (l : own.1 ≤ 0). inl (omega (arith, l, own.5))) (cases_lt 0 own.1)
+      ⊎_elim (λ (l : 0 < own.place). inr (longer l)) (λ (l : own.place ≤ 0). inl (omega (arith, l, own.ends)))
+      (cases_lt 0 own.place)
     where
-      longer : 0 < own.1 → (is_split hay i ≡ false) × (is_split hay half.offset ≡ false)
+      longer : 0 < own.place → (is_split hay i ≡ false) × (is_split hay half.offset ≡ false)
       longer l =
-          let whole = whole_path i 0 own.1 own.2 half.pattern own.0 l (omega (arith, own.5, fits)) own.3 own.4 in
+          let whole =
+          whole_path i 0 own.place own.state half.pattern own.path l (omega (arith, own.ends, fits)) own.is_path
+          own.accepted in
           let from : i + 0 ≡ i = omega arith in
-          (subst (λ v. is_split hay v ≡ false) from whole.0, subst (λ v. is_split hay v ≡ false) own.5 whole.1)
+          (subst (λ v. is_split hay v ≡ false) from whole.0, subst (λ v. is_split hay v ≡ false) own.ends whole.1)
 
 -- A path that stays at its place reads nothing.
 still :

@@ -60,13 +60,29 @@ abbrev pub HoldsAll : Nfa → (base p : ℕ) → List kit_nfa.Nfa → Type 0
 HoldsAll n base p [] = Unit {0}
 HoldsAll n base p (k ∷ ks) = HasStatesOf n base p k × HoldsAll n (base + length k.states.items) (suc p) ks
 
+-- The least accepting path from `q` at place `p` of a span that begins at offset `s`, where these states were met at
+-- that place before, has this pattern and this end.
+pub record HasLeastPath (n : Nfa) (t : Tape) (s p : ℕ) (seen : List ℕ) (q : ℕ) (half : HalfMatch) : Type 0 where
+  -- the path
+  pub path : List ℕ
+  -- the place where it ends
+  pub place : ℕ
+  -- the state where it ends
+  pub state : ℕ
+  -- it is a path from `q` to there
+  pub is_path : IsPathFrom n t p seen q path place state
+  -- it accepts the pattern
+  pub accepted : accepts n state ≡ Some half.pattern
+  -- its place is that of the end
+  pub ends : s + place ≡ half.offset
+  -- no accepting path from `q` comes before it
+  pub least :
+      (other : List ℕ) (j z pattern : ℕ) → IsPathFrom n t p seen q other j z → accepts n z ≡ Some pattern
+      → Upto path other
+
 -- The pattern and the end of the least accepting path from `q` at place `p` of a span that begins at offset `s`, where
 -- these states were met at that place before; none if no path accepts.
 abbrev pub IsLeastEnd : Nfa → Tape → (s p : ℕ) → (seen : List ℕ) → ℕ → Option HalfMatch → Type 0
 IsLeastEnd n t s p seen q None =
     (path : List ℕ) (j z pattern : ℕ) → IsPathFrom n t p seen q path j z → accepts n z ≡ Some pattern → ⊥
-IsLeastEnd n t s p seen q (Some half) =
-    (path : List ℕ) × (j z : ℕ) × IsPathFrom n t p seen q path j z × (accepts n z ≡ Some half.pattern)
-    × (s + j ≡ half.offset)
-    × ((other : List ℕ) (j2 z2 pattern : ℕ) → IsPathFrom n t p seen q other j2 z2 → accepts n z2 ≡ Some pattern
-    → Upto path other)
+IsLeastEnd n t s p seen q (Some half) = HasLeastPath n t s p seen q half

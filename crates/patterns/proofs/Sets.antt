@@ -1,7 +1,8 @@
 -- What the searches of a set of patterns report, by what the patterns mean.
 use Rattle.std.proofs.Common.{ℕ, ◌≡◌, ◌<◌, ◌⊎◌, ◌↔◌, Bool, true, false, List, [], ◌∷◌, Option, Some, is_some, length}
 use Rattle.std.proofs.Common.{map, refl, sym, ap, ◌∙◌, subst, inl, inr, arith, true≢false}
-use Rattle.std.specs.Prelude.{slice_get}
+use Rattle.std.specs.Prelude.{Result, slice_get}
+use Rattle.std.specs.Result.{result_err}
 use Rattle.std.proofs.lemmas.List.{length-map, length-replicate}
 use Rattle.regex_hir.specs.Re.{Re}
 use Rattle.automata_base.specs.Haystacks.Matches.{HalfMatch}
@@ -14,9 +15,12 @@ use Rattle.automata_base.specs.Nfas.Engines.{Engine}
 use Rattle.automata_base.specs.Nfas.Nodes.{Automaton}
 use Rattle.automata_base.specs.Paths.Selections.{Pair}
 use Rattle.automata_base.proofs.ByteClasses.PatternsInSets.{members_from-replicate}
+use Rattle.automata_config.specs.declared.error.SearchError.{SearchError}
 use Rattle.automata_hybrid.specs.Machines.Builds.{Builds}
+use Rattle.automata_hybrid.specs.Known.Walks.{IsSetRun}
 use Rattle.automata_hybrid.specs.Walks.State.{fresh_walk}
-use Rattle.regex_automata.specs.Promises.{AreWalked, Forward, Input, JoinsReported, KindAll, Machine, MatchesIn}
+use Rattle.regex_automata.specs.Promises.{AreWalked, CacheView, Forward, Input, JoinsReported, KindAll, Machine}
+use Rattle.regex_automata.specs.Promises.{MatchesIn, known_of}
 use Rattle.regex_automata.specs.Promises.{SetsHaveMatching}
 use Rattle.regex_automata.specs.Promises.{HasReported, ReportsNext, Walk, engine_of, half_nth, match_kind_of}
 use Rattle.regex_automata.specs.Spans.Contracts.{empty_set}
@@ -26,7 +30,7 @@ use Rattle.meaning.proofs.Flags.{has_map, same_flag, same_set}
 use Rattle.meaning.proofs.Lists.{length-starts_of}
 use Rattle.meaning.proofs.Sets.{accepted_is_found, accepted_matches, any_is_found, way_is_accepted}
 use Rattle.patterns.specs.Patterns.{IsFor, IsJoinedNfa}
-use Rattle.patterns.specs.Sets.{AreEnds, IsDfaOf, set_settings_of}
+use Rattle.patterns.specs.Sets.{AreEnds, IsDfaOf, IsSetSearched, SearchesSet, set_settings_of}
 use Rattle.patterns.specs.declared.compile.Options.{Options}
 use Rattle.patterns.proofs.Drafting.{implement_count}
 use Rattle.patterns.proofs.Searching.{looks_same}
@@ -52,6 +56,21 @@ pub joins_empty :
 joins_empty m hay i n old new same fresh room which =
     subst (λ v. JoinsReported m v (empty_set (length m.nfa.start_pattern)) new) same
     (subst (λ v. JoinsReported m i v new) (fresh ∙ ap empty_set room) which)
+
+-- What the search for a set that was empty does.
+pub searches_empty :
+    (m : Machine) (hay : List ℕ) (i : Input) (n : ℕ) (set new : List Bool) (before after : CacheView)
+    (result : Result (List Bool) SearchError)
+    → i ≡ span_input hay 0 (length hay) → set ≡ empty_set n → n ≡ length m.nfa.start_pattern
+    → IsSetRun m i set new (known_of before) (known_of after) (result_err result)
+    → IsSetSearched m (span_input hay 0 (length hay)) before after result
+searches_empty m hay i n set new before after result same fresh room run =
+    SearchesSet new
+    (subst
+    (λ v. IsSetRun m v (empty_set (length m.nfa.start_pattern)) new (known_of before) (known_of after)
+    (result_err result)) same
+    (subst (λ v. IsSetRun m i v new (known_of before) (known_of after) (result_err result)) (fresh ∙ ap empty_set room)
+    run))
 
 -- What the first call of a walk reports.
 pub first_match :

@@ -79,11 +79,14 @@ abbrev pub IsJoinFault : Fault → Type 0
 IsJoinFault (Refused error) = error ≢ nfa_error.OutOfMemory
 IsJoinFault fault = IsOfSize fault
 
--- why texts have no NFA: one of them has no pattern; or all have one, and these cannot be joined, with the number 0
-abbrev pub IsNfaFault : Options → (texts : List (List ℕ)) → PatternError → Type 0
-IsNfaFault options texts error =
-    IsFirstFault options texts error
-    ⊎ (((res : List Re) × AreMeanings (config_of options) texts res) × (error.number ≡ 0) × IsJoinFault error.fault)
+-- why texts have no NFA
+pub data IsNfaFault (options : Options) (texts : List (List ℕ)) (error : PatternError) : Type 0 where
+  -- One of them has no pattern.
+  LacksPattern : IsFirstFault options texts error → IsNfaFault options texts error
+  -- All have one, and these cannot be joined, with the number 0.
+  CannotJoin :
+      (res : List Re) → AreMeanings (config_of options) texts res → error.number ≡ 0 → IsJoinFault error.fault
+      → IsNfaFault options texts error
 
 -- why nothing is built of their NFA, with the number 0: it is the error of the builder. `Fails` says when that fails
 pub record IsUnbuilt (Fails : Automaton → RegexBuildError → Type 0) (options : Options) (texts : List (List ℕ))

@@ -77,14 +77,17 @@ pub record IsSetAnswer (m : Machine) (input : Input) (result : Result (List Bool
   -- if nothing else can prevent an answer, the only error is out of memory
   pub free : IsUnhindered m input → IfErr result IsMemory
 
--- what it makes of its cache: what the search for a set that was empty does, which returns the same error, if any; or
--- nothing, if there is no memory for the set
-abbrev pub IsSetSearched : Machine → Input → (old new : CacheView) → Result (List Bool) SearchError → Type 0
-IsSetSearched m input old new result =
-    ((new ≡ old) × (result ≡ Err search.OutOfMemory))
-    ⊎ ((joined : List Bool)
-    × IsSetRun m input (empty_set (length m.nfa.start_pattern)) joined (known_of old) (known_of new)
-    (result_err result))
+-- what a search for the patterns that match makes of its cache
+pub data IsSetSearched (m : Machine) (input : Input) (old new : CacheView) (result : Result (List Bool) SearchError) :
+    Type 0 where
+  -- There is no memory for the set, and nothing changes.
+  LacksSet : new ≡ old → result ≡ Err search.OutOfMemory → IsSetSearched m input old new result
+  -- It does what the search for a set that was empty does, which returns the same error, if any.
+  SearchesSet :
+      (joined : List Bool)
+      → IsSetRun m input (empty_set (length m.nfa.start_pattern)) joined (known_of old) (known_of new)
+      (result_err result)
+      → IsSetSearched m input old new result
 
 -- what a search for whether some pattern matches returns, by its DFA and its input alone
 pub record IsAnyAnswer (m : Machine) (input : Input) (result : Result Bool SearchError) : Type 0 where

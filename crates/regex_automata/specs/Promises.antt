@@ -2,14 +2,13 @@
 -- steps, and what becomes of a cache. A DFA is seen as a `Machine`: `m.nfa` is its NFA and `m.config` its settings.
 
 -- The cache belongs to the DFA; the caches belong to the two DFAs of the regex. Each call needs it and gives it back.
-pub use Rattle.automata_hybrid.specs.Cache.Caches.{CacheView, IsCacheOf}
-pub use Rattle.regex_automata.specs.Regexes.Caches.{AreCachesOf}
+pub use Rattle.automata_hybrid.specs.Cache.Caches.{CacheView, IsCacheOf, HoldsRow}
+pub use Rattle.regex_automata.specs.Regexes.Caches.{AreCachesOf, AreKnown}
 -- What a cache knows: the states that have rows, and which transitions and start states are cached, without the IDs and
 -- cells in which it stands; and what a cache of a DFA may know, by `laws::cache_is_known`.
 pub use Rattle.automata_hybrid.specs.Known.Known.{Known}
 pub use Rattle.automata_hybrid.specs.Known.Stores.{known_of}
 pub use Rattle.automata_hybrid.specs.Known.Bounds.{IsKnown}
-pub use Rattle.regex_automata.specs.Regexes.Caches.{AreKnown}
 -- What contracts see of a DFA; its NFA, as paths need it; its match kind.
 pub use Rattle.automata_hybrid.specs.Machines.Machine.{Machine, engine}
 pub use Rattle.automata_base.specs.Nfas.Nodes.{nfa_of}
@@ -24,22 +23,21 @@ pub use Rattle.automata_base.specs.declared.util.search.Anchored.TheVariants.{No
 -- look-around assertion, and if it keeps unions; `NFA::keeping_unions` returns an NFA that does, for every NFA.
 pub use Rattle.automata_base.specs.Paths.Paths.{IsLookAcyclic, KeepsCycles}
 -- A match's pattern and end: of a search that returns it; and of one by paths, with the start of the span that gave it.
-pub use Rattle.automata_base.specs.Haystacks.Matches.{HalfMatch}
-pub use Rattle.automata_base.specs.Answers.Answers.{Half}
+pub use Rattle.automata_base.specs.Haystacks.Matches.{HalfMatch, Match}
+pub use Rattle.automata_base.specs.Answers.Answers.{Half, IsAnswer}
 -- The forward search's answer by the ordered paths; the nearest end of any path.
-pub use Rattle.automata_base.specs.Answers.Answers.{IsAnswer}
 pub use Rattle.automata_base.specs.Answers.OfPasses.{IsNearestAnswer}
 pub use Rattle.automata_base.specs.Nfas.Engines.{engine_of}
 pub use Rattle.automata_base.specs.declared.util.search.Direction.TheVariants.{Backward, Forward}
 -- What a search returns by its DFA and its input alone, by paths; and by its passes, for every NFA.
-pub use Rattle.automata_hybrid.specs.Searches.Contracts.{IsHalf}
+pub use Rattle.automata_hybrid.specs.Searches.Contracts.{IsHalf, IsMemory, IsUnhindered}
 pub use Rattle.automata_hybrid.specs.Searches.Passes.{IsFound, Skips, WithoutBase, without_base}
 pub use Rattle.automata_hybrid.specs.Searches.Agreement.{AnswersAgree}
 -- An overlapping search as contracts see it; it belongs to this input, and has reported so many matches; the list that
 -- it reports, the match at an index of it, and what a call returns and does to the walk.
 pub use Rattle.automata_hybrid.specs.Walks.State.{Walk}
 pub use Rattle.automata_hybrid.specs.Walks.Answers.{AreWalked, HasReported, IsWalkOf, ReportsNext, half_nth}
-pub use Rattle.automata_hybrid.specs.Walks.Contracts.{IsWalkCall}
+pub use Rattle.automata_hybrid.specs.Walks.Contracts.{IsWalkCall, IsWhich, JoinsReported}
 -- A search in pieces as contracts see it; it belongs to the DFA; which inputs it may be one of, once it has begun; it
 -- was given so many bytes of the span of an input, or all; a piece lies in a span; what reading one, and asking for the
 -- answer, means, and that of a whole haystack, by `laws::pieces_are_whole`; what they cost, by `laws::pieces_follow`.
@@ -47,36 +45,30 @@ pub use Rattle.automata_hybrid.specs.Pieces.State.{IsPiecesOf, PiecesView}
 pub use Rattle.automata_hybrid.specs.Pieces.Answers.{BeginsAfter, EndsHere, HasBegun, IsPieceAt, IsWhole, ReadsOn}
 pub use Rattle.automata_hybrid.specs.Pieces.Answers.{WasGiven, WasGivenAll, from_first}
 pub use Rattle.automata_hybrid.specs.Pieces.Whole.{HasReadAll, PiecesAreWhole, bytes_of_pieces, whole_input}
-pub use Rattle.automata_hybrid.specs.Pieces.Follows.{IsFreePiece}
-pub use Rattle.automata_hybrid.specs.Known.PiecesFollow.{IsCostOfUnits, PieceAnswersFollow, PiecesFollow}
+pub use Rattle.automata_hybrid.specs.Known.PiecesFollow.{IsFreePiece, IsCostOfUnits, PieceAnswersFollow, PiecesFollow}
 -- A walk over a haystack in pieces: where it stands after so many bytes of the span of an input, or all; the patterns
 -- at which it stands; what a call returns, where it stops, and what its end means; and that the states of a pass report
 -- just the patterns that match at each offset, by `laws::states_have_matching`.
 pub use Rattle.automata_hybrid.specs.Pieces.Walks.{EndsWith, HasBegunWalk, HasWalked, HasWalkedAll, IsAtMatch}
-pub use Rattle.automata_hybrid.specs.Pieces.Walks.{HasNoMatch}
-pub use Rattle.automata_hybrid.specs.Pieces.Walks.{IsWalked, StopsAt, WalksOn, patterns_here}
+pub use Rattle.automata_hybrid.specs.Pieces.Walks.{HasNoMatch, IsWalked, StopsAt, WalksOn, patterns_here}
 pub use Rattle.automata_hybrid.specs.Pieces.Matching.{MatchesAt, StatesHaveMatching}
 -- Some path of the pattern, from a start and through the span of an input, ends in a match; under `MatchKind::All` a
 -- set has exactly these patterns after a call that answers.
 pub use Rattle.automata_hybrid.specs.Walks.SetsByPaths.{MatchesIn, SetsHaveMatching}
-pub use Rattle.automata_hybrid.specs.Walks.Contracts.{IsWhich, JoinsReported}
 -- The two DFAs of a regex are a sound pair: spans need it. A regex that `build_from_nfa` returns is one.
-pub use Rattle.regex_automata.specs.Regexes.SoundPairs.{IsSoundPair}
+pub use Rattle.regex_automata.specs.Regexes.SoundPairs.{IsSoundPair, forward_engine}
 -- A match by the ordered paths: its pattern, its end, and the start of the path; whether there is one; all of them, one
 -- after another; the forward DFA's NFA and match kind, as these need them.
-pub use Rattle.automata_base.specs.Haystacks.Matches.{Match}
 pub use Rattle.automata_base.specs.Answers.Spans.{AreSpans, IsMatch, IsSpan}
-pub use Rattle.regex_automata.specs.Regexes.SoundPairs.{forward_engine}
 -- What `find` and `is_match` return by the two DFAs and the input alone, by paths; and by their passes, for every NFA.
 pub use Rattle.regex_automata.specs.Spans.Contracts.{IsSpanOf, IsTruthOf, IsTruthReported}
 pub use Rattle.regex_automata.specs.Spans.Outcomes.{FindsMatch}
 -- One item of `find_iter`: the match or the error that it gives, and what is left to be searched after it; its match
 -- may be sliced from the haystack.
-pub use Rattle.regex_automata.specs.Spans.Iteration.{GivesItem, LiesInHaystack}
+pub use Rattle.regex_automata.specs.Spans.Iteration.{GivesItem, LiesInHaystack, AreCollected, ComesTo}
 -- What the passes over an input report is what its paths define, over a sound pair, by `laws::matches_are_spans`; an
 -- item
 -- of `find_iter` by the paths; what a loop has collected.
-pub use Rattle.regex_automata.specs.Spans.Iteration.{AreCollected, ComesTo}
 pub use Rattle.regex_automata.specs.Spans.OfPaths.{CollectsMatches, IsItemOfPaths, LoopsCollect, MatchesAreSpans}
 pub use Rattle.regex_automata.specs.Spans.OfPaths.{SpansAreOfPaths}
 -- The patterns of a set, as a list; a member of a list.
@@ -89,7 +81,6 @@ pub use Rattle.regex_automata.specs.Tokens.{IsTokenAt, IsNoTokenAt}
 pub use Rattle.regex_automata.specs.Tokens.{AreOfPaths, AreTokenSpans, HasNoSpanPast, TokensAreSpans}
 -- A step may be taken from this ID: the cache has its row. Each start and each step gives this for the ID that it
 -- returns.
-pub use Rattle.automata_hybrid.specs.Cache.Caches.{HoldsRow}
 -- A search by steps that stops at its first match stands before the byte at an offset, in the state of this ID; the
 -- unit at an offset; what a step over it means; the first pattern of a match state; the first match, or none.
 pub use Rattle.automata_hybrid.specs.Steps.BySteps.{StandsAt, IsUnitAt, IsStepAt, IsFirstPattern, HasPatterns}
@@ -105,7 +96,6 @@ pub use Rattle.automata_hybrid.specs.Known.Effects.{StartsFollow, StepsFollow}
 -- what
 -- follows of it, by `laws::searches_follow` and `laws::spans_follow`: among others, until the next clear nothing is
 -- lost, and if all that a search uses is cached, nothing changes but the progress.
-pub use Rattle.automata_hybrid.specs.Searches.Contracts.{IsMemory, IsUnhindered}
 pub use Rattle.automata_hybrid.specs.Known.Passes.{IsSearchRun}
 pub use Rattle.automata_hybrid.specs.Known.Follows.{SearchFollows, SearchesFollow}
 pub use Rattle.automata_hybrid.specs.Known.Cached.{Knows}

@@ -157,11 +157,18 @@ abbrev pub most_tokens : (failed : Bool) → (end offset : ℕ) → ℕ
 most_tokens true end offset = 0
 most_tokens false end offset = end - offset
 
+-- why a list of tokens stops at an offset, with this error
+pub data StopsTokens (m : Machine) (h : List ℕ) (end offset : ℕ) (e : TokenError) : Type 0 where
+  -- memory for the list runs out
+  LacksListMemory : e ≡ Search search.OutOfMemory → StopsTokens m h end offset e
+  -- it is the item there
+  IsErrorThere : IsItemAt m h end offset (Err e) → StopsTokens m h end offset e
+
 -- tokens one after another, the first at this offset: each is the item where the one before ended. After the last comes
--- the span's end, or an error, which is the item there or out of memory for the list
+-- the span's end, or an error
 abbrev pub AreGiven : Machine → List ℕ → (end offset : ℕ) → List Match → Option TokenError → Type 0
 AreGiven m h end offset [] None = end ≤ offset
-AreGiven m h end offset [] (Some e) = (e ≡ Search search.OutOfMemory) ⊎ IsItemAt m h end offset (Err e)
+AreGiven m h end offset [] (Some e) = StopsTokens m h end offset e
 AreGiven m h end offset (t ∷ ts) error = IsItemAt m h end offset (Ok t) × AreGiven m h end t.end ts error
 
 -- a token by what searches find: it ends where the answer at its offset does
@@ -241,12 +248,14 @@ abbrev pub AreTokenSpans : Engine → List ℕ → (end offset : ℕ) → List M
 AreTokenSpans d h end offset [] = Unit {0}
 AreTokenSpans d h end offset (t ∷ ts) = IsSpan d (asked h end offset) (Some t) × AreTokenSpans d h end t.end ts
 
--- the anchored search at an offset has no span by the ordered paths, or an empty one there
-abbrev pub HasNoSpanPast : Engine → List ℕ → (end offset : ℕ) → Type 0
-HasNoSpanPast d h end offset =
-    IsSpan d (asked h end offset) None
-    ⊎ ((pattern : ℕ)
-    × IsSpan d (asked h end offset) (Some (record { pattern = pattern; start = offset; end = offset })))
+-- the anchored search at an offset has no span past the offset by the ordered paths
+pub data HasNoSpanPast (d : Engine) (h : List ℕ) (end offset : ℕ) : Type 0 where
+  -- it has none
+  HasNoSpan : IsSpan d (asked h end offset) None → HasNoSpanPast d h end offset
+  -- it has an empty one there
+  HasEmptySpan :
+      (pattern : ℕ) → IsSpan d (asked h end offset) (Some (record { pattern = pattern; start = offset; end = offset }))
+      → HasNoSpanPast d h end offset
 
 -- what tokens are by the ordered paths
 pub record AreOfPaths (m : Machine) (d : Engine) (h : List ℕ) (end : ℕ) : Type 0 where

@@ -15,7 +15,7 @@ use Rattle.automata_config.specs.declared.error.SearchError.TheVariants as searc
 use Rattle.automata_hybrid.specs.Machines.Machine.{Machine}
 use Rattle.automata_hybrid.specs.Searches.Contracts.{IsMemory}
 use Rattle.automata_hybrid.specs.Known.Known.{Known}
-use Rattle.automata_hybrid.specs.Known.Walks.{EndsSet, HaveCalled, IsSetRun, NoCall, OneMore}
+use Rattle.automata_hybrid.specs.Known.Walks.{SetEnds, HaveCalled, IsSetRun, NoCall, OneMore}
 use Rattle.automata_hybrid.specs.Walks.Progress.{IsOpenAfter}
 use Rattle.automata_hybrid.specs.Walks.Answers.{HasReported}
 use Rattle.automata_hybrid.specs.Walks.State.{Walk}
@@ -79,7 +79,7 @@ called_reported m input set (suc calls) old walk new
     ((reports calls reported.0).0, up_to (IsOpenAfter m input set) calls reported.1 is_open)
 
 pub reported_set :
-    (m : Machine) (input : Input) (set : List Bool) (old new : Known) → EndsSet m input set old new
+    (m : Machine) (input : Input) (set : List Bool) (old new : Known) → SetEnds m input set old new
     → HasReportedSet m input set
 reported_set m input set old new s =
     let reported = called_reported m input set s.calls old s.walk new s.called in
@@ -88,7 +88,7 @@ reported_set m input set old new s =
 -- the run of one that returned no error
 pub run_ended :
     (m : Machine) (input : Input) (set joined : List Bool) (old new : Known) (error : Option SearchError) → error ≡ None
-    → IsSetRun m input set joined old new error → EndsSet m input set old new
+    → IsSetRun m input set joined old new error → SetEnds m input set old new
 run_ended m input set joined old new None none run = run
 run_ended m input set joined old new (Some e) none run = absurd (some_none none)
 

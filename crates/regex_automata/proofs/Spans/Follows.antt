@@ -19,20 +19,17 @@ use Rattle.automata_hybrid.specs.Known.Growth.{ClearedNothing, IsGrown, IsStill}
 use Rattle.automata_hybrid.specs.Known.Stores.{known_of}
 use Rattle.automata_hybrid.specs.Machines.Machine.{Machine}
 use Rattle.automata_hybrid.specs.Searches.Agreement.{AnswersAgree}
-use Rattle.automata_hybrid.specs.Searches.Cached.{IsOfInput}
+use Rattle.automata_hybrid.specs.Searches.Contracts.{IsOfInput}
 use Rattle.automata_hybrid.specs.Searches.Passes.{IsFound}
 use Rattle.automata_hybrid.proofs.Known.Growth.{grown_same}
 use Rattle.regex_automata.specs.Regexes.Caches.{AreKnown, KnowsBack}
 use Rattle.regex_automata.specs.Spans.Errors.{BackFails, FailsHere, FailsLater, FrontFails, HasReason, IsBackError}
-use Rattle.regex_automata.specs.Spans.Errors.{IsNextError}
-use Rattle.regex_automata.specs.Spans.Errors.{IsOfGiven, IsRegexError}
-use Rattle.regex_automata.specs.Spans.Errors.{NoStart}
+use Rattle.regex_automata.specs.Spans.Errors.{IsNextError, IsOfGiven, IsRegexError, NoStart}
 use Rattle.regex_automata.specs.Spans.Follows.{ErrorsFollow, IsCostBack, NextFollows, NextsFollow, NoPass, OnePass}
-use Rattle.regex_automata.specs.Spans.Follows.{SpanFollows}
-use Rattle.regex_automata.specs.Spans.Follows.{OfOne, OfTwo, SpansFollow}
+use Rattle.regex_automata.specs.Spans.Follows.{SpanFollows, OfOne, OfTwo, SpansFollow}
 use Rattle.regex_automata.specs.Spans.Outcomes.{IsStartFound}
 use Rattle.regex_automata.specs.Spans.Runs.{IsBackRun, IsBothRun, IsErrorOfBoth, IsFrontRun, IsNextRun, IsSpanRun, Made}
-use Rattle.regex_automata.specs.Spans.Runs.{NotMade}
+use Rattle.regex_automata.specs.Spans.Runs.{NotMade, FindsNoStart, IsItsOwn}
 use Rattle.regex_automata.specs.Spans.Iteration.{FindsEmptyAt}
 use Rattle.regex_automata.specs.declared.hybrid.regex.Regex.{Regex}
 use Rattle.regex_automata.specs.declared.hybrid.regex.caches.Cache.{Cache}
@@ -99,15 +96,16 @@ of_both :
     (p : Regex) (input : Input) (half : Half) (failed error : Option SearchError) (P : SearchError → Type 0)
     → (IsStartFound p input half None → P search.NotAPair) → IfSome failed P → IsErrorOfBoth p input half failed error
     → IfSome error P
-of_both p input half failed error P apart why (inl same) = subst (λ (e : Option SearchError). IfSome e P) (sym same) why
-of_both p input half failed error P apart why (inr none) =
-    subst (λ (e : Option SearchError). IfSome e P) (sym none.2) (apart none.1)
+of_both p input half failed error P apart why (IsItsOwn same) =
+    subst (λ (e : Option SearchError). IfSome e P) (sym same) why
+of_both p input half failed error P apart why (FindsNoStart ends none is) =
+    subst (λ (e : Option SearchError). IfSome e P) (sym is) (apart none)
 
 ends_both :
     (p : Regex) (input : Input) (half : Half) (failed error : Option SearchError)
     → IsErrorOfBoth p input half failed error → error ≡ None → failed ≡ None
-ends_both p input half failed error (inl same) ok = sym same ∙ ok
-ends_both p input half failed error (inr none) ok = none.0
+ends_both p input half failed error (IsItsOwn same) ok = sym same ∙ ok
+ends_both p input half failed error (FindsNoStart ends none is) ok = ends
 
 -- in a span that is done nothing is found
 none_past :

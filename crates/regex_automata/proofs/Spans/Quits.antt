@@ -13,7 +13,7 @@ use Rattle.automata_base.specs.declared.util.search.Anchored.{Anchored}
 use Rattle.automata_base.specs.declared.util.search.Anchored.TheVariants.{No, Yes}
 use Rattle.automata_base.specs.declared.util.search.MatchErrorKind.TheVariants.{Quit as QuitAt}
 use Rattle.automata_config.specs.declared.error.SearchError.TheVariants as search
-use Rattle.automata_hybrid.specs.Calls.Events.{Event}
+use Rattle.automata_hybrid.specs.Steps.Events.{Event}
 use Rattle.automata_hybrid.specs.Known.Known.{Known}
 use Rattle.automata_hybrid.specs.Known.Passes as known
 use Rattle.automata_hybrid.specs.Machines.Machine.{Machine}
@@ -25,6 +25,7 @@ use Rattle.automata_hybrid.proofs.Searches.Reach.{is_behind}
 use Rattle.automata_hybrid.proofs.Searches.Directions.{units_in}
 use Rattle.automata_hybrid.proofs.Searches.PassState.{false_true}
 use Rattle.automata_base.proofs.Answers.Starts.{yes_no}
+use Rattle.automata_base.proofs.Answers.Tried.{tries_once}
 
 -- a look-behind byte that is no quit byte, and one that is
 free_behind :
@@ -101,21 +102,23 @@ pub back_free :
     → IsFound Forward m input (Some half)
     → known.SearchFails Backward rev (back input half) old new (search.Match (QuitAt byte at)) → ⊥
 back_free law m rev old new input half byte at same few ahead within found f =
-    go (f.tried f.passes (omega arith)).0.comes where
-      clean :
-          MeetsNone (is_quit rev.quits) (reverse_tape input.haystack half.base half.offset) (half.offset - half.base)
-      clean =
-          subst (λ (q : List Bool). MeetsNone (is_quit q) (reverse_tape input.haystack half.base half.offset)
-          (half.offset - half.base)) same
-          (rest_clean law m input half few within found)
+    go
+    (tries_once (Skips rev) (back input half) f.passes (λ skips free. yes_no free)
+    (f.tried f.passes (omega arith)).0.comes)
+  where
+    clean :
+        MeetsNone (is_quit rev.quits) (reverse_tape input.haystack half.base half.offset) (half.offset - half.base)
+    clean =
+        subst (λ (q : List Bool). MeetsNone (is_quit q) (reverse_tape input.haystack half.base half.offset)
+        (half.offset - half.base)) same
+        (rest_clean law m input half few within found)
 
-      go : (f.passes ≡ 0) ⊎ (Skips rev × (◌≡◌ {A = Anchored} Yes No)) → ⊥
-      go (inl z) =
-          let end : half.offset - f.passes ≡ half.offset = omega (arith, z) in
-          pass_free rev (back input half) f.mid new byte at ahead (omega (arith, few, within)) clean
-          (subst (λ n. known.PassFails Backward rev (record (back input half) { end = n }) f.mid new
-          (search.Match (QuitAt byte at))) end f.fails)
-      go (inr s) = yes_no s.1
+    go : f.passes ≡ 0 → ⊥
+    go z =
+        let end : half.offset - f.passes ≡ half.offset = omega (arith, z) in
+        pass_free rev (back input half) f.mid new byte at ahead (omega (arith, few, within)) clean
+        (subst (λ n. known.PassFails Backward rev (record (back input half) { end = n }) f.mid new
+        (search.Match (QuitAt byte at))) end f.fails)
 
 -- no event fails with the error of a regex whose two searches disagree
 event_pair : (m : Machine) (e : Event) (at : ℕ) (old new : Known) → known.EventFails m e at old new search.NotAPair → ⊥

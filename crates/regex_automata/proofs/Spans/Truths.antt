@@ -1,10 +1,11 @@
 -- Whether there is a match: if nothing is skipped, the first match that is seen decides it as the whole search does.
 use Rattle.std.proofs.Common.{ℕ, zero, suc, ◌≡◌, ◌∙◌, ◌<◌, ◌≤◌, ◌+◌, ◌⊎◌, inl, inr, Bool, true, List, [], ◌∷◌, length}
-use Rattle.std.proofs.Common.{Option, Some, None, refl, sym, ap, subst, arith}
+use Rattle.std.proofs.Common.{Option, Some, None, refl, sym, ap, subst, arith, not, false}
 use Rattle.std.specs.Prelude.{is_some}
 use Rattle.std.specs.Option.{option_map}
 use Rattle.automata_base.specs.Answers.Answers.{Half, HasNoAnswerAt, IsInput, SpanIsDone, SpanReportsNone, StopsAtSplit}
 use Rattle.automata_base.specs.Answers.Answers.{Tries, later, offset_in}
+use Rattle.automata_base.specs.Answers.Answers.{IsFirstSpan}
 use Rattle.automata_base.specs.Haystacks.Input.{Input}
 use Rattle.automata_base.specs.Haystacks.Matches.{HalfMatch}
 use Rattle.automata_base.specs.Nfas.Nodes.{Automaton, nfa_of}
@@ -23,8 +24,10 @@ use Rattle.automata_hybrid.specs.Machines.Machine.{Machine, engine}
 use Rattle.automata_hybrid.specs.Searches.Passes.{IsFound, Skips, WithoutBase, without_base}
 use Rattle.automata_hybrid.proofs.Searches.Skips.{found_reported}
 use Rattle.regex_automata.specs.Spans.IsMatch.{IsAsked, IsMatchReported, IsNearestThere, IsTruthFound, in_part}
+use Rattle.regex_automata.specs.Spans.IsMatch.{AsksInFull, AsksInPart}
 use Rattle.automata_config.specs.Options.{match_kind_of}
 use Rattle.std.proofs.lemmas.Bool.{cases_lt}
+use Rattle.automata_base.proofs.Answers.Tried.{tries_once}
 
 -- the first match is there if the last one is
 some_same :
@@ -57,14 +60,11 @@ module _ (m : Machine) (input : Input) (whole : Skips m → ⊥) where
 
   first_try :
       (k : ℕ) → Tries (ReportsOver Forward m.nfa (match_kind_of m.config)) (Skips m) Forward (in_part input) k → k ≡ 0
-  first_try k tries = go tries.comes where
-    go : (k ≡ 0) ⊎ (Skips m × (input.anchored ≡ No)) → k ≡ 0
-    go (inl z) = z
-    go (inr s) = absurd (whole s.0)
+  first_try k tries = tries_once (Skips m) (in_part input) k (λ skips free. whole skips) tries.comes
 
   only_try :
       (k : ℕ) → k ≡ 0 → Tries (ReportsOver Forward m.nfa (match_kind_of m.config)) (Skips m) Forward (in_full input) k
-  only_try k z = record { comes = inl z; before = λ j l. absurd (omega (arith, l, z)) }
+  only_try k z = record { comes = IsFirstSpan z; before = λ j l. absurd (omega (arith, l, z)) }
 
   whole_reported :
       (k : ℕ) (o : Option Pair) → k ≡ 0 → input.start + k ≤ input.end
@@ -125,18 +125,25 @@ module _ (m : Machine) (input : Input) (whole : Skips m → ⊥) where
       (first_try f.0 f.1) f.2.within refl in
       (w.0, w.1, ap (λ (v : Option Pair). is_some v) f.2.reported ∙ same_reported f.0 ∙ w.2)
 
+-- what is searched, by whether split places are skipped
+pub asked_by :
+    (m : Machine) (input asked : Input) (b : Bool) → (b ≡ true → Skips m) → (b ≡ false → Skips m → ⊥)
+    → asked ≡ record input { earliest = not b } → IsAsked m input asked
+asked_by m input asked true does lacks is = AsksInFull (does refl) is
+asked_by m input asked false does lacks is = AsksInPart (lacks refl) is
+
 -- what is searched differs from the input in one part
 pub asked_to :
     {R : Type 0} (P : Input → Type 0) (m : Machine) (input asked : Input) → IsAsked m input asked
     → (P (in_full input) → R) → (P (in_part input) → R) → P asked → R
-asked_to P m input asked (inl a) f g h = f (subst P a.1 h)
-asked_to P m input asked (inr a) f g h = g (subst P a.1 h)
+asked_to P m input asked (AsksInFull skips is) f g h = f (subst P is h)
+asked_to P m input asked (AsksInPart whole is) f g h = g (subst P is h)
 
 pub asked_from :
     (P : Input → Type 0) (m : Machine) (input asked : Input) → IsAsked m input asked → P (in_full input)
     → P (in_part input) → P asked
-asked_from P m input asked (inl a) f g = subst P (sym a.1) f
-asked_from P m input asked (inr a) f g = subst P (sym a.1) g
+asked_from P m input asked (AsksInFull skips is) f g = subst P (sym is) f
+asked_from P m input asked (AsksInPart whole is) f g = subst P (sym is) g
 
 same_some :
     (o : Option HalfMatch) (answer : Option Half) → o ≡ option_map without_base answer → is_some o ≡ is_some answer
@@ -154,16 +161,16 @@ truth_found m input asked is found truth f e =
 pub truth_reported :
     (m : Machine) (input asked : Input) → IsAsked m input asked → (found : Option HalfMatch) (truth : Bool)
     → WithoutBase (IsFound Forward m asked) found → truth ≡ is_some found → IsMatchReported m input truth
-truth_reported m input asked (inl a) found truth f e = (
+truth_reported m input asked (AsksInFull skips is) found truth f e = (
   f.0,
-  subst (λ (i : Input). IsReported Forward m.nfa (match_kind_of m.config) i f.0) a.1
+  subst (λ (i : Input). IsReported Forward m.nfa (match_kind_of m.config) i f.0) is
       (found_reported Forward m asked f.0 f.1),
   e ∙ same_some found f.0 f.2,
 )
-truth_reported m input asked (inr a) found truth f e =
+truth_reported m input asked (AsksInPart whole is) found truth f e =
     let w =
-    match_reported m input a.0 f.0
-    (subst (λ (i : Input). IsReported Forward m.nfa (match_kind_of m.config) i f.0) a.1
+    match_reported m input whole f.0
+    (subst (λ (i : Input). IsReported Forward m.nfa (match_kind_of m.config) i f.0) is
     (found_reported Forward m asked f.0 f.1)) in
     (w.0, w.1, e ∙ same_some found f.0 f.2 ∙ w.2)
 
@@ -178,10 +185,10 @@ pub truth_nearest :
     (m : Machine) (input asked : Input) → IsAsked m input asked → (found : Option HalfMatch) (truth : Bool)
     → (asked.earliest ≡ true → WithoutBase (IsNearestAnswer Forward (engine m) asked) found)
     → truth ≡ is_some found → (Skips m → ⊥) → IsNearestThere m input truth
-truth_nearest m input asked (inl a) found truth f e whole = absurd (whole a.0)
-truth_nearest m input asked (inr a) found truth f e whole =
-    let g = f (ap (λ (i : Input). i.earliest) a.1) in (
+truth_nearest m input asked (AsksInFull skips is) found truth f e whole = absurd (whole skips)
+truth_nearest m input asked (AsksInPart never is) found truth f e whole =
+    let g = f (ap (λ (i : Input). i.earliest) is) in (
       g.0,
-      subst (λ (i : Input). IsNearestAnswer Forward (engine m) i g.0) a.1 g.1,
+      subst (λ (i : Input). IsNearestAnswer Forward (engine m) i g.0) is g.1,
       e ∙ same_some found g.0 g.2,
     )

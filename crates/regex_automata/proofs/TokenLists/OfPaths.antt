@@ -12,12 +12,13 @@ use Rattle.automata_base.proofs.Answers.Starts.{answered, yes_no}
 use Rattle.automata_base.proofs.Paths.Orders.{none_some, some_inj, some_none}
 use Rattle.automata_hybrid.specs.Searches.Passes.{WithoutBase, without_base}
 use Rattle.regex_automata.specs.Tokens.{AreGiven, AreTokenSpans, HasNoSpanPast, IsItemAt, IsNoTokenAt, IsTokenAt}
-use Rattle.regex_automata.specs.Tokens.{SearchReturns}
+use Rattle.regex_automata.specs.Tokens.{SearchReturns, HasNoSpan, HasEmptySpan}
 use Rattle.regex_automata.specs.Tokens.{TokensAreSpans, asked, match_of}
 use Rattle.regex_automata.specs.declared.tokens.error.TokenError.{TokenError}
 use Rattle.regex_automata.specs.declared.tokens.token.Token.{Token}
 use Rattle.regex_automata.proofs.TokenLists.Tiling.{token_is}
 use Rattle.automata_hybrid.specs.Machines.Machine.{engine}
+use Rattle.automata_base.proofs.Answers.Tried.{tries_once}
 
 -- an anchored answer ends a path that begins where the search did
 span_at :
@@ -27,7 +28,7 @@ span_at :
 span_at d h end offset half m a same begins ends =
     let n = answered d (asked h end offset) half a in
     let first : a.0 ≡ 0 =
-    ⊎_elim (λ (z : a.0 ≡ 0). z) (λ (z : IsSkipping d × (Yes ≡ No)). absurd (yes_no z.1)) a.1.comes in
+    tries_once (IsSkipping d) (asked h end offset) a.0 (λ skips free. yes_no free) a.1.comes in
     let base : half.base ≡ offset + a.0 = a.2.base in
     record {
       half = half;
@@ -85,9 +86,10 @@ spans_of_paths m h end cycles = record { token = token; none = none; list = list
       → SearchReturns m h end offset (Ok None)
       ⊎ ((pattern : ℕ) × SearchReturns m h end offset (Ok (Some (record { pattern = pattern; offset = offset }))))
       → HasNoSpanPast d h end offset
-  by_cases offset (inl returned) = inl (no_span d h end offset (returned.0.answer cycles))
+  by_cases offset (inl returned) = HasNoSpan (no_span d h end offset (returned.0.answer cycles))
   by_cases offset (inr (pattern, returned)) =
-      inr (pattern, reported offset (record { pattern = pattern; start = offset; end = offset }) returned refl)
+      HasEmptySpan pattern
+      (reported offset (record { pattern = pattern; start = offset; end = offset }) returned refl)
 
   none : (offset : ℕ) → IsNoTokenAt m h end offset → HasNoSpanPast d h end offset
   none offset is = by_cases offset is.none

@@ -12,7 +12,7 @@ use Rattle.automata_hybrid.specs.Machines.Machine.{Machine}
 use Rattle.automata_hybrid.specs.Searches.Contracts.{IsUnhindered}
 use Rattle.automata_hybrid.specs.Searches.Bounds.{LiesIn}
 use Rattle.regex_automata.specs.Tokens.{AreFoundBy, AreGiven, EmptyMatch, FindsNoToken, IsBeginningOf, IsGivenAt}
-use Rattle.regex_automata.specs.Tokens.{IsItemAt}
+use Rattle.regex_automata.specs.Tokens.{IsItemAt, LacksListMemory, IsErrorThere}
 use Rattle.regex_automata.specs.Tokens.{IsNoTokenOrMemory, NoMatch}
 use Rattle.regex_automata.specs.Tokens.{IsTokenAt, SearchReturns, asked, match_bytes, item_of, joined, match_of}
 use Rattle.regex_automata.specs.declared.tokens.error.TokenError.{TokenError}
@@ -162,8 +162,8 @@ module _ (m : Machine) (h : List ℕ) (end : ℕ) where
         (offset : ℕ) (ts : List Match) (error : Option TokenError) → AreGiven m h end offset ts error
         → AreFoundBy P h end offset ts error
     found_by offset [] None g = g
-    found_by offset [] (Some (NoToken at)) (inl memory) = absurd (no_search at _ memory)
-    found_by offset [] (Some (NoToken at)) (inr item) =
+    found_by offset [] (Some (NoToken at)) (LacksListMemory memory) = absurd (no_search at _ memory)
+    found_by offset [] (Some (NoToken at)) (IsErrorThere item) =
         let n = no_token_is offset at item in record { place = n.0; within = n.1; none = none_by offset n.2 }
     found_by offset [] (Some (Search e)) g = tt
     found_by offset (t ∷ ts) error g =
@@ -225,8 +225,8 @@ module _ (m : Machine) (h : List ℕ) (end : ℕ) where
       → IsUnhindered m (asked h end start) → AreGiven m h end offset ts error → IfSome error IsNoTokenOrMemory
   free_of start offset [] None later free g = tt
   free_of start offset [] (Some (NoToken at)) later free g = tt
-  free_of start offset [] (Some (Search e)) later free (inl memory) = same_search e _ memory
-  free_of start offset [] (Some (Search e)) later free (inr item) =
+  free_of start offset [] (Some (Search e)) later free (LacksListMemory memory) = same_search e _ memory
+  free_of start offset [] (Some (Search e)) later free (IsErrorThere item) =
       (refused_is offset e item).0.free (unhindered_later start offset later free)
   free_of start offset (t ∷ ts) error later free g =
       let n = token_is offset t g.0 in free_of start t.end ts error (omega (arith, n.2, later)) free g.1

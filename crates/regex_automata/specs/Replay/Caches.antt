@@ -1,5 +1,5 @@
 -- What the requests of a replay do to its caches, one after another; so why calls over these fail.
-use Rattle.std.specs.Prelude.{ℕ, ◌≡◌, ◌⊎◌, ◌↔◌, ◌<◌, Bool, List, [], ◌∷◌, length, Option, Some, None}
+use Rattle.std.specs.Prelude.{ℕ, ◌≡◌, ◌↔◌, ◌<◌, Bool, List, [], ◌∷◌, length, Option, Some, None}
 use Rattle.std.specs.Prelude.{Result, Ok, Err, IfOk, OnOk, slice_get}
 use Rattle.std.specs.Result.{result_err}
 use Rattle.automata_base.specs.Haystacks.Input.{Input}
@@ -78,12 +78,19 @@ IsTokenMade m h end place old new item =
     IsTokenRun m h end place old.forward new.forward item × (new.reverse ≡ old.reverse)
 
 -- the search for a token after the last one of a list, and why that is the last
-abbrev pub IsTokenSearchedLast :
-    Machine → List ℕ → (end place : ℕ) → (old new : Cache) → Option TokenError → Type 0
-IsTokenSearchedLast m h end place old new None = IsTokenMade m h end place old new None
-IsTokenSearchedLast m h end place old new (Some e) =
-    IsTokenMade m h end place old new (Some (Err e))
-    ⊎ ((e ≡ Search search.OutOfMemory) × ((t : Token) × IsTokenMade m h end place old new (Some (Ok t))))
+pub data IsTokenSearchedLast (m : Machine) (h : List ℕ) (end place : ℕ) (old new : Cache) (error : Option TokenError) :
+    Type 0 where
+  -- there is no further token
+  EndsTokenList :
+      error ≡ None → IsTokenMade m h end place old new None → IsTokenSearchedLast m h end place old new error
+  -- the search fails
+  FailsTokenList :
+      (e : TokenError) → error ≡ Some e → IsTokenMade m h end place old new (Some (Err e))
+      → IsTokenSearchedLast m h end place old new error
+  -- there is a further token, and no memory for it in the list
+  LacksTokenRoom :
+      (t : Token) → error ≡ Some (Search search.OutOfMemory) → IsTokenMade m h end place old new (Some (Ok t))
+      → IsTokenSearchedLast m h end place old new error
 
 -- the search for a token of a list, given by its pattern and its span
 pub record IsTokenSearched (m : Machine) (h : List ℕ) (end place : ℕ) (old new : Cache) (t : Match) : Type 0 where

@@ -11,7 +11,7 @@ use Rattle.automata_config.specs.declared.error.SearchError.TheVariants as searc
 use Rattle.automata_hybrid.specs.Known.Known.{Known}
 use Rattle.automata_hybrid.specs.Known.Passes.{SearchFails}
 use Rattle.automata_hybrid.specs.Known.Stores.{known_of}
-use Rattle.automata_hybrid.specs.Searches.Cached.{IsOfInput}
+use Rattle.automata_hybrid.specs.Searches.Contracts.{IsOfInput}
 use Rattle.automata_hybrid.specs.Searches.Passes.{IsFound, NoQuitInReach}
 use Rattle.automata_hybrid.specs.Machines.StartSlots.{supports}
 use Rattle.regex_automata.specs.declared.hybrid.regex.Regex.{Regex}

@@ -1,5 +1,5 @@
 -- Whether there is a match.
-use Rattle.std.specs.Prelude.{◌≡◌, ◌⊎◌, Bool, true, Option, is_some}
+use Rattle.std.specs.Prelude.{◌≡◌, Bool, true, Option, is_some}
 use Rattle.automata_base.specs.Answers.Answers.{Half}
 use Rattle.automata_base.specs.Haystacks.Input.{Input}
 use Rattle.automata_base.specs.Answers.Spans.{in_full}
@@ -13,9 +13,12 @@ use Rattle.automata_config.specs.Options.{match_kind_of}
 abbrev pub in_part : Input → Input
 in_part input = record input { earliest = true }
 
--- what is searched: the input, not earliest if split places are skipped, and earliest otherwise
-abbrev pub IsAsked : Machine → Input → Input → Type 0
-IsAsked m input asked = (Skips m × (asked ≡ in_full input)) ⊎ ((Skips m → ⊥) × (asked ≡ in_part input))
+-- what is searched to see whether there is a match
+pub data IsAsked (m : Machine) (input asked : Input) : Type 0 where
+  -- split places are skipped: it is the input, not earliest
+  AsksInFull : Skips m → asked ≡ in_full input → IsAsked m input asked
+  -- they are not: it is the input, earliest
+  AsksInPart : (Skips m → ⊥) → asked ≡ in_part input → IsAsked m input asked
 
 -- whether there is a match, by what a search finds; none of its passes met a quit byte
 pub record IsTruthFound (m : Machine) (input : Input) (truth : Bool) : Type 0 where

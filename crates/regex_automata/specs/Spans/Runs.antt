@@ -37,10 +37,14 @@ IsFrontRun p input old new error =
     IsSearchRun Forward p.forward input (known_of old.forward) (known_of new.forward) error
     × (new.reverse ≡ old.reverse) × (error ≡ None → IsFound Forward p.forward input None)
 
--- the error after a search back: its own, if it has one; or, if it finds no start, that the two are no pair
-abbrev pub IsErrorOfBoth : Regex → Input → Half → (failed error : Option SearchError) → Type 0
-IsErrorOfBoth p input half failed error =
-    (error ≡ failed) ⊎ ((failed ≡ None) × IsStartFound p input half None × (error ≡ Some search.NotAPair))
+-- the error after a search back
+pub data IsErrorOfBoth (p : Regex) (input : Input) (half : Half) (failed error : Option SearchError) : Type 0 where
+  -- it is that of the search back, if it has one
+  IsItsOwn : error ≡ failed → IsErrorOfBoth p input half failed error
+  -- the search back finds no start, so the two are no pair
+  FindsNoStart :
+      failed ≡ None → IsStartFound p input half None → error ≡ Some search.NotAPair
+      → IsErrorOfBoth p input half failed error
 
 -- the forward search has an answer, and the search back fails or ends
 pub record IsBothRun (p : Regex) (input : Input) (old new : Cache) (error : Option SearchError) : Type 0 where

@@ -1,4 +1,5 @@
-use Rattle.std.proofs.Common.{map}
+use Rattle.std.proofs.Common.{map, refl}
+use Rattle.patterns.specs.Faults.{CannotJoin}
 use Rattle.patterns.specs.Patterns.{IsJoinedNfa}
 use Rattle.patterns.proofs.Building.{joined_is}
 use Rattle.patterns.proofs.Drafting.{within_limit}
@@ -23,3 +24,7 @@ returns-in-Ok-clause-small c =
     let made = c.in-Ok.ensures.merged in
     within_limit c.args.options.now (map (λ text. text.now) c.args.texts.now) c.read.new.self made.0 c.in-Ok.nfa draft
     (made.1 draft.ks draft.has) made.2
+
+pub returns-clause-refused : goal.returns-clause-refused
+returns-clause-refused c =
+    let draft = c.in_ok-read.ensures.read in CannotJoin draft.res draft.meant refl c.in-Err.ensures.refused

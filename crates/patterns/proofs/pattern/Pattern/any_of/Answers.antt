@@ -1,4 +1,5 @@
-use Rattle.std.proofs.Common.{inr, refl}
+use Rattle.std.proofs.Common.{inl, inr, refl}
+use Rattle.patterns.proofs.Building.{of_error}
 use Rattle.patterns.proofs.pattern.Pattern.any_of.Goals as goal
 
 pub returns-in-Ok-clause-meant : goal.returns-in-Ok-clause-meant
@@ -22,3 +23,7 @@ returns-in-Err-clause-refused c = inr (record {
   fault = refl;
   number = refl;
 })
+
+pub returns-in_err-nfa-clause-refused : goal.returns-in_err-nfa-clause-refused
+returns-in_err-nfa-clause-refused c =
+    of_error c.from_residual.result _ _ c.from_residual.ensures.1 (inl c.in_err-nfa.ensures.refused)

@@ -1,7 +1,7 @@
-use Rattle.std.proofs.Common.{◌∙◌, ap, false, length, subst}
+use Rattle.std.proofs.Common.{◌∙◌, ap, false, length, subst, Ok, Err}
 use Rattle.std.proofs.lemmas.List.{length-replicate}
 use Rattle.regex_automata.specs.Promises.{Input, IsHaystack}
-use Rattle.patterns.proofs.Sets.{joins_empty, set_means}
+use Rattle.patterns.proofs.Sets.{joins_empty, searches_empty, set_means}
 use Rattle.patterns.proofs.set.RegexSet.which.Goals as goal
 
 pub returns-in-Ok-clause-returned : goal.returns-in-Ok-clause-returned
@@ -25,3 +25,17 @@ returns-in-Ok-clause-found c = λ o res is for.
     (joins_empty c.args.self.now.dfa c.args.hay.now c.new-input.result c.pattern_len.result c.in_ok-found.found
     c.try_which_overlapping_matches.new.patset c.new-input.ensures c.in_ok-found.ensures.capacity c.pattern_len.ensures
     c.in-Ok.ensures.found)
+
+pub returns-in-Ok-clause-effect : goal.returns-in-Ok-clause-effect
+returns-in-Ok-clause-effect c =
+    searches_empty c.args.self.now.dfa c.args.hay.now c.new-input.result c.pattern_len.result c.in_ok-found.found
+    c.try_which_overlapping_matches.new.patset c.args.cache.now c.try_which_overlapping_matches.new.cache
+    (Ok c.try_which_overlapping_matches.new.patset) c.new-input.ensures c.in_ok-found.ensures.capacity
+    c.pattern_len.ensures c.in-Ok.ensures.effect
+
+pub returns-in-Err-clause-effect : goal.returns-in-Err-clause-effect
+returns-in-Err-clause-effect c =
+    searches_empty c.args.self.now.dfa c.args.hay.now c.new-input.result c.pattern_len.result c.in_ok-found.found
+    c.try_which_overlapping_matches.new.patset c.args.cache.now c.try_which_overlapping_matches.new.cache
+    (Err c.in-Err.error) c.new-input.ensures c.in_ok-found.ensures.capacity c.pattern_len.ensures
+    c.in-Err.ensures.effect

@@ -1,12 +1,13 @@
-use Rattle.std.proofs.Common.{◌≡◌, ◌∙◌, [], ◌∷◌, ◌++◌, None, Some, Err, Ok, ap, inl, inr, refl, rules, sym, subst}
+use Rattle.std.proofs.Common.{◌≡◌, ◌∙◌, [], ◌∷◌, ◌++◌, None, Some, Err, Ok, ap, refl, rules, sym, subst}
 use Rattle.std.proofs.Common.{List}
 use Rattle.automata_base.specs.Haystacks.Matches.{Match}
 use Rattle.automata_config.specs.declared.error.SearchError.TheVariants as search
-use Rattle.regex_automata.specs.Tokens.{AreGiven, match_of}
+use Rattle.regex_automata.specs.Tokens.{AreGiven, match_of, LacksListMemory, IsErrorThere}
 use Rattle.regex_automata.specs.declared.tokens.error.TokenError.TheVariants.{Search}
 use Rattle.regex_automata.proofs.TokenLists.Lists.{at_end, completes_end, completes_on, item_turn, match_is}
 use Rattle.regex_automata.proofs.Spans.Effects.{token_made_turn, tokens_end, tokens_left, tokens_turn}
 use Rattle.regex_automata.proofs.replay.tokens.take_tokens.Goals as goal
+use Rattle.regex_automata.specs.Replay.Caches.{EndsTokenList, FailsTokenList, LacksTokenRoom}
 
 pub loop-item-preserved : goal.loop-item-preserved
 loop-item-preserved c =
@@ -48,7 +49,7 @@ returns-in_default-clause-given c =
     subst (λ (ts : List Match). AreGiven m input.haystack input.end input.start ts (Some (Search search.OutOfMemory)))
     (sym {A = List Match} c.in_default.ensures.items)
     (completes_end m input.haystack input.end input.start c.loop-item.found.items c.loop-item.item-iterator.offset
-    (Some (Search search.OutOfMemory)) c.loop-item.invariant.comes (inl refl))
+    (Some (Search search.OutOfMemory)) c.loop-item.invariant.comes (LacksListMemory refl))
 
 pub returns-in-Err-clause-given : goal.returns-in-Err-clause-given
 returns-in-Err-clause-given c =
@@ -59,8 +60,8 @@ returns-in-Err-clause-given c =
     let e = c.in-Err.error in
     let steps = rw c.in-Err.is at c.in-Some.ensures.steps in
     completes_end p.forward input.haystack input.end input.start c.loop-item.found.items s.offset (Some e) i.comes
-    (inr (item_turn s.regex.now p s.haystack.now input.haystack s.end input.end s.offset (Err e) i.regex i.haystack
-    i.end steps.0.error.0))
+    (IsErrorThere (item_turn s.regex.now p s.haystack.now input.haystack s.end input.end s.offset (Err e) i.regex
+    i.haystack i.end steps.0.error.0))
 
 pub returns-clause-given : goal.returns-clause-given
 returns-clause-given c =
@@ -86,14 +87,9 @@ returns-in_default-clause-made c =
     let new = c.next.new.self.cache.now in
     tokens_end p.forward input.haystack input.end input.start c.args.cache.now s.cache.now new c.loop-item.found.items
     c.push.new.self.items s.offset (Some (Search search.OutOfMemory)) i.made
-    (inr (
-      refl,
-      (
-        c.in-Ok.token,
-        token_made_turn s.regex.now p s.haystack.now input.haystack s.end input.end s.offset s.cache.now new
-            (Some (Ok c.in-Ok.token)) i.regex i.haystack i.end (steps.5, steps.6),
-      ),
-    ))
+    (LacksTokenRoom c.in-Ok.token refl
+    (token_made_turn s.regex.now p s.haystack.now input.haystack s.end input.end s.offset s.cache.now new
+    (Some (Ok c.in-Ok.token)) i.regex i.haystack i.end (steps.5, steps.6)))
     c.in_default.ensures.items)
 
 pub returns-in-Err-clause-made : goal.returns-in-Err-clause-made
@@ -112,7 +108,8 @@ returns-in-Err-clause-made c =
     let new = c.next.new.self.cache.now in
     tokens_end p.forward input.haystack input.end input.start c.args.cache.now s.cache.now new c.loop-item.found.items
     c.loop-item.found.items s.offset (Some e) i.made
-    (inl (token_made_turn s.regex.now p s.haystack.now input.haystack s.end input.end s.offset s.cache.now new
+    (FailsTokenList e refl
+    (token_made_turn s.regex.now p s.haystack.now input.haystack s.end input.end s.offset s.cache.now new
     (Some (Err e)) i.regex i.haystack i.end (steps.5, steps.6))) refl)
 
 pub returns-clause-made : goal.returns-clause-made
@@ -126,5 +123,5 @@ returns-clause-made c =
     let new = c.next.new.self.cache.now in
     tokens_end p.forward input.haystack input.end input.start c.args.cache.now s.cache.now new c.loop-item.found.items
     c.loop-item.found.items s.offset None i.made
-    (token_made_turn s.regex.now p s.haystack.now input.haystack s.end input.end s.offset s.cache.now new None i.regex
-    i.haystack i.end (c.in-None.ensures.steps.5, c.in-None.ensures.steps.6)) refl)
+    (EndsTokenList refl (token_made_turn s.regex.now p s.haystack.now input.haystack s.end input.end s.offset
+    s.cache.now new None i.regex i.haystack i.end (c.in-None.ensures.steps.5, c.in-None.ensures.steps.6))) refl)

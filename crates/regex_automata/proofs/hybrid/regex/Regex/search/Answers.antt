@@ -14,6 +14,7 @@ use Rattle.regex_automata.proofs.Spans.NextMatches.{some_of}
 use Rattle.regex_automata.proofs.Results.{err_ok, if_ok, is_err, ok_err, same_err, same_ok}
 use Rattle.automata_base.proofs.Paths.Orders.{some_none}
 use Rattle.regex_automata.proofs.hybrid.regex.Regex.search.Goals as goal
+use Rattle.regex_automata.specs.Spans.Runs.{FindsNoStart, IsItsOwn}
 
 pub try_search_fwd_base-requires : goal.try_search_fwd_base-requires
 try_search_fwd_base-requires c =
@@ -104,7 +105,8 @@ returns-in_err-start-clause-effect c =
         failed = Some c.in_err-start.field-0.0;
         back = c.in_err-start.ensures.effect;
         told =
-            inl (ap result_err (is_err c.from_residual-in_err-start.result _ c.from_residual-in_err-start.ensures.1));
+            IsItsOwn
+            (ap result_err (is_err c.from_residual-in_err-start.result _ c.from_residual-in_err-start.ensures.1));
       });
     }
 
@@ -132,13 +134,10 @@ returns-in_default-2-clause-effect c =
         failed = None;
         back = c.in_ok-start.ensures.effect;
         told =
-            inr (
-              refl,
-              subst
-                  (IsStartFound c.args.self.now c.args.input.now (with_base c.in-Some.front.0 c.in-Some.front.1))
-                  c.in_default-2.is c.in_ok-start.ensures.found,
-              refl,
-            );
+            FindsNoStart refl
+            (subst (IsStartFound c.args.self.now c.args.input.now (with_base c.in-Some.front.0 c.in-Some.front.1))
+            c.in_default-2.is c.in_ok-start.ensures.found)
+            refl;
       });
     }
 
@@ -183,6 +182,6 @@ returns-clause-effect c =
             c.in-Some.front.1 c.in_ok-front.ensures.found c.in-Some.is;
         failed = None;
         back = c.in_ok-start.ensures.effect;
-        told = inl refl;
+        told = IsItsOwn refl;
       });
     }
