@@ -8,7 +8,8 @@ use Rattle.std.specs.Prelude.{Ok, Some}
 use Rattle.automata_base.specs.declared.util.search.Direction.{Direction}
 use Rattle.automata_hybrid.specs.Walks.State.{Walk}
 use Rattle.regex_automata.specs.Promises.{CacheView, HalfMatch, Input, Machine}
-use Rattle.lazydfa_c.specs.Batches.{AreCalls, AreWalkSteps, InTurn, IsWalkStep}
+use Rattle.lazydfa_c.specs.Batches.{AreCalls, AreWalkSteps, InTurn, IsWalkStep, CallsOn, NoStep, NoneCalled}
+use Rattle.lazydfa_c.specs.Batches.{StepsFurther}
 use Rattle.lazydfa_c.specs.Codes.{number_of}
 use Rattle.lazydfa_c.specs.Statuses.{plain}
 use Rattle.lazydfa_c.specs.declared.code.Code.TheVariants as code
@@ -21,20 +22,18 @@ call_more :
     (old at new : A) (s u t : Searcher) (status : Status)
     → AreCalls Call fs old at s u → status.code ≡ number_of code.Done → Call f at new u t status
     → AreCalls Call (fs ++ f ∷ []) old new s t
-call_more {A = A} Call [] f old at new s u t status calls done call = (
-  new,
-  t,
-  record {
-    status = status;
-    done = done;
-    call =
-        subst (λ (a : A). Call f a new s t status) calls.0
-        (subst (λ (v : Searcher). Call f at new v t status) calls.1 call);
-  },
-  (refl, refl),
-)
-call_more Call (g ∷ fs) f old at new s u t status calls done call =
-    (calls.0, calls.1, calls.2, call_more Call fs f calls.0 at new calls.1 u t status calls.3 done call)
+call_more {A = A} Call [] f old at new s u t status (NoneCalled old1 at1 s1 u1 same still) done call =
+    CallsOn f [] old new new s t t
+    (record {
+      status = status;
+      done = done;
+      call =
+          subst (λ (a : A). Call f a new s t status) same
+          (subst (λ (v : Searcher). Call f at new v t status) still call);
+    })
+    (NoneCalled new new t t refl refl)
+call_more Call (g ∷ fs) f old at new s u t status (CallsOn g1 fs1 old1 mid at1 s1 v u1 one others) done call =
+    CallsOn g (fs ++ f ∷ []) old mid new s v t one (call_more Call fs f mid at new v u t status others done call)
 
 tail_of : {A : Type 0} (i : ℕ) (xs : List A) → drop (suc i) xs ≡ drop 1 (drop i xs)
 tail_of zero [] = refl
@@ -51,6 +50,12 @@ pub record AreSoFar {A : Type 0} (Call : Found → A → A → Searcher → Sear
   pub counted : count ≡ i
   pub rest : drop i items ≡ drop i was
   pub calls : AreCalls Call (take i items) old at s u
+
+-- no call was made yet
+pub none_so_far :
+    {A : Type 0} (Call : Found → A → A → Searcher → Searcher → Status → Type 0) (was : List Found) (old : A)
+    (s : Searcher) → AreSoFar Call was was 0 0 old old s s
+none_so_far Call was old s = record { counted = refl; rest = refl; calls = NoneCalled old old s s refl refl }
 
 -- one more call wrote a match
 pub one_more :
@@ -108,12 +113,13 @@ pub step_more :
     (walk w next : Walk) (old c new : CacheView)
     → AreWalkSteps way m input halves walk w old c → IsWalkStep way m input w next c new (Ok (Some half))
     → AreWalkSteps way m input (halves ++ half ∷ []) walk next old new
-step_more way m input [] half walk w next old c new steps step = (
-  next,
-  new,
-  subst (λ (v : Walk). IsWalkStep way m input v next old new (Ok (Some half))) steps.0
-      (subst (λ (b : CacheView). IsWalkStep way m input w next b new (Ok (Some half))) steps.1 step),
-  (refl, refl),
-)
-step_more way m input (h ∷ halves) half walk w next old c new steps step =
-    (steps.0, steps.1, steps.2, step_more way m input halves half steps.0 w next steps.1 c new steps.3 step)
+step_more way m input [] half walk w next old c new (NoStep walk1 w1 old1 c1 same still) step =
+    StepsFurther half [] walk next next old new new
+    (subst (λ (v : Walk). IsWalkStep way m input v next old new (Ok (Some half))) same
+    (subst (λ (b : CacheView). IsWalkStep way m input w next b new (Ok (Some half))) still step))
+    (NoStep next next new new refl refl)
+step_more way m input (h ∷ halves) half walk w next old c new
+    (StepsFurther h1 halves1 walk1 mid w1 old1 between c1 one others)
+    step =
+    StepsFurther h (halves ++ half ∷ []) walk mid next old between new one
+    (step_more way m input halves half mid w next between c new others step)

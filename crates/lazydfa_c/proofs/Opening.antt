@@ -1,7 +1,7 @@
 -- A handle that is opened on a regex which was made, by what opening it returned.
-use Rattle.std.proofs.Common.{◌≡◌, Ok, Err, OnErr, OnOk, inr}
+use Rattle.std.proofs.Common.{◌≡◌, Ok, Err, OnErr, OnOk}
 use Rattle.std.specs.Prelude.{IfErr, Result}
-use Rattle.lazydfa_c.specs.Builds.{IsRegexIn, OpensRegex}
+use Rattle.lazydfa_c.specs.Builds.{IsRegexIn, OpensRegex, LacksObject}
 use Rattle.lazydfa_c.specs.Statuses.{plain}
 use Rattle.lazydfa_c.specs.declared.code.Code.TheVariants as code
 use Rattle.lazydfa_c.specs.declared.handle.Handle.{Handle}
@@ -15,4 +15,4 @@ pub opens :
     → IfErr r (λ s. s ≡ plain code.Memory) → OpensRegex Makes Refuses old new r
 opens Makes Refuses regex old new (Ok u) makes opened same memory =
     record { regex = regex; made = makes; opened = opened }
-opens Makes Refuses regex old new (Err e) makes opened same memory = (same, inr memory)
+opens Makes Refuses regex old new (Err e) makes opened same memory = (same, LacksObject memory)

@@ -1,11 +1,11 @@
 -- A handle that is opened on the regex of texts, by what opening it on the regex of their NFA returned.
-use Rattle.std.proofs.Common.{ℕ, ◌<◌, List, Ok, Err, arith, inl, inr, sym, subst}
+use Rattle.std.proofs.Common.{ℕ, ◌<◌, List, Ok, Err, arith, sym, subst}
 use Rattle.std.specs.Prelude.{Result}
 use Rattle.automata_base.specs.Nfas.Nodes.{Automaton}
 use Rattle.automata_config.specs.Options.{Options}
 use Rattle.patterns.specs.Patterns.{IsNfaOf}
 use Rattle.patterns.specs.declared.compile.Options.{Options as Reading}
-use Rattle.lazydfa_c.specs.Builds.{IsBuildErrorStatus, IsBuiltRegex, OpensRegex}
+use Rattle.lazydfa_c.specs.Builds.{IsBuildErrorStatus, IsBuiltRegex, OpensRegex, LacksObject, RefusesRegex}
 use Rattle.lazydfa_c.specs.Codes.{number_of}
 use Rattle.lazydfa_c.specs.Statuses.{plain, regex_status}
 use Rattle.lazydfa_c.specs.Texts.{IsFailure, OpensTexts}
@@ -23,8 +23,9 @@ pub opens_texts :
     (done : Result (Unit {0}) Status) → IsNfaOf reading texts nfa
     → OpensRegex (IsBuiltRegex o nfa) (IsBuildErrorStatus o nfa) old new done → OpensTexts o reading texts old new done
 opens_texts o reading texts nfa old new (Ok u) meant opened = (nfa, meant, opened)
-opens_texts o reading texts nfa old new (Err e) meant (same, inl (error, _, is)) =
+opens_texts o reading texts nfa old new (Err e) meant (same, RefusesRegex (error, _, is)) =
     let fails : number_of code.Argument < (regex_status error).code = errors.regex_told.fails error in
     let f : IsFailure (regex_status error) = omega (arith, fails) in
     (same, subst IsFailure (sym is) f)
-opens_texts o reading texts nfa old new (Err e) meant (same, inr is) = (same, subst IsFailure (sym is) memory_fails)
+opens_texts o reading texts nfa old new (Err e) meant (same, LacksObject is) =
+    (same, subst IsFailure (sym is) memory_fails)

@@ -32,11 +32,14 @@ pub record WritesOne {A : Type 0} (Call : Found → A → A → Searcher → Sea
   pub call : Call f old new s t status
 
 -- calls one after another, each of which wrote one of these matches
-abbrev pub AreCalls : {A : Type 0} → (Call : Found → A → A → Searcher → Searcher → Status → Type 0)
-    → List Found → (old new : A) → (s t : Searcher) → Type 0
-AreCalls Call [] old new s t = (new ≡ old) × (t ≡ s)
-AreCalls {A = A} Call (f ∷ fs) old new s t =
-    (at : A) × (u : Searcher) × WritesOne Call f old at s u × AreCalls Call fs at new u t
+pub data AreCalls {A : Type 0} (Call : Found → A → A → Searcher → Searcher → Status → Type 0) :
+    List Found → (old new : A) → (s t : Searcher) → Type 0 where
+  -- none: nothing changes
+  NoneCalled : (old new : A) (s t : Searcher) → new ≡ old → t ≡ s → AreCalls Call [] old new s t
+  -- one wrote the first match, and those after it the others
+  CallsOn :
+      (f : Found) (fs : List Found) (old at new : A) (s u t : Searcher) → WritesOne Call f old at s u
+      → AreCalls Call fs at new u t → AreCalls Call (f ∷ fs) old new s t
 
 -- a call that writes as many matches as there is room for: it makes calls one after another, each of which writes the
 -- next match, until one writes none
@@ -78,12 +81,18 @@ pub record IsWalkStep (way : Direction) (m : Machine) (input : Input) (walk next
   pub effect : IsWalkRun States way m input walk next (known_of old) (known_of new) (result_err result)
 
 -- steps one after another, each of which found one of these matches
-abbrev pub AreWalkSteps : Direction → Machine → Input → List HalfMatch → (walk next : Walk) → (old new : CacheView)
-    → Type 0
-AreWalkSteps way m input [] walk next old new = (next ≡ walk) × (new ≡ old)
-AreWalkSteps way m input (half ∷ halves) walk next old new =
-    (w : Walk) × (c : CacheView) × IsWalkStep way m input walk w old c (Ok (Some half))
-    × AreWalkSteps way m input halves w next c new
+pub data AreWalkSteps (way : Direction) (m : Machine) (input : Input) :
+    List HalfMatch → (walk next : Walk) → (old new : CacheView) → Type 0 where
+  -- none: nothing changes
+  NoStep :
+      (walk next : Walk) (old new : CacheView) → next ≡ walk → new ≡ old
+      → AreWalkSteps way m input [] walk next old new
+  -- one found the first match, and those after it the others
+  StepsFurther :
+      (half : HalfMatch) (halves : List HalfMatch) (walk mid next : Walk) (old between new : CacheView)
+      → IsWalkStep way m input walk mid old between (Ok (Some half))
+      → AreWalkSteps way m input halves mid next between new
+      → AreWalkSteps way m input (half ∷ halves) walk next old new
 
 -- the status of the step after which there is none
 abbrev pub end_status : Result (Option HalfMatch) SearchError → Option Status

@@ -1,6 +1,6 @@
 -- What the calls make that open a handle on a regex or on a cache, and why they fail.
 use Rattle.std.specs.Prelude.{◌≡◌, Bool, false, true, length, replicate, Some, IsSomeAnd, Result, Ok, Err, ℕ, zero}
-use Rattle.std.specs.Prelude.{suc, ◌⊎◌, ◌==◌, ◌&&◌, not, List, [], ◌∷◌, Option, None, IsTrue, IsFalse, if◌then◌else◌}
+use Rattle.std.specs.Prelude.{suc, ◌==◌, ◌&&◌, not, List, [], ◌∷◌, Option, None, IsTrue, IsFalse, if◌then◌else◌}
 use Rattle.std.specs.Prelude.{slice_set}
 use Rattle.automata_base.specs.Nfas.Drafts.{Draft}
 use Rattle.automata_base.specs.Nfas.Nodes.{Automaton}
@@ -81,11 +81,14 @@ pub record IsRegexIn (regex : Regex) (handle : Handle) : Type 0 where
 abbrev pub are_starts : StartStates → Bool
 are_starts starts = is_state starts.anchored && is_state starts.unanchored
 
--- the NFA that a builder makes with these starts, or why there is none; a start too large for an ID is reported first
-abbrev pub IsNfaOfDraft : StartStates → Draft → Result Automaton Status → Type 0
-IsNfaOfDraft starts draft result =
-    (IsTrue (are_starts starts) × MakesNfa draft starts.anchored starts.unanchored result)
-    ⊎ (IsFalse (are_starts starts) × (result ≡ Err (plain code.Argument)))
+-- the NFA that a builder makes with these starts, or why there is none
+pub data IsNfaOfDraft (starts : StartStates) (draft : Draft) (result : Result Automaton Status) : Type 0 where
+  -- the starts are numbers of states, and it is what the builder makes
+  HasStarts :
+      IsTrue (are_starts starts) → MakesNfa draft starts.anchored starts.unanchored result
+      → IsNfaOfDraft starts draft result
+  -- a start is too large for an ID, which is reported first
+  LacksOneStart : IsFalse (are_starts starts) → result ≡ Err (plain code.Argument) → IsNfaOfDraft starts draft result
 
 -- the NFA of the builder that an object is; if it is no builder, its kind is reported
 abbrev pub IsNfaIn : StartStates → Object → Result Automaton Status → Type 0
@@ -150,12 +153,18 @@ pub record HoldsRegex (Makes : Regex → Type 0) (new : Handle) : Type 0 where
   -- the handle is open on it
   pub opened : IsRegexIn regex new
 
--- a handle is opened on the regex that the library's call returned, or the error of that call is told, or that there is
--- no memory for the handle's object
+-- why no handle is opened on a regex
+pub data IsNotOpened (Refuses : Status → Type 0) (e : Status) : Type 0 where
+  -- it is the error of the library's call
+  RefusesRegex : Refuses e → IsNotOpened Refuses e
+  -- there is no memory for the handle's object
+  LacksObject : e ≡ plain code.Memory → IsNotOpened Refuses e
+
+-- a handle is opened on the regex that the library's call returned, or stays, and it is told why
 abbrev pub OpensRegex : (Makes : Regex → Type 0) → (Refuses : Status → Type 0)
     → (old new : Handle) → Result (Unit {0}) Status → Type 0
 OpensRegex Makes Refuses old new (Ok u) = HoldsRegex Makes new
-OpensRegex Makes Refuses old new (Err e) = (new ≡ old) × (Refuses e ⊎ (e ≡ plain code.Memory))
+OpensRegex Makes Refuses old new (Err e) = (new ≡ old) × IsNotOpened Refuses e
 
 -- the same of an NFA, if there is one
 abbrev pub OpensOf : Options → (old new : Handle) → Result Automaton Status → Result (Unit {0}) Status → Type 0
@@ -174,13 +183,30 @@ abbrev pub OpensIn : Options → StartStates → (old new from left : Handle) �
 OpensIn o starts old new from left done =
     (nfa : Result Automaton Status) × ReadsHandle (IsNfaIn starts) from left nfa × OpensOf o old new nfa done
 
+-- a regex of the NFAs of two builders, of which the first gave its NFA: the second is read
+pub record OpensBoth (o : Options) (starts : StartStates) (old new from left : Handle) (forward : Automaton)
+    (done : Result (Unit {0}) Status) : Type 0 where
+  -- what the second gives
+  pub reverse : Result Automaton Status
+  -- it is put back
+  pub read : ReadsHandle (IsNfaIn starts) from left reverse
+  -- the handle is opened on the regex of both NFAs
+  pub opens : OpensPair o old new forward reverse done
+
+-- the first gave no NFA: the second is not read, and nothing is opened
+pub record OpensNeither (old new from left : Handle) (e : Status) (done : Result (Unit {0}) Status) : Type 0 where
+  -- the handle stays
+  pub same : new ≡ old
+  -- that on the second builder stays
+  pub unread : left ≡ from
+  -- the error is told
+  pub told : done ≡ Err e
+
 -- a regex of the NFAs of two builders, of which the second is read only if the first gave its NFA
 abbrev pub OpensAfter : Options → StartStates → (old new from left : Handle) → Result Automaton Status
     → Result (Unit {0}) Status → Type 0
-OpensAfter o starts old new from left (Ok forward) done =
-    (reverse : Result Automaton Status) × ReadsHandle (IsNfaIn starts) from left reverse
-    × OpensPair o old new forward reverse done
-OpensAfter o starts old new from left (Err e) done = (new ≡ old) × (left ≡ from) × (done ≡ Err e)
+OpensAfter o starts old new from left (Ok forward) done = OpensBoth o starts old new from left forward done
+OpensAfter o starts old new from left (Err e) done = OpensNeither old new from left e done
 
 -- a regex of the NFAs of two builders, which are put back: the first NFA is made, and then, if that does not fail,
 -- the second
@@ -205,13 +231,22 @@ BuildsRegex settings quits starts old new from left status =
     (options_for settings quits starts) done
     × (status ≡ done_status done)
 
+-- a handle stays, and so do those on two builders
+pub record AllStay (old new from left from_reverse left_reverse : Handle) : Type 0 where
+  -- the handle stays
+  pub same : new ≡ old
+  -- so does that on the first builder
+  pub forward : left ≡ from
+  -- and that on the second
+  pub reverse : left_reverse ≡ from_reverse
+
 -- `lazydfa_regex_build_pair`, where one start is reported of the forward NFA alone
 abbrev pub BuildsRegexPair : Settings → (quits : List ℕ) → (forward reverse : StartStates) → (old new : Handle)
     → (from left : Handle) → (from_reverse left_reverse : Handle) → Status → Type 0
 BuildsRegexPair settings quits forward reverse old new from left from_reverse left_reverse status =
     (done : Result (Unit {0}) Status)
     × WithOptions (λ o d. OpensPairIn o forward reverse old new from left from_reverse left_reverse d)
-    ((new ≡ old) × (left ≡ from) × (left_reverse ≡ from_reverse)) (is_open old.live)
+    (AllStay old new from left from_reverse left_reverse) (is_open old.live)
     (options_for settings quits forward) done
     × (status ≡ done_status done)
 
@@ -234,11 +269,17 @@ reversed r = record { forward = r.reverse; reverse = r.forward }
 abbrev pub HasTwoCounts : Regex → Type 0
 HasTwoCounts r = length r.forward.nfa.start_pattern ≡ length r.reverse.nfa.start_pattern → ⊥
 
+-- why a regex is not reversed
+pub data IsNotReversed (r : Regex) (status : Status) : Type 0 where
+  -- there is no memory
+  HasNoMemory : status ≡ plain code.Memory → IsNotReversed r status
+  -- its DFAs do not have equally many patterns
+  DiffersInCounts : HasTwoCounts r → status ≡ plain code.PatternCounts → IsNotReversed r status
+
 -- the regex of an object is reversed, if it is one, there is memory, and its DFAs have equally many patterns
 abbrev pub IsReverseOf : Object → Result Shared Status → Type 0
 IsReverseOf (RegexObject r) (Ok s) = s.regex.value ≡ reversed r.regex.value
-IsReverseOf (RegexObject r) (Err status) =
-    (status ≡ plain code.Memory) ⊎ (HasTwoCounts r.regex.value × (status ≡ plain code.PatternCounts))
+IsReverseOf (RegexObject r) (Err status) = IsNotReversed r.regex.value status
 IsReverseOf (Builder b) result = result ≡ Err (plain code.Kind)
 IsReverseOf (CacheObject s) result = result ≡ Err (plain code.Kind)
 

@@ -109,12 +109,14 @@ IsPassed {A = A} Does result = (r : Result A BuildError) × Does r × (result �
 abbrev pub RefusesWith : Status → Draft → Draft → Result ℕ Status → Type 0
 RefusesWith status b c result = (c ≡ b) × (result ≡ Err status)
 
--- a state is added to a builder: without numbers for it, or without memory for a copy of its list, the builder stays
-abbrev pub AddsTo : Added → Draft → Draft → Result ℕ Status → Type 0
-AddsTo added b c result =
-    (IsTrue (allows added) × IsPassed (AddsState added b c) result)
-    ⊎ (IsFalse (allows added) × RefusesWith (plain code.Argument) b c result)
-    ⊎ (IsTrue (has_list added) × RefusesWith (plain code.Memory) b c result)
+-- a state is added to a builder
+pub data AddsTo (added : Added) (b c : Draft) (result : Result ℕ Status) : Type 0 where
+  -- its numbers are those of states, and of a look: the library's call is made
+  PassesState : IsTrue (allows added) → IsPassed (AddsState added b c) result → AddsTo added b c result
+  -- one of them is not, and the builder stays
+  LacksNumber : IsFalse (allows added) → RefusesWith (plain code.Argument) b c result → AddsTo added b c result
+  -- there is no memory for a copy of its list, and the builder stays
+  LacksCopy : IsTrue (has_list added) → RefusesWith (plain code.Memory) b c result → AddsTo added b c result
 
 -- `Builder::start_pattern`, `Builder::finish_pattern` and `Builder::patch`
 pub record StartsPattern (old new : Draft) (result : Result ℕ BuildError) : Type 0 where
@@ -162,10 +164,12 @@ pub record Patches (from to : ℕ) (old new : Draft) (result : Result (Unit {0})
       (was shape : Shape) → slice_get old.states from ≡ Some was → patched was to ≡ Some shape
       → IsOkUnless result OutOfMemory
 
--- a call with numbers of states: if one is none, it is told, and the builder stays
-abbrev pub OfStates : (are : Bool) → (Does : Type 0) → Draft → Draft → Result ℕ Status → Type 0
-OfStates are Does b c result =
-    (IsTrue are × Does) ⊎ (IsFalse are × RefusesWith (plain code.Argument) b c result)
+-- a call with numbers of states
+pub data OfStates (are : Bool) (Does : Type 0) (b c : Draft) (result : Result ℕ Status) : Type 0 where
+  -- all are numbers of states, and it does what it is for
+  HasStates : IsTrue are → Does → OfStates are Does b c result
+  -- one is none: that is told, and the builder stays
+  LacksOneState : IsFalse are → RefusesWith (plain code.Argument) b c result → OfStates are Does b c result
 
 -- the same result, with a number that says nothing
 abbrev pub zeroed : {E : Type 0} → Result (Unit {0}) E → Result ℕ E

@@ -1,6 +1,6 @@
 -- What the calls of a search in pieces do, each seen by the cache before and after it and by the status that it
 -- returns.
-use Rattle.std.specs.Prelude.{ℕ, ◌≡◌, ◌⊎◌, Bool, List, Option, Some, None}
+use Rattle.std.specs.Prelude.{ℕ, ◌≡◌, Bool, List, Option, Some, None}
 use Rattle.std.specs.Prelude.{Result, Ok, Err, OnOk, OnErr, IfOk}
 use Rattle.std.specs.Result.{result_err}
 use Rattle.automata_base.specs.Haystacks.StartConfig.{StartConfig}
@@ -34,11 +34,18 @@ abbrev pub OfPieces :
 OfPieces Does None s t status = (t ≡ s) × (status ≡ plain code.NotBegun)
 OfPieces Does (Some v) s t status = Does v s t status
 
+-- a search that has begun is put into a cache
+pub data IsSearchPut (m : Machine) (p : PiecesView) (old new : InPieces) (status : Status) : Type 0 where
+  -- the cache has it
+  HasSearch :
+      new ≡ record old { search = Some (record { machine = m; pieces = p }) } → status ≡ plain code.Done
+      → IsSearchPut m p old new status
+  -- it cannot share the regex: the cache has the one that it had
+  CannotShare : new ≡ old → status ≡ plain code.Memory → IsSearchPut m p old new status
+
 -- a cache has the search that has begun; if it did not begin, or cannot share the regex, the one that it had
 abbrev pub IsBegun : Machine → Result PiecesView BeginError → (old new : InPieces) → Status → Type 0
-IsBegun m (Ok p) old new status =
-    ((new ≡ record old { search = Some (record { machine = m; pieces = p }) }) × (status ≡ plain code.Done))
-    ⊎ ((new ≡ old) × (status ≡ plain code.Memory))
+IsBegun m (Ok p) old new status = IsSearchPut m p old new status
 IsBegun m (Err e) old new status = (new ≡ old) × (status ≡ begin_status e)
 
 -- `lazydfa_pieces_begin`: the result of `DFA::begin_pieces` of the forward DFA; the reverse cache stays

@@ -1,5 +1,5 @@
 -- What the calls of a walk in pieces do, each seen by the cache before and after it and by the status that it returns.
-use Rattle.std.specs.Prelude.{ℕ, ◌≡◌, ◌⊎◌, List, Option, Some, None, length, slice_get}
+use Rattle.std.specs.Prelude.{ℕ, ◌≡◌, List, Option, Some, None, length, slice_get}
 use Rattle.std.specs.Prelude.{Result, Ok, Err, IfOk, IsSomeAnd, OnErr}
 use Rattle.std.specs.Result.{result_err}
 use Rattle.automata_base.specs.Haystacks.StartConfig.{StartConfig}
@@ -20,11 +20,18 @@ use Rattle.lazydfa_c.specs.declared.object.Searcher.{Searcher}
 use Rattle.lazydfa_c.specs.declared.status.Status.{Status}
 use Rattle.lazydfa_c.specs.declared.walk.Stop.{Stop}
 
+-- a walk that has begun is put into a cache
+pub data IsWalkPut (m : Machine) (w : PiecesView) (old new : InPieces) (status : Status) : Type 0 where
+  -- the cache has it
+  HasWalk :
+      new ≡ record old { walk = Some (record { machine = m; walk = w; end = None }) } → status ≡ plain code.Done
+      → IsWalkPut m w old new status
+  -- it cannot share the regex: the cache has the one that it had
+  CannotShareWalk : new ≡ old → status ≡ plain code.Memory → IsWalkPut m w old new status
+
 -- a cache has the walk that has begun; if it did not begin, or cannot share the regex, the one that it had
 abbrev pub IsBegunWalk : Machine → Result PiecesView BeginError → (old new : InPieces) → Status → Type 0
-IsBegunWalk m (Ok w) old new status =
-    ((new ≡ record old { walk = Some (record { machine = m; walk = w; end = None }) }) × (status ≡ plain code.Done))
-    ⊎ ((new ≡ old) × (status ≡ plain code.Memory))
+IsBegunWalk m (Ok w) old new status = IsWalkPut m w old new status
 IsBegunWalk m (Err e) old new status = (new ≡ old) × (status ≡ begin_status e)
 
 -- where a walk stands is written, and whether patterns match there told; after an error it is nowhere

@@ -1,10 +1,10 @@
 //! Regexes and caches.
-ghost use Rattle.std.specs.Prelude.{◌≡◌, ◌⊎◌, IfErr, IfOk, None, Ok, OnErr, OnOk, Some};
+ghost use Rattle.std.specs.Prelude.{◌≡◌, IfErr, IfOk, None, Ok, OnErr, OnOk, Some};
 ghost use Rattle.automata_config.specs.Options.{overwritten, unset};
 ghost use Rattle.lazydfa_c.specs.Builds.{IsFreshOf, IsKeepingPairOf, IsKeepingPairError, IsPairOf, IsPairError};
 ghost use Rattle.lazydfa_c.specs.Builds.{IsRegexIn, IsBuiltRegex, IsBuildErrorStatus, BuildsRegex, BuildsRegexPair};
 ghost use Rattle.lazydfa_c.specs.Builds.{IsCacheIn, IsNfaIn, IsNfaOfDraft, NewsCache, OpensAfter, OpensFrom, OpensIn};
-ghost use Rattle.lazydfa_c.specs.Builds.{HasTwoCounts, OpensPairIn, OpensRegex, ReversesHandle, ReversesRegex};
+ghost use Rattle.lazydfa_c.specs.Builds.{AllStay, IsNotReversed, OpensPairIn, OpensRegex, ReversesHandle, ReversesRegex};
 ghost use Rattle.lazydfa_c.specs.Builds.{SharesHandle, SharesRegex, WithOptions, options_for, reversed};
 ghost use Rattle.lazydfa_c.specs.Calls.{ReadsHandle};
 ghost use Rattle.lazydfa_c.specs.Handles.{is_open};
@@ -256,7 +256,7 @@ fn build_pair(
 ) -> Result<(), Status>
     ensures { WithOptions
         (λ o. OpensPairIn o starts.0 starts.1 regex.old regex.new forward.old forward.new reverse.old reverse.new)
-        ((regex.new ≡ regex.old) × (forward.new ≡ forward.old) × (reverse.new ≡ reverse.old)) (is_open regex.old.live)
+        (AllStay regex.old regex.new forward.old forward.new reverse.old reverse.new) (is_open regex.old.live)
         (options_for settings.now quits.now starts.0) result }
 {
     if regex.is_open() {
@@ -353,8 +353,7 @@ pub extern "C" fn lazydfa_raw_regex_share(
 /// `Code::PatternCounts` if these do not have equally many patterns.
 fn reversed(alloc: Global, shared: &Shared) -> Result<Shared, Status>
     ensures ok { IfOk result (λ s. s.regex.value ≡ reversed shared.now.regex.value) }
-    ensures err { IfErr result (λ s. (s ≡ plain code.Memory)
-        ⊎ (HasTwoCounts shared.now.regex.value × (s ≡ plain code.PatternCounts))) }
+    ensures err { IfErr result (IsNotReversed shared.now.regex.value) }
 {
     let forward = shared.regex.reverse().clone()?;
     let reverse = shared.regex.forward().clone()?;

@@ -1,6 +1,6 @@
-use Rattle.std.proofs.Common.{ℕ, ◌+◌, ◌*◌, inl, subst, sym}
+use Rattle.std.proofs.Common.{ℕ, ◌+◌, ◌*◌, subst, sym}
 use Rattle.automata_base.specs.Nfas.Shapes.{CaptureShape}
-use Rattle.lazydfa_c.specs.Drafts.{AddsGroup, AddsTo}
+use Rattle.lazydfa_c.specs.Drafts.{AddsGroup, AddsTo, PassesState}
 use Rattle.lazydfa_c.specs.declared.builder.Added.{Added}
 use Rattle.lazydfa_c.proofs.States.{state_is}
 use Rattle.lazydfa_c.proofs.builder.add_to.Goals as goal
@@ -14,7 +14,7 @@ returns-in_ok-state_id-in-CaptureStart c =
     let done =
     subst (λ (n : ℕ). AddsGroup group (λ p. CaptureShape n p group (2 * group)) b d r) is.1 (e.added, e.large) in
     subst (λ (added : Added). AddsTo added b d c.told_state-in-CaptureStart.result) (sym c.in-CaptureStart.is)
-    (inl (is.0, (r, done, c.told_state-in-CaptureStart.ensures)))
+    (PassesState is.0 (r, done, c.told_state-in-CaptureStart.ensures))
 
 pub returns-in_ok-state_id-in-CaptureEnd : goal.returns-in_ok-state_id-in-CaptureEnd
 returns-in_ok-state_id-in-CaptureEnd c =
@@ -25,4 +25,4 @@ returns-in_ok-state_id-in-CaptureEnd c =
     let done = subst (λ (n : ℕ). AddsGroup group (λ p. CaptureShape n p group (2 * group + 1)) b d r) is.1
     (e.added, e.large) in
     subst (λ (added : Added). AddsTo added b d c.told_state-in-CaptureEnd.result) (sym c.in-CaptureEnd.is)
-    (inl (is.0, (r, done, c.told_state-in-CaptureEnd.ensures)))
+    (PassesState is.0 (r, done, c.told_state-in-CaptureEnd.ensures))

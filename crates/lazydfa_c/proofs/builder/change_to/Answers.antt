@@ -1,5 +1,5 @@
-use Rattle.std.proofs.Common.{ℕ, inl, subst, sym}
-use Rattle.lazydfa_c.specs.Drafts.{Changes, Patches, is_state}
+use Rattle.std.proofs.Common.{ℕ, subst, sym}
+use Rattle.lazydfa_c.specs.Drafts.{Changes, Patches, is_state, HasStates}
 use Rattle.lazydfa_c.specs.declared.builder.Change.{Change}
 use Rattle.lazydfa_c.proofs.States.{both, state_is}
 use Rattle.lazydfa_c.proofs.builder.change_to.Goals as goal
@@ -22,4 +22,4 @@ returns-in-Patch c =
     let moved : Patches from to b d r =
     subst (λ (n : ℕ). Patches from n b d r) is_to.1 (subst (λ (n : ℕ). Patches n j b d r) is_from.1 done) in
     subst (λ (change : Change). Changes change b d c.told_done.result) (sym c.in-Patch.is)
-    (inl (both (is_state from) (is_state to) is_from.0 is_to.0, (r, moved, c.told_done.ensures)))
+    (HasStates (both (is_state from) (is_state to) is_from.0 is_to.0) (r, moved, c.told_done.ensures))

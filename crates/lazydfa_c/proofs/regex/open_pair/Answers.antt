@@ -1,5 +1,5 @@
-use Rattle.std.proofs.Common.{inl, refl}
-use Rattle.lazydfa_c.specs.Builds.{AreKeeping}
+use Rattle.std.proofs.Common.{refl}
+use Rattle.lazydfa_c.specs.Builds.{AreKeeping, RefusesRegex}
 use Rattle.lazydfa_c.proofs.Opening.{opens}
 use Rattle.lazydfa_c.proofs.regex.open_pair.Goals as goal
 
@@ -14,5 +14,7 @@ returns-in-Ok c =
 pub returns-in-Err : goal.returns-in-Err
 returns-in-Err c =
     let keeping : AreKeeping c.args.nfas.0 c.args.nfas.1 c.keeping_unions-front.result c.keeping_unions-back.result =
-    record { ahead = c.keeping_unions-front.ensures.same; behind = c.keeping_unions-back.ensures.same } in
-    (refl, inl (c.keeping_unions-front.result, c.keeping_unions-back.result, keeping, c.in-Err.ensures.refused))
+    record { ahead = c.keeping_unions-front.ensures.same; behind = c.keeping_unions-back.ensures.same } in (
+      refl,
+      RefusesRegex (c.keeping_unions-front.result, c.keeping_unions-back.result, keeping, c.in-Err.ensures.refused),
+    )

@@ -1,11 +1,22 @@
-use Rattle.std.proofs.Common.{ap, ◌≡◌, ◌+◌, ◌++◌, ◌∙◌, List, [], ◌∷◌, map, arith, rules, subst, sym}
+use Rattle.std.proofs.Common.{ap, ◌≡◌, ◌+◌, ◌++◌, ◌∙◌, List, [], ◌∷◌, map, arith, refl, rules, subst, sym}
 use Rattle.std.proofs.lemmas.List.{length-map, length_push, map-append}
 use Rattle.automata_hybrid.specs.Walks.State.{fresh_walk}
+use Rattle.regex_automata.specs.Promises.{HasReported, Walk}
+use Rattle.lazydfa_c.specs.Batches.{NoStep}
 use Rattle.lazydfa_c.specs.Caches.{written_over}
 use Rattle.lazydfa_c.specs.Requests.{found_half}
 use Rattle.lazydfa_c.specs.declared.input.FoundHalf.{FoundHalf}
 use Rattle.lazydfa_c.proofs.Batches.{step_more}
 use Rattle.lazydfa_c.proofs.sets.all_halves.Goals as goal
+
+pub loop-at-init : goal.loop-at-init
+loop-at-init c =
+    let begun = c.start-walk.ensures in
+    let none =
+    subst (λ (w : Walk). HasReported c.args.way c.args.dfa.now c.args.input.now w 0) (sym begun) (refl, refl) in
+    let steps =
+    NoStep fresh_walk c.start-walk.result c.args.cache.now c.args.cache.now begun refl in
+    (c.requires, (0, none), refl, ([], steps, refl, refl))
 
 pub loop-at-preserved : goal.loop-at-preserved
 loop-at-preserved c =

@@ -1,4 +1,4 @@
-use Rattle.std.proofs.Common.{rules, inl, ap, subst, sym, None, ◌∙◌}
+use Rattle.std.proofs.Common.{rules, ap, subst, sym, None, ◌∙◌}
 use Rattle.std.specs.Prelude.{Ok}
 use Rattle.automata_hybrid.specs.Cache.Caches.{CacheView}
 use Rattle.automata_hybrid.specs.Machines.Machine.{Machine}
@@ -9,6 +9,7 @@ use Rattle.automata_hybrid.specs.Pieces.State.{IsPiecesOf}
 use Rattle.regex_automata.specs.declared.hybrid.regex.Regex.{Regex}
 use Rattle.lazydfa_c.proofs.Streams.{stream_is}
 use Rattle.lazydfa_c.proofs.object.Searcher.begin_pieces.Goals as goal
+use Rattle.lazydfa_c.specs.Pieces.{HasSearch}
 
 pub of-requires : goal.of-requires
 of-requires c =
@@ -24,11 +25,10 @@ returns-in-Ok-clone c =
     let old = c.args.self.now.cache.forward in let new = c.begin_pieces.new.cache in record {
       result = Ok p;
       told =
-          inl (
-            stream_is c.args.self.now.pieces c.of.result c.args.self.now.shared.regex.value.forward p
-                (c.of.ensures.machine ∙ ap (λ (r : Regex). r.forward) c.in-Ok-clone.ensures.cases) c.of.ensures.pieces,
-            c.from.ensures,
-          );
+          HasSearch
+          (stream_is c.args.self.now.pieces c.of.result c.args.self.now.shared.regex.value.forward p
+          (c.of.ensures.machine ∙ ap (λ (r : Regex). r.forward) c.in-Ok-clone.ensures.cases) c.of.ensures.pieces)
+          c.from.ensures;
       begun =
           subst (λ (r : Regex). HasBegun r.forward mode behind early p) c.deref.ensures
           (subst (λ (m : Machine). HasBegun m mode behind early p) c.forward-dfa.ensures c.in-Ok.ensures.begun);

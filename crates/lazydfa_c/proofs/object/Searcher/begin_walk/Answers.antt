@@ -1,4 +1,4 @@
-use Rattle.std.proofs.Common.{rules, inl, ap, subst, sym, None, ◌∙◌}
+use Rattle.std.proofs.Common.{rules, ap, subst, sym, None, ◌∙◌}
 use Rattle.std.specs.Prelude.{Ok}
 use Rattle.automata_hybrid.specs.Cache.Caches.{CacheView}
 use Rattle.automata_hybrid.specs.Machines.Machine.{Machine}
@@ -9,6 +9,7 @@ use Rattle.automata_hybrid.specs.Pieces.Walks.{HasBegunWalk}
 use Rattle.regex_automata.specs.declared.hybrid.regex.Regex.{Regex}
 use Rattle.lazydfa_c.proofs.Streams.{has_walk, walk_is}
 use Rattle.lazydfa_c.proofs.object.Searcher.begin_walk.Goals as goal
+use Rattle.lazydfa_c.specs.Walks.{HasWalk}
 
 pub of-requires : goal.of-requires
 of-requires c =
@@ -24,13 +25,12 @@ returns-in-Ok-clone c =
     let old = c.args.self.now.cache.forward in let new = c.begin_walk.new.cache in record {
       result = Ok p;
       told =
-          inl (
-            has_walk c.args.self.now.pieces c.of.result _
-                (walk_is c.of.result c.args.self.now.shared.regex.value.forward p None
-                (c.of.ensures.machine ∙ ap (λ (r : Regex). r.forward) c.in-Ok-clone.ensures.cases) c.of.ensures.walk
-                c.of.ensures.end),
-            c.from.ensures,
-          );
+          HasWalk
+          (has_walk c.args.self.now.pieces c.of.result _
+          (walk_is c.of.result c.args.self.now.shared.regex.value.forward p None
+          (c.of.ensures.machine ∙ ap (λ (r : Regex). r.forward) c.in-Ok-clone.ensures.cases) c.of.ensures.walk
+          c.of.ensures.end))
+          c.from.ensures;
       begun =
           subst (λ (r : Regex). HasBegunWalk r.forward mode behind p) c.deref.ensures
           (subst (λ (m : Machine). HasBegunWalk m mode behind p) c.forward-dfa.ensures c.in-Ok.ensures.begun);

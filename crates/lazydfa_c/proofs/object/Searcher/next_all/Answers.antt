@@ -2,8 +2,11 @@ use Rattle.std.proofs.Common.{◌≡◌, ◌+◌, ◌<◌, length, arith, rules,
 use Rattle.lazydfa_c.specs.Calls.{Iterates}
 use Rattle.lazydfa_c.specs.Codes.{number_of}
 use Rattle.lazydfa_c.specs.declared.code.Code.TheVariants as code
-use Rattle.lazydfa_c.proofs.Batches.{filled, one_more, stopped}
+use Rattle.lazydfa_c.proofs.Batches.{filled, none_so_far, one_more, stopped}
 use Rattle.lazydfa_c.proofs.object.Searcher.next_all.Goals as goal
+
+pub loop-place-init : goal.loop-place-init
+loop-place-init c = none_so_far (Iterates c.args.haystack.now) c.args.out.now c.args.at.now c.args.self.now
 
 pub loop-place-preserved : goal.loop-place-preserved
 loop-place-preserved c =
