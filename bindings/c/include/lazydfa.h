@@ -668,7 +668,7 @@ static inline lazydfa_status lazydfa_regex_new(lazydfa_regex *regex, const char 
                                                const uint8_t *quits, size_t quit_count, lazydfa_refusal *refusal,
                                                char *message, size_t room) {
     static const lazydfa_settings defaults = { 0, 0, 0, 0, 0, 0, 0, 0, 0, 0, 0, 0, 0 };
-    static const lazydfa_text_options plain = { 0, 0, 0, 0, 0, 0, 0, 0, 0, 0, 0, 0, 0 };
+    static const lazydfa_text_options plain = { 0, 0, 0, 0, 0, 0, 0, 0, 0, 0, 0, 0, 0, 0, 0, 0, 0 };
     lazydfa_refusal unread;
     uint8_t none;
     if (!refusal) refusal = &unread;
