@@ -36,7 +36,6 @@ is right. What each crate took of the processors stands on standard error. It ne
 """
 import argparse
 import concurrent.futures
-import functools
 import hashlib
 import os
 import re
@@ -45,10 +44,10 @@ import subprocess
 import sys
 import tempfile
 
-TOP = os.path.dirname(os.path.dirname(os.path.abspath(__file__)))
-KIT = os.path.dirname(os.path.dirname(os.path.realpath(shutil.which("rt") or sys.exit("there is no rt"))))
+from libraries import KIT, PARTS, TOP, below, crates_used, files_of, text, words_over
+
 DOCUMENT = f"{TOP}/docs/WRONG_BODIES.md"
-PARTS = ("src", "specs", "proofs")
+LIBRARIES = f"{TOP}/tools/libraries.py"
 REFUSED, PROVED, BAD, UNKNOWN = "REFUSED", "PROVED", "BAD EDIT", "NOT TRIED"
 # A step that uses a name which is not there, and one that rests on a refused one: neither says anything of a goal.
 GONE, RESTS = re.compile(r"has no field|is not in scope|has no `"), "was not admitted"
@@ -59,33 +58,12 @@ UNREAD = re.compile(r"is not in scope|has no field|is no name|operand is missing
 IS_FALSE = "allow values at which this goal is false"
 
 
-def text(path):
-    with open(path, encoding="utf-8") as it:
-        return it.read()
-
-
-def files_of(name):
-    """Returns the files that a check of this crate reads."""
-    walks = (walk for part in PARTS for walk in os.walk(f"{TOP}/crates/{name}/{part}"))
-    return sorted(f"{at}/{it}" for at, _, found in walks for it in found)
-
-
 def link(one, other):
     """Gives what was proved a second name: a check replaces such a file. It writes into others, so they are copied."""
     try:
         os.link(one, other) if one.endswith(".oantt") else shutil.copy2(one, other)
     except OSError:
         shutil.copy2(one, other)
-
-
-@functools.cache
-def is_built(name):
-    """Whether there is a library of this crate as it stands. `rt lib` leaves a stamp there, and goes by that: where it
-    finds the library out of date, it builds it."""
-    rlib = f"{TOP}/crates/{name}/out/rlib/{name}.rlib"
-    if os.path.isfile(f"{os.path.dirname(rlib)}/stamp"):
-        return not subprocess.run(["rt", "lib"], cwd=f"{TOP}/crates/{name}", stdout=sys.stderr).returncode
-    return os.path.isdir(rlib) and all(os.path.getmtime(it) <= os.path.getmtime(rlib) for it in files_of(name))
 
 
 def module_of(file):
@@ -246,19 +224,11 @@ class Crate:
         files = [it for it in files if not wanted or name in wanted or f"{name}/{it[:-5]}" in wanted]
         self.edits, self.seconds, self.checks = [Edit(f"{at}/{it}", self.folder) for it in files], 0.0, 0
 
-    def below(self):
-        """Returns the names of the repository's crates that this one stands on."""
-        found, more = set(), [self.name]
-        while more:
-            new = [it for it in self.uses[more.pop()][0] if it in self.uses and it not in found]
-            found, more = found | set(new), more + new
-        return sorted(found)
-
     def look_up(self, keep):
         """Finds where it is noted that an edit was refused."""
-        names = [self.name, *self.below()]
+        names = [self.name, *below(self.name, self.uses)]
         sum = hashlib.sha256(repr([(it, self.uses[it]) for it in names]).encode())
-        for file in [__file__, f"{KIT}/KIT-ID", *(it for name in names for it in files_of(name))]:
+        for file in [__file__, LIBRARIES, f"{KIT}/KIT-ID", *(it for name in names for it in files_of(name))]:
             with open(file, "rb") as it:
                 sum.update(repr((os.path.relpath(file, TOP) if file.startswith(TOP) else "", it.read())).encode())
         for edit in self.edits:
@@ -266,21 +236,8 @@ class Crate:
 
     def words(self):
         """Returns the words that have rattle check the crate over the libraries that are built."""
-        names, is_static = self.uses[self.name]
         root = "src/main.rt" if os.path.isfile(f"{self.folder}/src/main.rt") else "src/lib.rt"
-        words = ["--crate-name", self.name, root, "-L", f"dependency={KIT}/rlibs"]
-        for it in self.below():
-            rlib = f"{TOP}/crates/{it}/out/rlib/{it}.rlib"
-            if not is_built(it):
-                how = f"`rt ci` does that, and `rt lib` in crates/{it}"
-                raise OSError(f"the library {it} is not built as it stands: {how}")
-            words += ["-L", f"dependency={os.path.dirname(rlib)}"]
-            words += ["--extern", f"{it}={rlib}"] if it in names else []
-        for it in ["std", *(it for it in names if it not in self.uses)]:
-            words += ["--extern", f"{it}={KIT}/rlibs/{it}.rlib"]
-        words += ["--antt-project", f"{KIT}/rattle/logic/antt-project.json", "--logic-built", f"{KIT}/logic_built"]
-        words += ["--crate-type", "staticlib"] if is_static else []
-        return [*words, "--jobs", "1", "--links", f"{self.name}="]
+        return words_over(self.name, root, self.uses, 1)
 
     def copy(self, room, edits):
         """Copies the crate into a folder, with these edits."""
@@ -463,16 +420,6 @@ class Document:
         if writes:
             with open(DOCUMENT, "w", encoding="utf-8") as it:
                 it.write("\n".join(self.lines))
-
-
-def crates_used():
-    """Returns what each crate uses, as crates.txt says, and whether it is a static library."""
-    uses = {}
-    for line in text(f"{TOP}/crates.txt").splitlines():
-        head, colon, rest = line.partition("#")[0].partition(":")
-        if colon:
-            uses[head.split()[0]] = rest.split(), "staticlib" in head.split()[1:]
-    return uses
 
 
 def tried(crates):

@@ -201,7 +201,8 @@ def write(room):
     with open(f"{room}/crates/top/wrong/zero_is_one.edit", "w", encoding="utf-8") as it:
         it.write("file: src/lib.rt\nold:     0\nnew:     1\n")
     os.mkdir(f"{room}/tools")
-    shutil.copy(TOOL, f"{room}/tools/wrong.py")
+    for tool in (TOOL, f"{os.path.dirname(TOOL)}/libraries.py"):
+        shutil.copy(tool, f"{room}/tools")
 
 
 class Tests:
