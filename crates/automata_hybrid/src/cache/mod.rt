@@ -38,6 +38,7 @@ ghost use Rattle.automata_base.specs.declared.util.search.Anchored.{Anchored};
 ghost use Rattle.automata_config.specs.Options.{match_kind_of};
 
 pub(crate) mod clears;
+pub mod footprint;
 pub(crate) mod handle;
 pub(crate) mod leaps;
 pub(crate) mod progress;
@@ -48,6 +49,7 @@ pub mod states;
 pub(crate) mod store;
 pub(crate) mod table;
 
+use crate::cache::footprint::Footprint;
 use crate::cache::handle::Handle;
 use crate::cache::leaps::{Leaping, Leaps, Shape};
 use crate::cache::self_loops::KnownLoop;
@@ -701,6 +703,26 @@ impl Cache {
         match &self.leaping.leaps {
             Some(leaps) => leaps.shape.bytes(),
             None => 0,
+        }
+    }
+
+    /// The bytes that it takes: the accounted ones, those of leaps, and all that it holds of the allocator.
+    pub fn footprint(&self) -> Footprint
+        ensures accounted { result.accounted ≡ usage (dfa_of self.now) (known_of self.now) }
+        ensures within { result.accounted + result.leaps ≤ (dfa_of self.now).capacity }
+        ensures held { result.accounted + result.leaps ≤ result.held }
+    {
+        let accounted = self.memory_usage();
+        let leaps = self.leap_usage();
+        let lists = self
+            .store
+            .heap_usage()
+            .saturating_add(self.leaping.heap_usage());
+        let held = lists.saturating_add(self.scratch.heap_usage());
+        Footprint {
+            accounted,
+            leaps,
+            held: held.max(accounted + leaps),
         }
     }
 

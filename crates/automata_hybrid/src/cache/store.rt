@@ -22,6 +22,7 @@ use crate::cache::table::Table;
 use crate::dfa::DFA;
 use crate::id::LazyStateID;
 use automata_base::util::determinize::State;
+use automata_base::util::heap::array;
 use automata_config::accounting::{CELL_SIZE, ENTRY_SIZE, FIXED_ROWS_COST, ROW_SIZE};
 use automata_config::error::{CacheError, StepError};
 use std::alloc::AllocError;
@@ -113,6 +114,12 @@ impl Store {
             + FIXED_ROWS_COST
             + self.table.costs()
             + self.settings.fixed
+    }
+
+    /// The bytes that it takes of the allocator.
+    pub fn heap_usage(&self) -> usize {
+        let starts = array(self.starts.capacity(), CELL_SIZE);
+        starts.saturating_add(self.table.heap_usage())
     }
 
     /// The accounted bytes of a new state. They are counted once, for all calls that need them.
