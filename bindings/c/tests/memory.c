@@ -15,7 +15,7 @@ void *__wrap_malloc(size_t size);
 void *__wrap_realloc(void *at, size_t size);
 void __wrap_free(void *at);
 
-enum { LENGTH = 3000000, SHORT = 100, LITERAL = 8000, KEPT = 300, SEARCHES = 1200, LONG = 300000 };
+enum { LENGTH = 3000000, SHORT = 100, LITERAL = 8000, KEPT = 300, SEARCHES = 1200 };
 
 /* What the allocations of a direction take at most, in capacities: while it is cleared, and between searches. */
 enum { CLEARED = 5, BETWEEN = 4 };
@@ -199,7 +199,7 @@ static size_t close_oldest_but(int kept) {
 }
 
 /* Searches by one of many regexes, and drops caches until all that are kept are within the limit. */
-static void kept_within(size_t limit, size_t capacity) {
+static void kept_within(size_t limit, size_t capacity, size_t length) {
     size_t before, sum = 0, most = 0, turn, closed;
     char pattern[80];
     int i;
@@ -210,12 +210,12 @@ static void kept_within(size_t limit, size_t capacity) {
     }
     before = peak = taken;
     for (turn = 1; turn <= SEARCHES; turn++) {
-        lazydfa_iteration at = lazydfa_iterate(lazydfa_whole(LONG));
+        lazydfa_iteration at = lazydfa_iterate(lazydfa_whole(length));
         lazydfa_match match;
         int one = (int)random_below(KEPT);
-        const uint8_t *value = text + random_below(LENGTH - LONG);
+        const uint8_t *value = text + random_below((uint32_t)(LENGTH - length));
         if (!used[one]) CHECK(lazydfa_cache_new(&caches[one], &regexes[one]).code == LAZYDFA_OK, "new");
-        while (lazydfa_next(&caches[one], value, LONG, &at, &match).code == LAZYDFA_OK) continue;
+        while (lazydfa_next(&caches[one], value, length, &at, &match).code == LAZYDFA_OK) continue;
         used[one] = turn;
         sum -= held[one];
         sum += held[one] = usage_of(&caches[one]).held;
@@ -240,8 +240,8 @@ int main(void) {
     printf("%-26s %8s %8s %8s %8s %8s %8s %6s\n", "pattern", "capacity", "memory", "leaps", "held", "malloc", "peak",
            "clears");
     for (i = 0; i < sizeof rows / sizeof *rows; i++) one_cache(&rows[i]);
-    kept_within(2 << 20, 1 << 20);
-    kept_within(2 << 20, 1 << 15);
+    kept_within(2 << 20, 1 << 20, 300000);
+    kept_within(2 << 20, 1 << 15, 20000);
     CHECK(taken == 0, "all");
     printf("%ld checks, %ld failed\n", made, failed);
     return failed != 0;
