@@ -5,7 +5,7 @@
 //! A `store` has the `table` of the rows (`row`), the start slots and the progress of searches (`progress`), within
 //! limits (`settings`). Where a row does not fit, `clears` says what a clear keeps. Searches have from a cache what it
 //! keeps of a row's self-loop (`self_loops`), leaps (`leaps`), and a state that a walk holds (`handle`). `states` are
-//! what a cache holds, to look at.
+//! what a cache holds, to look at, and its `footprint` is how many bytes it takes.
 ghost use Rattle.std.specs.Prelude.{ℕ, ◌≡◌, ◌*◌, ◌%◌, ◌<◌, ◌≤◌, IfOk, IfErr, OnOk, OnErr, slice_index, All, length};
 ghost use Rattle.std.specs.Prelude.{is_some, IfSome, IsSome, IsTrue, ◌+◌, ◌↔◌, ◌⊎◌, false, None, Option};
 ghost use Rattle.automata_base.specs.Powersets.Powerset.{Powerset, cost, dead};
@@ -712,6 +712,7 @@ impl Cache {
         ensures within { result.accounted + result.leaps ≤ (dfa_of self.now).capacity }
         ensures held { result.accounted + result.leaps ≤ result.held }
     {
+        let _capacity = self.store.capacity();
         let accounted = self.memory_usage();
         let leaps = self.leap_usage();
         let lists = self

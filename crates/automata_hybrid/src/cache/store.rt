@@ -142,6 +142,13 @@ impl Store {
         row + bytes <= room && self.table.cell_count() < LazyStateID::OFFSET_LIMIT
     }
 
+    /// The capacity.
+    pub fn capacity(&self) -> usize
+        ensures { result ≡ self.now.table.of.capacity }
+    {
+        self.settings.capacity
+    }
+
     /// The bytes of the capacity that are not taken.
     pub fn room(&self) -> usize
         ensures { usage_in_store self.now + result ≡ self.now.table.of.capacity }
