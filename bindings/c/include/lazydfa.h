@@ -250,7 +250,10 @@ typedef struct {
 } lazydfa_settings;
 
 typedef struct {
-    size_t memory;          /* the bytes that the cache accounts for */
+    size_t memory;          /* the bytes that the cache accounts for, which its capacity bounds */
+    size_t leaps;           /* those of tables for long searches, for which there was room beside these */
+    size_t held;            /* all that the cache takes of malloc: an allocation of n bytes counts as n + 8, rounded up
+                               to a multiple of 16, and as 32 at least */
     size_t forward_clears;  /* how often the part for ends of matches was cleared */
     size_t reverse_clears;  /* and the part for starts */
     size_t patterns;        /* how many patterns the regex has */
@@ -781,7 +784,7 @@ static inline lazydfa_status lazydfa_cache_reset(lazydfa_cache *cache) {
     return lazydfa_raw_cache_reset(&cache->handle);
 }
 
-/* Writes what the cache accounts for. */
+/* Writes how much memory the cache takes, and how often its parts were cleared. */
 static inline lazydfa_status lazydfa_cache_usage(lazydfa_cache *cache, lazydfa_usage *usage) {
     LAZYDFA_NEED(cache);
     LAZYDFA_NEED(usage);

@@ -138,11 +138,14 @@ pub struct Refusal {
     pub length: usize,
 }
 
-/// The bytes that a cache accounts for, how often its two parts were cleared, and how many patterns its regex has.
+/// The bytes that a cache accounts for, those of its leaps, all that it holds of the allocator, how often its two parts
+/// were cleared, and how many patterns its regex has.
 #[repr(C)]
 #[derive(Clone, Copy, Default)]
 pub struct Usage {
     pub memory: usize,
+    pub leaps: usize,
+    pub held: usize,
     pub forward_clears: usize,
     pub reverse_clears: usize,
     pub patterns: usize,
@@ -203,7 +206,7 @@ unsafe extern "C" {
     pub safe fn lazydfa_raw_cache_new(cache: &mut Handle, regex: &mut Handle) -> Status;
     /// Makes a cache a fresh one of its regex.
     pub safe fn lazydfa_raw_cache_reset(cache: &mut Handle) -> Status;
-    /// Writes what a cache accounts for, in bytes, and how often its two parts were cleared.
+    /// Writes what a cache accounts for and holds, in bytes, and how often its two parts were cleared.
     pub safe fn lazydfa_raw_cache_usage(cache: &mut Handle, usage: &mut Usage) -> Status;
     /// Begins a search in pieces over a cache, in place of the one that was begun before: in the anchored mode of two
     /// numbers, after the byte of a third or none.
