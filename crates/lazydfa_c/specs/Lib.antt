@@ -14,4 +14,5 @@ pub mod Statuses
 pub mod Stops
 pub mod Streams
 pub mod Texts
+pub mod Facts
 pub mod Walks

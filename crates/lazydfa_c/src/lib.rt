@@ -8,6 +8,7 @@
 mod builder;
 mod closing;
 mod code;
+mod facts;
 mod handle;
 mod input;
 mod iterate;
