@@ -4,7 +4,7 @@ use Rattle.regex_hir.specs.Re.{Re}
 use Rattle.regex_hir.specs.Matches.{Matches}
 use Rattle.regex_literal.specs.Find.{OccursAt}
 use Rattle.regex_extract.specs.Bounds.{IsAnchored}
-use Rattle.regex_extract.specs.Needles.{needles_of}
+use Rattle.regex_extract.specs.Needles.{AreFilled, needles_of}
 use Rattle.match_facts.specs.declared.Facts.{Facts}
 
 -- every match in a haystack of bytes, from i to j, has the property
@@ -49,3 +49,5 @@ pub record AreFacts (re : Re) (facts : Facts) : Type 0 where
   pub exact : facts.exact ≡ true → HasLength re (length facts.prefix.items)
   -- every match contains each of the literals
   pub literals : ContainsAll re (needles_of facts.literals)
+  -- no literal is empty
+  pub filled : AreFilled (needles_of facts.literals)

@@ -3,7 +3,7 @@ use Rattle.std.specs.Prelude.{ℕ, ◌≡◌, ◌+◌, ◌<◌, ◌≤◌, List,
 use Rattle.regex_hir.specs.Re.{Re}
 use Rattle.regex_hir.specs.Matches.{Matches}
 use Rattle.regex_literal.specs.Find.{OccursAt}
-use Rattle.regex_extract.specs.Needles.{needles_of}
+use Rattle.regex_extract.specs.Needles.{AreFilled, needles_of}
 use Rattle.match_facts.specs.Facts.{StandsIn}
 use Rattle.match_facts.specs.declared.literals.Run.{Run}
 
@@ -18,13 +18,18 @@ pub record HasRun (run : Run) (hay : List ℕ) (i j : ℕ) : Type 0 where
   -- its last bytes end at j
   pub last : StandsBefore hay run.last.items i j
 
--- where the haystack has the old run up to m, and a match of the pattern from there to j, it has the new run up to j
+-- what a walk over a pattern makes of a run
 pub record Extends (re : Re) (old new : Run) : Type 0 where
+  -- where the haystack has the old run up to m, and a match of the pattern from there to j, it has the new run up to j
   pub at :
       (hay : List ℕ) → All (λ b. b < 256) hay → (i m j : ℕ) → m ≤ length hay → Matches hay re m j
       → HasRun old hay i m → HasRun new hay i j
+  -- no literal is empty, if none was
+  pub filled : AreFilled (needles_of old.literals) → AreFilled (needles_of new.literals)
 
--- where the haystack has the old run up to m, it has the new run up to any later offset
+-- what is left of a run where the pattern may read anything
 pub record Ends (old new : Run) : Type 0 where
-  pub at :
-      (hay : List ℕ) (i m j : ℕ) → m ≤ j → j ≤ length hay → HasRun old hay i m → HasRun new hay i j
+  -- where the haystack has the old run up to m, it has the new run up to any later offset
+  pub at : (hay : List ℕ) (i m j : ℕ) → m ≤ j → j ≤ length hay → HasRun old hay i m → HasRun new hay i j
+  -- no literal is empty, if none was
+  pub filled : AreFilled (needles_of old.literals) → AreFilled (needles_of new.literals)

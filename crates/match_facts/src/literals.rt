@@ -1,7 +1,7 @@
 //! Literals that every match contains.
 ghost use Rattle.std.specs.Prelude.{IfOk, OnOk, map};
 ghost use Rattle.regex_hir.specs.Meaning.{cat_all, meaning};
-ghost use Rattle.regex_extract.specs.Needles.{needles_of};
+ghost use Rattle.regex_extract.specs.Needles.{AreFilled, needles_of};
 ghost use Rattle.match_facts.specs.Facts.{ContainsAll};
 ghost use Rattle.match_facts.specs.Runs.{Ends, Extends};
 
@@ -43,7 +43,8 @@ impl Run {
 /// Literals that every match contains, in the order in which they stand there. An alternation has none, nor has what
 /// may be left out.
 pub(crate) fn literals_of(alloc: Global, hir: &Hir) -> Result<Vec<Vec<u8>>, AllocError>
-    ensures { IfOk result (λ v. ContainsAll (meaning hir.now) (needles_of v)) }
+    ensures contains { IfOk result (λ v. ContainsAll (meaning hir.now) (needles_of v)) }
+    ensures filled { IfOk result (λ v. AreFilled (needles_of v)) }
 {
     let mut run = Run {
         literals: Vec::new(alloc),

@@ -39,12 +39,11 @@ fn common_len(first: &[u8], second: &[u8]) -> usize
     ensures within { result ≤ length first.now }
     ensures same { take result first.now ≡ take result second.now }
 {
-    let mut len = 0;
-    for (one, other) in first.iter().zip(second) {
-        if one != other {
-            return len;
+    let shorter = first.len().min(second.len());
+    for i in 0..shorter {
+        if first[i] != second[i] {
+            return i;
         }
-        len += 1;
     }
-    len
+    shorter
 }
