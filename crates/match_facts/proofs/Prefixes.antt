@@ -62,6 +62,7 @@ starts_with_none re hay ok i j w s =
     }
 
 -- a match that begins with a prefix, and is no longer, is the prefix
-pub is_prefix : (re : Re) (bytes : List ℕ) → StartsWith re bytes → IsMaxLen re (length bytes) → HasLength re (length bytes)
+pub is_prefix :
+    (re : Re) (bytes : List ℕ) → StartsWith re bytes → IsMaxLen re (length bytes) → HasLength re (length bytes)
 is_prefix re bytes starts longest hay ok i j w s =
     let b = (starts hay ok i j w s).high in let e = longest hay ok i j s in omega (arith, b, e)

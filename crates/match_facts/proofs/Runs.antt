@@ -1,6 +1,7 @@
 -- What a walk over a tree keeps of its run.
-use Rattle.std.proofs.Common.{ℕ, zero, suc, ◌≡◌, ◌+◌, ◌-◌, ◌<◌, ◌≤◌, true, Bool, List, [], ◌∷◌, ◌++◌, All, length, map, take, drop}
-use Rattle.std.proofs.Common.{get_or, Option, Some, None, sym, ap, ◌∙◌, subst, ⊎_elim, arith, le_refl, le_trans, length-append}
+use Rattle.std.proofs.Common.{ℕ, zero, suc, ◌≡◌, ◌+◌, ◌-◌, ◌<◌, ◌≤◌, true, Bool, List, [], ◌∷◌, ◌++◌, All, length}
+use Rattle.std.proofs.Common.{map, take, drop, get_or, Option, Some, None, sym, ap, ◌∙◌, subst, ⊎_elim, arith}
+use Rattle.std.proofs.Common.{le_refl, le_trans, length-append}
 use Rattle.std.proofs.Common.{get_or-drop, get_or-append-add}
 use Rattle.std.proofs.lemmas.Bool.{cases_lt}
 use Rattle.std.proofs.lemmas.List.{get_or_append_left}
@@ -63,7 +64,9 @@ ends_more old new long more none = record {
     last = subst (λ bs. StandsBefore hay bs i j) (sym none)
         (no_bytes hay i j (le_trans (low_of old hay i m h) le) w);
   };
-  filled = λ h. subst AreFilled (sym more) (All-push (λ n. 0 < length n) (needles_of old.literals) old.last.items h long);
+  filled = λ h.
+      subst AreFilled (sym more)
+      (All-push (λ n. 0 < length n) (needles_of old.literals) old.last.items h long);
 }
 
 pub extends_ends : (re : Re) (old new : Run) → Ends old new → Extends re old new
@@ -138,7 +141,8 @@ first_match :
 unfolding repeat
 first_match hay zero most g a m j lt s = absurd (omega arith)
 first_match hay (suc n) None g a m j lt s = first_copy hay n g a m j s
-first_match hay (suc n) (Some most) g a m j lt s = (s.0, s.1, (Matches-IsSpan hay (copies n a (up_to g (most - suc n) a)) s.0 j s.2).0)
+first_match hay (suc n) (Some most) g a m j lt s =
+    (s.0, s.1, (Matches-IsSpan hay (copies n a (up_to g (most - suc n) a)) s.0 j s.2).0)
 
 pub extends_repeat :
     (least : ℕ) (most : Option ℕ) (g : Bool) (a : Re) (old mid new : Run) → 0 < least → Extends a old mid
@@ -190,7 +194,8 @@ pub contains_all :
     → ContainsAll re (needles_of new.literals)
 contains_all re run mid new none bare x e hay ok i j w s =
     let span = Matches-IsSpan hay re i j s in
-    (e.at hay i j j (le_refl j) (omega (arith, span.1, w)) (x.at hay ok i i j w s (begin run hay i none bare w))).literals
+    let passed = x.at hay ok i i j w s (begin run hay i none bare w) in
+    (e.at hay i j j (le_refl j) (omega (arith, span.1, w)) passed).literals
 
 pub are_filled :
     (re : Re) (run mid new : Run) → run.literals.items ≡ [] → Extends re run mid → Ends mid new

@@ -1,9 +1,8 @@
 -- What every match of a pattern has in common.
-use Rattle.std.specs.Prelude.{ℕ, ◌≡◌, ◌+◌, ◌<◌, ◌≤◌, true, false, List, All, length}
+use Rattle.std.specs.Prelude.{ℕ, ◌≡◌, ◌+◌, ◌<◌, ◌≤◌, true, List, All, length}
 use Rattle.regex_hir.specs.Re.{Re}
 use Rattle.regex_hir.specs.Matches.{Matches}
 use Rattle.regex_literal.specs.Find.{OccursAt}
-use Rattle.regex_extract.specs.Bounds.{IsAnchored}
 use Rattle.regex_extract.specs.Needles.{AreFilled, needles_of}
 use Rattle.match_facts.specs.declared.Facts.{Facts}
 
@@ -40,9 +39,9 @@ ContainsAll re texts = EachMatch re (λ hay i j. All (λ bytes. StandsIn hay byt
 -- the facts hold of every match
 pub record AreFacts (re : Re) (facts : Facts) : Type 0 where
   -- if the flag is set, every match begins where the haystack does
-  pub start : facts.anchored_start ≡ true → IsAnchored true re
+  pub start : facts.anchored_start ≡ true → EachMatch re (λ hay i j. i ≡ 0)
   -- if the flag is set, every match ends where the haystack does
-  pub end : facts.anchored_end ≡ true → IsAnchored false re
+  pub end : facts.anchored_end ≡ true → EachMatch re (λ hay i j. j ≡ length hay)
   -- every match begins with the prefix
   pub prefix : StartsWith re facts.prefix.items
   -- if the flag is set, every match is the prefix and nothing more

@@ -13,7 +13,7 @@ pub record AreFactsOf (options : Options) (text : List ℕ) (facts : Facts) : Ty
   -- the text is a pattern
   pub pattern : (re : Re) × IsMeaning (config_of options) text re
   -- by whichever tree it is read
-  pub facts : (re : Re) → IsMeaning (config_of options) text re → AreFacts re facts
+  pub hold : (re : Re) → IsMeaning (config_of options) text re → AreFacts re facts
 
 -- why a text has no facts, with the number 0
 abbrev pub IsFactsError : Options → (text : List ℕ) → PatternError → Type 0
