@@ -1,5 +1,5 @@
 -- What every match of a pattern's text has in common, as C is told it.
-use Rattle.std.specs.Prelude.{ℕ, ◌≡◌, Bool, List, [], ◌∷◌, ◌++◌, length, map, if◌then◌else◌}
+use Rattle.std.specs.Prelude.{ℕ, ◌≡◌, Bool, List, [], ◌∷◌, ◌++◌, length, map, vec_len, if◌then◌else◌}
 use Rattle.std.specs.List.{flat_map}
 use Rattle.match_facts.specs.declared.Facts.{Facts as Known}
 use Rattle.patterns.specs.Facts.{AreFactsOf}
@@ -37,7 +37,7 @@ plain_reading options = reading_of options default_settings
 
 -- 1 for yes and 0 for no
 abbrev pub flag : Bool → ℕ
-flag yes = if yes then 1 else 0
+flag b = if b then 1 else 0
 
 -- the bytes of the prefix and then those of the literals
 abbrev pub bytes_of : Known → List ℕ
@@ -45,13 +45,13 @@ bytes_of known = known.prefix.items ++ flat_map (λ literal. literal.items) know
 
 -- how long the literals are
 abbrev pub lengths_of : Known → List ℕ
-lengths_of known = map (λ literal. length literal.items) known.literals.items
+lengths_of known = map (λ literal. vec_len literal) known.literals.items
 
 -- the facts, whose bytes have this length
 abbrev pub facts_of : Known → (bytes : ℕ) → Facts
 facts_of known bytes = record {
-  prefix = length known.prefix.items;
-  count = length known.literals.items;
+  prefix = vec_len known.prefix;
+  count = vec_len known.literals;
   length = bytes;
   anchored_start = flag known.anchored_start;
   anchored_end = flag known.anchored_end;
