@@ -40,12 +40,12 @@ abbrev pub flag : Bool → ℕ
 flag b = if b then 1 else 0
 
 -- the bytes of the prefix and then those of the literals
-abbrev pub bytes_of : Known → List ℕ
-bytes_of known = known.prefix.items ++ flat_map (λ literal. literal.items) known.literals.items
+abbrev pub fact_bytes : Known → List ℕ
+fact_bytes known = known.prefix.items ++ flat_map (λ literal. literal.items) known.literals.items
 
 -- how long the literals are
-abbrev pub lengths_of : Known → List ℕ
-lengths_of known = map (λ literal. vec_len literal) known.literals.items
+abbrev pub literal_lengths : Known → List ℕ
+literal_lengths known = map (λ literal. vec_len literal) known.literals.items
 
 -- the facts, whose bytes have this length
 abbrev pub facts_of : Known → (bytes : ℕ) → Facts
@@ -80,11 +80,11 @@ pub record HasFacts (options : TextOptions) (text : List ℕ) (facts : Facts)
   -- they are those of the text
   pub of : AreFactsOf (plain_reading options) text known
   -- the facts are of these, with the length of all bytes
-  pub written : facts ≡ facts_of known (length (bytes_of known))
+  pub written : facts ≡ facts_of known (length (fact_bytes known))
   -- the prefix and then the literals
-  pub bytes : new_bytes ≡ written_over (bytes_of known) old_bytes
+  pub bytes : new_bytes ≡ written_over (fact_bytes known) old_bytes
   -- the lengths of the literals
-  pub lengths : new_lengths ≡ written_over (lengths_of known) old_lengths
+  pub lengths : new_lengths ≡ written_over (literal_lengths known) old_lengths
 
 -- `lazydfa_text_facts`
 pub data ReportsFacts (options : TextOptions) (text : List ℕ) (facts : Facts)

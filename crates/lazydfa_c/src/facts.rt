@@ -2,7 +2,7 @@
 ghost use Rattle.std.specs.Prelude.{◌≡◌, IfErr, IfOk, OnErr, OnOk};
 ghost use Rattle.patterns.specs.Facts.{AreFactsOf};
 ghost use Rattle.lazydfa_c.specs.Caches.{written_over};
-ghost use Rattle.lazydfa_c.specs.Facts.{HasFacts, ReportsFacts, bytes_of, default_settings, facts_of, lengths_of, no_facts};
+ghost use Rattle.lazydfa_c.specs.Facts.{HasFacts, ReportsFacts, fact_bytes, default_settings, facts_of, literal_lengths, no_facts};
 ghost use Rattle.lazydfa_c.specs.Facts.{plain_reading};
 ghost use Rattle.lazydfa_c.specs.Texts.{IsFailure};
 
@@ -98,7 +98,7 @@ fn facts_of_text(alloc: Global, text: &[u8], options: &TextOptions) -> Result<Pa
 
 /// The bytes of the prefix and then those of the literals, one after another.
 fn joined(alloc: Global, facts: &PatternFacts) -> Result<Vec<u8>, AllocError>
-    ensures { IfOk result (λ v. v.items ≡ bytes_of facts.now) }
+    ensures { IfOk result (λ v. v.items ≡ fact_bytes facts.now) }
 {
     let mut all = Vec::from_slice(alloc, facts.prefix.as_slice())?;
     for literal in &facts.literals {
@@ -109,7 +109,7 @@ fn joined(alloc: Global, facts: &PatternFacts) -> Result<Vec<u8>, AllocError>
 
 /// The lengths of the literals, in bytes.
 fn lengths_of(alloc: Global, facts: &PatternFacts) -> Result<Vec<usize>, AllocError>
-    ensures { IfOk result (λ v. v.items ≡ lengths_of facts.now) }
+    ensures { IfOk result (λ v. v.items ≡ literal_lengths facts.now) }
 {
     facts
         .literals

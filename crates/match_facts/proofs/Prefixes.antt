@@ -8,16 +8,16 @@ use Rattle.regex_literal.specs.Find.{OccursAt, needle_at}
 use Rattle.regex_extract.specs.Bounds.{IsMaxLen}
 use Rattle.regex_extract.specs.Needles.{StartsWithNeedle}
 use Rattle.match_facts.specs.Facts.{HasLength, StartsWith}
-use Rattle.match_facts.specs.Prefixes.{Begins}
+use Rattle.match_facts.specs.Prefixes.{BeginsWith}
 
 -- a text begins with less of what it begins with
-pub shorter_begins : (bytes text : List ℕ) (n : ℕ) → Begins bytes text → Begins (take n bytes) text
+pub shorter_begins : (bytes text : List ℕ) (n : ℕ) → BeginsWith bytes text → BeginsWith (take n bytes) text
 shorter_begins bytes text n b = (
   drop n bytes ++ b.0,
   b.1 ∙ ap (λ v. v ++ b.0) (sym (take-append-drop n bytes)) ∙ append_assoc (take n bytes) (drop n bytes) b.0,
 )
 
-pub common_begins : (bytes text : List ℕ) (n : ℕ) → take n bytes ≡ take n text → Begins (take n bytes) text
+pub common_begins : (bytes text : List ℕ) (n : ℕ) → take n bytes ≡ take n text → BeginsWith (take n bytes) text
 common_begins bytes text n e = (drop n text, sym (take-append-drop n text) ∙ ap (λ v. v ++ drop n text) (sym e))
 
 -- one byte more in common
@@ -29,7 +29,7 @@ common_more xs ys i l m same e =
     ∙ sym (take_more ys i 0 m)
 
 -- bytes that a text begins with stand where it stands
-begins_there : (hay bytes text : List ℕ) (k : ℕ) → Begins bytes text → OccursAt hay text k → OccursAt hay bytes k
+begins_there : (hay bytes text : List ℕ) (k : ℕ) → BeginsWith bytes text → OccursAt hay text k → OccursAt hay bytes k
 begins_there hay bytes text k b o = record {
   fits = omega (arith, o.fits, ap length b.1, length-append bytes b.0);
   reads = λ j lt.
@@ -40,7 +40,7 @@ begins_there hay bytes text k b o = record {
 -- every match begins with what all needles begin with
 pub starts_with_shared :
     (re : Re) (needles : List (List ℕ)) (bytes : List ℕ)
-    → ((n : ℕ) → n < length needles → Begins bytes (needle_at needles n)) → StartsWithNeedle re needles
+    → ((n : ℕ) → n < length needles → BeginsWith bytes (needle_at needles n)) → StartsWithNeedle re needles
     → StartsWith re bytes
 starts_with_shared re needles bytes all starts hay ok i j w s =
     let found = starts hay ok i j s in

@@ -17,7 +17,7 @@ use Rattle.regex_extract.specs.Needles.{AreFilled, needles_of}
 use Rattle.regex_extract.proofs.LanguageLemmas.{meanings_more}
 use Rattle.regex_extract.proofs.NeedlesLemmas.{Matches-cat_all-append}
 use Rattle.match_facts.specs.Facts.{ContainsAll, StandsIn}
-use Rattle.match_facts.specs.Runs.{Ends, Extends, HasRun, StandsBefore}
+use Rattle.match_facts.specs.Runs.{EndsRun, ExtendsRun, HasLiterals, StandsBefore}
 use Rattle.match_facts.specs.declared.literals.Run.{Run}
 
 -- texts that stand in a span stand in a longer one
@@ -38,10 +38,10 @@ in_span : (hay bytes : List ℕ) (i m j : ℕ) → m ≤ j → StandsBefore hay 
 in_span hay bytes i m j le s =
     (s.0, record { occurs = s.1; low = s.2; high = let e = s.3 in omega (arith, e, le) })
 
-low_of : (run : Run) (hay : List ℕ) (i m : ℕ) → HasRun run hay i m → i ≤ m
+low_of : (run : Run) (hay : List ℕ) (i m : ℕ) → HasLiterals run hay i m → i ≤ m
 low_of run hay i m h = let l = h.last in omega (arith, l.2, l.3)
 
-pub ends_same : (old new : Run) → new.literals ≡ old.literals → new.last.items ≡ [] → Ends old new
+pub ends_same : (old new : Run) → new.literals ≡ old.literals → new.last.items ≡ [] → EndsRun old new
 ends_same old new same none = record {
   at = λ hay i m j le w h. record {
     literals = subst (λ v. All (λ b. StandsIn hay b i j) (needles_of v)) (sym same)
@@ -54,7 +54,7 @@ ends_same old new same none = record {
 
 pub ends_more :
     (old new : Run) → 0 < length old.last.items
-    → needles_of new.literals ≡ needles_of old.literals ++ old.last.items ∷ [] → new.last.items ≡ [] → Ends old new
+    → needles_of new.literals ≡ needles_of old.literals ++ old.last.items ∷ [] → new.last.items ≡ [] → EndsRun old new
 ends_more old new long more none = record {
   at = λ hay i m j le w h. record {
     literals = subst (All (λ b. StandsIn hay b i j)) (sym more)
@@ -69,7 +69,7 @@ ends_more old new long more none = record {
       (All-push (λ n. 0 < length n) (needles_of old.literals) old.last.items h long);
 }
 
-pub extends_ends : (re : Re) (old new : Run) → Ends old new → Extends re old new
+pub extends_ends : (re : Re) (old new : Run) → EndsRun old new → ExtendsRun re old new
 extends_ends re old new e = record {
   at = λ hay ok i m j w s h.
       let span = Matches-IsSpan hay re m j s in
@@ -106,7 +106,7 @@ longer hay xs bs i m j w l b e = (
 
 pub extends_literal :
     (bs : List ℕ) (old new : Run) → new.literals ≡ old.literals → new.last.items ≡ old.last.items ++ bs
-    → Extends (literal bs) old new
+    → ExtendsRun (literal bs) old new
 extends_literal bs old new same more = record {
   at = λ hay ok i m j w s h.
       let span = Matches-IsSpan hay (literal bs) m j s in
@@ -119,7 +119,7 @@ extends_literal bs old new same more = record {
   filled = λ h. subst (λ v. AreFilled (needles_of v)) (sym same) h;
 }
 
-pub extends_group : (n : ℕ) (a : Re) (old new : Run) → Extends a old new → Extends (group n a) old new
+pub extends_group : (n : ℕ) (a : Re) (old new : Run) → ExtendsRun a old new → ExtendsRun (group n a) old new
 extends_group n a old new e = record { at = e.at; filled = e.filled }
 
 first_round :
@@ -145,8 +145,8 @@ first_match hay (suc n) (Some most) g a m j lt s =
     (s.0, s.1, (Matches-IsSpan hay (copies n a (up_to g (most - suc n) a)) s.0 j s.2).0)
 
 pub extends_repeat :
-    (least : ℕ) (most : Option ℕ) (g : Bool) (a : Re) (old mid new : Run) → 0 < least → Extends a old mid
-    → Ends mid new → Extends (repeat least most g a) old new
+    (least : ℕ) (most : Option ℕ) (g : Bool) (a : Re) (old mid new : Run) → 0 < least → ExtendsRun a old mid
+    → EndsRun mid new → ExtendsRun (repeat least most g a) old new
 extends_repeat least most g a old mid new lt x e = record {
   at = λ hay ok i m j w s h.
       let f = first_match hay least most g a m j lt s in
@@ -155,33 +155,33 @@ extends_repeat least most g a old mid new lt x e = record {
   filled = λ h. e.filled (x.filled h);
 }
 
-pub extends_none : (run : Run) → Extends (cat_all []) run run
-extends_none run = record { at = λ hay ok i m j w s h. subst (HasRun run hay i) (sym s) h; filled = λ h. h }
+pub extends_none : (run : Run) → ExtendsRun (cat_all []) run run
+extends_none run = record { at = λ hay ok i m j w s h. subst (HasLiterals run hay i) (sym s) h; filled = λ h. h }
 
 extends_push :
-    (xs : List Re) (a : Re) (old mid new : Run) → Extends (cat_all xs) old mid → Extends a mid new
-    → Extends (cat_all (xs ++ a ∷ [])) old new
+    (xs : List Re) (a : Re) (old mid new : Run) → ExtendsRun (cat_all xs) old mid → ExtendsRun a mid new
+    → ExtendsRun (cat_all (xs ++ a ∷ [])) old new
 extends_push xs a old mid new p q = record {
   at = λ hay ok i m j w s h.
       let c = Matches-cat_all-append hay xs (a ∷ []) m j s in
       let span = Matches-IsSpan hay (cat_all xs) m c.0 c.1 in
-      subst (HasRun new hay i) (sym c.2.2)
+      subst (HasLiterals new hay i) (sym c.2.2)
       (q.at hay ok i c.0 c.2.0 (omega (arith, span.1, w)) c.2.1 (p.at hay ok i m c.0 w c.1 h));
   filled = λ h. q.filled (p.filled h);
 }
 
 pub extends_more :
     (hs : List Hir) (i : ℕ) (h : Hir) (old mid new : Run) → i < length hs → h ≡ get_or hs i h
-    → Extends (cat_all (map meaning (take i hs))) old mid → Extends (meaning h) mid new
-    → Extends (cat_all (map meaning (take (i + 1) hs))) old new
+    → ExtendsRun (cat_all (map meaning (take i hs))) old mid → ExtendsRun (meaning h) mid new
+    → ExtendsRun (cat_all (map meaning (take (i + 1) hs))) old new
 extends_more hs i h old mid new lt e p q =
-    subst (λ rs. Extends (cat_all rs) old new) (sym (meanings_more hs i h lt e))
+    subst (λ rs. ExtendsRun (cat_all rs) old new) (sym (meanings_more hs i h lt e))
     (extends_push (map meaning (take i hs)) (meaning h) old mid new p q)
 
 -- a run that has nothing yet
 begin :
     (run : Run) (hay : List ℕ) (i : ℕ) → run.literals.items ≡ [] → run.last.items ≡ [] → i ≤ length hay
-    → HasRun run hay i i
+    → HasLiterals run hay i i
 begin run hay i none bare w = record {
   literals = subst (λ v. All (λ b. StandsIn hay b i i) (map (λ n. n.items) v)) (sym none)
       (All-nil (λ b. StandsIn hay b i i));
@@ -190,15 +190,15 @@ begin run hay i none bare w = record {
 
 -- what is passed from such a run on is in every match
 pub contains_all :
-    (re : Re) (run mid new : Run) → run.literals.items ≡ [] → run.last.items ≡ [] → Extends re run mid → Ends mid new
-    → ContainsAll re (needles_of new.literals)
+    (re : Re) (run mid new : Run) → run.literals.items ≡ [] → run.last.items ≡ [] → ExtendsRun re run mid
+    → EndsRun mid new → ContainsAll re (needles_of new.literals)
 contains_all re run mid new none bare x e hay ok i j w s =
     let span = Matches-IsSpan hay re i j s in
     let passed = x.at hay ok i i j w s (begin run hay i none bare w) in
     (e.at hay i j j (le_refl j) (omega (arith, span.1, w)) passed).literals
 
 pub are_filled :
-    (re : Re) (run mid new : Run) → run.literals.items ≡ [] → Extends re run mid → Ends mid new
+    (re : Re) (run mid new : Run) → run.literals.items ≡ [] → ExtendsRun re run mid → EndsRun mid new
     → AreFilled (needles_of new.literals)
 are_filled re run mid new none x e =
     e.filled (x.filled (subst (λ v. AreFilled (map (λ n. n.items) v)) (sym none) (All-nil (λ n. 0 < length n))))

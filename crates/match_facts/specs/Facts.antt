@@ -12,7 +12,7 @@ EachMatch re P =
     (hay : List ℕ) → All (λ b. b < 256) hay → (i j : ℕ) → i ≤ length hay → Matches hay re i j → P hay i j
 
 -- the bytes stand at offset k of the haystack, between i and j
-pub record StandsAt (hay bytes : List ℕ) (k i j : ℕ) : Type 0 where
+pub record StandsBetween (hay bytes : List ℕ) (k i j : ℕ) : Type 0 where
   -- they stand there
   pub occurs : OccursAt hay bytes k
   -- not before i
@@ -22,11 +22,11 @@ pub record StandsAt (hay bytes : List ℕ) (k i j : ℕ) : Type 0 where
 
 -- the bytes stand somewhere in the haystack between i and j
 abbrev pub StandsIn : (hay bytes : List ℕ) → (i j : ℕ) → Type 0
-StandsIn hay bytes i j = (k : ℕ) × StandsAt hay bytes k i j
+StandsIn hay bytes i j = (k : ℕ) × StandsBetween hay bytes k i j
 
 -- every match begins with the bytes
 abbrev pub StartsWith : Re → (bytes : List ℕ) → Type 0
-StartsWith re bytes = EachMatch re (λ hay i j. StandsAt hay bytes i i j)
+StartsWith re bytes = EachMatch re (λ hay i j. StandsBetween hay bytes i i j)
 
 -- every match has as many bytes
 abbrev pub HasLength : Re → ℕ → Type 0

@@ -2,5 +2,5 @@
 use Rattle.std.specs.Prelude.{ℕ, ◌≡◌, ◌++◌, List}
 
 -- the text begins with the bytes
-abbrev pub Begins : (bytes text : List ℕ) → Type 0
-Begins bytes text = (rest : List ℕ) × (text ≡ bytes ++ rest)
+abbrev pub BeginsWith : (bytes text : List ℕ) → Type 0
+BeginsWith bytes text = (rest : List ℕ) × (text ≡ bytes ++ rest)

@@ -3,7 +3,7 @@ ghost use Rattle.std.specs.Prelude.{IfOk, OnOk, map};
 ghost use Rattle.regex_hir.specs.Meaning.{cat_all, meaning};
 ghost use Rattle.regex_extract.specs.Needles.{AreFilled, needles_of};
 ghost use Rattle.match_facts.specs.Facts.{ContainsAll};
-ghost use Rattle.match_facts.specs.Runs.{Ends, Extends};
+ghost use Rattle.match_facts.specs.Runs.{EndsRun, ExtendsRun};
 
 use regex_hir::Hir;
 use std::alloc::{AllocError, Global};
@@ -29,7 +29,7 @@ impl Drop for Run {
 impl Run {
     /// The run so far is a literal of its own.
     fn end(&mut self, alloc: Global) -> Result<(), AllocError>
-        ensures { OnOk result (Ends self.old self.new) }
+        ensures { OnOk result (EndsRun self.old self.new) }
     {
         if self.last.is_empty() {
             return Ok(());
@@ -58,7 +58,7 @@ pub(crate) fn literals_of(alloc: Global, hir: &Hir) -> Result<Vec<Vec<u8>>, Allo
 /// Passes a tree.
 #[cycle(walk)]
 fn walk(alloc: Global, hir: &Hir, run: &mut Run) -> Result<(), AllocError>
-    ensures { OnOk result (Extends (meaning hir.now) run.old run.new) }
+    ensures { OnOk result (ExtendsRun (meaning hir.now) run.old run.new) }
 {
     match hir {
         Hir::Empty | Hir::Look(_) => Ok(()),
@@ -79,7 +79,7 @@ fn walk(alloc: Global, hir: &Hir, run: &mut Run) -> Result<(), AllocError>
 /// Passes trees that stand one after another.
 #[cycle(walk)]
 fn walk_all(alloc: Global, subs: &[Hir], run: &mut Run) -> Result<(), AllocError>
-    ensures { OnOk result (Extends (cat_all (map meaning subs.now)) run.old run.new) }
+    ensures { OnOk result (ExtendsRun (cat_all (map meaning subs.now)) run.old run.new) }
 {
     for i in 0..subs.len() {
         walk(alloc, &subs[i], run)?;

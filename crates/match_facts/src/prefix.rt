@@ -3,7 +3,7 @@ ghost use Rattle.std.specs.Prelude.{◌≡◌, ℕ, ◌<◌, ◌≤◌, IfOk, le
 ghost use Rattle.regex_hir.specs.Meaning.{meaning};
 ghost use Rattle.regex_literal.specs.Find.{needle_at};
 ghost use Rattle.match_facts.specs.Facts.{StartsWith};
-ghost use Rattle.match_facts.specs.Prefixes.{Begins};
+ghost use Rattle.match_facts.specs.Prefixes.{BeginsWith};
 
 use regex_extract::prefixes;
 use regex_hir::Hir;
@@ -23,7 +23,7 @@ pub(crate) fn prefix_of(alloc: Global, hir: &Hir) -> Result<Vec<u8>, AllocError>
 /// The longest bytes that all these begin with.
 fn shared(needles: &[Vec<u8>]) -> &[u8]
     ensures { (n : ℕ) → n < length needles.now
-        → Begins result.now (needle_at (map (λ v. v.items) needles.now) n) }
+        → BeginsWith result.now (needle_at (map (λ v. v.items) needles.now) n) }
 {
     let mut common: &[u8] = match needles.first() {
         Some(first) => first.as_slice(),

@@ -3,7 +3,7 @@ use Rattle.regex_hir.specs.Re.{Re}
 use Rattle.regex_hir.specs.Meaning.{meaning}
 use Rattle.regex_hir.specs.declared.hir.Hir.{Hir}
 use Rattle.regex_hir.proofs.MeaningLemmas.{meaning-Capture, meaning-Literal, meaning-Repetition}
-use Rattle.match_facts.specs.Runs.{Ends, Extends}
+use Rattle.match_facts.specs.Runs.{EndsRun, ExtendsRun}
 use Rattle.match_facts.specs.declared.literals.Run.{Run}
 use Rattle.match_facts.proofs.Runs.{extends_ends, extends_group, extends_literal, extends_more, extends_repeat}
 use Rattle.match_facts.proofs.literals.+walk.Goals as goal
@@ -14,8 +14,8 @@ on_ok P Q (Err e) f p = p
 
 -- by what the tree means
 of_tree :
-    (h : Hir) (re : Re) (old new : Run) → meaning h ≡ re → Extends re old new → Extends (meaning h) old new
-of_tree h re old new e x = subst (λ r. Extends r old new) (sym e) x
+    (h : Hir) (re : Re) (old new : Run) → meaning h ≡ re → ExtendsRun re old new → ExtendsRun (meaning h) old new
+of_tree h re old new e x = subst (λ r. ExtendsRun r old new) (sym e) x
 
 pub walk-returns-in_ok-extend_from_slice-in-Literal : goal.walk-returns-in_ok-extend_from_slice-in-Literal
 walk-returns-in_ok-extend_from_slice-in-Literal t c =
@@ -30,10 +30,10 @@ pub walk-returns-in-Capture : goal.walk-returns-in-Capture
 walk-returns-in-Capture t c =
     let old : Run = c.args.run.now in let new : Run = c.walk.new.run in
     on_ok _ _ c.walk.result
-    (λ (e : Extends (meaning c.deref-in-Capture.result.now) old new).
+    (λ (e : ExtendsRun (meaning c.deref-in-Capture.result.now) old new).
     of_tree _ _ old new (ap meaning c.in-Capture.is ∙ meaning-Capture c.in-Capture.index c.in-Capture.sub)
     (extends_group c.in-Capture.index _ old new
-    (subst (λ h. Extends (meaning h) old new) c.deref-in-Capture.ensures e)))
+    (subst (λ h. ExtendsRun (meaning h) old new) c.deref-in-Capture.ensures e)))
     c.walk.ensures
 
 pub walk-returns-in_ok-walk-in-Repetition : goal.walk-returns-in_ok-walk-in-Repetition
@@ -41,10 +41,10 @@ walk-returns-in_ok-walk-in-Repetition t c =
     let old : Run = c.args.run.now in let mid : Run = c.walk-in-Repetition.new.run in let new : Run = c.end.new.self in
     let r = c.in-Repetition in
     on_ok _ _ c.end.result
-    (λ (e : Ends mid new).
+    (λ (e : EndsRun mid new).
     of_tree _ _ old new (ap meaning r.is ∙ meaning-Repetition r.min r.max r.greedy r.sub)
     (extends_repeat r.min r.max r.greedy _ old mid new c.if-min-gt0.true
-    (subst (λ h. Extends (meaning h) old mid) c.deref-in-Repetition.ensures c.in_ok-walk-in-Repetition.ensures) e))
+    (subst (λ h. ExtendsRun (meaning h) old mid) c.deref-in-Repetition.ensures c.in_ok-walk-in-Repetition.ensures) e))
     c.end.ensures
 
 pub walk-returns-in_default : goal.walk-returns-in_default

@@ -4,7 +4,7 @@ use Rattle.regex_hir.specs.Meaning.{meaning}
 use Rattle.regex_literal.specs.Find.{needle_at}
 use Rattle.regex_extract.specs.Needles.{StartsWithNeedle, needles_of}
 use Rattle.match_facts.specs.Facts.{StartsWith}
-use Rattle.match_facts.specs.Prefixes.{Begins}
+use Rattle.match_facts.specs.Prefixes.{BeginsWith}
 use Rattle.match_facts.proofs.Prefixes.{starts_with_none, starts_with_shared}
 use Rattle.match_facts.proofs.prefix.prefix_of.Goals as goal
 
@@ -14,7 +14,7 @@ if_ok P Q (Err e) f p = p
 
 -- what `shared` says of the texts that it is given
 abbrev AllBegin : (bytes : List ℕ) → List (Vec ℕ Global) → Type 0
-AllBegin bytes vs = (n : ℕ) → n < length vs → Begins bytes (needle_at (map (λ v. v.items) vs) n)
+AllBegin bytes vs = (n : ℕ) → n < length vs → BeginsWith bytes (needle_at (map (λ v. v.items) vs) n)
 
 pub returns-in-Ok-Some : goal.returns-in-Ok-Some
 returns-in-Ok-Some c =
