@@ -740,9 +740,10 @@ static inline lazydfa_status lazydfa_regex_any_of(lazydfa_regex *regex, const la
  * literal that ends within the room was written whole. No literal is empty. bytes may be NULL if room is 0, and lengths
  * if count_room is 0. options may be NULL for the defaults.
  *
- * The facts hold of all matches in all haystacks, whatever their bytes, also of those that a search would not prefer,
- * and with every setting. A pattern has more of them than are found: an alternation has no literals, and a prefix ends
- * after some 130 bytes. A letter that stands for both of its cases is not a literal.
+ * The facts hold of every match in every haystack, whatever its bytes, also of one that a search would not prefer, and
+ * with every setting. They are necessary and not sufficient: a haystack that has them all need not have a match. More
+ * may be true than is found: an alternation has no literals, and a prefix ends after some 130 bytes. A letter that
+ * stands for both of its cases is not a literal.
  *
  * LAZYDFA_SYNTAX and LAZYDFA_NOT_TEXT, with the offset in the text. After an error facts has zeros, and nothing else is
  * written. A pattern that lazydfa_regex_new refuses for its size or for a word boundary has facts. */
