@@ -767,12 +767,13 @@ static inline lazydfa_status lazydfa_regex_any_of(lazydfa_regex *regex, const la
  * may be true than is found: an alternation has no literals, and a prefix ends after some 130 bytes. A letter that
  * stands for both of its cases is not a literal.
  *
- * LAZYDFA_SYNTAX and LAZYDFA_NOT_TEXT, with the offset in the text. After an error facts has zeros, and nothing else is
- * written. A pattern that lazydfa_regex_new refuses for its size or for a word boundary has facts. */
+ * LAZYDFA_SYNTAX and LAZYDFA_NOT_TEXT, with the offset in the text, and LAZYDFA_TOO_LARGE by the limits on text and on
+ * class escapes. After an error facts has zeros, and nothing else is written. A pattern that lazydfa_regex_new refuses
+ * for the size of its tables or for a word boundary has facts. */
 static inline lazydfa_status lazydfa_text_facts(const char *text, size_t length, const lazydfa_text_options *options,
                                                 lazydfa_facts *facts, uint8_t *bytes, size_t room, size_t *lengths,
                                                 size_t count_room) {
-    static const lazydfa_text_options plain = { 0, 0, 0, 0, 0, 0, 0, 0, 0, 0, 0, 0, 0 };
+    static const lazydfa_text_options plain = { 0, 0, 0, 0, 0, 0, 0, 0, 0, 0, 0, 0, 0, 0, 0, 0, 0 };
     uint8_t no_byte;
     size_t no_length;
     LAZYDFA_NEED(facts);

@@ -26,6 +26,14 @@ static uint32_t built(const lazydfa_text *texts, size_t count, const lazydfa_tex
     return status.code;
 }
 
+/* The code of reading the facts of a text with these options. */
+static uint32_t read_facts(const lazydfa_text *text, const lazydfa_text_options *options) {
+    lazydfa_facts facts;
+    lazydfa_status status = lazydfa_text_facts(text->text, text->length, options, &facts, NULL, 0, NULL, 0);
+    CHECK(status.code == LAZYDFA_OK || (facts.prefix == 0 && facts.count == 0 && facts.length == 0));
+    return status.code;
+}
+
 static void text_limit(void) {
     static const lazydfa_text texts[2] = { { "abc", 3 }, { "de", 2 } };
     lazydfa_text_options options;
@@ -38,6 +46,8 @@ static void text_limit(void) {
     CHECK(built(texts, 1, &options) == LAZYDFA_OK && built(texts, 2, &options) == LAZYDFA_TOO_LARGE);
     options.text_limit = 5;
     CHECK(built(texts, 2, &options) == LAZYDFA_OK);
+    options.text_limit = 2;
+    CHECK(read_facts(&texts[0], &options) == LAZYDFA_TOO_LARGE && read_facts(&texts[1], &options) == LAZYDFA_OK);
     options.text_limit = 0;
     CHECK(built(texts, 0, &options) == LAZYDFA_OK && built(texts, 1, &options) == LAZYDFA_TOO_LARGE);
 }
@@ -63,9 +73,11 @@ static void class_limit(void) {
         options.has_class_limit = 1;
         options.class_limit = rows[i].escapes;
         CHECK(built(&rows[i].text, 1, &options) == rows[i].code);
+        CHECK(read_facts(&rows[i].text, &options) == rows[i].code);
         if (rows[i].escapes == 0) continue;
         options.class_limit = rows[i].escapes - 1;
         CHECK(built(&rows[i].text, 1, &options) == LAZYDFA_TOO_LARGE);
+        CHECK(read_facts(&rows[i].text, &options) == LAZYDFA_TOO_LARGE);
     }
 }
 

@@ -1,10 +1,11 @@
 -- What every match of a pattern's text has in common, as C is told it.
-use Rattle.std.specs.Prelude.{ℕ, ◌≡◌, Bool, List, [], ◌∷◌, ◌++◌, length, map, vec_len, if◌then◌else◌}
+use Rattle.std.specs.Prelude.{ℕ, ◌≡◌, Bool, IsTrue, List, [], ◌∷◌, ◌++◌, length, map, vec_len, if◌then◌else◌}
 use Rattle.std.specs.List.{flat_map}
 use Rattle.match_facts.specs.declared.Facts.{Facts as Known}
 use Rattle.patterns.specs.Facts.{AreFactsOf}
 use Rattle.patterns.specs.declared.compile.Options.{Options as Reading}
 use Rattle.lazydfa_c.specs.Caches.{written_over}
+use Rattle.lazydfa_c.specs.Limits.{admits}
 use Rattle.lazydfa_c.specs.Statuses.{plain}
 use Rattle.lazydfa_c.specs.Texts.{IsFailure, reading_of}
 use Rattle.lazydfa_c.specs.declared.code.Code.TheVariants as code
@@ -75,6 +76,8 @@ no_facts = record {
 -- the text means
 pub record HasFacts (options : TextOptions) (text : List ℕ) (facts : Facts)
     (old_bytes new_bytes old_lengths new_lengths : List ℕ) : Type 0 where
+  -- the text is within the limits
+  pub within : IsTrue (admits options text)
   -- the prefix, the literals and the flags
   pub known : Known
   -- they are those of the text

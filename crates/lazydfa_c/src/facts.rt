@@ -1,9 +1,10 @@
 //! What every match of a pattern's text has in common.
-ghost use Rattle.std.specs.Prelude.{◌≡◌, IfErr, IfOk, OnErr, OnOk};
+ghost use Rattle.std.specs.Prelude.{◌≡◌, IfErr, IfOk, IsTrue, OnErr, OnOk};
 ghost use Rattle.patterns.specs.Facts.{AreFactsOf};
 ghost use Rattle.lazydfa_c.specs.Caches.{written_over};
 ghost use Rattle.lazydfa_c.specs.Facts.{HasFacts, ReportsFacts, fact_bytes, default_settings, facts_of, literal_lengths, no_facts};
 ghost use Rattle.lazydfa_c.specs.Facts.{plain_reading};
+ghost use Rattle.lazydfa_c.specs.Limits.{admits};
 ghost use Rattle.lazydfa_c.specs.Texts.{IsFailure};
 
 use crate::code::Code;
@@ -80,11 +81,16 @@ fn default_settings() -> Settings
     }
 }
 
-/// The facts of a text. It fails with `Code::NotText` and an offset in the text if it is not UTF-8.
+/// The facts of a text. It fails with `Code::TooLarge` if it is beyond the limits on text and on class escapes, before
+/// anything is read, and with `Code::NotText` and an offset in the text if it is not UTF-8.
 fn facts_of_text(alloc: Global, text: &[u8], options: &TextOptions) -> Result<PatternFacts, Status>
+    ensures within { IfOk result (λ _. IsTrue (admits options.now text.now)) }
     ensures ok { IfOk result (AreFactsOf (plain_reading options.now) text.now) }
     ensures err { IfErr result IsFailure }
 {
+    if !options.admits(text) {
+        return Err(Status::from(Code::TooLarge));
+    }
     let text = match str::from_utf8(text) {
         Ok(text) => text,
         Err(error) => return Err(Status::at(Code::NotText, error.valid_up_to())),

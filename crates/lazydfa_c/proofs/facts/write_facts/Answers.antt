@@ -8,6 +8,7 @@ returns-clause-ok c =
     let known = c.in_ok-known.known in let all = c.in_ok-all.all in let sizes = c.in_ok-sizes.sizes in
     let long = c.len.ensures in
     record {
+      within = c.in_ok-known.ensures.within;
       known = known;
       of = c.in_ok-known.ensures.ok;
       written = c.of.ensures ∙ ap (facts_of known) (long ∙ all.ok.0 ∙ ap length c.in_ok-all.ensures);
