@@ -3,7 +3,7 @@
 
     tools/c.py ['N passed, M failed']
 
-Every call, right and with every wrong argument (calls.c, texts.c, pieces.c, walks.c); each allocation refused in turn
+Every call, right and with every wrong argument (calls.c, texts.c, limits.c, pieces.c, walks.c); each allocation refused in turn
 (faults.c); four threads over one regex (threads.c), under helgrind too if there is one; the script of the program
 `lazydfa` by a C program (script.c), which has to print what `lazydfa` does; the example grep.c, which has to print what
 `grep -E` does, if there is one; and the programs of docs/C.md, which have to print what is said there. Each C program
@@ -180,6 +180,7 @@ class Tests:
     def try_all(self, kind, flags):
         self.try_program(f"calls{kind}", f"{C}/tests/calls.c", flags)
         self.try_program(f"texts{kind}", f"{C}/tests/texts.c", ["-pthread", *flags])
+        self.try_program(f"limits{kind}", f"{C}/tests/limits.c", flags)
         self.try_program(f"pieces{kind}", f"{C}/tests/pieces.c", flags)
         self.try_program(f"walks{kind}", f"{C}/tests/walks.c", flags)
         self.try_program(f"faults{kind}", f"{C}/tests/faults.c", [*REFUSING, *flags])

@@ -266,10 +266,24 @@ typedef struct {
 #define LAZYDFA_NEST_LIMIT 32
 
 /* How patterns are read. Zeros are the default options; of the flags 0 is no, else yes. A pattern sets flags for a part
-   of itself by (?imsRUx-u:...). */
+   of itself by (?imsRUx-u:...).
+
+   The limits on text and on class escapes are tested before anything is read, the limit on size while a pattern is
+   compiled; beyond one of them is LAZYDFA_TOO_LARGE. The parser takes time and memory in proportion to the length of
+   the text and to its class escapes, the compiler in proportion to the limit on size (docs/C.md has figures). Every
+   backslash before one of the letters d D p P s S w W counts as a class escape, also one behind another backslash.
+
+   A regex that searches forward only is for programs that ask whether there is a match and where it ends: it takes
+   less memory, and less time to build. lazydfa_is_match, lazydfa_find_end, lazydfa_all_ends, lazydfa_which, tokens,
+   pieces and walks answer as those of any other regex. A call that needs the start of a match that is not empty fails
+   with LAZYDFA_NOT_A_PAIR. */
 typedef struct {
     size_t size_limit;             /* bytes that the tables of all patterns may take, if has_size_limit is not 0 */
+    size_t text_limit;             /* bytes that all texts may have together, if has_text_limit is not 0 */
+    size_t class_limit;            /* class escapes, as \w or \pL, of all texts together, if has_class_limit is not 0 */
     uint32_t has_size_limit;       /* if it is 0, the limit is 10 MB */
+    uint32_t has_text_limit;       /* if it is 0, texts of any length are read */
+    uint32_t has_class_limit;      /* if it is 0, any number of class escapes is */
     uint32_t nest_limit;           /* how deep groups, repetitions and classes may nest; 0 is LAZYDFA_NEST_LIMIT */
     uint32_t no_unicode;           /* turns u off: classes and . are of bytes, letters have the cases of ASCII */
     uint32_t case_insensitive;     /* i: a letter stands for the same letter in both cases */
@@ -280,7 +294,7 @@ typedef struct {
     uint32_t ignore_whitespace;    /* x: blanks, and comments after #, are skipped */
     uint32_t octal;                /* \141 is the character of that number in octal */
     uint32_t bytes;                /* bytes are searched, not text: a match may split a character */
-    uint32_t reserved;
+    uint32_t forward_only;         /* the regex has no part that finds where matches start */
 } lazydfa_text_options;
 
 /* Why there is no regex of a pattern's text. */
@@ -325,6 +339,7 @@ lazydfa_status lazydfa_raw_regex_any_of(lazydfa_handle *, const uint8_t *, size_
                                         lazydfa_refusal *, uint8_t *, size_t);
 lazydfa_status lazydfa_raw_regex_share(lazydfa_handle *, lazydfa_handle *);
 lazydfa_status lazydfa_raw_regex_reverse(lazydfa_handle *, lazydfa_handle *);
+lazydfa_status lazydfa_raw_regex_size(lazydfa_handle *, size_t *);
 lazydfa_status lazydfa_raw_cache_new(lazydfa_handle *, lazydfa_handle *);
 lazydfa_status lazydfa_raw_cache_reset(lazydfa_handle *);
 lazydfa_status lazydfa_raw_cache_usage(lazydfa_handle *, lazydfa_usage *);
@@ -653,7 +668,7 @@ static inline lazydfa_status lazydfa_regex_new(lazydfa_regex *regex, const char 
                                                const uint8_t *quits, size_t quit_count, lazydfa_refusal *refusal,
                                                char *message, size_t room) {
     static const lazydfa_settings defaults = { 0, 0, 0, 0, 0, 0, 0, 0, 0, 0, 0, 0, 0 };
-    static const lazydfa_text_options plain = { 0, 0, 0, 0, 0, 0, 0, 0, 0, 0, 0, 0, 0 };
+    static const lazydfa_text_options plain = { 0, 0, 0, 0, 0, 0, 0, 0, 0, 0, 0, 0, 0, 0, 0, 0, 0 };
     lazydfa_refusal unread;
     uint8_t none;
     if (!refusal) refusal = &unread;
@@ -677,7 +692,7 @@ static inline lazydfa_status lazydfa_regex_any_of(lazydfa_regex *regex, const la
                                                   size_t quit_count, lazydfa_refusal *refusal, char *message,
                                                   size_t room) {
     static const lazydfa_settings defaults = { 0, 0, 0, 0, 0, 0, 0, 0, 0, 0, 0, 0, 0 };
-    static const lazydfa_text_options plain = { 0, 0, 0, 0, 0, 0, 0, 0, 0, 0, 0, 0, 0 };
+    static const lazydfa_text_options plain = { 0, 0, 0, 0, 0, 0, 0, 0, 0, 0, 0, 0, 0, 0, 0, 0, 0 };
     lazydfa_status status = { LAZYDFA_MEMORY, 0, 0 };
     lazydfa_refusal unread;
     uint8_t none;
@@ -693,6 +708,10 @@ static inline lazydfa_status lazydfa_regex_any_of(lazydfa_regex *regex, const la
         LAZYDFA_NEED_ALL(texts[i].text, texts[i].length);
         if (texts[i].length > PTRDIFF_MAX - length) return status;
         length += texts[i].length;
+    }
+    if (options && options->has_text_limit && length > options->text_limit) {
+        status.code = LAZYDFA_TOO_LARGE;
+        return status;
     }
     if (count >= (PTRDIFF_MAX - length) / sizeof *block) return status;
     block = (size_t *)malloc((count + 1) * sizeof *block + length);
@@ -734,6 +753,17 @@ static inline lazydfa_status lazydfa_regex_reverse(lazydfa_regex *regex, lazydfa
     LAZYDFA_NEED(other);
     if (regex == other) return lazydfa_bad_argument();
     return lazydfa_raw_regex_reverse(&regex->handle, &other->handle);
+}
+
+/* ---- Sizes ---- */
+
+/* Writes how large the tables of a regex are: 16 bytes for each state of its forward NFA, and 8 for each range of bytes
+   of a sparse state, in the measure of the limit on size. It goes over all states. A byte that needs a new state of the
+   DFA takes time in proportion to this size, at most. */
+static inline lazydfa_status lazydfa_regex_size(lazydfa_regex *regex, size_t *size) {
+    LAZYDFA_NEED(regex);
+    LAZYDFA_NEED(size);
+    return lazydfa_raw_regex_size(&regex->handle, size);
 }
 
 /* ---- Caches ---- */

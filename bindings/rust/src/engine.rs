@@ -34,7 +34,7 @@ impl Engine {
         let bytes = patterns.concat();
         let texts = raw::Texts { bytes: &bytes, lengths: &lengths };
         // Room for any message: what is wrong, the text, and as many carets below it.
-        let mut message = vec![0; 256 + 9 * lengths.iter().max().unwrap_or(&0)];
+        let mut message = vec![0; 256 + 2 * lengths.iter().max().unwrap_or(&0)];
         let mut refusal = raw::Refusal::default();
         let mut regex = Handle::closed();
         let (settings, quits) = (&config.settings, &config.quits);

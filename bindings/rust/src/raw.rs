@@ -104,13 +104,17 @@ pub struct Settings {
     pub always_anchored: u32,
 }
 
-/// How patterns are read. The size limit is in bytes, and counts only if its `has` is not 0. A limit on nesting of 0 is
-/// the default one.
+/// How patterns are read. A limit counts only if its `has` is not 0; those on size and on text are in bytes. A limit on
+/// nesting of 0 is the default one.
 #[repr(C)]
 #[derive(Clone, Copy, Debug, Default)]
 pub struct TextOptions {
     pub size_limit: usize,
+    pub text_limit: usize,
+    pub class_limit: usize,
     pub has_size_limit: u32,
+    pub has_text_limit: u32,
+    pub has_class_limit: u32,
     pub nest_limit: u32,
     pub no_unicode: u32,
     pub case_insensitive: u32,
@@ -121,7 +125,7 @@ pub struct TextOptions {
     pub ignore_whitespace: u32,
     pub octal: u32,
     pub bytes: u32,
-    pub reserved: u32,
+    pub forward_only: u32,
 }
 
 /// Which pattern was refused, the bytes of its text that this is about, and how long the whole message is.

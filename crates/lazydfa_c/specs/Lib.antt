@@ -8,10 +8,12 @@ pub mod Drafts
 pub mod Errors
 pub mod Handles
 pub mod Held
+pub mod Limits
 pub mod Pieces
 pub mod Requests
 pub mod Statuses
 pub mod Stops
 pub mod Streams
+pub mod Tables
 pub mod Texts
 pub mod Walks

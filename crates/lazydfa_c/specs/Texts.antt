@@ -1,13 +1,17 @@
 -- Regexes of the texts of patterns.
-use Rattle.std.specs.Prelude.{ℕ, ◌≡◌, ◌==◌, ◌<◌, not, List, [], ◌∷◌, take, drop, Result, Ok, Err, if◌then◌else◌}
+use Rattle.std.specs.Prelude.{ℕ, zero, suc, ◌≡◌, ◌==◌, ◌<◌, Bool, true, false, not, List, [], ◌∷◌, take, drop}
+use Rattle.std.specs.Prelude.{Result, Ok, Err, if◌then◌else◌}
 use Rattle.automata_base.specs.Nfas.Nodes.{Automaton}
+use Rattle.automata_base.specs.declared.nfa.thompson.State.TheVariants.{Fail}
 use Rattle.automata_config.specs.Options.{Options}
 use Rattle.patterns.specs.Patterns.{IsNfaOf}
 use Rattle.patterns.specs.declared.compile.Options.{Options as Reading}
-use Rattle.lazydfa_c.specs.Builds.{HoldsRegex, IsBuiltRegex, WithOptions, kind_of, options_of}
+use Rattle.regex_automata.specs.declared.hybrid.regex.Regex.{Regex}
+use Rattle.lazydfa_c.specs.Builds.{HoldsRegex, IsBuiltRegex, IsPairOf, WithOptions, kind_of, options_of}
 use Rattle.lazydfa_c.specs.Codes.{number_of}
 use Rattle.lazydfa_c.specs.Handles.{is_open}
-use Rattle.lazydfa_c.specs.Statuses.{done_status}
+use Rattle.lazydfa_c.specs.Limits.{admits}
+use Rattle.lazydfa_c.specs.Statuses.{done_status, plain}
 use Rattle.lazydfa_c.specs.declared.code.Code.TheVariants as code
 use Rattle.lazydfa_c.specs.declared.handle.Handle.{Handle}
 use Rattle.lazydfa_c.specs.declared.settings.Settings.{Settings}
@@ -49,25 +53,60 @@ reading_of options settings = record {
 abbrev pub IsFailure : Status → Type 0
 IsFailure status = number_of code.Nothing < status.code
 
+-- an NFA whose only state has no edges
+abbrev pub HasNoMatch : Automaton → Type 0
+HasNoMatch nfa = nfa.states ≡ Fail ∷ []
+
+-- the regex searches forward for what an NFA finds, and backward for nothing
+pub record IsForwardOnly (o : Options) (nfa : Automaton) (regex : Regex) : Type 0 where
+  -- the NFA of its reverse DFA
+  pub none : Automaton
+  -- nothing matches there
+  pub nothing : HasNoMatch none
+  -- the regex is what the library builds of both
+  pub built : IsPairOf o nfa none regex
+
+-- what is built of an NFA: its regex, or one that searches forward only if that is asked for
+abbrev pub IsRegexFor : (forward_only : ℕ) → Options → Automaton → Regex → Type 0
+IsRegexFor zero o nfa regex = IsBuiltRegex o nfa regex
+IsRegexFor (suc n) o nfa regex = IsForwardOnly o nfa regex
+
+-- the handle is open on such a regex; or it stays, and the status says that the call failed
+abbrev pub OpensNfa : (Makes : Regex → Type 0) → (old new : Handle) → Result (Unit {0}) Status → Type 0
+OpensNfa Makes old new (Ok u) = HoldsRegex Makes new
+OpensNfa Makes old new (Err e) = (new ≡ old) × IsFailure e
+
 -- the handle is open on the regex of an NFA that finds what the texts mean; or it stays, and the status says that there
--- is
--- no such regex
-abbrev pub OpensTexts : Options → Reading → (texts : List (List ℕ)) → (old new : Handle)
+-- is no such regex
+abbrev pub OpensTexts : Options → TextOptions → Settings → (texts : List (List ℕ)) → (old new : Handle)
     → Result (Unit {0}) Status → Type 0
-OpensTexts o reading texts old new (Ok u) =
-    (nfa : Automaton) × IsNfaOf reading texts nfa × HoldsRegex (IsBuiltRegex o nfa) new
-OpensTexts o reading texts old new (Err e) = (new ≡ old) × IsFailure e
+OpensTexts o options settings texts old new (Ok u) =
+    (nfa : Automaton) × IsNfaOf (reading_of options settings) texts nfa
+    × HoldsRegex (IsRegexFor options.forward_only o nfa) new
+OpensTexts o options settings texts old new (Err e) = (new ≡ old) × IsFailure e
+
+-- the same if the texts are within the limits; otherwise nothing is read, and the status says that they are too large
+abbrev pub OpensAdmitted : (is_within : Bool) → Options → TextOptions → Settings → (texts : List (List ℕ))
+    → (old new : Handle) → Result (Unit {0}) Status → Type 0
+OpensAdmitted true o options settings texts old new done = OpensTexts o options settings texts old new done
+OpensAdmitted false o options settings texts old new done = (new ≡ old) × (done ≡ Err (plain code.TooLarge))
+
+-- the same of texts that lie one after another
+abbrev pub OpensWithin : Options → TextOptions → Settings → (bytes lengths : List ℕ) → (old new : Handle)
+    → Result (Unit {0}) Status → Type 0
+OpensWithin o options settings bytes lengths old new done =
+    OpensAdmitted (admits options bytes) o options settings (texts_in bytes lengths) old new done
 
 -- the same with settings and quit bytes, over a handle that is closed
-abbrev pub BuildsTexts : Settings → (quits : List ℕ) → TextOptions → (texts : List (List ℕ)) → (old new : Handle)
+abbrev pub BuildsTexts : Settings → (quits : List ℕ) → TextOptions → (bytes lengths : List ℕ) → (old new : Handle)
     → Result (Unit {0}) Status → Type 0
-BuildsTexts settings quits options texts old new done =
-    WithOptions (λ o d. OpensTexts o (reading_of options settings) texts old new d) (new ≡ old) (is_open old.live)
+BuildsTexts settings quits options bytes lengths old new done =
+    WithOptions (λ o d. OpensWithin o options settings bytes lengths old new d) (new ≡ old) (is_open old.live)
     (options_of settings quits (kind_of settings.match_kind)) done
 
 -- `lazydfa_regex_new` and `lazydfa_regex_any_of`
 abbrev pub BuildsAnyOf : Settings → (quits : List ℕ) → TextOptions → (bytes lengths : List ℕ) → (old new : Handle)
     → Status → Type 0
 BuildsAnyOf settings quits options bytes lengths old new status =
-    (done : Result (Unit {0}) Status) × BuildsTexts settings quits options (texts_in bytes lengths) old new done
+    (done : Result (Unit {0}) Status) × BuildsTexts settings quits options bytes lengths old new done
     × (status ≡ done_status done)

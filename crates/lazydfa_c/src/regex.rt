@@ -87,7 +87,7 @@ fn regex_of(nfa: NFA, config: Config) -> Result<Regex, Status>
 
 /// Builds the regex of two NFAs. It fails with the status of the error that building returns; whether the NFAs are a
 /// pair is not tested.
-fn pair_of(forward: NFA, reverse: NFA, config: Config) -> Result<Regex, Status>
+pub fn pair_of(forward: NFA, reverse: NFA, config: Config) -> Result<Regex, Status>
     ensures built { IfOk result (IsPairOf (overwritten unset config) forward reverse) }
     ensures refused { IfErr result (IsPairError (overwritten unset config) forward reverse) }
 {
@@ -110,7 +110,7 @@ fn open_shared(alloc: Global, handle: &mut Handle, shared: Shared) -> Result<(),
 }
 
 /// Shares a regex and opens a handle on it. If an allocation fails, the handle is as it was.
-fn open(alloc: Global, handle: &mut Handle, regex: Regex) -> Result<(), Status>
+pub fn open(alloc: Global, handle: &mut Handle, regex: Regex) -> Result<(), Status>
     requires { handle.now.slot.value ≡ None }
     ensures opened { OnOk result (IsRegexIn regex handle.new) }
     ensures same { OnErr result (handle.new ≡ handle.old) }

@@ -28,8 +28,7 @@ pub struct Settings {
     pub always_anchored: u32,
 }
 
-/// The configuration with these quit bytes. It fails with `Code::Argument` at a byte that the configuration does not
-/// allow.
+/// The configuration with these quit bytes.
 fn with_quits(config: Config, quits: &[u8]) -> Config
     ensures { result ≡ with_quits config quits.now }
 {

@@ -2,11 +2,14 @@
 ghost use Rattle.std.specs.Prelude.{◌≡◌, IfErr, IfOk, None, map};
 ghost use Rattle.automata_config.specs.Options.{overwritten, unset};
 ghost use Rattle.patterns.specs.Patterns.{IsNfaOf};
-ghost use Rattle.lazydfa_c.specs.Texts.{BuildsAnyOf, BuildsTexts, IsFailure, OpensTexts, nest_limit_of, reading_of};
-ghost use Rattle.lazydfa_c.specs.Texts.{size_limit_of, texts_in};
+ghost use Rattle.lazydfa_c.specs.Limits.{admits};
+ghost use Rattle.lazydfa_c.specs.Texts.{BuildsAnyOf, BuildsTexts, IsFailure, IsRegexFor, OpensNfa, OpensTexts};
+ghost use Rattle.lazydfa_c.specs.Texts.{OpensWithin, nest_limit_of, reading_of, size_limit_of, texts_in};
 
 use crate::code::Code;
+use crate::forward::open_forward;
 use crate::handle::Handle;
+use crate::limits::class_escapes;
 use crate::regex::open_sound;
 use crate::settings::Settings;
 use crate::status::{Status, errors_differ};
@@ -15,13 +18,19 @@ use regex_automata::hybrid::dfa::Config;
 use regex_automata::nfa::thompson::{BuildError as NfaBuildError, NFA};
 use std::alloc::Global;
 
-/// How patterns are read, as C lays it out. Zeros are the default options. The size limit is in bytes, and counts only
-/// if its `has` is not 0. A limit on nesting of 0 is the default one.
+/// How patterns are read, as C lays it out. Zeros are the default options. A limit counts only if its `has` is not 0;
+/// those on size and on text are in bytes. A limit on nesting of 0 is the default one.
 #[repr(C)]
 #[derive(Clone, Copy)]
 pub struct TextOptions {
     pub size_limit: usize,
+    /// How long all texts may be together.
+    pub text_limit: usize,
+    /// How many class escapes, as `\w` or `\pL`, all texts may have together.
+    pub class_limit: usize,
     pub has_size_limit: u32,
+    pub has_text_limit: u32,
+    pub has_class_limit: u32,
     pub nest_limit: u32,
     /// Whether the flag `u` is off, which is on by default.
     pub no_unicode: u32,
@@ -34,7 +43,8 @@ pub struct TextOptions {
     pub octal: u32,
     /// Whether bytes are searched. Otherwise text is, and no match splits a character.
     pub bytes: u32,
-    pub reserved: u32,
+    /// Whether the regex has no part that finds starts of matches.
+    pub forward_only: u32,
 }
 
 /// Which pattern was refused, the bytes of its text that this is about, and how long the whole message is.
@@ -80,6 +90,14 @@ impl TextOptions {
         } else {
             32
         }
+    }
+
+    /// Whether texts, which lie one after another, are within the limits on text and on class escapes.
+    pub fn admits(&self, texts: &[u8]) -> bool
+        ensures { result ≡ admits self.now texts.now }
+    {
+        (self.has_text_limit == 0 || texts.len() <= self.text_limit)
+            && (self.has_class_limit == 0 || class_escapes(texts) <= self.class_limit)
     }
 
     /// The options, as patterns take them. A word boundary of Unicode is allowed if the settings allow it.
@@ -231,23 +249,68 @@ fn nfa_of_texts(
     }
 }
 
+/// Opens a handle on the regex of an NFA, or on one of its forward part alone.
+fn open_nfa(
+    alloc: Global,
+    regex: &mut Handle,
+    nfa: NFA,
+    config: Config,
+    forward_only: u32,
+) -> Result<(), Status>
+    requires { regex.now.slot.value ≡ None }
+    ensures { OpensNfa (IsRegexFor forward_only (overwritten unset config) nfa) regex.old regex.new result }
+{
+    if forward_only == 0 {
+        open_sound(alloc, regex, nfa, config)
+    } else {
+        open_forward(alloc, regex, nfa, config)
+    }
+}
+
 /// Opens a handle on the regex of the texts of patterns, with this configuration. After an error it is as it was.
 fn open_texts(
     alloc: Global,
     regex: &mut Handle,
     texts: &[u8],
     lengths: &[usize],
-    options: &Options,
+    options: &TextOptions,
+    settings: &Settings,
     config: Config,
     refusal: &mut Refusal,
     message: &mut [u8],
 ) -> Result<(), Status>
     requires { regex.now.slot.value ≡ None }
-    ensures { OpensTexts (overwritten unset config) options.now (texts_in texts.now lengths.now) regex.old regex.new
+    ensures { OpensTexts (overwritten unset config) options.now settings.now (texts_in texts.now lengths.now)
+        regex.old regex.new result }
+{
+    let reading = options.options(settings);
+    let nfa = nfa_of_texts(alloc, texts, lengths, &reading, refusal, message)?;
+    open_nfa(alloc, regex, nfa, config, options.forward_only)
+}
+
+/// Opens a handle on the regex of the texts of patterns, if these are within the limits. Otherwise it fails with
+/// `Code::TooLarge`, and nothing was read.
+fn open_within(
+    alloc: Global,
+    regex: &mut Handle,
+    texts: &[u8],
+    lengths: &[usize],
+    options: &TextOptions,
+    settings: &Settings,
+    config: Config,
+    refusal: &mut Refusal,
+    message: &mut [u8],
+) -> Result<(), Status>
+    requires { regex.now.slot.value ≡ None }
+    ensures { OpensWithin (overwritten unset config) options.now settings.now texts.now lengths.now regex.old regex.new
         result }
 {
-    let nfa = nfa_of_texts(alloc, texts, lengths, options, refusal, message)?;
-    open_sound(alloc, regex, nfa, config)
+    if !options.admits(texts) {
+        return Err(Status::from(Code::TooLarge));
+    }
+    open_texts(
+        alloc, regex, texts, lengths, options, settings, config, refusal, message,
+    )
 }
 
 /// Opens a handle on the regex of the texts of patterns. It fails with `Code::Open` if the handle is open already, and
@@ -263,16 +326,14 @@ fn build_texts(
     refusal: &mut Refusal,
     message: &mut [u8],
 ) -> Result<(), Status>
-    ensures { BuildsTexts settings.now quits.now options.now (texts_in texts.now lengths.now) regex.old regex.new
-        result }
+    ensures { BuildsTexts settings.now quits.now options.now texts.now lengths.now regex.old regex.new result }
 {
     if regex.is_open() {
         return Err(Status::from(Code::Open));
     }
     let config = settings.config(quits)?;
-    let options = options.options(settings);
-    open_texts(
-        alloc, regex, texts, lengths, &options, config, refusal, message,
+    open_within(
+        alloc, regex, texts, lengths, options, settings, config, refusal, message,
     )
 }
 

@@ -1,0 +1,43 @@
+-- How large the tables of a regex are, in the measure of the limit on size.
+use Rattle.std.specs.Prelude.{ℕ, ◌≡◌, ◌+◌, ◌*◌, ◌-◌, ◌^◌, List, length, min, sum_by, Result, Ok, Err}
+use Rattle.automata_base.specs.declared.nfa.thompson.State.{State}
+use Rattle.automata_base.specs.declared.nfa.thompson.State.TheVariants as is
+use Rattle.lazydfa_c.specs.Calls.{ReadsHandle}
+use Rattle.lazydfa_c.specs.Statuses.{plain}
+use Rattle.lazydfa_c.specs.declared.code.Code.TheVariants as code
+use Rattle.lazydfa_c.specs.declared.handle.Handle.{Handle}
+use Rattle.lazydfa_c.specs.declared.object.Object.{Object}
+use Rattle.lazydfa_c.specs.declared.object.Object.TheVariants.{Builder, Regex as RegexObject, Searcher as CacheObject}
+use Rattle.lazydfa_c.specs.declared.status.Status.{Status}
+
+-- a state counts 16 bytes, and 8 for each range of a sparse one
+abbrev pub state_size : State → ℕ
+state_size (is.Sparse ranges) = 16 + 8 * length ranges.items
+state_size (is.ByteRange lo hi next) = 16
+state_size (is.Dense targets) = 16
+state_size (is.Look look next) = 16
+state_size (is.Union alternates) = 16
+state_size (is.BinaryUnion alt1 alt2) = 16
+state_size (is.Capture next pattern index slot) = 16
+state_size is.Fail = 16
+state_size (is.Match pattern) = 16
+
+-- the sum over all states, or the greatest number of 64 bits if it is more
+abbrev pub table_size : List State → ℕ
+table_size states = min (sum_by state_size states) (2 ^ 64 - 1)
+
+-- the size of the forward NFA of the regex that an object is; if it is none, its kind is reported
+abbrev pub IsSizeIn : Object → Result ℕ Status → Type 0
+IsSizeIn (RegexObject r) result = result ≡ Ok (table_size r.regex.value.forward.nfa.states)
+IsSizeIn (Builder b) result = result ≡ Err (plain code.Kind)
+IsSizeIn (CacheObject s) result = result ≡ Err (plain code.Kind)
+
+-- the size is written, or the status says why there is none
+abbrev pub IsSizeTold : (written : ℕ) → Result ℕ Status → Status → Type 0
+IsSizeTold written (Ok size) status = (written ≡ size) × (status ≡ plain code.Done)
+IsSizeTold written (Err e) status = status ≡ e
+
+-- `lazydfa_regex_size`: the regex stays as it is
+abbrev pub ReportsSize : (written : ℕ) → (old new : Handle) → Status → Type 0
+ReportsSize written old new status =
+    (result : Result ℕ Status) × ReadsHandle IsSizeIn old new result × IsSizeTold written result status

@@ -1,0 +1,62 @@
+//! Regexes that search forward alone: whether there is a match, and where it ends. What finds starts is not built.
+ghost use Rattle.std.specs.Prelude.{◌≡◌, IfErr, IfOk, None};
+ghost use Rattle.automata_config.specs.Options.{overwritten, unset};
+ghost use Rattle.lazydfa_c.specs.Builds.{OpensRegex};
+ghost use Rattle.lazydfa_c.specs.Texts.{HasNoMatch, IsFailure, IsForwardOnly};
+
+use crate::builder::state_id;
+use crate::code::Code;
+use crate::handle::Handle;
+use crate::regex::{open, pair_of};
+use crate::status::{Status, errors_differ};
+use regex_automata::hybrid::dfa::Config;
+use regex_automata::hybrid::regex::Regex;
+use regex_automata::nfa::thompson::{Flags, NFA, State};
+use std::alloc::Global;
+
+/// An NFA of so many patterns, none of which matches.
+fn nfa_without_match(alloc: Global, patterns: usize) -> Result<NFA, Status>
+    ensures none { IfOk result HasNoMatch }
+    ensures refused { IfErr result IsFailure }
+{
+    let fail = state_id(0)?;
+    let mut states = Vec::new(alloc);
+    states.push(State::Fail)?;
+    let mut starts = Vec::new(alloc);
+    starts.resize(patterns, fail)?;
+    let flags = Flags {
+        utf8: false,
+        reverse: true,
+        line_terminator: b'\n',
+    };
+    match NFA::from_states(alloc, states, fail, fail, starts, flags) {
+        Ok(nfa) => Ok(nfa),
+        Err(error) => Err(Status::from(Code::from(error))),
+    }
+}
+
+/// The regex that searches forward for what an NFA finds, beside a reverse DFA that finds nothing.
+fn forward_of(alloc: Global, nfa: NFA, config: Config) -> Result<Regex, Status>
+    ensures built { IfOk result (IsForwardOnly (overwritten unset config) nfa) }
+    ensures refused { IfErr result IsFailure }
+{
+    errors_differ();
+    match nfa_without_match(alloc, nfa.pattern_len()) {
+        Ok(none) => pair_of(nfa, none, config),
+        Err(status) => Err(status),
+    }
+}
+
+/// Opens a handle on the regex that searches forward for what an NFA finds.
+pub fn open_forward(
+    alloc: Global,
+    handle: &mut Handle,
+    nfa: NFA,
+    config: Config,
+) -> Result<(), Status>
+    requires { handle.now.slot.value ≡ None }
+    ensures { OpensRegex (IsForwardOnly (overwritten unset config) nfa) IsFailure handle.old handle.new result }
+{
+    let regex = forward_of(alloc, nfa, config)?;
+    open(alloc, handle, regex)
+}
