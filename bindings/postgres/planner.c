@@ -142,19 +142,21 @@ static Expr *like(const SupportRequestIndexCondition *request, Node *column, con
     return compare(request, column, LIKE_STRATEGY, pattern.data, pattern.len);
 }
 
-/* The rows of an index of trigrams that can match: those that contain all texts that every match contains. */
+/* The rows of an index of trigrams that can match: those that contain all texts that every match contains. The prefix is
+   one of these texts, and is not asked for again. */
 static List *likes_of(const SupportRequestIndexCondition *request, Node *column, const Known *known) {
     const char *literal = known->prefix + known->facts.prefix, *end = (const char *)known->bytes + MOST_BYTES;
-    bool begins = known->facts.anchored_start;
+    bool has_prefix = has_trigram(known->prefix, known->prefix_length);
     List *conditions = NIL;
     if (!get_collation_isdeterministic(request->indexcollation)) return NIL;
-    if (has_trigram(known->prefix, known->prefix_length))
-        conditions = with(NIL, like(request, column, begins ? "" : "%", known->prefix, known->prefix_length,
-                                    known->is_exact ? "" : "%"));
+    if (has_prefix)
+        conditions = with(NIL, like(request, column, known->facts.anchored_start ? "" : "%", known->prefix,
+                                    known->prefix_length, known->is_exact ? "" : "%"));
     for (size_t i = 0; i < Min(known->facts.count, MOST_LITERALS) && literal < end; i++) {
         size_t length = known->lengths[i];
         if (length > (size_t)(end - literal)) break;
-        if (whole_characters(literal, length) == length && has_trigram(literal, length))
+        if (whole_characters(literal, length) == length && has_trigram(literal, length) &&
+            !(has_prefix && memmem(known->prefix, known->prefix_length, literal, length)))
             conditions = with(conditions, like(request, column, "%", literal, length, "%"));
         literal += length;
     }

@@ -1,0 +1,84 @@
+#!/usr/bin/env python3
+"""Compares what a backend says that its patterns hold with what malloc gave out, and with the limit:
+
+    memory.py
+
+Hundreds of patterns, one after another, each over a text of 900 kB: by several settings of `lazydfa.cache_size`, for
+searches for an end, for starts too, and for sets. After each one malloc has to have given out at most 1.1 times what
+lazydfa_stats reports, and this may exceed the limit only by what the last pattern holds. psql finds the server by its
+environment; the server has the function held() of held.c.
+"""
+import subprocess
+import sys
+
+# A limit in kB, a search by one of the patterns, and how many patterns there are.
+CASES = [
+    (2048, "value =~ pattern", 300),
+    (65536, "value =~ pattern", 300),
+    (1024, "lazydfa_count(value, pattern) > 0", 60),
+    (1024, "lazydfa_which(value, array[pattern, 'b{20}']) <> '{}'", 60),
+    (8192, "value =~* ('(?i)' || pattern || '|\\w{9}z')", 60),
+]
+MADE = """
+CREATE TEMP TABLE long AS SELECT string_agg(translate(md5(n::text), '0123456789cdef', 'abababababaabb'), '') AS value
+    FROM generate_series(1, 28125) n;
+"""
+
+
+class Backend:
+    """A session of psql."""
+
+    def __init__(self):
+        words = ["psql", "-XAtq", "-v", "ON_ERROR_STOP=1"]
+        self.client = subprocess.Popen(words, stdin=subprocess.PIPE, stdout=subprocess.PIPE, text=True)
+
+    def run(self, statement):
+        self.client.stdin.write(f"{statement};\n")
+        self.client.stdin.flush()
+
+    def ask(self, query):
+        self.run(query)
+        said = self.client.stdout.readline()
+        if not said:
+            sys.exit(f"no answer to {query[:300]}")
+        return said.strip()
+
+    def numbers(self, query):
+        return [int(it) for it in self.ask(query).split("|")]
+
+    def end(self):
+        self.client.stdin.close()
+        self.client.wait()
+
+
+def tried(limit, search, count):
+    """Tries one of the cases. Returns what was wrong, and prints the figures."""
+    backend = Backend()
+    backend.run(MADE)
+    backend.ask("SELECT 'a' =~ 'a'")
+    backend.run(f"SET lazydfa.cache_size = {limit}")
+    (before,) = backend.numbers("SELECT held() - (SELECT held + tables FROM lazydfa_stats())")
+    ratio, over, faults = 0, 0, []
+    for at in range(count):
+        pattern = f"'[ab]{{{8 + at % 5}}}c|[ab]{{{9 + at % 3}}}x{at}'"
+        backend.ask(f"SELECT {search} FROM long, (SELECT {pattern} AS pattern) it")
+        kept, reported, malloc = backend.numbers(f"SELECT patterns, held + tables, held() - {before} FROM lazydfa_stats()")
+        ratio, over = max(ratio, malloc / reported), max(over, reported - limit * 1024)
+        if malloc > 1.1 * reported:
+            faults.append(f"{search}, pattern {at}: malloc gave out {malloc}, and {reported} are reported")
+        if reported > limit * 1024 and kept > 1:
+            faults.append(f"{search}, pattern {at}: {reported} are held by {kept} patterns, and the limit is {limit} kB")
+    backend.end()
+    print(f"{count} patterns by {search}, {limit} kB: {kept} kept, {reported // 1024} kB reported,", end=" ")
+    print(f"malloc up to {ratio:.2f} of it, over the limit by {max(over, 0) // 1024} kB")
+    return faults
+
+
+def main():
+    faults = [fault for case in CASES for fault in tried(*case)]
+    print("\n".join(faults[:10]) if faults else "each within the limit")
+    return 1 if faults else 0
+
+
+if __name__ == "__main__":
+    sys.exit(main())
