@@ -149,7 +149,7 @@ static lazydfa_status open_regex(Kept *kept, Source *source) {
     status = lazydfa_regex_any_of(&kept->regex, source->texts, source->count, &source->options, &source->settings, NULL,
                                   0, &source->refusal, source->message, sizeof source->message);
     CHECK_FOR_INTERRUPTS();
-    if (status.code == LAZYDFA_OK) status = lazydfa_regex_size(&kept->regex, &kept->tables);
+    if (status.code == LAZYDFA_OK) status = lazydfa_regex_size(&kept->regex, &kept->size);
     return status.code == LAZYDFA_OK ? lazydfa_cache_new(&kept->cache, &kept->regex) : status;
 }
 
@@ -217,12 +217,12 @@ bool compile(Kept *kept, const Key *key) {
         return false;
     }
     kept->count = source.count;
-    kept->piece = piece_of(kept->tables, setting_piece_size);
+    kept->piece = piece_of(kept->size, setting_piece_size);
     return true;
 }
 
-size_t piece_of(size_t tables, int piece_size) {
+size_t piece_of(size_t size, int piece_size) {
     size_t piece = piece_size;
-    if (tables <= SMALL_TABLES) return piece;
-    return Max((size_t)((double)piece * SMALL_TABLES / tables), Min(piece, SHORTEST_PIECE));
+    if (size <= SMALL_TABLES) return piece;
+    return Max((size_t)((double)piece * SMALL_TABLES / size), Min(piece, SHORTEST_PIECE));
 }

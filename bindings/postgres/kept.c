@@ -10,7 +10,16 @@
 #include "compile.h"
 #include "settings.h"
 
-#define BUCKETS 1024 /* a power of two */
+#define BUCKETS 1024
+
+/* What tables hold of malloc: so many bytes for each of their size, in one direction and in both, and these beside. It was
+   measured to be less for each kind of pattern, by half at most. */
+#define HELD_FORWARD 6
+#define HELD_BOTH 13
+#define HELD_BESIDE 14000
+
+/* A byte that is searched adds a state at most, and most states take less than so many bytes. */
+#define HELD_STATE 2048
 
 /* What is not kept any more stays allocated, since a call site may look at its generation: these are free. */
 static dlist_head by_use = DLIST_STATIC_INIT(by_use); /* that used last is first */
@@ -50,7 +59,7 @@ void kept_set_pieces(int piece_size) {
     dlist_iter at;
     dlist_foreach(at, &by_use) {
         Kept *kept = dlist_container(Kept, by_use, at.cur);
-        kept->piece = piece_of(kept->tables, piece_size);
+        kept->piece = piece_of(kept->size, piece_size);
     }
 }
 
@@ -63,12 +72,38 @@ static Kept *free_one(void) {
     return kept;
 }
 
+/* What the caches of patterns account for. */
+static lazydfa_usage usage_of(Kept *kept) {
+    lazydfa_usage usage, backward;
+    memset(&usage, 0, sizeof usage);
+    memset(&backward, 0, sizeof backward);
+    lazydfa_cache_usage(&kept->cache, &usage);
+    lazydfa_cache_usage(&kept->backward, &backward);
+    usage.memory += backward.memory;
+    usage.leaps += backward.leaps;
+    usage.held += backward.held;
+    usage.forward_clears += backward.forward_clears;
+    return usage;
+}
+
+/* What the tables of patterns, and their texts, hold. */
+static size_t tables_of(const Kept *kept) {
+    return kept->size * (kept->key.flags & ENDS_ONLY ? HELD_FORWARD : HELD_BOTH) + HELD_BESIDE + kept->key.length;
+}
+
+/* Counts what patterns hold. */
+static void count(Kept *kept) {
+    size_t before = kept->memory;
+    kept->memory = usage_of(kept).held + tables_of(kept);
+    kept->uncounted = 0;
+    memory = memory - before + kept->memory;
+}
+
 /* The patterns of a key, compiled and kept. NULL if there are none, while the planner estimates. */
 static Kept *keep(const Key *key, uint32 hash) {
     Kept *kept;
     char *copy;
     if (!context) context = AllocSetContextCreate(TopMemoryContext, "lazydfa", ALLOCSET_DEFAULT_SIZES);
-    kept_trim(setting_cached_patterns - 1, (size_t)setting_cache_size * 1024);
     kept = free_one();
     if (!compile(kept, key)) return NULL;
     copy = MemoryContextAllocExtended(context, Max(key->length, 1), MCXT_ALLOC_NO_OOM);
@@ -85,6 +120,8 @@ static Kept *keep(const Key *key, uint32 hash) {
     dlist_push_head(&buckets[hash % BUCKETS], &kept->by_hash);
     kept_number++;
     compiled++;
+    count(kept);
+    kept_trim(setting_cached_patterns, (size_t)setting_cache_size * 1024);
     return kept;
 }
 
@@ -168,25 +205,14 @@ lazydfa_cache *kept_backward(Kept *kept) {
     return &kept->backward;
 }
 
-/* What the caches of patterns account for. */
-static lazydfa_usage usage_of(Kept *kept) {
-    lazydfa_usage usage, backward;
-    memset(&usage, 0, sizeof usage);
-    memset(&backward, 0, sizeof backward);
-    lazydfa_cache_usage(&kept->cache, &usage);
-    lazydfa_cache_usage(&kept->backward, &backward);
-    usage.memory += backward.memory;
-    usage.leaps += backward.leaps;
-    usage.held += backward.held;
-    usage.forward_clears += backward.forward_clears;
-    return usage;
-}
-
-void kept_count(Kept *kept) {
-    size_t before = kept->memory;
-    kept->memory = usage_of(kept).held + kept->tables + kept->key.length;
-    memory = memory - before + kept->memory;
-    kept_trim(setting_cached_patterns, (size_t)setting_cache_size * 1024);
+/* Up to half of the limit patterns are counted only if they may have grown: what all of them have added since is less
+   than the other half. */
+void kept_count(Kept *kept, size_t searched) {
+    size_t limit = (size_t)setting_cache_size * 1024;
+    kept->uncounted += searched;
+    if (memory <= limit / 2 && kept->uncounted <= limit / 2 / HELD_STATE / kept_number) return;
+    count(kept);
+    kept_trim(setting_cached_patterns, limit);
 }
 
 KeptStats kept_stats(void) {
@@ -198,7 +224,7 @@ KeptStats kept_stats(void) {
         stats.memory += usage.memory;
         stats.leaps += usage.leaps;
         stats.held += usage.held;
-        stats.tables += kept->tables;
+        stats.tables += tables_of(kept);
         stats.clears += usage.forward_clears + usage.reverse_clears;
     }
     return stats;

@@ -35,10 +35,11 @@ typedef struct {
     uint64 generation;   /* rises when they are freed */
     Key key;             /* a copy; its bytes are NULL if nothing is kept here */
     size_t count;        /* how many patterns there are */
-    size_t tables;       /* the size of the regex's tables */
+    size_t size;         /* of the regex's tables, as lazydfa.pattern_size limits it */
     size_t piece;        /* how many bytes of a value are searched before the query can be cancelled */
     bool skips;          /* searches skip matches inside a character, which are empty */
     size_t memory;       /* the bytes that are held, when they were last counted */
+    size_t uncounted;    /* the bytes that were searched since then */
     lazydfa_regex regex;
     lazydfa_cache cache;
     lazydfa_cache backward; /* of the regex that reads backward, if it was needed */
@@ -61,10 +62,13 @@ typedef struct {
     int64 memory;   /* the bytes that their caches account for */
     int64 leaps;    /* the bytes of their leaps, beside these */
     int64 held;     /* the bytes that their caches hold of the allocator: these, and what is unused */
-    int64 tables;   /* the bytes of the tables that their caches are made of */
+    int64 tables;   /* the bytes that their tables hold, at most */
     int64 clears;   /* how often these caches were cleared */
     int64 compiled; /* how many were compiled since the backend began */
 } KeptStats;
+
+/* Names of the extension, which no other library sees. */
+#pragma GCC visibility push(hidden)
 
 /* Whether the planner searches values of the statistics. Nothing is an error then: patterns for which there is no
    search are NULL, and a search that fails finds no match. */
@@ -77,8 +81,8 @@ extern Kept *kept_of_call(FunctionCallInfo fcinfo, Site *site, uint32 flags);
 /* The cache for searches back in pieces, which is opened when it is needed first. */
 extern lazydfa_cache *kept_backward(Kept *kept);
 
-/* Counts the bytes that are held after a search, and frees the patterns used longest ago if they are too many. */
-extern void kept_count(Kept *kept);
+/* Counts what is held, after a search of so many bytes, and frees the patterns used longest ago if it is too much. */
+extern void kept_count(Kept *kept, size_t searched);
 
 /* Frees all patterns; or those used longest ago, until there are not more than these, in number and in bytes. */
 extern void kept_forget_all(void);
@@ -89,5 +93,7 @@ extern void kept_set_pieces(int piece_size);
 
 /* What lazydfa_stats returns. */
 extern KeptStats kept_stats(void);
+
+#pragma GCC visibility pop
 
 #endif

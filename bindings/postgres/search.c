@@ -179,9 +179,10 @@ static lazydfa_status which_in_pieces(Value *value, size_t most, uint32_t *patte
     return status;
 }
 
-/* Ends a search: what it has added to the cache is counted, and an error is reported, unless the planner estimates. */
-static void end_search(Value *value, lazydfa_status status) {
-    kept_count(value->kept);
+/* Ends a search of so many bytes: what it has added to the cache is counted, and an error is reported, unless the planner
+   estimates. */
+static void end_search(Value *value, size_t length, lazydfa_status status) {
+    kept_count(value->kept, length);
     if (status.code == LAZYDFA_OK || status.code == LAZYDFA_NONE || status.code == LAZYDFA_NO_TOKEN) return;
     if (!kept_is_estimating) fail(status);
 }
@@ -202,25 +203,27 @@ bool has_match(Value *value) {
     if (!has_parts(value, 0)) status = lazydfa_is_match(&kept->cache, value->bytes, value->length, &whole);
     else if (kept->skips && kept->key.flags & FINDS_ALL) status = which_in_pieces(value, 1, &pattern, &count);
     else status = find_end(value, &whole, &end);
-    end_search(value, status);
+    end_search(value, value->length, status);
     return status.code == LAZYDFA_OK;
 }
 
 bool find_next(Value *value, lazydfa_match *match) {
+    size_t from = value->matches.left.start;
     lazydfa_status status;
     CHECK_FOR_INTERRUPTS();
-    if (has_parts(value, value->matches.left.start)) status = next_by_parts(value, match);
+    if (has_parts(value, from)) status = next_by_parts(value, match);
     else status = lazydfa_next(&value->kept->cache, value->bytes, value->length, &value->matches, match);
-    end_search(value, status);
+    end_search(value, (status.code == LAZYDFA_OK ? match->end : value->length) - from, status);
     return status.code == LAZYDFA_OK;
 }
 
 lazydfa_status find_token(Value *value, lazydfa_match *token) {
+    size_t from = value->tokens.start;
     lazydfa_status status;
     CHECK_FOR_INTERRUPTS();
-    if (is_long(value, value->tokens.start)) status = token_in_pieces(value, token);
+    if (is_long(value, from)) status = token_in_pieces(value, token);
     else status = lazydfa_token(&value->kept->cache, value->bytes, value->length, &value->tokens, token);
-    end_search(value, status);
+    end_search(value, (status.code == LAZYDFA_OK ? token->end : value->length) - from, status);
     return status;
 }
 
@@ -234,6 +237,6 @@ size_t find_all(Value *value, uint32_t *patterns) {
     else
         status = lazydfa_which(&kept->cache, value->bytes, value->length, &whole, kept->count, patterns, kept->count,
                                &count);
-    end_search(value, status);
+    end_search(value, value->length, status);
     return count;
 }

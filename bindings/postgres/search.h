@@ -13,6 +13,9 @@ typedef struct {
     lazydfa_input tokens;      /* what is left for find_token */
 } Value;
 
+/* Names of the extension, which no other library sees. */
+#pragma GCC visibility push(hidden)
+
 /* Begins the searches of a value, which is a text or a bytea. */
 extern void begin_value(Value *value, struct varlena *it);
 
@@ -30,5 +33,7 @@ extern lazydfa_status find_token(Value *value, lazydfa_match *token);
 
 /* The numbers of the patterns that match, in increasing order, and how many they are. There is room for all. */
 extern size_t find_all(Value *value, uint32_t *patterns);
+
+#pragma GCC visibility pop
 
 #endif
