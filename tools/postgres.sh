@@ -3,11 +3,11 @@
 # of its own, in a folder of its own, over a socket there:
 #     tools/postgres.sh ['N passed, M failed']
 # The expected answers of `make installcheck`; random patterns beside `~` (tools/postgres/agree.py), in pieces
-# (tools/postgres/pieces.py), and by indexes (tools/postgres/indexed.py); parallel workers; two backends at once; a query
-# that is cancelled, one that takes too long, a backend that is ended, and one that is killed in a search; each search of
-# a long text, cancelled and out of time; patterns that are costly to compile, by an ordinary user: their time and their
-# memory, and a backend and a server that end meanwhile; what many patterns hold of memory (tools/postgres/memory.py); a
-# backend without memory; and databases of other encodings.
+# (tools/postgres/pieces.py), and by indexes (tools/postgres/indexed.py); parallel workers; two backends at once; a
+# query that is cancelled, one that takes too long, a backend that is ended, and one that is killed in a search; each
+# search of a long text, cancelled and out of time; patterns that are costly to compile, by an ordinary user: their time
+# and their memory, and a backend and a server that end meanwhile; what many patterns hold of memory
+# (tools/postgres/memory.py); a backend without memory; and databases of other encodings.
 #
 # The last line counts these too, beside what the given line counts. It needs a PostgreSQL server with its headers (on
 # Debian, postgresql-15 and postgresql-server-dev-15), make, cc, pkg-config, prlimit and Python 3. Without a server it
@@ -155,7 +155,8 @@ agrees() { # NAME SCRIPT WORD..
     name=$1
     script=$top/tools/postgres/$2
     shift 2
-    if agreed=$(python3 "$script" "$@" 2>&1); then count "$name: $agreed" ""; else count "$name" "$agreed"; fi
+    if agreed=$(python3 "$script" "$@" 2>&1); then name="$name: $agreed" agreed=; fi
+    count "$name" "$agreed"
 }
 
 test_workers() {
@@ -233,7 +234,7 @@ test_long() {
         "lazydfa_substr(value, '$many')" "lazydfa_substr(left(value, 1000000), '$back|\$')" \
         "lazydfa_count(value, 'a')" "lazydfa_count(value, 'x*')" "lazydfa_count(value, '$many')" \
         "lazydfa_matches(value, '$empty')" "lazydfa_replace(value, '$many', '')" \
-        "lazydfa_tokens(value, array['.*$many', 'y'])" "value =~ '[a-f].{20000}x'"; do
+        "lazydfa_tokens(value, array['.*$many', 'y'])" "value =~ '([a-f0-9]?){150000}x'"; do
         begin "SELECT $search FROM long"
         sleep 0.3
         started=$(milliseconds)
@@ -245,7 +246,8 @@ test_long() {
     done
 }
 
-# Statements that took up to a minute, and a gigabyte, before patterns were limited; and the costliest within the limits.
+# Statements that took up to a minute, and a gigabyte, before patterns were limited; and the costliest within the
+# limits.
 costly() {
     cat <<'END'
 'a' =~* repeat('\PL', 100000)
@@ -272,8 +274,8 @@ lazydfa_count('a', repeat('()', 32768))
 END
 }
 
-# Runs a costly statement as an ordinary user, out of whose time it may be after a second. Writes how much its backend has
-# grown at most, in kB.
+# Runs a costly statement as an ordinary user, out of whose time it may be after a second. Writes how much its backend
+# has grown at most, in kB.
 grown() { # EXPRESSION
     PGUSER=joe psql -XAtq 2>&1 <<END
 SELECT ('a' =~ 'a')::text AS loaded, pg_backend_pid() AS backend \gset
@@ -292,7 +294,8 @@ test_costly() {
         started=$(milliseconds)
         said=$(grown "$search" </dev/null)
         took=$(($(milliseconds) - started))
-        size=$(echo "$said" | awk '$1 == "before" { n = -$2 } $1 == "after" { n += $2; ok = 1 } END { if (ok) print n }')
+        size=$(echo "$said" |
+            awk '$1 == "before" { n = -$2 } $1 == "after" { n += $2; ok = 1 } END { if (ok) print n }')
         fault=
         [ "$took" -le 2000 ] || fault="it took $took ms"
         [ "${size:-300000}" -le 200000 ] || fault="$fault, and $size kB: $said"
@@ -306,8 +309,8 @@ test_costly() {
         took=$(($(milliseconds) - started))
         if [ "$took" -le 2000 ]; then count "$search, ended" ""; else count "$search, ended" "it took $took ms"; fi
     done <"$room/costly"
-    has "the limits are the superuser's" "permission denied" "$(PGUSER=joe sql -c "SET lazydfa.pattern_length = '1MB'")"
-    has "the limits are the superuser's" "permission denied" "$(PGUSER=joe sql -c "SET lazydfa.pattern_size = '20MB'")"
+    has "a limit that an ordinary user sets before the library is loaded" "is too long" \
+        "$(PGUSER=joe sql -c "SET lazydfa.pattern_length = '1MB'" -c "SELECT 'a' =~ repeat('a', 100000)")"
 }
 
 # A server that is stopped fast, while a backend compiles one costly pattern after another.

@@ -15,10 +15,11 @@
 #define NEST_LIMIT 250
 #define MESSAGE_ROOM 4096
 
-/* Up to tables of this size pieces are as long as the setting says. Of larger ones a byte can take longer, by as much as
-   they are larger, and pieces are shorter. */
-#define SMALL_TABLES 65536
-#define SHORTEST_PIECE 256
+/* Up to tables of this size pieces are as long as the setting says. Of larger ones a byte can take longer, by as much
+   as they are larger, and pieces are shorter: with tables of 10 MB a byte takes 14 ms at worst, and a piece has 64.
+   */
+#define SMALL_TABLES 40960
+#define SHORTEST_PIECE 16
 
 /* The SQLSTATE of a status. */
 static int sqlstate_of(uint32_t code) {
@@ -48,8 +49,8 @@ void fail(lazydfa_status status) {
                 : 0);
 }
 
-/* The bytes of an array with as many patterns as may be, of as many bytes, at most: each has a length of four bytes, and
-   up to three behind it. */
+/* The bytes of an array with as many patterns as may be, of as many bytes, at most: each has a length of four bytes,
+   and up to three behind it. */
 static size_t longest_array(void) {
     return (size_t)setting_pattern_length * 9 + ARR_OVERHEAD_WITHNULLS(MAXDIM, 8);
 }

@@ -14,8 +14,8 @@ extern bool limit_length(Datum patterns, uint32 flags);
 /* How the text of a pattern is read. */
 extern lazydfa_text_options text_options(uint32 flags);
 
-/* Opens the regex and the cache of patterns. False if there are none: this is an error unless the planner estimates. An
-   error leaves nothing open. */
+/* Opens the regex and the cache of patterns. False if there are none: this is an error unless the planner estimates.
+   An error leaves nothing open. */
 extern bool compile(Kept *kept, const Key *key);
 
 /* How long pieces are of patterns with tables of this size. */

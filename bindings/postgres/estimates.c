@@ -20,9 +20,9 @@ static bool has_constant_patterns(PlannerInfo *root, List *args, int relation) {
     return is_constant;
 }
 
-/* What part of the rows an operator lets through, by the values that the statistics have. A value that cannot be searched
-   counts as one without a match, and patterns that cannot be compiled as ones that match nothing: the query may search
-   none of these values, and reports what is wrong if it does. */
+/* What part of the rows an operator lets through, by the values that the statistics have. A value that cannot be
+   searched counts as one without a match, and patterns that cannot be compiled as ones that match nothing: the query
+   may search none of these values, and reports what is wrong if it does. */
 static double selectivity_of(FunctionCallInfo fcinfo, double unknown) {
     PlannerInfo *root = (PlannerInfo *)PG_GETARG_POINTER(0);
     List *args = (List *)PG_GETARG_POINTER(2);

@@ -12,8 +12,8 @@
 
 #define BUCKETS 1024
 
-/* What tables hold of malloc: so many bytes for each of their size, in one direction and in both, and these beside. It was
-   measured to be less for each kind of pattern, by half at most. */
+/* What tables hold of malloc: so many bytes for each of their size, in one direction and in both, and these beside.
+   It was measured to be less for each kind of pattern, by half at most. */
 #define HELD_FORWARD 6
 #define HELD_BOTH 13
 #define HELD_BESIDE 14000
@@ -29,6 +29,7 @@ static int kept_number = 0;
 static size_t memory = 0; /* the sum of what they hold */
 static int64 compiled = 0;
 static MemoryContext context = NULL;
+static Kept *in_use = NULL; /* whose search is not counted yet */
 
 bool kept_is_estimating = false;
 
@@ -140,10 +141,10 @@ static Kept *look_up(const Key *key) {
         Kept *kept = dlist_container(Kept, by_hash, at.cur);
         if (kept->hash == hash && is_of(kept, key)) return kept;
     }
-    if (GetDatabaseEncoding() != PG_UTF8 && GetDatabaseEncoding() != PG_SQL_ASCII && !kept_is_estimating)
-        ereport(ERROR, errcode(ERRCODE_FEATURE_NOT_SUPPORTED),
-                errmsg("lazydfa needs a database whose encoding is UTF8 or SQL_ASCII"));
-    return keep(key, hash);
+    if (GetDatabaseEncoding() == PG_UTF8 || GetDatabaseEncoding() == PG_SQL_ASCII) return keep(key, hash);
+    if (kept_is_estimating) return NULL;
+    ereport(ERROR, errcode(ERRCODE_FEATURE_NOT_SUPPORTED),
+            errmsg("lazydfa needs a database whose encoding is UTF8 or SQL_ASCII"));
 }
 
 /* Whether argument 1 is the same in each call of this expression. A parameter may change: PL/pgSQL evaluates one
@@ -189,6 +190,9 @@ Kept *kept_of_call(FunctionCallInfo fcinfo, Site *site, uint32 flags) {
     if (site->is_refused) return NULL;
     if (!(site->is_constant && site->kept && site->kept->generation == site->generation))
         find_patterns(fcinfo, site, flags);
+    /* A search that was cancelled has been counted by nobody. */
+    if (in_use && in_use->key.bytes) count(in_use);
+    in_use = NULL;
     if (site->kept) dlist_move_head(&by_use, &site->kept->by_use);
     return site->kept;
 }
@@ -205,10 +209,13 @@ lazydfa_cache *kept_backward(Kept *kept) {
     return &kept->backward;
 }
 
+void kept_begin(Kept *kept) { in_use = kept; }
+
 /* Up to half of the limit patterns are counted only if they may have grown: what all of them have added since is less
    than the other half. */
 void kept_count(Kept *kept, size_t searched) {
     size_t limit = (size_t)setting_cache_size * 1024;
+    in_use = NULL;
     kept->uncounted += searched;
     if (memory <= limit / 2 && kept->uncounted <= limit / 2 / HELD_STATE / kept_number) return;
     count(kept);

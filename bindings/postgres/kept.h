@@ -74,14 +74,16 @@ typedef struct {
    search are NULL, and a search that fails finds no match. */
 extern bool kept_is_estimating;
 
-/* The patterns in argument 1 of a call, compiled. They are kept at least until the next call of this function, from any
-   call site. */
+/* The patterns in argument 1 of a call, compiled. They are kept at least until the next call of this function, from
+   any call site. */
 extern Kept *kept_of_call(FunctionCallInfo fcinfo, Site *site, uint32 flags);
 
 /* The cache for searches back in pieces, which is opened when it is needed first. */
 extern lazydfa_cache *kept_backward(Kept *kept);
 
-/* Counts what is held, after a search of so many bytes, and frees the patterns used longest ago if it is too much. */
+/* Each search begins and ends with these. The second counts what is held, after so many bytes were searched, and frees
+   the patterns used longest ago if it is too much. */
+extern void kept_begin(Kept *kept);
 extern void kept_count(Kept *kept, size_t searched);
 
 /* Frees all patterns; or those used longest ago, until there are not more than these, in number and in bytes. */

@@ -147,8 +147,8 @@ static Key copy_of_patterns(FunctionCallInfo fcinfo, uint32 flags) {
     return key;
 }
 
-/* The walk of a function, which its first call begins over copies of the value and of the patterns. Between calls other
-   patterns may be compiled, and these freed, so each call looks for them. */
+/* The walk of a function, which its first call begins over copies of the value and of the patterns. Between calls
+   other patterns may be compiled, and these freed, so each call looks for them. */
 static Walk *walk_of(FunctionCallInfo fcinfo, FuncCallContext *context, uint32 flags) {
     Walk *walk = context->user_fctx;
     if (!walk) {

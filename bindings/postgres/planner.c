@@ -1,6 +1,8 @@
-/* What part of an index the operators need, for the planner. It is derived from what the library knows of every match of
-   a pattern, and each row that an index gives is searched again. */
+/* What part of an index the operators need, for the planner. It is derived from what the library knows of every match
+   of a pattern, and each row that an index gives is searched again. */
 #include "compile.h"
+
+#include <ctype.h>
 
 #include "access/htup.h"
 #include "access/stratnum.h"
@@ -10,6 +12,7 @@
 #include "catalog/pg_type_d.h"
 #include "lib/stringinfo.h"
 #include "mb/pg_wchar.h"
+#include "miscadmin.h"
 #include "nodes/makefuncs.h"
 #include "nodes/nodeFuncs.h"
 #include "nodes/supportnodes.h"
@@ -22,8 +25,8 @@
 #define MOST_LITERALS 16
 #define MOST_BYTES 2048
 
-/* What is known of every match: whether it begins and ends where the text does, its prefix, and texts that it contains.
-   More than there is room for is left out. */
+/* What is known of every match: whether it begins and ends where the text does, its prefix, and texts that it
+   contains. More than there is room for is left out. */
 typedef struct {
     lazydfa_facts facts;
     const char *prefix;
@@ -49,6 +52,7 @@ static bool know(Known *known, const text *pattern, uint32 flags) {
     lazydfa_text_options options = text_options(flags);
     lazydfa_facts *facts = &known->facts;
     size_t length;
+    CHECK_FOR_INTERRUPTS();
     if (VARSIZE_ANY_EXHDR(pattern) > options.text_limit) return false;
     if (lazydfa_text_facts(VARDATA_ANY(pattern), VARSIZE_ANY_EXHDR(pattern), &options, facts, known->bytes, MOST_BYTES,
                            known->lengths, MOST_LITERALS)
@@ -78,8 +82,8 @@ static Expr *compare(const SupportRequestIndexCondition *request, Node *column, 
 /* Adds a condition to a list, if there is one. */
 static List *with(List *conditions, Expr *condition) { return condition ? lappend(conditions, condition) : conditions; }
 
-/* The least text, by its bytes, above all that begin with a prefix, or above more of them: a copy, and its length, which
-   is 0 if there is none. */
+/* The least text, by its bytes, above all that begin with a prefix, or above more of them: a copy, and its length,
+   which is 0 if there is none. */
 static char *above(const char *prefix, size_t *length) {
     char *bound = pnstrdup(prefix, *length);
     while (*length > 0 && (unsigned char)bound[*length - 1] >= 0x7f) --*length;
@@ -123,7 +127,7 @@ static bool has_trigram(const char *bytes, size_t length) {
     int row = 0;
     for (size_t at = 0; at < length && row < 3; at += pg_utf_mblen((const unsigned char *)bytes + at)) {
         unsigned char byte = bytes[at];
-        row = byte >= 0x80 || strchr("0123456789abcdefghijklmnopqrstuvwxyzABCDEFGHIJKLMNOPQRSTUVWXYZ", byte) ? row + 1 : 0;
+        row = byte >= 0x80 || isalnum(byte) ? row + 1 : 0;
     }
     return row == 3;
 }
@@ -142,8 +146,8 @@ static Expr *like(const SupportRequestIndexCondition *request, Node *column, con
     return compare(request, column, LIKE_STRATEGY, pattern.data, pattern.len);
 }
 
-/* The rows of an index of trigrams that can match: those that contain all texts that every match contains. The prefix is
-   one of these texts, and is not asked for again. */
+/* The rows of an index of trigrams that can match: those that contain all texts that every match contains. The prefix
+   is one of these texts, and is not asked for again. */
 static List *likes_of(const SupportRequestIndexCondition *request, Node *column, const Known *known) {
     const char *literal = known->prefix + known->facts.prefix, *end = (const char *)known->bytes + MOST_BYTES;
     bool has_prefix = has_trigram(known->prefix, known->prefix_length);

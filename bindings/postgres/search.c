@@ -179,8 +179,14 @@ static lazydfa_status which_in_pieces(Value *value, size_t most, uint32_t *patte
     return status;
 }
 
-/* Ends a search of so many bytes: what it has added to the cache is counted, and an error is reported, unless the planner
-   estimates. */
+/* Begins a search, before which the query may be cancelled. */
+static void begin_search(Value *value) {
+    CHECK_FOR_INTERRUPTS();
+    kept_begin(value->kept);
+}
+
+/* Ends a search of so many bytes: what it has added to the cache is counted, and an error is reported, unless the
+   planner estimates. */
 static void end_search(Value *value, size_t length, lazydfa_status status) {
     kept_count(value->kept, length);
     if (status.code == LAZYDFA_OK || status.code == LAZYDFA_NONE || status.code == LAZYDFA_NO_TOKEN) return;
@@ -197,8 +203,8 @@ bool has_match(Value *value) {
     lazydfa_half end;
     uint32_t pattern;
     size_t count;
-    CHECK_FOR_INTERRUPTS();
     if (!kept) return false;
+    begin_search(value);
     whole.earliest = !kept->skips; /* a match that is skipped may end before one that is not */
     if (!has_parts(value, 0)) status = lazydfa_is_match(&kept->cache, value->bytes, value->length, &whole);
     else if (kept->skips && kept->key.flags & FINDS_ALL) status = which_in_pieces(value, 1, &pattern, &count);
@@ -210,7 +216,7 @@ bool has_match(Value *value) {
 bool find_next(Value *value, lazydfa_match *match) {
     size_t from = value->matches.left.start;
     lazydfa_status status;
-    CHECK_FOR_INTERRUPTS();
+    begin_search(value);
     if (has_parts(value, from)) status = next_by_parts(value, match);
     else status = lazydfa_next(&value->kept->cache, value->bytes, value->length, &value->matches, match);
     end_search(value, (status.code == LAZYDFA_OK ? match->end : value->length) - from, status);
@@ -220,7 +226,7 @@ bool find_next(Value *value, lazydfa_match *match) {
 lazydfa_status find_token(Value *value, lazydfa_match *token) {
     size_t from = value->tokens.start;
     lazydfa_status status;
-    CHECK_FOR_INTERRUPTS();
+    begin_search(value);
     if (is_long(value, from)) status = token_in_pieces(value, token);
     else status = lazydfa_token(&value->kept->cache, value->bytes, value->length, &value->tokens, token);
     end_search(value, (status.code == LAZYDFA_OK ? token->end : value->length) - from, status);
@@ -232,7 +238,7 @@ size_t find_all(Value *value, uint32_t *patterns) {
     lazydfa_input whole = lazydfa_whole(value->length);
     lazydfa_status status;
     size_t count;
-    CHECK_FOR_INTERRUPTS();
+    begin_search(value);
     if (has_parts(value, 0)) status = which_in_pieces(value, kept->count, patterns, &count);
     else
         status = lazydfa_which(&kept->cache, value->bytes, value->length, &whole, kept->count, patterns, kept->count,

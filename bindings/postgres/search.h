@@ -19,7 +19,8 @@ typedef struct {
 /* Begins the searches of a value, which is a text or a bytea. */
 extern void begin_value(Value *value, struct varlena *it);
 
-/* Each search reports errors of the library. A query can be cancelled before it, and in a long value while it runs. */
+/* Each search reports errors of the library. A query can be cancelled before it, and in a long value while it runs.
+   */
 
 /* Whether there is a match. */
 extern bool has_match(Value *value);

@@ -50,7 +50,7 @@ static void assign_piece_size(int value, void *extra) {
     if (value != setting_piece_size) kept_set_pieces(value);
 }
 
-/* What a pattern may cost before it can be cancelled is for the superuser to say. */
+/* How long a query may take until it can be cancelled is for the superuser to say. */
 static void define_limits(void) {
     DefineCustomIntVariable("lazydfa.pattern_length", "Length of one pattern, or of all patterns of an array.",
                             "A longer one is an error. An array has as many patterns as this at most.",
@@ -63,6 +63,9 @@ static void define_limits(void) {
     DefineCustomIntVariable("lazydfa.pattern_size", "Memory for the tables of one pattern, or of one array.",
                             "A pattern that needs more is an error.", &setting_pattern_size, 10240, 64,
                             PATTERN_SIZE_AT_MOST, PGC_SUSET, GUC_UNIT_KB, NULL, assign_pattern_size, NULL);
+    DefineCustomIntVariable("lazydfa.piece_size", "How much of a value is searched before a query can be cancelled.",
+                            "It is less for patterns with large tables.", &setting_piece_size, 16384, 1, MAX_KILOBYTES,
+                            PGC_SUSET, GUC_UNIT_BYTE, NULL, assign_piece_size, NULL);
 }
 
 void define_settings(void) {
@@ -76,8 +79,5 @@ void define_settings(void) {
     DefineCustomIntVariable("lazydfa.pattern_cache_size", "Memory for the cache of one pattern, or of one array.",
                             "A pattern that needs more gets the least that it needs.", &setting_pattern_cache_size,
                             4096, 64, MAX_KILOBYTES, PGC_USERSET, GUC_UNIT_KB, NULL, assign_pattern_cache_size, NULL);
-    DefineCustomIntVariable("lazydfa.piece_size", "How much of a value is searched before a query can be cancelled.",
-                            "It is less for patterns with large tables.", &setting_piece_size, 16384, 1, MAX_KILOBYTES,
-                            PGC_USERSET, GUC_UNIT_BYTE, NULL, assign_piece_size, NULL);
     MarkGUCPrefixReserved("lazydfa");
 }

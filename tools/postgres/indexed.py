@@ -5,9 +5,9 @@
 
 Random patterns, with repetitions of repetitions, classes, flags, escapes, alternations and anchors, are constants of
 queries by `=~` or `=~*` over equal tables of short texts: one without an index, and one each with an index by
-text_pattern_ops, by the collations of the database and C, and by trigrams (GIN and GiST, of pg_trgm). Scans are off where there is an index
-for a query. It prints how many patterns used each index, and ends with status 1 if rows differ. psql finds the server
-by its environment; its user may create the extensions.
+text_pattern_ops, by the collations of the database and C, and by trigrams (GIN and GiST, of pg_trgm). Scans are off
+where there is an index for a query. It prints how many patterns used each index, and ends with status 1 if rows
+differ. psql finds the server by its environment; its user may create the extensions.
 """
 import random
 import subprocess

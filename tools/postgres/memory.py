@@ -4,25 +4,38 @@
     memory.py
 
 Hundreds of patterns, one after another, each over a text of 900 kB: by several settings of `lazydfa.cache_size`, for
-searches for an end, for starts too, and for sets. After each one malloc has to have given out at most 1.1 times what
-lazydfa_stats reports, and this may exceed the limit only by what the last pattern holds. psql finds the server by its
-environment; the server has the function held() of held.c.
+searches for an end, for starts too, for sets, and for searches that are cancelled. After each one malloc has to have
+given out at most 1.1 times what lazydfa_stats reports. This has to be within the limit, unless it is that of a single
+pattern, or of a search that was cancelled, by which the limit may be exceeded until the next one. psql finds the
+server by its environment; the server has the function held() of held.c.
 """
 import subprocess
 import sys
 
+CANCELLED = "pg_temp.cancelled(value, '(a|b)*a(a|b){14}c|' || pattern)"
 # A limit in kB, a search by one of the patterns, and how many patterns there are.
 CASES = [
     (2048, "value =~ pattern", 300),
     (65536, "value =~ pattern", 300),
     (1024, "lazydfa_count(value, pattern) > 0", 60),
     (1024, "lazydfa_which(value, array[pattern, 'b{20}']) <> '{}'", 60),
+    (4096, CANCELLED, 30),
     (8192, "value =~* ('(?i)' || pattern || '|\\w{9}z')", 60),
 ]
 MADE = """
 CREATE TEMP TABLE long AS SELECT string_agg(translate(md5(n::text), '0123456789cdef', 'abababababaabb'), '') AS value
     FROM generate_series(1, 28125) n;
+CREATE FUNCTION pg_temp.cancelled(value text, pattern text) RETURNS bool LANGUAGE plpgsql AS $$
+BEGIN
+    RETURN value =~ pattern;
+EXCEPTION WHEN query_canceled THEN
+    RETURN NULL;
+END $$;
 """
+# What a search may add that is cancelled before it is counted, in kB, for caches of 1 MB.
+UNCOUNTED = 2048
+# How many patterns are kept, what they hold by the extension, and what malloc gave out.
+ASKED = "SELECT patterns, held + tables, held() - {before} FROM lazydfa_stats()"
 
 
 class Backend:
@@ -57,17 +70,20 @@ def tried(limit, search, count):
     backend.run(MADE)
     backend.ask("SELECT 'a' =~ 'a'")
     backend.run(f"SET lazydfa.cache_size = {limit}")
+    more = UNCOUNTED if search == CANCELLED else 0
+    if more:
+        backend.run("SET lazydfa.pattern_cache_size = 1024; SET statement_timeout = 40")
     (before,) = backend.numbers("SELECT held() - (SELECT held + tables FROM lazydfa_stats())")
     ratio, over, faults = 0, 0, []
     for at in range(count):
         pattern = f"'[ab]{{{8 + at % 5}}}c|[ab]{{{9 + at % 3}}}x{at}'"
         backend.ask(f"SELECT {search} FROM long, (SELECT {pattern} AS pattern) it")
-        kept, reported, malloc = backend.numbers(f"SELECT patterns, held + tables, held() - {before} FROM lazydfa_stats()")
+        kept, reported, malloc = backend.numbers(ASKED.format(before=before))
         ratio, over = max(ratio, malloc / reported), max(over, reported - limit * 1024)
         if malloc > 1.1 * reported:
             faults.append(f"{search}, pattern {at}: malloc gave out {malloc}, and {reported} are reported")
-        if reported > limit * 1024 and kept > 1:
-            faults.append(f"{search}, pattern {at}: {reported} are held by {kept} patterns, and the limit is {limit} kB")
+        if reported > (limit + more) * 1024 and kept > 1:
+            faults.append(f"{search}, pattern {at}: {kept} patterns hold {reported} bytes, and the limit is {limit} kB")
     backend.end()
     print(f"{count} patterns by {search}, {limit} kB: {kept} kept, {reported // 1024} kB reported,", end=" ")
     print(f"malloc up to {ratio:.2f} of it, over the limit by {max(over, 0) // 1024} kB")

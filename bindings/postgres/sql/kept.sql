@@ -62,7 +62,7 @@ RESET lazydfa.pattern_cache_size;
 DROP TABLE hashes;
 DROP FUNCTION search, in_pieces;
 
--- The tables of one pattern, its length and its classes: for the superuser to set
+-- The tables of one pattern, its length and its classes, and pieces: for the superuser to set
 SET lazydfa.pattern_size = 64;
 SELECT 'a' =~ 'a{9000}';
 RESET lazydfa.pattern_size;
@@ -83,6 +83,7 @@ SET ROLE regress_lazydfa;
 SET lazydfa.pattern_size = 64;
 SET lazydfa.pattern_length = 100;
 SET lazydfa.pattern_classes = 100;
+SET lazydfa.piece_size = 100;
 SET lazydfa.cache_size = '1MB';
 RESET ROLE;
 DROP ROLE regress_lazydfa;
