@@ -25,8 +25,9 @@ import subprocess
 import sys
 import tempfile
 
-TOP = os.path.dirname(os.path.dirname(os.path.abspath(__file__)))
-KIT = os.path.dirname(os.path.dirname(os.path.realpath(shutil.which("rt") or sys.exit("there is no rt"))))
+from libraries import KIT, TOP, below, crates_used, has_stamp, is_current, processors, words_over
+
+CRATE = "lazydfa_c"
 C = f"{TOP}/bindings/c"
 STRICT = ["-std=c99", "-Wall", "-Wextra", "-pedantic", "-Werror", "-O1", "-g"]
 SANITIZED = ["-fsanitize=address,undefined", "-fno-sanitize-recover=all"]
@@ -80,46 +81,16 @@ def text(path):
         return it.read()
 
 
-def uses():
-    """Returns what the crate of the library uses, as crates.txt says, and all crates of the repository below it."""
-    lines = [it.partition("#")[0].partition(":") for it in text("crates.txt").splitlines()]
-    named = {head.split()[0]: rest.split() for head, colon, rest in lines if colon}
-    below, more = [], ["lazydfa_c"]
-    while more:
-        new = [it for it in named[more.pop()] if it in named and it not in below]
-        below, more = below + new, more + new
-    return named["lazydfa_c"], below
-
-
-def rlib(name):
-    return f"{TOP}/crates/{name}/out/rlib/{name}.rlib"
-
-
-def is_left_by_ci(name):
-    """Whether rt ci made the rlib, which has no stamp then, and since the crate was last changed."""
-    if not os.path.isdir(rlib(name)) or os.path.exists(f"{os.path.dirname(rlib(name))}/stamp"):
-        return False
-    parts = [f"{TOP}/crates/{name}/{it}" for it in ("src", "specs", "proofs")]
-    files = [f"{at}/{it}" for part in parts for at, _, inside in os.walk(part) for it in inside]
-    return all(os.path.getmtime(it) <= os.path.getmtime(rlib(name)) for it in files)
-
-
 def archive(room):
     """Proves and builds the crate over what rt ci left, and returns the words that have make take it, if it could."""
-    names, below = uses()
-    if not all(is_left_by_ci(it) for it in below):
+    uses = crates_used()
+    if any(has_stamp(it) or not is_current(it) for it in below(CRATE, uses)):
         return []
-    made = f"{room}/liblazydfa_c.a"
-    words = ["--crate-name", "lazydfa_c", "src/lib.rt", "--crate-type", "staticlib", "-L", f"dependency={KIT}/rlibs"]
-    for name in ["std", *names]:
-        words += ["--extern", f"{name}={rlib(name) if name in below else f'{KIT}/rlibs/{name}.rlib'}"]
-    for name in below:
-        words += ["-L", f"dependency={os.path.dirname(rlib(name))}"]
-    words += ["--antt-project", f"{KIT}/rattle/logic/antt-project.json", "--logic-built", f"{KIT}/logic_built"]
-    words += ["--jobs", "1", "--links", "lazydfa_c=", "--toolchain", f"{KIT}/toolchain", "--backend", "llvm"]
-    words += ["-o", made, "--incremental", "out/incremental"]
+    made = f"{room}/lib{CRATE}.a"
+    words = [*words_over(CRATE, "src/lib.rt", uses, min(4, processors())), "--toolchain", f"{KIT}/toolchain"]
+    words += ["--backend", "llvm", "-o", made, "--incremental", "out/incremental"]
     # A build writes its verdict to standard error.
-    how = {"cwd": f"{TOP}/crates/lazydfa_c", "stdin": subprocess.DEVNULL, "stdout": subprocess.PIPE}
+    how = {"cwd": f"{TOP}/crates/{CRATE}", "stdin": subprocess.DEVNULL, "stdout": subprocess.PIPE}
     ran = subprocess.run([f"{KIT}/bin/rattle", "build", *words], stderr=subprocess.STDOUT, errors="replace", **how)
     proved = ran.returncode == 0 and re.search(r"^logic=proved functions=\d+", ran.stdout, re.M)
     print(proved[0] if proved else f"{ran.stdout}status {ran.returncode}: built by rt lib", flush=True)

@@ -5,8 +5,8 @@
 
 The commands of that page, with the folder in place of the one that they name, have to print what `example_words`
 prints. A second call of the script has to bring back a file of the library that was changed, and to leave the program
-alone. Then `rt ci` proves and runs the program there, over what it proved of the library on this machine, if it did:
-the copies of the crates are as they are here.
+alone. Then the crates of the library there have to be those that are here, byte for byte, and the program is proved
+over the libraries that `rt ci` or `rt lib` left here: so the library is not proved a second time.
 
 The last line counts these too, beside what the given line counts. It needs Python 3 and the kit's rt.
 """
@@ -16,7 +16,9 @@ import subprocess
 import sys
 import tempfile
 
-TOP = os.path.dirname(os.path.dirname(os.path.abspath(__file__)))
+from libraries import KIT, PARTS, TOP, below, crates_used, processors, words_over
+
+MODEL = "example_words"
 PAGE = "docs/CALLING.md"
 # The heading of the page, its first lines of code, and the folder that these name.
 HEAD = re.compile(r"^## A repository of your own\n(?:.*\n)*?\n((?:    .*\n)+)", re.M)
@@ -41,7 +43,7 @@ def try_page(folder):
     if not program:
         return f"{PAGE} has no commands under this heading", ""
     status, out, err = run(["sh", "-euc", found[1].replace(FOLDER, folder)], TOP)
-    wrong = status or out != read(f"{TOP}/crates/example_words/stdout")
+    wrong = status or out != read(f"{TOP}/crates/{MODEL}/stdout")
     return f"status {status}\n{out}{err}" if wrong else "", program[1]
 
 
@@ -57,18 +59,44 @@ def try_again(folder, program):
     with open(kept, "r+", encoding="utf-8") as it:
         is_kept = it.read().endswith("// changed\n")
         it.seek(0)
-        it.write(read(f"{TOP}/crates/example_words/src/main.rt"))
+        it.write(read(f"{TOP}/crates/{MODEL}/src/main.rt"))
         it.truncate()
     if (read(changed), sorted(read(listed).split("\n"))) != (before[0], sorted(before[1].split("\n"))):
         return f"status {status}: the library or crates.txt is not as it was\n{out}{err}"
     return "" if is_kept and not status else f"status {status}: the program is not as it was\n{out}{err}"
 
 
-def try_proof(folder):
-    """Returns what is wrong with the gate of the new repository, which proves and runs the program."""
-    status, out, err = run(["rt", "ci"], folder)
+def contents(folder):
+    """Returns what each file below a crate's parts is, by its path from there."""
+    found = {}
+    for part in PARTS:
+        for at, _, names in os.walk(f"{folder}/{part}"):
+            for name in names:
+                with open(f"{at}/{name}", "rb") as it:
+                    found[os.path.relpath(f"{at}/{name}", folder)] = it.read()
+    return found
+
+
+def try_copies(folder, program):
+    """Returns which crates of the new repository are not those that are here, the program that of the example."""
+    pairs = [(it, it) for it in below(MODEL, crates_used())] + [(MODEL, program)]
+    differ = [copy for it, copy in pairs if contents(f"{TOP}/crates/{it}") != contents(f"{folder}/crates/{copy}")]
+    copied = sorted(copy for _, copy in pairs)
+    more = sorted(set(os.listdir(f"{folder}/crates")) - set(copied))
+    return f"not as they are here: {differ}; besides: {more}" if differ or more else ""
+
+
+def try_proof(folder, program):
+    """Returns what is wrong with the proof of the program, over the libraries that were proved here."""
+    uses = crates_used()
+    uses[program] = uses[MODEL]
+    try:
+        words = words_over(program, "src/main.rt", uses, min(4, processors()))
+    except OSError as error:
+        return str(error)
+    status, out, err = run([f"{KIT}/bin/rattle", "check", *words], f"{folder}/crates/{program}")
     last = (out.splitlines() or [""])[-1]
-    return "" if not status and re.match(r"[1-9]\d* passed, 0 failed\b", last) else f"status {status}\n{out}{err}"
+    return "" if status == 0 and last.startswith("logic=proved ") else f"status {status}\n{out}{err}"
 
 
 def main(words):
@@ -80,7 +108,8 @@ def main(words):
         faults = {"the commands of docs/CALLING.md": fault}
         if program:
             faults["a second call"] = try_again(folder, program)
-            faults["the proof of the program"] = try_proof(folder)
+            faults["the copies of the crates"] = try_copies(folder, program)
+            faults["the proof of the program"] = try_proof(folder, program)
         for name, fault in faults.items():
             print(f"a repository of one's own, {name}: {fault or 'passed'}", flush=True)
             passed, failed = passed + (not fault), failed + bool(fault)

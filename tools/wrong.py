@@ -1,7 +1,7 @@
 #!/usr/bin/env python3
 """Tries the wrong bodies of the crates, crates/NAME/wrong/*.edit: the prover has to refuse each of them.
 
-    tools/wrong.py [--folder wrong] [--keep FOLDER] [--write] [CRATE ..] [CRATE/EDIT ..] ['N passed, M failed']
+    tools/wrong.py [--all] [--write] [--folder wrong] [CRATE ..] [CRATE/EDIT ..] ['N passed, M failed']
 
 An edit is written as a must-fail edit of `rt help`. `rt must-fail` checks a crate once for each edit; this puts the
 edits of different functions in at once. They change bodies alone, and a function is proved over the contracts of what
@@ -26,8 +26,9 @@ for one that stands in must-fail/. --write fills these cells in. A clause of the
 as `ensures` if it has none, and where none is refused each goal by the name that a check gives it: `f-requires` is
 what the call f requires, `loop-i-preserved` the invariant of the loop i, `invariant_of-x` that of the type of x.
 
-With --keep, what is refused is noted in that folder by a checksum of all that it was made from (the kit, this script,
-the files of the crate and of those below it, and the edit), and an edit that is noted there is not tried again.
+An edit is not tried if crates/NAME/wrong/verdicts has its key (tools/verdicts.py): all that its verdict rests on is as
+it was when it was refused. --write records the keys of what is refused. Of the edits that are recorded a tenth is tried
+anyway, another one at each commit, so that a line which nobody tried does not stand for long; --all tries all.
 
 It stands on the libraries that `rt ci` (or `rt lib`) left in crates/*/out, and on what `rt check` kept there, if it
 did: else it proves the functions that are changed and what these call. It changes nothing there. The last line counts
@@ -36,8 +37,6 @@ is right. What each crate took of the processors stands on standard error. It ne
 """
 import argparse
 import concurrent.futures
-import functools
-import hashlib
 import os
 import re
 import shutil
@@ -45,11 +44,11 @@ import subprocess
 import sys
 import tempfile
 
-TOP = os.path.dirname(os.path.dirname(os.path.abspath(__file__)))
-KIT = os.path.dirname(os.path.dirname(os.path.realpath(shutil.which("rt") or sys.exit("there is no rt"))))
+from libraries import KIT, PARTS, TOP, crates_used, text, words_over
+from verdicts import is_drawn, key_of, record, recorded
+
 DOCUMENT = f"{TOP}/docs/WRONG_BODIES.md"
-PARTS = ("src", "specs", "proofs")
-REFUSED, PROVED, BAD, UNKNOWN = "REFUSED", "PROVED", "BAD EDIT", "NOT TRIED"
+REFUSED, RECORDED, PROVED, BAD, UNKNOWN = "REFUSED", "RECORDED", "PROVED", "BAD EDIT", "NOT TRIED"
 # A step that uses a name which is not there, and one that rests on a refused one: neither says anything of a goal.
 GONE, RESTS = re.compile(r"has no field|is not in scope|has no `"), "was not admitted"
 GONE_ALONE = "all that is refused is a step that uses a name which it took away"
@@ -59,33 +58,12 @@ UNREAD = re.compile(r"is not in scope|has no field|is no name|operand is missing
 IS_FALSE = "allow values at which this goal is false"
 
 
-def text(path):
-    with open(path, encoding="utf-8") as it:
-        return it.read()
-
-
-def files_of(name):
-    """Returns the files that a check of this crate reads."""
-    walks = (walk for part in PARTS for walk in os.walk(f"{TOP}/crates/{name}/{part}"))
-    return sorted(f"{at}/{it}" for at, _, found in walks for it in found)
-
-
 def link(one, other):
     """Gives what was proved a second name: a check replaces such a file. It writes into others, so they are copied."""
     try:
         os.link(one, other) if one.endswith(".oantt") else shutil.copy2(one, other)
     except OSError:
         shutil.copy2(one, other)
-
-
-@functools.cache
-def is_built(name):
-    """Whether there is a library of this crate as it stands. `rt lib` leaves a stamp there, and goes by that: where it
-    finds the library out of date, it builds it."""
-    rlib = f"{TOP}/crates/{name}/out/rlib/{name}.rlib"
-    if os.path.isfile(f"{os.path.dirname(rlib)}/stamp"):
-        return not subprocess.run(["rt", "lib"], cwd=f"{TOP}/crates/{name}", stdout=sys.stderr).returncode
-    return os.path.isdir(rlib) and all(os.path.getmtime(it) <= os.path.getmtime(rlib) for it in files_of(name))
 
 
 def module_of(file):
@@ -136,7 +114,9 @@ class Edit:
     """An edit: the lines that it changes, by file and number, and the functions that these stand in."""
 
     def __init__(self, path, folder):
-        self.name, self.fault, self.note = os.path.basename(path), "", ""
+        self.name, self.fault = os.path.basename(path)[:-5], ""
+        # What its verdict rests on, and whether it was refused over that.
+        self.key, self.is_recorded = "", False
         self.lines, self.functions = {}, set()
         self.text = text(path)
         try:
@@ -246,41 +226,18 @@ class Crate:
         files = [it for it in files if not wanted or name in wanted or f"{name}/{it[:-5]}" in wanted]
         self.edits, self.seconds, self.checks = [Edit(f"{at}/{it}", self.folder) for it in files], 0.0, 0
 
-    def below(self):
-        """Returns the names of the repository's crates that this one stands on."""
-        found, more = set(), [self.name]
-        while more:
-            new = [it for it in self.uses[more.pop()][0] if it in self.uses and it not in found]
-            found, more = found | set(new), more + new
-        return sorted(found)
-
-    def look_up(self, keep):
-        """Finds where it is noted that an edit was refused."""
-        names = [self.name, *self.below()]
-        sum = hashlib.sha256(repr([(it, self.uses[it]) for it in names]).encode())
-        for file in [__file__, f"{KIT}/KIT-ID", *(it for name in names for it in files_of(name))]:
-            with open(file, "rb") as it:
-                sum.update(repr((os.path.relpath(file, TOP) if file.startswith(TOP) else "", it.read())).encode())
+    def look_up(self, document, tries_all):
+        """Finds which edits are recorded as refused, over all that their verdicts rest on now."""
+        keys = recorded(self.name)
         for edit in self.edits:
-            edit.note = f"{keep}/{hashlib.sha256(repr((sum.hexdigest(), edit.name, edit.text)).encode()).hexdigest()}"
+            edit.key = "" if edit.fault else key_of(edit, self.name, self.uses, document.cell(self.name, edit.name))
+            is_due = tries_all or edit.fault or is_drawn(self.name, edit.name)
+            edit.is_recorded = not is_due and keys.get(edit.name) == edit.key
 
     def words(self):
         """Returns the words that have rattle check the crate over the libraries that are built."""
-        names, is_static = self.uses[self.name]
         root = "src/main.rt" if os.path.isfile(f"{self.folder}/src/main.rt") else "src/lib.rt"
-        words = ["--crate-name", self.name, root, "-L", f"dependency={KIT}/rlibs"]
-        for it in self.below():
-            rlib = f"{TOP}/crates/{it}/out/rlib/{it}.rlib"
-            if not is_built(it):
-                how = f"`rt ci` does that, and `rt lib` in crates/{it}"
-                raise OSError(f"the library {it} is not built as it stands: {how}")
-            words += ["-L", f"dependency={os.path.dirname(rlib)}"]
-            words += ["--extern", f"{it}={rlib}"] if it in names else []
-        for it in ["std", *(it for it in names if it not in self.uses)]:
-            words += ["--extern", f"{it}={KIT}/rlibs/{it}.rlib"]
-        words += ["--antt-project", f"{KIT}/rattle/logic/antt-project.json", "--logic-built", f"{KIT}/logic_built"]
-        words += ["--crate-type", "staticlib"] if is_static else []
-        return [*words, "--jobs", "1", "--links", f"{self.name}="]
+        return words_over(self.name, root, self.uses, 1)
 
     def copy(self, room, edits):
         """Copies the crate into a folder, with these edits."""
@@ -405,9 +362,9 @@ class Crate:
 
     def verdicts(self):
         """Returns each edit with the verdict on it."""
-        noted = [it for it in self.edits if it.note and os.path.isfile(it.note)]
-        left = [it for it in self.edits if not it.fault and it not in noted]
-        found = [(it, BAD, it.fault) for it in self.edits if it.fault] + [(it, REFUSED, text(it.note)) for it in noted]
+        left = [it for it in self.edits if not it.fault and not it.is_recorded]
+        found = [(it, BAD, it.fault) for it in self.edits if it.fault]
+        found += [(it, RECORDED, "") for it in self.edits if it.is_recorded]
         with tempfile.TemporaryDirectory(prefix="wrong-") as room:
             self.kept = f"{room}/kept"
             if left and os.path.isdir(f"{self.folder}/out/incremental"):
@@ -438,6 +395,11 @@ class Document:
         """Returns the crate that a row names by a part of its name."""
         return next((it for it in self.uses if word == it or word in it.split("_")), word)
 
+    def cell(self, crate, edit):
+        """Returns what the edit's row says of where it is refused."""
+        found = self.rows.get((crate, edit), [])
+        return found[0][1] if len(found) == 1 else ""
+
     def want(self, crate, edit, cell, writes):
         """Compares the last cell of the edit's row, or writes it."""
         found = self.rows.get((crate, edit), [])
@@ -465,16 +427,6 @@ class Document:
                 it.write("\n".join(self.lines))
 
 
-def crates_used():
-    """Returns what each crate uses, as crates.txt says, and whether it is a static library."""
-    uses = {}
-    for line in text(f"{TOP}/crates.txt").splitlines():
-        head, colon, rest = line.partition("#")[0].partition(":")
-        if colon:
-            uses[head.split()[0]] = rest.split(), "staticlib" in head.split()[1:]
-    return uses
-
-
 def tried(crates):
     """Yields each edit of the crates with the verdict on it, crates side by side, those with most edits first."""
 
@@ -488,16 +440,26 @@ def tried(crates):
     with concurrent.futures.ThreadPoolExecutor(lanes) as pool:
         for crate, result in [(it, pool.submit(work, it)) for it in sorted(crates, key=lambda it: -len(it.edits))]:
             for edit, kind, what in result.result():
-                print(f"{crate.name}/{edit.name}: {kind}{' at ' if kind == REFUSED else ': '}{what}", flush=True)
+                said = {REFUSED: f" at {what}", RECORDED: " as refused"}.get(kind, f": {what}")
+                print(f"{crate.name}/{edit.name}: {kind}{said}", flush=True)
                 yield crate, edit, kind, what
             took = f"{len(crate.edits)} edits, {crate.checks} checks, {crate.seconds:.0f} s"
             print(f"{crate.name}: {took}", file=sys.stderr)
 
 
+def write(crates, document, cells):
+    """Records what was refused, by the keys with the cells that the document has now."""
+    for crate in crates:
+        refused = [it for it in crate.edits if (crate.name, it.name) in cells]
+        keys = {it.name: key_of(it, crate.name, crate.uses, document.cell(crate.name, it.name)) for it in refused}
+        if keys:
+            record(crate.name, keys)
+
+
 def main():
     words = argparse.ArgumentParser(usage="\n".join(__doc__.split("\n")[2:3]))
     words.add_argument("--folder", default="wrong")
-    words.add_argument("--keep")
+    words.add_argument("--all", action="store_true")
     words.add_argument("--write", action="store_true")
     words.add_argument("names", nargs="*")
     given = words.parse_args()
@@ -507,26 +469,25 @@ def main():
     passed, failed = (int(found[1]), int(found[2])) if found else (0, 1)
     uses = crates_used()
     crates = [it for it in (Crate(name, uses, given.folder, names) for name in uses) if it.edits]
-    known = {f"{it.name}/{edit.name[:-5]}" for it in crates for edit in it.edits}
+    known = {f"{it.name}/{edit.name}" for it in crates for edit in it.edits}
     for name in sorted(names - known - set(uses)):
         print(f"{name}: there is no such edit in {given.folder}/")
         failed += 1
-    for crate in crates if given.keep else []:
-        os.makedirs(given.keep, mode=0o700, exist_ok=True)
-        crate.look_up(given.keep)
     document, cells = Document(uses), {}
+    for crate in crates:
+        crate.look_up(document, given.all or given.folder != "wrong")
     for crate, edit, kind, what in tried(crates):
         if kind == REFUSED:
-            cells[crate.name, edit.name[:-5]] = what
-            if edit.note:
-                with open(edit.note, "w", encoding="utf-8") as it:
-                    it.write(what)
-        passed, failed = passed + (kind == REFUSED), failed + (kind != REFUSED)
+            cells[crate.name, edit.name] = what
+        is_right = kind in (REFUSED, RECORDED)
+        passed, failed = passed + is_right, failed + (not is_right)
     if given.folder == "wrong":
         document.compare(cells, not names, given.write)
         for fault in document.faults or ["each edit has its row"]:
             print(f"docs/WRONG_BODIES.md: {fault}")
         passed, failed = passed + (not document.faults), failed + len(document.faults)
+        if given.write:
+            write(crates, Document(uses), cells)
     print(f"{passed} passed, {failed} failed")
     return 1 if failed else 0
 

@@ -4,9 +4,10 @@
     tools/wrong_test.py ['N passed, M failed']
 
 The repository has a crate with one function that is not proved as it stands, and a crate over a library that nobody
-built. Each edit has to get the verdict that stands beside it below. Further runs try nothing anew, since what was
-refused is kept: they compare the document, fill it in, and find it right. The last line counts these too, beside what
-the given line counts. It needs the kit's rt and Python 3, and takes about a minute of a processor.
+built. Each edit has to get the verdict that stands beside it below. Further runs fill the document in and record what
+was refused, and try none of that again. Then parts of the repository are changed, one at a time: the verdicts that rest
+on such a part have to be due, and no others. The last line counts these too, beside what the given line counts. It needs
+git, the kit's rt and Python 3, and takes about a minute of a processor.
 """
 import os
 import re
@@ -15,7 +16,18 @@ import subprocess
 import sys
 import tempfile
 
-TOOL = f"{os.path.dirname(os.path.abspath(__file__))}/wrong.py"
+TOOLS = [f"{os.path.dirname(os.path.abspath(__file__))}/{it}.py" for it in ("libraries", "verdicts", "wrong")]
+# Prints the name of each edit, whether it is tried at this commit anyway, and its key.
+KEYS = """
+import wrong, verdicts
+uses = wrong.crates_used()
+document = wrong.Document(uses)
+for name in uses:
+    crate = wrong.Crate(name, uses, "wrong", set())
+    crate.look_up(document, False)
+    for it in crate.edits:
+        print(f"{name}/{it.name}", verdicts.is_drawn(name, it.name), it.key)
+"""
 
 FILES = {
     "crates.txt": "low:\ntop: low\n",
@@ -26,6 +38,13 @@ ghost use Rattle.std.specs.Prelude.{◌≡◌, ◌≤◌};
 
 pub mod most;
 pub mod pair;
+
+#[cfg(test)]
+macro_rules! is_low {
+    ($x:expr) => {
+        $x <= 9
+    };
+}
 
 pub fn limit() -> u8
     ensures { result ≡ 9 }
@@ -119,7 +138,21 @@ impl From<u8> for Pair {
     }
 }
 """,
+    "crates/low/specs/Lib.antt": "pub mod Small\n",
+    "crates/low/specs/Small.antt": """-- nine
+use Rattle.std.specs.Prelude.{ℕ}
+
+abbrev pub nine : ℕ
+nine = 9
+""",
+    "crates/low/proofs/Lib.antt": "mod Lemmas\n",
+    "crates/low/proofs/Lemmas.antt": """use Rattle.std.proofs.Common.{ℕ, ◌≡◌, refl}
+
+pub same : (n : ℕ) → n ≡ n
+same n = refl
+""",
     "crates/low/proofs/greater/Answers.antt": """use Rattle.std.proofs.Common.{arith}
+use Rattle.low.proofs.Lemmas.{same}
 use Rattle.low.proofs.greater.Goals as goal
 
 pub returns-else-a-b-clause-right : goal.returns-else-a-b-clause-right
@@ -177,6 +210,30 @@ EDITS = [
     ("stands_never", "lib", "limits()", "limit()", "BAD EDIT: an 'old:' text stands in src/lib.rt 0 times"),
     ("changes_nothing", "lib", "two + two", "two + two", "BAD EDIT: it changes nothing"),
 ]
+# What is changed, the file, its old and new text, and which verdicts are due then: all of the crate, or some. An edit of
+# a line outside of any body rests on everything.
+ALL = {name for name, _, old, new, _ in EDITS} - {"stands_twice", "stands_never", "changes_nothing"}
+LOW = "crates/low"
+CHANGES = [
+    ("the body of another function", f"{LOW}/src/lib.rt", "    x / 2", "    x / 2 + 0",
+     {"half_a_is_all", "half_b_is_a_third", "most_is_eight"}),
+    ("a comment in a body", f"{LOW}/src/lib.rt", "    two + two", "    // both\n    two + two",
+     {"four_times_and_one", "most_is_eight"}),
+    ("a contract of a callee", f"{LOW}/src/lib.rt", "ensures { result ≡ 9 }", "ensures { result ≤ 9 }", ALL),
+    ("a constant", f"{LOW}/src/most.rt", "MOST: u8 = 9", "MOST: u8 = 4 + 5", ALL),
+    ("a macro", f"{LOW}/src/lib.rt", "$x <= 9", "$x < 10", ALL),
+    ("a type's invariant", f"{LOW}/src/pair.rt", "first ≤ second", "second ≤ first", ALL),
+    ("a definition", f"{LOW}/specs/Small.antt", "nine = 9", "nine = 8 + 1", ALL),
+    ("what a crate uses", "crates.txt", "low:\n", "low: anyhow\n", ALL),
+    ("a lemma", f"{LOW}/proofs/Lemmas.antt", "same n = refl", "same m = refl", {"greater_renamed", "most_is_eight"}),
+    ("a proof", f"{LOW}/proofs/pair/Pair/raise/Answers.antt", "first = refl;", "first = refl ;",
+     {"raise_by_one", "most_is_eight"}),
+    ("the proof of another function", f"{LOW}/proofs/loose/Answers.antt", "omega arith", "omega (arith)",
+     {"loose_is_half", "most_is_eight"}),
+    ("an edit", f"{LOW}/wrong/widen_by_two.edit", "raise(2)", "raise(3)", {"widen_by_two"}),
+    ("a cell", "docs/WRONG_BODIES.md", "| at most 9 | ", "| at most 9 | not ", {"clamp_a_is_nineteen"}),
+    ("the script", "tools/wrong.py", "import argparse", "import argparse  # new", ALL),
+]
 FAULTS = [
     "low/clamp_a_is_nineteen: `least` of `clamp`, and not: `most`, `same` of `clamp`",
     "low/raise_by_one: nothing, and not: `second` of `Pair::raise`",
@@ -201,7 +258,11 @@ def write(room):
     with open(f"{room}/crates/top/wrong/zero_is_one.edit", "w", encoding="utf-8") as it:
         it.write("file: src/lib.rt\nold:     0\nnew:     1\n")
     os.mkdir(f"{room}/tools")
-    shutil.copy(TOOL, f"{room}/tools/wrong.py")
+    for tool in TOOLS:
+        shutil.copy(tool, f"{room}/tools")
+    author = ["-c", "user.name=it", "-c", "user.email=it@it"]
+    for words in (["init", "-q"], ["add", "-A"], [*author, "commit", "-qm", "it"]):
+        subprocess.run(["git", *words], cwd=room, check=True)
 
 
 class Tests:
@@ -212,7 +273,7 @@ class Tests:
 
     def run(self, *words):
         """Runs the tool, and returns its status, the lines that it wrote, and how many checks it made."""
-        words = [f"{self.room}/tools/wrong.py", "--keep", f"{self.room}/kept", *words]
+        words = [f"{self.room}/tools/wrong.py", *words]
         ran = subprocess.run(words, stdin=subprocess.DEVNULL, capture_output=True, text=True)
         checks = sum(int(it) for it in re.findall(r"(\d+) checks", ran.stderr))
         return ran.returncode, ran.stdout.splitlines(), checks
@@ -225,8 +286,8 @@ class Tests:
         status, lines, checks = self.run("5 passed, 2 failed")
         edits = [(f"low/{name}", verdict) for name, _, _, _, verdict in EDITS]
         for name, verdict in [*edits, ("top/zero_is_one", "NOT TRIED: the library low is not built")]:
-            said = next((it for it in lines if it.startswith(f"{name}.edit: ")), "")
-            self.want(name, said.startswith(f"{name}.edit: {verdict}"), said)
+            said = next((it for it in lines if it.startswith(f"{name}: ")), "")
+            self.want(name, said.startswith(f"{name}: {verdict}"), said)
         for fault in FAULTS:
             self.want(fault, f"docs/WRONG_BODIES.md: {fault}" in lines, lines)
         refused = sum(verdict.startswith("REFUSED") for _, _, _, _, verdict in EDITS)
@@ -235,17 +296,44 @@ class Tests:
         self.want("the sum", status == 1 and lines[-1:] == [sums], [status, sums, *lines[-1:]])
         self.want("the checks are few", checks <= 8, checks)
 
-    def try_kept(self):
-        """What was refused is kept, and the document is compared with that."""
+    def try_recorded(self):
+        """What was refused is recorded, and not tried again, but for a tenth of all."""
         named = ["low/clamp_a_is_nineteen", "low/raise_by_one"]
-        first, again = self.run(*named), self.run("--write", *named)
-        last = self.run("5 passed, 0 failed", *named)
-        self.want("nothing is tried again", not first[2] + again[2] + last[2], [first, again, last])
-        self.want("what is kept is compared", first[0] == 1 and first[1][-1] == "2 passed, 2 failed", first)
-        self.want("--write fills the cells in", not again[0], again)
-        self.want("a right document passes", not last[0] and last[1][-1] == "8 passed, 0 failed", last)
+        first, again = self.run("--write", *named), self.run("5 passed, 0 failed", *named)
+        drawn = [it for it in named if self.keys()[it][0] == "True"]
+        self.want("--write fills the cells in", not first[0], first)
+        said = [f"{it}: RECORDED as refused" for it in named if it not in drawn]
+        self.want("what is recorded counts", all(it in again[1] for it in said), again)
+        self.want("nothing else is tried", bool(again[2]) == bool(drawn), again)
+        self.want("a right document passes", not again[0] and again[1][-1] == "8 passed, 0 failed", again)
+        tried = self.run("--all", *named)
+        self.want("--all tries what is recorded", tried[2] and "RECORDED" not in repr(tried[1]), tried)
         unknown = self.run("low/is_no_edit")
         self.want("an edit that is not there fails", unknown[0] == 1, unknown)
+
+    def keys(self):
+        """Returns the key of each edit, and whether it is tried anyway."""
+        ran = subprocess.run([sys.executable, "-c", KEYS], cwd=f"{self.room}/tools", capture_output=True, text=True)
+        return {it.split()[0]: it.split()[1:] for it in ran.stdout.splitlines()}
+
+    def try_changes(self):
+        """What a verdict rests on is in its key, and what it does not rest on is not."""
+        before = self.keys()
+        for name, file, old, new, wanted in CHANGES:
+            with open(f"{self.room}/{file}", encoding="utf-8") as it:
+                kept = it.read()
+            with open(f"{self.room}/{file}", "w", encoding="utf-8") as it:
+                it.write(kept.replace(old, new, 1))
+            self.want(f"{name} makes verdicts due", self.due(before) == wanted and old in kept, self.due(before))
+            with open(f"{self.room}/{file}", "w", encoding="utf-8") as it:
+                it.write(kept)
+        os.rename(f"{self.room}/{LOW}/src/most.rt", f"{self.room}/{LOW}/src/least.rt")
+        self.want("a renamed file makes verdicts due", self.due(before) >= ALL - {"most_is_eight"}, self.due(before))
+
+    def due(self, before):
+        """Returns the edits of the crate `low` whose keys are others than before, of those that can be applied."""
+        now = self.keys()
+        return {it[4:] for it, key in now.items() if it.startswith("low/") and it[4:] in ALL and key != before.get(it)}
 
 
 def main(words):
@@ -255,7 +343,8 @@ def main(words):
         write(room)
         tests = Tests(room)
         tests.try_all()
-        tests.try_kept()
+        tests.try_recorded()
+        tests.try_changes()
     print(f"{passed + tests.passed} passed, {failed + tests.failed} failed")
     return 1 if failed + tests.failed else 0
 

@@ -1,0 +1,134 @@
+"""What the verdict on a wrong body rests on, as a key: if the key is the one that is recorded, so is the verdict.
+
+A function is proved over the contracts of what it calls, so the proof of a function with an edit reads the edit, the
+function itself, everything of its crate and of the crates below but the bodies of their functions, all definitions of
+these crates, the function's own proof files, and the lemma files that these and its source file import, one through
+another. The key is a checksum of all that, of the kit, of the scripts that try edits, and of the cell of
+docs/WRONG_BODIES.md which says where the edit is refused.
+
+crates/NAME/wrong/verdicts has a line for each edit that was refused: its name and its key.
+"""
+import functools
+import hashlib
+import os
+import re
+import subprocess
+
+from libraries import KIT, TOP, below, files_of, text
+
+SCRIPTS = [f"{TOP}/tools/{it}.py" for it in ("libraries", "verdicts", "wrong")]
+FUNCTION = re.compile(r"( *)((?:pub(?:\([^)]*\))? |const |unsafe |extern \"C\" )*)fn (\w+)")
+# Whatever names a module of specs or proofs, with the name that is imported as a last part, or without.
+IMPORT = re.compile(r"Rattle\.(\w+)\.(specs|proofs)\.([^\s{},;()]+)")
+
+
+def body_at(lines, first):
+    """Returns the first and the last line of the body of the function that begins at a line, or None if it has none that
+    is laid out as rt fmt does: from a line that ends in { to the first line that is }, both indented as `fn` is."""
+    found = FUNCTION.match(lines[first])
+    if not found or "const " in found[2]:
+        return None
+    indent = found[1]
+    opening = re.compile(rf"{indent}({{|\S.*{{)$")
+    for begins in range(first, len(lines)):
+        if opening.match(lines[begins]):
+            ends = next((it for it in range(begins, len(lines)) if lines[it] == f"{indent}}}"), None)
+            return None if ends is None else (begins, ends)
+        if lines[begins].rstrip().endswith((";", "{}")) or begins > first and FUNCTION.match(lines[begins]):
+            return None
+    return None
+
+
+@functools.cache
+def outline(file):
+    """Returns the text of a source file without bodies of functions, and the lines of these bodies."""
+    lines, kept, bodies, at = text(file).split("\n"), [], [], 0
+    while at < len(lines):
+        body = body_at(lines, at)
+        if body:
+            kept += [*lines[at : body[0] + 1], lines[body[1]]]
+            bodies.append(body)
+        else:
+            kept.append(lines[at])
+        at = body[1] + 1 if body else at + 1
+    return "\n".join(kept), bodies
+
+
+@functools.cache
+def digest(file, is_whole):
+    """Returns a checksum of a file: of all of it, or without the bodies of its functions."""
+    return hashlib.sha256((text(file) if is_whole else outline(file)[0]).encode()).hexdigest()
+
+
+def bodies_of(edit, folder):
+    """Returns the bodies in which the edit changes lines; of a line that stands in none the whole file."""
+    found = []
+    for file, number in sorted(edit.lines):
+        lines = text(f"{folder}/{file}").split("\n")
+        bodies = outline(f"{folder}/{file}")[1] if file.endswith(".rt") else []
+        inside = [it for it in bodies if it[0] <= number <= it[1]]
+        found += ["\n".join(lines[first : last + 1]) for first, last in inside] or ["\n".join(lines)]
+    return found
+
+
+def lemma_files(files, names):
+    """Returns these files, and the files of proofs/ of these crates that they import, one through another."""
+    found, more = set(), list(files)
+    while more:
+        file = more.pop()
+        if file in found:
+            continue
+        found.add(file)
+        for crate, part, path in IMPORT.findall(text(file)):
+            words = path.strip(".").split(".")
+            tried = (f"{TOP}/crates/{crate}/{part}/{'/'.join(words[:n])}.antt" for n in range(len(words), 0, -1))
+            more += [it for it in [next((it for it in tried if os.path.isfile(it)), "")] if it and crate in names]
+    return sorted(found)
+
+
+def proof_files(edit, folder):
+    """Returns the files below proofs/ of the functions that the edit changes, and of others of these names."""
+    names = {(it or "").rpartition("::")[2] for it in edit.functions}
+    walks = [(at, found) for at, _, found in os.walk(f"{folder}/proofs")]
+    own = [it for it in walks if names & {part.replace("+", "") for part in it[0].split("/")}]
+    return [f"{at}/{it}" for at, found in (own if None not in edit.functions else walks) for it in found]
+
+
+def key_of(edit, crate, uses, cell):
+    """Returns the key of an edit of a crate, with the cell of the document."""
+    folder, names = f"{TOP}/crates/{crate}", [crate, *below(crate, uses)]
+    files = [it for name in names for it in files_of(name) if "/proofs/" not in it[len(f"{TOP}/crates/{name}") :]]
+    sources = [f"{folder}/{file}" for file, _ in sorted(edit.lines)]
+    lemmas = lemma_files([*sources, *proof_files(edit, folder)], names)
+    rests = [(it, digest(it, it.endswith(".antt") or None in edit.functions)) for it in files]
+    rests += [(it, digest(it, True)) for it in lemmas if it not in sources]
+    rests = [(os.path.relpath(it, TOP), sum) for it, sum in rests]
+    rests += [(os.path.relpath(it, TOP), digest(it, True)) for it in SCRIPTS]
+    said = [edit.name, edit.text, bodies_of(edit, folder), [(it, uses[it]) for it in names], cell, rests]
+    return hashlib.sha256(repr([text(f"{KIT}/KIT-ID"), said]).encode()).hexdigest()
+
+
+def recorded(crate):
+    """Returns the recorded key of each edit of a crate."""
+    file = f"{TOP}/crates/{crate}/wrong/verdicts"
+    return dict(it.split() for it in text(file).splitlines()) if os.path.isfile(file) else {}
+
+
+def record(crate, keys):
+    """Records the keys of edits of a crate in place of those that they had."""
+    folder = f"{TOP}/crates/{crate}/wrong"
+    kept = {it: key for it, key in (recorded(crate) | keys).items() if os.path.isfile(f"{folder}/{it}.edit")}
+    with open(f"{folder}/verdicts", "w", encoding="utf-8") as it:
+        it.write("".join(f"{name} {key}\n" for name, key in sorted(kept.items())))
+
+
+@functools.cache
+def commit():
+    """Returns the commit that is checked out, or a word that is new each time."""
+    ran = subprocess.run(["git", "rev-parse", "HEAD"], cwd=TOP, capture_output=True, text=True)
+    return ran.stdout.strip() if ran.returncode == 0 else os.urandom(8).hex()
+
+
+def is_drawn(crate, edit):
+    """Whether an edit is one of the tenth that is tried at this commit, whatever is recorded."""
+    return int(hashlib.sha256(f"{commit()} {crate} {edit}".encode()).hexdigest(), 16) % 10 == 0
