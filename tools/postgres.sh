@@ -271,6 +271,8 @@ costly() {
 lazydfa_count('a', '[a-f].{50000}x')
 lazydfa_count('a', repeat('()', 32768))
 (lazydfa_tokens('a', array_fill('a'::text, array[65536]))).pattern
+count(*) FROM small WHERE s =~* repeat('\PL', 21800)
+count(*) FROM small WHERE s =~* repeat('\PL', 2000)
 END
 }
 
@@ -288,7 +290,9 @@ END
 }
 
 test_costly() {
-    sql -c "CREATE ROLE joe LOGIN"
+    sql -c "CREATE ROLE joe LOGIN" -c "CREATE TABLE small AS SELECT md5(n::text) AS s FROM generate_series(1, 1000) n" \
+        -c "CREATE INDEX ON small(s text_pattern_ops)" -c "CREATE INDEX ON small(s)" -c "GRANT SELECT ON small TO joe" \
+        -c "ANALYZE small"
     costly >"$room/costly"
     while read -r search; do
         started=$(milliseconds)

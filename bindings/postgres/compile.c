@@ -41,7 +41,7 @@ void fail(lazydfa_status status) {
                 errhint("Write (?-u:\\b) for a word boundary of ASCII."));
     if (status.code == LAZYDFA_TOO_LARGE || status.code == LAZYDFA_STATE_IDS)
         ereport(ERROR, errcode(ERRCODE_PROGRAM_LIMIT_EXCEEDED), errmsg("regular expression is too large"),
-                errhint("The limits are lazydfa.pattern_size and lazydfa.pattern_classes."));
+                errhint("lazydfa.pattern_size is the limit."));
     ereport(ERROR, errcode(sqlstate_of(status.code)),
             errmsg("regular expression failed: %s", lazydfa_code_text(status.code)),
             status.code == LAZYDFA_NOT_TEXT
@@ -67,6 +67,12 @@ bool limit_length(Datum patterns, uint32 flags) {
     size_t length = toast_raw_datum_size(patterns);
     if (length <= (flags & IS_LIST ? longest_array() : (size_t)setting_pattern_length + VARHDRSZ)) return true;
     return too_long(flags);
+}
+
+size_t class_escapes(const char *text, size_t length) {
+    size_t count = 0;
+    for (size_t i = 1; i < length; i++) count += text[i - 1] == '\\' && text[i] && strchr("dDpPsSwW", text[i]);
+    return count;
 }
 
 /* Patterns, how they are compiled, and what was wrong with them. */
@@ -167,6 +173,16 @@ static lazydfa_status open_patterns(Kept *kept, Source *source) {
     return open_regex(kept, source);
 }
 
+/* Reports patterns that have too many classes, if they do. */
+static void limit_classes(const Source *source) {
+    size_t count = 0;
+    for (size_t i = 0; i < source->count; i++)
+        count += class_escapes(source->texts[i].text, source->texts[i].length);
+    if (count > source->options.class_limit)
+        ereport(ERROR, errcode(ERRCODE_PROGRAM_LIMIT_EXCEEDED), errmsg("regular expression has too many classes"),
+                errdetail("lazydfa.pattern_classes allows %d escapes \\d, \\p, \\s or \\w.", setting_pattern_classes));
+}
+
 /* Reports that a pattern was refused. The library's message has a line for what is wrong, then the pattern and
    carets. */
 static NEVER_RETURNS(void refuse(lazydfa_status status, const Source *source));
@@ -176,6 +192,7 @@ static void refuse(lazydfa_status status, const Source *source) {
     const lazydfa_text *refused = &source->texts[refusal->pattern];
     const char *message = source->message, *end = strchr(message, '\n');
     StringInfoData where;
+    if (status.code == LAZYDFA_TOO_LARGE) limit_classes(source);
     if (!end || status.code == LAZYDFA_MEMORY || status.code == LAZYDFA_TOO_LARGE) fail(status);
     initStringInfo(&where);
     if (source->count > 1) appendStringInfo(&where, "Pattern %zu of the array", refusal->pattern + 1);

@@ -18,6 +18,7 @@
 #include "nodes/supportnodes.h"
 #include "utils/builtins.h"
 #include "utils/lsyscache.h"
+#include "utils/memutils.h"
 #include "utils/pg_locale.h"
 
 /* The strategy of LIKE in the operator families of pg_trgm. */
@@ -47,23 +48,37 @@ static size_t whole_characters(const char *bytes, size_t length) {
     return at;
 }
 
-/* Reads a pattern for what is known of its matches. False if it is none. */
-static bool know(Known *known, const text *pattern, uint32 flags) {
-    lazydfa_text_options options = text_options(flags);
+/* Reads a pattern for what is known of its matches. False if it is not one, or beyond the limits. */
+static bool read_facts(Known *known, const Key *key) {
+    lazydfa_text_options options = text_options(key->flags);
     lazydfa_facts *facts = &known->facts;
-    size_t length;
-    CHECK_FOR_INTERRUPTS();
-    if (VARSIZE_ANY_EXHDR(pattern) > options.text_limit) return false;
-    if (lazydfa_text_facts(VARDATA_ANY(pattern), VARSIZE_ANY_EXHDR(pattern), &options, facts, known->bytes, MOST_BYTES,
-                           known->lengths, MOST_LITERALS)
-            .code != LAZYDFA_OK)
-        return false;
-    length = Min(facts->prefix, MOST_BYTES);
+    lazydfa_status status;
+    if (key->length > options.text_limit || class_escapes(key->bytes, key->length) > options.class_limit) return false;
+    status = lazydfa_text_facts(key->bytes, key->length, &options, facts, known->bytes, MOST_BYTES, known->lengths,
+                                MOST_LITERALS);
+    if (status.code != LAZYDFA_OK) return false;
     known->prefix = (const char *)known->bytes;
-    known->prefix_length = whole_characters(known->prefix, length);
+    known->prefix_length = whole_characters(known->prefix, Min(facts->prefix, MOST_BYTES));
     known->is_exact =
         facts->anchored_start && facts->anchored_end && facts->exact && known->prefix_length == facts->prefix;
     return true;
+}
+
+/* What is known of a pattern's matches; NULL if nothing is. The planner asks for each index of a table, so this is kept
+   for the pattern that was asked about last. */
+static const Known *know(const text *pattern, uint32 flags) {
+    static Key last = {NULL, 0, 0};
+    static Known known;
+    static bool is_known;
+    Key key = {VARDATA_ANY(pattern), VARSIZE_ANY_EXHDR(pattern), flags};
+    if (!last.bytes || key.length != last.length || flags != last.flags || memcmp(key.bytes, last.bytes, key.length)) {
+        char *copy = MemoryContextAlloc(TopMemoryContext, Max(key.length, 1));
+        memcpy(copy, key.bytes, key.length);
+        if (last.bytes) pfree((char *)last.bytes);
+        last = (Key){copy, key.length, flags};
+        is_known = read_facts(&known, &last);
+    }
+    return is_known ? &known : NULL;
 }
 
 /* An operator of the index between its column and a text. */
@@ -172,15 +187,17 @@ static List *conditions_of(SupportRequestIndexCondition *request, uint32 flags) 
     List *args = is_opclause(request->node)     ? ((OpExpr *)request->node)->args
                  : is_funcclause(request->node) ? ((FuncExpr *)request->node)->args
                                                 : NIL;
+    const Known *known;
     const Const *pattern;
-    Known known;
     if (list_length(args) != 2 || request->indexarg != 0 || !IsA(lsecond(args), Const)) return NIL;
     pattern = lsecond(args);
     if (pattern->constisnull || pattern->consttype != TEXTOID || exprType(linitial(args)) != TEXTOID) return NIL;
     if (GetDatabaseEncoding() != PG_UTF8 || !(is_ordered(request) || is_by_trigrams(request))) return NIL;
-    if (!know(&known, DatumGetTextPP(pattern->constvalue), flags)) return NIL;
-    if (is_by_trigrams(request)) return likes_of(request, linitial(args), &known);
-    return range_of(request, linitial(args), &known);
+    CHECK_FOR_INTERRUPTS();
+    known = know(DatumGetTextPP(pattern->constvalue), flags);
+    if (!known) return NIL;
+    if (is_by_trigrams(request)) return likes_of(request, linitial(args), known);
+    return range_of(request, linitial(args), known);
 }
 
 /* What a function offers the planner. */
