@@ -13,7 +13,7 @@
 #define BUCKETS 1024
 
 /* What tables hold of malloc: so many bytes for each of their size, in one direction and in both, and these beside.
-   It was measured to be less for each kind of pattern, by half at most. */
+   Measured, it is less for each kind of pattern, often by half. */
 #define HELD_FORWARD 6
 #define HELD_BOTH 13
 #define HELD_BESIDE 14000

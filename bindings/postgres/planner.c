@@ -21,6 +21,10 @@
 #include "utils/memutils.h"
 #include "utils/pg_locale.h"
 
+/* Patterns that are longer, or have more class escapes, are not read for a plan: it takes longer than it is worth. */
+#define LONGEST 8192
+#define MOST_CLASSES 200
+
 /* The strategy of LIKE in the operator families of pg_trgm. */
 #define LIKE_STRATEGY 3
 #define MOST_LITERALS 16
@@ -48,12 +52,12 @@ static size_t whole_characters(const char *bytes, size_t length) {
     return at;
 }
 
-/* Reads a pattern for what is known of its matches. False if it is not one, or beyond the limits. */
+/* Reads a pattern for what is known of its matches. False if it is not one, or is not read. */
 static bool read_facts(Known *known, const Key *key) {
     lazydfa_text_options options = text_options(key->flags);
     lazydfa_facts *facts = &known->facts;
     lazydfa_status status;
-    if (key->length > options.text_limit || class_escapes(key->bytes, key->length) > options.class_limit) return false;
+    if (key->length > LONGEST || class_escapes(key->bytes, key->length) > MOST_CLASSES) return false;
     status = lazydfa_text_facts(key->bytes, key->length, &options, facts, known->bytes, MOST_BYTES, known->lengths,
                                 MOST_LITERALS);
     if (status.code != LAZYDFA_OK) return false;

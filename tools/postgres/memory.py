@@ -13,18 +13,24 @@ import subprocess
 import sys
 
 CANCELLED = "pg_temp.cancelled(value, '(a|b)*a(a|b){14}c|' || pattern)"
-# A limit in kB, a search by one of the patterns, and how many patterns there are.
+ALIKE = [f"[ab]{{{8 + at % 5}}}c|[ab]{{{9 + at % 3}}}x{at}" for at in range(300)]
+VARIOUS = ["(a|b)*a(a|b){6}c", "[0-9]{4}-[0-9]{2}-[0-9]{2}", r"(?-u:\b)[0-9]+(?-u:\b)", "[ab]{10}c|[ab]{9}d"]
+VARIOUS += ["[a-q][^u-z]{5}x", "foo|bar|baz|quux", "[a-z]+", '"[^"]*"', "(?i)sherlock|holmes|watson", "a.{8}b"]
+VARIOUS += [r"\pL+ \pL+", r"\w+@\w+"]
+# A limit in kB, a search by one of some patterns, and these.
 CASES = [
-    (2048, "value =~ pattern", 300),
-    (65536, "value =~ pattern", 300),
-    (1024, "lazydfa_count(value, pattern) > 0", 60),
-    (1024, "lazydfa_which(value, array[pattern, 'b{20}']) <> '{}'", 60),
-    (4096, CANCELLED, 30),
-    (8192, "value =~* ('(?i)' || pattern || '|\\w{9}z')", 60),
+    (65536, "mixed =~ pattern", VARIOUS),
+    (65536, "lazydfa_count(mixed, pattern) >= 0", VARIOUS),
+    (2048, "value =~ pattern", ALIKE),
+    (65536, "value =~ pattern", ALIKE),
+    (1024, "lazydfa_count(value, pattern) > 0", ALIKE[:60]),
+    (1024, "lazydfa_which(value, array[pattern, 'b{20}']) <> '{}'", ALIKE[:60]),
+    (4096, CANCELLED, ALIKE[:30]),
+    (8192, "value =~* ('(?i)' || pattern || '|\\w{9}z')", ALIKE[:60]),
 ]
-MADE = """
-CREATE TEMP TABLE long AS SELECT string_agg(translate(md5(n::text), '0123456789cdef', 'abababababaabb'), '') AS value
-    FROM generate_series(1, 28125) n;
+MADE = r"""
+CREATE TEMP TABLE long AS SELECT string_agg(translate(md5(n::text), '0123456789cdef', 'abababababaabb'), '') AS value,
+    string_agg(left(md5(n::text), 14) || ' "Zürich, ' || n || E'"\n', '') AS mixed FROM generate_series(1, 28125) n;
 CREATE FUNCTION pg_temp.cancelled(value text, pattern text) RETURNS bool LANGUAGE plpgsql AS $$
 BEGIN
     RETURN value =~ pattern;
@@ -64,7 +70,7 @@ class Backend:
         self.client.wait()
 
 
-def tried(limit, search, count):
+def tried(limit, search, patterns):
     """Tries one of the cases. Returns what was wrong, and prints the figures."""
     backend = Backend()
     backend.run(MADE)
@@ -75,17 +81,16 @@ def tried(limit, search, count):
         backend.run("SET lazydfa.pattern_cache_size = 1024; SET statement_timeout = 40")
     (before,) = backend.numbers("SELECT held() - (SELECT held + tables FROM lazydfa_stats())")
     ratio, over, faults = 0, 0, []
-    for at in range(count):
-        pattern = f"'[ab]{{{8 + at % 5}}}c|[ab]{{{9 + at % 3}}}x{at}'"
-        backend.ask(f"SELECT {search} FROM long, (SELECT {pattern} AS pattern) it")
+    for pattern in patterns:
+        backend.ask(f"SELECT {search} FROM long, (SELECT '{pattern}' AS pattern) it")
         kept, reported, malloc = backend.numbers(ASKED.format(before=before))
         ratio, over = max(ratio, malloc / reported), max(over, reported - limit * 1024)
         if malloc > 1.1 * reported:
-            faults.append(f"{search}, pattern {at}: malloc gave out {malloc}, and {reported} are reported")
+            faults.append(f"{search}, {pattern}: malloc gave out {malloc}, and {reported} are reported")
         if reported > (limit + more) * 1024 and kept > 1:
-            faults.append(f"{search}, pattern {at}: {kept} patterns hold {reported} bytes, and the limit is {limit} kB")
+            faults.append(f"{search}, {pattern}: {kept} patterns hold {reported} bytes, and the limit is {limit} kB")
     backend.end()
-    print(f"{count} patterns by {search}, {limit} kB: {kept} kept, {reported // 1024} kB reported,", end=" ")
+    print(f"{len(patterns)} patterns by {search}, {limit} kB: {kept} kept, {reported // 1024} kB reported,", end=" ")
     print(f"malloc up to {ratio:.2f} of it, over the limit by {max(over, 0) // 1024} kB")
     return faults
 
