@@ -358,7 +358,9 @@ test_encodings() {
     same "bytes that are no text" "t|(4,5)|{2}" "$(sql -c "CREATE EXTENSION lazydfa" -c "SELECT
         E'\\xff\\xc3\\xa9b' =~ '^(?-u:\\xff)é', lazydfa_find(E'\\xff\\xc3\\xa9b', 'b'),
         lazydfa_which(E'\\xc3', array['é', '(?-u:.)'])")"
-    has "a pattern that is no text" "the text of a pattern is not UTF-8" "$(sql -c "SELECT 'a' =~ E'\\xff'")"
+    said=$(sql -c "SELECT 'a' =~ E'ab\\xff'")
+    has "a pattern that is not text" "the text of a pattern is not UTF-8" "$said"
+    has "where a pattern is not text" "Byte 3 of the pattern is not part of a character in UTF-8" "$said"
     unset PGCLIENTENCODING
     PGDATABASE=latin1
     has "a database of another encoding" "needs a database whose encoding is UTF8 or SQL_ASCII" \
