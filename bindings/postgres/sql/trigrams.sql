@@ -30,6 +30,7 @@ SELECT by_index('50% of disk_1\b');
 SELECT by_index('(?i)timeout');
 SELECT by_index('ti');
 SELECT by_index('timeout|disk');
+SELECT by_index('host=42$');
 EXPLAIN (COSTS off) SELECT * FROM lines WHERE line =~* 'host=42$';
 EXPLAIN (COSTS off) SELECT * FROM lines WHERE line =~* '(?-i)timeout';
 EXPLAIN (COSTS off) SELECT * FROM lines WHERE lazydfa_match(line, 'timeout');
