@@ -3,8 +3,9 @@
 
     tools/c.py ['N passed, M failed']
 
-Every call, right and with every wrong argument (calls.c, texts.c, limits.c, pieces.c, walks.c); each allocation refused in turn
-(faults.c); four threads over one regex (threads.c), under helgrind too if there is one; the script of the program
+Every call, right and with every wrong argument (calls.c, texts.c, limits.c, facts.c, pieces.c, walks.c); each allocation
+refused in turn (faults.c); what caches take of malloc, beside what is told of them (memory.c); four threads over one
+regex (threads.c), under helgrind too if there is one; the script of the program
 `lazydfa` by a C program (script.c), which has to print what `lazydfa` does; the example grep.c, which has to print what
 `grep -E` does, if there is one; and the programs of docs/C.md, which have to print what is said there. Each C program
 is compiled twice, the second time under the address and undefined behaviour sanitizers, if the compiler has them.
@@ -31,7 +32,7 @@ CRATE = "lazydfa_c"
 C = f"{TOP}/bindings/c"
 STRICT = ["-std=c99", "-Wall", "-Wextra", "-pedantic", "-Werror", "-O1", "-g"]
 SANITIZED = ["-fsanitize=address,undefined", "-fno-sanitize-recover=all"]
-REFUSING = ["-Wl,--wrap=malloc,--wrap=realloc,--wrap=free"]
+WRAPPED = ["-Wl,--wrap=malloc,--wrap=realloc,--wrap=free"]
 HELGRIND = ["valgrind", "--tool=helgrind", "--error-exitcode=9", "--quiet"]
 # What the library calls.
 NEEDS = ["free", "malloc", "memcpy", "memmove", "memset", "realloc"]
@@ -152,9 +153,11 @@ class Tests:
         self.try_program(f"calls{kind}", f"{C}/tests/calls.c", flags)
         self.try_program(f"texts{kind}", f"{C}/tests/texts.c", ["-pthread", *flags])
         self.try_program(f"limits{kind}", f"{C}/tests/limits.c", flags)
+        self.try_program(f"facts{kind}", f"{C}/tests/facts.c", flags)
         self.try_program(f"pieces{kind}", f"{C}/tests/pieces.c", flags)
         self.try_program(f"walks{kind}", f"{C}/tests/walks.c", flags)
-        self.try_program(f"faults{kind}", f"{C}/tests/faults.c", [*REFUSING, *flags])
+        self.try_program(f"faults{kind}", f"{C}/tests/faults.c", [*WRAPPED, *flags])
+        self.try_program(f"memory{kind}", f"{C}/tests/memory.c", [*WRAPPED, *flags])
         self.try_program(f"threads{kind}", f"{C}/tests/threads.c", ["-pthread", *flags])
         script, replies = text("crates/lazydfa/stdin"), text("crates/lazydfa/stdout")
         self.try_program(f"script{kind}", f"{C}/tests/script.c", flags, script, replies)

@@ -33,7 +33,7 @@ import plots
 TOP = os.path.dirname(os.path.dirname(os.path.abspath(__file__)))
 DOCUMENTS = ["README.md", "docs/CALLING.md", "docs/PATTERNS.md", "docs/READING.md"]
 PICTURES, GRAPHS = ["docs/nfa.svg", "docs/states.svg"], "crates/example_picture/stdout"
-READING, TIERS = "docs/READING.md", re.compile(r"(?<=\|---\|---\|---\|---\|---\|---\|---\|---\|\n)(?:\|.*\n)*")
+READING, TIERS = "docs/READING.md", re.compile(r"(?<=\|---\|---\|---\|---\|---\|---\|---\|---\|---\|\n)(?:\|.*\n)*")
 DOCSTRINGS = ["automata_config", "automata_hybrid", "regex_automata"]
 # A definition, or a field of a record.
 DEFINITION = re.compile(

@@ -8,7 +8,7 @@ import os
 import re
 
 TOP = os.path.dirname(os.path.dirname(os.path.abspath(__file__)))
-CRATES = ["automata_base", "automata_config", "automata_hybrid", "regex_automata", "patterns"]
+CRATES = ["automata_base", "automata_config", "automata_hybrid", "regex_automata", "match_facts", "patterns"]
 LIBRARY = CRATES[:4]
 # What an answer means: the words of the fields and clauses that say what a search, a walk, a set, a regex or a list of
 # matches or tokens returns, and what a haystack, an input and a sound pair are.

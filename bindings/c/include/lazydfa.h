@@ -250,7 +250,10 @@ typedef struct {
 } lazydfa_settings;
 
 typedef struct {
-    size_t memory;          /* the bytes that the cache accounts for */
+    size_t memory;          /* the bytes that the cache accounts for, which its capacity bounds */
+    size_t leaps;           /* those of tables for long searches, for which there was room beside these */
+    size_t held;            /* all that the cache takes of malloc: an allocation of n bytes counts as n + 8, rounded up
+                               to a multiple of 16, and as 32 at least */
     size_t forward_clears;  /* how often the part for ends of matches was cleared */
     size_t reverse_clears;  /* and the part for starts */
     size_t patterns;        /* how many patterns the regex has */
@@ -304,6 +307,17 @@ typedef struct {
     size_t length;     /* the bytes of the whole message, without the zero at its end */
 } lazydfa_refusal;
 
+/* What every match of a pattern has in common. A flag is 0 or 1; 0 says nothing. */
+typedef struct {
+    size_t prefix;           /* the bytes of the prefix, with which every match begins; 0 if none is known */
+    size_t count;            /* the number of literals, each of which every match contains */
+    size_t length;           /* the bytes of the prefix and of all literals together */
+    uint32_t anchored_start; /* every match begins at the start of the haystack */
+    uint32_t anchored_end;   /* every match ends at the end of the haystack */
+    uint32_t exact;          /* every match is the prefix and nothing more */
+    uint32_t reserved;
+} lazydfa_facts;
+
 /* The library is one for processors of 64 bits: elsewhere this does not compile. */
 typedef char lazydfa_has_64_bits[sizeof(size_t) == 8 && sizeof(void *) == 8 ? 1 : -1];
 
@@ -337,6 +351,8 @@ lazydfa_status lazydfa_raw_regex_build_pair(lazydfa_handle *, lazydfa_handle *, 
 lazydfa_status lazydfa_raw_regex_any_of(lazydfa_handle *, const uint8_t *, size_t, const size_t *, size_t,
                                         const lazydfa_text_options *, const lazydfa_settings *, const uint8_t *, size_t,
                                         lazydfa_refusal *, uint8_t *, size_t);
+lazydfa_status lazydfa_raw_text_facts(const uint8_t *, size_t, const lazydfa_text_options *, lazydfa_facts *, uint8_t *,
+                                      size_t, size_t *, size_t);
 lazydfa_status lazydfa_raw_regex_share(lazydfa_handle *, lazydfa_handle *);
 lazydfa_status lazydfa_raw_regex_reverse(lazydfa_handle *, lazydfa_handle *);
 lazydfa_status lazydfa_raw_regex_size(lazydfa_handle *, size_t *);
@@ -648,7 +664,7 @@ static inline lazydfa_status lazydfa_regex_build_pair(lazydfa_regex *regex, lazy
  * unicode_word_boundary. A pattern that could match a part of a character, as (?-u:.), is LAZYDFA_SYNTAX unless the
  * option `bytes` is on.
  *
- * Both calls open a handle on a regex. options, settings and refusal may be NULL, and message if room is 0; quits lists
+ * The first two calls open a handle on a regex. options, settings and refusal may be NULL, and message if room is 0; quits lists
  * the quit bytes. message gets what is wrong, the pattern, and carets below the part that this is about: as much as
  * there is room for, with a zero at its end, or nothing but the zero. A new line stands between the lines. refusal and
  * message are written with every code, unless they are NULL or have no room: with zeros if no text was refused.
@@ -729,6 +745,45 @@ static inline lazydfa_status lazydfa_regex_any_of(lazydfa_regex *regex, const la
     return status;
 }
 
+/* What every match of a pattern has in common, by its text alone: nothing is compiled. A program that has an index over
+ * its haystacks searches only those in which the literals occur, or which begin with the prefix:
+ *
+ *     lazydfa_facts facts;
+ *     uint8_t bytes[256];
+ *     size_t lengths[16], at, i;
+ *     status = lazydfa_text_facts("^user=[a-z]+@example", 20, NULL, &facts, bytes, sizeof bytes, lengths, 16);
+ *     if (status.code == LAZYDFA_OK && facts.anchored_start && facts.prefix <= sizeof bytes)
+ *         printf("begins with %.*s\n", (int)facts.prefix, (const char *)bytes);
+ *     for (i = 0, at = facts.prefix; i < facts.count && i < 16 && at + lengths[i] <= sizeof bytes; at += lengths[i++])
+ *         printf("contains %.*s\n", (int)lengths[i], (const char *)bytes + at);
+ *
+ * bytes gets the prefix and after it the literals, in the order in which they stand in each match, and lengths gets the
+ * length of each literal: as much as there is room for (facts.length bytes and facts.count lengths are enough). So a
+ * literal that ends within the room was written whole. No literal is empty. bytes may be NULL if room is 0, and lengths
+ * if count_room is 0. options may be NULL for the defaults.
+ *
+ * The facts hold of every match in every haystack, whatever its bytes, also of one that a search would not prefer, and
+ * with every setting. They are necessary and not sufficient: a haystack that has them all need not have a match. More
+ * may be true than is found: an alternation has no literals, and a prefix ends after some 130 bytes. A letter that
+ * stands for both of its cases is not a literal.
+ *
+ * LAZYDFA_SYNTAX and LAZYDFA_NOT_TEXT, with the offset in the text. After an error facts has zeros, and nothing else is
+ * written. A pattern that lazydfa_regex_new refuses for its size or for a word boundary has facts. */
+static inline lazydfa_status lazydfa_text_facts(const char *text, size_t length, const lazydfa_text_options *options,
+                                                lazydfa_facts *facts, uint8_t *bytes, size_t room, size_t *lengths,
+                                                size_t count_room) {
+    static const lazydfa_text_options plain = { 0, 0, 0, 0, 0, 0, 0, 0, 0, 0, 0, 0, 0 };
+    uint8_t no_byte;
+    size_t no_length;
+    LAZYDFA_NEED(facts);
+    memset(facts, 0, sizeof *facts);
+    LAZYDFA_NEED_ALL(text, length);
+    LAZYDFA_NEED_ALL(bytes, room);
+    LAZYDFA_NEED_ALL(lengths, count_room);
+    return lazydfa_raw_text_facts(lazydfa_bytes((const uint8_t *)text, length), length, options ? options : &plain,
+                                  facts, room ? bytes : &no_byte, room, count_room ? lengths : &no_length, count_room);
+}
+
 /* ---- Handles of other threads ---- */
 
 /* Opens the handle `other` on the regex of the first handle, which stays as it is, and copies nothing of it. Calls with
@@ -781,7 +836,7 @@ static inline lazydfa_status lazydfa_cache_reset(lazydfa_cache *cache) {
     return lazydfa_raw_cache_reset(&cache->handle);
 }
 
-/* Writes what the cache accounts for. */
+/* Writes how much memory the cache takes, and how often its parts were cleared. */
 static inline lazydfa_status lazydfa_cache_usage(lazydfa_cache *cache, lazydfa_usage *usage) {
     LAZYDFA_NEED(cache);
     LAZYDFA_NEED(usage);

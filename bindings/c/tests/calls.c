@@ -157,9 +157,10 @@ static void usage(void) {
     CODE(lazydfa_find(&c, bytes("abc"), 3, &in, &m), LAZYDFA_OK);
     CODE(lazydfa_cache_usage(&c, &before), LAZYDFA_OK);
     CHECK(before.memory > 0 && before.forward_clears == 0 && before.reverse_clears == 0 && before.patterns == 1);
+    CHECK(before.leaps == 0 && before.held > before.memory);
     CODE(lazydfa_cache_reset(&c), LAZYDFA_OK);
     CODE(lazydfa_cache_usage(&c, &after), LAZYDFA_OK);
-    CHECK(after.memory < before.memory);
+    CHECK(after.memory < before.memory && after.held < before.held);
     CODE(lazydfa_cache_close(&c), LAZYDFA_OK);
 }
 

@@ -311,6 +311,16 @@ static void search_texts(lazydfa_regex *re, lazydfa_cache *c) {
     WANT(lazydfa_regex_new(re, "b+", 2, NULL, NULL, NULL, 0, NULL, NULL, 0), LAZYDFA_OK);
 }
 
+/* What every match of ^ab[cd]e(fg)+ has in common. */
+static void report_facts(void) {
+    lazydfa_facts facts;
+    uint8_t read[8];
+    size_t lengths[3];
+    WANT(lazydfa_text_facts("^ab[cd]e(fg)+", 13, NULL, &facts, read, sizeof read, lengths, 3), LAZYDFA_OK);
+    IS(facts.anchored_start && !facts.exact && facts.prefix == 2 && facts.count == 2 && facts.length == 7);
+    IS(!memcmp(read, "ababefg", 7) && lengths[0] == 2 && lengths[1] == 3);
+}
+
 /* The handles of a program. */
 typedef struct {
     lazydfa_builder builders[5];
@@ -336,6 +346,7 @@ static void run(handles *h) {
     search_pair(&h->builders[1], &h->regexes[2], &h->caches[2]);
     WANT(lazydfa_builder_new(&h->builders[3]), LAZYDFA_OK);
     search_texts(&h->regexes[3], &h->caches[3]);
+    report_facts();
     WANT(lazydfa_builder_new(&h->builders[4]), LAZYDFA_OK);
     search_shared(&h->regexes[4], &h->other, &h->caches[4]);
 }

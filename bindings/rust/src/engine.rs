@@ -125,9 +125,21 @@ impl Cache {
         regex.reset_cache(self);
     }
 
-    /// How many bytes the cache accounts for, in its two parts together.
+    /// How many bytes the cache accounts for, in its two parts together. The capacity bounds them.
     pub fn memory_usage(&self) -> usize {
         self.usage().memory
+    }
+
+    /// How many bytes leaps take, the tables by which a search over a long text reads a few bytes at a step. They are
+    /// made where there is room beside the accounted bytes: both together are within the capacities of the two parts.
+    pub fn leap_usage(&self) -> usize {
+        self.usage().leaps
+    }
+
+    /// How many bytes the cache takes of the allocator, with its leaps. An allocation of n bytes counts as n + 8, rounded
+    /// up to a multiple of 16, and as 32 at least, as `malloc` of glibc takes.
+    pub fn heap_usage(&self) -> usize {
+        self.usage().held
     }
 
     /// How often the two parts of the cache were cleared: that of the DFA which searches forward, and that of

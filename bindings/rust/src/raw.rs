@@ -138,11 +138,28 @@ pub struct Refusal {
     pub length: usize,
 }
 
-/// The bytes that a cache accounts for, how often its two parts were cleared, and how many patterns its regex has.
+/// What every match of a pattern has in common: how long the prefix is and how many literals there are, the bytes of all
+/// of them, and flags, 0 or 1.
+#[repr(C)]
+#[derive(Clone, Copy, Debug, Default)]
+pub struct Facts {
+    pub prefix: usize,
+    pub count: usize,
+    pub length: usize,
+    pub anchored_start: u32,
+    pub anchored_end: u32,
+    pub exact: u32,
+    pub reserved: u32,
+}
+
+/// The bytes that a cache accounts for, those of its leaps, all that it holds of the allocator, how often its two parts
+/// were cleared, and how many patterns its regex has.
 #[repr(C)]
 #[derive(Clone, Copy, Default)]
 pub struct Usage {
     pub memory: usize,
+    pub leaps: usize,
+    pub held: usize,
     pub forward_clears: usize,
     pub reverse_clears: usize,
     pub patterns: usize,
@@ -203,7 +220,7 @@ unsafe extern "C" {
     pub safe fn lazydfa_raw_cache_new(cache: &mut Handle, regex: &mut Handle) -> Status;
     /// Makes a cache a fresh one of its regex.
     pub safe fn lazydfa_raw_cache_reset(cache: &mut Handle) -> Status;
-    /// Writes what a cache accounts for, in bytes, and how often its two parts were cleared.
+    /// Writes what a cache accounts for and holds, in bytes, and how often its two parts were cleared.
     pub safe fn lazydfa_raw_cache_usage(cache: &mut Handle, usage: &mut Usage) -> Status;
     /// Begins a search in pieces over a cache, in place of the one that was begun before: in the anchored mode of two
     /// numbers, after the byte of a third or none.
@@ -273,6 +290,16 @@ unsafe extern "C" {
         refusal: &mut Refusal,
         message: *mut u8,
         room: usize,
+    ) -> Status;
+    fn lazydfa_raw_text_facts(
+        text: *const u8,
+        length: usize,
+        options: &TextOptions,
+        facts: &mut Facts,
+        bytes: *mut u8,
+        room: usize,
+        lengths: *mut usize,
+        count_room: usize,
     ) -> Status;
     fn lazydfa_raw_find(
         cache: &mut Handle,
@@ -427,6 +454,30 @@ pub fn regex_any_of(
             refusal,
             message.as_mut_ptr(),
             message.len(),
+        )
+    }
+}
+
+/// Writes what every match of a pattern's text has in common, and as many of its bytes and lengths as there
+/// is room for.
+pub fn text_facts(
+    text: &str,
+    options: &TextOptions,
+    facts: &mut Facts,
+    bytes: &mut [u8],
+    lengths: &mut [usize],
+) -> Status {
+    // SAFETY: Each pointer and the length beside it are those of one slice.
+    unsafe {
+        lazydfa_raw_text_facts(
+            text.as_ptr(),
+            text.len(),
+            options,
+            facts,
+            bytes.as_mut_ptr(),
+            bytes.len(),
+            lengths.as_mut_ptr(),
+            lengths.len(),
         )
     }
 }

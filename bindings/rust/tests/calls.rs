@@ -105,9 +105,23 @@ fn iterates_past_the_buffer() -> Tested {
         let starts: Vec<_> = pooled.find_iter(&text).map(|it| it.start()).collect();
         assert_eq!(starts, wanted);
     }
-    assert!(cache.memory_usage() > 0);
+    assert!(cache.memory_usage() > 0 && cache.memory_usage() + cache.leap_usage() <= cache.heap_usage());
     cache.try_reset()?;
     assert_eq!((cache.clear_counts(), regex.pattern_len()), ((0, 0), 1));
+    Ok(())
+}
+
+/// A search over a long text makes leaps, which count beside the accounted bytes, and a reset drops them.
+#[test]
+fn counts_leaps() -> Tested {
+    let regex = Regex::new("(?-u)[0-9]{4}-[0-9]{2}")?;
+    let mut cache = regex.create_cache();
+    let fresh = cache.heap_usage();
+    assert_eq!(regex.find(&mut cache, &"01234 567 ".repeat(100_000)), None);
+    let (memory, leaps, heap) = (cache.memory_usage(), cache.leap_usage(), cache.heap_usage());
+    assert!(leaps > 0 && memory + leaps < heap && fresh < heap, "{memory} {leaps} {heap}");
+    cache.try_reset()?;
+    assert_eq!((cache.leap_usage(), cache.heap_usage()), (0, fresh));
     Ok(())
 }
 

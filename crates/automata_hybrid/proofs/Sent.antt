@@ -44,7 +44,10 @@ table_fields = (
           search (row_sent, sendable, crosses) depth 60,
           (
             search (key_sent, sendable, maps.crosses) depth 60,
-            (search (sendable, crosses) depth 60, tt),
+            (
+              search (sendable, crosses) depth 60,
+              (search (sendable, crosses) depth 60, tt),
+            ),
           ),
         ),
       ),

@@ -1,5 +1,6 @@
 mod Batches
 mod Codes
+mod Copying
 mod Errors
 mod Slots
 mod States

@@ -1,5 +1,5 @@
 -- What the calls do that list patterns, make a cache a fresh one, or report what it accounts for.
-use Rattle.std.specs.Prelude.{ℕ, ◌≡◌, ◌⊎◌, ◌+◌, ◌-◌, ◌^◌, List, [], ◌∷◌, false, length, min, replicate}
+use Rattle.std.specs.Prelude.{ℕ, ◌≡◌, ◌⊎◌, ◌+◌, ◌-◌, ◌^◌, ◌≤◌, List, [], ◌∷◌, false, length, min, replicate}
 use Rattle.automata_base.specs.Haystacks.PatternSet.{members}
 use Rattle.automata_hybrid.specs.Cache.Caches.{dfa_of}
 use Rattle.automata_hybrid.specs.Known.Events.{usage}
@@ -55,17 +55,23 @@ pub record Resets (s t : Searcher) (status : Status) : Type 0 where
   -- its search and its walk in pieces are unchanged
   pub pieces : t.pieces ≡ s.pieces
 
--- what the getters of a cache and of its regex return
-abbrev pub usage_of : Searcher → Usage
-usage_of s = record {
-  memory =
-      min (usage (dfa_of s.cache.forward) (known_of s.cache.forward)
-      + usage (dfa_of s.cache.reverse) (known_of s.cache.reverse)) (2 ^ 64 - 1);
-  forward_clears = (known_of s.cache.forward).clears;
-  reverse_clears = (known_of s.cache.reverse).clears;
-  patterns = length (regex_of s).forward.nfa.start_pattern;
-}
+-- how much memory a cache takes, how often its parts were cleared, and how many patterns its regex has
+pub record IsUsageOf (s : Searcher) (u : Usage) : Type 0 where
+  -- the accounted bytes of both parts
+  pub memory :
+      u.memory ≡ min (usage (dfa_of s.cache.forward) (known_of s.cache.forward)
+      + usage (dfa_of s.cache.reverse) (known_of s.cache.reverse)) (2 ^ 64 - 1)
+  -- with those of leaps they are within the capacities of both parts
+  pub leaps : u.memory + u.leaps ≤ (dfa_of s.cache.forward).capacity + (dfa_of s.cache.reverse).capacity
+  -- no less is held than both
+  pub held : min (u.memory + u.leaps) (2 ^ 64 - 1) ≤ u.held
+  -- how often the cache of the forward DFA was cleared
+  pub forward_clears : u.forward_clears ≡ (known_of s.cache.forward).clears
+  -- and that of the reverse DFA
+  pub reverse_clears : u.reverse_clears ≡ (known_of s.cache.reverse).clears
+  -- the number of patterns
+  pub patterns : u.patterns ≡ length (regex_of s).forward.nfa.start_pattern
 
 -- `lazydfa_cache_usage`: it changes nothing
 abbrev pub ReportsUsage : Usage → (s t : Searcher) → Status → Type 0
-ReportsUsage written s t status = (t ≡ s) × (written ≡ usage_of s) × (status ≡ plain code.Done)
+ReportsUsage written s t status = (t ≡ s) × IsUsageOf s written × (status ≡ plain code.Done)

@@ -16,4 +16,5 @@ pub mod Stops
 pub mod Streams
 pub mod Tables
 pub mod Texts
+pub mod Facts
 pub mod Walks

@@ -10,17 +10,21 @@ use Rattle.lazydfa_c.specs.declared.object.Object.{Object}
 use Rattle.lazydfa_c.specs.declared.object.Object.TheVariants.{Builder, Regex as RegexObject, Searcher as CacheObject}
 use Rattle.lazydfa_c.specs.declared.status.Status.{Status}
 
--- a state counts 16 bytes, and 8 for each range of a sparse one
+-- how many ranges of bytes a sparse state has
+abbrev pub range_count : State → ℕ
+range_count (is.Sparse ranges) = length ranges.items
+range_count (is.ByteRange lo hi next) = 0
+range_count (is.Dense targets) = 0
+range_count (is.Look look next) = 0
+range_count (is.Union alternates) = 0
+range_count (is.BinaryUnion alt1 alt2) = 0
+range_count (is.Capture next pattern index slot) = 0
+range_count is.Fail = 0
+range_count (is.Match pattern) = 0
+
+-- a state counts 16 bytes, and 8 for each of its ranges
 abbrev pub state_size : State → ℕ
-state_size (is.Sparse ranges) = 16 + 8 * length ranges.items
-state_size (is.ByteRange lo hi next) = 16
-state_size (is.Dense targets) = 16
-state_size (is.Look look next) = 16
-state_size (is.Union alternates) = 16
-state_size (is.BinaryUnion alt1 alt2) = 16
-state_size (is.Capture next pattern index slot) = 16
-state_size is.Fail = 16
-state_size (is.Match pattern) = 16
+state_size state = 16 + 8 * range_count state
 
 -- the sum over all states, or the greatest number of 64 bits if it is more
 abbrev pub table_size : List State → ℕ

@@ -8,6 +8,7 @@
 mod builder;
 mod closing;
 mod code;
+mod facts;
 mod forward;
 mod handle;
 mod input;

@@ -1,7 +1,7 @@
 //! How large the tables of a regex are.
 ghost use Rattle.std.specs.Prelude.{◌≡◌};
 ghost use Rattle.lazydfa_c.specs.Calls.{ReadsHandle, WritesIfDone};
-ghost use Rattle.lazydfa_c.specs.Tables.{IsSizeIn, ReportsSize, state_size, table_size};
+ghost use Rattle.lazydfa_c.specs.Tables.{IsSizeIn, ReportsSize, range_count, table_size};
 
 use crate::code::Code;
 use crate::handle::Handle;
@@ -10,12 +10,12 @@ use crate::status::Status;
 use regex_automata::nfa::thompson::{NFA, State};
 use std::alloc::Global;
 
-/// How many bytes a state counts: 16, and 8 for each range that it has.
-fn state_size(state: &State) -> usize
-    ensures { result ≡ state_size state.now }
+/// How many ranges of bytes a sparse state has; any other state has none.
+fn range_count(state: &State) -> usize
+    ensures { result ≡ range_count state.now }
 {
     match state {
-        State::Sparse(ranges) => ranges.len().saturating_mul(8).saturating_add(16),
+        State::Sparse(ranges) => ranges.len(),
         State::ByteRange { .. }
         | State::Dense(_)
         | State::Look { .. }
@@ -23,7 +23,7 @@ fn state_size(state: &State) -> usize
         | State::BinaryUnion { .. }
         | State::Capture { .. }
         | State::Fail
-        | State::Match { .. } => 16,
+        | State::Match { .. } => 0,
     }
 }
 
@@ -33,7 +33,8 @@ fn table_size(nfa: &NFA) -> usize
 {
     let mut size = 0usize;
     for state in nfa.states() {
-        size = size.saturating_add(state_size(state));
+        let ranges = range_count(state).saturating_mul(8);
+        size = size.saturating_add(ranges.saturating_add(16));
     }
     size
 }

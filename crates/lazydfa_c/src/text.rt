@@ -101,7 +101,7 @@ impl TextOptions {
     }
 
     /// The options, as patterns take them. A word boundary of Unicode is allowed if the settings allow it.
-    fn options(&self, settings: &Settings) -> Options
+    pub(crate) fn options(&self, settings: &Settings) -> Options
         ensures { result ≡ reading_of self.now settings.now }
     {
         let size_limit = self.size_limit();
@@ -125,7 +125,7 @@ impl TextOptions {
 
 /// The status of what is wrong with a pattern; of a text that is no pattern, with the offset of the first byte that
 /// this is about.
-fn status_of(error: &PatternError) -> Status
+pub(crate) fn status_of(error: &PatternError) -> Status
     ensures { IsFailure result }
 {
     errors_differ();

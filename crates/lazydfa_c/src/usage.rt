@@ -1,19 +1,23 @@
-//! What a cache accounts for, and making it a fresh one.
+//! What a cache accounts for and holds, and making it a fresh one.
 ghost use Rattle.std.specs.Prelude.{◌≡◌};
 ghost use Rattle.lazydfa_c.specs.Calls.{OfHandle, OfObject, WritesIfDone};
-ghost use Rattle.lazydfa_c.specs.Caches.{ReportsUsage, Resets, usage_of};
+ghost use Rattle.lazydfa_c.specs.Caches.{IsUsageOf, ReportsUsage, Resets};
 
 use crate::code::Code;
 use crate::handle::Handle;
 use crate::object::{Object, Searcher};
 use crate::status::Status;
+use automata_base::util::heap::{array, block};
 use std::alloc::Global;
 
-/// The accounted bytes of a cache, how often each part was cleared, and how many patterns its regex has.
+/// The accounted bytes of a cache, those of its leaps, all that it holds of the allocator, how often each part was
+/// cleared, and how many patterns its regex has.
 #[repr(C)]
 #[derive(Clone, Copy)]
 pub struct Usage {
     pub memory: usize,
+    pub leaps: usize,
+    pub held: usize,
     pub forward_clears: usize,
     pub reverse_clears: usize,
     pub patterns: usize,
@@ -31,14 +35,23 @@ impl Searcher {
         }
     }
 
-    /// Returns what the cache accounts for, in bytes, how often its two parts were cleared, and how many patterns its
-    /// regex has.
+    /// The bytes that the cache takes of the allocator beside its two parts: the object behind the handle, and its set of
+    /// patterns. The state that a search or walk in pieces holds is not counted.
+    fn own_usage(&self) -> usize {
+        array(self.patterns.capacity(), 1).saturating_add(block(size_of::<Object>()))
+    }
+
+    /// Returns what the cache accounts for and holds, in bytes, how often its two parts were cleared, and how many
+    /// patterns its regex has.
     fn usage(&self) -> Usage
-        ensures { result ≡ usage_of self.now }
+        ensures { IsUsageOf self.now result }
     {
         let (forward, reverse) = self.cache.as_parts();
+        let footprint = self.cache.footprint();
         Usage {
-            memory: self.cache.memory_usage(),
+            memory: footprint.accounted,
+            leaps: footprint.leaps,
+            held: footprint.held.saturating_add(self.own_usage()),
             forward_clears: forward.clear_count(),
             reverse_clears: reverse.clear_count(),
             patterns: self.shared.regex.pattern_len(),
@@ -56,7 +69,7 @@ fn reset_in(object: &mut Object) -> Status
     }
 }
 
-/// Writes what a cache accounts for. The status is `Code::Kind` if the object is no cache.
+/// Writes what a cache accounts for and holds. The status is `Code::Kind` if the object is no cache.
 fn usage_in(object: &mut Object, usage: &mut Usage) -> Status
     ensures reports { OfObject (ReportsUsage usage.new) object.old object.new result }
     ensures written { WritesIfDone usage.old usage.new result }
@@ -83,7 +96,7 @@ pub extern "C" fn lazydfa_raw_cache_reset(alloc: Global, cache: &mut Handle) -> 
     status
 }
 
-/// Writes what the cache behind a handle accounts for, in bytes, and how often its two parts were cleared.
+/// Writes what the cache behind a handle accounts for and holds, in bytes, and how often its two parts were cleared.
 #[unsafe(no_mangle)]
 pub extern "C" fn lazydfa_raw_cache_usage(
     alloc: Global,

@@ -4,3 +4,4 @@ mod Faults
 pub mod Items
 pub mod Searching
 pub mod Sets
+mod Trees

@@ -1,5 +1,6 @@
 pub mod Patterns
 pub mod Drafts
 pub mod Faults
+pub mod Facts
 pub mod Iteration
 pub mod Sets

@@ -118,7 +118,7 @@ fn config_of(options: &Options) -> Config
 }
 
 /// Reads a text as the options say.
-fn parse(alloc: Global, text: &str, options: &Options) -> Result<Parsed, Fault>
+pub(crate) fn parse(alloc: Global, text: &str, options: &Options) -> Result<Parsed, Fault>
     ensures read { IfOk result (λ p.
         Reads (config_of options.now) text.now p.hir (map (option_map string_bytes) p.names.items)) }
     ensures refused { IfErr result (IsFaultOf options.now text.now) }

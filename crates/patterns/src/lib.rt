@@ -5,7 +5,8 @@
 //! its place in the list, and where two match at one offset, the first one is preferred. The tables of all patterns
 //! take at most `Options::size_limit` bytes and 24 more for each. What is wrong with a text is a `PatternError`, which
 //! has the pattern's number and, for an error of the parser, the bytes that it is about. `Pattern` is a regex of this
-//! NFA; `RegexSet` is a DFA of it, which reports all patterns that match.
+//! NFA; `RegexSet` is a DFA of it, which reports all patterns that match. `facts_of` says what every match of a pattern
+//! has in common, for a search by an index.
 //!
 //! It is proved that what these find is what the texts mean, by the kit's grammar and its specification of matching
 //! (`specs/Patterns.antt`; the lemmas are those of `meaning`). That these are what Rust's regex crate does is the
@@ -14,6 +15,7 @@
 
 mod compile;
 mod error;
+mod facts;
 pub mod laws;
 mod matches;
 mod pattern;
@@ -23,6 +25,8 @@ mod translate;
 
 pub use compile::{Options, nfa_of};
 pub use error::{Fault, PatternError};
+pub use facts::facts_of;
+pub use match_facts::Facts;
 pub use matches::Matches;
 pub use pattern::Pattern;
 pub use set::RegexSet;

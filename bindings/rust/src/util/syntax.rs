@@ -1,5 +1,6 @@
 //! How the texts of patterns are read.
-use crate::raw::TextOptions;
+use crate::BuildError;
+use crate::raw::{self, TextOptions};
 
 /// How the texts of patterns are read. A pattern sets flags for a part of itself, as by `(?i:..)`.
 ///
@@ -93,4 +94,54 @@ impl Config {
         self.options.octal = yes.into();
         self
     }
+
+    /// Returns what every match of a pattern has in common, by its text alone: nothing is compiled. The error
+    /// has no message; [`Regex::new`](crate::hybrid::regex::Regex::new) returns one with a message.
+    ///
+    /// ```
+    /// use lazydfa::util::syntax;
+    ///
+    /// let facts = syntax::Config::new().facts(r"^user=[a-z]+77[0-9]@example\.org")?;
+    /// assert!(facts.anchored_start && !facts.exact);
+    /// assert_eq!(facts.prefix, b"user=");
+    /// assert_eq!(facts.literals, [&b"user="[..], b"77", b"@example.org"]);
+    /// # Ok::<(), lazydfa::BuildError>(())
+    /// ```
+    pub fn facts(&self, pattern: &str) -> Result<Facts, BuildError> {
+        let mut found = raw::Facts::default();
+        raw::text_facts(pattern, &self.options, &mut found, &mut [], &mut []).built()?;
+        let (mut bytes, mut lengths) = (vec![0; found.length], vec![0; found.count]);
+        raw::text_facts(pattern, &self.options, &mut found, &mut bytes, &mut lengths).built()?;
+        let (prefix, mut rest) = bytes.split_at(found.prefix);
+        let mut literals = Vec::with_capacity(found.count);
+        for length in lengths {
+            let (literal, more) = rest.split_at(length);
+            literals.push(literal.to_vec());
+            rest = more;
+        }
+        Ok(Facts {
+            anchored_start: found.anchored_start != 0,
+            anchored_end: found.anchored_end != 0,
+            exact: found.exact != 0,
+            prefix: prefix.to_vec(),
+            literals,
+        })
+    }
+}
+
+/// What every match of a pattern has in common, for a search by an index over many haystacks. A haystack that has
+/// all of this need not have a match.
+#[derive(Clone, Debug, PartialEq, Eq)]
+#[non_exhaustive]
+pub struct Facts {
+    /// Whether every match begins at the start of the haystack.
+    pub anchored_start: bool,
+    /// Whether every match ends at the end of the haystack.
+    pub anchored_end: bool,
+    /// Whether every match is the prefix and nothing more.
+    pub exact: bool,
+    /// The bytes that every match begins with; none if nothing is known.
+    pub prefix: Vec<u8>,
+    /// Literals that are in every match, in the order in which they stand there.
+    pub literals: Vec<Vec<u8>>,
 }

@@ -3,6 +3,7 @@
 pub mod alphabet;
 pub mod byte_set;
 pub mod determinize;
+pub mod heap;
 pub mod look;
 pub mod pattern_set;
 pub mod primitives;

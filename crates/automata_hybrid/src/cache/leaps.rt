@@ -9,6 +9,7 @@ ghost use Rattle.automata_hybrid.specs.Private.Cache.Leaps.{first_cell, leaps_by
 
 use crate::cache::progress::Searched;
 use crate::cache::table::Table;
+use automata_base::util::heap::{array, block};
 use std::alloc::{AllocError, Global};
 
 /// What stands in a cell whose bytes are to be followed one by one.
@@ -63,6 +64,17 @@ impl Leaping {
         Leaping {
             leaps: None,
             due: FIRST,
+        }
+    }
+
+    /// The bytes that leaps take of the allocator.
+    pub(crate) fn heap_usage(&self) -> usize {
+        match &self.leaps {
+            Some(leaps) => {
+                let cells = array(leaps.cells.capacity(), 4);
+                cells.saturating_add(block(SIZE))
+            }
+            None => 0,
         }
     }
 

@@ -5,7 +5,7 @@
 //! A `store` has the `table` of the rows (`row`), the start slots and the progress of searches (`progress`), within
 //! limits (`settings`). Where a row does not fit, `clears` says what a clear keeps. Searches have from a cache what it
 //! keeps of a row's self-loop (`self_loops`), leaps (`leaps`), and a state that a walk holds (`handle`). `states` are
-//! what a cache holds, to look at.
+//! what a cache holds, to look at, and its `footprint` is how many bytes it takes.
 ghost use Rattle.std.specs.Prelude.{ℕ, ◌≡◌, ◌*◌, ◌%◌, ◌<◌, ◌≤◌, IfOk, IfErr, OnOk, OnErr, slice_index, All, length};
 ghost use Rattle.std.specs.Prelude.{is_some, IfSome, IsSome, IsTrue, ◌+◌, ◌↔◌, ◌⊎◌, false, None, Option};
 ghost use Rattle.automata_base.specs.Powersets.Powerset.{Powerset, cost, dead};
@@ -38,6 +38,7 @@ ghost use Rattle.automata_base.specs.declared.util.search.Anchored.{Anchored};
 ghost use Rattle.automata_config.specs.Options.{match_kind_of};
 
 pub(crate) mod clears;
+pub mod footprint;
 pub(crate) mod handle;
 pub(crate) mod leaps;
 pub(crate) mod progress;
@@ -48,6 +49,7 @@ pub mod states;
 pub(crate) mod store;
 pub(crate) mod table;
 
+use crate::cache::footprint::Footprint;
 use crate::cache::handle::Handle;
 use crate::cache::leaps::{Leaping, Leaps, Shape};
 use crate::cache::self_loops::KnownLoop;
@@ -701,6 +703,27 @@ impl Cache {
         match &self.leaping.leaps {
             Some(leaps) => leaps.shape.bytes(),
             None => 0,
+        }
+    }
+
+    /// The bytes that it takes: the accounted ones, those of leaps, and all that it holds of the allocator.
+    pub fn footprint(&self) -> Footprint
+        ensures accounted { result.accounted ≡ usage (dfa_of self.now) (known_of self.now) }
+        ensures within { result.accounted + result.leaps ≤ (dfa_of self.now).capacity }
+        ensures held { result.accounted + result.leaps ≤ result.held }
+    {
+        let _capacity = self.store.capacity();
+        let accounted = self.memory_usage();
+        let leaps = self.leap_usage();
+        let lists = self
+            .store
+            .heap_usage()
+            .saturating_add(self.leaping.heap_usage());
+        let held = lists.saturating_add(self.scratch.heap_usage());
+        Footprint {
+            accounted,
+            leaps,
+            held: held.max(accounted + leaps),
         }
     }
 

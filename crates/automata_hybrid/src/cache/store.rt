@@ -22,6 +22,7 @@ use crate::cache::table::Table;
 use crate::dfa::DFA;
 use crate::id::LazyStateID;
 use automata_base::util::determinize::State;
+use automata_base::util::heap::array;
 use automata_config::accounting::{CELL_SIZE, ENTRY_SIZE, FIXED_ROWS_COST, ROW_SIZE};
 use automata_config::error::{CacheError, StepError};
 use std::alloc::AllocError;
@@ -115,6 +116,12 @@ impl Store {
             + self.settings.fixed
     }
 
+    /// The bytes that it takes of the allocator.
+    pub fn heap_usage(&self) -> usize {
+        let starts = array(self.starts.capacity(), CELL_SIZE);
+        starts.saturating_add(self.table.heap_usage())
+    }
+
     /// The accounted bytes of a new state. They are counted once, for all calls that need them.
     pub fn cost_of(&self, state: &State) -> usize
         requires { cost state.now ≤ self.now.table.of.greatest }
@@ -133,6 +140,13 @@ impl Store {
         let room = self.settings.capacity - used;
         let row = CELL_SIZE * self.table.stride() + ROW_SIZE + ENTRY_SIZE;
         row + bytes <= room && self.table.cell_count() < LazyStateID::OFFSET_LIMIT
+    }
+
+    /// The capacity.
+    pub fn capacity(&self) -> usize
+        ensures { result ≡ self.now.table.of.capacity }
+    {
+        self.settings.capacity
     }
 
     /// The bytes of the capacity that are not taken.

@@ -24,10 +24,27 @@ use crate::id::LazyStateID;
 use automata_base::util::alphabet::ByteClasses;
 use automata_base::util::byte_set::ByteSet;
 use automata_base::util::determinize::{Key, State};
+use automata_base::util::heap::array;
 use automata_base::util::subject::Subject;
+use automata_config::accounting::{CELL_SIZE, ROW_SIZE};
 use std::alloc::{AllocError, AllocFailed, Global};
 use std::collections::HashMap;
 use std::marker::Model;
+
+/// The size, in bytes, of a key of the map.
+const KEY_SIZE: usize = 16;
+
+/// The size, in bytes, of the place of an entry of the map: its hash, and where the entry is.
+const PLACE_SIZE: usize = 8;
+
+/// For how many entries the map has a group, when it is full.
+const GROUP: usize = 9;
+
+/// The size, in bytes, of a group.
+const GROUP_SIZE: usize = 64;
+
+/// For how many groups there is room at least.
+const LEAST_GROUPS: usize = 4;
 
 /// The rows of a lazy DFA, and the map from states to them.
 #[derive(Drop)]
@@ -39,6 +56,8 @@ pub struct Table {
     rows: Vec<Row>,
     map: HashMap<Key, LazyStateID>,
     costs: usize,
+    /// The bytes that the allocations of the rows' states take. No contract speaks of them.
+    blocks: usize,
 }
 
 impl Model for Table {
@@ -69,6 +88,7 @@ impl Clone for Table {
             rows,
             map,
             costs: self.costs,
+            blocks: self.blocks,
         })
     }
 }
@@ -80,6 +100,19 @@ fn rows_before(offset: usize, stride: usize) -> usize
     ensures { result ≡ offset / stride }
 {
     offset >> stride.ilog2()
+}
+
+/// The bytes that a map with room for so many entries takes of the allocator. It has four lists: of keys, of values, of
+/// the places of entries, and of groups of nine entries.
+fn map_usage(capacity: usize) -> usize {
+    if capacity == 0 {
+        return 0;
+    }
+    let entries = array(capacity, KEY_SIZE).saturating_add(array(capacity, CELL_SIZE));
+    let groups = array(capacity.div_ceil(GROUP).max(LEAST_GROUPS), GROUP_SIZE);
+    entries
+        .saturating_add(array(capacity, PLACE_SIZE))
+        .saturating_add(groups)
 }
 
 impl Table {
@@ -149,6 +182,17 @@ impl Table {
         self.costs
     }
 
+    /// The bytes that it takes of the allocator, with the states of its rows, which a clone shares.
+    pub fn heap_usage(&self) -> usize {
+        let cells = array(self.cells.capacity(), CELL_SIZE);
+        let row = array(self.template.capacity(), CELL_SIZE);
+        let rows = array(self.rows.capacity(), ROW_SIZE).saturating_add(self.blocks);
+        cells
+            .saturating_add(row)
+            .saturating_add(rows)
+            .saturating_add(map_usage(self.map.capacity()))
+    }
+
     /// Adds a row for a state that the table lacks, whose accounted bytes these are. An error changes nothing.
     #[inline(always)]
     pub fn add(
@@ -167,6 +211,7 @@ impl Table {
         self.cells.reserve(self.stride)?;
         self.rows.reserve(1)?;
         self.map.reserve(1)?;
+        let block = state.heap_usage();
         let key = state.key()?;
         let matches = row::has_patterns(&state);
         let offset = self.cells.len();
@@ -180,6 +225,7 @@ impl Table {
             .insert(key, id);
         let _ = inserted.unwrap();
         self.costs += bytes;
+        self.blocks = self.blocks.saturating_add(block);
         Ok(id)
     }
 
@@ -212,6 +258,7 @@ impl Table {
             rows: Vec::with_capacity(alloc, room)?,
             map,
             costs: 0,
+            blocks: 0,
         })
     }
 

@@ -2,6 +2,7 @@
 
 pub use automata_config::config::{Config, Settled};
 pub use automata_hybrid::cache::Cache;
+pub use automata_hybrid::cache::footprint::Footprint;
 pub use automata_hybrid::cache::states::{CachedState, States};
 pub use automata_hybrid::dfa::DFA;
 pub use automata_hybrid::dfa::builder::Builder;

@@ -9,6 +9,7 @@ ghost use Rattle.automata_base.specs.Powersets.Parts.{powerset_of};
 use crate::nfa::thompson::kept_closure::KeptClosure;
 use crate::util::determinize::ids::list_ids;
 use crate::util::determinize::state::{Parts, State};
+use crate::util::heap::{array, block};
 use crate::util::primitives::StateID;
 use std::alloc::{AllocError, Global};
 use std::mem;
@@ -34,6 +35,12 @@ impl MadeState {
         let nfa = Vec::with_capacity(alloc, len)?;
         let made = Box::new(alloc, MadeState { bytes, nfa })?;
         Ok(made)
+    }
+
+    /// The bytes that it takes of the allocator, behind its pointer.
+    pub fn heap_usage(&self) -> usize {
+        let lists = block(self.bytes.capacity()).saturating_add(array(self.nfa.capacity(), 4));
+        lists.saturating_add(block(size_of::<MadeState>()))
     }
 
     /// Makes its list that of the NFA states of this state, which are read only if another state was made last.

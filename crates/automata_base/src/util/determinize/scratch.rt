@@ -15,6 +15,7 @@ use crate::util::determinize::key::Key;
 use crate::util::determinize::made::MadeState;
 use crate::util::determinize::sparse_set::SparseSet;
 use crate::util::determinize::state::{Parts, State};
+use crate::util::heap::array;
 use crate::util::primitives::StateID;
 use crate::util::search::{Anchored, MatchKind};
 use crate::util::subject::Subject;
@@ -111,6 +112,17 @@ impl Scratch {
             made: None,
             count: Count::zero(),
         })
+    }
+
+    /// The bytes that the buffers take of the allocator, by their capacities.
+    pub fn heap_usage(&self) -> usize {
+        let sets = self.one.heap_usage().saturating_add(self.two.heap_usage());
+        let lists = array(self.stack.capacity(), 4).saturating_add(self.parts.heap_usage());
+        let made = match &self.made {
+            Some(made) => made.heap_usage(),
+            None => 0,
+        };
+        sets.saturating_add(lists).saturating_add(made)
     }
 
     /// Takes back what a key holds. The next key is made in its room, and a step from its state reads no bytes of it.

@@ -1,12 +1,16 @@
 //! Bytes that are shared. A few of them lie beside the count of those who share them, so that they take one allocation.
 ghost use Rattle.std.specs.Prelude.{◌≡◌, ◌≤◌, length, take, IfOk};
 
+use crate::util::heap::block;
 use std::alloc::{AllocError, Global};
 use std::marker::Model;
 use std::sync::Arc;
 
 /// How many bytes are few: so many hold a state of up to 39 NFA states whose numbers are near one another.
 const FEW: usize = 48;
+
+/// How many bytes the count takes of those who share.
+const COUNT_SIZE: usize = 8;
 
 /// Bytes, in place if they are few, or in a vector of their own.
 #[derive(Drop)]
@@ -87,6 +91,12 @@ impl SharedBytes {
         let few = [0; 48];
         let stored = Arc::new(alloc, Stored { len, few, many })?;
         Ok(SharedBytes { stored })
+    }
+
+    /// The bytes that the allocations take: one with the count of those who share it, and one for bytes that are many.
+    pub fn heap_usage(&self) -> usize {
+        let many = block(self.stored.many.capacity());
+        many.saturating_add(block(COUNT_SIZE + size_of::<Stored>()))
     }
 
     /// The shared bytes.

@@ -4,6 +4,7 @@ ghost use Rattle.std.specs.Prelude.{ℕ, length, take, ◌+◌};
 ghost use Rattle.automata_base.specs.Lists.{In, Distinct};
 ghost use Rattle.automata_base.specs.Retraced.ReversedEdges.{place_in};
 
+use crate::util::heap::array;
 use crate::util::primitives::StateID;
 use std::alloc::{AllocError, Global};
 use std::marker::Model;
@@ -66,6 +67,12 @@ impl SparseSet {
             dense,
             sparse,
         })
+    }
+
+    /// The bytes that its two lists take of the allocator.
+    pub fn heap_usage(&self) -> usize {
+        let dense = array(self.dense.capacity(), 4);
+        dense.saturating_add(array(self.sparse.capacity(), 4))
     }
 
     /// Takes each number out of the set, in constant time.

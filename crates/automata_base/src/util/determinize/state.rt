@@ -18,6 +18,7 @@ use crate::util::determinize::read::{
 use crate::util::determinize::shared::SharedBytes;
 use crate::util::determinize::valid::are_distinct;
 use crate::util::determinize::write::push_state;
+use crate::util::heap::array;
 use crate::util::primitives::{PatternID, StateID, see_patterns};
 use std::alloc::{AllocError, Global};
 use std::hash::{Hash, Hasher};
@@ -60,6 +61,11 @@ impl Parts {
         ensures { IsTrue result ↔ Distinct self.now.patterns.items }
     {
         are_distinct(&self.patterns)
+    }
+
+    /// The bytes that both lists take of the allocator.
+    pub fn heap_usage(&self) -> usize {
+        array(self.nfa.capacity(), 4).saturating_add(array(self.patterns.capacity(), 4))
     }
 
     /// Empty parts with room for as many states and patterns.
@@ -222,6 +228,11 @@ impl State {
         ensures cost { length result.now ≤ cost self.now }
     {
         self.bytes.as_slice()
+    }
+
+    /// The bytes that its allocations take, which those share who clone it.
+    pub fn heap_usage(&self) -> usize {
+        self.bytes.heap_usage()
     }
 
     /// The NFA states of the state, in order of preference. The call allocates nothing.

@@ -8,6 +8,7 @@ ghost use Rattle.regex_automata.specs.Regexes.LentCaches.{LendsBothParts, LendsF
 
 use crate::hybrid::dfa;
 use crate::hybrid::regex::Regex;
+use automata_hybrid::cache::footprint::Footprint;
 use std::alloc::AllocError;
 
 /// The caches of the two lazy DFAs of a regex.
@@ -127,5 +128,23 @@ impl Cache {
         self.forward
             .leap_usage()
             .saturating_add(self.reverse.leap_usage())
+    }
+
+    /// The bytes that both take: the accounted ones, those of leaps, and all that they hold of the allocator. A sum above
+    /// the greatest `usize` is that number.
+    pub fn footprint(&self) -> Footprint
+        ensures accounted { result.accounted ≡ min (usage (dfa_of self.now.forward) (known_of self.now.forward)
+            + usage (dfa_of self.now.reverse) (known_of self.now.reverse)) (2 ^ 64 - 1) }
+        ensures within { result.accounted + result.leaps
+            ≤ (dfa_of self.now.forward).capacity + (dfa_of self.now.reverse).capacity }
+        ensures held { min (result.accounted + result.leaps) (2 ^ 64 - 1) ≤ result.held }
+    {
+        let forward = self.forward.footprint();
+        let reverse = self.reverse.footprint();
+        Footprint {
+            accounted: forward.accounted.saturating_add(reverse.accounted),
+            leaps: forward.leaps.saturating_add(reverse.leaps),
+            held: forward.held.saturating_add(reverse.held),
+        }
     }
 }

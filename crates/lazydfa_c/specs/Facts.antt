@@ -1,0 +1,99 @@
+-- What every match of a pattern's text has in common, as C is told it.
+use Rattle.std.specs.Prelude.{ℕ, ◌≡◌, Bool, List, [], ◌∷◌, ◌++◌, length, map, vec_len, if◌then◌else◌}
+use Rattle.std.specs.List.{flat_map}
+use Rattle.match_facts.specs.declared.Facts.{Facts as Known}
+use Rattle.patterns.specs.Facts.{AreFactsOf}
+use Rattle.patterns.specs.declared.compile.Options.{Options as Reading}
+use Rattle.lazydfa_c.specs.Caches.{written_over}
+use Rattle.lazydfa_c.specs.Statuses.{plain}
+use Rattle.lazydfa_c.specs.Texts.{IsFailure, reading_of}
+use Rattle.lazydfa_c.specs.declared.code.Code.TheVariants as code
+use Rattle.lazydfa_c.specs.declared.facts.Facts.{Facts}
+use Rattle.lazydfa_c.specs.declared.settings.Settings.{Settings}
+use Rattle.lazydfa_c.specs.declared.status.Status.{Status}
+use Rattle.lazydfa_c.specs.declared.text.TextOptions.{TextOptions}
+
+-- settings of zeros
+abbrev pub default_settings : Settings
+default_settings = record {
+  cache_capacity = 0;
+  minimum_cache_clear_count = 0;
+  minimum_bytes_per_state = 0;
+  has_cache_capacity = 0;
+  has_minimum_cache_clear_count = 0;
+  has_minimum_bytes_per_state = 0;
+  match_kind = 0;
+  starts_for_each_pattern = 0;
+  no_byte_classes = 0;
+  unicode_word_boundary = 0;
+  specialize_start_states = 0;
+  skip_cache_capacity_check = 0;
+  always_anchored = 0;
+}
+
+-- how a text is read; what it means does not depend on the settings
+abbrev pub plain_reading : TextOptions → Reading
+plain_reading options = reading_of options default_settings
+
+-- 1 for yes and 0 for no
+abbrev pub flag : Bool → ℕ
+flag b = if b then 1 else 0
+
+-- the bytes of the prefix and then those of the literals
+abbrev pub fact_bytes : Known → List ℕ
+fact_bytes known = known.prefix.items ++ flat_map (λ literal. literal.items) known.literals.items
+
+-- how long the literals are
+abbrev pub literal_lengths : Known → List ℕ
+literal_lengths known = map (λ literal. vec_len literal) known.literals.items
+
+-- the facts, whose bytes have this length
+abbrev pub facts_of : Known → (bytes : ℕ) → Facts
+facts_of known bytes = record {
+  prefix = vec_len known.prefix;
+  count = vec_len known.literals;
+  length = bytes;
+  anchored_start = flag known.anchored_start;
+  anchored_end = flag known.anchored_end;
+  exact = flag known.exact;
+  reserved = 0;
+}
+
+-- no facts
+abbrev pub no_facts : Facts
+no_facts = record {
+  prefix = 0;
+  count = 0;
+  length = 0;
+  anchored_start = 0;
+  anchored_end = 0;
+  exact = 0;
+  reserved = 0;
+}
+
+-- what is written over old bytes and lengths as far as there is room, and the facts: they hold of every match of what
+-- the text means
+pub record HasFacts (options : TextOptions) (text : List ℕ) (facts : Facts)
+    (old_bytes new_bytes old_lengths new_lengths : List ℕ) : Type 0 where
+  -- the prefix, the literals and the flags
+  pub known : Known
+  -- they are those of the text
+  pub of : AreFactsOf (plain_reading options) text known
+  -- the facts are of these, with the length of all bytes
+  pub written : facts ≡ facts_of known (length (fact_bytes known))
+  -- the prefix and then the literals
+  pub bytes : new_bytes ≡ written_over (fact_bytes known) old_bytes
+  -- the lengths of the literals
+  pub lengths : new_lengths ≡ written_over (literal_lengths known) old_lengths
+
+-- `lazydfa_text_facts`
+pub data ReportsFacts (options : TextOptions) (text : List ℕ) (facts : Facts)
+    (old_bytes new_bytes old_lengths new_lengths : List ℕ) (status : Status) : Type 0 where
+  -- the facts are written
+  Reports :
+      HasFacts options text facts old_bytes new_bytes old_lengths new_lengths → status ≡ plain code.Done
+      → ReportsFacts options text facts old_bytes new_bytes old_lengths new_lengths status
+  -- the call failed: the facts are zeros, and nothing else is written
+  Fails :
+      IsFailure status → facts ≡ no_facts → new_bytes ≡ old_bytes → new_lengths ≡ old_lengths
+      → ReportsFacts options text facts old_bytes new_bytes old_lengths new_lengths status

@@ -1,0 +1,171 @@
+//! What every match of a pattern's text has in common.
+ghost use Rattle.std.specs.Prelude.{◌≡◌, IfErr, IfOk, OnErr, OnOk};
+ghost use Rattle.patterns.specs.Facts.{AreFactsOf};
+ghost use Rattle.lazydfa_c.specs.Caches.{written_over};
+ghost use Rattle.lazydfa_c.specs.Facts.{HasFacts, ReportsFacts, fact_bytes, default_settings, facts_of, literal_lengths, no_facts};
+ghost use Rattle.lazydfa_c.specs.Facts.{plain_reading};
+ghost use Rattle.lazydfa_c.specs.Texts.{IsFailure};
+
+use crate::code::Code;
+use crate::settings::Settings;
+use crate::status::Status;
+use crate::text::{TextOptions, status_of};
+use patterns::{Facts as PatternFacts, facts_of};
+use std::alloc::{AllocError, Global};
+
+/// How long the prefix is and how many literals there are, the bytes of all of them, and the flags, 0 or 1: whether
+/// every match begins or ends where the haystack does, and whether it is the prefix and nothing more.
+#[repr(C)]
+#[derive(Clone, Copy)]
+pub struct Facts {
+    pub prefix: usize,
+    pub count: usize,
+    pub length: usize,
+    pub anchored_start: u32,
+    pub anchored_end: u32,
+    pub exact: u32,
+    pub reserved: u32,
+}
+
+impl Facts {
+    /// No facts, as after an error.
+    fn none() -> Facts
+        ensures { result ≡ no_facts }
+    {
+        Facts {
+            prefix: 0,
+            count: 0,
+            length: 0,
+            anchored_start: 0,
+            anchored_end: 0,
+            exact: 0,
+            reserved: 0,
+        }
+    }
+
+    /// The facts, whose prefix and literals have so many bytes.
+    fn of(facts: &PatternFacts, length: usize) -> Facts
+        ensures { result ≡ facts_of facts.now length }
+    {
+        Facts {
+            prefix: facts.prefix.len(),
+            count: facts.literals.len(),
+            length,
+            anchored_start: facts.anchored_start as u32,
+            anchored_end: facts.anchored_end as u32,
+            exact: facts.exact as u32,
+            reserved: 0,
+        }
+    }
+}
+
+/// The settings by which a text is read alone: whether a word boundary of Unicode is allowed makes no difference then.
+fn default_settings() -> Settings
+    ensures { result ≡ default_settings }
+{
+    Settings {
+        cache_capacity: 0,
+        minimum_cache_clear_count: 0,
+        minimum_bytes_per_state: 0,
+        has_cache_capacity: 0,
+        has_minimum_cache_clear_count: 0,
+        has_minimum_bytes_per_state: 0,
+        match_kind: 0,
+        starts_for_each_pattern: 0,
+        no_byte_classes: 0,
+        unicode_word_boundary: 0,
+        specialize_start_states: 0,
+        skip_cache_capacity_check: 0,
+        always_anchored: 0,
+    }
+}
+
+/// The facts of a text. It fails with `Code::NotText` and an offset in the text if it is not UTF-8.
+fn facts_of_text(alloc: Global, text: &[u8], options: &TextOptions) -> Result<PatternFacts, Status>
+    ensures ok { IfOk result (AreFactsOf (plain_reading options.now) text.now) }
+    ensures err { IfErr result IsFailure }
+{
+    let text = match str::from_utf8(text) {
+        Ok(text) => text,
+        Err(error) => return Err(Status::at(Code::NotText, error.valid_up_to())),
+    };
+    let options = options.options(&default_settings());
+    match facts_of(alloc, text, &options) {
+        Ok(facts) => Ok(facts),
+        Err(error) => Err(status_of(&error)),
+    }
+}
+
+/// The bytes of the prefix and then those of the literals, one after another.
+fn joined(alloc: Global, facts: &PatternFacts) -> Result<Vec<u8>, AllocError>
+    ensures { IfOk result (λ v. v.items ≡ fact_bytes facts.now) }
+{
+    let mut all = Vec::from_slice(alloc, facts.prefix.as_slice())?;
+    for literal in &facts.literals {
+        all.extend_from_slice(literal)?;
+    }
+    Ok(all)
+}
+
+/// The lengths of the literals, in bytes.
+fn lengths_of(alloc: Global, facts: &PatternFacts) -> Result<Vec<usize>, AllocError>
+    ensures { IfOk result (λ v. v.items ≡ literal_lengths facts.now) }
+{
+    facts
+        .literals
+        .iter()
+        .map(|literal| literal.len())
+        .collect(alloc)
+}
+
+/// Writes the items that there is room for.
+fn write_over<T: Copy>(items: &[T], out: &mut [T])
+    ensures { out.new ≡ written_over items.now out.old }
+{
+    let mut at = 0usize;
+    for item in items {
+        if at < out.len() {
+            out[at] = *item;
+            at += 1;
+        }
+    }
+}
+
+/// Writes the facts of a text, and the bytes and lengths that there is room for. After an error nothing is written.
+fn write_facts(
+    alloc: Global,
+    text: &[u8],
+    options: &TextOptions,
+    facts: &mut Facts,
+    bytes: &mut [u8],
+    lengths: &mut [usize],
+) -> Result<(), Status>
+    ensures ok { OnOk result (HasFacts options.now text.now facts.new bytes.old bytes.new lengths.old lengths.new) }
+    ensures kept { OnErr result ((facts.new ≡ facts.old) × (bytes.new ≡ bytes.old) × (lengths.new ≡ lengths.old)) }
+    ensures err { IfErr result IsFailure }
+{
+    let known = facts_of_text(alloc, text, options)?;
+    let all = joined(alloc, &known)?;
+    let sizes = lengths_of(alloc, &known)?;
+    *facts = Facts::of(&known, all.len());
+    write_over(all.as_slice(), bytes);
+    write_over(sizes.as_slice(), lengths);
+    Ok(())
+}
+
+/// Writes what every match of a pattern's text has in common, and the bytes and lengths that there is room for. After
+/// an error all facts are 0, and no bytes and lengths are written.
+#[unsafe(no_mangle)]
+pub extern "C" fn lazydfa_raw_text_facts(
+    alloc: Global,
+    text: &[u8],
+    options: &TextOptions,
+    facts: &mut Facts,
+    bytes: &mut [u8],
+    lengths: &mut [usize],
+) -> Status
+    ensures { ReportsFacts options.now text.now facts.new bytes.old bytes.new lengths.old lengths.new result }
+{
+    *facts = Facts::none();
+    Status::of(write_facts(alloc, text, options, facts, bytes, lengths))
+}

@@ -1,0 +1,20 @@
+-- What every match of a pattern has in common, by the pattern's text.
+use Rattle.std.specs.Prelude.{ℕ, ◌≡◌, List}
+use Rattle.regex_hir.specs.Re.{Re}
+use Rattle.match_facts.specs.Facts.{AreFacts}
+use Rattle.match_facts.specs.declared.Facts.{Facts}
+use Rattle.patterns.specs.Faults.{IsFaultOf}
+use Rattle.patterns.specs.Patterns.{IsMeaning, config_of}
+use Rattle.patterns.specs.declared.compile.Options.{Options}
+use Rattle.patterns.specs.declared.error.PatternError.{PatternError}
+
+-- the text is a pattern, and the facts hold of every match of what it means
+pub record AreFactsOf (options : Options) (text : List ℕ) (facts : Facts) : Type 0 where
+  -- the text is a pattern
+  pub pattern : (re : Re) × IsMeaning (config_of options) text re
+  -- by whichever tree it is read
+  pub hold : (re : Re) → IsMeaning (config_of options) text re → AreFacts re facts
+
+-- why a text has no facts, with the number 0
+abbrev pub IsFactsError : Options → (text : List ℕ) → PatternError → Type 0
+IsFactsError options text error = (error.number ≡ 0) × IsFaultOf options text error.fault
