@@ -772,7 +772,7 @@ static inline lazydfa_status lazydfa_regex_any_of(lazydfa_regex *regex, const la
 static inline lazydfa_status lazydfa_text_facts(const char *text, size_t length, const lazydfa_text_options *options,
                                                 lazydfa_facts *facts, uint8_t *bytes, size_t room, size_t *lengths,
                                                 size_t count_room) {
-    static const lazydfa_text_options plain = { 0, 0, 0, 0, 0, 0, 0, 0, 0, 0, 0, 0, 0 };
+    static const lazydfa_text_options plain = { 0, 0, 0, 0, 0, 0, 0, 0, 0, 0, 0, 0, 0, 0, 0, 0, 0 };
     uint8_t no_byte;
     size_t no_length;
     LAZYDFA_NEED(facts);
