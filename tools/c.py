@@ -176,7 +176,19 @@ class Tests:
             wanted, prints, _ = run(["env", "LC_ALL=C", "grep", "-E", *paths])
             if status != wanted or err or out != prints:
                 fault += f"{' '.join(words)}: status {status}\n{differing(out, prints)}{err}"
-        self.count(name, fault)
+        self.count(name, fault or (self.faults_of_grep(target) if target else ""))
+
+    def faults_of_grep(self, target):
+        """What grep.c must report: a folder that cannot be read, and output that cannot be written."""
+        fault = ""
+        status, _, err = run([target, "-e", "x", f"{TOP}/README.md", self.room])
+        if status != 2 or "cannot be read" not in err:
+            fault += f"a folder: status {status}\n{err}"
+        if os.path.exists("/dev/full"):
+            status, _, err = run(["sh", "-c", '"$0" "$@" >/dev/full', target, "-e", "a", f"{TOP}/README.md"])
+            if status != 2 or "cannot be written" not in err:
+                fault += f"a full disk: status {status}\n{err}"
+        return fault
 
     def try_header(self):
         words = ["c++", "-std=c++11", "-Wall", "-Wextra", "-pedantic", "-Werror", "-fsyntax-only"]

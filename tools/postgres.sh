@@ -2,10 +2,12 @@
 # Builds the extension for PostgreSQL, over the library for C that stands built in bindings/c, and tests it on a server
 # of its own, in a folder of its own, over a socket there:
 #     tools/postgres.sh ['N passed, M failed']
-# The expected answers of `make installcheck`; random patterns beside `~` (tools/postgres/agree.py), and in pieces
-# (tools/postgres/pieces.py); parallel workers; two backends at once; a query that is cancelled, one that takes too
-# long, a backend that is ended, and one that is killed in a search; each search of a long text, cancelled and out of
-# time; a backend without memory; and databases of other encodings.
+# The expected answers of `make installcheck`; random patterns beside `~` (tools/postgres/agree.py), in pieces
+# (tools/postgres/pieces.py), and by indexes (tools/postgres/indexed.py); parallel workers; two backends at once; a
+# query that is cancelled, one that takes too long, a backend that is ended, and one that is killed in a search; each
+# search of a long text, cancelled and out of time; patterns that are costly to compile, by an ordinary user: their time
+# and their memory, and a backend and a server that end meanwhile; what many patterns hold of memory
+# (tools/postgres/memory.py); a backend without memory; and databases of other encodings.
 #
 # The last line counts these too, beside what the given line counts. It needs a PostgreSQL server with its headers (on
 # Debian, postgresql-15 and postgresql-server-dev-15), make, cc, pkg-config, prlimit and Python 3. Without a server it
@@ -81,7 +83,9 @@ build() {
     make -s -C "$top/bindings/c" install PREFIX="$room/library" LIBDIR="$room/library/lib" DESTDIR= &&
         cp -r "$top/bindings/postgres" "$room/extension" &&
         make -s -C "$room/extension" PG_CONFIG="$config" COPT=-Werror &&
-        make -s -C "$room/extension" PG_CONFIG="$config" install DESTDIR="$server"
+        make -s -C "$room/extension" PG_CONFIG="$config" install DESTDIR="$server" &&
+        cc -Wall -Werror -O1 -fPIC -shared -I"$("$config" --includedir-server)" "$top/tools/postgres/held.c" \
+            -o "$room/held.so"
 }
 
 # Copies the server, which finds its files from where it is, so that nothing of the system is written to, and starts it.
@@ -94,8 +98,12 @@ start() {
         chmod 711 "$room" && chmod 700 "$room/data" || return
     [ "$(id -u)" -ne 0 ] || chown postgres "$room" "$room/data" || return
     as_server "$server$bin/initdb" -D "$room/data" -U lazydfa -E UTF8 --locale=C.UTF-8 -A trust -N >"$room/said" &&
-        as_server "$server$bin/pg_ctl" -D "$room/data" -w -l "$room/data/log" -o \
-            "-c listen_addresses= -c unix_socket_directories=$room -c fsync=off" start >"$room/said"
+        run_server
+}
+
+run_server() {
+    as_server "$server$bin/pg_ctl" -D "$room/data" -w -l "$room/data/log" -o \
+        "-c listen_addresses= -c unix_socket_directories=$room -c fsync=off" start >"$room/said"
 }
 
 # Starts statements in another backend, and waits until it runs them. Its process is $backend, and that of psql $client.
@@ -131,16 +139,24 @@ $(cat "$room/extension/regression.diffs")"
     fi
     python3 "$top/tools/postgres/lines.py" 100000 1 |
         sql -c "CREATE EXTENSION lazydfa" -c "CREATE TABLE logs(line text)" -c "COPY logs FROM STDIN" -c "ANALYZE logs"
-    if agreed=$(python3 "$top/tools/postgres/agree.py" 10000 1 2>&1); then
-        count "beside ~: $agreed" ""
+    agrees "beside ~" agree.py 10000 1
+    agrees "in pieces" pieces.py 1000 1
+    if [ -f "$("$config" --sharedir)/extension/pg_trgm.control" ]; then
+        agrees "by indexes" indexed.py 20000 1 3
     else
-        count "beside ~" "$agreed"
+        echo "by indexes: skipped, since pg_trgm is not installed"
     fi
-    if agreed=$(python3 "$top/tools/postgres/pieces.py" 1000 1 2>&1); then
-        count "in pieces: $agreed" ""
-    else
-        count "in pieces" "$agreed"
-    fi
+    sql -c "CREATE FUNCTION held() RETURNS bigint LANGUAGE c AS '$room/held.so'"
+    agrees "memory" memory.py
+}
+
+# Counts a test: what a script compared did not differ.
+agrees() { # NAME SCRIPT WORD..
+    name=$1
+    script=$top/tools/postgres/$2
+    shift 2
+    if agreed=$(python3 "$script" "$@" 2>&1); then name="$name: $agreed" agreed=; fi
+    count "$name" "$agreed"
 }
 
 test_workers() {
@@ -218,7 +234,7 @@ test_long() {
         "lazydfa_substr(value, '$many')" "lazydfa_substr(left(value, 1000000), '$back|\$')" \
         "lazydfa_count(value, 'a')" "lazydfa_count(value, 'x*')" "lazydfa_count(value, '$many')" \
         "lazydfa_matches(value, '$empty')" "lazydfa_replace(value, '$many', '')" \
-        "lazydfa_tokens(value, array['.*$many', 'y'])" "value =~ '[a-f].{20000}x'"; do
+        "lazydfa_tokens(value, array['.*$many', 'y'])" "value =~ '([a-f0-9]?){150000}x'"; do
         begin "SELECT $search FROM long"
         sleep 0.3
         started=$(milliseconds)
@@ -228,6 +244,90 @@ test_long() {
         begin "SET statement_timeout = 500; SELECT $search FROM long"
         ended "$search, out of time" "canceling statement due to statement timeout"
     done
+}
+
+# Statements that took up to a minute, and a gigabyte, before patterns were limited; and the costliest within the
+# limits.
+costly() {
+    cat <<'END'
+'a' =~* repeat('\PL', 100000)
+'a' =~ repeat('()', 10000000)
+'a' =~ repeat('[a]', 10000000)
+'a' =~ repeat('.', 10000000)
+'a' =~ repeat('a', 10000000)
+'a' =~ ('[' || repeat('\pL\PL', 100000) || ']')
+'a' =~ repeat('\pL', 100000)
+'a' =~ repeat('\pL|', 100000)
+'a' =~| array_fill('a'::text, array[10000000])
+'a' =~ '(\pL{50}){50}'
+'a' =~ '(((a{100}){100}){100}){100}'
+'a' =~ '(a?){50000}'
+'a' =~ '\w{180}'
+'a' =~ '[a-f].{50000}x'
+'a' =~* repeat('\PL', 2000)
+'a' =~* repeat('[^[:alpha:]]', 5461)
+'a' =~* repeat('[b-\x{10FFFF}]', 4681)
+'a' =~* ('[' || repeat('\pL\PL', 1000) || ']')
+lazydfa_count('a', '[a-f].{50000}x')
+lazydfa_count('a', repeat('()', 32768))
+(lazydfa_tokens('a', array_fill('a'::text, array[65536]))).pattern
+count(*) FROM small WHERE s =~* repeat('\PL', 21800)
+count(*) FROM small WHERE s =~* repeat('\PL', 2000)
+END
+}
+
+# Runs a costly statement as an ordinary user, out of whose time it may be after a second. Writes how much its backend
+# has grown at most, in kB.
+grown() { # EXPRESSION
+    PGUSER=joe psql -XAtq 2>&1 <<END
+SELECT ('a' =~ 'a')::text AS loaded, pg_backend_pid() AS backend \gset
+\setenv BACKEND :backend
+\! echo before \$(awk '/^VmHWM/ { print \$2 }' /proc/\$BACKEND/status)
+SET statement_timeout = 1000;
+SELECT $1;
+\! echo after \$(awk '/^VmHWM/ { print \$2 }' /proc/\$BACKEND/status)
+END
+}
+
+test_costly() {
+    sql -c "CREATE ROLE joe LOGIN" -c "CREATE TABLE small AS SELECT md5(n::text) AS s FROM generate_series(1, 1000) n" \
+        -c "CREATE INDEX ON small(s text_pattern_ops)" -c "CREATE INDEX ON small(s)" -c "GRANT SELECT ON small TO joe" \
+        -c "ANALYZE small"
+    costly >"$room/costly"
+    while read -r search; do
+        started=$(milliseconds)
+        said=$(grown "$search" </dev/null)
+        took=$(($(milliseconds) - started))
+        size=$(echo "$said" |
+            awk '$1 == "before" { n = -$2 } $1 == "after" { n += $2; ok = 1 } END { if (ok) print n }')
+        fault=
+        [ "$took" -le 2000 ] || fault="it took $took ms"
+        [ "${size:-300000}" -le 200000 ] || fault="$fault, and $size kB: $said"
+        count "$search: $took ms, $size kB" "$fault"
+        PGAPPNAME=searching sql -c "SELECT $search" >"$room/output" 2>&1 </dev/null &
+        client=$!
+        sleep 0.1
+        started=$(milliseconds)
+        sql -c "SELECT pg_terminate_backend(pid) FROM pg_stat_activity WHERE application_name = 'searching'" >/dev/null
+        wait "$client"
+        took=$(($(milliseconds) - started))
+        if [ "$took" -le 2000 ]; then count "$search, ended" ""; else count "$search, ended" "it took $took ms"; fi
+    done <"$room/costly"
+    has "a limit that an ordinary user sets before the library is loaded" "is too long" \
+        "$(PGUSER=joe sql -c "SET lazydfa.pattern_length = '1MB'" -c "SELECT 'a' =~ repeat('a', 100000)")"
+}
+
+# A server that is stopped fast, while a backend compiles one costly pattern after another.
+test_shutdown() {
+    begin "SELECT count(*) FROM generate_series(1, 100000) n WHERE 'a' =~* (repeat('[^[:alpha:]]', 5400) || n)"
+    started=$(milliseconds)
+    as_server "$server$bin/pg_ctl" -D "$room/data" -m fast -t 10 stop >"$room/said" 2>&1
+    took=$(($(milliseconds) - started))
+    wait "$client"
+    has "a server that is stopped" "terminating connection due to administrator command" "$(cat "$room/output")"
+    if [ "$took" -le 2000 ]; then said=; else said="it took $took ms"; fi
+    count "a server that is stopped, within two seconds" "$said"
+    run_server || count "a server that is stopped" "it did not start again"
 }
 
 # A backend whose memory is limited to some more than it has. Its own user may limit it.
@@ -258,7 +358,9 @@ test_encodings() {
     same "bytes that are no text" "t|(4,5)|{2}" "$(sql -c "CREATE EXTENSION lazydfa" -c "SELECT
         E'\\xff\\xc3\\xa9b' =~ '^(?-u:\\xff)é', lazydfa_find(E'\\xff\\xc3\\xa9b', 'b'),
         lazydfa_which(E'\\xc3', array['é', '(?-u:.)'])")"
-    has "a pattern that is no text" "the text of a pattern is not UTF-8" "$(sql -c "SELECT 'a' =~ E'\\xff'")"
+    said=$(sql -c "SELECT 'a' =~ E'ab\\xff'")
+    has "a pattern that is not text" "the text of a pattern is not UTF-8" "$said"
+    has "where a pattern is not text" "Byte 3 of the pattern is not part of a character in UTF-8" "$said"
     unset PGCLIENTENCODING
     PGDATABASE=latin1
     has "a database of another encoding" "needs a database whose encoding is UTF8 or SQL_ASCII" \
@@ -285,6 +387,8 @@ test_workers
 test_two_backends
 test_ends
 test_long
+test_costly
+test_shutdown
 test_memory
 test_encodings
 finish

@@ -4,6 +4,12 @@
 
 CREATE FUNCTION lazydfa_support(internal) RETURNS internal
     AS 'MODULE_PATHNAME', 'lazydfa_pg_support' LANGUAGE C STRICT;
+CREATE FUNCTION lazydfa_isupport(internal) RETURNS internal
+    AS 'MODULE_PATHNAME', 'lazydfa_pg_isupport' LANGUAGE C STRICT;
+CREATE FUNCTION lazydfa_sel(internal, oid, internal, int) RETURNS float8
+    AS 'MODULE_PATHNAME', 'lazydfa_pg_sel' LANGUAGE C STABLE STRICT PARALLEL SAFE;
+CREATE FUNCTION lazydfa_joinsel(internal, oid, internal, smallint, internal) RETURNS float8
+    AS 'MODULE_PATHNAME', 'lazydfa_pg_joinsel' LANGUAGE C STABLE STRICT PARALLEL SAFE;
 CREATE FUNCTION lazydfa_notsel(internal, oid, internal, int) RETURNS float8
     AS 'MODULE_PATHNAME', 'lazydfa_pg_notsel' LANGUAGE C STABLE STRICT PARALLEL SAFE;
 CREATE FUNCTION lazydfa_notjoinsel(internal, oid, internal, smallint, internal) RETURNS float8
@@ -16,7 +22,7 @@ CREATE FUNCTION lazydfa_match(string text, pattern text) RETURNS bool
 CREATE FUNCTION lazydfa_match_not(string text, pattern text) RETURNS bool
     AS 'MODULE_PATHNAME', 'lazydfa_pg_match_not' LANGUAGE C IMMUTABLE STRICT PARALLEL SAFE COST 5;
 CREATE FUNCTION lazydfa_imatch(string text, pattern text) RETURNS bool
-    AS 'MODULE_PATHNAME', 'lazydfa_pg_imatch' LANGUAGE C IMMUTABLE STRICT PARALLEL SAFE COST 5;
+    AS 'MODULE_PATHNAME', 'lazydfa_pg_imatch' LANGUAGE C IMMUTABLE STRICT PARALLEL SAFE COST 5 SUPPORT lazydfa_isupport;
 CREATE FUNCTION lazydfa_imatch_not(string text, pattern text) RETURNS bool
     AS 'MODULE_PATHNAME', 'lazydfa_pg_imatch_not' LANGUAGE C IMMUTABLE STRICT PARALLEL SAFE COST 5;
 
@@ -69,34 +75,77 @@ CREATE FUNCTION lazydfa_tokens(string text, patterns text[], OUT pattern int, OU
     RETURNS SETOF record
     AS 'MODULE_PATHNAME', 'lazydfa_pg_tokens' LANGUAGE C IMMUTABLE STRICT PARALLEL SAFE COST 10 ROWS 10;
 
--- Of this backend: how many patterns it keeps, the bytes that their caches account for, how often these were cleared,
--- and how many patterns were compiled.
+-- Of this backend: how many patterns it keeps; the bytes that their caches account for, those of their leaps beside
+-- these, and what the caches hold of the allocator in all; the bytes of their tables; how often caches were cleared; and
+-- how many patterns were compiled.
 
-CREATE FUNCTION lazydfa_stats(OUT patterns bigint, OUT memory bigint, OUT clears bigint, OUT compiled bigint)
+CREATE FUNCTION lazydfa_stats(OUT patterns bigint, OUT memory bigint, OUT leaps bigint, OUT held bigint,
+    OUT tables bigint, OUT clears bigint, OUT compiled bigint)
     AS 'MODULE_PATHNAME', 'lazydfa_pg_stats' LANGUAGE C VOLATILE STRICT PARALLEL RESTRICTED;
 
 CREATE OPERATOR =~ (FUNCTION = lazydfa_match, LEFTARG = text, RIGHTARG = text, NEGATOR = !=~,
-    RESTRICT = matchingsel, JOIN = matchingjoinsel);
+    RESTRICT = lazydfa_sel, JOIN = lazydfa_joinsel);
 CREATE OPERATOR !=~ (FUNCTION = lazydfa_match_not, LEFTARG = text, RIGHTARG = text, NEGATOR = =~,
     RESTRICT = lazydfa_notsel, JOIN = lazydfa_notjoinsel);
 CREATE OPERATOR =~* (FUNCTION = lazydfa_imatch, LEFTARG = text, RIGHTARG = text, NEGATOR = !=~*,
-    RESTRICT = matchingsel, JOIN = matchingjoinsel);
+    RESTRICT = lazydfa_sel, JOIN = lazydfa_joinsel);
 CREATE OPERATOR !=~* (FUNCTION = lazydfa_imatch_not, LEFTARG = text, RIGHTARG = text, NEGATOR = =~*,
     RESTRICT = lazydfa_notsel, JOIN = lazydfa_notjoinsel);
 CREATE OPERATOR =~| (FUNCTION = lazydfa_match_any, LEFTARG = text, RIGHTARG = text[], NEGATOR = !=~|,
-    RESTRICT = matchingsel, JOIN = matchingjoinsel);
+    RESTRICT = lazydfa_sel, JOIN = lazydfa_joinsel);
 CREATE OPERATOR !=~| (FUNCTION = lazydfa_match_none, LEFTARG = text, RIGHTARG = text[], NEGATOR = =~|,
     RESTRICT = lazydfa_notsel, JOIN = lazydfa_notjoinsel);
 
 CREATE OPERATOR =~ (FUNCTION = lazydfa_match, LEFTARG = bytea, RIGHTARG = text, NEGATOR = !=~,
-    RESTRICT = matchingsel, JOIN = matchingjoinsel);
+    RESTRICT = lazydfa_sel, JOIN = lazydfa_joinsel);
 CREATE OPERATOR !=~ (FUNCTION = lazydfa_match_not, LEFTARG = bytea, RIGHTARG = text, NEGATOR = =~,
     RESTRICT = lazydfa_notsel, JOIN = lazydfa_notjoinsel);
 CREATE OPERATOR =~* (FUNCTION = lazydfa_imatch, LEFTARG = bytea, RIGHTARG = text, NEGATOR = !=~*,
-    RESTRICT = matchingsel, JOIN = matchingjoinsel);
+    RESTRICT = lazydfa_sel, JOIN = lazydfa_joinsel);
 CREATE OPERATOR !=~* (FUNCTION = lazydfa_imatch_not, LEFTARG = bytea, RIGHTARG = text, NEGATOR = =~*,
     RESTRICT = lazydfa_notsel, JOIN = lazydfa_notjoinsel);
 CREATE OPERATOR =~| (FUNCTION = lazydfa_match_any, LEFTARG = bytea, RIGHTARG = text[], NEGATOR = !=~|,
-    RESTRICT = matchingsel, JOIN = matchingjoinsel);
+    RESTRICT = lazydfa_sel, JOIN = lazydfa_joinsel);
 CREATE OPERATOR !=~| (FUNCTION = lazydfa_match_none, LEFTARG = bytea, RIGHTARG = text[], NEGATOR = =~|,
     RESTRICT = lazydfa_notsel, JOIN = lazydfa_notjoinsel);
+
+COMMENT ON FUNCTION lazydfa_support(internal) IS 'planner support for lazydfa_match';
+COMMENT ON FUNCTION lazydfa_isupport(internal) IS 'planner support for lazydfa_imatch';
+COMMENT ON FUNCTION lazydfa_sel(internal, oid, internal, int) IS 'restriction selectivity of =~, =~* and =~|';
+COMMENT ON FUNCTION lazydfa_joinsel(internal, oid, internal, smallint, internal)
+    IS 'join selectivity of =~, =~* and =~|';
+COMMENT ON FUNCTION lazydfa_notsel(internal, oid, internal, int) IS 'restriction selectivity of !=~, !=~* and !=~|';
+COMMENT ON FUNCTION lazydfa_notjoinsel(internal, oid, internal, smallint, internal)
+    IS 'join selectivity of !=~, !=~* and !=~|';
+COMMENT ON FUNCTION lazydfa_match(text, text) IS 'implementation of =~ operator';
+COMMENT ON FUNCTION lazydfa_match_not(text, text) IS 'implementation of !=~ operator';
+COMMENT ON FUNCTION lazydfa_imatch(text, text) IS 'implementation of =~* operator';
+COMMENT ON FUNCTION lazydfa_imatch_not(text, text) IS 'implementation of !=~* operator';
+COMMENT ON FUNCTION lazydfa_match_any(text, text[]) IS 'implementation of =~| operator';
+COMMENT ON FUNCTION lazydfa_match_none(text, text[]) IS 'implementation of !=~| operator';
+COMMENT ON FUNCTION lazydfa_match(bytea, text) IS 'implementation of =~ operator';
+COMMENT ON FUNCTION lazydfa_match_not(bytea, text) IS 'implementation of !=~ operator';
+COMMENT ON FUNCTION lazydfa_imatch(bytea, text) IS 'implementation of =~* operator';
+COMMENT ON FUNCTION lazydfa_imatch_not(bytea, text) IS 'implementation of !=~* operator';
+COMMENT ON FUNCTION lazydfa_match_any(bytea, text[]) IS 'implementation of =~| operator';
+COMMENT ON FUNCTION lazydfa_match_none(bytea, text[]) IS 'implementation of !=~| operator';
+COMMENT ON FUNCTION lazydfa_which(text, text[]) IS 'places in the array of the patterns that have a match';
+COMMENT ON FUNCTION lazydfa_find(text, text) IS 'where the first match begins, and where it ends';
+COMMENT ON FUNCTION lazydfa_substr(text, text) IS 'first match';
+COMMENT ON FUNCTION lazydfa_matches(text, text) IS 'all matches that do not overlap';
+COMMENT ON FUNCTION lazydfa_count(text, text) IS 'number of matches that do not overlap';
+COMMENT ON FUNCTION lazydfa_replace(text, text, text) IS 'replace all matches that do not overlap';
+COMMENT ON FUNCTION lazydfa_tokens(text, text[]) IS 'split text into tokens, each a match of a pattern';
+COMMENT ON FUNCTION lazydfa_stats() IS 'statistics: compiled patterns of this session';
+COMMENT ON OPERATOR =~ (text, text) IS 'matches regular expression';
+COMMENT ON OPERATOR !=~ (text, text) IS 'does not match regular expression';
+COMMENT ON OPERATOR =~* (text, text) IS 'matches regular expression, case-insensitive';
+COMMENT ON OPERATOR !=~* (text, text) IS 'does not match regular expression, case-insensitive';
+COMMENT ON OPERATOR =~| (text, text[]) IS 'matches one of the regular expressions';
+COMMENT ON OPERATOR !=~| (text, text[]) IS 'matches none of the regular expressions';
+COMMENT ON OPERATOR =~ (bytea, text) IS 'matches regular expression';
+COMMENT ON OPERATOR !=~ (bytea, text) IS 'does not match regular expression';
+COMMENT ON OPERATOR =~* (bytea, text) IS 'matches regular expression, case-insensitive';
+COMMENT ON OPERATOR !=~* (bytea, text) IS 'does not match regular expression, case-insensitive';
+COMMENT ON OPERATOR =~| (bytea, text[]) IS 'matches one of the regular expressions';
+COMMENT ON OPERATOR !=~| (bytea, text[]) IS 'matches none of the regular expressions';

@@ -9,11 +9,14 @@
 #include "utils/array.h"
 #include "utils/builtins.h"
 
+#include "compile.h"
+#include "settings.h"
+
 PG_MODULE_MAGIC;
 
 void _PG_init(void);
 
-void _PG_init(void) { kept_define_settings(); }
+void _PG_init(void) { define_settings(); }
 
 /* The value of argument 0, to be searched for the patterns of argument 1. */
 static Value value_of(FunctionCallInfo fcinfo, uint32 flags) {
@@ -26,7 +29,7 @@ static Value value_of(FunctionCallInfo fcinfo, uint32 flags) {
 }
 
 static bool is_match(FunctionCallInfo fcinfo, uint32 flags) {
-    Value value = value_of(fcinfo, flags);
+    Value value = value_of(fcinfo, flags | ENDS_ONLY);
     return has_match(&value);
 }
 
@@ -36,11 +39,22 @@ static Datum text_of(const Value *value, lazydfa_match match) {
     return PointerGetDatum(cstring_to_text_with_len(at, match.end - match.start));
 }
 
-/* The type of the rows that a function returns. */
-static TupleDesc row_of(FunctionCallInfo fcinfo) {
+/* The type of the rows that a function returns, which its call site remembers as long as this context lasts. */
+static TupleDesc row_of(FunctionCallInfo fcinfo, Site *site, MemoryContext context) {
+    MemoryContext before;
     TupleDesc row;
+    if (site->row) return site->row;
+    before = MemoryContextSwitchTo(context);
     if (get_call_result_type(fcinfo, NULL, &row) != TYPEFUNC_COMPOSITE) elog(ERROR, "return type must be a row type");
-    return BlessTupleDesc(row);
+    site->row = BlessTupleDesc(row);
+    MemoryContextSwitchTo(before);
+    return site->row;
+}
+
+/* A row that a function returns. */
+static Datum row_with(TupleDesc row, Datum *columns) {
+    bool nulls[8] = {false};
+    return HeapTupleGetDatum(heap_form_tuple(row, columns, nulls));
 }
 
 /* A function that returns whether there is a match, and one that returns whether there is none. */
@@ -63,7 +77,6 @@ PG_FUNCTION_INFO_V1(lazydfa_pg_find);
 Datum lazydfa_pg_find(PG_FUNCTION_ARGS) {
     Value value = value_of(fcinfo, 0);
     const char *bytes = (const char *)value.bytes;
-    bool nulls[2] = {false, false};
     lazydfa_match match;
     Datum places[2];
     int before;
@@ -71,7 +84,7 @@ Datum lazydfa_pg_find(PG_FUNCTION_ARGS) {
     before = pg_mbstrlen_with_len(bytes, match.start);
     places[0] = Int32GetDatum(before + 1);
     places[1] = Int32GetDatum(before + 1 + pg_mbstrlen_with_len(bytes + match.start, match.end - match.start));
-    PG_RETURN_DATUM(HeapTupleGetDatum(heap_form_tuple(row_of(fcinfo), places, nulls)));
+    PG_RETURN_DATUM(row_with(row_of(fcinfo, fcinfo->flinfo->fn_extra, fcinfo->flinfo->fn_mcxt), places));
 }
 
 PG_FUNCTION_INFO_V1(lazydfa_pg_substr);
@@ -118,14 +131,31 @@ typedef struct {
     Site site;
 } Walk;
 
-/* The walk of a function, which its first call begins over a copy of the value. Between calls other patterns may be
-   compiled, and these freed, so each call looks for them. */
+/* A copy of the patterns in argument 1. */
+static Key copy_of_patterns(FunctionCallInfo fcinfo, uint32 flags) {
+    Key key = {NULL, 0, flags};
+    limit_length(PG_GETARG_DATUM(1), flags);
+    if (flags & IS_LIST) {
+        ArrayType *array = PG_GETARG_ARRAYTYPE_P_COPY(1);
+        key.bytes = (const char *)array;
+        key.length = VARSIZE(array);
+    } else {
+        text *pattern = PG_GETARG_TEXT_P_COPY(1);
+        key.bytes = VARDATA(pattern);
+        key.length = VARSIZE(pattern) - VARHDRSZ;
+    }
+    return key;
+}
+
+/* The walk of a function, which its first call begins over copies of the value and of the patterns. Between calls
+   other patterns may be compiled, and these freed, so each call looks for them. */
 static Walk *walk_of(FunctionCallInfo fcinfo, FuncCallContext *context, uint32 flags) {
     Walk *walk = context->user_fctx;
     if (!walk) {
         MemoryContext before = MemoryContextSwitchTo(context->multi_call_memory_ctx);
         context->user_fctx = walk = palloc0(sizeof *walk);
         begin_value(&walk->value, PG_GETARG_TEXT_P_COPY(0));
+        walk->site.key = copy_of_patterns(fcinfo, flags);
         MemoryContextSwitchTo(before);
     }
     walk->value.kept = kept_of_call(fcinfo, &walk->site, flags);
@@ -150,7 +180,6 @@ PG_FUNCTION_INFO_V1(lazydfa_pg_tokens);
 /* The tokens of a text, one after another, each with the pattern that it is of. */
 Datum lazydfa_pg_tokens(PG_FUNCTION_ARGS) {
     FuncCallContext *context;
-    bool nulls[2] = {false, false};
     lazydfa_status status;
     Datum columns[2];
     lazydfa_match token;
@@ -166,14 +195,14 @@ Datum lazydfa_pg_tokens(PG_FUNCTION_ARGS) {
                        pg_mbstrlen_with_len((const char *)walk->value.bytes, status.offset) + 1));
     columns[0] = Int32GetDatum((int32)token.pattern + 1);
     columns[1] = text_of(&walk->value, token);
-    SRF_RETURN_NEXT(context, HeapTupleGetDatum(heap_form_tuple(row_of(fcinfo), columns, nulls)));
+    SRF_RETURN_NEXT(context, row_with(row_of(fcinfo, &walk->site, context->multi_call_memory_ctx), columns));
 }
 
 PG_FUNCTION_INFO_V1(lazydfa_pg_which);
 
 /* The places in the array, from 1, of the patterns that match. */
 Datum lazydfa_pg_which(PG_FUNCTION_ARGS) {
-    Value value = value_of(fcinfo, IS_LIST | FINDS_ALL);
+    Value value = value_of(fcinfo, IS_LIST | FINDS_ALL | ENDS_ONLY);
     size_t room = Max(value.kept->count, 1), count;
     uint32_t *patterns = palloc(room * sizeof *patterns);
     Datum *places = palloc(room * sizeof *places);
@@ -186,11 +215,14 @@ PG_FUNCTION_INFO_V1(lazydfa_pg_stats);
 
 Datum lazydfa_pg_stats(PG_FUNCTION_ARGS) {
     KeptStats stats = kept_stats();
-    bool nulls[4] = {false, false, false, false};
-    Datum columns[4];
+    Site site = {0};
+    Datum columns[7];
     columns[0] = Int64GetDatum(stats.patterns);
     columns[1] = Int64GetDatum(stats.memory);
-    columns[2] = Int64GetDatum(stats.clears);
-    columns[3] = Int64GetDatum(stats.compiled);
-    PG_RETURN_DATUM(HeapTupleGetDatum(heap_form_tuple(row_of(fcinfo), columns, nulls)));
+    columns[2] = Int64GetDatum(stats.leaps);
+    columns[3] = Int64GetDatum(stats.held);
+    columns[4] = Int64GetDatum(stats.tables);
+    columns[5] = Int64GetDatum(stats.clears);
+    columns[6] = Int64GetDatum(stats.compiled);
+    PG_RETURN_DATUM(row_with(row_of(fcinfo, &site, CurrentMemoryContext), columns));
 }

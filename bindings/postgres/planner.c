@@ -1,5 +1,8 @@
-/* What the planner asks about the operators: how many rows they let through, and which part of an index they need. */
-#include "kept.h"
+/* What part of an index the operators need, for the planner. It is derived from what the library knows of every match
+   of a pattern, and each row that an index gives is searched again. */
+#include "compile.h"
+
+#include <ctype.h>
 
 #include "access/htup.h"
 #include "access/stratnum.h"
@@ -7,105 +10,213 @@
 #include "catalog/pg_operator_d.h"
 #include "catalog/pg_opfamily_d.h"
 #include "catalog/pg_type_d.h"
+#include "lib/stringinfo.h"
 #include "mb/pg_wchar.h"
+#include "miscadmin.h"
 #include "nodes/makefuncs.h"
 #include "nodes/nodeFuncs.h"
 #include "nodes/supportnodes.h"
 #include "utils/builtins.h"
 #include "utils/lsyscache.h"
+#include "utils/memutils.h"
 #include "utils/pg_locale.h"
-#include "utils/selfuncs.h"
 
-/* Of the operators with !, where matchingsel and matchingjoinsel have 0.01. */
-#define NOT_MATCHING 0.99
+/* Patterns that are longer, or have more class escapes, are not read for a plan: it takes longer than it is worth. */
+#define LONGEST 8192
+#define MOST_CLASSES 200
 
-PG_FUNCTION_INFO_V1(lazydfa_pg_notsel);
+/* The strategy of LIKE in the operator families of pg_trgm. */
+#define LIKE_STRATEGY 3
+#define MOST_LITERALS 16
+#define MOST_BYTES 2048
 
-/* Which part of the rows has no match: as matchingsel, by the values that the statistics have. */
-Datum lazydfa_pg_notsel(PG_FUNCTION_ARGS) {
-    PlannerInfo *root = (PlannerInfo *)PG_GETARG_POINTER(0);
-    Oid operator = PG_GETARG_OID(1);
-    List *args = (List *)PG_GETARG_POINTER(2);
-    PG_RETURN_FLOAT8(generic_restriction_selectivity(root, operator, PG_GET_COLLATION(), args, PG_GETARG_INT32(3),
-                                                     NOT_MATCHING));
-}
+/* What is known of every match: whether it begins and ends where the text does, its prefix, and texts that it
+   contains. More than there is room for is left out. */
+typedef struct {
+    lazydfa_facts facts;
+    const char *prefix;
+    size_t prefix_length; /* of whole characters */
+    bool is_exact;        /* a text that has a match is its prefix */
+    uint8_t bytes[MOST_BYTES];
+    size_t lengths[MOST_LITERALS];
+} Known;
 
-PG_FUNCTION_INFO_V1(lazydfa_pg_notjoinsel);
-
-Datum lazydfa_pg_notjoinsel(PG_FUNCTION_ARGS) { PG_RETURN_FLOAT8(NOT_MATCHING); }
-
-/* Whether a character of a pattern, with no flag before it, stands for itself, unless a repetition comes after it. */
-static bool is_literal(unsigned char byte) { return byte > ' ' ? !strchr("\\.+*?()|[]{}^$", byte) : byte == ' '; }
-
-/* The literal text with which every match of a pattern begins, and so every text with a match: what stands between ^
-   and the first character that is special. NULL if there is none. */
-static char *prefix_of(const char *pattern, int length) {
-    int at = 1, last = 1;
-    if (length < 2 || *pattern != '^' || memchr(pattern, '|', length)) return NULL;
-    while (at < length && is_literal(pattern[at])) {
-        last = at;
-        at += pg_mblen(pattern + at);
+/* How many bytes at the start of some are characters of a text. */
+static size_t whole_characters(const char *bytes, size_t length) {
+    size_t at = 0;
+    while (at < length && bytes[at]) {
+        size_t size = pg_utf_mblen((const unsigned char *)bytes + at);
+        if (size > length - at || !pg_utf8_islegal((const unsigned char *)bytes + at, (int)size)) break;
+        at += size;
     }
-    if (at > length) return NULL;
-    /* The last one may be there any number of times. */
-    if (at < length && strchr("*?{", pattern[at])) at = last;
-    return at > 1 ? pnstrdup(pattern + 1, at - 1) : NULL;
+    return at;
 }
 
-/* The least text, by its bytes, above all that begin with a prefix, or above more of them; NULL if there is none. */
-static char *above(const char *prefix) {
-    int length = strlen(prefix);
-    char *bound;
-    while (length > 0 && (unsigned char)prefix[length - 1] >= 0x7f) length--;
-    if (length == 0) return NULL;
-    bound = pnstrdup(prefix, length);
-    bound[length - 1]++;
-    return bound;
+/* Reads a pattern for what is known of its matches. False if it is not one, or is not read. */
+static bool read_facts(Known *known, const Key *key) {
+    lazydfa_text_options options = text_options(key->flags);
+    lazydfa_facts *facts = &known->facts;
+    lazydfa_status status;
+    if (key->length > LONGEST || class_escapes(key->bytes, key->length) > MOST_CLASSES) return false;
+    status = lazydfa_text_facts(key->bytes, key->length, &options, facts, known->bytes, MOST_BYTES, known->lengths,
+                                MOST_LITERALS);
+    if (status.code != LAZYDFA_OK) return false;
+    known->prefix = (const char *)known->bytes;
+    known->prefix_length = whole_characters(known->prefix, Min(facts->prefix, MOST_BYTES));
+    known->is_exact =
+        facts->anchored_start && facts->anchored_end && facts->exact && known->prefix_length == facts->prefix;
+    return true;
+}
+
+/* What is known of a pattern's matches; NULL if nothing is. The planner asks for each index of a table, so this is kept
+   for the pattern that was asked about last. */
+static const Known *know(const text *pattern, uint32 flags) {
+    static Key last = {NULL, 0, 0};
+    static Known known;
+    static bool is_known;
+    Key key = {VARDATA_ANY(pattern), VARSIZE_ANY_EXHDR(pattern), flags};
+    if (!last.bytes || key.length != last.length || flags != last.flags || memcmp(key.bytes, last.bytes, key.length)) {
+        char *copy = MemoryContextAlloc(TopMemoryContext, Max(key.length, 1));
+        memcpy(copy, key.bytes, key.length);
+        if (last.bytes) pfree((char *)last.bytes);
+        last = (Key){copy, key.length, flags};
+        is_known = read_facts(&known, &last);
+    }
+    return is_known ? &known : NULL;
 }
 
 /* An operator of the index between its column and a text. */
-static Expr *compare(const SupportRequestIndexCondition *request, Node *column, int strategy, const char *bound) {
+static Expr *compare(const SupportRequestIndexCondition *request, Node *column, int strategy, const char *bytes,
+                     size_t length) {
     Oid operator = get_opfamily_member(request->opfamily, TEXTOID, TEXTOID, strategy);
+    Datum bound;
     Const *constant;
     if (!OidIsValid(operator)) return NULL;
-    constant = makeConst(TEXTOID, -1, DEFAULT_COLLATION_OID, -1, CStringGetTextDatum(bound), false, false);
+    bound = PointerGetDatum(cstring_to_text_with_len(bytes, (int)length));
+    constant = makeConst(TEXTOID, -1, DEFAULT_COLLATION_OID, -1, bound, false, false);
     return make_opclause(operator, BOOLOID, false, (Expr *)column, (Expr *)constant, InvalidOid,
                          request->indexcollation);
+}
+
+/* Adds a condition to a list, if there is one. */
+static List *with(List *conditions, Expr *condition) { return condition ? lappend(conditions, condition) : conditions; }
+
+/* The least text, by its bytes, above all that begin with a prefix, or above more of them: a copy, and its length,
+   which is 0 if there is none. */
+static char *above(const char *prefix, size_t *length) {
+    char *bound = pnstrdup(prefix, *length);
+    while (*length > 0 && (unsigned char)bound[*length - 1] >= 0x7f) --*length;
+    if (*length > 0) bound[*length - 1]++;
+    return bound;
 }
 
 /* Whether the index has its texts in the order of their bytes. */
 static bool is_by_bytes(const SupportRequestIndexCondition *request) {
     if (request->opfamily == TEXT_PATTERN_BTREE_FAM_OID) return true;
-    return request->opfamily == TEXT_BTREE_FAM_OID && lc_collate_is_c(request->indexcollation);
+    return request->opfamily == TEXT_BTREE_FAM_OID && COLLATES_BY_BYTES(request->indexcollation);
 }
 
-/* The rows of an index that can match: those that begin with the pattern's prefix, as bounds on the column. */
-static List *conditions_of(SupportRequestIndexCondition *request) {
+/* Whether equal texts of the index have equal bytes, and it has them in an order. */
+static bool is_ordered(const SupportRequestIndexCondition *request) {
+    if (request->opfamily == TEXT_PATTERN_BTREE_FAM_OID) return true;
+    return request->opfamily == TEXT_BTREE_FAM_OID && get_collation_isdeterministic(request->indexcollation);
+}
+
+/* The rows of an ordered index that can match: those that begin with the prefix, or are equal to it. */
+static List *range_of(const SupportRequestIndexCondition *request, Node *column, const Known *known) {
+    size_t length = known->prefix_length;
+    List *conditions = NIL;
+    char *bound;
+    if (known->is_exact && is_ordered(request))
+        return with(NIL, compare(request, column, BTEqualStrategyNumber, known->prefix, length));
+    if (!known->facts.anchored_start || length == 0 || !is_by_bytes(request)) return NIL;
+    conditions = with(NIL, compare(request, column, BTGreaterEqualStrategyNumber, known->prefix, length));
+    bound = above(known->prefix, &length);
+    if (length > 0) conditions = with(conditions, compare(request, column, BTLessStrategyNumber, bound, length));
+    return conditions;
+}
+
+/* Whether the index has trigrams of its texts, by pg_trgm: whether its operator family has LIKE as this strategy. */
+static bool is_by_trigrams(const SupportRequestIndexCondition *request) {
+    return get_opfamily_member(request->opfamily, TEXTOID, TEXTOID, LIKE_STRATEGY) == OID_TEXT_LIKE_OP;
+}
+
+/* Whether a text has as many letters or digits in a row as a trigram has. What is not ASCII may be a letter. */
+static bool has_trigram(const char *bytes, size_t length) {
+    int row = 0;
+    for (size_t at = 0; at < length && row < 3; at += pg_utf_mblen((const unsigned char *)bytes + at)) {
+        unsigned char byte = bytes[at];
+        row = byte >= 0x80 || isalnum(byte) ? row + 1 : 0;
+    }
+    return row == 3;
+}
+
+/* A condition that the column is LIKE a text, with these around it. */
+static Expr *like(const SupportRequestIndexCondition *request, Node *column, const char *before, const char *bytes,
+                  size_t length, const char *after) {
+    StringInfoData pattern;
+    initStringInfo(&pattern);
+    appendStringInfoString(&pattern, before);
+    for (size_t i = 0; i < length; i++) {
+        if (strchr("%_\\", bytes[i])) appendStringInfoChar(&pattern, '\\');
+        appendStringInfoChar(&pattern, bytes[i]);
+    }
+    appendStringInfoString(&pattern, after);
+    return compare(request, column, LIKE_STRATEGY, pattern.data, pattern.len);
+}
+
+/* The rows of an index of trigrams that can match: those that contain all texts that every match contains. The prefix
+   is one of these texts, and is not asked for again. */
+static List *likes_of(const SupportRequestIndexCondition *request, Node *column, const Known *known) {
+    const char *literal = known->prefix + known->facts.prefix, *end = (const char *)known->bytes + MOST_BYTES;
+    bool has_prefix = has_trigram(known->prefix, known->prefix_length);
+    List *conditions = NIL;
+    if (!get_collation_isdeterministic(request->indexcollation)) return NIL;
+    if (has_prefix)
+        conditions = with(NIL, like(request, column, known->facts.anchored_start ? "" : "%", known->prefix,
+                                    known->prefix_length, known->is_exact ? "" : "%"));
+    for (size_t i = 0; i < Min(known->facts.count, MOST_LITERALS) && literal < end; i++) {
+        size_t length = known->lengths[i];
+        if (length > (size_t)(end - literal)) break;
+        if (whole_characters(literal, length) == length && has_trigram(literal, length) &&
+            !(has_prefix && memmem(known->prefix, known->prefix_length, literal, length)))
+            conditions = with(conditions, like(request, column, "%", literal, length, "%"));
+        literal += length;
+    }
+    return conditions;
+}
+
+/* The rows of an index that can match, as conditions on its column. */
+static List *conditions_of(SupportRequestIndexCondition *request, uint32 flags) {
     List *args = is_opclause(request->node)     ? ((OpExpr *)request->node)->args
                  : is_funcclause(request->node) ? ((FuncExpr *)request->node)->args
                                                 : NIL;
-    Const *pattern;
-    char *prefix, *bound;
-    Expr *low, *high;
+    const Known *known;
+    const Const *pattern;
     if (list_length(args) != 2 || request->indexarg != 0 || !IsA(lsecond(args), Const)) return NIL;
     pattern = lsecond(args);
     if (pattern->constisnull || pattern->consttype != TEXTOID || exprType(linitial(args)) != TEXTOID) return NIL;
-    if (GetDatabaseEncoding() != PG_UTF8 || !is_by_bytes(request)) return NIL;
-    prefix = TextDatumGetCString(pattern->constvalue);
-    prefix = prefix_of(prefix, strlen(prefix));
-    if (!prefix || !(low = compare(request, linitial(args), BTGreaterEqualStrategyNumber, prefix))) return NIL;
-    bound = above(prefix);
-    high = bound ? compare(request, linitial(args), BTLessStrategyNumber, bound) : NULL;
-    return high ? list_make2(low, high) : list_make1(low);
+    if (GetDatabaseEncoding() != PG_UTF8 || !(is_ordered(request) || is_by_trigrams(request))) return NIL;
+    CHECK_FOR_INTERRUPTS();
+    known = know(DatumGetTextPP(pattern->constvalue), flags);
+    if (!known) return NIL;
+    if (is_by_trigrams(request)) return likes_of(request, linitial(args), known);
+    return range_of(request, linitial(args), known);
+}
+
+/* What a function offers the planner. */
+static Datum offer(FunctionCallInfo fcinfo, uint32 flags) {
+    Node *request = (Node *)PG_GETARG_POINTER(0);
+    List *conditions = NIL;
+    if (IsA(request, SupportRequestIndexCondition))
+        conditions = conditions_of((SupportRequestIndexCondition *)request, flags);
+    PG_RETURN_POINTER(conditions);
 }
 
 PG_FUNCTION_INFO_V1(lazydfa_pg_support);
 
-/* What lazydfa_match offers the planner. Each row that an index gives is searched again. */
-Datum lazydfa_pg_support(PG_FUNCTION_ARGS) {
-    Node *request = (Node *)PG_GETARG_POINTER(0);
-    List *conditions = NIL;
-    if (IsA(request, SupportRequestIndexCondition))
-        conditions = conditions_of((SupportRequestIndexCondition *)request);
-    PG_RETURN_POINTER(conditions);
-}
+Datum lazydfa_pg_support(PG_FUNCTION_ARGS) { return offer(fcinfo, 0); }
+
+PG_FUNCTION_INFO_V1(lazydfa_pg_isupport);
+
+Datum lazydfa_pg_isupport(PG_FUNCTION_ARGS) { return offer(fcinfo, FOLDS_CASE); }

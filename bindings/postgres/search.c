@@ -4,6 +4,8 @@
 
 #include "miscadmin.h"
 
+#include "compile.h"
+
 static const lazydfa_status none = {LAZYDFA_NONE, 0, 0};
 
 void begin_value(Value *value, struct varlena *it) {
@@ -30,6 +32,8 @@ static lazydfa_status end_in_pieces(Value *value, const lazydfa_input *left, laz
     int32_t behind = left->start > 0 ? value->bytes[left->start - 1] : -1;
     lazydfa_status status = lazydfa_pieces_begin(cache, left->anchored, 0, behind, left->earliest);
     uint32_t done = 0;
+    if (status.code == LAZYDFA_QUIT) status.offset = left->start - 1;
+    if (status.code != LAZYDFA_OK) return status;
     for (size_t at = left->start; status.code == LAZYDFA_OK && !done && at < left->end; at += piece_at(value, at)) {
         CHECK_FOR_INTERRUPTS();
         status = lazydfa_pieces_read(cache, value->bytes + at, piece_at(value, at), &done);
@@ -60,9 +64,12 @@ static lazydfa_status start_in_pieces(Value *value, const lazydfa_input *left, l
     int32_t behind = left->end < value->length ? value->bytes[left->end] : -1;
     int32_t ahead = left->start > 0 ? value->bytes[left->start - 1] : -1;
     lazydfa_status status = lazydfa_pieces_begin(cache, LAZYDFA_ANCHORED_YES, 0, behind, 0);
-    uint8_t *piece = palloc(Min(value->kept->piece, left->end - left->start));
+    uint8_t *piece;
     size_t length = 32;
     uint32_t done = 0;
+    if (status.code == LAZYDFA_QUIT) status.offset = left->end;
+    if (status.code != LAZYDFA_OK) return status;
+    piece = palloc(Min(value->kept->piece, left->end - left->start));
     for (size_t at = left->end; status.code == LAZYDFA_OK && !done && at > left->start; at -= length) {
         CHECK_FOR_INTERRUPTS();
         length = Min(Min(2 * length, value->kept->piece), at - left->start);
@@ -72,6 +79,7 @@ static lazydfa_status start_in_pieces(Value *value, const lazydfa_input *left, l
     pfree(piece);
     if (status.code == LAZYDFA_OK) status = lazydfa_pieces_end(cache, ahead, start);
     if (status.code == LAZYDFA_OK) start->offset = left->end - start->offset;
+    else status.offset = left->end - 1 - status.offset; /* it counts back from the byte before the end */
     return status;
 }
 
@@ -130,43 +138,59 @@ static lazydfa_status token_in_pieces(Value *value, lazydfa_match *token) {
 }
 
 /* Marks patterns that match where a walk stands, and counts them, up to so many. */
-static void mark(Value *value, const lazydfa_stop *stop, size_t most, bool *found, size_t *count) {
-    if (stop->patterns > 0 && is_skipped(value, stop->offset)) return;
+static lazydfa_status mark(Value *value, const lazydfa_stop *stop, size_t most, bool *found, size_t *count) {
+    lazydfa_status status = {LAZYDFA_OK, 0, 0};
+    if (stop->patterns > 0 && is_skipped(value, stop->offset)) return status;
     for (size_t i = 0; i < stop->patterns && *count < most; i++) {
         uint32_t pattern;
-        if (lazydfa_walk_pattern(&value->kept->cache, i, &pattern).code != LAZYDFA_OK) return;
+        status = lazydfa_walk_pattern(&value->kept->cache, i, &pattern);
+        if (status.code != LAZYDFA_OK) return status;
         *count += !found[pattern];
         found[pattern] = true;
     }
-}
-
-/* What lazydfa_which finds, in pieces, up to so many patterns: those that are met first. */
-static lazydfa_status walk(Value *value, size_t most, uint32_t *patterns, size_t *count) {
-    lazydfa_cache *cache = &value->kept->cache;
-    bool *found = palloc0(Max(value->kept->count, 1));
-    lazydfa_stop stop;
-    lazydfa_status status = lazydfa_walk_begin(cache, LAZYDFA_UNANCHORED, 0, -1);
-    *count = 0;
-    for (size_t at = 0; status.code <= LAZYDFA_NONE && *count < most && at < value->length; at += stop.read) {
-        CHECK_FOR_INTERRUPTS();
-        status = lazydfa_walk_read(cache, value->bytes + at, piece_at(value, at), &stop);
-        mark(value, &stop, most, found, count);
-    }
-    if (status.code <= LAZYDFA_NONE && *count < most) {
-        status = lazydfa_walk_end(cache, -1, &stop);
-        mark(value, &stop, most, found, count);
-    }
-    for (size_t i = 0, listed = 0; listed < *count; i++)
-        if (found[i]) patterns[listed++] = i;
-    pfree(found);
-    if (status.code <= LAZYDFA_NONE) status.code = *count > 0 ? LAZYDFA_OK : LAZYDFA_NONE;
     return status;
 }
 
-/* Ends a search: what it has added to the cache is counted, and an error is reported. */
-static void end_search(Value *value, lazydfa_status status) {
-    kept_count(value->kept);
-    if (status.code != LAZYDFA_OK && status.code != LAZYDFA_NONE && status.code != LAZYDFA_NO_TOKEN) kept_fail(status);
+/* Reads a value by a walk, and marks the patterns that match, up to so many: those that are met first. */
+static lazydfa_status walk_on(Value *value, size_t most, bool *found, size_t *count) {
+    lazydfa_cache *cache = &value->kept->cache;
+    lazydfa_stop stop;
+    lazydfa_status status = lazydfa_walk_begin(cache, LAZYDFA_UNANCHORED, 0, -1);
+    for (size_t at = 0; status.code == LAZYDFA_OK && *count < most && at < value->length; at += stop.read) {
+        CHECK_FOR_INTERRUPTS();
+        status = lazydfa_walk_read(cache, value->bytes + at, piece_at(value, at), &stop);
+        if (status.code <= LAZYDFA_NONE) status = mark(value, &stop, most, found, count);
+    }
+    if (status.code != LAZYDFA_OK || *count == most) return status;
+    status = lazydfa_walk_end(cache, -1, &stop);
+    return status.code <= LAZYDFA_NONE ? mark(value, &stop, most, found, count) : status;
+}
+
+/* What lazydfa_which finds, in pieces, up to so many patterns. */
+static lazydfa_status which_in_pieces(Value *value, size_t most, uint32_t *patterns, size_t *count) {
+    bool *found = palloc0(Max(value->kept->count, 1));
+    lazydfa_status status;
+    *count = 0;
+    status = walk_on(value, most, found, count);
+    for (size_t i = 0, listed = 0; listed < *count; i++)
+        if (found[i]) patterns[listed++] = i;
+    pfree(found);
+    if (status.code == LAZYDFA_OK && *count == 0) return none;
+    return status;
+}
+
+/* Begins a search, before which the query may be cancelled. */
+static void begin_search(Value *value) {
+    CHECK_FOR_INTERRUPTS();
+    kept_begin(value->kept);
+}
+
+/* Ends a search of so many bytes: what it has added to the cache is counted, and an error is reported, unless the
+   planner estimates. */
+static void end_search(Value *value, size_t length, lazydfa_status status) {
+    kept_count(value->kept, length);
+    if (status.code == LAZYDFA_OK || status.code == LAZYDFA_NONE || status.code == LAZYDFA_NO_TOKEN) return;
+    if (!kept_is_estimating) fail(status);
 }
 
 /* Whether a search of what is left from an offset on takes more than one call of the library. */
@@ -179,30 +203,33 @@ bool has_match(Value *value) {
     lazydfa_half end;
     uint32_t pattern;
     size_t count;
-    CHECK_FOR_INTERRUPTS();
+    if (!kept) return false;
+    begin_search(value);
     whole.earliest = !kept->skips; /* a match that is skipped may end before one that is not */
     if (!has_parts(value, 0)) status = lazydfa_is_match(&kept->cache, value->bytes, value->length, &whole);
-    else if (kept->skips && kept->flags & FINDS_ALL) status = walk(value, 1, &pattern, &count);
+    else if (kept->skips && kept->key.flags & FINDS_ALL) status = which_in_pieces(value, 1, &pattern, &count);
     else status = find_end(value, &whole, &end);
-    end_search(value, status);
+    end_search(value, value->length, status);
     return status.code == LAZYDFA_OK;
 }
 
 bool find_next(Value *value, lazydfa_match *match) {
+    size_t from = value->matches.left.start;
     lazydfa_status status;
-    CHECK_FOR_INTERRUPTS();
-    if (has_parts(value, value->matches.left.start)) status = next_by_parts(value, match);
+    begin_search(value);
+    if (has_parts(value, from)) status = next_by_parts(value, match);
     else status = lazydfa_next(&value->kept->cache, value->bytes, value->length, &value->matches, match);
-    end_search(value, status);
+    end_search(value, (status.code == LAZYDFA_OK ? match->end : value->length) - from, status);
     return status.code == LAZYDFA_OK;
 }
 
 lazydfa_status find_token(Value *value, lazydfa_match *token) {
+    size_t from = value->tokens.start;
     lazydfa_status status;
-    CHECK_FOR_INTERRUPTS();
-    if (is_long(value, value->tokens.start)) status = token_in_pieces(value, token);
+    begin_search(value);
+    if (is_long(value, from)) status = token_in_pieces(value, token);
     else status = lazydfa_token(&value->kept->cache, value->bytes, value->length, &value->tokens, token);
-    end_search(value, status);
+    end_search(value, (status.code == LAZYDFA_OK ? token->end : value->length) - from, status);
     return status;
 }
 
@@ -211,11 +238,11 @@ size_t find_all(Value *value, uint32_t *patterns) {
     lazydfa_input whole = lazydfa_whole(value->length);
     lazydfa_status status;
     size_t count;
-    CHECK_FOR_INTERRUPTS();
-    if (has_parts(value, 0)) status = walk(value, kept->count, patterns, &count);
+    begin_search(value);
+    if (has_parts(value, 0)) status = which_in_pieces(value, kept->count, patterns, &count);
     else
         status = lazydfa_which(&kept->cache, value->bytes, value->length, &whole, kept->count, patterns, kept->count,
                                &count);
-    end_search(value, status);
+    end_search(value, value->length, status);
     return count;
 }

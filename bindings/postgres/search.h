@@ -6,17 +6,21 @@
 
 /* A value that is searched, and how far. */
 typedef struct {
-    Kept *kept;
+    Kept *kept; /* NULL if there is no search for the patterns, while the planner estimates */
     const uint8_t *bytes;
     size_t length;
     lazydfa_iteration matches; /* what is left for find_next */
     lazydfa_input tokens;      /* what is left for find_token */
 } Value;
 
+/* Names of the extension, which no other library sees. */
+#pragma GCC visibility push(hidden)
+
 /* Begins the searches of a value, which is a text or a bytea. */
 extern void begin_value(Value *value, struct varlena *it);
 
-/* Each search reports errors of the library. A query can be cancelled before it, and in a long value while it runs. */
+/* Each search reports errors of the library. A query can be cancelled before it, and in a long value while it runs.
+   */
 
 /* Whether there is a match. */
 extern bool has_match(Value *value);
@@ -30,5 +34,7 @@ extern lazydfa_status find_token(Value *value, lazydfa_match *token);
 
 /* The numbers of the patterns that match, in increasing order, and how many they are. There is room for all. */
 extern size_t find_all(Value *value, uint32_t *patterns);
+
+#pragma GCC visibility pop
 
 #endif

@@ -11,17 +11,27 @@ typedef struct {
     int count, numbers, matches, names;
 } shown;
 
-/* The whole of a file, or NULL. */
+/* The whole of a file, or NULL if it cannot be read. */
 static uint8_t *read_all(const char *name, size_t *length) {
     FILE *file = fopen(name, "rb");
-    uint8_t *text = NULL;
-    long size;
-    if (!file) return NULL;
-    if (!fseek(file, 0, SEEK_END) && (size = ftell(file)) >= 0 && !fseek(file, 0, SEEK_SET)) {
-        text = (uint8_t *)malloc((size_t)size + 1);
-        if (text) *length = fread(text, 1, (size_t)size, file);
+    uint8_t *text = NULL, *larger;
+    size_t room = 0, got = 1;
+    *length = 0;
+    while (file && got > 0) {
+        if (*length == room) {
+            room = 2 * room + 65536;
+            larger = (uint8_t *)realloc(text, room);
+            if (!larger) break;
+            text = larger;
+        }
+        got = fread(text + *length, 1, room - *length, file);
+        *length += got;
     }
-    fclose(file);
+    if (!file || got > 0 || ferror(file)) {
+        free(text);
+        text = NULL;
+    }
+    if (file) fclose(file);
     return text;
 }
 
@@ -132,5 +142,9 @@ int main(int argc, char **argv) {
     for (; status.code == LAZYDFA_OK && argv[i]; i++) well &= search_file(&cache, &how, argv[i], &found);
     lazydfa_cache_close(&cache);
     lazydfa_regex_close(&regex);
+    if (fflush(stdout) || ferror(stdout)) {
+        fprintf(stderr, "the output cannot be written\n");
+        well = 0;
+    }
     return status.code != LAZYDFA_OK || !well ? 2 : !found;
 }

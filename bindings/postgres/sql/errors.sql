@@ -1,4 +1,4 @@
--- What is no pattern, and what cannot be searched.
+-- What is not a pattern, and what cannot be searched.
 \set VERBOSITY default
 SELECT 'a' =~ 'é(b';
 SELECT 'a' =~ 'a{2,1}';
@@ -12,21 +12,36 @@ SELECT 'a' =~ '(?-u:\xff)';
 SELECT lazydfa_which('a', array['a', NULL]);
 SELECT 'after errors' =~ 'err' AS yes;
 
--- Too large, too deep, and long
+-- Too long: a text, the texts of an array together, and the number of its elements
+SELECT 'a' =~ repeat('a', 65537);
+SELECT 'a' =~| array[repeat('a', 40000), repeat('a', 40000)];
+SELECT lazydfa_which('a', array_fill(''::text, array[65537]));
+SELECT lazydfa_matches('a', repeat('a', 65537));
+SELECT lazydfa_tokens('a', array_fill('a'::text, array[10000000]));
+SELECT repeat('b', 65534) =~ ('^' || repeat('b', 65534) || '$') AS yes;
+SELECT 'b' =~| array_fill('b'::text, array[65536]) AS yes;
+
+-- Too many classes, too large, and too deep
+SELECT 'a' =~ (repeat('\s?', 2000)) AS yes;
+SELECT 'a' =~ (repeat('\s?', 2001));
+SELECT 'a' =~| array_fill('\pL'::text, array[2001]);
 SELECT 'a' =~ '(a{1000}){1000}';
-SELECT 'a' =~ ('a|' || repeat('b', 1000000));
+SELECT 'a' =~| array_agg('\w{9}' || n) FROM generate_series(1, 1000) n;
 SELECT 'a' =~ (repeat('(', 250) || 'a' || repeat(')', 250)) AS yes;
-SELECT 'a' =~ repeat('(', 1000000);
-SELECT repeat('b', 100000) =~ ('^' || repeat('b', 100000) || '$') AS yes;
-SELECT 'a' =~| array_agg('\w{9}' || n) FROM generate_series(1, 10000) n;
+SELECT 'a' =~ repeat('(', 60000);
 
 -- A word boundary of Unicode is one of ASCII in text that is ASCII
 SELECT 'an ERROR, ä' =~ '\bERROR\b' AS yes;
 SELECT 'ä ERROR' =~ '\bERROR\b';
+SET lazydfa.piece_size = 3;
+SELECT 'ERROR ä' =~ '\bERRORS';
+SELECT lazydfa_count('ab äb', '\bb');
+RESET lazydfa.piece_size;
 
 -- Each has its code
 \set VERBOSITY sqlstate
 SELECT 'a' =~ '(';
+SELECT 'a' =~ repeat('a', 100000);
 SELECT 'a' =~ '(a{1000}){1000}';
 SELECT 'ä' =~ '\ba';
 SELECT lazydfa_which('a', array['a', NULL]);

@@ -1,0 +1,246 @@
+/* Compiles patterns, within the limits of the settings, and reports what is wrong with them. */
+#include "compile.h"
+
+#include "access/detoast.h"
+#include "catalog/pg_type_d.h"
+#include "lib/stringinfo.h"
+#include "mb/pg_wchar.h"
+#include "miscadmin.h"
+#include "utils/array.h"
+
+#include "settings.h"
+
+/* As deep as patterns may nest by default in Rust's regex crate. It takes some 270 KiB of the stack; the server
+   leaves 512 KiB below max_stack_depth. */
+#define NEST_LIMIT 250
+#define MESSAGE_ROOM 4096
+
+/* Up to tables of this size pieces are as long as the setting says. Of larger ones a byte can take longer, by as much
+   as they are larger, and pieces are shorter: with tables of 10 MB a byte takes 14 ms at worst, and a piece has 64.
+   */
+#define SMALL_TABLES 40960
+#define SHORTEST_PIECE 16
+
+/* The SQLSTATE of a status. */
+static int sqlstate_of(uint32_t code) {
+    switch (code) {
+    case LAZYDFA_MEMORY: return ERRCODE_OUT_OF_MEMORY;
+    case LAZYDFA_SYNTAX:
+    case LAZYDFA_NOT_TEXT:
+    case LAZYDFA_NOT_COMPILED:
+    case LAZYDFA_UNSUPPORTED: return ERRCODE_INVALID_REGULAR_EXPRESSION;
+    default: return ERRCODE_INTERNAL_ERROR;
+    }
+}
+
+void fail(lazydfa_status status) {
+    if (status.code == LAZYDFA_QUIT)
+        ereport(ERROR, errcode(ERRCODE_FEATURE_NOT_SUPPORTED),
+                errmsg("a Unicode word boundary cannot be searched for in text that is not ASCII"),
+                errdetail("At offset %zu of the text is the byte 0x%02x.", status.offset, status.byte),
+                errhint("Write (?-u:\\b) for a word boundary of ASCII."));
+    if (status.code == LAZYDFA_TOO_LARGE || status.code == LAZYDFA_STATE_IDS)
+        ereport(ERROR, errcode(ERRCODE_PROGRAM_LIMIT_EXCEEDED), errmsg("regular expression is too large"),
+                errhint("lazydfa.pattern_size is the limit."));
+    ereport(ERROR, errcode(sqlstate_of(status.code)),
+            errmsg("regular expression failed: %s", lazydfa_code_text(status.code)),
+            status.code == LAZYDFA_NOT_TEXT
+                ? errdetail("Byte %zu of the pattern is not part of a character in UTF-8.", status.offset + 1)
+                : 0);
+}
+
+/* The bytes of an array with as many patterns as may be, of as many bytes, at most: each has a length of four bytes,
+   and up to three behind it. */
+static size_t longest_array(void) {
+    return (size_t)setting_pattern_length * 9 + ARR_OVERHEAD_WITHNULLS(MAXDIM, 8);
+}
+
+/* Reports patterns that are too long. */
+static bool too_long(uint32 flags) {
+    if (kept_is_estimating) return false;
+    ereport(ERROR, errcode(ERRCODE_PROGRAM_LIMIT_EXCEEDED), errmsg("regular expression is too long"),
+            errdetail("lazydfa.pattern_length allows %d bytes%s.", setting_pattern_length,
+                      flags & IS_LIST ? " and as many patterns" : ""));
+}
+
+bool limit_length(Datum patterns, uint32 flags) {
+    size_t length = toast_raw_datum_size(patterns);
+    if (length <= (flags & IS_LIST ? longest_array() : (size_t)setting_pattern_length + VARHDRSZ)) return true;
+    return too_long(flags);
+}
+
+size_t class_escapes(const char *text, size_t length) {
+    size_t count = 0;
+    for (size_t i = 1; i < length; i++) count += text[i - 1] == '\\' && text[i] && strchr("dDpPsSwW", text[i]);
+    return count;
+}
+
+/* Patterns, how they are compiled, and what was wrong with them. */
+typedef struct {
+    lazydfa_text *texts;
+    size_t count;
+    lazydfa_text_options options;
+    lazydfa_settings settings;
+    lazydfa_refusal refusal;
+    char message[MESSAGE_ROOM];
+} Source;
+
+/* The elements of an array. NULL if there are none. */
+static lazydfa_text *elements_of(const ArrayType *array, uint32 flags, size_t *count) {
+    size_t length = 0;
+    lazydfa_text *texts;
+    Datum *items;
+    bool *nulls;
+    int many = ArrayGetNItems(ARR_NDIM(array), ARR_DIMS(array));
+    if (many > setting_pattern_length && !too_long(flags)) return NULL;
+    deconstruct_array((ArrayType *)array, TEXTOID, -1, false, TYPALIGN_INT, &items, &nulls, &many);
+    texts = palloc(Max(many, 1) * sizeof *texts);
+    for (int i = 0; i < many; i++) {
+        if (nulls[i] && kept_is_estimating) return NULL;
+        if (nulls[i])
+            ereport(ERROR, errcode(ERRCODE_NULL_VALUE_NOT_ALLOWED), errmsg("pattern %d of the array is null", i + 1));
+        texts[i].text = VARDATA_ANY(DatumGetPointer(items[i]));
+        texts[i].length = VARSIZE_ANY_EXHDR(DatumGetPointer(items[i]));
+        length += texts[i].length;
+    }
+    if (length > (size_t)setting_pattern_length && !too_long(flags)) return NULL;
+    *count = many;
+    return texts;
+}
+
+/* The patterns of a key. NULL if there are none, while the planner estimates. */
+static lazydfa_text *texts_of(const Key *key, size_t *count) {
+    lazydfa_text *text;
+    if (key->flags & IS_LIST) return elements_of((const ArrayType *)key->bytes, key->flags, count);
+    text = palloc(sizeof *text);
+    text->text = key->bytes;
+    text->length = key->length;
+    *count = 1;
+    return text;
+}
+
+lazydfa_text_options text_options(uint32 flags) {
+    lazydfa_text_options options;
+    memset(&options, 0, sizeof options);
+    options.case_insensitive = (flags & FOLDS_CASE) != 0;
+    options.bytes = (flags & READS_BYTES) || GetDatabaseEncoding() != PG_UTF8;
+    options.nest_limit = NEST_LIMIT;
+    options.forward_only = (flags & ENDS_ONLY) != 0;
+    options.has_text_limit = options.has_class_limit = options.has_size_limit = 1;
+    options.text_limit = setting_pattern_length;
+    options.class_limit = setting_pattern_classes;
+    options.size_limit = (size_t)setting_pattern_size * 1024;
+    return options;
+}
+
+/* The patterns of a key. Word boundaries of Unicode are allowed: a search for one fails where it meets text that is
+   not ASCII. False if there are none, while the planner estimates. */
+static bool read_source(Source *source, const Key *key) {
+    lazydfa_settings *settings = &source->settings;
+    memset(source, 0, sizeof *source);
+    source->texts = texts_of(key, &source->count);
+    source->options = text_options(key->flags);
+    settings->has_cache_capacity = 1;
+    settings->cache_capacity = (size_t)Min(setting_pattern_cache_size, setting_cache_size) * 1024;
+    if (!(key->flags & ENDS_ONLY)) settings->cache_capacity /= 2; /* one for each direction */
+    settings->skip_cache_capacity_check = 1;
+    settings->unicode_word_boundary = 1;
+    settings->match_kind = key->flags & FINDS_ALL ? LAZYDFA_ALL : LAZYDFA_LEFTMOST_FIRST;
+    return source->texts != NULL;
+}
+
+/* Opens a regex and its cache. */
+static lazydfa_status open_regex(Kept *kept, Source *source) {
+    lazydfa_status status;
+    CHECK_FOR_INTERRUPTS();
+    status = lazydfa_regex_any_of(&kept->regex, source->texts, source->count, &source->options, &source->settings, NULL,
+                                  0, &source->refusal, source->message, sizeof source->message);
+    CHECK_FOR_INTERRUPTS();
+    if (status.code == LAZYDFA_OK) status = lazydfa_regex_size(&kept->regex, &kept->size);
+    return status.code == LAZYDFA_OK ? lazydfa_cache_new(&kept->cache, &kept->regex) : status;
+}
+
+/* Opens a regex and its cache. Patterns that match the empty string, but not inside a character, are compiled so that
+   they do so there too, and searches skip these matches: such patterns are searched for in pieces. */
+static lazydfa_status open_patterns(Kept *kept, Source *source) {
+    lazydfa_status status = open_regex(kept, source);
+    if (status.code == LAZYDFA_OK) status = lazydfa_pieces_begin(&kept->cache, LAZYDFA_UNANCHORED, 0, -1, 0);
+    kept->skips = status.code == LAZYDFA_SKIPS;
+    if (!kept->skips) return status;
+    lazydfa_cache_close(&kept->cache);
+    lazydfa_regex_close(&kept->regex);
+    source->options.bytes = 1;
+    return open_regex(kept, source);
+}
+
+/* Reports patterns that have too many classes, if they do. */
+static void limit_classes(const Source *source) {
+    size_t count = 0;
+    for (size_t i = 0; i < source->count; i++)
+        count += class_escapes(source->texts[i].text, source->texts[i].length);
+    if (count > source->options.class_limit)
+        ereport(ERROR, errcode(ERRCODE_PROGRAM_LIMIT_EXCEEDED), errmsg("regular expression has too many classes"),
+                errdetail("lazydfa.pattern_classes allows %d escapes \\d, \\p, \\s or \\w.", setting_pattern_classes));
+}
+
+/* Reports that a pattern was refused. The library's message has a line for what is wrong, then the pattern and
+   carets. */
+static NEVER_RETURNS(void refuse(lazydfa_status status, const Source *source));
+
+static void refuse(lazydfa_status status, const Source *source) {
+    const lazydfa_refusal *refusal = &source->refusal;
+    const lazydfa_text *refused = &source->texts[refusal->pattern];
+    const char *message = source->message, *end = strchr(message, '\n');
+    StringInfoData where;
+    if (status.code == LAZYDFA_TOO_LARGE) limit_classes(source);
+    if (!end || status.code == LAZYDFA_MEMORY || status.code == LAZYDFA_TOO_LARGE) fail(status);
+    initStringInfo(&where);
+    if (source->count > 1) appendStringInfo(&where, "Pattern %zu of the array", refusal->pattern + 1);
+    else appendStringInfoString(&where, "The pattern");
+    /* Carets are below what they mean if the pattern is one line, and if there was room for all of it. */
+    if (refusal->length < MESSAGE_ROOM && !memchr(refused->text, '\n', refused->length))
+        appendStringInfo(&where, ":\n%s", end + 1);
+    else
+        appendStringInfo(&where, ", at its bytes %zu to %zu.", refusal->start + 1, refusal->end);
+    ereport(ERROR, errcode(ERRCODE_INVALID_REGULAR_EXPRESSION),
+            errmsg("invalid regular expression: %.*s", (int)(end - message), message),
+            errdetail_internal("%s", where.data));
+}
+
+/* Closes what is open, after an error. */
+static void close_all(Kept *kept) {
+    lazydfa_cache_close(&kept->cache);
+    lazydfa_regex_close(&kept->regex);
+}
+
+bool compile(Kept *kept, const Key *key) {
+    lazydfa_status status;
+    Source source;
+    check_stack_depth();
+    if (!read_source(&source, key)) return false;
+    PG_TRY();
+    {
+        status = open_patterns(kept, &source);
+        if (status.code != LAZYDFA_OK && !kept_is_estimating) refuse(status, &source);
+    }
+    PG_CATCH();
+    {
+        close_all(kept);
+        PG_RE_THROW();
+    }
+    PG_END_TRY();
+    pfree(source.texts);
+    if (status.code != LAZYDFA_OK) {
+        close_all(kept);
+        return false;
+    }
+    kept->count = source.count;
+    kept->piece = piece_of(kept->size, setting_piece_size);
+    return true;
+}
+
+size_t piece_of(size_t size, int piece_size) {
+    size_t piece = piece_size;
+    if (size <= SMALL_TABLES) return piece;
+    return Max((size_t)((double)piece * SMALL_TABLES / size), Min(piece, SHORTEST_PIECE));
+}
