@@ -146,7 +146,7 @@ static const row rows[] = {
     { "a.{8}b", "abcdefgh ", "aaaabbbbb", 1 << 20 },
     { "\\pL+ \\pL+", "abcdef \xC3\xA9", "ab cd", 1 << 20 },
     { "[ab]*a[ab]{9}c", "ab", "aabababababc", 1 << 20 },
-    /* these are cleared, but for the reverse direction */
+    /* and with capacities so small that the cache is cleared */
     { "a.{8}b", "abcdefgh ", "aaaabbbbb", 1 << 17 },
     { "a.{8}b", "abcdefgh ", "aaaabbbbb", 1 << 15 },
     { "[ab]*a[ab]{9}c", "ab", "aabababababc", 1 << 16 },
