@@ -1,7 +1,7 @@
-/* Counts what the allocations of caches take, and compares that with what lazydfa_cache_usage says: after each search
-   of short and long texts by twelve patterns, by some of them with capacities so small that caches are cleared, and of
-   300 caches that are kept within a limit. The linker gives this file the library's calls of malloc, realloc and free (--wrap).
-   Prints what each cache took, each check that fails, and how many there were. */
+/* Counts what the allocations of caches take, and compares that with what lazydfa_cache_usage reports: after each
+   search of short and long texts by twelve patterns, then with capacities so small that caches are cleared, and of 300
+   caches that are kept within a limit. The linker gives this file the library's calls of malloc, realloc and free
+   (--wrap). Prints what each cache took, each check that fails, and how many there were. */
 #include <malloc.h>
 #include <stdio.h>
 #include <stdlib.h>
@@ -146,7 +146,7 @@ static const row rows[] = {
     { "a.{8}b", "abcdefgh ", "aaaabbbbb", 1 << 20 },
     { "\\pL+ \\pL+", "abcdef \xC3\xA9", "ab cd", 1 << 20 },
     { "[ab]*a[ab]{9}c", "ab", "aabababababc", 1 << 20 },
-    /* and what clears */
+    /* and with capacities so small that the cache is cleared */
     { "a.{8}b", "abcdefgh ", "aaaabbbbb", 1 << 17 },
     { "a.{8}b", "abcdefgh ", "aaaabbbbb", 1 << 15 },
     { "[ab]*a[ab]{9}c", "ab", "aabababababc", 1 << 16 },
@@ -205,7 +205,8 @@ static void kept_within(size_t limit, size_t capacity, size_t length) {
     int i;
     fill("ab", "ababababababc");
     for (i = 0; i < KEPT; i++) {
-        sprintf(pattern, "%s[ab]{%d}c|[ab]{%d}%c", i % 3 ? "" : "a", 8 + i % 5, 9 + i / 5 % 4, "defghijklmnopqr"[i / 20]);
+        char last = "defghijklmnopqr"[i / 20];
+        sprintf(pattern, "%s[ab]{%d}c|[ab]{%d}%c", i % 3 ? "" : "a", 8 + i % 5, 9 + i / 5 % 4, last);
         open_regex(&regexes[i], pattern, capacity);
     }
     before = peak = taken;

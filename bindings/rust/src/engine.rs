@@ -136,8 +136,8 @@ impl Cache {
         self.usage().leaps
     }
 
-    /// How many bytes the cache takes of the allocator, with its leaps. An allocation of n bytes counts as n + 8, rounded
-    /// up to a multiple of 16, and as 32 at least, as `malloc` of glibc takes.
+    /// How many bytes the cache takes of the allocator, with its leaps. An allocation of n bytes counts as n + 8,
+    /// rounded up to a multiple of 16, and as 32 at least, as `malloc` of glibc takes.
     pub fn heap_usage(&self) -> usize {
         self.usage().held
     }
