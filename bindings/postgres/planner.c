@@ -57,7 +57,8 @@ static bool read_facts(Known *known, const Key *key) {
     lazydfa_text_options options = text_options(key->flags);
     lazydfa_facts *facts = &known->facts;
     lazydfa_status status;
-    if (key->length > LONGEST || class_escapes(key->bytes, key->length) > MOST_CLASSES) return false;
+    options.text_limit = Min(options.text_limit, LONGEST);
+    options.class_limit = Min(options.class_limit, MOST_CLASSES);
     status = lazydfa_text_facts(key->bytes, key->length, &options, facts, known->bytes, MOST_BYTES, known->lengths,
                                 MOST_LITERALS);
     if (status.code != LAZYDFA_OK) return false;
