@@ -30,7 +30,7 @@ static size_t memory = 0; /* the sum of what they hold */
 static int64 compiled = 0;
 static MemoryContext context = NULL;
 static Kept *in_use = NULL; /* whose search is not counted yet */
-static uint32 refused = 0;  /* the hash of patterns that were refused for an estimate: another one is without them */
+static uint32 refused = 0;  /* the hash of patterns that an estimate had refused: the next one does not compile them */
 
 bool kept_is_estimating = false;
 
