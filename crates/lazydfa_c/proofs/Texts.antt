@@ -7,7 +7,8 @@ use Rattle.regex_automata.specs.declared.hybrid.regex.Regex.{Regex}
 use Rattle.lazydfa_c.specs.Builds.{IsBuildErrorStatus, IsBuiltRegex, IsPairOf, OpensRegex, LacksObject, RefusesRegex}
 use Rattle.lazydfa_c.specs.Codes.{number_of}
 use Rattle.lazydfa_c.specs.Statuses.{plain, regex_status}
-use Rattle.lazydfa_c.specs.Texts.{HasNoMatch, IsFailure, IsForwardOnly, IsRegexFor, OpensNfa, OpensTexts, reading_of}
+use Rattle.lazydfa_c.specs.Texts.{IsFailure, IsForwardOnly, IsRegexFor, MatchesNothing, OpensNfa, OpensTexts}
+use Rattle.lazydfa_c.specs.Texts.{reading_of}
 use Rattle.lazydfa_c.specs.declared.code.Code.TheVariants as code
 use Rattle.lazydfa_c.specs.declared.handle.Handle.{Handle}
 use Rattle.lazydfa_c.specs.declared.settings.Settings.{Settings}
@@ -20,8 +21,10 @@ memory_fails : IsFailure (plain code.Memory)
 memory_fails = omega arith
 
 -- an error of `build_from_nfa` is a failure
-built_fails : (o : Options) (nfa : Automaton) (old new : Handle) (done : Result (Unit {0}) Status)
-    → OpensRegex (IsBuiltRegex o nfa) (IsBuildErrorStatus o nfa) old new done → OpensNfa (IsBuiltRegex o nfa) old new done
+built_fails :
+    (o : Options) (nfa : Automaton) (old new : Handle) (done : Result (Unit {0}) Status)
+    → OpensRegex (IsBuiltRegex o nfa) (IsBuildErrorStatus o nfa) old new done
+    → OpensNfa (IsBuiltRegex o nfa) old new done
 built_fails o nfa old new (Ok u) opened = opened
 built_fails o nfa old new (Err e) (same, RefusesRegex (error, _, is)) =
     let fails : number_of code.Argument < (regex_status error).code = errors.regex_told.fails error in
@@ -29,7 +32,9 @@ built_fails o nfa old new (Err e) (same, RefusesRegex (error, _, is)) =
     (same, subst IsFailure (sym is) f)
 built_fails o nfa old new (Err e) (same, LacksObject is) = (same, subst IsFailure (sym is) memory_fails)
 
-forward_fails : (o : Options) (nfa : Automaton) (old new : Handle) (done : Result (Unit {0}) Status)
+-- and so is one of a regex that searches forward only
+forward_fails :
+    (o : Options) (nfa : Automaton) (old new : Handle) (done : Result (Unit {0}) Status)
     → OpensRegex (IsForwardOnly o nfa) IsFailure old new done → OpensNfa (IsForwardOnly o nfa) old new done
 forward_fails o nfa old new (Ok u) opened = opened
 forward_fails o nfa old new (Err e) (same, RefusesRegex fails) = (same, fails)
@@ -60,7 +65,7 @@ opens_texts o options settings texts nfa old new (Err e) meant failed = failed
 
 -- what is built of an NFA and of one without a match
 pub forward_only :
-    (o : Options) (nfa none : Automaton) (result : Result Regex Status) → HasNoMatch none
+    (o : Options) (nfa none : Automaton) (result : Result Regex Status) → MatchesNothing none
     → IfOk result (IsPairOf o nfa none) → IfOk result (IsForwardOnly o nfa)
 forward_only o nfa none (Ok regex) nothing built = record { none = none; nothing = nothing; built = built }
 forward_only o nfa none (Err e) nothing built = built

@@ -54,15 +54,15 @@ abbrev pub IsFailure : Status → Type 0
 IsFailure status = number_of code.Nothing < status.code
 
 -- an NFA whose only state has no edges
-abbrev pub HasNoMatch : Automaton → Type 0
-HasNoMatch nfa = nfa.states ≡ Fail ∷ []
+abbrev pub MatchesNothing : Automaton → Type 0
+MatchesNothing nfa = nfa.states ≡ Fail ∷ []
 
 -- the regex searches forward for what an NFA finds, and backward for nothing
 pub record IsForwardOnly (o : Options) (nfa : Automaton) (regex : Regex) : Type 0 where
   -- the NFA of its reverse DFA
   pub none : Automaton
   -- nothing matches there
-  pub nothing : HasNoMatch none
+  pub nothing : MatchesNothing none
   -- the regex is what the library builds of both
   pub built : IsPairOf o nfa none regex
 

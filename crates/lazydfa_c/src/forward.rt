@@ -2,7 +2,7 @@
 ghost use Rattle.std.specs.Prelude.{◌≡◌, IfErr, IfOk, None};
 ghost use Rattle.automata_config.specs.Options.{overwritten, unset};
 ghost use Rattle.lazydfa_c.specs.Builds.{OpensRegex};
-ghost use Rattle.lazydfa_c.specs.Texts.{HasNoMatch, IsFailure, IsForwardOnly};
+ghost use Rattle.lazydfa_c.specs.Texts.{MatchesNothing, IsFailure, IsForwardOnly};
 
 use crate::builder::state_id;
 use crate::code::Code;
@@ -16,7 +16,7 @@ use std::alloc::Global;
 
 /// An NFA of so many patterns, none of which matches.
 fn nfa_without_match(alloc: Global, patterns: usize) -> Result<NFA, Status>
-    ensures none { IfOk result HasNoMatch }
+    ensures none { IfOk result MatchesNothing }
     ensures refused { IfErr result IsFailure }
 {
     let fail = state_id(0)?;
