@@ -69,12 +69,6 @@ bool limit_length(Datum patterns, uint32 flags) {
     return too_long(flags);
 }
 
-size_t class_escapes(const char *text, size_t length) {
-    size_t count = 0;
-    for (size_t i = 1; i < length; i++) count += text[i - 1] == '\\' && text[i] && strchr("dDpPsSwW", text[i]);
-    return count;
-}
-
 /* Patterns, how they are compiled, and what was wrong with them. */
 typedef struct {
     lazydfa_text *texts;
@@ -171,6 +165,13 @@ static lazydfa_status open_patterns(Kept *kept, Source *source) {
     lazydfa_regex_close(&kept->regex);
     source->options.bytes = 1;
     return open_regex(kept, source);
+}
+
+/* How many class escapes a text has, as the library counts them. */
+static size_t class_escapes(const char *text, size_t length) {
+    size_t count = 0;
+    for (size_t i = 1; i < length; i++) count += text[i - 1] == '\\' && text[i] && strchr("dDpPsSwW", text[i]);
+    return count;
 }
 
 /* Reports patterns that have too many classes, if they do. */

@@ -11,9 +11,6 @@
    settings allow: this is an error unless the planner estimates. */
 extern bool limit_length(Datum patterns, uint32 flags);
 
-/* How many class escapes a text has, as the library counts them. */
-extern size_t class_escapes(const char *text, size_t length);
-
 /* How the text of a pattern is read. */
 extern lazydfa_text_options text_options(uint32 flags);
 

@@ -30,6 +30,7 @@ static size_t memory = 0; /* the sum of what they hold */
 static int64 compiled = 0;
 static MemoryContext context = NULL;
 static Kept *in_use = NULL; /* whose search is not counted yet */
+static uint32 refused = 0;  /* the hash of patterns that an estimate had refused: the next one does not compile them */
 
 bool kept_is_estimating = false;
 
@@ -106,7 +107,10 @@ static Kept *keep(const Key *key, uint32 hash) {
     char *copy;
     if (!context) context = AllocSetContextCreate(TopMemoryContext, "lazydfa", ALLOCSET_DEFAULT_SIZES);
     kept = free_one();
-    if (!compile(kept, key)) return NULL;
+    if (!compile(kept, key)) {
+        refused = hash;
+        return NULL;
+    }
     copy = MemoryContextAllocExtended(context, Max(key->length, 1), MCXT_ALLOC_NO_OOM);
     if (!copy) {
         lazydfa_cache_close(&kept->cache);
@@ -141,6 +145,7 @@ static Kept *look_up(const Key *key) {
         Kept *kept = dlist_container(Kept, by_hash, at.cur);
         if (kept->hash == hash && is_of(kept, key)) return kept;
     }
+    if (kept_is_estimating && hash == refused) return NULL;
     if (GetDatabaseEncoding() == PG_UTF8 || GetDatabaseEncoding() == PG_SQL_ASCII) return keep(key, hash);
     if (kept_is_estimating) return NULL;
     ereport(ERROR, errcode(ERRCODE_FEATURE_NOT_SUPPORTED),

@@ -57,7 +57,7 @@ static bool read_facts(Known *known, const Key *key) {
     lazydfa_text_options options = text_options(key->flags);
     lazydfa_facts *facts = &known->facts;
     lazydfa_status status;
-    if (key->length > LONGEST || class_escapes(key->bytes, key->length) > MOST_CLASSES) return false;
+    options.class_limit = Min(options.class_limit, MOST_CLASSES);
     status = lazydfa_text_facts(key->bytes, key->length, &options, facts, known->bytes, MOST_BYTES, known->lengths,
                                 MOST_LITERALS);
     if (status.code != LAZYDFA_OK) return false;
@@ -75,6 +75,7 @@ static const Known *know(const text *pattern, uint32 flags) {
     static Known known;
     static bool is_known;
     Key key = {VARDATA_ANY(pattern), VARSIZE_ANY_EXHDR(pattern), flags};
+    if (key.length > LONGEST) return NULL;
     if (!last.bytes || key.length != last.length || flags != last.flags || memcmp(key.bytes, last.bytes, key.length)) {
         char *copy = MemoryContextAlloc(TopMemoryContext, Max(key.length, 1));
         memcpy(copy, key.bytes, key.length);
