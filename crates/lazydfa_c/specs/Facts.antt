@@ -1,5 +1,5 @@
 -- What every match of a pattern's text has in common, as C is told it.
-use Rattle.std.specs.Prelude.{ℕ, ◌≡◌, Bool, IsTrue, List, [], ◌∷◌, ◌++◌, length, map, vec_len, if◌then◌else◌}
+use Rattle.std.specs.Prelude.{ℕ, ◌≡◌, Bool, IsTrue, List, ◌++◌, length, map, vec_len, if◌then◌else◌}
 use Rattle.std.specs.List.{flat_map}
 use Rattle.match_facts.specs.declared.Facts.{Facts as Known}
 use Rattle.patterns.specs.Facts.{AreFactsOf}

@@ -1,4 +1,5 @@
 //! Laws that callers cite. The contract of each function is the law; its body only cites other laws.
+ghost use Rattle.patterns.specs.Facts.{FoundIsMatch};
 ghost use Rattle.patterns.specs.Sets.{WalksReportEnds};
 
 use crate::set::RegexSet;
@@ -11,3 +12,9 @@ pub fn walks_report_ends(set: &RegexSet)
 {
     walk_is_right(set.dfa.get_nfa());
 }
+
+/// What a search for one text finds, as `Pattern::find` says it, is a match by the relation that the facts of the text
+/// are about.
+pub fn found_is_match()
+    ensures { FoundIsMatch }
+{}

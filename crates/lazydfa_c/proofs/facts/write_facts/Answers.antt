@@ -1,6 +1,6 @@
-use Rattle.std.proofs.Common.{◌≡◌, ◌∙◌, length, ap, sym}
+use Rattle.std.proofs.Common.{◌∙◌, length, ap}
 use Rattle.lazydfa_c.specs.Caches.{written_over}
-use Rattle.lazydfa_c.specs.Facts.{fact_bytes, facts_of, literal_lengths}
+use Rattle.lazydfa_c.specs.Facts.{facts_of}
 use Rattle.lazydfa_c.proofs.facts.write_facts.Goals as goal
 
 pub returns-clause-ok : goal.returns-clause-ok
