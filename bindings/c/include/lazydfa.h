@@ -664,12 +664,13 @@ static inline lazydfa_status lazydfa_regex_build_pair(lazydfa_regex *regex, lazy
  * unicode_word_boundary. A pattern that could match a part of a character, as (?-u:.), is LAZYDFA_SYNTAX unless the
  * option `bytes` is on.
  *
- * The first two calls open a handle on a regex. options, settings and refusal may be NULL, and message if room is 0; quits lists
- * the quit bytes. message gets what is wrong, the pattern, and carets below the part that this is about: as much as
- * there is room for, with a zero at its end, or nothing but the zero. A new line stands between the lines. refusal and
- * message are written with every code, unless they are NULL or have no room: with zeros if no text was refused.
+ * The first two calls open a handle on a regex. options, settings and refusal may be NULL, and message if room is 0;
+ * quits lists the quit bytes. message gets what is wrong, the pattern, and carets below the part that this is about: as
+ * much as there is room for, with a zero at its end, or nothing but the zero. A new line stands between the lines. If
+ * the pattern has a zero, so has the message: refusal->length is how long it is, if there was room. refusal and message
+ * are written with every code, unless they are NULL or have no room: with zeros if no text was refused.
  *
- * LAZYDFA_SYNTAX, LAZYDFA_NOT_TEXT, LAZYDFA_NOT_COMPILED, LAZYDFA_TOO_LARGE if the size limit is passed, and
+ * LAZYDFA_SYNTAX, LAZYDFA_NOT_TEXT, LAZYDFA_NOT_COMPILED, LAZYDFA_TOO_LARGE beyond a limit of the options, and
  * LAZYDFA_UNSUPPORTED; LAZYDFA_CAPACITY and LAZYDFA_STATE_IDS by the settings. */
 
 /* What a call writes before it reads texts: that none was refused. */
@@ -801,9 +802,9 @@ static inline lazydfa_status lazydfa_regex_share(lazydfa_regex *regex, lazydfa_r
 /* Opens the handle `other` on the regex that reads backward what the first one reads forward: where that one searches
    back, this one searches forward, with the same states. So a haystack is searched back in pieces, for the start of a
    match whose end is known: the pieces come from that end on, with their bytes in reverse order, and the search is
-   anchored. `behind` is then the byte after that end, `ahead` the byte before the last one that was read, and the offset
-   that is found is the length of the match, the longest one, as lazydfa_find_start finds it. LAZYDFA_ARGUMENT also if
-   both are one handle. */
+   anchored. `behind` is then the byte after that end, `ahead` the byte before the last one that was read, and the
+   offset that is found is the length of the match, the longest one, as lazydfa_find_start finds it. LAZYDFA_ARGUMENT
+   also if both are one handle. */
 static inline lazydfa_status lazydfa_regex_reverse(lazydfa_regex *regex, lazydfa_regex *other) {
     LAZYDFA_NEED(regex);
     LAZYDFA_NEED(other);
