@@ -1,16 +1,19 @@
 #!/usr/bin/env python3
-"""Runs the kit's gate, `rt ci`, with the memory that checks were measured to take:
+"""Runs the kit's gate, `rt ci`, with another order of its checks:
 
     tools/ci.py
 
-`rt ci` gives a check as many processors, and runs as many checks side by side, as its estimate of their memory allows.
-That estimate is some four times what a check takes, so that most processors are idle while one large crate after
-another is proved; and with RT_JOBS each check gets one processor, with the same effect. This loads the kit's script and
-replaces the function that estimates, and nothing else: what is checked, and in which order, is the kit's.
+`rt ci` proves the crates side by side, lowest first. With RT_JOBS each check has one processor. Without it, a check has
+as many as its estimate of memory allows, which is some four times what a check takes, and shares them with all that is
+ready, also with what takes no work. So most processors are idle while one large crate after another is proved. This
+loads the kit's script and replaces the one function that gives checks their turns: what takes no work is done at once,
+a check beside which nothing waits has up to four processors, and memory is what checks were measured to take. What is
+checked, and how, is the kit's.
 
 A kit that is not the one below is called as it is, with RT_JOBS: as many checks side by side as there are processors,
 and 4 GB of memory for each. RT_JOBS, where it is set, is obeyed with any kit.
 """
+import concurrent.futures
 import importlib.machinery
 import importlib.util
 import inspect
@@ -21,16 +24,54 @@ import sys
 
 # The end of `rt version`, for which the function was read and the memory was measured.
 KNOWN_KIT = "logic dac8208d650f15bf"
-# The most memory that a check took, in GB: of a crate, or of its tests.
+# The functions of its script that are replaced or called, and what they take.
+TAKES = {"in_lanes": ["tasks"], "processors": [], "free": [], "main": ["words"]}
+# The most memory that a check took, in GB: of a crate, or of its tests; and by how much each further job adds to it.
 PEAKS = {"automata_base": 4.0, "automata_hybrid": 4.0, "lazydfa": 6.5}
 ANY_OTHER = 2.5
+FURTHER_JOB = 0.3
+MOST_JOBS = 4
 # The memory for a check beside others, in kB, where nothing is known of it.
 ROOM = 4 << 20
 
 
-def need(crate):
-    """Returns how many bytes a check of this crate takes."""
-    return int(PEAKS.get(os.path.basename(crate.folder), ANY_OTHER) * 1e9)
+def work_behind(tasks):
+    """Returns the work of each task with that of the longest chain of tasks that wait for it."""
+    behind = {it: 0 for it in tasks}
+    # (a task comes after those that it waits for)
+    for key in reversed([*tasks]):
+        behind[key] += tasks[key][1]
+        for it in tasks[key][0]:
+            behind[it] = max(behind[it], behind[key])
+    return behind
+
+
+def take_turns(tasks, processors, memory):
+    """Runs tasks as the kit's `in_lanes` does, and returns what each gave. A task is what it waits for, its work in
+    lines, the kit's estimate of its memory, and a call that gets what the others gave and how many jobs it may use. Its
+    key is a crate's name and what is done."""
+    behind = work_behind(tasks)
+    left, running, given = sorted(tasks, key=lambda it: -behind[it]), {}, {}
+    with concurrent.futures.ThreadPoolExecutor(processors) as pool:
+        while left or running:
+            ready = [it for it in left if all(below in given for below in tasks[it][0])]
+            for key in [it for it in ready if not tasks[it][1]]:
+                left.remove(key)
+                given[key] = tasks[key][3](given, 1)
+            ready = [it for it in ready if it not in given]
+            for at, key in enumerate(ready):
+                idle = processors - sum(jobs for _, jobs, _ in running.values())
+                room = memory - sum(takes for _, _, takes in running.values())
+                peak = PEAKS.get(key[0], ANY_OTHER)
+                if idle > 0 and (not running or peak <= room):
+                    jobs = 1 if key[1] == "edits" else min(MOST_JOBS, max(1, idle // (len(ready) - at)))
+                    left.remove(key)
+                    takes = peak * (1 + FURTHER_JOB * (jobs - 1))
+                    running[pool.submit(tasks[key][3], given, jobs)] = key, jobs, takes
+            if running:
+                done = concurrent.futures.wait(running, return_when=concurrent.futures.FIRST_COMPLETED).done
+                given |= {running.pop(it)[0]: it.result() for it in done}
+    return given
 
 
 def load(path):
@@ -52,11 +93,12 @@ def is_known(path):
         return False
 
 
-def has_estimate(module):
-    """Whether the module has the function that is replaced, and what is called."""
-    estimate = getattr(module, "need", None)
-    takes = list(inspect.signature(estimate).parameters) if inspect.isfunction(estimate) else []
-    return takes == ["crate"] and inspect.isfunction(getattr(module, "main", None))
+def has_functions(module):
+    """Whether the module has the functions that are replaced or called, which take what they took."""
+    found = {it: getattr(module, it, None) for it in TAKES}
+    return all(inspect.isfunction(it) for it in found.values()) and all(
+        list(inspect.signature(it).parameters) == TAKES[name] for name, it in found.items()
+    )
 
 
 def lanes():
@@ -73,8 +115,8 @@ def main():
     path = os.path.realpath(shutil.which("rt") or sys.exit("there is no rt"))
     if "RT_JOBS" not in os.environ and is_known(path):
         module = load(path)
-        if has_estimate(module):
-            module.need = need
+        if has_functions(module):
+            module.in_lanes = lambda tasks: take_turns(tasks, module.processors(), 0.9 * module.free() / 1e9)
             return module.main(["ci"])
     print("tools/ci.py: this kit is called as it is", file=sys.stderr)
     return subprocess.run([path, "ci"], env={"RT_JOBS": str(lanes()), **os.environ}).returncode
