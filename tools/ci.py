@@ -7,8 +7,8 @@
 as many as its estimate of memory allows, which is some four times what a check takes, and shares them with all that is
 ready, also with what takes no work. So most processors are idle while one large crate after another is proved. This
 loads the kit's script and replaces the one function that gives checks their turns: what takes no work is done at once,
-a check beside which nothing waits has up to four processors, and memory is what checks were measured to take. What is
-checked, and how, is the kit's.
+those that are ready share the processors by their lines, up to four each, and memory is what checks were measured to
+take. What is checked, and how, is the kit's.
 
 A kit that is not the one below is called as it is, with RT_JOBS: as many checks side by side as there are processors,
 and 4 GB of memory for each. RT_JOBS, where it is set, is obeyed with any kit.
@@ -64,7 +64,8 @@ def take_turns(tasks, processors, memory):
                 room = memory - sum(takes for _, _, takes in running.values())
                 peak = PEAKS.get(key[0], ANY_OTHER)
                 if idle > 0 and (not running or peak <= room):
-                    jobs = 1 if key[1] == "edits" else min(MOST_JOBS, max(1, idle // (len(ready) - at)))
+                    share = idle * tasks[key][1] / sum(tasks[it][1] for it in ready[at:])
+                    jobs = 1 if key[1] == "edits" else min(MOST_JOBS, max(1, round(share)))
                     left.remove(key)
                     takes = peak * (1 + FURTHER_JOB * (jobs - 1))
                     running[pool.submit(tasks[key][3], given, jobs)] = key, jobs, takes
