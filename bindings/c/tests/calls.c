@@ -2,31 +2,8 @@
 #include <stdio.h>
 #include <stdlib.h>
 #include <string.h>
+#include "check.h"
 #include "nfas.h"
-
-static int failed, made;
-
-#define CHECK(fact)                                                  \
-    do {                                                             \
-        made++;                                                      \
-        if (!(fact)) {                                               \
-            failed++;                                                \
-            printf("%s:%d: %s\n", __FILE__, __LINE__, #fact);        \
-        }                                                            \
-    } while (0)
-
-#define CODE(call, wanted)                                                                         \
-    do {                                                                                           \
-        lazydfa_status status_ = (call);                                                           \
-        made++;                                                                                    \
-        if (status_.code != (wanted)) {                                                            \
-            failed++;                                                                              \
-            printf("%s:%d: %s: %s, at %lu, and not %s\n", __FILE__, __LINE__, #call,               \
-                   lazydfa_code_text(status_.code), (unsigned long)status_.offset, #wanted);       \
-        }                                                                                          \
-    } while (0)
-
-static const uint8_t *bytes(const char *text) { return (const uint8_t *)text; }
 
 /* ---- Right calls ---- */
 
@@ -792,6 +769,5 @@ int main(void) {
     numbers();
     null_of_builders();
     null_of_searches();
-    printf("%d checks, %d failed\n", made, failed);
-    return failed != 0;
+    return counted();
 }

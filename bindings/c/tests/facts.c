@@ -2,20 +2,7 @@
    room for what is written, and every wrong argument. Prints each check that fails, and how many there were. */
 #include <stdio.h>
 #include <string.h>
-#include "lazydfa.h"
-
-static int failed, made;
-
-#define CHECK(fact)                                                  \
-    do {                                                             \
-        made++;                                                      \
-        if (!(fact)) {                                               \
-            failed++;                                                \
-            printf("%s:%d: %s\n", __FILE__, __LINE__, #fact);        \
-        }                                                            \
-    } while (0)
-
-static const uint8_t *bytes(const char *text) { return (const uint8_t *)text; }
+#include "check.h"
 
 /* The facts of a pattern: ^, $ and = for the flags, then the prefix and the literals, with a bar after each. */
 static const char *shown(const char *pattern, size_t length, const lazydfa_text_options *options) {
@@ -296,6 +283,5 @@ int main(void) {
     rooms();
     nulls();
     random_patterns();
-    printf("%d checks, %d failed\n", made, failed);
-    return failed != 0;
+    return counted();
 }

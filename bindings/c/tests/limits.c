@@ -2,20 +2,8 @@
    how many there were. */
 #include <stdio.h>
 #include <string.h>
+#include "check.h"
 #include "nfas.h"
-
-static int failed, made;
-
-#define CHECK(fact)                                                  \
-    do {                                                             \
-        made++;                                                      \
-        if (!(fact)) {                                               \
-            failed++;                                                \
-            printf("%s:%d: %s\n", __FILE__, __LINE__, #fact);        \
-        }                                                            \
-    } while (0)
-
-static const uint8_t *bytes(const char *text) { return (const uint8_t *)text; }
 
 /* The code of building a regex of texts with these options. */
 static uint32_t built(const lazydfa_text *texts, size_t count, const lazydfa_text_options *options) {
@@ -165,6 +153,5 @@ int main(void) {
             forward_only(patterns[i], hays[j], LAZYDFA_ALL);
         }
     sizes();
-    printf("%d checks, %d failed\n", made, failed);
-    return failed != 0;
+    return counted();
 }

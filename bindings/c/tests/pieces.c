@@ -3,29 +3,8 @@
    between the pieces, also backward. Prints each check that fails, and how many there were. */
 #include <stdio.h>
 #include <string.h>
+#include "check.h"
 #include "nfas.h"
-
-static int failed, made;
-
-#define CHECK(fact)                                                  \
-    do {                                                             \
-        made++;                                                      \
-        if (!(fact)) {                                               \
-            failed++;                                                \
-            printf("%s:%d: %s\n", __FILE__, __LINE__, #fact);        \
-        }                                                            \
-    } while (0)
-
-#define CODE(call, wanted)                                                                         \
-    do {                                                                                           \
-        lazydfa_status status_ = (call);                                                           \
-        made++;                                                                                    \
-        if (status_.code != (wanted)) {                                                            \
-            failed++;                                                                              \
-            printf("%s:%d: %s: %s, at %lu, and not %s\n", __FILE__, __LINE__, #call,               \
-                   lazydfa_code_text(status_.code), (unsigned long)status_.offset, #wanted);       \
-        }                                                                                          \
-    } while (0)
 
 /* A piece that is read, and whether the answer stands then. */
 #define READS(cache, text, code, stands)                                                           \
@@ -49,8 +28,6 @@ static int failed, made;
         lazydfa_status status_ = (call);                                                           \
         CHECK(status_.code == (error) && status_.byte == (what) && status_.offset == (at));        \
     } while (0)
-
-static const uint8_t *bytes(const char *text) { return (const uint8_t *)text; }
 
 /* Opens a cache of a pattern's text, where bytes are searched and empty matches are not skipped. */
 static void open_text(lazydfa_cache *cache, const char *pattern, const lazydfa_settings *settings, const char *quits) {
@@ -553,6 +530,5 @@ int main(void) {
     cuts();
     reverses();
     cuts_back();
-    printf("%d checks, %d failed\n", made, failed);
-    return failed != 0;
+    return counted();
 }

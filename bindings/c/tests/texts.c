@@ -4,20 +4,7 @@
 #include <pthread.h>
 #include <stdio.h>
 #include <string.h>
-#include "lazydfa.h"
-
-static int failed, made;
-
-#define CHECK(fact)                                                  \
-    do {                                                             \
-        made++;                                                      \
-        if (!(fact)) {                                               \
-            failed++;                                                \
-            printf("%s:%d: %s\n", __FILE__, __LINE__, #fact);        \
-        }                                                            \
-    } while (0)
-
-static const uint8_t *bytes(const char *text) { return (const uint8_t *)text; }
+#include "check.h"
 
 /* What a pattern finds: the spans of all matches in brackets, or the code, offset and first line of the message. */
 static const char *found(const char *pattern, size_t length, const char *hay, const lazydfa_text_options *options,
@@ -338,6 +325,5 @@ int main(void) {
     messages();
     writes();
     nulls();
-    printf("%d checks, %d failed\n", made, failed);
-    return failed != 0;
+    return counted();
 }

@@ -3,29 +3,8 @@
    clears and resets of the cache between the pieces. Prints each check that fails, and how many there were. */
 #include <stdio.h>
 #include <string.h>
+#include "check.h"
 #include "nfas.h"
-
-static int failed, made;
-
-#define CHECK(fact)                                                  \
-    do {                                                             \
-        made++;                                                      \
-        if (!(fact)) {                                               \
-            failed++;                                                \
-            printf("%s:%d: %s\n", __FILE__, __LINE__, #fact);        \
-        }                                                            \
-    } while (0)
-
-#define CODE(call, wanted)                                                                         \
-    do {                                                                                           \
-        lazydfa_status status_ = (call);                                                           \
-        made++;                                                                                    \
-        if (status_.code != (wanted)) {                                                            \
-            failed++;                                                                              \
-            printf("%s:%d: %s: %s, at %lu, and not %s\n", __FILE__, __LINE__, #call,               \
-                   lazydfa_code_text(status_.code), (unsigned long)status_.offset, #wanted);       \
-        }                                                                                          \
-    } while (0)
 
 /* A call after which the walk stands where patterns match: it has read so many bytes. */
 #define STOPS(call, bytes_read, at, which)                                                         \
@@ -56,8 +35,6 @@ static int failed, made;
 
 #define READ(text) lazydfa_walk_read(&c, bytes(text), strlen(text), &stop)
 #define END(ahead) lazydfa_walk_end(&c, ahead, &stop)
-
-static const uint8_t *bytes(const char *text) { return (const uint8_t *)text; }
 
 /* The patterns that the walk of a cache lists, as bits, if they are so many and no two are the same. */
 static uint32_t listed(lazydfa_cache *cache, size_t count) {
@@ -507,6 +484,5 @@ int main(void) {
     numbers();
     greps();
     cuts();
-    printf("%d checks, %d failed\n", made, failed);
-    return failed != 0;
+    return counted();
 }
