@@ -12,13 +12,13 @@
 
 #define BUCKETS 1024
 
-/* What tables hold of malloc: so many bytes for each of their size, in one direction and in both, and these beside.
-   Measured, it is less for each kind of pattern, often by half. */
+/* A bound on what tables take of malloc: bytes per byte of their size, for one direction and for both, and a constant.
+   Every kind of pattern that was measured takes less, often half. */
 #define HELD_FORWARD 6
 #define HELD_BOTH 13
 #define HELD_BESIDE 14000
 
-/* A byte that is searched adds a state at most, and most states take less than so many bytes. */
+/* Searching a byte adds at most one state, and most states take fewer bytes than this. */
 #define HELD_STATE 2048
 
 /* What is not kept any more stays allocated, since a call site may look at its generation: these are free. */

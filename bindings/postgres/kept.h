@@ -81,8 +81,8 @@ extern Kept *kept_of_call(FunctionCallInfo fcinfo, Site *site, uint32 flags);
 /* The cache for searches back in pieces, which is opened when it is needed first. */
 extern lazydfa_cache *kept_backward(Kept *kept);
 
-/* Each search begins and ends with these. The second counts what is held, after so many bytes were searched, and frees
-   the patterns used longest ago if it is too much. */
+/* Each search begins and ends with these. The second counts what is held after a search of `searched` bytes,
+   and frees the least recently used patterns if it is too much. */
 extern void kept_begin(Kept *kept);
 extern void kept_count(Kept *kept, size_t searched);
 

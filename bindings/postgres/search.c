@@ -137,7 +137,7 @@ static lazydfa_status token_in_pieces(Value *value, lazydfa_match *token) {
     return status;
 }
 
-/* Marks patterns that match where a walk stands, and counts them, up to so many. */
+/* Marks the patterns that match where a walk stands, and counts them, up to `most`. */
 static lazydfa_status mark(Value *value, const lazydfa_stop *stop, size_t most, bool *found, size_t *count) {
     lazydfa_status status = {LAZYDFA_OK, 0, 0};
     if (stop->patterns > 0 && is_skipped(value, stop->offset)) return status;
@@ -151,7 +151,7 @@ static lazydfa_status mark(Value *value, const lazydfa_stop *stop, size_t most, 
     return status;
 }
 
-/* Reads a value by a walk, and marks the patterns that match, up to so many: those that are met first. */
+/* Walks over a value, and marks the patterns that match: at most `most` of them, those that are met first. */
 static lazydfa_status walk_on(Value *value, size_t most, bool *found, size_t *count) {
     lazydfa_cache *cache = &value->kept->cache;
     lazydfa_stop stop;
@@ -166,7 +166,7 @@ static lazydfa_status walk_on(Value *value, size_t most, bool *found, size_t *co
     return status.code <= LAZYDFA_NONE ? mark(value, &stop, most, found, count) : status;
 }
 
-/* What lazydfa_which finds, in pieces, up to so many patterns. */
+/* What lazydfa_which finds, in pieces, but at most `most` patterns. */
 static lazydfa_status which_in_pieces(Value *value, size_t most, uint32_t *patterns, size_t *count) {
     bool *found = palloc0(Max(value->kept->count, 1));
     lazydfa_status status;
@@ -185,7 +185,7 @@ static void begin_search(Value *value) {
     kept_begin(value->kept);
 }
 
-/* Ends a search of so many bytes: what it has added to the cache is counted, and an error is reported, unless the
+/* Ends a search of `length` bytes: what it has added to the cache is counted, and an error is reported, unless the
    planner estimates. */
 static void end_search(Value *value, size_t length, lazydfa_status status) {
     kept_count(value->kept, length);

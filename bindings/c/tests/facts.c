@@ -64,7 +64,7 @@ static void table(void) {
     HAS("\xC3\xA9+", "\xC3\xA9|\xC3\xA9|");
 }
 
-/* A letter that stands for both of its cases is no literal. */
+/* A case-insensitive letter is not a literal. */
 static void cases(void) {
     HAS("(?i)abc", "|");
     HAS("(?i)1a22", "1|1|22|");

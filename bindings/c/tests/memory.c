@@ -101,7 +101,7 @@ static lazydfa_usage usage_of(lazydfa_cache *cache) {
     return usage;
 }
 
-/* What is told of a cache is what its blocks take, to a tenth of that. Returns what is told. */
+/* Checks that what a cache reports is within a tenth of what its blocks take, and returns what it reports. */
 static lazydfa_usage compare(lazydfa_cache *cache, size_t before, const char *pattern) {
     lazydfa_usage usage = usage_of(cache);
     size_t is = taken - before;
