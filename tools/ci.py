@@ -55,17 +55,20 @@ def take_turns(tasks, processors, memory):
     with concurrent.futures.ThreadPoolExecutor(processors) as pool:
         while left or running:
             ready = [it for it in left if all(below in given for below in tasks[it][0])]
-            for key in [it for it in ready if not tasks[it][1]]:
+            without_work = [it for it in ready if not tasks[it][1]]
+            for key in without_work:
                 left.remove(key)
                 given[key] = tasks[key][3](given, 1)
-            ready = [it for it in ready if it not in given]
+            if without_work:
+                continue
             for at, key in enumerate(ready):
                 idle = processors - sum(jobs for _, jobs, _ in running.values())
                 room = memory - sum(takes for _, _, takes in running.values())
                 peak = PEAKS.get(key[0], ANY_OTHER)
                 if idle > 0 and (not running or peak <= room):
-                    share = idle * tasks[key][1] / sum(tasks[it][1] for it in ready[at:])
-                    jobs = 1 if key[1] == "edits" else min(MOST_JOBS, max(1, round(share)))
+                    share = round(idle * tasks[key][1] / sum(tasks[it][1] for it in ready[at:]))
+                    fit = 1 + int(max(0.0, room / peak - 1) / FURTHER_JOB)
+                    jobs = 1 if key[1] == "edits" else max(1, min(MOST_JOBS, share, fit))
                     left.remove(key)
                     takes = peak * (1 + FURTHER_JOB * (jobs - 1))
                     running[pool.submit(tasks[key][3], given, jobs)] = key, jobs, takes
@@ -103,7 +106,8 @@ def has_functions(module):
 
 
 def lanes():
-    """Returns how many checks run side by side where nothing is known of their memory."""
+    """Returns how many checks run side by side where nothing is known of their memory: one a processor that this may
+    run on, with 4 GB for each."""
     free = 0
     with open("/proc/meminfo", encoding="utf-8") as it:
         for line in it:

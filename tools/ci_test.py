@@ -70,13 +70,16 @@ def try_tasks(seed, processors, memory):
     names = [("automata_base", "proof"), *names]
     waits = {key: draw.sample(names[:at], min(at, draw.randrange(3))) for at, key in enumerate(names)}
 
+    def takes(key, jobs):
+        return ci.PEAKS.get(key[0], ci.ANY_OTHER) * (1 + ci.FURTHER_JOB * (jobs - 1))
+
     def call(key, given, jobs):
         with lock:
             now[key] = jobs
             if sum(now.values()) > processors or not set(waits[key]) <= set(given):
                 faults.append(f"{key} with {jobs} jobs beside {now}, after {[*given]}")
-            if len(now) > 1 and sum(ci.PEAKS.get(it[0], ci.ANY_OTHER) for it in now) > memory:
-                faults.append(f"{[*now]} in {memory} GB")
+            if (len(now) > 1 or jobs > 1) and sum(takes(*it) for it in now.items()) > memory + 1e-9:
+                faults.append(f"{now} in {memory} GB")
         time.sleep(0.002)
         with lock:
             del now[key]

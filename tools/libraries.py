@@ -16,10 +16,14 @@ def text(path):
         return it.read()
 
 
+def walks_of(name):
+    """Returns the folders that a check of this crate reads, with their files."""
+    return [(at, found) for part in PARTS for at, _, found in os.walk(f"{TOP}/crates/{name}/{part}")]
+
+
 def files_of(name):
     """Returns the files that a check of this crate reads."""
-    walks = (walk for part in PARTS for walk in os.walk(f"{TOP}/crates/{name}/{part}"))
-    return sorted(f"{at}/{it}" for at, _, found in walks for it in found)
+    return sorted(f"{at}/{it}" for at, found in walks_of(name) for it in found)
 
 
 def crates_used():
@@ -51,9 +55,11 @@ def has_stamp(name):
 
 
 def is_current(name):
-    """Whether there is a library of this crate that is younger than its files."""
+    """Whether there is a library of this crate that is younger than its files, and than their folders, from which files
+    may have been removed."""
     made = os.path.getmtime(rlib(name)) if os.path.isdir(rlib(name)) else 0
-    return made > 0 and all(os.path.getmtime(it) <= made for it in files_of(name))
+    read = [*files_of(name), *(at for at, _ in walks_of(name))]
+    return made > 0 and all(os.path.getmtime(it) <= made for it in read)
 
 
 @functools.cache

@@ -1,10 +1,16 @@
 #!/bin/sh
 # Copies the library into a repository of your own, and begins a program there:
-#     tools/vendor.sh FOLDER [PROGRAM]
+#     tools/vendor.sh [--proved] FOLDER [PROGRAM]
 # FOLDER gets the library's crates and their lines of crates.txt, in place of those that it has by these names: called again
 # from a later state of this repository, it brings that. PROGRAM is a copy of example_words, if FOLDER has no such crate.
+#
+# With --proved it copies along what `rt lib`, `rt check` or `rt run` proved of the library here (some 3 GB), so that your
+# first check proves your program alone. rt takes these if they are of the same kit and the same sources, and proves the
+# library itself if not.
 set -eu
-[ "$#" -ge 1 ] || { echo 'usage: tools/vendor.sh FOLDER [PROGRAM]' >&2; exit 2; }
+proved=
+[ "${1-}" != --proved ] || { proved=yes; shift; }
+[ "$#" -ge 1 ] || { echo 'usage: tools/vendor.sh [--proved] FOLDER [PROGRAM]' >&2; exit 2; }
 top=$(cd "$(dirname "$0")/.." && pwd -P)
 mkdir -p "$1/crates"
 cd "$1"
@@ -19,6 +25,14 @@ for crate in automata_base automata_config automata_hybrid regex_automata match_
     cp "$top"/LICENSE-* "crates/$crate/"
     { grep -v "^$crate:" crates.txt || :; grep "^$crate:" "$top/crates.txt"; } > crates.txt.new
     mv crates.txt.new crates.txt
+    [ "$proved" ] || continue
+    if [ -f "$top/crates/$crate/out/rlib/stamp" ]; then
+        rm -rf "crates/$crate/out/rlib"
+        mkdir -p "crates/$crate/out"
+        cp -R "$top/crates/$crate/out/rlib" "crates/$crate/out/"
+    else
+        echo "tools/vendor.sh: $crate is not proved here: (cd crates/patterns && rt lib) proves the library" >&2
+    fi
 done
 [ -e .gitignore ] || echo out/ > .gitignore
 [ "$#" -ge 2 ] && [ ! -e "crates/$2" ] || exit 0

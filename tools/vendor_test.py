@@ -6,12 +6,14 @@
 The commands of that page, with the folder in place of the one that they name, have to print what `example_words`
 prints. A second call of the script has to bring back a file of the library that was changed, and to leave the program
 alone. Then the crates of the library there have to be those that are here, byte for byte, and the program is proved
-over the libraries that `rt ci` or `rt lib` left here: so the library is not proved a second time.
+over the libraries that `rt ci` or `rt lib` left here: so the library is not proved a second time. `--proved` has to copy
+what was proved of each library, and to name one that was not.
 
 The last line counts these too, beside what the given line counts. It needs Python 3 and the kit's rt.
 """
 import os
 import re
+import shutil
 import subprocess
 import sys
 import tempfile
@@ -81,9 +83,34 @@ def try_copies(folder, program):
     """Returns which crates of the new repository are not those that are here, the program that of the example."""
     pairs = [(it, it) for it in below(MODEL, crates_used())] + [(MODEL, program)]
     differ = [copy for it, copy in pairs if contents(f"{TOP}/crates/{it}") != contents(f"{folder}/crates/{copy}")]
+    uses = {it.partition(":")[0]: it for it in read(f"{TOP}/crates.txt").splitlines()}
+    listed = sorted(uses[it].replace(it, copy, 1) for it, copy in pairs)
+    differ += ["crates.txt"] if sorted(read(f"{folder}/crates.txt").splitlines()) != listed else []
     copied = sorted(copy for _, copy in pairs)
     more = sorted(set(os.listdir(f"{folder}/crates")) - set(copied))
     return f"not as they are here: {differ}; besides: {more}" if differ or more else ""
+
+
+def try_proved(room):
+    """Returns what is wrong with a copy of what was proved, from a repository of a few files."""
+    here, there = f"{room}/here", f"{room}/there"
+    names = below(MODEL, crates_used())
+    for name in [*names, MODEL]:
+        os.makedirs(f"{here}/crates/{name}/src")
+        with open(f"{here}/crates.txt", "a", encoding="utf-8") as it:
+            it.write(f"{name}:\n")
+        if name not in names[:1]:
+            os.makedirs(f"{here}/crates/{name}/out/rlib")
+            for file in ("stamp", "made"):
+                with open(f"{here}/crates/{name}/out/rlib/{file}", "w", encoding="utf-8") as it:
+                    it.write(name)
+    for file in ("tools/vendor.sh", "LICENSE-MIT", "crates/example_words/stdout"):
+        os.makedirs(os.path.dirname(f"{here}/{file}"), exist_ok=True)
+        shutil.copy(f"{TOP}/{file}", f"{here}/{file}")
+    status, out, err = run([f"{here}/tools/vendor.sh", "--proved", there], room)
+    copied = {it for it in names if os.path.isfile(f"{there}/crates/{it}/out/rlib/made")}
+    is_right = status == 0 and copied == set(names[1:]) and names[0] in err
+    return "" if is_right else f"status {status}: {sorted(copied)}\n{out}{err}"
 
 
 def try_proof(folder, program):
@@ -110,6 +137,7 @@ def main(words):
             faults["a second call"] = try_again(folder, program)
             faults["the copies of the crates"] = try_copies(folder, program)
             faults["the proof of the program"] = try_proof(folder, program)
+        faults["a copy of what was proved"] = try_proved(room)
         for name, fault in faults.items():
             print(f"a repository of one's own, {name}: {fault or 'passed'}", flush=True)
             passed, failed = passed + (not fault), failed + bool(fault)

@@ -2,9 +2,9 @@
 
 A function is proved over the contracts of what it calls, so the proof of a function with an edit reads the edit, the
 function itself, everything of its crate and of the crates below but the bodies of their functions, all definitions of
-these crates, the function's own proof files, and the lemma files that these and its source file import, one through
-another. The key is a checksum of all that, of the kit, of the scripts that try edits, and of the cell of
-docs/WRONG_BODIES.md which says where the edit is refused.
+these crates, the function's own proof files, and the lemma files that these and its source file name, one through
+another. Functions of a cycle are proved together, so their bodies stand for all. The key is a checksum of all that, of
+the kit, of the scripts that try edits, and of the cell of docs/WRONG_BODIES.md which says where the edit is refused.
 
 crates/NAME/wrong/verdicts has a line for each edit that was refused: its name and its key.
 """
@@ -18,15 +18,28 @@ from libraries import KIT, TOP, below, files_of, text
 
 SCRIPTS = [f"{TOP}/tools/{it}.py" for it in ("libraries", "verdicts", "wrong")]
 FUNCTION = re.compile(r"( *)((?:pub(?:\([^)]*\))? |const |unsafe |extern \"C\" )*)fn (\w+)")
-# Whatever names a module of specs or proofs, with the name that is imported as a last part, or without.
+CYCLE = re.compile(r"#\[cycle\((\w+)\)\]")
+# Whatever names a module of specs or proofs, with the name that is imported as a last part, or without; and the same in
+# an attribute of a source file.
 IMPORT = re.compile(r"Rattle\.(\w+)\.(specs|proofs)\.([^\s{},;()]+)")
+USING = re.compile(r"\b(\w+)::(specs|proofs)::([\w:]+)")
+TACTIC = re.compile(r"^#!\[tactic", re.M)
+
+
+def is_in_cycle(lines, first):
+    """Whether the function that begins at a line is one of a cycle, which is proved as a whole."""
+    while first > 0 and lines[first - 1].lstrip().startswith(("#[", "//")):
+        first -= 1
+        if CYCLE.search(lines[first]):
+            return True
+    return False
 
 
 def body_at(lines, first):
-    """Returns the first and the last line of the body of the function that begins at a line, or None if it has none that
-    is laid out as rt fmt does: from a line that ends in { to the first line that is }, both indented as `fn` is."""
+    """Returns the first and the last line of the body of the function that begins at a line, if the proofs of others do
+    not read it: from a line that ends in { to the first one that is }, both indented as `fn` is, as rt fmt has it."""
     found = FUNCTION.match(lines[first])
-    if not found or "const " in found[2]:
+    if not found or "const " in found[2] or is_in_cycle(lines, first):
         return None
     indent = found[1]
     opening = re.compile(rf"{indent}({{|\S.*{{)$")
@@ -34,20 +47,22 @@ def body_at(lines, first):
         if opening.match(lines[begins]):
             ends = next((it for it in range(begins, len(lines)) if lines[it] == f"{indent}}}"), None)
             return None if ends is None else (begins, ends)
-        if lines[begins].rstrip().endswith((";", "{}")) or begins > first and FUNCTION.match(lines[begins]):
+        bare = lines[begins].partition("//")[0].rstrip()
+        is_over = bare.endswith((";", "{}")) or begins == first and bare.endswith("}")
+        if is_over or begins > first and FUNCTION.match(lines[begins]):
             return None
     return None
 
 
 @functools.cache
 def outline(file):
-    """Returns the text of a source file without bodies of functions, and the lines of these bodies."""
+    """Returns the text of a source file without bodies of functions, and the names and lines of these bodies."""
     lines, kept, bodies, at = text(file).split("\n"), [], [], 0
     while at < len(lines):
         body = body_at(lines, at)
         if body:
             kept += [*lines[at : body[0] + 1], lines[body[1]]]
-            bodies.append(body)
+            bodies.append((FUNCTION.match(lines[at])[3], *body))
         else:
             kept.append(lines[at])
         at = body[1] + 1 if body else at + 1
@@ -61,13 +76,19 @@ def digest(file, is_whole):
 
 
 def bodies_of(edit, folder):
-    """Returns the bodies in which the edit changes lines; of a line that stands in none the whole file."""
+    """Returns the bodies in which the edit changes lines; of a line that stands in none the whole file. Then those of
+    functions of the crate that the new lines name: one that calls the edited function makes a cycle with it."""
     found = []
     for file, number in sorted(edit.lines):
         lines = text(f"{folder}/{file}").split("\n")
         bodies = outline(f"{folder}/{file}")[1] if file.endswith(".rt") else []
-        inside = [it for it in bodies if it[0] <= number <= it[1]]
-        found += ["\n".join(lines[first : last + 1]) for first, last in inside] or ["\n".join(lines)]
+        inside = [it for it in bodies if it[1] <= number <= it[2]]
+        found += ["\n".join(lines[first : last + 1]) for _, first, last in inside] or ["\n".join(lines)]
+    named = set(re.findall(r"\w+", " ".join(edit.lines.values())))
+    for file in files_of(os.path.basename(folder)):
+        lines = text(file).split("\n")
+        for name, first, last in outline(file)[1] if file.endswith(".rt") else []:
+            found += ["\n".join(lines[first : last + 1])] if name in named else []
     return found
 
 
@@ -79,7 +100,10 @@ def lemma_files(files, names):
         if file in found:
             continue
         found.add(file)
-        for crate, part, path in IMPORT.findall(text(file)):
+        own = os.path.relpath(file, f"{TOP}/crates").split("/")[0]
+        named = USING.findall(text(file)) if file.endswith(".rt") else []
+        named = [(own if it[0] == "crate" else it[0], it[1], it[2].replace("::", ".")) for it in named]
+        for crate, part, path in IMPORT.findall(text(file)) + named:
             words = path.strip(".").split(".")
             tried = (f"{TOP}/crates/{crate}/{part}/{'/'.join(words[:n])}.antt" for n in range(len(words), 0, -1))
             more += [it for it in [next((it for it in tried if os.path.isfile(it)), "")] if it and crate in names]
@@ -87,8 +111,10 @@ def lemma_files(files, names):
 
 
 def proof_files(edit, folder):
-    """Returns the files below proofs/ of the functions that the edit changes, and of others of these names."""
+    """Returns the files below proofs/ of the functions that the edit changes, and of others of these names; and of the
+    cycles of its source files, which have names of their own."""
     names = {(it or "").rpartition("::")[2] for it in edit.functions}
+    names |= {it for file, _ in edit.lines if file.endswith(".rt") for it in CYCLE.findall(text(f"{folder}/{file}"))}
     walks = [(at, found) for at, _, found in os.walk(f"{folder}/proofs")]
     own = [it for it in walks if names & {part.replace("+", "") for part in it[0].split("/")}]
     return [f"{at}/{it}" for at, found in (own if None not in edit.functions else walks) for it in found]
@@ -98,8 +124,10 @@ def key_of(edit, crate, uses, cell):
     """Returns the key of an edit of a crate, with the cell of the document."""
     folder, names = f"{TOP}/crates/{crate}", [crate, *below(crate, uses)]
     files = [it for name in names for it in files_of(name) if "/proofs/" not in it[len(f"{TOP}/crates/{name}") :]]
-    sources = [f"{folder}/{file}" for file, _ in sorted(edit.lines)]
-    lemmas = lemma_files([*sources, *proof_files(edit, folder)], names)
+    # (a tactic at the head of a file holds for what is below it)
+    sources = {f"{folder}/{file}" for file, _ in edit.lines}
+    sources |= {it for it in files if it.startswith(f"{folder}/src/") and TACTIC.search(text(it))}
+    lemmas = lemma_files([*sorted(sources), *proof_files(edit, folder)], names)
     rests = [(it, digest(it, it.endswith(".antt") or None in edit.functions)) for it in files]
     rests += [(it, digest(it, True)) for it in lemmas if it not in sources]
     rests = [(os.path.relpath(it, TOP), sum) for it, sum in rests]

@@ -44,6 +44,7 @@ import subprocess
 import sys
 import tempfile
 
+from ci import lanes
 from libraries import KIT, PARTS, TOP, crates_used, text, words_over
 from verdicts import is_drawn, key_of, record, recorded
 
@@ -436,8 +437,7 @@ def tried(crates):
         except OSError as error:
             return [(it, UNKNOWN, str(error)) for it in crate.edits]
 
-    lanes = int(os.environ.get("RT_JOBS") or os.cpu_count() or 1)
-    with concurrent.futures.ThreadPoolExecutor(lanes) as pool:
+    with concurrent.futures.ThreadPoolExecutor(int(os.environ.get("RT_JOBS") or lanes())) as pool:
         for crate, result in [(it, pool.submit(work, it)) for it in sorted(crates, key=lambda it: -len(it.edits))]:
             for edit, kind, what in result.result():
                 said = {REFUSED: f" at {what}", RECORDED: " as refused"}.get(kind, f": {what}")

@@ -16,7 +16,7 @@ import subprocess
 import sys
 import tempfile
 
-TOOLS = [f"{os.path.dirname(os.path.abspath(__file__))}/{it}.py" for it in ("libraries", "verdicts", "wrong")]
+TOOLS = [f"{os.path.dirname(os.path.abspath(__file__))}/{it}.py" for it in ("ci", "libraries", "verdicts", "wrong")]
 # Prints the name of each edit, whether it is tried at this commit anyway, and its key.
 KEYS = """
 import wrong, verdicts
@@ -46,10 +46,22 @@ macro_rules! is_low {
     };
 }
 
+pub fn nothing() {} // and no more
+
 pub fn limit() -> u8
     ensures { result ≡ 9 }
 {
     9
+}
+
+#[cycle(turns)]
+pub fn turn(n: u8) -> u8 {
+    if n == 0 { 0 } else { turn_back(n - 1) }
+}
+
+#[cycle(turns)]
+pub fn turn_back(n: u8) -> u8 {
+    if n == 0 { 0 } else { turn(n - 1) }
 }
 
 pub fn clamp(x: u8) -> u8
@@ -73,6 +85,7 @@ pub fn four_times(x: u8) -> u8
     two + two
 }
 
+#[tactic(auto, using(crate::proofs::Used::same))]
 pub fn half(x: u8) -> u8
     ensures { result ≤ x }
 {
@@ -145,7 +158,12 @@ use Rattle.std.specs.Prelude.{ℕ}
 abbrev pub nine : ℕ
 nine = 9
 """,
-    "crates/low/proofs/Lib.antt": "mod Lemmas\n",
+    "crates/low/proofs/Lib.antt": "mod Lemmas\nmod Used\n",
+    "crates/low/proofs/Used.antt": """use Rattle.std.proofs.Common.{ℕ, ◌≡◌, refl}
+
+pub same : (n : ℕ) → n ≡ n
+same n = refl
+""",
     "crates/low/proofs/Lemmas.antt": """use Rattle.std.proofs.Common.{ℕ, ◌≡◌, refl}
 
 pub same : (n : ℕ) → n ≡ n
@@ -213,6 +231,7 @@ EDITS = [
 # What is changed, the file, its old and new text, and which verdicts are due then: all of the crate, or some. An edit of
 # a line outside of any body rests on everything.
 ALL = {name for name, _, old, new, _ in EDITS} - {"stands_twice", "stands_never", "changes_nothing"}
+LIB = {name for name, file, *_ in EDITS if file == "lib"} & ALL
 LOW = "crates/low"
 CHANGES = [
     ("the body of another function", f"{LOW}/src/lib.rt", "    x / 2", "    x / 2 + 0",
@@ -226,6 +245,11 @@ CHANGES = [
     ("a definition", f"{LOW}/specs/Small.antt", "nine = 9", "nine = 8 + 1", ALL),
     ("what a crate uses", "crates.txt", "low:\n", "low: anyhow\n", ALL),
     ("a lemma", f"{LOW}/proofs/Lemmas.antt", "same n = refl", "same m = refl", {"greater_renamed", "most_is_eight"}),
+    ("a lemma of an attribute", f"{LOW}/proofs/Used.antt", "same n = refl", "same m = refl", LIB | {"most_is_eight"}),
+    ("a function of a cycle", f"{LOW}/src/lib.rt", "turn(n - 1)", "turn(0)", ALL),
+    ("what stands behind a comment", f"{LOW}/src/lib.rt", "limit() -> u8", "limit() -> u16", ALL),
+    ("a function that the edit names", f"{LOW}/src/lib.rt", "    small + small", "    small + 0 + small",
+     {"twice_from_zero", "most_is_eight"}),
     ("a proof", f"{LOW}/proofs/pair/Pair/raise/Answers.antt", "first = refl;", "first = refl ;",
      {"raise_by_one", "most_is_eight"}),
     ("the proof of another function", f"{LOW}/proofs/loose/Answers.antt", "omega arith", "omega (arith)",

@@ -274,12 +274,14 @@ typedef struct {
    The limits on text and on class escapes are tested before anything is read, the limit on size while a pattern is
    compiled; beyond one of them is LAZYDFA_TOO_LARGE. The parser takes time and memory in proportion to the length of
    the text and to its class escapes, the compiler in proportion to the limit on size (docs/C.md has figures). Every
-   backslash before one of the letters d D p P s S w W counts as a class escape, also one behind another backslash.
+   backslash before one of the letters d D p P s S w W counts as a class escape, also one behind another backslash, and
+   one that ends a text if the next text begins with such a letter.
 
    A regex that searches forward only is for programs that ask whether there is a match and where it ends: it takes
    less memory, and less time to build. lazydfa_is_match, lazydfa_find_end, lazydfa_all_ends, lazydfa_which, tokens,
-   pieces and walks answer as those of any other regex. A call that needs the start of a match that is not empty fails
-   with LAZYDFA_NOT_A_PAIR. */
+   pieces and walks answer as those of any other regex. lazydfa_find and iterations report a match that begins where the
+   search does, or whose input is anchored, and fail with LAZYDFA_NOT_A_PAIR for any other. What searches backward
+   (lazydfa_find_start, lazydfa_all_starts, and the regex of lazydfa_regex_reverse) finds nothing. */
 typedef struct {
     size_t size_limit;             /* bytes that the tables of all patterns may take, if has_size_limit is not 0 */
     size_t text_limit;             /* bytes that all texts may have together, if has_text_limit is not 0 */
@@ -758,10 +760,10 @@ static inline lazydfa_status lazydfa_regex_any_of(lazydfa_regex *regex, const la
  *     for (i = 0, at = facts.prefix; i < facts.count && i < 16 && at + lengths[i] <= sizeof bytes; at += lengths[i++])
  *         printf("contains %.*s\n", (int)lengths[i], (const char *)bytes + at);
  *
- * bytes gets the prefix and after it the literals, in the order in which they stand in each match, and lengths gets the
- * length of each literal: as much as there is room for (facts.length bytes and facts.count lengths are enough). So a
- * literal that ends within the room was written whole. No literal is empty. bytes may be NULL if room is 0, and lengths
- * if count_room is 0. options may be NULL for the defaults.
+ * bytes gets the prefix and after it the literals, and lengths gets the length of each literal: as much as there is room
+ * for (facts.length bytes and facts.count lengths are enough). So a literal that ends within the room was written whole.
+ * No literal is empty. Nothing is promised of their order, and they may overlap. bytes may be NULL if room is 0, and
+ * lengths if count_room is 0. options may be NULL for the defaults.
  *
  * The facts hold of every match in every haystack, whatever its bytes, also of one that a search would not prefer, and
  * with every setting. They are necessary and not sufficient: a haystack that has them all need not have a match. More
@@ -815,8 +817,8 @@ static inline lazydfa_status lazydfa_regex_reverse(lazydfa_regex *regex, lazydfa
 /* ---- Sizes ---- */
 
 /* Writes how large the tables of a regex are: 16 bytes for each state of its forward NFA, and 8 for each range of bytes
-   of a sparse state, in the measure of the limit on size. It goes over all states. A byte that needs a new state of the
-   DFA takes time in proportion to this size, at most. */
+   of a sparse state. It goes over all states. A byte that needs a new state of the DFA takes time in proportion to this
+   size, at most. */
 static inline lazydfa_status lazydfa_regex_size(lazydfa_regex *regex, size_t *size) {
     LAZYDFA_NEED(regex);
     LAZYDFA_NEED(size);

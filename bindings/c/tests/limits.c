@@ -96,10 +96,14 @@ static void forward_only(const char *pattern, const char *hay, uint32_t kind) {
     CHECK(lazydfa_which(&cache, bytes(hay), whole.end, &whole, 1, &wanted_which, 1, &wanted_count).code == LAZYDFA_OK);
     CHECK(lazydfa_which(&other, bytes(hay), whole.end, &whole, 1, &which, 1, &count).code == LAZYDFA_OK);
     CHECK(count == wanted_count && which == wanted_which);
-    /* The start of a match is known without a search back if the match ends where the search began. */
+    /* The start of a match is known without a search back if the match ends where the search began, or is anchored. */
     if (status.code == LAZYDFA_OK && wanted.offset > 0) {
         CHECK(lazydfa_find(&other, bytes(hay), whole.end, &whole, &match).code == LAZYDFA_NOT_A_PAIR);
         whole.anchored = LAZYDFA_ANCHORED_YES;
+        half = wanted;
+        status = lazydfa_find_end(&cache, bytes(hay), strlen(hay), &whole, &half);
+        CHECK(lazydfa_find(&other, bytes(hay), strlen(hay), &whole, &match).code == status.code);
+        CHECK(status.code != LAZYDFA_OK || (match.start == 0 && match.end == half.offset));
         whole.end = wanted.offset;
         CHECK(lazydfa_find_start(&other, bytes(hay), strlen(hay), &whole, &half).code == LAZYDFA_NONE);
     }
@@ -142,7 +146,7 @@ static void sizes(void) {
 }
 
 int main(void) {
-    static const char *const patterns[] = { "[a-z]+", "b|bc", "x*", "\xC3\xA9", "^b", "(?-u:\\b)c", "", "q" };
+    static const char *const patterns[] = { "[a-z]+", "b|bc", "x*", "\xC3\xA9", "^b", "$", "(?-u:\\b)c", "", "q" };
     static const char *const hays[] = { "", "12 abc", "bcb", "\xC3\xA9", "xx" };
     size_t i, j;
     text_limit();

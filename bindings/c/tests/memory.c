@@ -172,6 +172,8 @@ static void one_cache(const row *r) {
            (unsigned long)(usage.forward_clears + usage.reverse_clears));
     CHECK(usage.memory + usage.leaps <= 2 * r->capacity, r->pattern);
     CHECK(usage.held <= 2 * BETWEEN * r->capacity, r->pattern);
+    /* A long text of a few letters is searched by leaps. */
+    CHECK(r > &rows[1] || usage.leaps > 1024, r->pattern);
     CHECK(peak - before <= CLEARED * r->capacity + usage.held, r->pattern);
     CHECK(lazydfa_cache_close(&cache).code == LAZYDFA_OK, r->pattern);
     CHECK(taken == before, r->pattern);
