@@ -1,23 +1,31 @@
 /* What part of the rows the operators let through, for the planner. */
-#include "kept.h"
+#include "search.h"
 
 #include "access/htup.h"
 #include "nodes/primnodes.h"
+#include "utils/lsyscache.h"
 #include "utils/selfuncs.h"
 
 /* Where nothing is known: of the operators, and of those with `!`. */
 #define MATCHING DEFAULT_MATCHING_SEL
 #define NOT_MATCHING (1.0 - DEFAULT_MATCHING_SEL)
 
-/* Whether the patterns are constant, and what is searched is a column. */
-static bool has_constant_patterns(PlannerInfo *root, List *args, int relation) {
+/* The patterns, if they are constant, and what is searched is a column. */
+static Node *constant_patterns(PlannerInfo *root, List *args, int relation) {
     VariableStatData column;
     Node *patterns;
-    bool is_left, is_constant;
-    if (!get_restriction_variable(root, args, relation, &column, &patterns, &is_left)) return false;
-    is_constant = is_left && IsA(patterns, Const);
+    bool is_left;
+    if (!get_restriction_variable(root, args, relation, &column, &patterns, &is_left)) return NULL;
     ReleaseVariableStats(column);
-    return is_constant;
+    return is_left && IsA(patterns, Const) ? patterns : NULL;
+}
+
+/* Whether the function of an operator is one of this extension. Anyone may name the estimators for another one, which
+   could run queries. */
+static bool is_own(Oid operator) {
+    FmgrInfo function;
+    fmgr_info(get_opcode(operator), &function);
+    return tells_match(function.fn_addr);
 }
 
 /* What part of the rows an operator lets through, by the values that the statistics have. A value that cannot be
@@ -27,9 +35,11 @@ static double selectivity_of(FunctionCallInfo fcinfo, double unknown) {
     PlannerInfo *root = (PlannerInfo *)PG_GETARG_POINTER(0);
     List *args = (List *)PG_GETARG_POINTER(2);
     int relation = PG_GETARG_INT32(3);
+    Node *patterns = constant_patterns(root, args, relation);
     bool before = kept_is_estimating;
     double selectivity = unknown;
-    if (!has_constant_patterns(root, args, relation)) return unknown;
+    if (!patterns || !is_own(PG_GETARG_OID(1))) return unknown;
+    args = list_make2(linitial(args), patterns); /* no expression of the query is evaluated from here on */
     kept_is_estimating = true;
     PG_TRY();
     {

@@ -18,15 +18,17 @@
 #define HELD_BOTH 13
 #define HELD_BESIDE 14000
 
-/* Searching a byte adds at most one state, and most states take fewer bytes than this. */
-#define HELD_STATE 2048
+/* Searching a byte adds at most one state in each direction: a row of transitions, up to 1 kB, and the states of the
+   NFA that it stands for. Lists have room to double. */
+#define HELD_STATE 4096
 
 /* What is not kept any more stays allocated, since a call site may look at its generation: these are free. */
 static dlist_head by_use = DLIST_STATIC_INIT(by_use); /* that used last is first */
 static dlist_head free_ones = DLIST_STATIC_INIT(free_ones);
 static dlist_head buckets[BUCKETS];
 static int kept_number = 0;
-static size_t memory = 0; /* the sum of what they hold */
+static size_t memory = 0; /* the sum of what they held when they were counted */
+static size_t uncounted = 0; /* and a bound on what they hold more */
 static int64 compiled = 0;
 static MemoryContext context = NULL;
 static Kept *in_use = NULL; /* whose search is not counted yet */
@@ -43,7 +45,8 @@ static void forget(Kept *kept) {
     kept->key.bytes = NULL;
     kept->generation++;
     memory -= kept->memory;
-    kept->memory = 0;
+    uncounted -= kept->uncounted;
+    kept->memory = kept->uncounted = 0;
     kept_number--;
     dlist_delete(&kept->by_hash);
     dlist_delete(&kept->by_use);
@@ -97,8 +100,9 @@ static size_t tables_of(const Kept *kept) {
 static void count(Kept *kept) {
     size_t before = kept->memory;
     kept->memory = usage_of(kept).held + tables_of(kept);
-    kept->uncounted = 0;
     memory = memory - before + kept->memory;
+    uncounted -= kept->uncounted;
+    kept->uncounted = 0;
 }
 
 /* The patterns of a key, compiled and kept. NULL if there are none, while the planner estimates. */
@@ -216,14 +220,21 @@ lazydfa_cache *kept_backward(Kept *kept) {
 
 void kept_begin(Kept *kept) { in_use = kept; }
 
-/* Up to half of the limit patterns are counted only if they may have grown: what all of them have added since is less
-   than the other half. */
+/* What is held is counted only where it may have passed the limit: first of these patterns, and then of all. */
 void kept_count(Kept *kept, size_t searched) {
     size_t limit = (size_t)setting_cache_size * 1024;
+    size_t most = Min(searched * (HELD_STATE + kept->size) * (kept->key.flags & ENDS_ONLY ? 1 : 2), limit + 1);
+    dlist_iter at;
     in_use = NULL;
-    kept->uncounted += searched;
-    if (memory <= limit / 2 && kept->uncounted <= limit / 2 / HELD_STATE / kept_number) return;
+    kept->uncounted += most;
+    uncounted += most;
+    if (memory + uncounted <= limit) return;
     count(kept);
+    if (memory + uncounted <= limit) return;
+    dlist_foreach(at, &by_use) {
+        Kept *other = dlist_container(Kept, by_use, at.cur);
+        if (other->uncounted) count(other);
+    }
     kept_trim(setting_cached_patterns, limit);
 }
 

@@ -39,7 +39,7 @@ typedef struct {
     size_t piece;        /* how many bytes of a value are searched before the query can be cancelled */
     bool skips;          /* searches skip matches inside a character, which are empty */
     size_t memory;       /* the bytes that are held, when they were last counted */
-    size_t uncounted;    /* the bytes that were searched since then */
+    size_t uncounted;    /* a bound on what is held more since then */
     lazydfa_regex regex;
     lazydfa_cache cache;
     lazydfa_cache backward; /* of the regex that reads backward, if it was needed */
@@ -81,8 +81,8 @@ extern Kept *kept_of_call(FunctionCallInfo fcinfo, Site *site, uint32 flags);
 /* The cache for searches back in pieces, which is opened when it is needed first. */
 extern lazydfa_cache *kept_backward(Kept *kept);
 
-/* Each search begins and ends with these. The second counts what is held after a search of `searched` bytes,
-   and frees the least recently used patterns if it is too much. */
+/* Each search begins and ends with these. The second frees the least recently used patterns if too much is held after
+   a search of `searched` bytes. */
 extern void kept_begin(Kept *kept);
 extern void kept_count(Kept *kept, size_t searched);
 

@@ -71,6 +71,18 @@ MATCH(lazydfa_pg_match_bytes, READS_BYTES)
 MATCH(lazydfa_pg_imatch_bytes, FOLDS_CASE | READS_BYTES)
 MATCH(lazydfa_pg_match_any_bytes, IS_LIST | FINDS_ALL | READS_BYTES)
 
+bool tells_match(PGFunction function) {
+    static const PGFunction own[] = {
+        lazydfa_pg_match,           lazydfa_pg_match_not,           lazydfa_pg_imatch,
+        lazydfa_pg_imatch_not,      lazydfa_pg_match_any,           lazydfa_pg_match_any_not,
+        lazydfa_pg_match_bytes,     lazydfa_pg_match_bytes_not,     lazydfa_pg_imatch_bytes,
+        lazydfa_pg_imatch_bytes_not, lazydfa_pg_match_any_bytes,    lazydfa_pg_match_any_bytes_not,
+    };
+    for (size_t i = 0; i < lengthof(own); i++)
+        if (function == own[i]) return true;
+    return false;
+}
+
 PG_FUNCTION_INFO_V1(lazydfa_pg_find);
 
 /* Where the first match begins and ends, in characters. */

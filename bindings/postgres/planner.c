@@ -82,6 +82,8 @@ static const Known *know(const text *pattern, uint32 flags) {
         if (last.bytes) pfree((char *)last.bytes);
         last = (Key){copy, key.length, flags};
         is_known = read_facts(&known, &last);
+        /* What was refused may be read another time: memory or the settings may be others. */
+        if (!is_known) last.flags = ~0u;
     }
     return is_known ? &known : NULL;
 }

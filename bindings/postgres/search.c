@@ -185,8 +185,8 @@ static void begin_search(Value *value) {
     kept_begin(value->kept);
 }
 
-/* Ends a search of `length` bytes: what it has added to the cache is counted, and an error is reported, unless the
-   planner estimates. */
+/* Ends a search that may have read so many bytes: what it has added to the cache is counted, and an error is reported,
+   unless the planner estimates. A search reads on behind a match for one that is preferred to it. */
 static void end_search(Value *value, size_t length, lazydfa_status status) {
     kept_count(value->kept, length);
     if (status.code == LAZYDFA_OK || status.code == LAZYDFA_NONE || status.code == LAZYDFA_NO_TOKEN) return;
@@ -219,7 +219,7 @@ bool find_next(Value *value, lazydfa_match *match) {
     begin_search(value);
     if (has_parts(value, from)) status = next_by_parts(value, match);
     else status = lazydfa_next(&value->kept->cache, value->bytes, value->length, &value->matches, match);
-    end_search(value, (status.code == LAZYDFA_OK ? match->end : value->length) - from, status);
+    end_search(value, value->length - from, status);
     return status.code == LAZYDFA_OK;
 }
 
@@ -229,7 +229,7 @@ lazydfa_status find_token(Value *value, lazydfa_match *token) {
     begin_search(value);
     if (is_long(value, from)) status = token_in_pieces(value, token);
     else status = lazydfa_token(&value->kept->cache, value->bytes, value->length, &value->tokens, token);
-    end_search(value, (status.code == LAZYDFA_OK ? token->end : value->length) - from, status);
+    end_search(value, value->length - from, status);
     return status;
 }
 

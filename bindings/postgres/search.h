@@ -35,6 +35,9 @@ extern lazydfa_status find_token(Value *value, lazydfa_match *token);
 /* The numbers of the patterns that match, in increasing order, and how many they are. There is room for all. */
 extern size_t find_all(Value *value, uint32_t *patterns);
 
+/* Whether a function is one of the operators', which return whether there is a match. */
+extern bool tells_match(PGFunction function);
+
 #pragma GCC visibility pop
 
 #endif

@@ -187,7 +187,8 @@ def main(words):
     for answer in answers:
         print("\n".join(answer[1:]), end="\n" if answer[1:] else "")
     finished(started("DROP SCHEMA indexed CASCADE;"))
-    return 1 if differ else 0
+    # A comparison in which an index is not used, or most patterns are refused, says nothing.
+    return 1 if differ or not all(used) or refused > count // 2 else 0
 
 
 if __name__ == "__main__":

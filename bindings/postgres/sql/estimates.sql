@@ -52,5 +52,27 @@ SELECT compiled AS before FROM lazydfa_stats() \gset
 SELECT rows_of('SELECT * FROM rules WHERE ''a1'' =~ rule') < 10 AS few, rows_of('SELECT * FROM rules WHERE ''a1'' !=~ rule') > 90 AS most;
 SELECT compiled - :before AS none FROM lazydfa_stats();
 SELECT count(*) AS one FROM rules WHERE rule ~ '^a' AND 'a1' =~ rule;
+
+-- An expression of the query is evaluated outside of the estimate, where a pattern that is refused is an error
+CREATE FUNCTION checked(pattern text) RETURNS text STABLE LANGUAGE plpgsql AS $$
+BEGIN
+    PERFORM lazydfa_count('', pattern);
+    RETURN pattern;
+EXCEPTION WHEN invalid_regular_expression THEN
+    RETURN 'refused';
+END $$;
+SELECT rows_of($$SELECT * FROM log WHERE line =~ checked('(')$$) < 50 AS few;
+SELECT count(*) AS none FROM log WHERE line =~ checked('(');
+
+-- An estimator that is named for an operator of somebody else calls nothing of it
+CREATE FUNCTION counts(line text, word text) RETURNS bool LANGUAGE plpgsql AS $$
+BEGIN
+    RETURN lazydfa_count(line, '(') > 0;
+END $$;
+CREATE OPERATOR ### (FUNCTION = counts, LEFTARG = text, RIGHTARG = text, RESTRICT = lazydfa_sel,
+    JOIN = lazydfa_joinsel);
+SELECT rows_of($$SELECT * FROM log WHERE line ### 'x'$$) < 50 AS few;
+DROP OPERATOR ### (text, text);
+DROP FUNCTION counts, checked;
 DROP TABLE log, rules;
 DROP FUNCTION rows_of;
