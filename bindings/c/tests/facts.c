@@ -185,8 +185,10 @@ static unsigned below(unsigned limit) {
 
 /* Writes a random pattern, and returns its end. */
 static char *expression(char *at, int depth) {
-    static const char *const simple[] = { "a", "b", "ab", "ba", "bab", ".", "[ab]", "[^a]", "^", "$", "(?m:^)", "(?-u:\\b)",
-                                          "(?-u:\\B)", "\\w", "(?i:a)", "(?i:ab)", "", "\\n", "aabb", "\xC3\xA9" };
+    static const char *const simple[] = { "a", "b", "ab", "ba", "bab", ".", "[ab]", "[^a]", "^", "$", "(?m:^)",
+                                          "(?-u:\\b)",
+                                          "(?-u:\\B)", "\\w", "(?i:a)", "(?i:ab)", "", "\\n", "aabb", "\xC3\xA9",
+                                          "(?-u:\\xFFa)", "(?-u:\\xC3)" };
     static const char *const counts[] = { "*", "+", "?", "*?", "+?", "{2}", "{0,2}", "{1,3}?", "{2,}", "{0}" };
     unsigned i, parts;
     if (!depth || below(4) == 0) return at + sprintf(at, "%s", simple[below(sizeof simple / sizeof *simple)]);
@@ -220,7 +222,8 @@ static void check_match(const char *pattern, const char *hay, size_t length, con
         for (k = 0; k + lengths[i] <= size; k++) inside |= !memcmp(hay + match->start + k, read + at, lengths[i]);
         holds &= inside && lengths[i];
     }
-    CHECK(holds || (printf("%s in %s: %lu..%lu\n", pattern, hay, (unsigned long)match->start, (unsigned long)match->end), 0));
+    if (!holds) printf("%s in %s: %lu..%lu\n", pattern, hay, (unsigned long)match->start, (unsigned long)match->end);
+    CHECK(holds);
     seen++;
     begun += facts->anchored_start;
     ended += facts->anchored_end;
@@ -229,10 +232,11 @@ static void check_match(const char *pattern, const char *hay, size_t length, con
     held += facts->count > 1;
 }
 
-/* Searches random haystacks for a pattern. */
-static void search(const char *pattern, lazydfa_cache *cache, const lazydfa_facts *facts, const uint8_t *read,
-                   const size_t *lengths) {
-    static const char *const parts[] = { "a", "b", "ab", "ba", "aabb", "bab", "A", "\n", "\xC3\xA9", "a\n" };
+/* Searches random haystacks for a pattern: texts, or bytes. */
+static void search(const char *pattern, lazydfa_cache *cache, int is_text, const lazydfa_facts *facts,
+                   const uint8_t *read, const size_t *lengths) {
+    static const char *const parts[] = { "a", "b", "ab", "ba", "aabb", "bab", "A", "\n", "\xC3\xA9", "a\n",
+                                         "\xFF" "a", "\xC3" };
     char hay[100];
     int round;
     for (round = 0; round < 4; round++) {
@@ -240,7 +244,7 @@ static void search(const char *pattern, lazydfa_cache *cache, const lazydfa_fact
         lazydfa_iteration left;
         lazydfa_match match;
         hay[0] = 0;
-        for (i = 0; i < count; i++) length += (size_t)sprintf(hay + length, "%s", parts[below(10)]);
+        for (i = 0; i < count; i++) length += (size_t)sprintf(hay + length, "%s", parts[below(is_text ? 10 : 12)]);
         left = lazydfa_iterate(lazydfa_whole(length));
         while (lazydfa_next(cache, bytes(hay), length, &left, &match).code == LAZYDFA_OK)
             check_match(pattern, hay, length, &match, facts, read, lengths);
@@ -252,21 +256,31 @@ static void random_patterns(void) {
     static uint8_t read[5000];
     static size_t lengths[1000];
     int i;
-    for (i = 0; i < 10000; i++) {
+    for (i = 0; i < 20000; i++) {
         lazydfa_regex regex = LAZYDFA_INIT;
         lazydfa_cache cache = LAZYDFA_INIT;
         lazydfa_facts facts;
+        lazydfa_text_options options;
+        lazydfa_settings settings;
         char *end = expression(pattern, 1 + (int)below(4));
         size_t length;
         lazydfa_status status;
         if (i % 2) end = expression(end + sprintf(end, "(?s:.)*"), 1 + (int)below(3));
         length = (size_t)(end - pattern);
-        status = lazydfa_text_facts(pattern, length, NULL, &facts, read, sizeof read, lengths, 1000);
+        memset(&options, 0, sizeof options);
+        memset(&settings, 0, sizeof settings);
+        options.bytes = below(3) == 0;
+        options.case_insensitive = below(4) == 0;
+        options.multi_line = below(8) == 0;
+        options.swap_greed = below(8) == 0;
+        settings.match_kind = below(4) ? LAZYDFA_LEFTMOST_FIRST : LAZYDFA_ALL;
+        status = lazydfa_text_facts(pattern, length, &options, &facts, read, sizeof read, lengths, 1000);
         if (status.code == LAZYDFA_SYNTAX) continue;
         CHECK(status.code == LAZYDFA_OK && facts.length <= sizeof read && facts.count <= 1000);
-        if (lazydfa_regex_new(&regex, pattern, length, NULL, NULL, NULL, 0, NULL, NULL, 0).code != LAZYDFA_OK) continue;
+        if (lazydfa_regex_new(&regex, pattern, length, &options, &settings, NULL, 0, NULL, NULL, 0).code != LAZYDFA_OK)
+            continue;
         CHECK(lazydfa_cache_new(&cache, &regex).code == LAZYDFA_OK);
-        search(pattern, &cache, &facts, read, lengths);
+        search(pattern, &cache, !options.bytes, &facts, read, lengths);
         lazydfa_cache_close(&cache);
         lazydfa_regex_close(&regex);
     }
