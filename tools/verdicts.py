@@ -23,7 +23,7 @@ CYCLE = re.compile(r"#\[cycle\((\w+)\)\]")
 # an attribute of a source file.
 IMPORT = re.compile(r"Rattle\.(\w+)\.(specs|proofs)\.([^\s{},;()]+)")
 USING = re.compile(r"\b(\w+)::(specs|proofs)::([\w:]+)")
-TACTIC = re.compile(r"^#!\[tactic", re.M)
+TACTIC = re.compile(r"^#!\[tactic\([^\]]*\busing\b", re.M)
 
 
 def is_in_cycle(lines, first):
@@ -124,7 +124,7 @@ def key_of(edit, crate, uses, cell):
     """Returns the key of an edit of a crate, with the cell of the document."""
     folder, names = f"{TOP}/crates/{crate}", [crate, *below(crate, uses)]
     files = [it for name in names for it in files_of(name) if "/proofs/" not in it[len(f"{TOP}/crates/{name}") :]]
-    # (a tactic at the head of a file holds for what is below it)
+    # (the lemmas of a tactic at the head of a file are for all that is below it)
     sources = {f"{folder}/{file}" for file, _ in edit.lines}
     sources |= {it for it in files if it.startswith(f"{folder}/src/") and TACTIC.search(text(it))}
     lemmas = lemma_files([*sorted(sources), *proof_files(edit, folder)], names)
