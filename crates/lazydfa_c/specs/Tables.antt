@@ -1,4 +1,4 @@
--- How large the tables of a regex are, in the measure of the limit on size.
+-- How large the tables of a regex are.
 use Rattle.std.specs.Prelude.{ℕ, ◌≡◌, ◌+◌, ◌*◌, ◌-◌, ◌^◌, List, length, min, sum_by, Result, Ok, Err}
 use Rattle.automata_base.specs.declared.nfa.thompson.State.{State}
 use Rattle.automata_base.specs.declared.nfa.thompson.State.TheVariants as is
