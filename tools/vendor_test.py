@@ -122,8 +122,8 @@ def try_proof(folder, program):
     except OSError as error:
         return str(error)
     status, out, err = run([f"{KIT}/bin/rattle", "check", *words], f"{folder}/crates/{program}")
-    last = (out.splitlines() or [""])[-1]
-    return "" if status == 0 and last.startswith("logic=proved ") else f"status {status}\n{out}{err}"
+    is_proved = status == 0 and re.search(r"^logic=proved functions=[1-9]", out + err, re.M)
+    return "" if is_proved else f"status {status}\n{out}{err}"
 
 
 def main(words):
