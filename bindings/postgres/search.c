@@ -185,7 +185,7 @@ static void begin_search(Value *value) {
     kept_begin(value->kept);
 }
 
-/* Ends a search that may have read so many bytes: what it has added to the cache is counted, and an error is reported,
+/* Ends a search that may have read `length` bytes: what it has added to the cache is counted, and an error is reported,
    unless the planner estimates. A search reads on behind a match for one that is preferred to it. */
 static void end_search(Value *value, size_t length, lazydfa_status status) {
     kept_count(value->kept, length);

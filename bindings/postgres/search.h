@@ -6,7 +6,7 @@
 
 /* A value that is searched, and how far. */
 typedef struct {
-    Kept *kept; /* NULL if there is no search for the patterns, while the planner estimates */
+    Kept *kept; /* NULL if the patterns cannot be searched for, while the planner estimates */
     const uint8_t *bytes;
     size_t length;
     lazydfa_iteration matches; /* what is left for find_next */

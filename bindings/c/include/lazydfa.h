@@ -760,10 +760,10 @@ static inline lazydfa_status lazydfa_regex_any_of(lazydfa_regex *regex, const la
  *     for (i = 0, at = facts.prefix; i < facts.count && i < 16 && at + lengths[i] <= sizeof bytes; at += lengths[i++])
  *         printf("contains %.*s\n", (int)lengths[i], (const char *)bytes + at);
  *
- * bytes gets the prefix and after it the literals, and lengths gets the length of each literal: as much as there is room
- * for (facts.length bytes and facts.count lengths are enough). So a literal that ends within the room was written whole.
- * No literal is empty. Nothing is promised of their order, and they may overlap. bytes may be NULL if room is 0, and
- * lengths if count_room is 0. options may be NULL for the defaults.
+ * bytes gets the prefix and after it the literals, and lengths gets the length of each literal: as much as there is
+ * room for (facts.length bytes and facts.count lengths are enough). So a literal that ends within the room was written
+ * whole. No literal is empty. Nothing is promised of their order, and they may overlap. bytes may be NULL if room is 0,
+ * and lengths if count_room is 0. options may be NULL for the defaults.
  *
  * The facts hold of every match in every haystack, whatever its bytes, also of one that a search would not prefer, and
  * with every setting. They are necessary and not sufficient: a haystack that has them all need not have a match. More
@@ -817,8 +817,8 @@ static inline lazydfa_status lazydfa_regex_reverse(lazydfa_regex *regex, lazydfa
 /* ---- Sizes ---- */
 
 /* Writes how large the tables of a regex are: 16 bytes for each state of its forward NFA, and 8 for each range of bytes
-   of a sparse state. It goes over all states. A byte that needs a new state of the DFA takes time in proportion to this
-   size, at most. */
+   of a sparse state. It goes over all states. The larger they are, the longer a byte can take that needs a new state of
+   the DFA. */
 static inline lazydfa_status lazydfa_regex_size(lazydfa_regex *regex, size_t *size) {
     LAZYDFA_NEED(regex);
     LAZYDFA_NEED(size);
