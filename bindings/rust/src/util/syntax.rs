@@ -142,6 +142,6 @@ pub struct Facts {
     pub exact: bool,
     /// The bytes that every match begins with; none if nothing is known.
     pub prefix: Vec<u8>,
-    /// Literals that are in every match, in the order in which they stand there.
+    /// Literals, each of which is in every match. Nothing is promised of their order.
     pub literals: Vec<Vec<u8>>,
 }
