@@ -34,7 +34,7 @@ import index
 import plots
 
 TOP = os.path.dirname(os.path.dirname(os.path.abspath(__file__)))
-DOCUMENTS = ["README.md", "docs/CALLING.md", "docs/PATTERNS.md", "docs/READING.md"]
+DOCUMENTS = ["README.md", "docs/ARCHITECTURE.md", "docs/CALLING.md", "docs/PATTERNS.md", "docs/READING.md"]
 PICTURES, GRAPHS = ["docs/nfa.svg", "docs/states.svg"], "crates/example_picture/stdout"
 READING, TIERS = "docs/READING.md", re.compile(r"(?<=<!-- tiers -->\n)(?:\|.*\n)*")
 CALLS, CLAUSES, PROVED = "docs/index/CALLS.md", "docs/index/CLAUSES.md", "docs/PROVED.md"
