@@ -15,7 +15,7 @@ import index  # of this folder
 # The crates whose calls users make, with all that these pass on.
 USED = ["patterns", "regex_automata"]
 # What the methods of a trait do; those of other traits are not listed.
-TRAITS = {"": "", "Iterator": "", "Clone": "A clone.", "Default": "The default."}
+TRAITS = {"": "", "Iterator": "The next item, or none.", "Clone": "A clone.", "Default": "The default."}
 ITEM = re.compile(r"pub (?:const )?(struct|enum|fn|const|type) (\w+)")
 # Clauses that nearly each call has: it leaves its cache one of its DFA, or a reference the one that it was.
 UNNAMED = ["of", "same_cache"]
@@ -129,7 +129,7 @@ def types_of(crate):
 
 
 def described(path, name):
-    """Returns the first sentence of a type, and the names of its public fields or of its variants."""
+    """Returns the first sentence of a type, and its public fields or its variants, with the word for these."""
     lines = index.read(path)
     at = next(number for number, it in enumerate(lines) if re.match(rf"pub (?:struct|enum) {name}\b", it))
     body = []
@@ -137,8 +137,8 @@ def described(path, name):
         if line.startswith("}"):
             break
         body.append(line)
-    form = r"    (\w+)(?:[,({]| \{)" if " enum " in lines[at] else r"    pub (\w+):"
-    return index.docstring(lines, at), [it[1] for it in (re.match(form, line) for line in body) if it]
+    kind, form = ("Variants", r"    (\w+)(?:[,({]| \{)") if " enum " in lines[at] else ("Fields", r"    pub (\w+):")
+    return index.docstring(lines, at), kind, [it[1] for it in (re.match(form, line) for line in body) if it]
 
 
 def listed(specs):
@@ -176,16 +176,14 @@ def call_lines(call):
 
 
 def sentence(call):
-    """Returns the sentence of a call; for a trait's method without one that of the trait, or of the iterator."""
-    if call.trait == "Iterator" and not call.says:
-        return described(call.path, call.owner)[0]
-    return call.says or TRAITS.get(call.trait, "")
+    """Returns the sentence of a call; for a trait's method without one that of the trait."""
+    return call.says or TRAITS[call.trait]
 
 
 def type_lines(name, path):
     """Returns the lines of a type: its sentence, and its fields or variants."""
-    says, parts = described(path, name)
-    more = f" It has {', '.join(f'`{it}`' for it in parts)}." if parts else ""
+    says, kind, parts = described(path, name)
+    more = f" {kind}: {', '.join(f'`{it}`' for it in parts)}." if parts else ""
     return wrapped(f"**`{name}`**: {says}{more}".replace("\\|", "|"), "")
 
 
@@ -249,14 +247,21 @@ def promise_text(promised, folder):
 def promise_table(specs, folders):
     """Returns the table of the calls in files that begin so, in lines."""
     lines = ["| Call | What it does | What is proved |", "|---|---|---|"]
-    for folder in folders.split():
-        crate, _, path = folder.partition("/")
-        for call in public_calls(specs, crate):
-            promised = promises(specs, call)
-            is_here = call.path.startswith(f"crates/{crate}/src/{path}") and call.trait in TRAITS
-            if is_here and says_more(specs, call, promised):
-                lines.append(f"| `{name_of(call)}` | {sentence(call)} | {promise_text(promised, 'index/')} |")
+    for call in [it for folder in folders.split() for it in calls_in(specs, folder)]:
+        promised = promises(specs, call)
+        if says_more(specs, call, promised):
+            says = described(call.path, call.owner)[0] if call.trait == "Iterator" else sentence(call)
+            lines.append(f"| `{name_of(call)}` | {says} | {promise_text(promised, 'index/')} |")
     return lines
+
+
+def calls_in(specs, folder):
+    """Returns the public calls in the files of a crate that begin so, as `patterns/pattern`."""
+    crate, _, path = folder.partition("/")
+    found = [it for it in public_calls(specs, crate) if it.path.startswith(f"crates/{crate}/src/{path}")]
+    if not found:
+        raise ValueError(f"{folder} has no public call")
+    return [it for it in found if it.trait in TRAITS]
 
 
 def filled(specs, text):

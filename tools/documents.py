@@ -14,10 +14,10 @@ are what tools/plots.py draws of the tables of docs/PERFORMANCE.md.
 
 docs/index has each definition, by crate, and docs/READING.md how many there are in each tier: both have to be what
 tools/index.py finds. docs/index/CALLS.md has each public call, docs/index/CLAUSES.md and the tables of docs/PROVED.md what
-is proved of it: these have to be what tools/calls.py finds. --write writes them all. Each link in these pages, and in
-docs/ARCHITECTURE.md, has to lead to a file of the repository, and to a heading or an anchor of it. In specs/Private of the
-lazy DFA stands what no contract of a public call reaches, and nothing else. No two definitions have one name, and no line
-of specs/ and proofs/ has more than 120 signs. READING has each sign that specs/ use, and each name of the standard library.
+is proved of it: these have to be what tools/calls.py finds. --write writes them all. Each link of a document to a file of
+the repository has to lead to one, and to a heading or an anchor in it. In specs/Private of the lazy DFA stands what no
+contract of a public call reaches, and nothing else. No two definitions have one name, and no line of specs/ and proofs/
+has more than 120 signs. READING has each sign that specs/ use, and each name of the standard library.
 
 The last line counts each of these, beside what the given line counts, the last one of `rt ci`, which proves and runs the
 programs themselves. It needs Python 3 alone.
@@ -38,7 +38,8 @@ DOCUMENTS = ["README.md", "docs/ARCHITECTURE.md", "docs/CALLING.md", "docs/PATTE
 PICTURES, GRAPHS = ["docs/nfa.svg", "docs/states.svg"], "crates/example_picture/stdout"
 READING, TIERS = "docs/READING.md", re.compile(r"(?<=<!-- tiers -->\n)(?:\|.*\n)*")
 CALLS, CLAUSES, PROVED = "docs/index/CALLS.md", "docs/index/CLAUSES.md", "docs/PROVED.md"
-LINKED = [READING, PROVED, "docs/ARCHITECTURE.md", CALLS, CLAUSES, *(f"docs/index/{it}.md" for it in index.CRATES)]
+# The folders of documents, and those whose links are not looked at.
+FOLDERS, UNLINKED = ["docs", "docs/index", "bindings/postgres"], ["README.md", "CONTRIBUTING.md"]
 DOCSTRINGS = ["automata_config", "automata_hybrid", "regex_automata"]
 # A definition, or a field of a record.
 DEFINITION = re.compile(
@@ -163,6 +164,12 @@ def generated_faults(pages, write):
     return [] if write else faults
 
 
+def documents():
+    """Returns all documents."""
+    found = [os.path.normpath(f"{folder}/{it}") for folder in [".", *FOLDERS] for it in os.listdir(f"{TOP}/{folder}")]
+    return sorted(it for it in found if it.endswith(".md"))
+
+
 def anchors(path):
     """Returns to what a link into a page may lead: its headings, as GitHub names them, and its anchors."""
     text = read(path)
@@ -227,7 +234,8 @@ def main(words):
     named = index.calls(specs)
     tier = index.tiers(specs, named)
     found["generated"] = generated_faults(generated(specs, named, tier), write), "each page is that of the sources"
-    found["links"] = [f"{page}: {it}" for page in LINKED for it in link_faults(page)], "each leads somewhere"
+    linked = [it for it in documents() if it not in UNLINKED]
+    found["links"] = [f"{page}: {it}" for page in linked for it in link_faults(page)], "each leads somewhere"
     found["Private"] = index.misplaced(specs, tier), "it has what no public contract reaches"
     found["names"] = homonym_faults(specs), "no two definitions have one"
     found["lines"] = width_faults(), "none of specs and proofs has more than 120 signs"
