@@ -212,7 +212,8 @@ def clauses_page(specs):
 
 
 def promises(specs, call):
-    """Returns what the contract of a call promises: by clause the facts that it states, and the values that it equates."""
+    """Returns what the contract of a call promises: by clause the facts that it states and the values that it equates,
+    or the values that it names if it states no fact."""
     names, modules = imports(call.path)
     found = {}
     for clause, body in call.clauses.items():
@@ -220,9 +221,10 @@ def promises(specs, call):
         if kind == "requires" or name in UNNAMED:
             continue
         body = re.sub(r"\([\w ₀-₉]+ : [^()]*\)", "", body)  # (what a variable ranges over is no fact)
+        named = [it for it in specs.in_order(body, names, modules) if it[1] not in EVERYWHERE]
+        facts = [it for it in named if specs.is_fact(it)]
         equated = specs.in_order(body.rpartition("≡")[2], names, modules) if "≡" in body else []
-        stated = specs.in_order(body, names, modules)
-        found[name] = [it for it in stated if it[1] not in EVERYWHERE and (specs.is_fact(it) or it in equated)]
+        found[name] = [it for it in named if it in facts or it in equated] if facts else named
     return {name: stated for name, stated in found.items() if name or stated}
 
 
