@@ -4,19 +4,18 @@ A function is proved over the contracts of what it calls, so the proof of a func
 function itself, everything of its crate and of the crates below but the bodies of their functions, all definitions of
 these crates, the function's own proof files, and the lemma files that these and its source file name, one through
 another. Functions of a cycle are proved together, so their bodies stand for all. The key is a checksum of all that, of
-the kit, of the scripts that try edits, and of the cell of docs/WRONG_BODIES.md which says where the edit is refused.
+the kit, and of the scripts that try edits.
 
-crates/NAME/wrong/verdicts has a line for each edit that was refused: its name and its key.
+crates/NAME/wrong/verdicts has a line for each edit that was refused: its name, its key, and where it is refused.
 """
 import functools
 import hashlib
 import os
 import re
-import subprocess
 
 from libraries import KIT, TOP, below, files_of, text
 
-SCRIPTS = [f"{TOP}/tools/{it}.py" for it in ("libraries", "verdicts", "wrong")]
+SCRIPTS = [f"{TOP}/tools/{it}.py" for it in ("edits", "libraries", "verdicts")]
 FUNCTION = re.compile(r"( *)((?:pub(?:\([^)]*\))? |const |unsafe |extern \"C\" )*)fn (\w+)")
 CYCLE = re.compile(r"#\[cycle\((\w+)\)\]")
 # Whatever names a module of specs or proofs, with the name that is imported as a last part, or without; and the same in
@@ -120,8 +119,8 @@ def proof_files(edit, folder):
     return [f"{at}/{it}" for at, found in (own if None not in edit.functions else walks) for it in found]
 
 
-def key_of(edit, crate, uses, cell):
-    """Returns the key of an edit of a crate, with the cell of the document."""
+def key_of(edit, crate, uses):
+    """Returns the key of an edit of a crate."""
     folder, names = f"{TOP}/crates/{crate}", [crate, *below(crate, uses)]
     files = [it for name in names for it in files_of(name) if "/proofs/" not in it[len(f"{TOP}/crates/{name}") :]]
     # (the lemmas of a tactic at the head of a file are for all that is below it)
@@ -132,31 +131,20 @@ def key_of(edit, crate, uses, cell):
     rests += [(it, digest(it, True)) for it in lemmas if it not in sources]
     rests = [(os.path.relpath(it, TOP), sum) for it, sum in rests]
     rests += [(os.path.relpath(it, TOP), digest(it, True)) for it in SCRIPTS]
-    said = [edit.name, edit.text, bodies_of(edit, folder), [(it, uses[it]) for it in names], cell, rests]
+    said = [edit.name, edit.change, bodies_of(edit, folder), [(it, uses[it]) for it in names], rests]
     return hashlib.sha256(repr([text(f"{KIT}/KIT-ID"), said]).encode()).hexdigest()
 
 
 def recorded(crate):
-    """Returns the recorded key of each edit of a crate."""
+    """Returns the recorded key of each edit of a crate, and where the edit is refused."""
     file = f"{TOP}/crates/{crate}/wrong/verdicts"
-    return dict(it.split() for it in text(file).splitlines()) if os.path.isfile(file) else {}
+    lines = [it.split(" ", 2) for it in text(file).splitlines()] if os.path.isfile(file) else []
+    return {it[0]: (it[1], it[2]) for it in lines if len(it) == 3}
 
 
-def record(crate, keys):
-    """Records the keys of edits of a crate in place of those that they had."""
+def record(crate, verdicts):
+    """Records keys of edits of a crate, and where these are refused, in place of what was recorded of them."""
     folder = f"{TOP}/crates/{crate}/wrong"
-    kept = {it: key for it, key in (recorded(crate) | keys).items() if os.path.isfile(f"{folder}/{it}.edit")}
+    kept = {it: found for it, found in (recorded(crate) | verdicts).items() if os.path.isfile(f"{folder}/{it}.edit")}
     with open(f"{folder}/verdicts", "w", encoding="utf-8") as it:
-        it.write("".join(f"{name} {key}\n" for name, key in sorted(kept.items())))
-
-
-@functools.cache
-def commit():
-    """Returns the commit that is checked out, or a word that is new each time."""
-    ran = subprocess.run(["git", "rev-parse", "HEAD"], cwd=TOP, capture_output=True, text=True)
-    return ran.stdout.strip() if ran.returncode == 0 else os.urandom(8).hex()
-
-
-def is_drawn(crate, edit):
-    """Whether an edit is one of the tenth that is tried at this commit, whatever is recorded."""
-    return int(hashlib.sha256(f"{commit()} {crate} {edit}".encode()).hexdigest(), 16) % 10 == 0
+        it.write("".join(f"{name} {key} {where}\n" for name, (key, where) in sorted(kept.items())))

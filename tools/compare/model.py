@@ -1,4 +1,4 @@
-"""What an NFA answers, by the paths of docs/DEFINITIONS.md: slow, and for short haystacks alone.
+"""What an NFA answers, by the paths of docs/READING.md: slow, and for short haystacks alone.
 
 It follows one path after another, each over the whole haystack, and knows no state sets, tables or caches. What the
 reversed NFA answers is read off the forward one, since both accept the same parts of a haystack by the same patterns.
