@@ -1,8 +1,7 @@
 """Finds the public calls of the library by the modules in which a user finds them, and what their contracts promise.
 
-tools/documents.py compares docs/index/CALLS.md, which has each call with its signature, docs/index/CLAUSES.md, which
-has its clauses, and the tables of docs/PROVED.md, which have those of the calls that search, with what this module makes
-of the sources; its --write writes them. A type, a function or a module that a crate passes on (`pub use`) is listed
+tools/documents.py compares docs/index/CALLS.md, which has each call with its signature, and docs/index/CLAUSES.md, which
+has its clauses, with what this module makes of the sources; its --write writes them. A type, a function or a module that a crate passes on (`pub use`) is listed
 where users import it. It needs Python 3 alone.
 """
 import functools
@@ -32,8 +31,8 @@ calls for C. `tools/documents.py --write` writes this page.
 CLAUSES_HEAD = """# The clauses of the public calls
 
 Each call of the crates `patterns` and `regex_automata`, and each export of the library for C: the clauses of its
-contract, with the definitions that they name. [PROVED](../PROVED.md#the-clauses-of-each-call) says how to read them,
-and [CALLS](CALLS.md) what each call is for. `tools/documents.py --write` writes this page.
+contract, with the definitions that they name, and what each law says. [PROVED](../PROVED.md#the-clauses-of-each-call)
+says how to read them, and [CALLS](CALLS.md) what each call is for. `tools/documents.py --write` writes this page.
 """
 
 
@@ -205,9 +204,11 @@ def clauses_page(specs):
     modules.append(("lazydfa_c", [it for it in public_calls(specs, "lazydfa_c") if not it.owner]))
     lines = CLAUSES_HEAD.split("\n")
     for module, found in modules:
-        rows = [(name_of(it), promise_text(promises(specs, it), "")) for it in found]
-        rows = [f"| `{name}` | {text} |" for name, text in rows if text]
-        lines += [f"## `{module}`", "", "| Call | Clauses |", "|---|---|", *rows, ""] if rows else []
+        is_law = module.endswith("laws")
+        head = ["| Law | What it says | Clauses |", "|---|---|---|"] if is_law else ["| Call | Clauses |", "|---|---|"]
+        rows = [(it, promise_text(promises(specs, it))) for it in found]
+        rows = [f"| `{name_of(it)}` | {sentence(it) + ' | ' if is_law else ''}{text} |" for it, text in rows if text]
+        lines += [f"## `{module}`", "", *head, *rows, ""] if rows else []
     return "\n".join(lines).rstrip("\n") + "\n"
 
 
@@ -228,48 +229,10 @@ def promises(specs, call):
     return {name: stated for name, stated in found.items() if name or stated}
 
 
-def says_more(specs, call, promised):
-    """Whether clauses say more than which value a call returns: they state a fact, or are several and name something."""
-    stated = [it for named in promised.values() for it in named]
-    if len(promised) > 1:
-        return bool(stated)
-    is_value = "->" in call.signature and "-> Result<" not in call.signature
-    return any(specs.is_fact(it) for it in stated) and not is_value
-
-
-def promise_text(promised, folder):
-    """Returns clauses as text, each definition as a link to its row in the index, which is in this folder."""
+def promise_text(promised):
+    """Returns clauses as text, each definition as a link to its row in the index."""
     parts = []
     for name, stated in promised.items():
-        links = [f"[{it[1]}]({folder}{it[0].split('.')[0]}.md#{it[1]})" for it in stated]
+        links = [f"[{it[1]}]({it[0].split('.')[0]}.md#{it[1]})" for it in stated]
         parts.append(" ".join([f"`{name}`", *links] if name else links))
     return ", ".join(parts)
-
-
-def promise_table(specs, folders):
-    """Returns the table of the calls in files that begin so, in lines."""
-    lines = ["| Call | What it does | What is proved |", "|---|---|---|"]
-    for call in [it for folder in folders.split() for it in calls_in(specs, folder)]:
-        promised = promises(specs, call)
-        if says_more(specs, call, promised):
-            says = described(call.path, call.owner)[0] if call.trait == "Iterator" else sentence(call)
-            lines.append(f"| `{name_of(call)}` | {says} | {promise_text(promised, 'index/')} |")
-    return lines
-
-
-def calls_in(specs, folder):
-    """Returns the public calls in the files of a crate that begin so, as `patterns/pattern`."""
-    crate, _, path = folder.partition("/")
-    found = [it for it in public_calls(specs, crate) if it.path.startswith(f"crates/{crate}/src/{path}")]
-    if not found:
-        raise ValueError(f"{folder} has no public call")
-    return [it for it in found if it.trait in TRAITS]
-
-
-def filled(specs, text):
-    """Returns a document in which the table after each line `<!-- calls: FOLDERS -->` is that of the calls in these."""
-
-    def table(found):
-        return found[1] + "".join(f"{it}\n" for it in promise_table(specs, found[2]))
-
-    return re.sub(r"(<!-- calls: (.*?) -->\n)(?:\|.*\n)*", table, text)

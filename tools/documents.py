@@ -13,9 +13,9 @@ and the edges of the two graphs that `example_picture` prints. The plots docs/wo
 are what tools/plots.py draws of the tables of docs/PERFORMANCE.md.
 
 docs/index has each definition, by crate, and docs/READING.md how many there are in each tier: both have to be what
-tools/index.py finds. docs/index/CALLS.md has each public call, docs/index/CLAUSES.md and the tables of docs/PROVED.md what
-is proved of it: these have to be what tools/calls.py finds. --write writes them all. Each link of a document to a file of
-the repository has to lead to one, and to a heading or an anchor in it. In specs/Private of the lazy DFA stands what no
+tools/index.py finds. docs/index/CALLS.md has each public call, and docs/index/CLAUSES.md what is proved of it: these have
+to be what tools/calls.py finds. --write writes them all. Each link of a document to a file of the repository has to lead
+to one, and to a heading or an anchor in it. In specs/Private of the lazy DFA stands what no
 contract of a public call reaches, and nothing else. No two definitions have one name, and no line of specs/ and proofs/
 has more than 120 signs. READING has each sign that specs/ use, and each name of the standard library.
 
@@ -37,7 +37,7 @@ TOP = os.path.dirname(os.path.dirname(os.path.abspath(__file__)))
 DOCUMENTS = ["README.md", "docs/ARCHITECTURE.md", "docs/CALLING.md", "docs/PATTERNS.md", "docs/READING.md"]
 PICTURES, GRAPHS = ["docs/nfa.svg", "docs/states.svg"], "crates/example_picture/stdout"
 READING, TIERS = "docs/READING.md", re.compile(r"(?<=<!-- tiers -->\n)(?:\|.*\n)*")
-CALLS, CLAUSES, PROVED = "docs/index/CALLS.md", "docs/index/CLAUSES.md", "docs/PROVED.md"
+CALLS, CLAUSES = "docs/index/CALLS.md", "docs/index/CLAUSES.md"
 # The folders of documents, and those whose links are not looked at.
 FOLDERS, UNLINKED = ["docs", "docs/index", "bindings/postgres"], ["README.md", "CONTRIBUTING.md"]
 DOCSTRINGS = ["automata_config", "automata_hybrid", "regex_automata"]
@@ -148,7 +148,6 @@ def generated(specs, named, tier):
     pages = {f"docs/index/{it}.md": index.table_of(specs, named, tier, it) for it in index.CRATES}
     pages[READING] = TIERS.sub("".join(f"{it}\n" for it in index.tier_table(tier)), read(READING), count=1)
     pages[CALLS], pages[CLAUSES] = calls.calls_page(specs), calls.clauses_page(specs)
-    pages[PROVED] = calls.filled(specs, read(PROVED))
     return pages
 
 

@@ -16,7 +16,7 @@ It prints a verdict on each edit:
   when it was refused. --write records what is refused. A tenth of all edits is tried anyway, other ones at each commit,
   so that a line which nobody tried is found; --all tries all.
 
-docs/WRONG_BODIES.md has a row for each edit: what it does and which promise this breaks, as its file says, and what is
+docs/index/WRONG_BODIES.md has a row for each edit: what it does and which promise this breaks, as its file says, and what is
 printed after REFUSED at, or `rt ci` for one in must-fail/, which `rt ci` tries. --write writes these rows. A clause of
 the function stands there by its name, or as `ensures` if it has none, and where none is refused each goal by the name
 that a check gives it: `f-requires` is what the call f requires, `loop-i-preserved` the invariant of the loop i,
@@ -40,7 +40,7 @@ from edits import RECORDED, REFUSED, UNKNOWN, Crate, Edit
 from libraries import TOP, crates_used, text
 from verdicts import key_of, record, recorded
 
-DOCUMENT = f"{TOP}/docs/WRONG_BODIES.md"
+DOCUMENT = f"{TOP}/docs/index/WRONG_BODIES.md"
 # The rows of a crate's edits stand below a heading with its name.
 HEADING, ROW = re.compile(r"### `(\w+)`$"), re.compile(r"\| `(\w+)` \|")
 HEAD = ["| Mutation | What it does | What it breaks | Refused at |", "|---|---|---|---|"]
@@ -96,7 +96,7 @@ def tried(crates):
 
 
 class Document:
-    """The rows of docs/WRONG_BODIES.md, and what is wrong with them."""
+    """The rows of docs/index/WRONG_BODIES.md, and what is wrong with them."""
 
     def __init__(self, crates, refused):
         """Refused: where edits are refused, by their crate and name."""
@@ -187,7 +187,7 @@ def main():
             document.write()
         document.compare()
         for fault in document.faults or ["each edit has its row"]:
-            print(f"docs/WRONG_BODIES.md: {fault}")
+            print(f"docs/index/WRONG_BODIES.md: {fault}")
         passed, failed = passed + (not document.faults), failed + len(document.faults)
     print(f"{passed} passed, {failed} failed")
     return 1 if failed else 0

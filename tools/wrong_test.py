@@ -195,7 +195,7 @@ pub returns : goal.returns
 returns c = omega arith
 """,
     "crates/low/must-fail/half_is_twice.edit": "what: doubles\nfile: src/lib.rt\nold:     x / 2\nnew:     x * 2\n",
-    "docs/WRONG_BODIES.md": """# Wrong bodies
+    "docs/index/WRONG_BODIES.md": """# Wrong bodies
 
 ### `low`
 
@@ -258,7 +258,7 @@ CHANGES = [
     ("the proof of another function", f"{LOW}/proofs/loose/Answers.antt", "omega arith", "omega (arith)",
      {"loose_is_half", "most_is_eight"}),
     ("an edit", f"{LOW}/wrong/widen_by_two.edit", "raise(2)", "raise(3)", {"widen_by_two"}),
-    ("a row of the document", "docs/WRONG_BODIES.md", "| `is_no_edit`", "| `is_none`", set()),
+    ("a row of the document", "docs/index/WRONG_BODIES.md", "| `is_no_edit`", "| `is_none`", set()),
     ("what an edit's file says of it", f"{LOW}/wrong/widen_by_two.edit", "what: does", "what: did", set()),
     ("the script", "tools/edits.py", "import os", "import os  # new", ALL),
 ]
@@ -320,9 +320,9 @@ class Tests:
             said = next((it for it in lines if it.startswith(f"{name}: ")), "")
             self.want(name, said.startswith(f"{name}: {verdict}"), said)
         for fault in FAULTS:
-            self.want(fault, f"docs/WRONG_BODIES.md: {fault}" in lines, lines)
+            self.want(fault, f"docs/index/WRONG_BODIES.md: {fault}" in lines, lines)
         refused = sum(verdict.startswith("REFUSED") for _, _, _, _, verdict in EDITS)
-        faults = sum(it.startswith("docs/WRONG_BODIES.md: ") for it in lines)
+        faults = sum(it.startswith("docs/index/WRONG_BODIES.md: ") for it in lines)
         sums = f"{5 + refused} passed, {2 + len(EDITS) + 1 - refused + faults} failed"
         self.want("the sum", status == 1 and lines[-1:] == [sums], [status, sums, *lines[-1:]])
         self.want("the checks are few", checks <= 8, checks)
