@@ -73,7 +73,7 @@ def main(words):
     faults = {"examples, each of them runs": ", ".join(untried())}
     for program in [os.path.abspath(it) for it in given.program or PROGRAMS]:
         for call in calls():
-            faults[f"{os.path.basename(program)} {' '.join(call[0])}"] = fault_of(program, *call)
+            faults[" ".join([os.path.basename(program), *call[0]])] = fault_of(program, *call)
     for name, fault in faults.items():
         print(f"{name}: {fault or 'passed'}")
         passed, failed = passed + (not fault), failed + bool(fault)
