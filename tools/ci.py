@@ -27,7 +27,7 @@ KNOWN_KIT = "logic dac8208d650f15bf"
 # The functions of its script that are replaced or called, and what they take.
 TAKES = {"in_lanes": ["tasks"], "processors": [], "free": [], "main": ["words"]}
 # The most memory that a check took, in GB: of a crate, or of its tests; and by how much each further job adds to it.
-PEAKS = {"automata_base": 4.0, "automata_hybrid": 4.0, "lazydfa": 6.5}
+PEAKS = {"automata_base": 4.0, "automata_hybrid": 4.0, "examples": 5.0, "lazydfa": 6.5}
 ANY_OTHER = 2.5
 FURTHER_JOB = 0.3
 MOST_JOBS = 4

@@ -5,12 +5,12 @@ for definitions without a sentence:
     tools/documents.py [--write] ['N passed, M failed']
 
 Each block of Rattle or of antt in a document has to stand in the file that the line before it names, as
-`crates/example_words/src/main.rt`, line for line but for how far it is indented. A block after a line that ends in
+`crates/examples/src/words.rt`, line for line but for how far it is indented. A block after a line that ends in
 "prints:" has to be what the program writes, the file stdout of the crate that was named last. A block of Rattle in a
 docstring of the settings, the lazy DFA or the regex has to stand in some file of the example crates. Above each definition
 in specs/, and above each field of a record, stands a comment. The pictures docs/nfa.svg and docs/states.svg have the states
-and the edges of the two graphs that `example_picture` prints. The plots docs/words.svg, docs/sets.svg and docs/capacity.svg
-are what tools/plots.py draws of the tables of docs/PERFORMANCE.md.
+and the edges of the two graphs that the example `picture` prints. The plots docs/words.svg, docs/sets.svg and
+docs/capacity.svg are what tools/plots.py draws of the tables of docs/PERFORMANCE.md.
 
 docs/index has each definition, by crate, and docs/READING.md how many there are in each tier: both have to be what
 tools/index.py finds. docs/index/CALLS.md has each public call, and docs/index/CLAUSES.md what is proved of it: these have
@@ -35,11 +35,11 @@ import plots
 
 TOP = os.path.dirname(os.path.dirname(os.path.abspath(__file__)))
 DOCUMENTS = ["README.md", "docs/ARCHITECTURE.md", "docs/CALLING.md", "docs/PATTERNS.md", "docs/READING.md"]
-PICTURES, GRAPHS = ["docs/nfa.svg", "docs/states.svg"], "crates/example_picture/stdout"
+PICTURES, GRAPHS = ["docs/nfa.svg", "docs/states.svg"], "crates/examples/data/picture/stdout"
 READING, TIERS = "docs/READING.md", re.compile(r"(?<=<!-- tiers -->\n)(?:\|.*\n)*")
 CALLS, CLAUSES = "docs/index/CALLS.md", "docs/index/CLAUSES.md"
-# The folders of documents, and those whose links are not looked at.
-FOLDERS, UNLINKED = ["docs", "docs/index", "bindings/postgres"], ["README.md", "CONTRIBUTING.md"]
+# The folders of documents.
+FOLDERS = ["docs", "docs/index", "bindings/postgres"]
 DOCSTRINGS = ["automata_config", "automata_hybrid", "regex_automata"]
 # A definition, or a field of a record.
 DEFINITION = re.compile(
@@ -98,7 +98,7 @@ def below(folder, ending):
 
 def docstring_faults():
     """Returns which examples of docstrings stand in no example crate."""
-    crates = [it for it in sorted(os.listdir(f"{TOP}/crates")) if it.startswith("example_")]
+    crates = [it for it in sorted(os.listdir(f"{TOP}/crates")) if it.startswith("example")]
     sources = [bare(read(path).split("\n")) for it in crates for path in below(f"crates/{it}/src", ".rt")]
     faults = []
     for path in [it for crate in DOCSTRINGS for it in below(f"crates/{crate}/src", ".rt")]:
@@ -129,7 +129,7 @@ def drawn(picture):
 
 
 def picture_faults(picture, graph):
-    """Returns whether a picture is not that of a graph which `example_picture` prints."""
+    """Returns whether a picture is not that of a graph which the example `picture` prints."""
     wanted, nodes = [], {}
     for first, second, label in re.findall(r'^    (\w+)(?: -> (\w+))?(?: \[.*?(?:label="(.*)")?\])?$', graph, re.M):
         name = f"{first}->{second}" if second else first
@@ -233,14 +233,14 @@ def main(words):
     named = index.calls(specs)
     tier = index.tiers(specs, named)
     found["generated"] = generated_faults(generated(specs, named, tier), write), "each page is that of the sources"
-    linked = [it for it in documents() if it not in UNLINKED]
+    linked = documents()
     found["links"] = [f"{page}: {it}" for page in linked for it in link_faults(page)], "each leads somewhere"
     found["Private"] = index.misplaced(specs, tier), "it has what no public contract reaches"
     found["names"] = homonym_faults(specs), "no two definitions have one"
     found["lines"] = width_faults(), "none of specs and proofs has more than 120 signs"
     found["signs"] = sign_faults(), f"each is in {READING}"
     for picture, graph in zip(PICTURES, read(GRAPHS).split("digraph ")[1:], strict=True):
-        found[picture] = picture_faults(picture, graph), "it is that of example_picture"
+        found[picture] = picture_faults(picture, graph), "it is that of the example picture"
     found["the plots"] = plots.faults(), "they are those of PERFORMANCE"
     for name, (faults, right) in found.items():
         print(f"{name}: {'; '.join(faults) or right}")
