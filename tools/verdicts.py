@@ -3,8 +3,8 @@
 A function is proved over the contracts of what it calls, so the proof of a function with an edit reads the edit, the
 function itself, everything of its crate and of the crates below but the bodies of their functions, all definitions of
 these crates, the function's own proof files, and the lemma files that these and its source file name, one through
-another. Functions of a cycle are proved together, so their bodies stand for all. The key is a checksum of all that, of
-the kit, and of the scripts that try edits.
+another. Functions of a cycle are proved together, so their bodies stand for all. The key is a checksum of all that
+without comments, of the kit, and of the scripts that try edits.
 
 crates/NAME/wrong/verdicts has a line for each edit that was refused: its name, its key, and where it is refused.
 """
@@ -23,6 +23,17 @@ CYCLE = re.compile(r"#\[cycle\((\w+)\)\]")
 IMPORT = re.compile(r"Rattle\.(\w+)\.(specs|proofs)\.([^\s{},;()]+)")
 USING = re.compile(r"\b(\w+)::(specs|proofs)::([\w:]+)")
 TACTIC = re.compile(r"^#!\[tactic\([^\]]*\busing\b", re.M)
+# A comment, and what may have the look of one: a text or a character. In definitions and proofs whole lines alone.
+COMMENT = re.compile(r"""(r(#*)".*?"\2|"(?:\\.|[^"\\])*"|'(?:\\.|[^'\\])')|//[^\n]*|/\*.*?\*/""", re.S)
+COMMENT_LINE = re.compile(r"^\s*--( .*)?$")
+
+
+def without_comments(text, is_source):
+    """Returns a text without its comments and empty lines, which no proof reads."""
+    if is_source:
+        text = COMMENT.sub(lambda it: it[1] or "", text)
+    lines = [it.rstrip() for it in text.split("\n")]
+    return "\n".join(it for it in lines if it and (is_source or not COMMENT_LINE.match(it)))
 
 
 def is_in_cycle(lines, first):
@@ -70,8 +81,9 @@ def outline(file):
 
 @functools.cache
 def digest(file, is_whole):
-    """Returns a checksum of a file: of all of it, or without the bodies of its functions."""
-    return hashlib.sha256((text(file) if is_whole else outline(file)[0]).encode()).hexdigest()
+    """Returns a checksum of a file without its comments: of all of it, or without the bodies of its functions."""
+    said = text(file) if is_whole else outline(file)[0]
+    return hashlib.sha256(without_comments(said, file.endswith(".rt")).encode()).hexdigest()
 
 
 def bodies_of(edit, folder):
@@ -82,12 +94,13 @@ def bodies_of(edit, folder):
         lines = text(f"{folder}/{file}").split("\n")
         bodies = outline(f"{folder}/{file}")[1] if file.endswith(".rt") else []
         inside = [it for it in bodies if it[1] <= number <= it[2]]
-        found += ["\n".join(lines[first : last + 1]) for _, first, last in inside] or ["\n".join(lines)]
+        parts = ["\n".join(lines[first : last + 1]) for _, first, last in inside] or ["\n".join(lines)]
+        found += [without_comments(it, file.endswith(".rt")) for it in parts]
     named = set(re.findall(r"\w+", " ".join(edit.lines.values())))
     for file in files_of(os.path.basename(folder)):
         lines = text(file).split("\n")
         for name, first, last in outline(file)[1] if file.endswith(".rt") else []:
-            found += ["\n".join(lines[first : last + 1])] if name in named else []
+            found += [without_comments("\n".join(lines[first : last + 1]), True)] if name in named else []
     return found
 
 
@@ -130,7 +143,7 @@ def key_of(edit, crate, uses):
     rests = [(it, digest(it, it.endswith(".antt") or None in edit.functions)) for it in files]
     rests += [(it, digest(it, True)) for it in lemmas if it not in sources]
     rests = [(os.path.relpath(it, TOP), sum) for it, sum in rests]
-    rests += [(os.path.relpath(it, TOP), digest(it, True)) for it in SCRIPTS]
+    rests += [(os.path.relpath(it, TOP), hashlib.sha256(text(it).encode()).hexdigest()) for it in SCRIPTS]
     said = [edit.name, edit.change, bodies_of(edit, folder), [(it, uses[it]) for it in names], rests]
     return hashlib.sha256(repr([text(f"{KIT}/KIT-ID"), said]).encode()).hexdigest()
 

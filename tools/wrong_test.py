@@ -239,8 +239,8 @@ LOW = "crates/low"
 CHANGES = [
     ("the body of another function", f"{LOW}/src/lib.rt", "    x / 2", "    x / 2 + 0",
      {"half_a_is_all", "half_b_is_a_third", "most_is_eight"}),
-    ("a comment in a body", f"{LOW}/src/lib.rt", "    two + two", "    // both\n    two + two",
-     {"four_times_and_one", "most_is_eight"}),
+    ("a comment in a body", f"{LOW}/src/lib.rt", "    two + two", "    // both\n    two + two", set()),
+    ("a comment of a definition", f"{LOW}/specs/Small.antt", "-- nine", "-- 9", set()),
     ("a contract of a callee", f"{LOW}/src/lib.rt", "ensures { result ≡ 9 }", "ensures { result ≤ 9 }", ALL),
     ("a constant", f"{LOW}/src/most.rt", "MOST: u8 = 9", "MOST: u8 = 4 + 5", ALL),
     ("a macro", f"{LOW}/src/lib.rt", "$x <= 9", "$x < 10", ALL),
