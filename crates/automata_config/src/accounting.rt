@@ -1,4 +1,4 @@
-//! The accounted bytes of a cache, and the least capacity that a cache needs.
+//! The accounted bytes of a cache, and the minimum capacity that it needs.
 ghost use Rattle.std.specs.Prelude.{◌≡◌, ◌≤◌, ◌+◌, ◌*◌, ◌^◌, length};
 ghost use Rattle.automata_base.specs.Powersets.Accounting as bytes;
 
@@ -7,25 +7,25 @@ use automata_base::nfa::thompson::NFA;
 /// The accounted bytes of a powerset state without its lists.
 pub const HEAD_COST: usize = 13;
 
-/// The accounted bytes of each of its patterns.
+/// The accounted bytes of each pattern of a powerset state.
 pub const PATTERN_COST: usize = 4;
 
-/// The accounted bytes of each of its NFA states.
+/// The accounted bytes of each NFA state in a powerset state.
 pub const ID_COST: usize = 5;
 
-/// The size, in bytes, of an ID, which is a cell of the table or a start slot.
+/// The size, in bytes, of an ID: of a table cell or a start slot.
 pub const CELL_SIZE: usize = 4;
 
 /// The size, in bytes, of a row in the list of rows, without its cells.
 pub const ROW_SIZE: usize = 16;
 
-/// The size, in bytes, of a row in the map.
+/// The size, in bytes, of a row's entry in the map.
 pub const ENTRY_SIZE: usize = 20;
 
-/// The cost, in accounted bytes, of the states of the three rows with which every table begins.
+/// The cost, in accounted bytes, of the states of the three rows that every table begins with.
 pub const FIXED_ROWS_COST: usize = 39;
 
-/// The size, in bytes for each state of the NFA, of the two sets of NFA states that determinization uses.
+/// The size of the two sets of NFA states that determinization uses, in bytes for each state of the NFA.
 const SETS_COST: usize = 16;
 
 /// The size, in bytes, of an entry on the stack of a closure.
@@ -67,7 +67,7 @@ fn pattern_count(nfa: &NFA) -> usize
     nfa.pattern_starts().len()
 }
 
-/// The least capacity, in bytes, that has room for a state in each start slot and for two more, each of the greatest
+/// Returns the minimum capacity, in bytes: room for a state in each start slot and for two more, each of the greatest
 /// cost.
 pub(crate) fn minimum_capacity(stride: usize, slots: usize, greatest: usize, fixed: usize) -> usize
     requires stride { stride ≤ 512 }

@@ -4,7 +4,7 @@ ghost use Rattle.std.specs.Prelude.{◌≡◌, slice_get};
 use crate::util::search::{Anchored, Input};
 use std::marker::Model;
 
-/// What a start state depends on: the look-behind byte and the anchored mode.
+/// The configuration that determines a start state: the look-behind byte and the anchored mode.
 #[derive(Clone, Copy, Debug)]
 pub struct Config {
     look_behind: Option<u8>,

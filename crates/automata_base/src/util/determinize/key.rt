@@ -1,4 +1,4 @@
-//! Keys of a map from powerset states: a state is looked up by its bytes before it is shared.
+//! Keys of maps from powerset states. A state is looked up by its bytes before these are shared.
 ghost use Rattle.std.specs.Prelude.{◌≡◌, IfOk, IfSome};
 ghost use Rattle.automata_base.specs.Powersets.Code.{decoded, IsCode};
 ghost use Rattle.automata_base.specs.Powersets.Key.{ListsItsStates};
@@ -53,7 +53,7 @@ impl Clone for Bytes {
     }
 }
 
-/// A key. In the map it shares the bytes of a state; to look a state up that was made, it holds that state.
+/// A map key. In a map it shares the bytes of a state; to look up a state that was just made, it holds that state.
 #[derive(Drop)]
 pub struct Key {
     bytes: Bytes,
@@ -124,7 +124,7 @@ impl Key {
         }
     }
 
-    /// A key that holds a state which was made. It allocates nothing.
+    /// Returns a key that holds a state that was made. The call allocates nothing.
     pub(crate) fn own(made: Box<MadeState>) -> Key
         requires code { IsCode made.value.bytes.items }
         requires list { ListsItsStates made.value }
