@@ -95,7 +95,7 @@ impl Builder {
         Ok(pattern)
     }
 
-    /// Finishes the pattern that was started, whose searches start at this state, and returns its ID.
+    /// Finishes the pattern that was started, and returns its ID. Searches for the pattern start at `start_id`.
     pub fn finish_pattern(&mut self, start_id: StateID) -> Result<PatternID, BuildError>
         ensures id { IfOk result (λ p. self.old.pattern ≡ Some p) }
         ensures finished { OnOk result (self.new ≡ finished self.old start_id) }
@@ -242,8 +242,8 @@ impl Builder {
         self.add_capture(next, group_index, 2 * group_index + 1)
     }
 
-    /// Adds an alternate to a union, or changes the target of a state that has one. Fail and match states stay as they
-    /// are. A sparse state cannot be patched: it has its targets with its ranges.
+    /// Adds an alternate to a union, or changes the target of a state that has one. Fail and match states are
+    /// unchanged. A sparse state cannot be patched: each of its ranges has its own target.
     pub fn patch(&mut self, from: StateID, to: StateID) -> Result<(), BuildError>
         ensures patched { OnOk result ((old shape : Shape) → slice_get self.old.states from ≡ Some old
             → patched old to ≡ Some shape → self.new ≡ with_states self.old (set self.old.states from shape)) }
@@ -267,7 +267,7 @@ impl Builder {
         self.flags.utf8 = yes;
     }
 
-    /// Sets whether the NFA matches the reversed texts.
+    /// Sets whether the NFA matches reversed text.
     pub fn set_reverse(&mut self, yes: bool)
         ensures { self.new ≡ with_flags self.old (record self.old.flags { reverse = yes }) }
     {
@@ -306,8 +306,8 @@ impl Builder {
         Ok(union)
     }
 
-    /// Builds the NFA of these states, in which searches start at the anchored or the unanchored start. It fails if a
-    /// pattern is not finished, or if `NFA::from_states` fails.
+    /// Builds the NFA of the states that were added, with these two starts. It fails if a pattern is not finished, or
+    /// if `NFA::from_states` fails.
     pub fn build(
         &self,
         start_anchored: StateID,
