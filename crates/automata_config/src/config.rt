@@ -71,7 +71,7 @@ impl Config {
     ghost use Rattle.automata_config.specs.Options.{unset, overwritten};
     ghost use Rattle.automata_config.specs.Options as options;
 
-    /// A configuration in which no option is set.
+    /// Returns a configuration in which no option is set.
     pub fn new() -> Config
         ensures { result ≡ unset }
     {
@@ -368,7 +368,8 @@ impl Config {
         minimum_capacity(stride, slots, max_cost(nfa), fixed_cost(nfa))
     }
 
-    /// The greatest offset of a row, in cells, in the table of a cache for the NFA that has the minimum capacity.
+    /// Returns the greatest offset of a row, in cells, in the table of a cache for the NFA that has the minimum
+    /// capacity.
     fn greatest_offset_for(&self, nfa: &NFA, stride: usize) -> usize
         requires few { stride ≤ 512 }
         requires stride { stride ≡ settled_stride self.now nfa.now }
@@ -378,8 +379,9 @@ impl Config {
         greatest_offset(stride, slots)
     }
 
-    /// The quit set of a DFA of the NFA. If the NFA has a Unicode word boundary, the set must have every byte from 0x80
-    /// on: the heuristic adds these bytes; if it is off and one of them is missing, the call fails with `Unsupported`.
+    /// Returns the quit set of a DFA of the NFA. If the NFA has a Unicode word boundary, the set must have every byte
+    /// from 0x80 on: the heuristic adds these bytes; if it is off and one of them is missing, the call fails with
+    /// `Unsupported`.
     fn settled_quits(&self, nfa: &NFA) -> Result<ByteSet, BuildError>
         ensures ok { IfOk result (λ quits. quits ≡ settled_quits self.now nfa.now) }
         ensures refused { result_err result
@@ -398,7 +400,7 @@ impl Config {
         Err(BuildError::Unsupported)
     }
 
-    /// The configured quit set, or the empty one if none is set.
+    /// Returns the configured quit set, or the empty one if none is set.
     fn quit_set(&self) -> ByteSet
         ensures whole { length result ≡ 256 }
         ensures set { result ≡ options.quits_of self.now }
@@ -494,14 +496,14 @@ impl Settled {
         self.quits.contains(byte)
     }
 
-    /// The quit bytes.
+    /// Returns the quit bytes.
     pub fn quit_set(&self) -> &ByteSet
         ensures { result.now ≡ self.now.quits }
     {
         &self.quits
     }
 
-    /// The most bytes that a cache may account for: at least the minimum.
+    /// Returns the most bytes that a cache may account for: at least the minimum.
     pub fn capacity(&self) -> usize
         ensures { result ≡ self.now.capacity }
     {

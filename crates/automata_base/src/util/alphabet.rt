@@ -15,7 +15,7 @@ use std::marker::Model;
 /// The classes of the bytes that an NFA and a quit set do not distinguish: each byte has a class, and bytes of one
 /// class lead to the same states.
 ///
-/// The end of the input has a class of its own, after those of the bytes.
+/// The end of the input has a class of its own, after the classes of the bytes.
 #[derive(Clone, Copy, Debug, PartialEq, Eq)]
 pub struct ByteClasses {
     map: [u8; 256],
@@ -53,7 +53,7 @@ impl ByteClasses {
         }
     }
 
-    /// The class of a byte.
+    /// Returns the class of a byte.
     pub fn get(&self, byte: u8) -> u8
         ensures class { result ≡ class_in self.now byte }
         ensures below { result < eoi_class self.now }
@@ -61,8 +61,8 @@ impl ByteClasses {
         self.map[usize::from(byte)]
     }
 
-    /// Returns the number of classes, including that of the end of the input: 2 to 257. From one byte to the next, the
-    /// class stays the same or rises by one.
+    /// Returns the number of classes, including the one for the end of the input: 2 to 257. From one byte to the next,
+    /// the class stays the same or rises by one.
     pub fn alphabet_len(&self) -> usize
         ensures number { result ≡ alphabet_length self.now }
         ensures many { 2 ≤ result }
@@ -73,7 +73,7 @@ impl ByteClasses {
         usize::from(self.map[255]) + 2
     }
 
-    /// The class of the end of the input.
+    /// Returns the class of the end of the input.
     pub fn eoi(&self) -> usize
         ensures class { result ≡ eoi_class self.now }
         ensures below { result < stride_of self.now }
@@ -82,7 +82,7 @@ impl ByteClasses {
         self.alphabet_len() - 1
     }
 
-    /// The binary logarithm of the stride.
+    /// Returns the binary logarithm of the stride.
     pub fn stride2(&self) -> usize
         ensures power { 2 ^ result ≡ stride_of self.now }
         ensures few { result ≤ 9 }
@@ -99,8 +99,8 @@ impl ByteClasses {
     }
 }
 
-/// The boundaries of the classes: a byte is marked if the NFA or the quit set distinguishes it from the byte before it.
-/// If `on` is false, each byte is marked.
+/// Returns the boundaries of the classes: a byte is marked if the NFA or the quit set distinguishes it from the byte
+/// before it. If `on` is false, each byte is marked.
 fn boundaries(nfa: &NFA, quits: &ByteSet, on: bool) -> [bool; 257]
     ensures { (byte : ℕ) → byte < 256 → is_marked result byte ≡ is_boundary nfa.now quits.now on byte }
 {

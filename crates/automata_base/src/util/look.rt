@@ -69,7 +69,7 @@ impl Model for LookSet {
 }
 
 impl Look {
-    /// The number of the look, from 0 to 17.
+    /// Returns the number of the look, from 0 to 17.
     pub fn index(self) -> u32
         ensures number { result ≡ look_index self }
         ensures below { result < 18 }
@@ -177,7 +177,7 @@ impl LookSet {
         self.bits >> look.index() & 1 == 1
     }
 
-    /// The set with a look added.
+    /// Returns the set with a look added.
     pub fn insert(self, look: Look) -> LookSet
         ensures { (other : Look) → truth_of result other
             ≡ (eqb (look_index other) (look_index look) || truth_of self other) }

@@ -29,7 +29,7 @@ pub struct PatternSet {
     which: Vec<bool>,
 }
 
-// One call for an owner, whose proof then has no step for each part.
+// An owner drops this with one call, so that its proof has no step for each field.
 impl Drop for PatternSet {
     fn drop(self) {
         let Self {

@@ -17,7 +17,7 @@ pub struct Span {
 impl Span {
     ghost use Rattle.std.specs.Prelude.{◌≡◌, ◌<◌, ◌≤◌, ◌+◌, ◌-◌, ◌^◌, ◌↔◌, IsTrue};
 
-    /// The number of bytes of the span. It is 0 if the span starts after its end.
+    /// Returns the number of bytes of the span. It is 0 if the span starts after its end.
     pub fn len(&self) -> usize
         ensures { result ≡ self.now.end - self.now.start }
     {
@@ -80,21 +80,21 @@ impl Model for HalfMatch {
 impl HalfMatch {
     ghost use Rattle.std.specs.Prelude.{◌≡◌};
 
-    /// A match of a pattern with this offset.
+    /// Returns a match of a pattern with this offset.
     pub fn new(pattern: PatternID, offset: usize) -> HalfMatch
         ensures { result ≡ record { pattern = pattern; offset = offset } }
     {
         HalfMatch { pattern, offset }
     }
 
-    /// The pattern that matched.
+    /// Returns the pattern that matched.
     pub fn pattern(&self) -> PatternID
         ensures { result ≡ self.now.pattern }
     {
         self.pattern
     }
 
-    /// The offset in the haystack, in bytes, where the match ends; for a reverse search, where it starts.
+    /// Returns the offset in the haystack, in bytes, where the match ends; for a reverse search, where it starts.
     pub fn offset(&self) -> usize
         ensures { result ≡ self.now.offset }
     {
@@ -133,14 +133,14 @@ impl Match {
         Match { pattern, span }
     }
 
-    /// The pattern that matched.
+    /// Returns the pattern that matched.
     pub fn pattern(&self) -> PatternID
         ensures { result ≡ self.now.pattern }
     {
         self.pattern
     }
 
-    /// The span of the match.
+    /// Returns the span of the match.
     pub fn span(&self) -> Span
         ensures start { result.start ≡ self.now.start }
         ensures end { result.end ≡ self.now.end }
@@ -264,7 +264,7 @@ impl Model for MatchError {
 impl MatchError {
     ghost use Rattle.std.specs.Prelude.{◌≡◌};
 
-    /// The error of a search that met a quit byte at this offset of the haystack.
+    /// Returns the error of a search that met a quit byte at this offset of the haystack.
     pub fn quit(byte: u8, offset: usize) -> MatchError
         ensures { result ≡ MatchErrorKind.Quit byte offset }
     {
@@ -273,7 +273,7 @@ impl MatchError {
         }
     }
 
-    /// The error of a search that gave up at this offset of the haystack.
+    /// Returns the error of a search that gave up at this offset of the haystack.
     pub fn gave_up(offset: usize) -> MatchError
         ensures { result ≡ MatchErrorKind.GaveUp offset }
     {
@@ -282,7 +282,7 @@ impl MatchError {
         }
     }
 
-    /// The error of a search in an anchored mode that is not supported.
+    /// Returns the error of a search in an anchored mode that is not supported.
     pub fn unsupported_anchored(mode: Anchored) -> MatchError
         ensures { result ≡ MatchErrorKind.UnsupportedAnchored mode }
     {
@@ -331,7 +331,7 @@ impl<'h> Input<'h> {
     ghost use Rattle.automata_base.specs.Haystacks.Input.{Allows, IsAllowed};
     ghost use Rattle.automata_base.specs.Haystacks.Tapes.{IsHaystack, is_split};
 
-    /// An input whose span is the whole haystack, neither anchored nor earliest.
+    /// Returns an input whose span is the whole haystack, neither anchored nor earliest.
     pub fn new(haystack: &'h [u8]) -> Input<'h>
         ensures { result ≡ record {
           haystack = haystack.now;
@@ -383,7 +383,7 @@ impl<'h> Input<'h> {
         })
     }
 
-    /// A copy of the input. Unlike `clone`, it cannot fail.
+    /// Returns a copy of the input. Unlike `clone`, it cannot fail.
     pub fn copied(&self) -> Input<'h>
         ensures { result ≡ self.now }
     {
@@ -471,7 +471,7 @@ impl<'h> Input<'h> {
         self.earliest = yes;
     }
 
-    /// The whole haystack, not the span alone: looks see the bytes beside the span.
+    /// Returns the whole haystack, not only the span: looks see the bytes beside the span.
     pub fn haystack(&self) -> &'h [u8]
         ensures same { result.now ≡ self.now.haystack }
         ensures bytes { IsHaystack self.now.haystack }
@@ -481,7 +481,7 @@ impl<'h> Input<'h> {
         self.haystack
     }
 
-    /// The offset in the haystack, in bytes, where the span starts.
+    /// Returns the offset in the haystack, in bytes, where the span starts.
     pub fn start(&self) -> usize
         ensures start { result ≡ self.now.start }
         ensures within { IsAllowed self.now }
@@ -489,7 +489,7 @@ impl<'h> Input<'h> {
         self.span.start
     }
 
-    /// The offset in the haystack, in bytes, where the span ends.
+    /// Returns the offset in the haystack, in bytes, where the span ends.
     pub fn end(&self) -> usize
         ensures end { result ≡ self.now.end }
         ensures within { IsAllowed self.now }
@@ -497,7 +497,7 @@ impl<'h> Input<'h> {
         self.span.end
     }
 
-    /// The span that is searched.
+    /// Returns the span that is searched.
     pub fn get_span(&self) -> Span
         ensures start { result.start ≡ self.now.start }
         ensures end { result.end ≡ self.now.end }
@@ -506,7 +506,7 @@ impl<'h> Input<'h> {
         self.span
     }
 
-    /// The span as a range.
+    /// Returns the span as a range.
     pub fn get_range(&self) -> Range<usize>
         ensures start { result.start ≡ self.now.start }
         ensures end { result.end ≡ self.now.end }
@@ -515,7 +515,7 @@ impl<'h> Input<'h> {
         self.span.start..self.span.end
     }
 
-    /// The anchored mode: where a match may begin, and of which pattern.
+    /// Returns the anchored mode: where a match may begin, and of which pattern.
     pub fn get_anchored(&self) -> Anchored
         ensures { result ≡ self.now.anchored }
     {

@@ -18,7 +18,7 @@ pub struct Builder {
     flags: Flags,
 }
 
-// One call for an owner, whose proof then has no step for each part.
+// An owner drops this with one call, so that its proof has no step for each field.
 impl Drop for Builder {
     fn drop(self) {
         let Self {
@@ -53,7 +53,7 @@ impl Builder {
     ghost use Rattle.automata_base.specs.Nfas.Shapes.{FailShape};
     ghost use Rattle.automata_base.specs.Nfas.Shapes.{MatchShape};
 
-    /// A builder without states, whose NFA is neither in UTF-8 mode nor reversed, and whose lines end in `\n`.
+    /// Returns a builder without states, whose NFA is neither in UTF-8 mode nor reversed, and whose lines end in `\n`.
     pub fn new(alloc: Global) -> Builder
         ensures { result ≡ blank default_flags }
     {
@@ -115,7 +115,7 @@ impl Builder {
         }
     }
 
-    /// Adds a state after the others, and returns its ID. If there is no ID left for it, it fails with `TooLarge`.
+    /// Adds a state after the others, and returns its ID. If no ID is left for it, the call fails with `TooLarge`.
     fn add(&mut self, added: Added) -> Result<StateID, BuildError>
         ensures { IsAdding self.old self.new result (shape_added added ∷ []) }
     {

@@ -99,7 +99,7 @@ pub enum Added {
     },
 }
 
-// One call for an owner, whose proof then has no step for each part.
+// An owner drops this with one call, so that its proof has no step for each field.
 impl Drop for Added {
     fn drop(self) {
         match self {

@@ -257,7 +257,7 @@ fn has_few(states: &[State], starts: &[StateID]) -> bool
     states.len() <= MAX_STATES && starts.len() <= MAX_STATES
 }
 
-/// Whether the anchored start, the unanchored one, and those of the patterns are below `n`.
+/// Whether the anchored start, the unanchored start, and the starts of the patterns are below `n`.
 fn are_starts(n: usize, anchored: StateID, unanchored: StateID, starts: &[StateID]) -> bool
     ensures { result ≡ starts_below n anchored unanchored starts.now }
 {

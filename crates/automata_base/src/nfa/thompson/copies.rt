@@ -18,7 +18,7 @@ use crate::util::determinize::sparse_set::SparseSet;
 use crate::util::primitives::{PatternID, StateID};
 use std::alloc::{AllocError, Global};
 
-/// The ID of a member's copy, if the copies of the set's members begin at `base`.
+/// Returns the ID of a member's copy, if the copies of the set's members begin at `base`.
 fn copy_id(set: &SparseSet, base: StateID, id: StateID) -> StateID
     requires member { In id set.now.items }
     requires room { base + length set.now.items ≤ 2 ^ 27 }
@@ -35,7 +35,7 @@ pub fn push_id(ids: &mut Vec<StateID>, id: StateID) -> Result<(), AllocError>
     Ok(())
 }
 
-/// The IDs of the copies of these members, in their order, if the copies of the set's members begin at `base`.
+/// Returns the IDs of the copies of these members, in their order, if the copies of the set's members begin at `base`.
 fn copy_ids(
     alloc: Global,
     set: &SparseSet,
@@ -132,7 +132,7 @@ fn list_match(
     Ok(())
 }
 
-/// The match states among these, in a list for each pattern.
+/// Returns the match states among these, in a list for each pattern.
 fn matches_by_pattern(
     alloc: Global,
     states: &[State],

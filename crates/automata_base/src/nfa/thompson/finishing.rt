@@ -32,7 +32,7 @@ struct Edge {
     target: StateID,
 }
 
-/// The first epsilon edge of the state, from number `from` on, that leads to an unvisited state.
+/// Returns the first epsilon edge of the state, from number `from` on, that leads to an unvisited state.
 fn next_edge(visited: &SparseSet, state: &State, from: usize) -> Option<Edge>
     requires range { state_below visited.now.capacity state.now ≡ true }
     requires followed { (r : ℕ) → In r (take from (children_at (node_of state.now) all_true)) → In r visited.now.items }

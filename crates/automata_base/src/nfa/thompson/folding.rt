@@ -86,7 +86,7 @@ fn joined(
     Ok(ids)
 }
 
-/// The head of a node: the state that stands for the states of its list and for the head of the node above it.
+/// Returns the head of a node: the state that stands for the states in its list and for the head of the node above it.
 fn head(
     alloc: Global,
     free: &[StateID],
@@ -179,7 +179,7 @@ fn push_range(ranges: &mut Vec<Transition>, range: Transition) -> Result<(), All
     Ok(())
 }
 
-/// The ranges of a state that leads on each byte to the head of its leaf.
+/// Returns the ranges of a state that leads on each byte to the head of its leaf.
 fn ranges_to(alloc: Global, heads: &[Option<StateID>]) -> Result<Vec<Transition>, AllocError>
     requires { length heads.now ≡ 512 }
     ensures { IfOk result (λ v. (u : ℕ) → takes_in (ranges_of v.items) u ≡ leaf_head heads.now u) }
@@ -232,7 +232,7 @@ fn segments_of(
     Ok(lists)
 }
 
-/// Returns those of these states that do not read a range.
+/// Returns the states among these that do not read a range.
 fn others_of(alloc: Global, states: &[State], ids: &[StateID]) -> Result<Vec<StateID>, AllocError>
     requires { (x : ℕ) → In x ids.now → x < length states.now }
     ensures sound { IfOk result (λ v. (x : ℕ) → In x v.items
@@ -356,7 +356,7 @@ fn led_to(alloc: Global, states: &[State]) -> Result<SparseSet, AllocError>
     Ok(led)
 }
 
-/// The states that read a range and are not members of the set.
+/// Returns the states that read a range and are not members of the set.
 fn free_of(alloc: Global, states: &[State], led: &SparseSet) -> Result<Vec<StateID>, AllocError>
     requires few { length states.now ≤ 2 ^ 27 }
     requires capacity { led.now.capacity ≡ length states.now }

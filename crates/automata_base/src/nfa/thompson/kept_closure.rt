@@ -89,7 +89,7 @@ fn code_of(alloc: Global, kept: &[StateID]) -> Result<Vec<u8>, AllocError>
     }
 }
 
-/// The lower of two numbers.
+/// Returns the lower of two numbers.
 pub(super) fn lower(a: usize, b: usize) -> usize
     ensures first { result ≤ a }
     ensures second { result ≤ b }
@@ -97,7 +97,7 @@ pub(super) fn lower(a: usize, b: usize) -> usize
     if a < b { a } else { b }
 }
 
-/// The higher of two numbers.
+/// Returns the higher of two numbers.
 pub(super) fn higher(a: usize, b: usize) -> usize
     ensures first { a ≤ result }
     ensures second { b ≤ result }
@@ -106,7 +106,7 @@ pub(super) fn higher(a: usize, b: usize) -> usize
     if a < b { b } else { a }
 }
 
-/// The first byte of these ranges, or 256 if there are none.
+/// Returns the first byte of these ranges, or 256 if there are none.
 fn first_of(ranges: &[Transition]) -> usize
     ensures { (u : ℕ) → u < result → takes_in (ranges_of ranges.now) u ≡ None }
 {
@@ -129,7 +129,7 @@ fn end_of(ranges: &[Transition]) -> usize
     end
 }
 
-/// A byte below which the state leads nowhere.
+/// Returns a byte below which the state leads nowhere.
 pub(super) fn first_byte(state: &State) -> usize
     ensures { (u : ℕ) → u < result → takes_at (node_of state.now) u ≡ None }
 {
@@ -140,7 +140,7 @@ pub(super) fn first_byte(state: &State) -> usize
     }
 }
 
-/// A byte from which on the state leads nowhere, or 256.
+/// Returns a byte from which on the state leads nowhere, or 256.
 pub(super) fn byte_end(state: &State) -> usize
     ensures few { result ≤ 256 }
     ensures none { (u : ℕ) → u < 256 → result ≤ u → takes_at (node_of state.now) u ≡ None }

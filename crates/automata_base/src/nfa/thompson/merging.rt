@@ -55,13 +55,13 @@ struct Merging {
     is_short: bool,
 }
 
-/// A copy of a dense state.
+/// Returns a copy of a dense state.
 fn copy_dense(alloc: Global, targets: &[StateID; 256]) -> Result<State, AllocError> {
     let targets = Box::new(alloc, *targets).map_err(AllocError::from)?;
     Ok(State::Dense(targets))
 }
 
-/// A copy of a state.
+/// Returns a copy of a state.
 fn copy_of(alloc: Global, state: &State) -> Result<State, AllocError> {
     match state {
         State::ByteRange { lo, hi, next } => Ok(State::ByteRange {
@@ -273,7 +273,7 @@ impl Merging {
         Ok(())
     }
 
-    /// The union in which one alternate stands for each row of states that read bytes.
+    /// Returns the union in which one alternate stands for each row of states that read bytes.
     fn rows(&mut self, nfa: &NFA, list: &[StateID]) -> Result<State, AllocError> {
         let alloc = nfa.alloc();
         let mut alternates = Vec::new(alloc);

@@ -61,11 +61,11 @@ pub enum State {
     /// Reads one byte, and leads to the target of the range that contains it. The ranges are sorted, and no two
     /// overlap.
     Sparse(Vec<Transition>),
-    /// Reads one byte, and leads to the target at the byte's index. Target 0 stands for no edge.
+    /// Reads one byte, and leads to the target at the byte's index. Target 0 means that there is no edge.
     Dense(Box<[StateID; 256]>),
     /// Goes on without reading if the look holds.
     Look {
-        /// The look that has to hold.
+        /// The look that must hold.
         look: Look,
         /// The state that it leads to.
         next: StateID,
@@ -102,7 +102,7 @@ pub enum State {
     },
 }
 
-// One call for an owner, whose proof then has no step for each part.
+// An owner drops this with one call, so that its proof has no step for each field.
 impl Drop for State {
     fn drop(self) {
         match self {
@@ -235,7 +235,7 @@ struct Data {
     is_look_acyclic: bool,
 }
 
-// One call for an owner, whose proof then has no step for each part.
+// An owner drops this with one call, so that its proof has no step for each field.
 impl Drop for Data {
     fn drop(self) {
         let Self {
@@ -261,7 +261,7 @@ pub struct NFA {
     kept_closure: Option<Arc<KeptClosure>>,
 }
 
-// One call for an owner, whose proof then has no step for each part.
+// An owner drops this with one call, so that its proof has no step for each field.
 impl Drop for NFA {
     fn drop(self) {
         let Self {
@@ -374,7 +374,7 @@ impl NFA {
     }
 
     /// Builds the NFA of lists that have passed the tests of `from_states`, and computes what it keeps beside them.
-    /// `totals` must be those of the states. The only error is out of memory.
+    /// `totals` must be the totals of the states. The only error is out of memory.
     fn make(
         alloc: Global,
         states: Vec<State>,
@@ -423,7 +423,7 @@ impl NFA {
     }
 
     /// Builds the NFA of lists that have passed the tests of `from_states`, and computes its properties. It keeps no
-    /// closure yet. `totals` must be those of the states. The only error is out of memory.
+    /// closure yet. `totals` must be the totals of the states. The only error is out of memory.
     fn plain(
         alloc: Global,
         states: Vec<State>,
@@ -584,7 +584,7 @@ impl NFA {
         self.keeps_unions
     }
 
-    /// The flags of the NFA.
+    /// Returns the flags of the NFA.
     pub fn flags(&self) -> Flags
         ensures { result ≡ self.now.flags }
     {
@@ -605,7 +605,7 @@ impl NFA {
         self.data.flags.reverse
     }
 
-    /// The looks that occur in the NFA.
+    /// Returns the looks that occur in the NFA.
     pub fn look_set_any(&self) -> LookSet
         ensures same { IsLooks self.now result }
         ensures occurs { (look : Look) → (truth_of result look ≡ true) ↔ Occurs (nfa_of self.now) look }
@@ -777,7 +777,7 @@ impl NFA {
         }
     }
 
-    /// The allocator of the NFA.
+    /// Returns the allocator of the NFA.
     pub fn alloc(&self) -> Global {
         self.alloc
     }

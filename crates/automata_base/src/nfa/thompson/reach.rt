@@ -71,7 +71,7 @@ fn add_nexts(set: &mut SparseSet, transitions: &[Transition])
     }
 }
 
-/// Adds a target of a dense state, if it is not a member. Target 0 stands for no edge.
+/// Adds a target of a dense state, if it is not a member. Target 0 means that there is no edge.
 fn add_dense(set: &mut SparseSet, target: StateID)
     requires { target < set.old.capacity }
     ensures items { set.new.items ≡ once_from set.old.items (nexts (dense_from 0 (target ∷ []))) }
@@ -136,7 +136,7 @@ pub fn add_targets(set: &mut SparseSet, state: &State, edges: Edges)
     }
 }
 
-/// The member at this index, in the order in which members were added, or none if there are fewer.
+/// Returns the member at this index, in the order in which members were added, or none if there are fewer.
 pub fn member(set: &SparseSet, at: usize) -> Option<StateID>
     ensures some { (id : ℕ) → result ≡ Some id
         → (at < length set.now.items) × (id ≡ get_or set.now.items at id)
@@ -168,7 +168,7 @@ pub fn walk_on(set: &mut SparseSet, states: &[State], edges: Edges, done: usize)
     }
 }
 
-/// Sets the set to the states that the edges reach from the roots, including the roots.
+/// Sets `set` to the states that the edges reach from the roots, including the roots.
 pub fn walk(set: &mut SparseSet, states: &[State], roots: &[StateID], edges: Edges)
     requires few { length states.now ≤ 2 ^ 27 }
     requires range { states_below (length states.now) states.now ≡ true }
@@ -220,7 +220,7 @@ fn is_some_match(states: &[State], ids: &[StateID]) -> bool
     false
 }
 
-/// An empty set with room for all states.
+/// Returns an empty set with room for all states.
 pub fn set_for(alloc: Global, states: &[State]) -> Result<SparseSet, AllocError>
     requires few { length states.now ≤ 2 ^ 27 }
     ensures { IfOk result (λ set. set.capacity ≡ length states.now) }

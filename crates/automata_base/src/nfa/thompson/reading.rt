@@ -112,14 +112,14 @@ fn sparse_target(transitions: &[Transition], u: u8) -> Option<StateID>
     None
 }
 
-/// Whether the ID is 0, which stands for no edge among the targets of a dense state.
+/// Whether the ID is 0, which as a target of a dense state means that there is no edge.
 fn is_zero(id: StateID) -> bool
     ensures { result ≡ eqb id 0 }
 {
     id.as_usize() == 0
 }
 
-/// Returns the state that a dense state leads to on a byte, or none. Target 0 stands for no edge.
+/// Returns the state that a dense state leads to on a byte, or none. Target 0 means that there is no edge.
 fn dense_target(targets: &[StateID; 256], u: u8) -> Option<StateID>
     ensures { result ≡ takes_in (dense_from 0 targets.now) u }
 {

@@ -126,7 +126,7 @@ impl NFA {
     ghost use Rattle.automata_base.specs.Retraced.Copies.{IsFit};
     ghost use Rattle.automata_base.specs.Retraced.ReversedEdges.{AreReversed};
 
-    /// The states of the reversed NFA.
+    /// Returns the states of the reversed NFA.
     pub(super) fn mirror(&self) -> Result<Mirror, ReverseError>
         ensures reversed { IfOk result (λ m. AreReversed self.now.states self.now.start_anchored
             (length self.now.start_pattern) m.states.items m.entries.items m.root) }

@@ -134,7 +134,7 @@ fn are_plain(nfa: &NFA, list: &[StateID]) -> bool
     true
 }
 
-/// A byte below which none of these states leads anywhere.
+/// Returns a byte below which none of these states leads anywhere.
 fn least_byte(nfa: &NFA, list: &[StateID]) -> usize
     requires below { (q : ℕ) → In q list.now → q < length nfa.now.states }
     ensures { (u : ℕ) → u < result → targets (nfa_of nfa.now) (Some u) list.now ≡ [] }
@@ -147,7 +147,7 @@ fn least_byte(nfa: &NFA, list: &[StateID]) -> usize
     least
 }
 
-/// A byte from which on none of these states leads anywhere, or 256.
+/// Returns a byte from which on none of these states leads anywhere, or 256.
 fn last_end(nfa: &NFA, list: &[StateID]) -> usize
     requires below { (q : ℕ) → In q list.now → q < length nfa.now.states }
     ensures few { result ≤ 256 }
@@ -161,8 +161,8 @@ fn last_end(nfa: &NFA, list: &[StateID]) -> usize
     end
 }
 
-/// Returns the expected targets after that of the state on a byte, or none if the state's target is not the first of
-/// them. A state that leads nowhere has no target to expect.
+/// Returns the expected targets that remain after the state's target on a byte, or none if that target is not the first
+/// of them. For a state that leads nowhere, all of them remain.
 fn after_target<'a>(state: &State, u: u8, expected: &'a [StateID]) -> Option<&'a [StateID]>
     ensures { IfSome result (λ rest. expected.now ≡ cons_some (takes_at (node_of state.now) u) rest.now) }
 {

@@ -16,7 +16,7 @@ use crate::util::look::Look;
 use crate::util::primitives::{PatternID, StateID};
 use std::alloc::{AllocError, Global};
 
-/// The look that holds if the bytes on the two sides are exchanged and the reverse flag is flipped.
+/// Returns the look that holds if the bytes on the two sides are exchanged and the reverse flag is flipped.
 fn flip(look: Look) -> Look
     ensures { result ≡ flip look }
 {
@@ -200,7 +200,7 @@ impl EdgesByTarget {
         })
     }
 
-    /// The ID of the next helper, or none if there is no ID left.
+    /// Returns the ID of the next helper, or none if there is no ID left.
     fn next_helper(&self) -> Option<StateID>
         ensures some { (id : ℕ) → result ≡ Some id → id ≡ size (turns_of self.now) }
         ensures none { result ≡ None → 2 ^ 27 < size (turns_of self.now) }
@@ -280,7 +280,7 @@ impl EdgesByTarget {
         Ok(())
     }
 
-    /// Reverses the edge of the bytes from `lo` to `hi` of a dense state. Target 0 stands for no edge.
+    /// Reverses the edge of the bytes from `lo` to `hi` of a dense state. Target 0 means that there is no edge.
     fn turn_run(&mut self, from: StateID, lo: u8, hi: u8, target: StateID) -> Result<(), MakeError>
         requires { target < length self.old.lists.items }
         ensures turned { OnOk result (turns_of self.new
@@ -423,7 +423,7 @@ impl EdgesByTarget {
         self.turn_by(helper, first)
     }
 
-    /// The states: one for each list of alternates, and after these the helpers.
+    /// Returns the states: one for each list of alternates, and after these the helpers.
     pub fn into_states(self, alloc: Global) -> Result<Vec<State>, AllocError>
         ensures { IfOk result (λ states. AreMade (turns_of self) states.items) }
     {

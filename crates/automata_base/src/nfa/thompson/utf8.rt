@@ -49,7 +49,7 @@ pub const FORWARD: [Class; 14] = [
     Class { first: 0xF5, last: 0xFF, to: [1, 1, 1, 1, 1, 1, 1, 1, 1, 1, 1] },
 ];
 
-/// The number of a pair of a state of the NFA and a state of the decoder.
+/// Returns the number of a pair of a state of the NFA and a state of the decoder.
 fn pair(state: StateID, decoder: usize) -> StateID
     requires few { state < 2 ^ 27 }
     requires decoder { decoder < 11 }
@@ -132,7 +132,7 @@ fn add_ranges(set: &mut SparseSet, ranges: &[Transition], classes: &[Class], dec
     }
 }
 
-/// Adds the pairs that a dense state leads to on the byte. Target 0 stands for no edge.
+/// Adds the pairs that a dense state leads to on the byte. Target 0 means that there is no edge.
 fn add_target(set: &mut SparseSet, byte: usize, target: StateID, classes: &[Class], decoder: usize)
     requires few { set.old.capacity ≤ 2 ^ 27 * 11 }
     requires decoder { decoder < 11 }

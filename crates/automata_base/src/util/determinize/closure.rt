@@ -314,7 +314,7 @@ pub fn close_all(
     }
 }
 
-/// Sets the set to the states that epsilon edges reach from the roots.
+/// Sets `set` to the states that epsilon edges reach from the roots.
 pub fn close(
     nfa: &NFA,
     roots: &[StateID],

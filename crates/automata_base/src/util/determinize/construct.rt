@@ -55,7 +55,7 @@ pub(crate) fn has_some(looks: LookSet) -> bool
     has_news(looks, looks, LookSet::empty())
 }
 
-/// The known looks that a powerset state has: those given if `some` is true, and none otherwise.
+/// Returns the known looks that a powerset state has: those given if `some` is true, and none otherwise.
 fn pick_known(some: bool, known: LookSet) -> LookSet
     ensures { (look : Look) → truth_of result look ≡ (some && truth_of known look) }
 {

@@ -39,14 +39,14 @@ pub fn is_unit(b: u8, u: Option<u8>) -> bool
     }
 }
 
-/// The byte of a CRLF pair that is read first.
+/// Returns the byte of a CRLF pair that is read first.
 pub fn first_of(reverse: bool) -> u8
     ensures { result ≡ first_half reverse }
 {
     if reverse { 10 } else { 13 }
 }
 
-/// The byte of a CRLF pair that is read second.
+/// Returns the byte of a CRLF pair that is read second.
 pub fn second_of(reverse: bool) -> u8
     ensures { result ≡ second_half reverse }
 {
@@ -123,7 +123,7 @@ fn is_known(nfa: &NFA, look: Look, prev: Option<u8>) -> bool
     nfa.look_set_any().contains(look) && is_always(look, flags.line_terminator, flags.reverse, prev)
 }
 
-/// The set, with the look added if `passes` is true.
+/// Returns the set, with the look added if `passes` is true.
 fn insert_if(set: LookSet, look: Look, passes: bool) -> LookSet
     ensures { (other : Look) → truth_of result other
         ≡ (eqb (look_index other) (look_index look) && passes || truth_of set other) }
@@ -131,7 +131,7 @@ fn insert_if(set: LookSet, look: Look, passes: bool) -> LookSet
     if passes { set.insert(look) } else { set }
 }
 
-/// The looks of the NFA that hold after `prev` whatever comes next.
+/// Returns the looks of the NFA that hold after `prev` whatever comes next.
 pub fn known_behind(nfa: &NFA, prev: Option<u8>) -> LookSet
     ensures { (look : Look) → truth_of result look ≡ known_looks (nfa_of nfa.now) prev look }
 {

@@ -20,7 +20,7 @@ enum Bytes {
 impl Bytes {
     ghost use Rattle.automata_base.specs.Powersets.Key.{bytes_of};
 
-    /// The bytes, whether they are shared or not.
+    /// Returns the bytes, whether they are shared or not.
     fn as_slice(&self) -> &[u8]
         ensures { result.now ≡ bytes_of self.now }
     {
@@ -37,7 +37,7 @@ impl Clone for Bytes {
 
     ghost is_clone = { λ a b. b ≡ Shared (bytes_of a) };
 
-    /// The copy shares its bytes. Bytes that are not shared are copied first.
+    /// Returns the copy shares its bytes. Bytes that are not shared are copied first.
     fn clone(&self) -> Result<Bytes, AllocError> {
         match self {
             Bytes::Shared(bytes) => {
@@ -114,7 +114,7 @@ impl Clone for Key {
 }
 
 impl Key {
-    /// A key that shares these bytes.
+    /// Returns a key that shares these bytes.
     pub(crate) fn shared(bytes: SharedBytes) -> Key
         requires { IsCode bytes }
         ensures { result ≡ decoded bytes }
@@ -135,14 +135,14 @@ impl Key {
         }
     }
 
-    /// The state of the key, with a copy of its bytes.
+    /// Returns the state of the key, with a copy of its bytes.
     pub fn to_state(&self, alloc: Global) -> Result<State, AllocError>
         ensures { IfOk result (λ state. state ≡ self.now) }
     {
         State::from_bytes(alloc, self.bytes.as_slice())
     }
 
-    /// The state that the key holds, or none if it shares its bytes.
+    /// Returns the state that the key holds, or none if it shares its bytes.
     pub(crate) fn into_made(self) -> Option<Box<MadeState>>
         ensures state { IfSome result (λ made. decoded made.value.bytes.items ≡ self) }
         ensures list { IfSome result (λ made. ListsItsStates made.value) }

@@ -136,7 +136,7 @@ pub fn pattern_count(bytes: &[u8]) -> usize
     }
 }
 
-/// The pattern at an index of the powerset state of these bytes.
+/// Returns the pattern at an index of the powerset state of these bytes.
 pub fn pattern_at(bytes: &[u8], index: usize) -> PatternID
     requires code { IsCode bytes.now }
     requires index_in { index < length (patterns_of bytes.now) }

@@ -38,7 +38,7 @@ pub struct Scratch {
     count: Count,
 }
 
-// One call for an owner, whose proof then has no step for each part.
+// An owner drops this with one call, so that its proof has no step for each field.
 impl Drop for Scratch {
     fn drop(self) {
         let Self {
@@ -67,7 +67,7 @@ impl Model for Scratch {
 impl Clone for Scratch {
     ghost is_clone = { λ a b. b ≡ a };
 
-    /// The copy has its own buffers, with the same room, and no last state.
+    /// Returns the copy has its own buffers, with the same room, and no last state.
     fn clone(&self) -> Result<Scratch, AllocError> {
         let alloc = self.alloc;
         Ok(Scratch {

@@ -101,7 +101,7 @@ impl SharedBytes {
         many.saturating_add(block(COUNT_SIZE + size_of::<Stored>()))
     }
 
-    /// The shared bytes.
+    /// Returns the shared bytes.
     pub fn as_slice(&self) -> &[u8]
         ensures value { result.now ≡ self.now }
     {

@@ -40,7 +40,7 @@ fn put_from(out: &mut Vec<StateID>, start: usize, list: &[StateID])
 }
 
 impl SparseSet {
-    /// An empty set with room for the numbers below `capacity`.
+    /// Returns an empty set with room for the numbers below `capacity`.
     pub fn new(alloc: Global, capacity: u32) -> Result<Self, AllocError>
         ensures empty { IfOk result (λ set. set.items ≡ []) }
         ensures capacity { IfOk result (λ set. set.capacity ≡ capacity) }
@@ -54,7 +54,7 @@ impl SparseSet {
         })
     }
 
-    /// An empty set with room for the same numbers.
+    /// Returns an empty set with room for the same numbers.
     pub fn emptied(&self, alloc: Global) -> Result<SparseSet, AllocError>
         ensures empty { IfOk result (λ set. set.items ≡ []) }
         ensures capacity { IfOk result (λ set. set.capacity ≡ self.now.capacity) }
@@ -91,7 +91,7 @@ impl SparseSet {
         self.dense.len()
     }
 
-    /// The numbers of the set, in the order in which they were added.
+    /// Returns the numbers of the set, in the order in which they were added.
     pub fn as_slice(&self) -> &[StateID]
         ensures items { result.now ≡ self.now.items }
         ensures below { (q : ℕ) → In q self.now.items → q < self.now.capacity }

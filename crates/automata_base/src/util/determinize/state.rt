@@ -41,7 +41,7 @@ pub struct Parts {
     pub half: bool,
 }
 
-// One call for an owner, whose proof then has no step for each part.
+// An owner drops this with one call, so that its proof has no step for each field.
 impl Drop for Parts {
     fn drop(self) {
         let Self {
@@ -129,7 +129,7 @@ pub struct State {
     bytes: SharedBytes,
 }
 
-// One call for an owner, whose proof then has no step for each part.
+// An owner drops this with one call, so that its proof has no step for each field.
 impl Drop for State {
     fn drop(self) {
         let Self { bytes: _bytes } = self;
@@ -256,7 +256,7 @@ impl State {
         pattern_count(self.bytes.as_slice())
     }
 
-    /// The matching pattern at an index below `match_len`.
+    /// Returns the matching pattern at an index below `match_len`.
     pub fn match_pattern(&self, index: usize) -> PatternID
         requires { index < length self.now.patterns }
         ensures { result ≡ slice_index self.now.patterns index }
@@ -264,14 +264,14 @@ impl State {
         pattern_at(self.bytes.as_slice(), index)
     }
 
-    /// The looks that are known to hold, as the bits of a `LookSet`.
+    /// Returns the looks that are known to hold, as the bits of a `LookSet`.
     pub fn known(&self) -> u32
         ensures { result ≡ self.now.known }
     {
         u32_at(self.bytes.as_slice(), 1)
     }
 
-    /// The looks that the NFA states test, as the bits of a `LookSet`.
+    /// Returns the looks that the NFA states test, as the bits of a `LookSet`.
     pub fn needed(&self) -> u32
         ensures { result ≡ self.now.needed }
     {
@@ -312,7 +312,7 @@ impl State {
         read_ids(self.nfa(), &mut parts.nfa)
     }
 
-    /// The six parts of the state. The only error is out of memory.
+    /// Returns the six parts of the state. The only error is out of memory.
     pub fn decode(&self, alloc: Global) -> Result<Parts, AllocError>
         ensures { IfOk result (λ parts. powerset_of parts ≡ self.now) }
     {
