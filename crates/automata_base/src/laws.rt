@@ -75,7 +75,7 @@ pub fn steps_are_alike()
 
 /// A pass, which reads byte by byte, reports what the ordered paths through the tape select, if the NFA keeps its
 /// cycles. For every NFA, an earliest pass reports the nearest end, and under `MatchKind::All` any other pass reports
-/// the farthest end. Passes report one answer, even if offsets inside a UTF-8 encoded character are skipped.
+/// the farthest end. Passes report at most one answer, even if offsets inside a UTF-8 encoded character are skipped.
 pub fn passes_report_paths()
     ensures selects { PassesSelect }
     ensures nearest { PassesFindNearest }
