@@ -37,7 +37,7 @@ abbrev pub cons_some : Option ℕ → List ℕ → List ℕ
 cons_some None ys = ys
 cons_some (Some y) ys = y ∷ ys
 
--- The states that `g` gives for those of a list, in order.
+-- The states that `g` gives for the states of a list, in order.
 abbrev pub pick : (ℕ → Option ℕ) → List ℕ → List ℕ
 pick g [] = []
 pick g (x ∷ xs) = cons_some (g x) (pick g xs)

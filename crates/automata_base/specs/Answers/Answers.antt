@@ -39,7 +39,7 @@ IsSplit Reports way input =
 pub data MayTry (skipping : Type 0) (input : Input) (k : ℕ) : Type 0 where
   -- it is the first span
   IsFirstSpan : k ≡ 0 → MayTry skipping input k
-  -- an unanchored search that skips split places goes on after them
+  -- an unanchored search that skips split places continues after them
   SkipsToIt : skipping → input.anchored ≡ No → MayTry skipping input k
 
 -- The search tries the span that begins `k` places later.

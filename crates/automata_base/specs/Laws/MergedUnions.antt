@@ -37,7 +37,7 @@ MergedPairsAlike =
     → IsChecked a → IsMergedNfa a b → IsHaystack input.haystack → start < length (nfa_of a).nodes
     → IsAccepted way a input start pair ↔ IsAccepted way b input start pair
 
--- If no cycle of edges that read nothing passes a look, none does after unions are merged.
+-- If no cycle of epsilon edges passes a look, none does after unions are merged.
 abbrev pub MergedStayAcyclic : Type 0
 MergedStayAcyclic =
     (a b : Automaton) → IsChecked a → IsMergedNfa a b → IsLookAcyclic (nfa_of a) → IsLookAcyclic (nfa_of b)

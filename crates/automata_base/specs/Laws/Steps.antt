@@ -27,7 +27,7 @@ ClassesQuitAlike =
     (a : Automaton) (quits : List Bool) (on : Bool) (u v : ℕ)
     → class_of a quits on u ≡ class_of a quits on v → is_quit quits u ≡ is_quit quits v
 
--- after look-behind bytes of one kind an anchored mode has one start state
+-- an anchored mode has the same start state after all look-behind bytes of one kind
 abbrev pub StartsAreAlike : Type 0
 StartsAreAlike =
     (a : Automaton) (mode : Anchored) (x y : Option ℕ)

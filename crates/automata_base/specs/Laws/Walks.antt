@@ -62,7 +62,7 @@ pub record IsAccepted (way : Direction) (a : Automaton) (input : Input) (start :
   pub inside : place ≤ length (tape_of way input.haystack input.start input.end).bytes
   -- the path ends there in a match of the pattern
   pub accepted : Accepts (nfa_of a) (tape_of way input.haystack input.start input.end) start place pair.pattern path
-  -- the offset is that of the place
+  -- the offset is the one of the place
   pub offset : pair.place ≡ offset_in way input place
   -- it is not split, if split places are skipped
   pub whole : IsSkipping (engine_of a All) → is_split input.haystack pair.place ≡ false

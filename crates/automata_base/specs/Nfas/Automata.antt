@@ -30,8 +30,7 @@ automaton_of d keeps_unions = record {
   keeps_unions = keeps_unions;
 }
 
--- The data is that of an NFA that `NFA::from_states` accepts, and the properties that were computed from the states are
--- right.
+-- `NFA::from_states` accepts the data of the NFA, and the properties that were computed from its states are right.
 pub record IsConsistent (d : Data) (keeps_unions : Bool) : Type 0 where
   -- it passes the tests of `NFA::from_states`
   pub checked : IsChecked (automaton_of d keeps_unions)
@@ -43,5 +42,5 @@ pub record IsConsistent (d : Data) (keeps_unions : Bool) : Type 0 where
   pub empty : IsTrue d.has_empty ↔ HasEmpty (automaton_of d keeps_unions)
   -- it says correctly whether unanchored searches begin at the anchored start, or lazily skip bytes before it
   pub skips : IsTrue d.skips_lazily ↔ SkipsLazily (automaton_of d keeps_unions)
-  -- it says correctly whether no cycle of edges that read nothing passes a look
+  -- it says correctly whether no cycle of epsilon edges passes a look
   pub acyclic : IsTrue d.is_look_acyclic ↔ IsLookAcyclic (nfa_of (automaton_of d keeps_unions))

@@ -72,7 +72,7 @@ prefix_of draft start =
 -- A call that adds states returns the ID of the first of them, or an error, after which nothing has changed. It fails
 -- if IDs run out, and otherwise only if the allocation fails.
 pub record IsAdding (old new : Draft) (result : Result ℕ BuildError) (shapes : List Shape) : Type 0 where
-  -- the ID that it returns is that of the first state added
+  -- the ID that it returns is the ID of the first state added
   pub id : IfOk result (λ id. id ≡ length old.states)
   -- if it returns an ID, these states come after those that were there
   pub added : OnOk result (new ≡ with_states old (old.states ++ shapes))

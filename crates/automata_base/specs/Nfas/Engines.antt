@@ -44,7 +44,7 @@ IsSkipping d = (d.utf8 ≡ true) × HasEmptyMatch d
 
 -- `q` has an edge to `r`, with every look taken as true.
 pub data HasEdge (n : Nfa) (q r : ℕ) : Type 0 where
-  -- an edge that reads nothing
+  -- an epsilon edge
   FreeEdge : (e : ℕ) → hop n all_true q e ≡ Some r → HasEdge n q r
   -- an edge that reads a byte
   ByteEdge : (u : ℕ) → takes n q u ≡ Some r → HasEdge n q r
