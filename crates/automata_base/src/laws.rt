@@ -83,9 +83,9 @@ pub fn passes_report_paths()
     ensures one { ReportedIsOne }
 {}
 
-/// Passes report the answer of the ordered paths if the NFA keeps its cycles; both skip offsets inside characters. For
-/// every NFA, the answer is the nearest end in an earliest search, and under `MatchKind::All` the farthest end in any
-/// other one. It lies in the span, and its pattern is a pattern of the NFA.
+/// If the NFA keeps its cycles, passes report the answer of the ordered paths, with the same offsets inside characters
+/// skipped. For every NFA, the answer is the nearest end in an earliest search, and under `MatchKind::All` the farthest
+/// end in any other one. It lies in the span, and its pattern is a pattern of the NFA.
 pub fn reported_is_right(nfa: &NFA)
     ensures answer { ReportedIsRight nfa.now }
     ensures ends { ReportedEndsAreRight nfa.now }

@@ -169,8 +169,8 @@ impl<T: Drop> From<AllocFailed<T>> for SearchError {
     }
 }
 
-// A byte as text: printable ASCII is unchanged, but a space is in quotes, and quotes and backslashes are escaped, as
-// are all other bytes.
+// A byte as text. Printable ASCII is unchanged, except that a space is in quotes, and quotes and backslashes are
+// escaped. All other bytes are escaped.
 #[derive(Clone, Copy)]
 struct ByteText(u8);
 

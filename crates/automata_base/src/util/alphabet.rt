@@ -214,7 +214,7 @@ fn either(a: bool, b: bool) -> bool
     a || b
 }
 
-/// Marks each byte such that exactly one of it and the previous byte is a quit byte.
+/// Marks the first byte of each run of quit bytes, and the byte after each run.
 fn mark_quits(marks: &mut [bool; 257], quits: &ByteSet)
     ensures { Adds marks.old marks.new (quits_bound quits.now) }
 {

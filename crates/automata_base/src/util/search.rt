@@ -408,8 +408,8 @@ impl<'h> Input<'h> {
     }
 
     /// Sets whether a search may stop at the first match that it sees. By default it may not. If offsets inside
-    /// characters are skipped, an earliest search may report no match although there is one; `Regex::is_match` does
-    /// not.
+    /// characters are skipped, an earliest search may report no match although there is one: call `Regex::is_match`
+    /// instead.
     pub fn earliest(self, yes: bool) -> Input<'h>
         ensures { result ≡ record self.entry { earliest = yes } }
     {
@@ -440,7 +440,7 @@ impl<'h> Input<'h> {
         };
     }
 
-    /// Sets the span's start in place, which may be at most one byte after its end; `allows` tests this.
+    /// Sets the span's start in place. It may be at most one byte after the span's end; `allows` tests this.
     pub fn set_start(&mut self, start: usize)
         requires { Allows self.old.haystack start self.old.end }
         ensures { self.new ≡ record self.old { start = start } }
@@ -448,8 +448,8 @@ impl<'h> Input<'h> {
         self.span.start = start;
     }
 
-    /// Sets the span's end in place, which must lie in the haystack and at most one byte before its start; `allows`
-    /// tests this.
+    /// Sets the span's end in place. It must lie in the haystack, and may be at most one byte before the span's start;
+    /// `allows` tests this.
     pub fn set_end(&mut self, end: usize)
         requires { Allows self.old.haystack self.old.start end }
         ensures { self.new ≡ record self.old { end = end } }

@@ -53,7 +53,7 @@ fn next_edge(visited: &SparseSet, state: &State, from: usize) -> Option<Edge>
     None
 }
 
-/// Marks a state as visited, which must be unvisited.
+/// Marks an unvisited state as visited.
 fn mark(visited: &mut SparseSet, id: StateID)
     requires below { id < visited.old.capacity }
     requires new { In id visited.old.items → ⊥ }

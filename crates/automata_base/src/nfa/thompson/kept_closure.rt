@@ -153,7 +153,7 @@ pub(super) fn byte_end(state: &State) -> usize
     }
 }
 
-/// Adds, for each byte, the state that this state leads to on it to the byte's row.
+/// Adds the state that this state leads to on each byte, if there is one, to the row of the byte.
 fn push_edges(rows: &mut Vec<Vec<StateID>>, state: &State) -> Result<(), AllocError>
     requires { length rows.old.items ≡ 256 }
     ensures edges { OnOk result (AddsEdges (node_of state.now) rows.old.items rows.new.items) }

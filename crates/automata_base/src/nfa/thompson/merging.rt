@@ -391,8 +391,8 @@ impl NFA {
     ///
     /// Its searches, walks, spans and sets give the same answers, and its starts and flags are the same. The states
     /// keep their IDs, and additional ones come after them. The result is this NFA itself if no union has eight
-    /// alternates, if it keeps unions (`NFA::keeping_unions`), if more targets would be listed than eight for each
-    /// state and 4,096 in addition, or if, after merging, a closure would need more room, a cycle of epsilon
+    /// alternates, if this NFA keeps unions (`NFA::keeping_unions`), if more targets would be listed than eight for
+    /// each state and 4,096 in addition, or if, after merging, a closure would need more room, a cycle of epsilon
     /// transitions would newly pass a look, or unanchored searches would no longer skip lazily. The only error is out
     /// of memory. The call takes time linear in the states, their edges and what is listed.
     pub fn merged(&self) -> Result<NFA, AllocError>

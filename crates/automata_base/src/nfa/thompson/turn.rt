@@ -179,8 +179,8 @@ impl From<AllocError> for MakeError {
     }
 }
 
-/// For each state, the edges that lead to it, as alternates. An edge that reads and tests nothing is the state where it
-/// begins; any other edge is a helper, a state of its own that stands for the edge. The helpers come after the states.
+/// For each state, the edges that lead to it, as alternates. An edge that reads and tests nothing is represented by the
+/// state where it begins, and any other edge by a helper, a state of its own. The helpers come after the states.
 #[derive(Drop)]
 pub struct EdgesByTarget {
     lists: Vec<Vec<StateID>>,

@@ -37,7 +37,7 @@ impl Clone for Bytes {
 
     ghost is_clone = { λ a b. b ≡ Shared (bytes_of a) };
 
-    /// Returns the copy shares its bytes. Bytes that are not shared are copied first.
+    /// Returns a copy that shares its bytes. Bytes that are not shared are copied first.
     fn clone(&self) -> Result<Bytes, AllocError> {
         match self {
             Bytes::Shared(bytes) => {

@@ -67,7 +67,7 @@ impl Model for Scratch {
 impl Clone for Scratch {
     ghost is_clone = { λ a b. b ≡ a };
 
-    /// Returns the copy has its own buffers, with the same room, and no last state.
+    /// Returns a copy with its own buffers, which have the same room, and without a last state.
     fn clone(&self) -> Result<Scratch, AllocError> {
         let alloc = self.alloc;
         Ok(Scratch {

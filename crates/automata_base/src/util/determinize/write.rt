@@ -153,8 +153,8 @@ fn push_patterns(out: &mut Vec<u8>, patterns: &[PatternID]) -> Result<(), AllocE
     push_u32s(out, patterns)
 }
 
-/// Returns the first byte of a powerset state: whether it has patterns, lists them, is after a word byte, and is
-/// halfway through a CRLF.
+/// Returns the first byte of an encoded powerset state: whether it has patterns, lists them, is after a word byte, and
+/// is halfway through a CRLF.
 fn flags_of(patterns: &[PatternID], word: bool, half: bool) -> u8
     ensures { result ≡ flag_byte (has_any patterns.now) (is_listed patterns.now) word half }
 {
