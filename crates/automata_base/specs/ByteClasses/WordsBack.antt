@@ -27,7 +27,7 @@ pub truths_by_bytes :
 unfolding truths_of
 truths_by_bytes words truths l same = fill_by_all (has_byte words) truths 256 false l same
 
--- A byte is in the set exactly if its bit is set in the word that has it.
+-- A byte is in the set exactly if its bit is set in its word.
 pub at_word :
     (words : List ℕ) (byte k i : ℕ) → byte ≡ 64 * k + i → i < 64
     → has_byte words byte ≡ eqb (bit_at (get_or words k 0) i) 1

@@ -1,4 +1,4 @@
--- Sets of looks: as numbers whose bit k is set if look k is in the set, and as functions that say whether a look is.
+-- Sets of looks: as numbers whose bit k is set if look k is in the set, and as functions that are true of its looks.
 use Rattle.std.specs.Prelude.{ℕ, zero, suc, ◌+◌, ◌*◌, ◌^◌, ◌<◌, eqb, if◌then◌else◌, List, [], ◌∷◌}
 use Rattle.std.specs.Int.{bit_at}
 use Rattle.automata_base.specs.Haystacks.Looks.{Look, Start, End, StartLF, EndLF, StartCRLF, EndCRLF, WordAscii}

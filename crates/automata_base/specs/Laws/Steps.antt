@@ -60,13 +60,13 @@ PassesFindFarthest =
     → mode_start a mode ≡ Some start → IsInRange (nfa_of a) → start < length (nodes_of a.states) → IsTape t
     → IsFarthest (nfa_of a) t start (reported_by All false a mode t)
 
--- `successor` returns the successor of a state of the automaton, which is the only one
+-- `successor` returns the only successor of a state of the automaton
 abbrev pub SuccessorsAreRight : Automaton → Type 0
 SuccessorsAreRight a =
     (kind : MatchKind) (q r : Powerset) (unit : Option ℕ)
     → IsOf a q → IsSuccessor (nfa_of a) kind q unit r ↔ (r ≡ successor a kind q unit)
 
--- `start_state_of` returns the start state, which is the only one
+-- `start_state_of` returns the only start state
 abbrev pub PowersetStartsAreRight : Automaton → Type 0
 PowersetStartsAreRight a =
     (mode : Anchored) (prev : Option ℕ) (r : Powerset) → IsStartOf a mode prev r ↔ (r ≡ start_state_of a mode prev)

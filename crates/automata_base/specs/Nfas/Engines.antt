@@ -1,4 +1,4 @@
--- Engines, which are searched with: an NFA, its starts, its UTF-8 flag and a match kind.
+-- The engine of a search: an NFA, its starts, its UTF-8 flag and a match kind.
 use Rattle.std.specs.Prelude.{ℕ, ◌≡◌, Bool, true, List, [], ◌∷◌, Option, Some, slice_get}
 use Rattle.automata_base.specs.Lists.{In}
 use Rattle.automata_base.specs.Nfas.Nfa.{Nfa, Node, Split, Read, node, hop, takes, accepts}

@@ -63,14 +63,14 @@ pub enum State {
     Sparse(Vec<Transition>),
     /// Reads one byte, and leads to the target at the byte's index. Target 0 means that there is no edge.
     Dense(Box<[StateID; 256]>),
-    /// Goes on without reading if the look holds.
+    /// Leads to `next` without reading a byte, if the look holds.
     Look {
         /// The look that must hold.
         look: Look,
         /// The state that it leads to.
         next: StateID,
     },
-    /// Goes on without reading to each alternate, the first of them preferred.
+    /// Leads to each alternate without reading a byte, the first of them preferred.
     Union {
         /// The alternates, the preferred ones first.
         alternates: Vec<StateID>,
@@ -82,7 +82,7 @@ pub enum State {
         /// The other alternate.
         alt2: StateID,
     },
-    /// Goes on without reading. Searches ignore its group.
+    /// Leads to `next` without reading a byte. Searches ignore the group.
     Capture {
         /// The state that it leads to.
         next: StateID,

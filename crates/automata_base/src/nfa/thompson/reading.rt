@@ -1,4 +1,4 @@
-//! What one state of an NFA has: its look, its pattern, and where it leads.
+//! The parts of a single NFA state: its look, its pattern, and its targets.
 ghost use Rattle.std.specs.Prelude.{◌≡◌, ◌<◌, ◌||◌, ◌&&◌, eqb, Some, slice_get};
 ghost use Rattle.std.specs.Prelude.{None, length, slice_get};
 ghost use Rattle.automata_base.specs.Nfas.Accepted.{IsChecked};

@@ -91,7 +91,7 @@ fn rooted(alloc: Global, parts: Parts) -> Result<Mirror, MakeError>
     })
 }
 
-/// Makes the states of the reversed NFA of what is reached from the first state.
+/// Makes the states of the reversed NFA, for the states that are reached from `first`.
 pub fn reverse_states(
     alloc: Global,
     states: &[State],

@@ -290,7 +290,7 @@ fn shows(
     }
 }
 
-/// Whether two states are the same for searches. Two captures are if they lead to the same state.
+/// Whether two states are the same for searches. Two captures are the same if they lead to the same state.
 fn is_same(one: &State, two: &State) -> bool
     ensures { IsTrue result → node_of two.now ≡ node_of one.now }
 {

@@ -20,7 +20,7 @@ use std::alloc::{AllocError, Global};
 /// The number of states of a decoder. State 0 is between two characters, and state 1 has failed.
 const STATES: usize = 11;
 
-/// Bytes that a decoder does not distinguish, and where they lead from each of its states.
+/// A class of bytes that a decoder does not distinguish, and the state that they lead to from each of its states.
 #[derive(Clone, Copy)]
 pub struct Class {
     first: u8,
