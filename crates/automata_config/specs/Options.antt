@@ -24,8 +24,8 @@ pub record Options : Type 0 where
   pub skip_cache_capacity_check : Option Bool
   -- the number of clears after which a search may give up; if it is set to none, it never does
   pub minimum_cache_clear_count : Option (Option ℕ)
-  -- the number of bytes for each state that, if they were searched since the last clear, keep a search from giving up;
-  -- if it is set to none, no number does
+  -- how many bytes for each state keep a search from giving up, if they were searched since the last clear; if it is
+  -- set to none, no number does
   pub minimum_bytes_per_state : Option (Option ℕ)
 
 -- The options when none was set.

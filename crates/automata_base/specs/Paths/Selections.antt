@@ -86,7 +86,7 @@ pub record AddsPlace (Earlier : List Pair → Type 0) (AtPlace : List ℕ → Ty
   -- the pairs are both, in this order
   pub joined : pairs ≡ earlier ++ at_place i patterns
 
--- The pairs at the first `k` places, by a rule for one place.
+-- The pairs at this many first places, by a rule for one place.
 abbrev pub Pairs : (ℕ → List ℕ → Type 0) → ℕ → List Pair → Type 0
 Pairs At zero pairs = pairs ≡ []
 Pairs At (suc i) pairs = AddsPlace (Pairs At i) (At i) i pairs
