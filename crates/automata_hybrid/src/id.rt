@@ -168,7 +168,7 @@ impl LazyStateID {
         (self.id as usize).wrapping_sub(tag as usize)
     }
 
-    /// The ID of the row at an offset, with a tag.
+    /// Returns the ID of the row at an offset, with a tag.
     #[inline(always)]
     pub(crate) fn at_offset(offset: usize, tag: u32) -> LazyStateID
         requires offset { offset < offset_limit }

@@ -480,14 +480,14 @@ impl Cache {
         Ok(id)
     }
 
-    /// The ID of the dead state.
+    /// Returns the ID of the dead state.
     pub(crate) fn dead(&self) -> LazyStateID
         ensures { result ≡ dead_id self.now.store.table.of.stride }
     {
         LazyStateID::dead(self.store.table.stride() as u32)
     }
 
-    /// The number of patterns of a row's state.
+    /// Returns the number of patterns of a row's state.
     pub(crate) fn match_len(&self, id: LazyStateID) -> usize
         requires { IsRowId self.now.store.table id }
         ensures { (q : Powerset) → Names self.now.store.table id q → result ≡ length q.patterns }
@@ -526,7 +526,7 @@ impl Cache {
         }
     }
 
-    /// The index of the row that has this ID.
+    /// Returns the index of the row that has this ID.
     pub(crate) fn row_index(&self, id: LazyStateID) -> usize
         requires { IsRowId self.now.store.table id }
         ensures row { (q : Powerset) → Names self.now.store.table id q → HasState self.now.store.table result q }
@@ -551,7 +551,7 @@ impl Cache {
             .saturating_sub(self.store.searched.total_at(at))
     }
 
-    /// Considers making leaps, if enough bytes are searched once the open search has reached `at`.
+    /// Calls `make_leaps` if enough bytes are searched once the open search has reached `at`.
     #[inline(always)]
     pub(crate) fn prepare_leaps(&mut self, dfa: &DFA, at: usize)
         requires { IsCacheOf self.old dfa.now }

@@ -41,7 +41,7 @@ impl Row {
     }
 }
 
-/// The accounted bytes of a state.
+/// Returns the accounted bytes of a state.
 pub fn cost(state: &State) -> usize
     requires { cost state.now < 2 ^ 64 }
     ensures { result ≡ cost state.now }

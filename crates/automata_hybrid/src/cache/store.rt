@@ -143,7 +143,7 @@ impl Store {
         row + bytes <= room && self.table.cell_count() < LazyStateID::OFFSET_LIMIT
     }
 
-    /// The capacity.
+    /// Returns the capacity.
     pub fn capacity(&self) -> usize
         ensures { result ≡ self.now.table.of.capacity }
     {

@@ -117,7 +117,7 @@ fn map_usage(capacity: usize) -> usize {
 }
 
 impl Table {
-    /// The ID of a state, if the table has a row for it.
+    /// Returns the ID of a state, if the table has a row for it.
     #[inline(always)]
     pub fn get(&self, state: &Key) -> Option<LazyStateID>
         ensures { result ≡ id_of self.now state.now }
@@ -163,7 +163,7 @@ impl Table {
         States::new(&self.rows, &self.cells[fixed..], self.stride, fixed)
     }
 
-    /// The state that an ID names.
+    /// Returns the state that an ID names.
     pub fn state(&self, id: LazyStateID) -> &State
         requires { IsRowId self.now id }
         ensures named { (q : Powerset) → Names self.now id q → result.now ≡ q }
@@ -175,7 +175,7 @@ impl Table {
         &row.state
     }
 
-    /// The accounted bytes of all rows' states.
+    /// Returns the accounted bytes of all rows' states.
     pub fn costs(&self) -> usize
         ensures value { result ≡ sum_by row_cost self.now.rows }
         ensures most { sum_by row_cost self.now.rows ≤ length self.now.rows * self.now.of.greatest }
@@ -275,7 +275,7 @@ impl Table {
         Table::fresh(dfa, self.stride, template, self.rows.len())
     }
 
-    /// The index of the row that has this ID.
+    /// Returns the index of the row that has this ID.
     pub fn row_index(&self, id: LazyStateID) -> usize
         requires { IsRowId self.now id }
         ensures value { result ≡ (id % offset_limit) / self.now.of.stride - 3 }
@@ -354,7 +354,7 @@ impl Table {
         LazyStateID::at_offset((index + 3) * self.stride, 0)
     }
 
-    /// A copy of a row: its state, and whether its ID has the start tag.
+    /// Returns a copy of a row: its state, and whether its ID has the start tag.
     pub fn copied_row(&self, row: usize) -> Result<Row, AllocError>
         requires { row < length self.now.rows }
         ensures { IfOk result (IsCopiedRow self.now row) }
