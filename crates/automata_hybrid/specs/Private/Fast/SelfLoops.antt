@@ -38,9 +38,9 @@ abbrev pub lane_of : Direction → ℕ → ℕ
 lane_of Forward k = k
 lane_of Backward k = 31 - k
 
--- an ID's row leads back to it on a byte, which is no quit byte: the transition is cached, at a class that rows have
+-- an ID's row leads back to it on a byte, which is not a quit byte: the transition is cached, at a class that rows have
 pub record LoopsOn (m : Machine) (c : Stored) (id byte : ℕ) : Type 0 where
-  -- the byte is no quit byte
+  -- the byte is not a quit byte
   pub clean : is_quit m.quits byte ≡ false
   -- the transition is cached
   pub known : IsKnownTransition c id (class_in m.classes byte)

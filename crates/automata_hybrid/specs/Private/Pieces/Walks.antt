@@ -6,7 +6,7 @@ use Rattle.automata_hybrid.specs.Cache.Table.{Names, Rows}
 use Rattle.automata_hybrid.specs.Pieces.State.{PiecesView}
 use Rattle.automata_hybrid.specs.declared.cache.handle.Handle.{Handle}
 
--- a walk is a search in pieces that stops at each match, and goes on from there
+-- a walk is a search in pieces that stops at each match, and continues from there
 pub record IsPiecesWalk (w : PiecesView) : Type 0 where
   -- it stops at a match
   pub early : w.earliest ≡ true

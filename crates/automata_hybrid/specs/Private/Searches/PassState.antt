@@ -40,9 +40,9 @@ HasLearnedAlong s way m c input k =
 abbrev pub HasLearnedUnit : Direction → Machine → Stored → Input → ℕ → Type 0
 HasLearnedUnit way m c input k = HasLearnedAlong (pass_trace way m input) way m c input k
 
--- the unit at place `k` is no quit byte, and its cached transition leads to an ID that has this tag and no other
+-- the unit at place `k` is not a quit byte, and its cached transition leads to an ID that has this tag and no other
 pub record IsTaken (s : Trace) (way : Direction) (m : Machine) (c : Stored) (input : Input) (tag k : ℕ) : Type 0 where
-  -- the unit is no quit byte
+  -- the unit is not a quit byte
   pub clean : (byte : ℕ) → next (tape_in way input) k ≡ Some byte → is_quit m.quits byte ≡ false
   -- its transition is cached
   pub known : HasLearnedAlong s way m c input k

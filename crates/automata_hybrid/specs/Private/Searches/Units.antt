@@ -32,7 +32,7 @@ pub record HasStepped (m : Machine) (id : ℕ) (unit : Option ℕ) (at : ℕ) (o
 -- a step of a search from an ID fails
 pub record FailsToStep (m : Machine) (id : ℕ) (unit : Option ℕ) (at : ℕ) (old new : CacheView) (e : SearchError) :
     Type 0 where
-  -- the unit is no quit byte
+  -- the unit is not a quit byte
   pub clean : quits_on m unit ≡ false
   -- it is the step from the state that the ID names, once the search has come to the unit
   pub fails :
@@ -47,7 +47,7 @@ IsStepResult m id unit at old new (Err e) = FailsToStep m id unit at old new e
 
 -- the ID that reading a unit from an ID returns
 pub record IsReadAnswer (m : Machine) (id : ℕ) (unit : Option ℕ) (old new : CacheView) (next : ℕ) : Type 0 where
-  -- the unit is no quit byte
+  -- the unit is not a quit byte
   pub clean : quits_on m unit ≡ false
   -- it leads from a state to its successor
   pub named :

@@ -15,7 +15,7 @@ use Rattle.automata_hybrid.specs.Steps.Starts.{IsStartAnswer, MayStart}
 
 -- a search may start, and this is the slot of its start
 pub record IsStartSlot (m : Machine) (mode : Anchored) (behind : Option ℕ) (slot : ℕ) : Type 0 where
-  -- the look-behind byte is no quit byte, and the anchored mode is supported
+  -- the look-behind byte is not a quit byte, and the anchored mode is supported
   pub may : MayStart m mode behind
   -- the slot is that of the anchored mode and of the look-behind byte
   pub at : slot ≡ slot_behind m mode behind

@@ -124,7 +124,7 @@ pub record HasReadUnit (way : Direction) (m : Machine) (input : Input) (place : 
     Type 0 where
   -- it leads to the state after the unit
   pub leads : Leads new.store.table id (state_in way m input (suc place))
-  -- the unit is no quit byte
+  -- the unit is not a quit byte
   pub clean : (byte : ℕ) → unit_at (tape_in way input) place ≡ Some byte → is_quit m.quits byte ≡ false
   -- the step over it makes this of what the cache knows
   pub read : after_unit (pass_trace way m input) way m input place (known_of old) ≡ Some (known_of new)
