@@ -1,18 +1,23 @@
 -- The definitions by subject, in the order in which a reader needs them. To learn what a call promises, begin with the
 -- record that its contract names, and follow the names in its fields:
 --
--- what a search returns Searches.Contracts: IsHalf, IsBased what a call of a walk returns Walks.Contracts: IsWalkCall
--- what a set of patterns is joined with Walks.Contracts: IsWhich; Walks.SetsByPaths what a step returns, and a start
--- state Steps.Steps: IsStepAnswer; Steps.Starts: IsStartAnswer a search by steps Steps.BySteps: StandsAt, IsStepAt;
--- Cache.Caches: HoldsRow a search in pieces Pieces.Answers: HasBegun, ReadsOn, EndsHere; Pieces.Whole a walk over a
--- haystack in pieces Pieces.Walks: HasWalked, IsWalked, EndsWith; Pieces.Matching what a cache knows Known.Known:
--- Known; Known.Stores: known_of; Known.Bounds how much memory, and when a clear is allowed Known.Events: usage, fits,
--- refuses_to_clear what a call does to it, event by event Known.Events: after_event, made what a search does to it, and
--- what follows Known.Passes: IsSearchRun; Known.Follows what walks and sets do to it, and what follows Known.Walks:
--- IsWalkRun, IsSetRun; Known.WalksFollow what a step does to it, when it fails, what follows Known.Steps: IsStepRun,
--- StepFails, IsStartRun; Known.Effects what a search in pieces does to it Known.Pieces: IsBeginRun, IsPieceRun,
--- IsAnswerRun what follows from that Known.PiecesFollow what a walk in pieces does to it Known.Pieces: IsBeginRun,
--- IsWalkCallRun, IsWalkEndRun what every call keeps of it Known.Growth: IsGrown; Known.Cached
+--     what a search returns                                Searches.Contracts: IsHalf, IsBased
+--     what a call of a walk returns                        Walks.Contracts: IsWalkCall
+--     what a set of patterns is joined with                Walks.Contracts: IsWhich; Walks.SetsByPaths
+--     what a step returns, and a start state               Steps.Steps: IsStepAnswer; Steps.Starts: IsStartAnswer
+--     a search by steps                                    Steps.BySteps: StandsAt, IsStepAt; Cache.Caches: HoldsRow
+--     a search in pieces                                   Pieces.Answers: HasBegun, ReadsOn, EndsHere; Pieces.Whole
+--     a walk over a haystack in pieces                     Pieces.Walks: HasWalked, IsWalked, EndsWith; Pieces.Matching
+--     what a cache knows                                   Known.Known: Known; Known.Stores: known_of; Known.Bounds
+--     how much memory, and when a clear is allowed         Known.Events: usage, fits, refuses_to_clear
+--     what a call does to it, event by event               Known.Events: after_event, made
+--     what a search does to it, and what follows           Known.Passes: IsSearchRun; Known.Follows
+--     what walks and sets do to it, and what follows       Known.Walks: IsWalkRun, IsSetRun; Known.WalksFollow
+--     what a step does to it, when it fails, what follows  Known.Steps: IsStepRun, StepFails, IsStartRun; Known.Effects
+--     what a search in pieces does to it                   Known.Pieces: IsBeginRun, IsPieceRun, IsAnswerRun
+--     what follows from that                               Known.PiecesFollow
+--     what a walk in pieces does to it                     Known.Pieces: IsBeginRun, IsWalkCallRun, IsWalkEndRun
+--     what every call keeps of it                          Known.Growth: IsGrown; Known.Cached
 --
 -- Machines defines what a DFA is; Cache.Ids, Cache.Table and Cache.States define its IDs, for steps and for inspecting
 -- a cache. Private has, in the same folders, the definitions for private functions and for proofs: no contract of a
