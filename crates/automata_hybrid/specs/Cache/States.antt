@@ -1,4 +1,4 @@
--- The states that a cache holds, one by one, as a picture of it shows them.
+-- The states that a cache holds, one by one, as a picture of the cache needs them.
 use Rattle.std.specs.Prelude.{ℕ, ◌≡◌, ◌+◌, ◌*◌, ◌<◌, ◌⊎◌, List, [], ◌∷◌, take, drop, length, slice_index, Option}
 use Rattle.automata_base.specs.Powersets.Passes.{IsUnit}
 use Rattle.automata_base.specs.Retraced.Steps.{start_state_of, successor}

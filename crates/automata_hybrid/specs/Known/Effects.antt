@@ -80,7 +80,7 @@ pub record FailureFollows (m : Machine) (old new : Known) : Type 0 where
   pub grown : IsGrown m old new
   -- what the cache knows then still satisfies `IsKnown`
   pub sound : IsKnown m new
-  -- only the count of determinizations changes
+  -- nothing changes, except possibly the count of determinizations
   pub unchanged : (new ≡ old) ⊎ (new ≡ counted old)
 
 -- what follows from every step on a cache of the DFA, from an ID that is known

@@ -18,8 +18,8 @@ use Rattle.automata_hybrid.specs.Machines.StartSlots.{slot_behind}
 use Rattle.automata_hybrid.specs.Steps.Starts.{start_row}
 use Rattle.automata_hybrid.specs.declared.cache.row.Row.{Row}
 
--- the accounted bytes: the cells, the start slots, the rows with the three fixed ones, and their entries in the map,
--- which has one for these three; the costs of all states, and the room for determinization
+-- the accounted bytes: the cells, the start slots, the rows with the three fixed ones, and the map entries, one for
+-- each row and one more; the costs of all states, and the room for determinization
 abbrev pub usage : Machine → Known → ℕ
 usage m c =
     cell_size * ((length c.rows + 3) * m.stride) + cell_size * m.slots + row_size * (length c.rows + 3)

@@ -16,8 +16,8 @@ use Rattle.automata_hybrid.specs.Searches.Contracts.{IsOfInput, IsMemory, IsUnhi
 use Rattle.automata_hybrid.specs.Searches.Passes.{Skips}
 use Rattle.automata_hybrid.specs.Searches.Progress.{TriesSpans}
 
--- an upper bound on the states determinized by `passes` passes, the first over `bytes` bytes and each later one over
--- one byte less: a pass determinizes at most once for each byte, for its start and at its end
+-- an upper bound on the determinizations of `passes` passes, the first over `bytes` bytes and each later one over one
+-- byte less: a pass determinizes at most once for each byte, for its start and at its end
 abbrev pub passes_most : (passes bytes : ℕ) → ℕ
 passes_most zero bytes = 0
 passes_most (suc passes) bytes = passes_most passes bytes + (bytes - passes + 2)

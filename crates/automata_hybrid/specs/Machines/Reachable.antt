@@ -25,7 +25,7 @@ IsReachable m q = ∥ ((units : ℕ) × IsReachableBy m units q) ∥₁
 
 -- a state of a lazy DFA
 pub record IsStateOf (m : Machine) (q : Powerset) : Type 0 where
-  -- it is made of what the automaton has
+  -- what it consists of is the automaton's
   pub own : IsOwn m.nfa q
   -- a search can reach it
   pub reached : IsReachable m q

@@ -77,14 +77,14 @@ pub record HasBegun (m : Machine) (mode : Anchored) (behind : Option ℕ) (earli
     Type 0 where
   -- no offset is skipped
   pub plain : Skips m → ⊥
-  -- it was given no byte of each input that it may be a search of
+  -- for each input that it may be a search of, it was given no bytes yet
   pub given : (input : Input) → BeginsAfter mode behind earliest input → WasGiven m input 0 p
   -- it has read none
   pub read : p.read ≡ 0
   -- it has found nothing
   pub found : p.found ≡ None
 
--- a piece was read: a search that was given the bytes of an input before the piece was now given those of the piece,
+-- a piece was read: if a search was given the bytes of an input before the piece, it now was given those of the piece
 -- too
 abbrev pub ReadsOn : Machine → (piece : List ℕ) → (old new : PiecesView) → Type 0
 ReadsOn m piece old new =

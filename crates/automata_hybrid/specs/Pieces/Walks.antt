@@ -48,7 +48,7 @@ pub record HasWalked (m : Machine) (input : Input) (n : ℕ) (w : PiecesView) : 
 
 -- a walk has begun
 pub record HasBegunWalk (m : Machine) (mode : Anchored) (behind : Option ℕ) (w : PiecesView) : Type 0 where
-  -- it was given no byte of each input that it may be a walk over
+  -- for each input that it may be a walk over, it was given no bytes yet
   pub given : (input : Input) → BeginsAfter mode behind input.earliest input → HasWalked m input 0 w
   -- it has read none
   pub read : w.read ≡ 0

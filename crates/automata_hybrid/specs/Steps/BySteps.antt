@@ -1,4 +1,4 @@
--- Searches by steps: where a search is that ends at its first match, and what a step of it means.
+-- Searches by steps: the state of a search that ends at its first match, and what a step of it means.
 use Rattle.std.specs.Prelude.{ℕ, ◌≡◌, ◌+◌, ◌-◌, ◌<◌, ◌≤◌, true, length, Option, Some, None, slice_index}
 use Rattle.automata_base.specs.Haystacks.Input.{Input}
 use Rattle.automata_base.specs.Haystacks.Matches.{HalfMatch}
@@ -74,7 +74,7 @@ pub record IsStepAt (m : Machine) (c : CacheView) (input : Input) (at next : ℕ
 abbrev pub StartsAt : Machine → CacheView → Input → (id : ℕ) → Type 0
 StartsAt m c input id = input.earliest ≡ true → input.start ≤ input.end → StandsAt m c input input.start id
 
--- a step on a unit from an ID leads each search that is there to this ID
+-- a step on a unit leads every search that is at the ID `id` to the ID `next`
 abbrev pub StepsOn : Machine → (old new : CacheView) → (id : ℕ) → (unit : Option ℕ) → (next : ℕ) → Type 0
 StepsOn m old new id unit next =
     (input : Input) (at : ℕ) → StandsAt m old input at id → IsUnitAt input at unit → IsStepAt m new input at next

@@ -3,7 +3,7 @@ use Rattle.std.specs.Prelude.{ℕ, Option, None}
 use Rattle.automata_base.specs.Haystacks.Matches.{HalfMatch}
 use Rattle.automata_base.specs.Powersets.Powerset.{Powerset}
 
--- where a walk stands
+-- the stage of a walk
 pub data Stage : Type 0 where
   -- it has not begun
   Fresh : Stage
@@ -15,7 +15,7 @@ pub data Stage : Type 0 where
 -- what contracts see of a walk: its stage, how many units it has read, how many patterns of its current state it has
 -- reported, and its match
 pub record Walk : Type 0 where
-  -- where it stands
+  -- its stage
   pub stage : Stage
   -- how many units it has read
   pub units : ℕ
