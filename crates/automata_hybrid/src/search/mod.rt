@@ -84,7 +84,7 @@ fn skips_at(dfa: &DFA, input: &Input<'_>, offset: usize) -> bool
 
 /// Returns the state after a unit, which is the quit state if that is a quit byte. `cell` is the row's cell for the
 /// unit, so that no look-up is repeated. If the transition is not cached, the progress of the search moves to `at` and
-/// the transition is computed; an error has the offset `at`.
+/// the transition is computed; the "gave up" error has the offset `at`.
 // No `inline(always)`: inlining it here makes `search` too large for its own `inline(always)`.
 fn step(
     dfa: &DFA,

@@ -64,7 +64,7 @@ fn again_after(same: bool, again: usize) -> usize
 }
 
 /// Returns how many bytes are followed one by one after leaps over `len` bytes: after short leaps twice as many as the
-/// last time.
+/// last time, but at most `MANY`; otherwise `FEW`.
 fn wait_after(len: usize, wait: usize) -> usize
     requires some { 8 ≤ wait }
     requires most { wait ≤ 256 }
