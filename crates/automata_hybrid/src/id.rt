@@ -54,7 +54,7 @@ impl LazyStateID {
     /// The value of an empty cell or start slot.
     pub(crate) const UNKNOWN: LazyStateID = LazyStateID { id: 1 << 31 };
 
-    /// Returns the ID of the row at this offset, with the tags of a start state and of a match state as given.
+    /// Returns the ID of the row at this offset, with the start tag if `started` and the match tag if `matches`.
     pub(crate) fn of_row(offset: u32, started: bool, matches: bool) -> LazyStateID
         requires { offset < offset_limit }
         ensures { result ≡ offset + tags started matches }

@@ -1,4 +1,4 @@
--- Which patterns match at an offset where a walk over a haystack in pieces is, by paths.
+-- Which patterns match, by paths, at an offset that a walk over a haystack in pieces has reached.
 use Rattle.std.specs.Prelude.{ℕ, suc, ◌≡◌, ◌-◌, ◌≤◌, List, Some}
 use Rattle.automata_base.specs.Answers.Answers.{IsInput}
 use Rattle.automata_base.specs.Haystacks.Input.{Input}

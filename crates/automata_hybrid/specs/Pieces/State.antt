@@ -1,4 +1,4 @@
--- Searches in pieces: what contracts see of the state of one.
+-- Searches in pieces: what contracts see of their state.
 use Rattle.std.specs.Prelude.{ℕ, ◌≡◌, Bool, Option, Some}
 use Rattle.automata_base.specs.Haystacks.Matches.{HalfMatch}
 use Rattle.automata_base.specs.Powersets.Powerset.{Powerset}

@@ -82,7 +82,7 @@ pub record StandsAtState (way : Direction) (m : Machine) (input : Input) (q : Po
   pub earlier : ℕ
   -- the units before the last one report these
   pub before : HasReportedBy way m input place earlier
-  -- in all, these are reported, and the reported patterns of the state
+  -- in all, these and the reported patterns of the state are reported
   pub count : k ≡ earlier + reported
 
 -- why a walk has ended

@@ -1,4 +1,4 @@
--- Overlapping walks: what contracts see of the state of one.
+-- Overlapping walks: what contracts see of their state.
 use Rattle.std.specs.Prelude.{ℕ, Option, None}
 use Rattle.automata_base.specs.Haystacks.Matches.{HalfMatch}
 use Rattle.automata_base.specs.Powersets.Powerset.{Powerset}

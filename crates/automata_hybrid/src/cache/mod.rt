@@ -79,8 +79,8 @@ pub(crate) enum Found {
 }
 
 /// The states that a lazy DFA has determinized, their transitions, and the buffers for determinizing more. Its
-/// accounted bytes (`memory_usage`) never exceed the capacity in the DFA's settings, or the minimum capacity if that
-/// was raised to the minimum.
+/// accounted bytes (`memory_usage`) never exceed the capacity in the DFA's settings, or the minimum capacity if the
+/// capacity was raised to it.
 pub struct Cache {
     store: Store,
     scratch: Scratch,
@@ -686,7 +686,7 @@ impl Cache {
     }
 
     /// Returns the number of accounted bytes: rows of cells, states, start slots and the buffers for determinization.
-    /// It never exceeds the capacity, or the minimum capacity if that was raised to the minimum.
+    /// It never exceeds the capacity, or the minimum capacity if the capacity was raised to it.
     ///
     /// ```rust
     /// self.cache.memory_usage()
@@ -701,7 +701,7 @@ impl Cache {
 
     /// Returns the number of bytes that leaps take now, in addition to the accounted bytes. With leaps, a search over a
     /// long haystack reads several bytes per step. Together with the accounted bytes they never exceed the capacity, or
-    /// the minimum capacity if that was raised to the minimum. Leaps are made if there is room for them, and dropped
+    /// the minimum capacity if the capacity was raised to it. Leaps are made if there is room for them, and dropped
     /// when a state is added or the cache is cleared.
     pub fn leap_usage(&self) -> usize
         ensures { usage (dfa_of self.now) (known_of self.now) + result ≤ (dfa_of self.now).capacity }

@@ -63,7 +63,7 @@ pub record LeapsTo (t : Rows) (s : Shape) (place cell : ℕ) : Type 0 where
   -- the classes of the cell's own place lead to that row
   pub reaches : ReachesRow t s.classes s.reach place to
 
--- each cell is marked, or has the row that its classes lead to
+-- each cell is marked, or leads to the row that its classes lead to
 pub record AreLeaps (t : Rows) (l : Leaps) : Type 0 where
   -- their shape is for the table
   pub of : IsShapeOf t l.shape
