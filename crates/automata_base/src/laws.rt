@@ -20,18 +20,18 @@ ghost use Rattle.automata_base.specs.Laws.MergedUnions.{MergedPairsAlike, Merged
 
 use crate::nfa::thompson::NFA;
 
-/// What powerset states keep. An NFA keeps its cycles if no cycle of epsilon edges passes a look, and if it keeps
-/// unions. If it does not keep unions, its powerset states have byte, look and match states alone.
+/// An NFA keeps its cycles if it has no look cycle, and also if it keeps unions. If it does not keep unions, its
+/// powerset states contain only byte, look and match states.
 pub fn cycles_are_kept()
     ensures acyclic { AcyclicKeepsCycles }
     ensures unions { UnionsKeepCycles }
     ensures dropped { UnionsAreDropped }
 {}
 
-/// Late is right: a pass, whose matches are delayed by one byte, and whose looks are decided when the next byte is
-/// known, reports what the ordered paths select, if the NFA keeps its cycles. For every NFA an earliest search reports
-/// the nearest end, and under `MatchKind::All` any other one the farthest end, and an overlapping search the patterns
-/// of all accepting paths.
+/// If the NFA keeps its cycles, a pass reports what the ordered paths select, although it reports matches one byte
+/// late. It decides looks when the next byte is known. For every NFA an earliest search reports the nearest end; under
+/// `MatchKind::All` any other search reports the farthest end, and an overlapping search the patterns of all accepting
+/// paths.
 pub fn late_is_right()
     ensures searches { SearchesAreRight }
     ensures walks { WalksAreRight }
@@ -52,9 +52,8 @@ pub fn start_is_right()
     ensures quits { BackMeetsNone }
 {}
 
-/// The functions by which contracts retrace the powerset construction mean its relations: a step by `successor` goes to
-/// the one state that is the successor, and a search by `start_state_of` starts in the one that is the start. The
-/// patterns of each are the NFA's.
+/// `successor` and `start_state_of` agree with the relations of the powerset construction, which have one value each.
+/// The patterns of each state are the NFA's.
 pub fn steps_are_right(nfa: &NFA)
     ensures successors { SuccessorsAreRight nfa.now }
     ensures starts { PowersetStartsAreRight nfa.now }
@@ -63,8 +62,9 @@ pub fn steps_are_right(nfa: &NFA)
     let _states = nfa.states();
 }
 
-/// What steps and starts do not distinguish, so that one transition serves a class of bytes, and one start all
-/// look-behind bytes of a kind.
+/// Bytes of one class lead to the same successor, and look-behind bytes of one kind to the same start state. So one
+/// transition serves a class, and one start state serves a kind. Either all bytes of a class are quit bytes or none is,
+/// and the dead state leads to itself.
 pub fn steps_are_alike()
     ensures classes { ClassesStepAlike }
     ensures quits { ClassesQuitAlike }
@@ -93,9 +93,9 @@ pub fn reported_is_right(nfa: &NFA)
     let _states = nfa.states();
 }
 
-/// What the pass of an overlapping search reports is one list. If the NFA keeps its cycles, it is the list of the
-/// ordered paths; and for every NFA it has, under `MatchKind::All`, the pairs of all accepting paths. Each pair lies in
-/// the span, and its pattern is the NFA's.
+/// The pass of an overlapping search reports one list, which is that of the ordered paths if the NFA keeps its cycles.
+/// For every NFA it has, under `MatchKind::All`, the pairs of all accepting paths. Each pair lies in the span, and its
+/// pattern is one of the NFA's.
 pub fn walk_is_right(nfa: &NFA)
     ensures reported { WalksAreReported nfa.now }
     ensures one { WalksAreOne }

@@ -19,8 +19,8 @@ use crate::cache::Cache;
 use crate::dfa::DFA;
 use automata_base::laws::{passes_report_paths, reported_is_right, steps_are_right, walk_is_right};
 
-/// What was searched before, and how large the cache is, shows in no answer: two searches of one automaton, match kind
-/// and input that answer find the same.
+/// Two searches for one automaton, match kind and input that succeed find the same, whatever was searched before and
+/// however large the caches are.
 pub fn answers_agree()
     ensures { AnswersAgree }
 {
@@ -42,9 +42,8 @@ pub fn sizes_are_of_nfa(dfa: &DFA)
     dfa.see_machine();
 }
 
-/// What a cache of a DFA knows is what these laws are about: its rows have states of no greater cost than a state may
-/// have, none of them dead; it has all start slots; and its accounted bytes are within the capacity. And it knows each
-/// ID from which a step may be taken.
+/// A cache of a DFA meets the premise of these laws: no row is dead or too costly, all start slots are there, and usage
+/// is within the capacity. It also knows each ID from which a step may be taken.
 pub fn cache_is_known(dfa: &DFA, cache: &Cache)
     requires { IsCacheOf cache.now dfa.now }
     ensures known { IsKnown dfa.now (known_of cache.now) }
@@ -54,10 +53,9 @@ pub fn cache_is_known(dfa: &DFA, cache: &Cache)
     cache.see_bounds();
 }
 
-/// What follows of what a search makes of what its cache knows: how often it determinizes, and when it clears nothing;
-/// that until the next clear nothing is lost; that all that it used is cached after an answer; that nothing changes but
-/// the progress if all that was cached before; and when it fails with out of memory alone. And what passes cost that
-/// have ended one after another.
+/// Consequences of a search for its cache: how often it determinizes, when it clears nothing, what is cached
+/// afterwards, and when out of memory is the only error. Until the next clear nothing is lost, and if all that it uses
+/// was cached, only the progress changes. A second law bounds the cost of passes that ended one after another.
 pub fn searches_follow(dfa: &DFA)
     ensures searches { SearchesFollow dfa.now }
     ensures passes { PassesCost dfa.now }
@@ -66,8 +64,8 @@ pub fn searches_follow(dfa: &DFA)
     steps_are_right(dfa.get_nfa());
 }
 
-/// What follows of what an event makes of what its cache knows, and so of a step and of a call for a start state: how
-/// often it determinizes, what stays, which row is added, when the cache is cleared, and what is cached then.
+/// Consequences of a step or a start state for the cache: how often it determinizes, which row is added, when it
+/// clears, what is cached afterwards. Until the next clear nothing is lost.
 pub fn steps_follow(dfa: &DFA)
     ensures events { EventsFollow dfa.now }
     ensures steps { StepsFollow dfa.now }
@@ -115,8 +113,8 @@ pub fn states_have_matching(dfa: &DFA)
     let _states = dfa.get_nfa().states();
 }
 
-/// What follows of what reading a piece, or asking for the answer of a search in pieces, makes of what its cache knows:
-/// how often it determinizes, what stays, when nothing is cleared, and when it fails with out of memory alone.
+/// Consequences for the cache of reading a piece, or of asking for the answer. They say how often it determinizes, what
+/// stays, when nothing is cleared, and when out of memory is the only error.
 pub fn pieces_follow(dfa: &DFA)
     ensures pieces { PiecesFollow dfa.now }
     ensures answers { PieceAnswersFollow dfa.now }
@@ -125,8 +123,8 @@ pub fn pieces_follow(dfa: &DFA)
     steps_are_right(dfa.get_nfa());
 }
 
-/// What follows of what a call of an overlapping search makes of what its cache knows: how often it determinizes, what
-/// stays, what is cached after it, and that nothing changes but the progress if all that it uses is cached.
+/// Consequences of one call of an overlapping search for its cache. They say how often it determinizes, what stays,
+/// what is cached afterwards, and that only the progress changes if all that it uses is cached.
 pub fn calls_follow(dfa: &DFA)
     ensures { CallsFollow dfa.now }
 {
@@ -135,8 +133,8 @@ pub fn calls_follow(dfa: &DFA)
     let _skips = dfa.skips();
 }
 
-/// What follows of what the search for a set of patterns makes of what its cache knows: how often it determinizes, what
-/// stays, what is cached after it, and that nothing changes but the progress if all that it uses is cached.
+/// Consequences of a search for a set of patterns for its cache. They say how often it determinizes, what stays, what
+/// is cached afterwards, and that only the progress changes if all that it uses is cached.
 pub fn sets_follow(dfa: &DFA)
     ensures { SetsFollow dfa.now }
 {
