@@ -194,7 +194,7 @@ pub data FindsNoToken (Finds : Input → Option HalfMatch → Type 0) (h : List 
 
 -- no token by what searches find, and the offset that the error names
 pub record IsNoTokenFound (Finds : Input → Option HalfMatch → Type 0) (h : List ℕ) (end offset told : ℕ) : Type 0 where
-  -- the offset of the error is that of the search
+  -- the error names the offset of the search
   pub place : told ≡ offset
   -- the offset is before the span's end
   pub within : offset < end

@@ -115,7 +115,7 @@ pub record HasAnswered (way : Direction) (m : Machine) (input : Input) (w : Walk
   -- it has ended exactly if there are fewer pairs than calls
   pub ended : (pairs : List Pair) → AreWalked way m input pairs → (w.stage ≡ Ended ↔ length pairs < k)
 
--- a call of a walk that has answered `answered` calls
+-- a call of a walk that has answered this many calls
 pub record IsCalled (way : Direction) (m : Machine) (input : Input) (answered : ℕ) (old new : CacheView)
     (result : Result (Option HalfMatch) SearchError) : Type 0 where
   -- the walk before the call
