@@ -104,7 +104,7 @@ pub record IsJoinedNfa (options : Options) (res : List Re) (nfa : Automaton) : T
   pub answers : AnswersAs joined nfa
   -- no cycle of epsilon transitions passes a look
   pub acyclic : HasNoLookCycle nfa
-  -- it does not keep unions, since it need not
+  -- it does not keep unions, since it does not need to
   pub unions : nfa.keeps_unions ≡ false
 
 -- this is the NFA of the patterns of these texts
@@ -112,8 +112,8 @@ abbrev pub IsNfaOf : Options → (texts : List (List ℕ)) → Automaton → Typ
 IsNfaOf options texts nfa =
     (res : List Re) × AreMeanings (config_of options) texts res × IsJoinedNfa options res nfa
 
--- the states take at most the size limit, 12 bytes each, besides two states for each pattern, by which it may exceed
--- the limit, and the three states that join the patterns
+-- at 12 bytes each, the states take at most the size limit, plus 24 bytes for each pattern, plus 36 bytes for the three
+-- states that join the patterns
 abbrev pub IsWithinLimit : Options → (texts : List (List ℕ)) → Automaton → Type 0
 IsWithinLimit options texts nfa = 12 * length nfa.states ≤ options.size_limit + 24 * length texts + 36
 
@@ -153,6 +153,6 @@ pub record IsBuiltOf (options : Options) (texts : List (List ℕ)) (regex : Rege
   -- the regex is what the library builds from it with the settings of these options
   pub built : BuildsOne (settings_of options) nfa regex
 
--- the haystack is what the options say: UTF-8 if it is text, and ASCII if they say so
+-- the haystack is valid UTF-8 if the options search text, and ASCII if they say that it is
 abbrev pub IsFor : Options → List ℕ → Type 0
 IsFor options hay = (options.utf8 ≡ true → IsUtf8 hay) × (options.ascii ≡ true → IsAscii hay)

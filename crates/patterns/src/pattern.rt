@@ -104,7 +104,7 @@ impl Pattern {
     }
 
     /// Builds patterns as `from_nfa` does, but with settings of your own: for example what its caches may take, and
-    /// when a search gives up. The match kind is `MatchKind::LeftmostFirst` and the options decide about Unicode word
+    /// when a search gives up. The match kind is `MatchKind::LeftmostFirst`, and the options decide about Unicode word
     /// boundaries, whatever the settings say about these two.
     pub fn from_nfa_with(
         nfa: NFA,

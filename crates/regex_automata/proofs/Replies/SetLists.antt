@@ -49,7 +49,7 @@ patterns_reported P input capacity old new found fresh none is reported =
     (subst (λ n. ArePatterns P input n (members old) (members new)) (ap length fresh ∙ length-replicate capacity false)
     reported))
 
--- a call that returned no error has what an Ok result has
+-- if a call returned no error, what holds of an Ok result holds
 pub reported_where :
     {E : Type 0} (r : Result (Unit {0}) E) (P : Type 0) → OnOk r P → result_err r ≡ None → P
 reported_where (Ok x) P h none = h

@@ -49,7 +49,7 @@ pub match_is :
 match_is m n pattern start end is p s e =
     is ∙ same_parts (record { pattern = pattern; start = start; end = end }) n p s e
 
--- without an item the span's end is reached
+-- an iteration that ends without an error has reached the span's end
 pub at_end :
     (failed : Bool) (end end' offset : ℕ) → (failed ≡ true) ⊎ (end ≤ offset) → failed ≡ false → end ≡ end'
     → end' ≤ offset

@@ -73,7 +73,8 @@ pub record IsRegexError (p : Regex) (old new : Cache) (input : Input) (e : Searc
 pub data IsNextError (p : Regex) (old new : Cache) (input : Input) (last : Option ℕ) (e : SearchError) : Type 0 where
   -- the search of the remaining input fails
   FailsHere : IsRegexError p old new input e → IsNextError p old new input last e
-  -- it finds an empty match at the last end, and the search from one offset later fails, over the caches that it left
+  -- that search finds an empty match at the last end, and the one from one offset later fails, over the caches that it
+  -- left
   FailsLater :
       (m : Match) → FindsMatch p input (Some m) → IsEmptyAt last m
       → (between : Cache) → IsRegexError p between new (from (suc input.start) input) e

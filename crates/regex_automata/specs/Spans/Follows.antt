@@ -42,7 +42,7 @@ pub record AreCostsOf (p : Regex) (input : Input) (old new : Cache) : Type 0 whe
 pub data AreCostsTwice (p : Regex) (input : Input) (last : Option ℕ) (old new : Cache) : Type 0 where
   -- it is what one search costs
   OfOne : AreCostsOf p input old new → AreCostsTwice p input last old new
-  -- if that finds an empty match at the last end, it is also what the search from one offset later costs
+  -- if the first search finds an empty match at the last end, it is also what the search from one offset later costs
   OfTwo :
       FindsEmptyAt p input last → (between : Cache) → AreCostsOf p input old between
       → AreCostsOf p (from (suc input.start) input) between new → AreCostsTwice p input last old new

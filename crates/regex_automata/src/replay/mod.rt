@@ -36,7 +36,7 @@ pub fn replay(
     ensures walks { IfOk result (λ replies. ReportWalks regexes.now script.now replies.items) }
 
     // One cache serves all requests, within the settings of the current regex. It is fresh at first and after an Ok
-    // reset. An error is that of a call on the cache as the previous request left it.
+    // reset. An error comes from a call on the cache as the previous request left it.
     ensures made { IfOk result (λ replies. AreAnswered regexes.now script.now replies.items) }
 {
     match regexes.first() {
@@ -65,7 +65,7 @@ fn answer_all<'h>(
     Ok(replies)
 }
 
-/// Replies to each request that there is no regex.
+/// Replies `Fault::NoRegex` to each request.
 fn refuse_all(alloc: Global, script: &[Request<'_>]) -> Result<Vec<Reply>, AllocError>
     ensures { IfOk result (λ replies. AreReplies [] script.now replies.items) }
 {

@@ -36,14 +36,14 @@ impl<'h> Token<'h> {
         }
     }
 
-    /// Returns the pattern that matches.
+    /// Returns the token's pattern.
     pub fn pattern(&self) -> PatternID
         ensures { result ≡ self.now.pattern }
     {
         PatternID::new_unchecked(self.pattern)
     }
 
-    /// Returns its span in the haystack.
+    /// Returns the token's span in the haystack.
     pub fn span(&self) -> Span
         ensures start { result.start ≡ self.now.span.start }
         ensures end { result.end ≡ self.now.span.end }
@@ -52,7 +52,7 @@ impl<'h> Token<'h> {
         self.span
     }
 
-    /// Returns the offset where it starts.
+    /// Returns the offset where the token starts.
     pub fn start(&self) -> usize
         ensures start { result ≡ self.now.span.start }
         ensures ordered { self.now.span.start ≤ self.now.span.end }
@@ -60,7 +60,7 @@ impl<'h> Token<'h> {
         self.span.start
     }
 
-    /// Returns the offset where it ends.
+    /// Returns the offset where the token ends.
     pub fn end(&self) -> usize
         ensures end { result ≡ self.now.span.end }
         ensures ordered { self.now.span.start ≤ self.now.span.end }
@@ -68,7 +68,7 @@ impl<'h> Token<'h> {
         self.span.end
     }
 
-    /// Returns its span in the haystack, as a range.
+    /// Returns the token's span in the haystack, as a range.
     pub fn range(&self) -> Range<usize>
         ensures start { result.start ≡ self.now.span.start }
         ensures end { result.end ≡ self.now.span.end }
@@ -76,21 +76,21 @@ impl<'h> Token<'h> {
         self.span.range()
     }
 
-    /// Returns the number of bytes that it matches.
+    /// Returns the token's length in bytes.
     pub fn len(&self) -> usize
         ensures { result ≡ self.now.span.end - self.now.span.start }
     {
         self.span.len()
     }
 
-    /// Whether it matches no byte. An iterator never returns an empty token.
+    /// Whether the token is empty. An iterator never returns an empty token.
     pub fn is_empty(&self) -> bool
         ensures { IsTrue result ↔ (self.now.span.end ≤ self.now.span.start) }
     {
         self.span.is_empty()
     }
 
-    /// Returns the bytes that it matches.
+    /// Returns the bytes of the token.
     pub fn bytes(&self) -> &'h [u8]
         ensures { result.now ≡ self.now.bytes.now }
     {

@@ -49,7 +49,7 @@ impl Cache {
         Ok(Cache { forward, reverse })
     }
 
-    /// Makes this a fresh cache for `regex`, which may be another one than before. An error changes neither part.
+    /// Makes this a fresh cache for `regex`, which may be a different regex than before. An error changes neither part.
     pub fn reset(&mut self, regex: &Regex) -> Result<(), AllocError>
         ensures ok { OnOk result (AreFresh regex.now self.new) }
         ensures err { OnErr result (self.new ≡ self.old) }

@@ -53,7 +53,7 @@ impl Regex {
         Builder::new()
     }
 
-    /// Returns a new cache for searches with this regex, which serves one search after another:
+    /// Returns a new cache for searches with this regex. It serves one search after another:
     ///
     /// ```rust
     /// let regex = Regex::builder().build_from_nfa(word(rt.alloc())?)?;

@@ -43,7 +43,7 @@ impl Regex {
         requires { AreCachesOf cache.old self.now }
         ensures of { AreCachesOf cache.new self.now }
 
-        // What it returns by paths, and by passes, whatever the caches.
+        // What it returns, by the ordered paths and by the passes, whatever the caches.
         ensures returned { IsSpanOf self.now input.now result }
         ensures found { IfOk result (FindsMatch self.now input.now) }
 
@@ -62,7 +62,7 @@ impl Regex {
         requires { AreCachesOf cache.old self.now }
         ensures of { AreCachesOf cache.new self.now }
 
-        // What it returns by paths, and by passes, whatever the caches.
+        // What it returns, by the ordered paths and by the passes, whatever the caches.
         ensures returned { IsSpanOf self.now input.now result }
         ensures found { IfOk result (FindsMatch self.now input.now) }
 
