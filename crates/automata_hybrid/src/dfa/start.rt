@@ -294,7 +294,7 @@ impl DFA {
     /// Returns the start state of a forward search. The look-behind byte is the one before the span. The error for a
     /// quit byte has that byte's offset, and the "gave up" error has the span's start.
     ///
-    /// A search by steps begins with this call; the crate the example `steps` has a complete one:
+    /// A search by steps begins with this call; the example `steps` has a complete one:
     ///
     /// ```rust
     /// let Ok(mut id) = dfa.start_state_forward(cache, input) else {
