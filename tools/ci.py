@@ -27,7 +27,7 @@ KNOWN_KIT = "logic dac8208d650f15bf"
 # The functions of its script that are replaced or called, and their parameters.
 TAKES = {"in_lanes": ["tasks"], "processors": [], "free": [], "main": ["words"]}
 # The peak memory of a check, in GB: of a crate, or of its tests; and how much each further job adds to it.
-PEAKS = {"automata_base": 4.0, "automata_hybrid": 4.0, "lazydfa": 6.5}
+PEAKS = {"automata_base": 4.0, "automata_hybrid": 4.0, "examples": 5.0, "lazydfa": 6.5}
 ANY_OTHER = 2.5
 FURTHER_JOB = 0.3
 MOST_JOBS = 4

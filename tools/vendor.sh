@@ -2,8 +2,8 @@
 # Copies the library into a repository of your own, and begins a program there:
 #     tools/vendor.sh [--proved] FOLDER [PROGRAM]
 # FOLDER gets the library's crates and their lines of crates.txt, in place of those with the same names that it has:
-# called again from a later state of this repository, it copies that state. PROGRAM is a copy of example_words, unless
-# FOLDER has such a crate already.
+# called again from a later state of this repository, it copies that state. PROGRAM is a copy of the example words,
+# unless FOLDER has such a crate already.
 #
 # With --proved it also copies what `rt lib`, `rt check` or `rt run` proved of the library here (some 3 GB), so that
 # your first check proves your program alone. rt accepts these if they belong to the same kit and the same sources, and
@@ -37,6 +37,7 @@ for crate in automata_base automata_config automata_hybrid regex_automata match_
 done
 [ -e .gitignore ] || echo out/ > .gitignore
 [ "$#" -ge 2 ] && [ ! -e "crates/$2" ] || exit 0
-mkdir "crates/$2"
-cp -R "$top/crates/example_words/src" "$top/crates/example_words/stdout" "crates/$2/"
-sed -n "s/^example_words:/$2:/p" "$top/crates.txt" >> crates.txt
+mkdir "crates/$2" "crates/$2/src"
+cp "$top/crates/examples/src/words.rt" "crates/$2/src/main.rt"
+cp "$top/crates/examples/stdout" "crates/$2/"
+echo "$2: patterns regex_automata anyhow" >> crates.txt

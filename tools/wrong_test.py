@@ -17,17 +17,17 @@ import subprocess
 import sys
 import tempfile
 
-TOOLS = [f"{os.path.dirname(os.path.abspath(__file__))}/{it}.py" for it in ("ci", "libraries", "verdicts", "wrong")]
+TOOLS = [f"{os.path.dirname(os.path.abspath(__file__))}/{it}.py" for it in ("ci", "edits", "libraries", "verdicts", "wrong")]
 # Prints the name of each edit, whether it is tried at this commit although it is recorded, and its key.
 KEYS = """
-import wrong, verdicts
+import wrong
 uses = wrong.crates_used()
-document = wrong.Document(uses)
-for name in uses:
-    crate = wrong.Crate(name, uses, "wrong", set())
-    crate.look_up(document, False)
+crates = [wrong.Crate(name, uses, "wrong") for name in uses]
+drawn = wrong.drawn(crates)
+for crate in crates:
+    wrong.look_up(crate, set())
     for it in crate.edits:
-        print(f"{name}/{it.name}", verdicts.is_drawn(name, it.name), it.key)
+        print(f"{crate.name}/{it.name}", (crate.name, it.name) in drawn, it.key)
 """
 
 FILES = {
@@ -195,15 +195,18 @@ use Rattle.low.proofs.loose.Goals as goal
 pub returns : goal.returns
 returns c = omega arith
 """,
-    "crates/low/must-fail/half_is_twice.edit": "file: src/lib.rt\nold:     x / 2\nnew:     x * 2\n",
-    "docs/WRONG_BODIES.md": """# Wrong bodies
+    "crates/low/must-fail/half_is_twice.edit": "what: doubles\nfile: src/lib.rt\nold:     x / 2\nnew:     x * 2\n",
+    "docs/index/WRONG_BODIES.md": """# Wrong bodies
 
-| Wrong body | What it does | What refuses it | Refused at |
+### `low`
+
+| Mutation | What it does | What it breaks | Refused at |
 |---|---|---|---|
-| `clamp_a_is_nineteen` (low) | returns 19 | at most 9 | `least` of `clamp` |
-| `raise_by_one` (low) | adds one | the sum | |
-| `half_is_twice` (low) | doubles | the half | |
-| `is_no_edit` (low) | nothing | nothing | `it` |
+| `clamp_a_is_nineteen` | does something | something | `least` of `clamp` |
+| `half_a_is_all` | does something | something | `ensures` of `half` |
+| `is_no_edit` | nothing | nothing | `it` |
+
+## More
 """,
 }
 
@@ -237,8 +240,8 @@ LOW = "crates/low"
 CHANGES = [
     ("the body of another function", f"{LOW}/src/lib.rt", "    x / 2", "    x / 2 + 0",
      {"half_a_is_all", "half_b_is_a_third", "most_is_eight"}),
-    ("a comment in a body", f"{LOW}/src/lib.rt", "    two + two", "    // both\n    two + two",
-     {"four_times_and_one", "most_is_eight"}),
+    ("a comment in a body", f"{LOW}/src/lib.rt", "    two + two", "    // both\n    two + two", set()),
+    ("a comment of a definition", f"{LOW}/specs/Small.antt", "-- nine", "-- 9", set()),
     ("a contract of a callee", f"{LOW}/src/lib.rt", "ensures { result ≡ 9 }", "ensures { result ≤ 9 }", ALL),
     ("a constant", f"{LOW}/src/most.rt", "MOST: u8 = 9", "MOST: u8 = 4 + 5", ALL),
     ("a macro", f"{LOW}/src/lib.rt", "$x <= 9", "$x < 10", ALL),
@@ -256,17 +259,21 @@ CHANGES = [
     ("the proof of another function", f"{LOW}/proofs/loose/Answers.antt", "omega arith", "omega (arith)",
      {"loose_is_half", "most_is_eight"}),
     ("an edit", f"{LOW}/wrong/widen_by_two.edit", "raise(2)", "raise(3)", {"widen_by_two"}),
-    ("a cell", "docs/WRONG_BODIES.md", "| at most 9 | ", "| at most 9 | not ", {"clamp_a_is_nineteen"}),
-    ("the script", "tools/wrong.py", "import argparse", "import argparse  # new", ALL),
+    ("a row of the document", "docs/index/WRONG_BODIES.md", "| `is_no_edit`", "| `is_none`", set()),
+    ("what an edit's file says of it", f"{LOW}/wrong/widen_by_two.edit", "what: does", "what: did", set()),
+    ("the script", "tools/edits.py", "import os", "import os  # new", ALL),
 ]
+ROW = "does something | something |"
 FAULTS = [
-    "low/clamp_a_is_nineteen: `least` of `clamp`, and not: `most`, `same` of `clamp`",
-    "low/raise_by_one: nothing, and not: `second` of `Pair::raise`",
-    "low/widen_by_two: 0 rows, and not one, with `raise-requires` of `Pair::widen`",
-    "low/limit_is_a_sum: 0 rows, and not one",
-    "low/half_is_twice: nothing, and not: `rt ci`",
+    f"low/clamp_a_is_nineteen: its row is not: | `clamp_a_is_nineteen` | {ROW} `most`, `same` of `clamp` |",
+    f"low/widen_by_two: it has no row: | `widen_by_two` | {ROW} `raise-requires` of `Pair::widen` |",
+    f"low/limit_is_a_sum: it has no row: | `limit_is_a_sum` | {ROW}  |",
+    "low/half_is_twice: it does not say what it breaks",
+    "low/half_is_twice: it has no row: | `half_is_twice` | doubles |  | `rt ci` |",
     "low/is_no_edit: a row, and no edit",
 ]
+# What an edit's file says of it.
+SAID = "what: does something\nbreaks: something\n"
 
 
 def write(room):
@@ -279,9 +286,9 @@ def write(room):
         os.mkdir(f"{room}/crates/{crate}/wrong")
     for name, file, old, new, _ in EDITS:
         with open(f"{room}/crates/low/wrong/{name}.edit", "w", encoding="utf-8") as it:
-            it.write(f"file: src/{file}.rt\nold: {old}\nnew: {new}\n")
+            it.write(f"{SAID}file: src/{file}.rt\nold: {old}\nnew: {new}\n")
     with open(f"{room}/crates/top/wrong/zero_is_one.edit", "w", encoding="utf-8") as it:
-        it.write("file: src/lib.rt\nold:     0\nnew:     1\n")
+        it.write(f"{SAID}file: src/lib.rt\nold:     0\nnew:     1\n")
     os.mkdir(f"{room}/tools")
     for tool in TOOLS:
         shutil.copy(tool, f"{room}/tools")
@@ -314,9 +321,9 @@ class Tests:
             said = next((it for it in lines if it.startswith(f"{name}: ")), "")
             self.want(name, said.startswith(f"{name}: {verdict}"), said)
         for fault in FAULTS:
-            self.want(fault, f"docs/WRONG_BODIES.md: {fault}" in lines, lines)
+            self.want(fault, f"docs/index/WRONG_BODIES.md: {fault}" in lines, lines)
         refused = sum(verdict.startswith("REFUSED") for _, _, _, _, verdict in EDITS)
-        faults = sum(it.startswith("docs/WRONG_BODIES.md: ") for it in lines)
+        faults = sum(it.startswith("docs/index/WRONG_BODIES.md: ") for it in lines)
         sums = f"{5 + refused} passed, {2 + len(EDITS) + 1 - refused + faults} failed"
         self.want("the sum", status == 1 and lines[-1:] == [sums], [status, sums, *lines[-1:]])
         self.want("the checks are few", checks <= 8, checks)
@@ -324,9 +331,11 @@ class Tests:
     def try_recorded(self):
         """Tests that an edit that made a proof fail is recorded, and not tried again, except for a tenth of all."""
         named = ["low/clamp_a_is_nineteen", "low/raise_by_one"]
+        with open(f"{self.room}/{LOW}/must-fail/half_is_twice.edit", "a", encoding="utf-8") as it:
+            it.write("breaks: the half\n")
         first, again = self.run("--write", *named), self.run("5 passed, 0 failed", *named)
         drawn = [it for it in named if self.keys()[it][0] == "True"]
-        self.want("--write fills the cells in", not first[0], first)
+        self.want("--write writes the rows", not first[0], first)
         said = [f"{it}: RECORDED as refused" for it in named if it not in drawn]
         self.want("what is recorded counts", all(it in again[1] for it in said), again)
         self.want("nothing else is tried", bool(again[2]) == bool(drawn), again)

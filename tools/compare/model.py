@@ -1,4 +1,4 @@
-"""What searches of an NFA return, by the paths of docs/DEFINITIONS.md: slow, and only for short haystacks.
+"""What searches of an NFA return, by the paths of docs/READING.md: slow, and only for short haystacks.
 
 It follows one path after another, each over the whole haystack, and has no state sets, tables or caches. What searches
 of the reversed NFA return is derived from the forward NFA, since both accept the same parts of a haystack by the same

@@ -292,7 +292,7 @@ impl DFA {
     /// The start state of a forward search. The look-behind byte is the one before the span. The error of a quit byte
     /// has that byte's offset, and the "gave up" error the span's start.
     ///
-    /// A search by steps begins with it; `example_steps` has one in full:
+    /// A search by steps begins with it; the example `steps` has one in full:
     ///
     /// ```rust
     /// let Ok(mut id) = dfa.start_state_forward(cache, input) else {
