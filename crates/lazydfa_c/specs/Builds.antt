@@ -1,4 +1,4 @@
--- Contracts of the calls that open a handle on a regex or on a cache, and the reasons for which they fail.
+-- Contracts of the calls that open a handle on a regex or on a cache, and why they fail.
 use Rattle.std.specs.Prelude.{◌≡◌, Bool, false, true, length, replicate, Some, IsSomeAnd, Result, Ok, Err, ℕ, zero}
 use Rattle.std.specs.Prelude.{suc, ◌==◌, ◌&&◌, not, List, [], ◌∷◌, Option, None, IsTrue, IsFalse, if◌then◌else◌}
 use Rattle.std.specs.Prelude.{slice_set}
@@ -154,7 +154,7 @@ pub record HoldsRegex (Makes : Regex → Type 0) (new : Handle) : Type 0 where
   -- the handle is open on it
   pub opened : IsRegexIn regex new
 
--- the reason for which no handle is opened on a regex
+-- why no handle is opened on a regex
 pub data IsNotOpened (Refuses : Status → Type 0) (e : Status) : Type 0 where
   -- the library's call returned this error
   RefusesRegex : Refuses e → IsNotOpened Refuses e
@@ -270,7 +270,7 @@ reversed r = record { forward = r.reverse; reverse = r.forward }
 abbrev pub HasTwoCounts : Regex → Type 0
 HasTwoCounts r = length r.forward.nfa.start_pattern ≡ length r.reverse.nfa.start_pattern → ⊥
 
--- the reason for which a regex is not reversed
+-- why a regex is not reversed
 pub data IsNotReversed (r : Regex) (status : Status) : Type 0 where
   -- an allocation failed
   HasNoMemory : status ≡ plain code.Memory → IsNotReversed r status

@@ -71,7 +71,7 @@ OfObject Does (RegexObject r) new status = (new ≡ RegexObject r) × (status �
 pub record OnHandle {R : Type 0}
     (Does : Object → Object → R → Type 0) (is_closed : R) (old new : Handle) (result : R)
     : Type 0 where
-  -- a handle that was open is open again, and its object was changed so
+  -- a handle that was open is open again, and this was done to its object
   pub opened :
       (o : Object) → old.live ≡ 1 → old.slot.value ≡ Some o
       → (new.live ≡ 1) × IsSomeAnd new.slot.value (λ p. Does o p result)
@@ -82,13 +82,13 @@ pub record OnHandle {R : Type 0}
 abbrev pub OfHandle : (Does : Searcher → Searcher → Status → Type 0) → (old new : Handle) → Status → Type 0
 OfHandle Does old new status = OnHandle (OfObject Does) (plain code.Closed) old new status
 
--- this is unchanged if the object is not a cache
+-- what stays unchanged if the object is not a cache
 abbrev pub KeepsUnlessCache : (Stays : Type 0) → Object → Type 0
 KeepsUnlessCache Stays (CacheObject s) = Unit {0}
 KeepsUnlessCache Stays (Builder b) = Stays
 KeepsUnlessCache Stays (RegexObject r) = Stays
 
--- this is unchanged if the handle is not open on a cache
+-- what stays unchanged if the handle is not open on a cache
 pub record KeepsUnlessOpen (Stays : Type 0) (handle : Handle) : Type 0 where
   -- it is unchanged if the handle is open on another object
   pub opened :

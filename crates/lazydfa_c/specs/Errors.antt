@@ -35,7 +35,7 @@ told_builder (builder.NFA nfa.Ranges) = builder.NFA nfa.Ranges
 told_builder (builder.NFA nfa.TooLarge) = builder.TooLarge
 told_builder (builder.NFA nfa.OutOfMemory) = builder.OutOfMemory
 
--- what is reported of why a DFA was not built: neither the given capacity nor the two NFAs' numbers of patterns
+-- what is reported of an error of building a DFA: neither the given capacity nor the two NFAs' numbers of patterns
 abbrev pub told_build : BuildError → BuildError
 told_build dfa.Unsupported = dfa.Unsupported
 told_build (dfa.InsufficientCacheCapacity minimum given) = dfa.InsufficientCacheCapacity minimum 0
@@ -43,7 +43,7 @@ told_build (dfa.InsufficientStateIDCapacity attempted) = dfa.InsufficientStateID
 told_build dfa.OutOfMemory = dfa.OutOfMemory
 told_build (dfa.PatternCounts forward reverse) = dfa.PatternCounts 0 0
 
--- what is reported of why a regex was not built: out of memory is reported alike wherever it arises
+-- what is reported of an error of building a regex: out of memory is reported alike wherever it arises
 abbrev pub told_regex : RegexBuildError → RegexBuildError
 told_regex regex.NotLazy = regex.NotLazy
 told_regex regex.NotUtf8 = regex.NotUtf8
@@ -58,7 +58,7 @@ told_regex (regex.Build (dfa.InsufficientStateIDCapacity attempted)) =
 told_regex (regex.Build dfa.OutOfMemory) = regex.OutOfMemory
 told_regex (regex.Build (dfa.PatternCounts forward reverse)) = regex.Build (dfa.PatternCounts 0 0)
 
--- what is reported of why a search failed: not the unsupported anchored mode, which the caller gave
+-- what is reported of an error of a search: not the unsupported anchored mode, which the caller gave
 abbrev pub told_search : SearchError → SearchError
 told_search (Match (Quit byte offset)) = Match (Quit byte offset)
 told_search (Match (GaveUp offset)) = Match (GaveUp offset)
@@ -66,7 +66,8 @@ told_search (Match (UnsupportedAnchored mode)) = Match (UnsupportedAnchored No)
 told_search OutOfMemory = OutOfMemory
 told_search NotAPair = NotAPair
 
--- what is reported of why a search in pieces does not begin: not the unsupported anchored mode, which the caller gave
+-- what is reported of an error of beginning a search in pieces: not the unsupported anchored mode, which the caller
+-- gave
 abbrev pub told_begin : BeginError → BeginError
 told_begin begin.Skips = begin.Skips
 told_begin (begin.Start (start.Cache err)) = begin.Start (start.Cache err)
@@ -74,7 +75,7 @@ told_begin (begin.Start (start.Quit byte)) = begin.Start (start.Quit byte)
 told_begin (begin.Start (start.UnsupportedAnchored mode)) = begin.Start (start.UnsupportedAnchored No)
 told_begin (begin.Start start.OutOfMemory) = begin.Start start.OutOfMemory
 
--- what is reported of why there is no next token
+-- what is reported of an error in place of a token: not the unsupported anchored mode
 abbrev pub told_token : TokenError → TokenError
 told_token (NoToken offset) = NoToken offset
 told_token (Search (Match (Quit byte offset))) = Search (Match (Quit byte offset))

@@ -53,7 +53,7 @@ input_in haystack r (Some mode) =
 abbrev pub input_of : List ℕ → Request → Option Input
 input_of haystack r = input_in haystack r (mode_of r.anchored r.pattern)
 
--- the match of a match as C lays it out
+-- the library's match, from a match as C lays it out
 abbrev pub match_of_found : Found → Match
 match_of_found f = record { pattern = f.pattern; start = f.start; end = f.end }
 

@@ -35,7 +35,7 @@ abbrev pub done_status : Result (Unit {0}) Status → Status
 done_status (Ok u) = plain code.Done
 done_status (Err status) = status
 
--- the code of the reason why states are not a valid NFA
+-- the code of an error in the states of an NFA
 abbrev pub nfa_code : NfaError → Code
 nfa_code nfa.StateRange = code.StateRange
 nfa_code nfa.StartRange = code.StartRange
@@ -58,7 +58,8 @@ builder_code (builder.NFA e) = nfa_code e
 abbrev pub builder_status : BuilderError → Status
 builder_status e = plain (builder_code e)
 
--- the status of why a DFA was not built; if the capacity is too small, the offset is the minimum that the error names
+-- the status of an error of building a DFA; if the capacity is too small, the offset is the minimum that the error
+-- names
 abbrev pub build_status : BuildError → Status
 build_status dfa.Unsupported = plain code.Unsupported
 build_status (dfa.InsufficientCacheCapacity minimum given) = status_at code.Capacity minimum
@@ -66,7 +67,7 @@ build_status (dfa.InsufficientStateIDCapacity attempted) = status_at code.StateI
 build_status dfa.OutOfMemory = plain code.Memory
 build_status (dfa.PatternCounts forward reverse) = plain code.PatternCounts
 
--- the status of why a regex was not built
+-- the status of an error of building a regex
 abbrev pub regex_status : RegexBuildError → Status
 regex_status regex.NotLazy = plain code.NotLazy
 regex_status regex.NotUtf8 = plain code.NotUtf8
@@ -75,7 +76,7 @@ regex_status regex.TooLarge = plain code.TooLarge
 regex_status regex.OutOfMemory = plain code.Memory
 regex_status (regex.Build e) = build_status e
 
--- the status of why a search failed
+-- the status of an error of a search
 abbrev pub search_status : SearchError → Status
 search_status (Match (Quit byte offset)) = record { code = number_of code.Quit; byte = byte; offset = offset }
 search_status (Match (GaveUp offset)) = status_at code.GaveUp offset
@@ -83,7 +84,7 @@ search_status (Match (UnsupportedAnchored mode)) = plain code.Anchored
 search_status OutOfMemory = plain code.Memory
 search_status NotAPair = plain code.NotAPair
 
--- the status of why there is no start state for the first piece; its offset is 0, since the byte before the piece has
+-- the status of an error of the start state for the first piece; its offset is 0, since the byte before the piece has
 -- none
 abbrev pub start_status : StartError → Status
 start_status (start.Cache err) = status_at code.GaveUp 0
@@ -91,12 +92,12 @@ start_status (start.Quit byte) = record { code = number_of code.Quit; byte = byt
 start_status (start.UnsupportedAnchored mode) = plain code.Anchored
 start_status start.OutOfMemory = plain code.Memory
 
--- the status of why a search in pieces does not begin
+-- the status of an error of beginning a search in pieces
 abbrev pub begin_status : BeginError → Status
 begin_status begin.Skips = plain code.Skips
 begin_status (begin.Start e) = start_status e
 
--- the status of why there is no next token
+-- the status of an error in place of a token
 abbrev pub token_status : TokenError → Status
 token_status (NoToken offset) = status_at code.NoToken offset
 token_status (Search e) = search_status e

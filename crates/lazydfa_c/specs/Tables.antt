@@ -26,7 +26,7 @@ range_count (is.Match pattern) = 0
 abbrev pub state_size : State → ℕ
 state_size state = 16 + 8 * range_count state
 
--- the sum over all states, or the largest 64-bit number if the sum exceeds it
+-- the sum of the sizes of all states, or the largest 64-bit number if the sum exceeds it
 abbrev pub table_size : List State → ℕ
 table_size states = min (sum_by state_size states) (2 ^ 64 - 1)
 

@@ -71,7 +71,7 @@ abbrev pub IsRegexFor : (forward_only : ℕ) → Options → Automaton → Regex
 IsRegexFor zero o nfa regex = IsBuiltRegex o nfa regex
 IsRegexFor (suc n) o nfa regex = IsForwardOnly o nfa regex
 
--- the handle is opened on such a regex, or is unchanged, and the status says that the call failed
+-- the handle is opened on a regex of this kind, or is unchanged, and the status says that the call failed
 abbrev pub OpensNfa : (Makes : Regex → Type 0) → (old new : Handle) → Result (Unit {0}) Status → Type 0
 OpensNfa Makes old new (Ok u) = HoldsRegex Makes new
 OpensNfa Makes old new (Err e) = (new ≡ old) × IsFailure e
