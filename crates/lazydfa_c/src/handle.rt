@@ -68,7 +68,7 @@ impl Slot {
     }
 }
 
-/// What C holds: a pointer, and whether the handle is open. C initializes both to zero, and changes neither.
+/// What C holds: a pointer, and whether the handle is open. C initially sets both to zero, and never changes them.
 #[repr(C)]
 pub struct Handle {
     slot: Slot,

@@ -86,8 +86,8 @@ impl Searcher {
         }
     }
 
-    /// Writes the next matches of an iteration, as many as there is room for, and counts them. If it stops early, the
-    /// status is that of the search that reported no match or failed.
+    /// Writes the next matches of an iteration, as many as there is room for, and counts them. The status is
+    /// `Code::Done` if there was no room for more, and otherwise says why the iteration stopped.
     fn next_all(
         &mut self,
         haystack: &[u8],

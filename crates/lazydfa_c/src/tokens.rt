@@ -60,8 +60,8 @@ impl Searcher {
         }
     }
 
-    /// Writes the next tokens of the remaining span, as many as there is room for, and counts them. If it stops early,
-    /// the status is that of the search that found no token or failed.
+    /// Writes the next tokens of the remaining span, as many as there is room for, and counts them. The status is
+    /// `Code::Done` if there was no room for more, and otherwise says why no further token was written.
     fn next_tokens(
         &mut self,
         haystack: &[u8],
