@@ -30,7 +30,7 @@
         CHECK(status_.code == (error) && status_.byte == (what) && status_.offset == (at));        \
     } while (0)
 
-/* Opens a cache of a pattern's text. Its haystacks are bytes, so empty matches are not skipped. */
+/* Opens a cache of a pattern's text, with the option `bytes`, so that empty matches are not skipped. */
 static void open_text(lazydfa_cache *cache, const char *pattern, const lazydfa_settings *settings, const char *quits) {
     lazydfa_regex regex = LAZYDFA_INIT;
     lazydfa_text_options options;

@@ -56,7 +56,7 @@ static uint32_t listed(lazydfa_cache *cache, size_t count) {
 
 static int lists(lazydfa_cache *cache, size_t count, uint32_t which) { return listed(cache, count) == which; }
 
-/* Opens a cache of patterns' texts. Its haystacks are bytes, so empty matches are not skipped, and all matches are
+/* Opens a cache of patterns' texts, with the option `bytes`, so that empty matches are not skipped. All matches are
    reported. */
 static void open_texts(lazydfa_cache *cache, const char *const *patterns, lazydfa_settings settings,
                        const char *quits) {

@@ -490,7 +490,7 @@ pub fn find(cache: &mut Handle, haystack: &[u8], input: &Input, found: &mut Matc
     unsafe { lazydfa_raw_find(cache, haystack.as_ptr(), haystack.len(), input, found) }
 }
 
-/// Searches for whether there is a match.
+/// Tests whether there is a match.
 pub fn is_match(cache: &mut Handle, haystack: &[u8], input: &Input) -> Status {
     // SAFETY: The pointer and the length are those of one slice.
     unsafe { lazydfa_raw_is_match(cache, haystack.as_ptr(), haystack.len(), input) }

@@ -30,7 +30,7 @@ pub struct Facts {
 }
 
 impl Facts {
-    /// No facts, which is what a call reports after an error.
+    /// Returns no facts, as a call reports after an error.
     fn none() -> Facts
         ensures { result ≡ no_facts }
     {
@@ -61,8 +61,8 @@ impl Facts {
     }
 }
 
-/// The settings with which a pattern is parsed for its facts, which do not depend on whether a Unicode word boundary is
-/// allowed.
+/// Returns the settings with which a pattern is parsed for its facts, which do not depend on whether a Unicode word
+/// boundary is allowed.
 fn default_settings() -> Settings
     ensures { result ≡ default_settings }
 {

@@ -1,4 +1,4 @@
-//! Searches over a cache: for the first match, for whether there is one, and for either end of it.
+//! Searches over a cache: the first match, whether there is one, and its two ends.
 ghost use Rattle.lazydfa_c.specs.Calls.{ReportsMatch, FindsEnd, FindsStartBack, OfHandle, OfInput, OfObject, Tests};
 ghost use Rattle.lazydfa_c.specs.Calls.{WritesIfDone};
 ghost use Rattle.lazydfa_c.specs.Requests.{input_of};
@@ -28,8 +28,8 @@ impl Searcher {
         }
     }
 
-    /// Searches for whether there is a match. The status is `Code::Done` if there is one, and `Code::Nothing` if there
-    /// is none.
+    /// Tests whether there is a match. The status is `Code::Done` if there is one, and `Code::Nothing` if there is
+    /// none.
     fn is_match(&mut self, input: &Input<'_>) -> Status
         ensures { Tests input.now self.old self.new result }
     {
@@ -94,8 +94,8 @@ fn find_in(object: &mut Object, haystack: &[u8], request: &Request, found: &mut 
     }
 }
 
-/// Searches for whether a request has a match, over a cache. The status is `Code::Kind` if the object is not a cache,
-/// and `Code::Argument` if the request is not a valid input for the haystack.
+/// Tests whether a request has a match, over a cache. The status is `Code::Kind` if the object is not a cache, and
+/// `Code::Argument` if the request is not a valid input for the haystack.
 fn is_match_in(object: &mut Object, haystack: &[u8], request: &Request) -> Status
     ensures { OfObject (OfInput Tests (input_of haystack.now request.now)) object.old object.new result }
 {
@@ -171,7 +171,7 @@ pub extern "C" fn lazydfa_raw_find(
     status
 }
 
-/// Searches for whether a request has a match, over a handle's cache.
+/// Tests whether a request has a match, over a handle's cache.
 #[unsafe(no_mangle)]
 pub extern "C" fn lazydfa_raw_is_match(
     alloc: Global,

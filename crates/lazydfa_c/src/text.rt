@@ -41,7 +41,7 @@ pub struct TextOptions {
     pub swap_greed: u32,
     pub ignore_whitespace: u32,
     pub octal: u32,
-    /// Whether the haystack may be any bytes. Otherwise it is UTF-8, and no match splits a character.
+    /// Whether matches may be any bytes. Otherwise they are UTF-8, and no match splits a character.
     pub bytes: u32,
     /// Whether the regex is built without the part that finds the starts of matches.
     pub forward_only: u32,
@@ -142,8 +142,8 @@ pub(crate) fn status_of(error: &PatternError) -> Status
 }
 
 /// Splits concatenated texts by their lengths in bytes. It fails with `Code::Argument` if the lengths do not add up to
-/// the length of the whole, and with `Code::NotText` and an offset in the text if a text is not UTF-8, whose number is
-/// then written.
+/// the length of the whole, and with `Code::NotText` and an offset in the text if a text is not UTF-8; the text's
+/// number is then written.
 fn cut<'t>(
     alloc: Global,
     texts: &'t [u8],
@@ -190,7 +190,7 @@ fn write_message(message: &str, out: &mut [u8]) {
     out[at] = 0;
 }
 
-/// Writes the error in a pattern.
+/// Writes which pattern has an error, what the error is about, and the message.
 fn tell(
     alloc: Global,
     error: &PatternError,
@@ -339,7 +339,7 @@ fn build_texts(
     )
 }
 
-/// Opens a handle on the regex of the concatenated texts of patterns. If a pattern has an error, it is written.
+/// Opens a handle on the regex of the concatenated texts of patterns. If one has an error, the error is written.
 #[unsafe(no_mangle)]
 pub extern "C" fn lazydfa_raw_regex_any_of(
     alloc: Global,

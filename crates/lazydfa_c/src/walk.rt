@@ -40,7 +40,7 @@ impl Stop {
         }
     }
 
-    /// Returns the status for whether patterns match there.
+    /// Returns the status: `Code::Done` if patterns match there, and `Code::Nothing` if none do.
     pub fn status(&self) -> Status
         ensures { result ≡ stop_status self.now.patterns }
     {

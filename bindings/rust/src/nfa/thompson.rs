@@ -27,9 +27,9 @@ impl Config {
         self
     }
 
-    /// Sets whether haystacks are text, so that no match splits a character. By default they are. The library
-    /// has one setting for this and for [`syntax::Config::utf8`](crate::util::syntax::Config::utf8):
-    /// haystacks are bytes if either of the two is off.
+    /// Sets whether matches are UTF-8, so that none splits a character. By default they are. The library has
+    /// one setting for this and for [`syntax::Config::utf8`](crate::util::syntax::Config::utf8): matches may
+    /// be any bytes if either of the two is off.
     pub fn utf8(mut self, yes: bool) -> Config {
         self.bytes = !yes;
         self

@@ -74,9 +74,9 @@ impl Config {
         self
     }
 
-    /// Sets whether haystacks are text, so that no match splits a character. By default they are. Otherwise
-    /// they are bytes, and a pattern may match what is not UTF-8. The library has one setting for this and
-    /// for [`thompson::Config::utf8`](crate::nfa::thompson::Config::utf8).
+    /// Sets whether matches are UTF-8, so that none splits a character. By default they are. Otherwise a
+    /// pattern may match bytes that are not UTF-8. The library has one setting for this and for
+    /// [`thompson::Config::utf8`](crate::nfa::thompson::Config::utf8).
     pub fn utf8(mut self, yes: bool) -> Config {
         self.options.bytes = (!yes).into();
         self

@@ -6,7 +6,7 @@ use std::error::Error;
 
 pub type Tested = Result<(), Box<dyn Error>>;
 
-/// Returns the DFA of patterns whose haystacks are bytes, so that empty matches are not skipped.
+/// Returns the DFA of patterns whose matches may be any bytes, so that empty matches are not skipped.
 pub fn bytes_dfa(patterns: &[&str], config: Config) -> Result<DFA, BuildError> {
     let syntax = syntax::Config::new().unicode(false).utf8(false);
     DFA::builder().syntax(syntax).configure(config).build_many(patterns)
