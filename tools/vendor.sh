@@ -1,13 +1,13 @@
 #!/bin/sh
 # Copies the library into a repository of your own, and begins a program there:
 #     tools/vendor.sh [--proved] FOLDER [PROGRAM]
-# FOLDER gets the library's crates and their lines of crates.txt, in place of those that it has by these names: called
-# again from a later state of this repository, it brings that. PROGRAM is a copy of the example words, if FOLDER has no
-# such crate.
+# FOLDER gets the library's crates and their lines of crates.txt, in place of those with the same names that it has:
+# called again from a later state of this repository, it copies that state. PROGRAM is a copy of the example words,
+# unless FOLDER has such a crate already.
 #
-# With --proved it copies along what `rt lib`, `rt check` or `rt run` proved of the library here (some 3 GB), so that your
-# first check proves your program alone. rt takes these if they are of the same kit and the same sources, and proves the
-# library itself if not.
+# With --proved it also copies what `rt lib`, `rt check` or `rt run` proved of the library here (some 3 GB), so that
+# your first check proves your program alone. rt accepts these if they belong to the same kit and the same sources, and
+# otherwise proves the library itself.
 set -eu
 proved=
 [ "${1-}" != --proved ] || { proved=yes; shift; }

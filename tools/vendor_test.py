@@ -1,15 +1,15 @@
 #!/usr/bin/env python3
-"""Tests tools/vendor.sh and the head of docs/CALLING.md, in an empty folder:
+"""Tests tools/vendor.sh and the beginning of docs/CALLING.md, in an empty folder:
 
     tools/vendor_test.py ['N passed, M failed']
 
-The commands of that page, with the folder in place of the one that they name, have to print what the example `words`
-prints. A second call of the script has to bring back a file of the library that was changed, and to leave the program
-alone. Then the crates of the library there have to be those that are here, byte for byte, and the program is proved
-over the libraries that `rt ci` or `rt lib` left here: so the library is not proved a second time. `--proved` has to copy
-what was proved of each library, and to name one that was not.
+The commands of that page, run with this folder in place of the one that they name, have to print what the example
+`words` prints. A second call of the script has to restore a file of the library that was changed, and must not touch
+the program. Then the library's crates there have to be equal to those here, byte for byte, and the program is proved
+over the libraries that `rt ci` or `rt lib` left here, so the library is not proved a second time. `--proved` has to
+copy what was proved of each library, and to name a library that was not proved.
 
-The last line counts these too, beside what the given line counts. It needs Python 3 and the kit's rt.
+The last line counts these tests, added to those that the given line counts. It needs Python 3 and the kit's rt.
 """
 import os
 import re
@@ -24,7 +24,7 @@ from libraries import KIT, PARTS, TOP, below, crates_used, processors, words_ove
 MODEL, PRINTED = f"{TOP}/crates/examples/src/words.rt", f"{TOP}/crates/examples/stdout"
 USES = ["patterns", "regex_automata", "anyhow"]
 PAGE = "docs/CALLING.md"
-# The heading of the page, its first lines of code, and the folder that these name.
+# The heading of the page, the first lines of its code, and the folder that these name.
 HEAD = re.compile(r"^## A repository of your own\n(?:.*\n)*?\n((?:    .*\n)+)", re.M)
 FOLDER = "../my_repo"
 
@@ -41,7 +41,7 @@ def run(words, folder):
 
 
 def try_page(folder):
-    """Returns what is wrong with the page's commands, and what they call the program."""
+    """Returns what is wrong with the page's commands, and the name that they give the program."""
     found = HEAD.search(read(f"{TOP}/{PAGE}"))
     program = found and re.search(rf"tools/vendor\.sh {re.escape(FOLDER)} (\w+)$", found[1], re.M)
     if not program:
@@ -52,7 +52,8 @@ def try_page(folder):
 
 
 def try_again(folder, program):
-    """Returns what is wrong after a second call: of a file of the library, a program's and crates.txt."""
+    """Returns what is wrong after a second call: with a file of the library, with the program's file, and with
+    crates.txt."""
     changed, kept = f"{folder}/crates/patterns/src/lib.rt", f"{folder}/crates/{program}/src/main.rt"
     listed = f"{folder}/crates.txt"
     before = read(changed), read(listed)
@@ -76,7 +77,7 @@ def library():
 
 
 def contents(folder):
-    """Returns what each file below a crate's parts is, by its path from there."""
+    """Returns the contents of each file below a crate's parts, by its path from there."""
     found = {}
     for part in PARTS:
         for at, _, names in os.walk(f"{folder}/{part}"):
@@ -87,7 +88,7 @@ def contents(folder):
 
 
 def try_copies(folder, program):
-    """Returns which crates of the new repository are not those that are here, the program that of the example."""
+    """Returns which crates of the new repository differ from those here, or the program from the example."""
     names = library()
     differ = [it for it in names if contents(f"{TOP}/crates/{it}") != contents(f"{folder}/crates/{it}")]
     differ += [program] if contents(f"{folder}/crates/{program}") != {"src/main.rt": read(MODEL).encode()} else []
@@ -99,7 +100,7 @@ def try_copies(folder, program):
 
 
 def try_proved(room):
-    """Returns what is wrong with a copy of what was proved, from a repository of a few files."""
+    """Returns what is wrong with a copy of what was proved, made from a repository of a few files."""
     here, there = f"{room}/here", f"{room}/there"
     names = library()
     for name in names:
