@@ -25,7 +25,7 @@ path_forget n t i seen more q (e ∷ p) j z (StaysHere r hops new on) =
     StaysHere r hops (λ k. new (in_left r (q ∷ seen) more k)) (path_forget n t i (q ∷ seen) more r p j z on)
 path_forget n t i seen more q (e ∷ p) j z (ReadsByte r edge moves on) = ReadsByte r edge moves on
 
--- A path may also avoid a state that it cannot reach.
+-- A path also avoids each state that its start does not reach.
 pub path_past :
     (n : Nfa) (t : Tape) (i : ℕ) (seen : List ℕ) (u q : ℕ) (p : List ℕ) (j z : ℕ)
     → (Reaches n q u → ⊥) → IsPathFrom n t i seen q p j z → IsPathFrom n t i (seen ++ (u ∷ [])) q p j z

@@ -1,4 +1,4 @@
--- Answers are unique: a search has at most one, and a path has at most one start.
+-- Answers are unique: a search has at most one answer, and a path at most one start.
 use Rattle.std.proofs.Common.{ℕ, suc, ◌≡◌, ◌+◌, Bool, true, false, List, [], ◌∷◌, ◌++◌, ◌⊎◌, Option, Some, None}
 use Rattle.std.proofs.Common.{is_some, inl, inr, refl, sym, ap, ap₂, ◌∙◌, subst, arith}
 use Rattle.automata_base.specs.Paths.Order.{Begins}
@@ -169,7 +169,7 @@ span_once d input (Some a) (Some b) s s' =
     (span_of_once d input a b s s'
     (some_inj (answer_once Forward d input (Some s.half) (Some s'.half) s.answer s'.answer)))
 
--- `Finds` has at most one answer for each input. Then it also has at most one list of matches.
+-- `Finds` has at most one answer for each input, and so at most one list of matches.
 abbrev pub FindsOnce : (Input → Option Match → Type 0) → Type 0
 FindsOnce Finds = (input : Input) (a b : Option Match) → Finds input a → Finds input b → a ≡ b
 

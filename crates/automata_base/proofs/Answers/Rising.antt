@@ -93,7 +93,7 @@ try_inside f r input m w s = go s.start
         let g = back_inside r input.haystack half.base half.offset found (omega (arith, high, w)) backs in
         (omega (arith, low, h, g.0), omega (arith, g.1, h, s.end), omega (arith, high, s.end))
 
--- `Finds` has only matches that lie in the span.
+-- All matches of `Finds` lie in the span.
 abbrev pub StaysInside : (Input → Option Match → Type 0) → Type 0
 StaysInside Finds =
     (input : Input) (m : Match) → input.end ≤ length input.haystack → Finds input (Some m)

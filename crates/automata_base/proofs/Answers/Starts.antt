@@ -103,7 +103,7 @@ farthest_greatest n t start m (Some pair) g f =
     place (inl e) = e
     place (inr l) = absurd (f.1 m g.0.0 g.0.1 l g.0.2)
 
--- A reverse search that finds the farthest position returns the greatest one.
+-- A reverse search that finds the farthest position returns the greatest position at which a path accepts.
 pub back_answer :
     (r : Engine) (h : List ℕ) (b e m : ℕ) (answer : Option Half) → b ≤ e
     → IsGreatest r.nfa (reverse_tape h b e) r.anchored m
@@ -155,8 +155,7 @@ back_answer r h b e m answer l g u = go answer
         let p = greatest k (Some a.pair) (once k tries) a.reported in
         (found, refl, a.offset ∙ (ap (λ w. e - k - w) (same_place p.1) ∙ p.2))
 
--- Over the span up to the match end, a reverse path reaches the chosen path's start, and none goes beyond it. The start
--- is not inside a character if such offsets are skipped.
+-- Over the span up to the match end, a reverse path reaches the chosen path's start, and none goes beyond it.
 pub goes_to_start :
     (f r : Engine) (x : ℕ) (h : List ℕ) (b e : ℕ) (earliest : Bool) (i k pattern : ℕ) (path rest : List ℕ)
     → IsTruePair f r → IsHaystack h → b ≤ e → e ≤ length h → LoopsLazily f.nfa f.anchored f.unanchored x

@@ -42,7 +42,7 @@ empty_truths =
         ap (λ w. eqb (bit_at w (k % 64)) 1) (zeros (k / 64) (omega (arith, l)))
         ∙ ap (λ z. eqb z 1) (bit_at-zero (k % 64))
 
--- If the words have no bit set together, none has a bit set.
+-- If the union of all words is 0, no word has a bit set.
 pub or_none :
     (words : List ℕ)
     → eqb (bit_or (bit_or (bit_or (get_or words 0 0) (get_or words 1 0)) (get_or words 2 0)) (get_or words 3 0)) 0

@@ -174,7 +174,7 @@ list_one P xs ys l m =
     sorted_one P xs ys l.1 m.1 (λ q i. let w = sorted_has P xs q l.1 i in m.0 q w.0 w.1)
     (λ q i. let w = sorted_has P ys q m.1 i in l.0 q w.0 w.1)
 
--- The lists with each element once of no element and of one.
+-- A list with each element once: of no elements, and of one element.
 abbrev pub Root : ℕ → List ℕ → ℕ → Type 0
 Root root path q = (root ≡ q) × (path ≡ [])
 

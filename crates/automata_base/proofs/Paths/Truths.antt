@@ -1,4 +1,4 @@
--- The looks that a powerset state and the next unit decide are decided as they hold.
+-- A powerset state and the next unit decide each look as it holds.
 use Rattle.std.proofs.Common.{ℕ, ◌≡◌, Bool, true, false, not, ◌&&◌, ◌||◌, List, [], ◌⊎◌, Option, inl, inr, refl, sym}
 use Rattle.std.proofs.Common.{ap, ◌∙◌, subst, ⊎_elim, true≢false}
 use Rattle.automata_base.specs.Lists.{In}

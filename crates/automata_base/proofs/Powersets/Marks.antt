@@ -79,7 +79,7 @@ marks_past p ys m marks past q low =
     back false (inr (inl e)) = let wrong : ⊥ = omega (arith, e, low, past) in elim wrong [ ]
     back false (inr (inr i)) = elim i [ ]
 
--- Adding a number below the bound decides whether the list has it.
+-- A number below the bound is added exactly if the list does not contain it.
 pub marked :
     (p id : ℕ) (ys : List ℕ) (old new : Members) (r : Bool) → id ≡ p → AreMarks ys old → p < old.capacity
     → (r ≡ true → In id old.items → ⊥) → (r ≡ true → new.items ≡ old.items ++ id ∷ []) → (r ≡ false → In id old.items)

@@ -51,7 +51,7 @@ kept_stands : (free : List ℕ) (made : List Node) (d z : ℕ) → IsNotFree fre
 kept_stands free made zero z k = IsTheTarget k refl
 kept_stands free made (suc d) z k = IsTheTarget k refl
 
--- Kept states followed by the rest stand for themselves followed by the rest's targets.
+-- A list of kept states followed by `rest` stands for the kept states followed by the targets of `rest`.
 kept_then :
     (free : List ℕ) (made : List Node) (d : ℕ) (list rest ts : List ℕ) → ((t : ℕ) → In t list → IsNotFree free t)
     → AreTargetsOf (StandsFor free made d) rest ts → AreTargetsOf (StandsFor free made d) (list ++ rest) (list ++ ts)

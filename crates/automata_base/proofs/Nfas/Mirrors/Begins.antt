@@ -41,7 +41,7 @@ agree true false e = sym e
 agree false true e = e
 agree false false e = refl
 
--- The comparison of both tests.
+-- Comparing both tests decides whether the starts begin alike.
 pub alike_is :
     (a : Automaton) (x y : Bool) → IsTrue x ↔ ReachesMatch a.states (a.start_anchored ∷ []) → IsTrue y ↔ HasEmpty a
     → IsTrue (beq x y) ↔ BeginsAlike a

@@ -426,7 +426,7 @@ made_fits states turned made reached P nodes entries entries' root len parts n r
         one : (m : ℕ) → m + 1 ≡ suc m
         one m = omega arith
 
--- If the parts are too large, so is their bound by the states and edges of the NFA.
+-- If the parts are too large, so is the bound computed from the states and edges of the NFA.
 pub parts_large :
     (states turned : List State) (P : ℕ) → length turned ≤ length states + sum_by asking_edges states + 1
     → 2 ^ 27 < P * (length turned + 1) → 2 ^ 27 < (P + 1) * (length states + sum_by asking_edges states + 2)

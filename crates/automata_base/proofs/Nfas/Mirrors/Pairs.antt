@@ -125,7 +125,7 @@ checked_apart a o = record {
       let k : IsApartAt (Read ranges) = subst IsApartAt e (node_apart a.states q o) in k lo hi next u h w;
 }
 
--- A look holds on one tape of a span if its reverse holds on the other.
+-- A look holds on one tape of a span exactly if its reverse holds on the other.
 truth_turns :
     (n m : Nfa) (look : Look) (p p' q q' : Option ℕ) → m.terminator ≡ n.terminator → m.reverse ≡ not n.reverse
     → p' ≡ q → q' ≡ p

@@ -216,7 +216,7 @@ module _ (a : Automaton) (turned : List State) (reached : List ℕ) (m : Nfa)
     helper_goes k x j g kk (inr h) e i r m =
         absurd (subst (λ v. In r (targets_at Every (node_of v))) (helper_same x j g (is.Match 0) e i h.1) m)
 
-    -- The reversed state is made of its list of alternates.
+    -- Each state's reversed state is made from its list of alternates.
     head_of :
         (k : ℕ) → k < length a.states → IsHead (length t.lists) t.helpers (list_at t.lists k) (get_or turned k is.Fail)
     head_of k l =

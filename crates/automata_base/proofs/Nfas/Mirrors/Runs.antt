@@ -1,4 +1,4 @@
--- A dense state does the same whether its edges are written as ranges or byte by byte.
+-- A dense state behaves the same whether its edges are written as ranges or byte by byte.
 use Rattle.std.proofs.Common.{ℕ, zero, suc, ◌≡◌, ◌<◌, ◌≤◌, ◌+◌, ◌&&◌, ltb, leb, Bool, true, false, cond, List, [], ◌∷◌}
 use Rattle.std.proofs.Common.{◌++◌, Option, Some, None, inl, inr, refl, sym, ap, ◌∙◌, subst, arith}
 use Rattle.std.proofs.lemmas.Bool.{le-leb, ltb-true, eqb-true}

@@ -109,7 +109,7 @@ some_apart e = cc
 same_error : {x y : NfaError} → ◌≡◌ {A = Option NfaError} (Some x) (Some y) → x ≡ y
 same_error e = cc
 
--- The result is the error of the first test that fails, or it is valid if none fails.
+-- The result is the error of the first test that fails, or `Ok` if none fails.
 abbrev pub IsReported : Option NfaError → Result Totals NfaError → Type 0
 IsReported o r = ((e : NfaError) → o ≡ Some e → r ≡ Err e) × (o ≡ None → IsOk r)
 

@@ -30,7 +30,7 @@ walk_starts G at items closed = record {
   closed = closed;
 }
 
--- Further roots reach at least the same states.
+-- More roots reach at least the same states.
 pub roots_alike :
     (G : ℕ → List ℕ) (roots others : List ℕ) (z : ℕ) → ((q : ℕ) → In q roots → In q others) → IsReachedBy G roots z
     → IsReachedBy G others z

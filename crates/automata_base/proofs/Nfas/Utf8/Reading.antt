@@ -30,7 +30,7 @@ module _ (a : Automaton) (cs : List Class) (chain : chained 0 cs ≡ true) (belo
       let k = reads_route r vs z w (step cs s u) (step_below cs s u below) in
       (pair r (step cs s u) ∷ k.0, (edge_byte a cs chain q s u r l b t, k.1))
 
-  -- The bytes that a route reads.
+  -- Some bytes lead from the pair `x` to the pair `z`.
   abbrev Read : (x z : ℕ) → Type 0
   Read x z = (us : List ℕ) × ReadsTo (nfa_of a) (x / 11) us (z / 11) × (z % 11 ≡ decode cs (x % 11) us)
 
