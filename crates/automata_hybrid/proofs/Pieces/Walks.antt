@@ -91,7 +91,7 @@ silent_first R (suc k) e j l =
     go last before (inr more) =
         let same : k ≡ j = omega (arith, more, l) in subst (λ i. R i ≡ []) same (none_pair (R k) k last)
 
--- if the units before report nothing, the first pair is what the last unit reports
+-- if the units before the last report nothing, the first pair is the first that the last unit reports
 first_last :
     (input : Input) (R : ℕ → List ℕ) (k : ℕ) → first_among R k ≡ None
     → half_of Forward input (first_among R (suc k)) ≡ half_at (R k) (input.start + k) None

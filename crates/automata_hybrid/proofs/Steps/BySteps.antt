@@ -22,7 +22,7 @@ use Rattle.automata_hybrid.proofs.Steps.Steps.{no_quit_unit}
 use Rattle.automata_hybrid.proofs.Fast.Runs.{first_half}
 use Rattle.automata_hybrid.proofs.Searches.Directions.{later_none}
 
--- what the tags in the IDs of a cache depend on: the machine of its table, the limit on IDs, and the stride
+-- what reading the tags of a table's IDs requires: its machine, the limit on IDs, and a small stride
 pub record Tagged (m : Machine) (t : Rows) : Type 0 where
   pub of : t.of ≡ m
   pub low : (id : ℕ) (q : Powerset) → Names t id q → id < fixed_from

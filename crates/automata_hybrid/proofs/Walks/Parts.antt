@@ -132,7 +132,7 @@ itself_held t Fresh (held.State handle) none e = none
 itself_held t (At q) (held.State handle) holds e = holds
 itself_held t Ended (held.State handle) _ e = tt
 
--- what is held in the same way is also a state that is held by itself
+-- if what is held is a state by itself, so is what is held in the same way
 pub shared_itself :
     (s : Stage) (h held : Held)
     → keeping_of held ≡ keeping_of h → (HoldsNone h → HoldsNone held)

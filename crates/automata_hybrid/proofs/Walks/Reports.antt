@@ -218,7 +218,7 @@ module _ (way : Direction) (m : Machine) (input : Input) where
   silent_step from k silent (inl (s, split)) = silent_trans from k (suc k) silent (silent_skipped k s split)
   silent_step from k silent (inr none) = silent_trans from k (suc k) silent (silent_none k none)
 
-  -- a list begins with another one
+  -- the second list begins with the first
   pub record Begins (xs ys : List Pair) : Type 0 where
     pub rest : List Pair
     pub joined : ys ≡ xs ++ rest
