@@ -1,7 +1,7 @@
 #!/usr/bin/env python3
 """Builds the library for C, installs it into a folder of its own, and runs the tests of bindings/c:
 
-    tools/c.py ['N passed, M failed']
+    tools/c.py [--archive FILE] ['N passed, M failed']
 
 Every call, right and with every wrong argument (calls.c, texts.c, limits.c, facts.c, pieces.c, walks.c); each allocation
 refused in turn (faults.c); what caches take of malloc, beside what is told of them (memory.c); four threads over one
@@ -17,8 +17,10 @@ there is a C++ compiler, and the pkg-config file if there is that program.
 The last line counts these too, beside what the given line counts. It needs Python 3, the kit's rt, make, cc and
 binutils. The library stands on the crates as `rt ci` proved and left them, if it did so since they were last changed,
 and else as `rt lib` makes them, which first proves what was not proved yet. What it proves of the library's own crate
-is kept in its out/, as `rt check` keeps it, and `tools/wrong.py` begins with that.
+is kept in its out/, as `rt check` keeps it, and `tools/wrong.py` begins with that. With --archive it is not built: the
+tests are those of the archive that is named, as tools/quick.sh has it made without proof.
 """
+import argparse
 import os
 import re
 import shutil
@@ -277,11 +279,16 @@ def differing(out, prints):
 
 
 def main(words):
-    counted = re.fullmatch(r"(\d+) passed, (\d+) failed", words[0] if words else "0 passed, 0 failed")
+    parser = argparse.ArgumentParser()
+    parser.add_argument("--archive")
+    parser.add_argument("counted", nargs="?", default="0 passed, 0 failed")
+    given = parser.parse_args(words)
+    counted = re.fullmatch(r"(\d+) passed, (\d+) failed", given.counted)
     passed, failed = (int(counted[1]), int(counted[2])) if counted else (0, 1)
     with tempfile.TemporaryDirectory(prefix="c-") as room:
         tests = Tests(room)
-        status, out, err = run(["make", "-C", C, *archive(room)], seconds=7200)
+        named = [f"ARCHIVE={os.path.abspath(given.archive)}"] if given.archive else archive(room)
+        status, out, err = run(["make", "-C", C, *named], seconds=7200)
         if not status:
             status, out, err = run(["make", "-C", C, "install", f"PREFIX={room}", "DESTDIR="])
         tests.count("the library for C", f"it was not built\n{out}{err}" if status else "")
