@@ -136,7 +136,7 @@ def work(part):
     except (Exception, SystemExit) as error:  # a part that cannot be done is one that failed
         passed, failed, wrote = 0, 1, f"{type(error).__name__}: {error}\n"
     said = f"{passed} passed, {failed} failed, {time.monotonic() - began:.0f} seconds"
-    print(f"{wrote if failed else ''}{name}: {said}", flush=True)
+    print(f"{wrote if failed else ''}{name}: {said}\n", end="", flush=True)
     return passed, failed
 
 
@@ -151,10 +151,13 @@ def main(words):
         sys.exit("usage: tools/quick.sh [--postgres]")
     for name in crates_used():
         os.makedirs(f"{TOP}/crates/{name}/out", exist_ok=True)
+    given = parts(bool(words))
     with concurrent.futures.ThreadPoolExecutor(lanes()) as pool:
-        done = list(pool.map(work, parts(bool(words))))
+        done = list(pool.map(work, given))
     took = resource.getrusage(resource.RUSAGE_CHILDREN)
     print(f"processors: {(took.ru_utime + took.ru_stime) / 60:.1f} minutes; proved=no")
+    faults = [part[0] for part, it in zip(given, done) if it[1]]
+    print(f"failed: {', '.join(faults)}\n" * bool(faults), end="")
     failed = sum(it[1] for it in done)
     print(f"{sum(it[0] for it in done)} passed, {failed} failed")
     return 1 if failed else 0

@@ -7,9 +7,11 @@
 # what the gate needs, and git.
 set -eu
 top=$(cd "$(dirname "$0")/.." && pwd)
-copy=$(mktemp -d)
-chmod 755 "$copy"
-trap 'rm -rf "$copy"' EXIT
+room=$(mktemp -d)
+trap 'rm -rf "$room"' EXIT
 trap 'exit 2' HUP INT TERM
-(cd "$top" && git ls-files -coz --exclude-standard | tar -c --null --ignore-failed-read -T -) | tar -x -C "$copy"
-"$copy/tools/quick.py" "$@"
+mkdir "$room/copy" "$room/tmp"
+# The server of --postgres is another user's.
+chmod 755 "$room" "$room/tmp"
+(cd "$top" && git ls-files -coz --exclude-standard | tar -c --null --ignore-failed-read -T -) | tar -x -C "$room/copy"
+TMPDIR=$room/tmp "$room/copy/tools/quick.py" "$@"
