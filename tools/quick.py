@@ -111,6 +111,7 @@ def try_archive(name, with_postgres):
 
 
 def has_tests(name):
+    """Whether a file of the crate has a test."""
     return any("#[test]" in text(it) for it in files_of(name) if it.endswith(".rt"))
 
 
