@@ -1,7 +1,7 @@
 #!/usr/bin/env python3
 """Builds the C library, installs it into a folder of its own, and runs the tests of bindings/c:
 
-    tools/c.py ['N passed, M failed']
+    tools/c.py [--archive FILE] ['N passed, M failed']
 
 Every call, with valid and with every kind of invalid arguments (calls.c, texts.c, limits.c, facts.c, pieces.c,
 walks.c); each allocation made to fail in turn (faults.c); the memory that caches take from malloc, compared with what
@@ -18,8 +18,10 @@ is a C++ compiler, and the pkg-config file if pkg-config is installed.
 The last line counts these tests, added to those that the given line counts. It needs Python 3, the kit's rt, make, cc
 and binutils. The library uses the crates as `rt ci` proved and left them, if it did so since they were last changed,
 and otherwise as `rt lib` builds them, which first proves what is not proved yet. What it proves of the library's own
-crate is kept in its out/, as `rt check` does, and `tools/wrong.py` starts from that.
+crate is kept in its out/, as `rt check` does, and `tools/wrong.py` starts from that. With --archive nothing is built:
+the tests are those of the named archive, as tools/quick.sh builds it without proof.
 """
+import argparse
 import os
 import re
 import shutil
@@ -283,11 +285,16 @@ def differing(out, prints):
 
 
 def main(words):
-    counted = re.fullmatch(r"(\d+) passed, (\d+) failed", words[0] if words else "0 passed, 0 failed")
+    parser = argparse.ArgumentParser()
+    parser.add_argument("--archive")
+    parser.add_argument("counted", nargs="?", default="0 passed, 0 failed")
+    given = parser.parse_args(words)
+    counted = re.fullmatch(r"(\d+) passed, (\d+) failed", given.counted)
     passed, failed = (int(counted[1]), int(counted[2])) if counted else (0, 1)
     with tempfile.TemporaryDirectory(prefix="c-") as room:
         tests = Tests(room)
-        status, out, err = run(["make", "-C", C, *archive(room)], seconds=7200)
+        named = [f"ARCHIVE={os.path.abspath(given.archive)}"] if given.archive else archive(room)
+        status, out, err = run(["make", "-C", C, *named], seconds=7200)
         if not status:
             status, out, err = run(["make", "-C", C, "install", f"PREFIX={room}", "DESTDIR="])
         tests.count("the library for C", f"it was not built\n{out}{err}" if status else "")
