@@ -81,7 +81,7 @@ def main(words):
     for program in given.program or BUILDS:
         for name, script, wanted in cases():
             found = run(os.path.abspath(program), script)
-            said = "passed" if found == wanted else f"{found}, and not {wanted}"
+            said = "passed" if found == wanted else f"{found!r:.400}, and not {wanted!r:.400}"
             print(f"{os.path.basename(program)} {name}: {said}")
             passed, failed = passed + (found == wanted), failed + (found != wanted)
     print(f"{passed} passed, {failed} failed")

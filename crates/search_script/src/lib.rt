@@ -4,19 +4,19 @@
 //! and writes a line for each. The other items read and print parts of a script, for callers that search by themselves.
 #![tactic(auto)]
 
+mod answer;
 mod catalogue;
 mod error;
 mod keyword;
 mod reply;
-mod run;
 mod script;
 mod states;
 mod words;
 
+pub use answer::run;
 pub use catalogue::Entry;
 pub use error::RunError;
 pub use reply::Line;
-pub use run::run;
 pub use script::{Script, configured};
 pub use states::Outline;
 pub use words::LineError;
