@@ -13,7 +13,7 @@ from model import LOOKS, Accept, Ask, Found, Free, Haystack, Mode, Nfa, Read, Sp
 REFUSALS = {
     "NotLazy": "the unanchored start does not skip lazily, so an unanchored match may have no start",
     "NotUtf8": "a match may be invalid UTF-8, so in UTF-8 mode it might split a character",
-    "Starts": "the starts differ in the empty match, so the reversed NFA would have others",
+    "Starts": "only some of the starts match the empty string, so a reversed NFA would match differently",
     "Build": "unsupported regex feature for DFAs: cannot build lazy DFAs for regexes with Unicode word boundaries; "
              "switch to ASCII word boundaries, or heuristically enable Unicode word boundaries or use a different "
              "regex engine",

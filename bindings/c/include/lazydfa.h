@@ -103,7 +103,7 @@ enum lazydfa_code {
     LAZYDFA_RANGES = 18,         /* the ranges of bytes of a state are not in order */
     LAZYDFA_NOT_LAZY = 20,       /* the unanchored start does not skip lazily; lazydfa_add_unanchored_prefix does */
     LAZYDFA_NOT_UTF8 = 22,       /* in UTF-8 mode a match may be invalid UTF-8 */
-    LAZYDFA_STARTS = 23,         /* the starts differ in the empty match, so that the NFA cannot be reversed */
+    LAZYDFA_STARTS = 23,         /* only some starts match the empty string: the NFA cannot be reversed */
     LAZYDFA_UNSUPPORTED = 24,    /* a Unicode word boundary, without the setting for it */
     LAZYDFA_CAPACITY = 25,       /* the cache capacity is too small; the offset is a capacity that is enough */
     LAZYDFA_STATE_IDS = 26,      /* the smallest table is too large; the offset is the ID that does not fit */
@@ -119,7 +119,7 @@ enum lazydfa_code {
 
     /* from a search or a walk in pieces */
     LAZYDFA_SKIPS = 35,          /* the regex can match the empty string, and is in UTF-8 mode */
-    LAZYDFA_NOT_BEGUN = 36,      /* no search in pieces, or no walk, was begun over the cache */
+    LAZYDFA_NOT_BEGUN = 36,      /* no search or walk in pieces was begun over the cache */
 
     /* from a pattern's text */
     LAZYDFA_SYNTAX = 40,         /* it is not a valid pattern; the offset is that of the error in the text */
@@ -429,23 +429,23 @@ static inline const char *lazydfa_code_text(uint32_t code) {
     case LAZYDFA_RANGES: return "ranges of bytes are not in order";
     case LAZYDFA_NOT_LAZY: return "the unanchored start does not skip lazily";
     case LAZYDFA_NOT_UTF8: return "a match may be invalid UTF-8";
-    case LAZYDFA_STARTS: return "the starts differ in the empty match";
+    case LAZYDFA_STARTS: return "only some of the starts match the empty string";
     case LAZYDFA_UNSUPPORTED: return "Unicode word boundaries are not enabled";
     case LAZYDFA_CAPACITY: return "the cache capacity is too small";
     case LAZYDFA_STATE_IDS: return "the smallest table is too large";
-    case LAZYDFA_PATTERN_COUNTS: return "the two NFAs do not have equally many patterns";
-    case LAZYDFA_ONE_START: return "both starts are one state, and every search would be anchored";
-    case LAZYDFA_QUIT: return "the search met a quit byte";
+    case LAZYDFA_PATTERN_COUNTS: return "the two NFAs have different numbers of patterns";
+    case LAZYDFA_ONE_START: return "both starts are the same state, so every search would be anchored";
+    case LAZYDFA_QUIT: return "the search reached a quit byte";
     case LAZYDFA_GAVE_UP: return "the search gave up";
     case LAZYDFA_ANCHORED: return "the anchored mode is not supported";
     case LAZYDFA_NOT_A_PAIR: return "the reverse NFA finds no start";
     case LAZYDFA_NO_TOKEN: return "no token";
-    case LAZYDFA_SKIPS: return "a regex that skips empty matches inside characters is not searched in pieces";
-    case LAZYDFA_NOT_BEGUN: return "no search in pieces, or no walk, was begun";
-    case LAZYDFA_SYNTAX: return "the text is no pattern";
+    case LAZYDFA_SKIPS: return "a regex that skips empty matches inside characters cannot be searched in pieces";
+    case LAZYDFA_NOT_BEGUN: return "no search or walk in pieces was begun";
+    case LAZYDFA_SYNTAX: return "the text is not a valid pattern";
     case LAZYDFA_NOT_TEXT: return "the text of a pattern is not UTF-8";
     case LAZYDFA_NOT_COMPILED: return "the pattern was not compiled";
-    default: return "no code of this library";
+    default: return "not a code of this library";
     }
 }
 

@@ -375,7 +375,9 @@ static void refuse(const struct definition *d, lazydfa_status status) {
         puts("the unanchored start does not skip lazily, so an unanchored match may have no start");
         break;
     case LAZYDFA_NOT_UTF8: puts("a match may be invalid UTF-8, so in UTF-8 mode it might split a character"); break;
-    case LAZYDFA_STARTS: puts("the starts differ in the empty match, so the reversed NFA would have others"); break;
+    case LAZYDFA_STARTS:
+        puts("only some of the starts match the empty string, so a reversed NFA would match differently");
+        break;
     default: puts(lazydfa_code_text(status.code));
     }
 }

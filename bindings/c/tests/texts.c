@@ -61,7 +61,8 @@ static void patterns(void) {
 static void refused(void) {
     FINDS("foo(b", "", "40 at 3, 3..4: unclosed group");
     FINDS("a{2,1}", "", "40 at 1, 1..6: invalid repetition count range, the start must be <= the end");
-    FINDS("\\bx", "", "24 at 0, 0..0: a Unicode word boundary is not supported: write (?-u:\\b) for one of ASCII");
+    FINDS("\\bx", "",
+          "24 at 0, 0..0: a Unicode word boundary is not supported: write (?-u:\\b) for an ASCII word boundary");
     FINDS("(a{1000}){1000}", "", "14 at 0, 0..0: the patterns are too large");
     FINDS("ab\xFF", "", "41 at 2, 2..0: ");
 }

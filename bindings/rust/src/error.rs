@@ -77,7 +77,7 @@ pub enum BuildErrorKind {
     NotLazy,
     /// In UTF-8 mode a match may be invalid UTF-8.
     NotUtf8,
-    /// The starts differ in the empty match, so that the NFA cannot be reversed.
+    /// Only some of the starts match the empty string, so that the NFA cannot be reversed.
     Starts,
     /// The two NFAs of a pair differ in their numbers of patterns.
     PatternCounts,
@@ -134,7 +134,7 @@ impl fmt::Display for BuildErrorKind {
     fn fmt(&self, f: &mut fmt::Formatter<'_>) -> fmt::Result {
         let text = match *self {
             BuildErrorKind::OutOfMemory => "out of memory",
-            BuildErrorKind::Syntax => "the text is no pattern",
+            BuildErrorKind::Syntax => "the text is not a valid pattern",
             BuildErrorKind::NotCompiled => "the pattern was not compiled",
             BuildErrorKind::TooLarge => "too many states, patterns, groups or alternates",
             BuildErrorKind::Unsupported => "Unicode word boundaries are not enabled",
@@ -155,8 +155,8 @@ impl fmt::Display for BuildErrorKind {
             BuildErrorKind::Ranges => "ranges of bytes are not in order",
             BuildErrorKind::NotLazy => "the unanchored start does not skip lazily",
             BuildErrorKind::NotUtf8 => "a match may be invalid UTF-8",
-            BuildErrorKind::Starts => "the starts differ in the empty match",
-            BuildErrorKind::PatternCounts => "the two NFAs do not have equally many patterns",
+            BuildErrorKind::Starts => "only some of the starts match the empty string",
+            BuildErrorKind::PatternCounts => "the two NFAs have different numbers of patterns",
         };
         f.write_str(text)
     }
@@ -248,7 +248,7 @@ impl fmt::Display for MatchError {
             MatchErrorKind::NotAPair => f.write_str("the reverse NFA finds no start"),
             MatchErrorKind::NoToken { offset } => write!(f, "no token at offset {offset}"),
             MatchErrorKind::Skips => {
-                f.write_str("a regex that skips empty matches inside characters is not searched in pieces")
+                f.write_str("a regex that skips empty matches inside characters cannot be searched in pieces")
             }
             MatchErrorKind::OutOfMemory => f.write_str("out of memory"),
         }

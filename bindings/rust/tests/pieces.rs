@@ -273,7 +273,7 @@ fn not_begun() -> Tested {
     let mut cache = dfa.create_cache();
     let error = begin(&dfa, &mut cache).unwrap_err();
     assert_eq!(error.kind(), &MatchErrorKind::Skips);
-    let text = "a regex that skips empty matches inside characters is not searched in pieces";
+    let text = "a regex that skips empty matches inside characters cannot be searched in pieces";
     assert_eq!(error.to_string(), text);
     assert_eq!(dfa.try_search_fwd(&mut cache, &Input::new("aa"))?, Some(HalfMatch::must(0, 2)));
     let dfa = bytes_dfa(&["a*"], Config::new())?;

@@ -150,7 +150,7 @@ impl Args {
     fn set_how(&mut self, how: How) -> Result<()> {
         match (self.flags.how, how) {
             (How::Matches, How::Which) | (How::Which, How::Matches) => {
-                bail!("-o and --which exclude each other")
+                bail!("-o and --which cannot be used together")
             }
             _ => self.flags.how = how,
         }

@@ -16,7 +16,7 @@ pub enum Fault {
     #[error("{}", .0.kind.message())]
     Syntax(regex_syntax::Error),
     /// The pattern has a Unicode word boundary, which the library supports only in ASCII text.
-    #[error("a Unicode word boundary is not supported: write (?-u:\\b) for one of ASCII")]
+    #[error("a Unicode word boundary is not supported: write (?-u:\\b) for an ASCII word boundary")]
     UnicodeWord,
     /// The tables of all patterns together would exceed the size limit.
     #[error("the patterns are too large")]

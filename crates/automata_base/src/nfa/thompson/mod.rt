@@ -200,7 +200,7 @@ impl From<AllocError> for NfaError {
 pub enum ReverseError {
     /// The empty match is reached from the start of some pattern and not from the anchored start, or the other way
     /// round.
-    #[error("the starts differ in the empty match, so the reversed NFA would have others")]
+    #[error("only some of the starts match the empty string, so a reversed NFA would match differently")]
     Starts,
     /// The reversed NFA might have more states or alternates than an NFA may have, by a bound on its size.
     #[error("the reversed NFA would be too large")]

@@ -31,7 +31,7 @@ pub enum RegexBuildError {
     #[error("a match may be invalid UTF-8, so in UTF-8 mode it might split a character")]
     NotUtf8,
     /// The NFA cannot be reversed: `ReverseError::Starts`.
-    #[error("the starts differ in the empty match, so the reversed NFA would have others")]
+    #[error("only some of the starts match the empty string, so a reversed NFA would match differently")]
     Starts,
     /// The reversed NFA would have more states or alternates than an NFA may have.
     #[error("the reversed NFA would be too large")]
