@@ -343,3 +343,4 @@ class Crate:
 
 def is_of(name, edit):
     """Whether a check's name of a function is that of one that the edit changes."""
+    return any(name.endswith(f"::{it}") for it in edit.functions)

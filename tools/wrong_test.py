@@ -259,7 +259,7 @@ CHANGES = [
     ("the proof of another function", f"{LOW}/proofs/loose/Answers.antt", "omega arith", "omega (arith)",
      {"loose_is_half", "most_is_eight"}),
     ("an edit", f"{LOW}/wrong/widen_by_two.edit", "raise(2)", "raise(3)", {"widen_by_two"}),
-    ("a row of the document", "docs/index/WRONG_BODIES.md", "| `is_no_edit`", "| `is_none`", set()),
+    ("a row of the document", "docs/index/WRONG_BODIES.md", "| doubles |", "| halves |", set()),
     ("what an edit's file says of it", f"{LOW}/wrong/widen_by_two.edit", "what: does", "what: did", set()),
     ("the script", "tools/edits.py", "import os", "import os  # new", ALL),
 ]
