@@ -2,9 +2,10 @@
 # Builds the extension for PostgreSQL, over the C library that is built in bindings/c, and tests it on its own server,
 # in its own folder, over a socket there:
 #     tools/postgres.sh ['N passed, M failed']
-# The expected results of `make installcheck`; random patterns compared with `~` (tools/postgres/agree.py), in pieces
-# (tools/postgres/pieces.py), and with indexes (tools/postgres/indexed.py); parallel workers; two backends at once; a
-# query that is cancelled, one that takes too long, a backend that is terminated, and one that is killed in a search;
+# The expected results of `make installcheck`; the statements of the extension's README; random patterns compared with
+# `~` (tools/postgres/agree.py), in pieces (tools/postgres/pieces.py), and with indexes (tools/postgres/indexed.py);
+# parallel workers; two backends at once; a query that is cancelled, one that takes too long, a backend that is
+# terminated, and one that is killed in a search;
 # each kind of search of a long text, cancelled and out of time; patterns that are costly to compile, by an ordinary
 # user: their time and their memory, and a backend and a server that are stopped meanwhile; the memory that many
 # patterns hold (tools/postgres/memory.py); a backend that runs out of memory; and databases of other encodings.
@@ -130,6 +131,17 @@ ends() { # NAME MESSAGE
 }
 
 endless="SELECT count(*) FROM logs, generate_series(1, 100000) n WHERE line =~ ('x[a-z]+' || n)"
+
+# Runs the statements that the extension's README shows, in a database of their own.
+test_readme() {
+    sql -c 'CREATE DATABASE readme' && sql -d readme -c "CREATE TABLE logs AS SELECT * FROM unnest(
+        array['timeout on disk 2', 'refused 503', 'done']) line" &&
+        statements=$(sed -n '/^```sql$/,/^```$/p' "$top/bindings/postgres/README.md" | grep -v '^```')
+    same "the statements of the README" "1
+timeout on disk 2|{1}
+refused 503|{2,3}
+done|{}" "$(sql -d readme -c "$statements")"
+}
 
 test_answers() {
     if made=$(make -s -C "$room/extension" PG_CONFIG="$config" installcheck 2>&1); then
@@ -390,6 +402,7 @@ $made$(cat "$room/said" "$room/data/log" 2>/dev/null)"
     finish
 fi
 test_answers
+test_readme
 test_workers
 test_two_backends
 test_ends
