@@ -94,7 +94,7 @@ enum lazydfa_code {
     LAZYDFA_UNFINISHED = 11,     /* the pattern that was started is not finished */
     LAZYDFA_PATCH_RANGE = 12,    /* the state to be patched does not exist */
     LAZYDFA_SPARSE_PATCH = 13,   /* a sparse state cannot be patched */
-    LAZYDFA_TOO_LARGE = 14,      /* too many states, patterns, groups or alternates */
+    LAZYDFA_TOO_LARGE = 14,      /* too many states, patterns, groups or alternates, or a limit is exceeded */
 
     /* from building a regex */
     LAZYDFA_STATE_RANGE = 15,    /* a state leads to a state that does not exist */
@@ -422,7 +422,7 @@ static inline const char *lazydfa_code_text(uint32_t code) {
     case LAZYDFA_UNFINISHED: return "a pattern was started and not finished";
     case LAZYDFA_PATCH_RANGE: return "the state to be patched is out of range";
     case LAZYDFA_SPARSE_PATCH: return "a sparse state cannot be patched";
-    case LAZYDFA_TOO_LARGE: return "too many states, patterns, groups or alternates";
+    case LAZYDFA_TOO_LARGE: return "too many states, patterns, groups or alternates, or a limit is exceeded";
     case LAZYDFA_STATE_RANGE: return "a state leads to a state that is out of range";
     case LAZYDFA_START_RANGE: return "a start state is out of range";
     case LAZYDFA_PATTERN_RANGE: return "the pattern of a match state is out of range";

@@ -136,7 +136,7 @@ impl fmt::Display for BuildErrorKind {
             BuildErrorKind::OutOfMemory => "out of memory",
             BuildErrorKind::Syntax => "the text is not a valid pattern",
             BuildErrorKind::NotCompiled => "the pattern was not compiled",
-            BuildErrorKind::TooLarge => "too many states, patterns, groups or alternates",
+            BuildErrorKind::TooLarge => "too many states, patterns, groups or alternates, or a limit is exceeded",
             BuildErrorKind::Unsupported => "Unicode word boundaries are not enabled",
             BuildErrorKind::InsufficientCacheCapacity { minimum } => {
                 return write!(f, "the cache capacity is smaller than the minimum, {minimum}");
