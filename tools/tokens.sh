@@ -11,9 +11,9 @@ trap 'rm -rf "$copy"' EXIT
 cd "$copy/crates/lazydfa"
 cat > src/tests/accepted.rt <<'TEST'
 use super::same_of;
-use crate::catalogue::Entry;
 use regex_automata::hybrid::regex::Regex;
 use regex_automata::util::search::Input;
+use search_script::Entry;
 use std::test::Fail;
 
 #[test]
@@ -33,9 +33,9 @@ echo 'mod accepted;' >> src/tests/mod.rt
 rt try --test -- keeps_a_token
 
 cat > src/tests/refused.rt <<'TEST'
-use crate::catalogue::Entry;
 use regex_automata::hybrid::regex::Regex;
 use regex_automata::util::search::Input;
+use search_script::Entry;
 use std::test::Fail;
 
 #[test]

@@ -1,20 +1,12 @@
 //! Answers a script of searches. It reads the script from standard input, and writes the answers to standard output.
 #![tactic(auto)]
 
-use run::run;
+use search_script::run;
 use std::io;
 use std::process::ExitCode;
 
-mod catalogue;
-mod error;
-mod keyword;
-mod reply;
-mod run;
-mod script;
-mod states;
 #[cfg(test)]
 mod tests;
-mod words;
 
 /// Answers the script on standard input. An error is written to standard error, and gives the exit status.
 fn main(rt: HostRuntime) -> ExitCode {

@@ -294,7 +294,7 @@ impl Bench {
                 self.replace(made)
             }
             Call::ResetByCache => Reported::of_growth(self.cache.reset(&self.dfa)),
-            Call::Brief => Reported::Number("", self.cache.memory_usage(), letter(self.at)),
+            Call::Brief => Reported::Number(self.cache.memory_usage(), letter(self.at)),
             Call::Leaps => Reported::of_flag(self.cache.leap_usage() > 0),
             Call::Copies => {
                 let nfa: Result<NFA, AllocError> = self.dfa.get_nfa().clone();

@@ -4,7 +4,6 @@ use super::bench::{Bench, Call, On, Over};
 use super::plans::Mode;
 use super::regex_bench::{Ask, Pair, RegexBench};
 use super::reports::{Automaton, ONCE, Refusal, Short, answer_within, refuse_each};
-use crate::catalogue::Entry;
 use Automaton::{Chain, Forward, Planned, Reverse};
 use Call::{
     Begin, Brief, Copies, Counts, End, Fill, Find, FindIn, Insert, Match, MatchOfCopy, Next,
@@ -12,6 +11,7 @@ use Call::{
 };
 use Mode::{Every, First, Of};
 use Over::{Nothing, Span, Text};
+use search_script::Entry;
 
 /// Rows over a lazy DFA and its cache, and over a regex.
 type Lazy = Short<On, Call>;

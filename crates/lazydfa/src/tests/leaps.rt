@@ -3,9 +3,9 @@
 use super::bench::repeated;
 use super::reports::{Automaton, Turns};
 use super::{Host, check, same_of};
-use crate::catalogue::Entry;
 use regex_automata::hybrid::dfa::DFA;
 use regex_automata::util::search::Input;
+use search_script::Entry;
 
 /// A search of this caches all transitions that a search of it, repeated, uses.
 const PIECE: &str = "0 0 ";

@@ -3,9 +3,8 @@
 use super::reported::Reported;
 use super::reports::{Caller, Short, refuse_each};
 use super::{Host, Sink, Source};
-use crate::error::RunError;
-use crate::run::run;
 use regex_automata::hybrid::BuildError;
+use search_script::{RunError, run};
 use std::alloc::Global;
 
 /// A script, and an output that has room.

@@ -1,7 +1,5 @@
 //! What no contract says: the answers of worked examples, texts, and how a script runs.
 
-use crate::error::RunError;
-use crate::run::run;
 use std::alloc::Global;
 use std::fmt::Debug;
 use std::io::{Read, Write};
@@ -130,15 +128,4 @@ fn exhaust(alloc: Global) {
             Err(_) => size /= 2,
         }
     }
-}
-
-/// What a script prints, and its fault.
-fn printed(rt: &impl Host, script: &str) -> (String, Option<RunError>) {
-    let mut output = Sink::new(rt.alloc());
-    output.most = 1 << 16;
-    let mut input = Source::new(script.as_bytes());
-    input.most = 1 << 16;
-    let result = run(rt.alloc(), &mut input, &mut output);
-    let text = String::from_utf8(output.bytes).expect(rt, "a text");
-    (text, result.err())
 }

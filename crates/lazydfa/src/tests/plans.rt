@@ -1,10 +1,10 @@
 //! NFAs that are not in the catalogue, as lines of a script have them, and which searches a start is for.
 
 use super::{Host, Text};
-use crate::states::Outline;
 use regex_automata::nfa::thompson::NFA;
 use regex_automata::util::primitives::{PatternID, StateID};
 use regex_automata::util::search::Anchored;
+use search_script::Outline;
 use std::fmt::Write;
 
 /// Which searches a start is for.

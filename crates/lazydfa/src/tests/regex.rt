@@ -3,13 +3,13 @@
 use super::regex_bench::{Ask, Pair, Printed, RegexBench, Row};
 use super::reports::reports_all;
 use super::{Host, same_of};
-use crate::catalogue::Entry;
 use Ask::{
     Both, Counts, Find, Forward, Is, Items, ItemsPrint, Prints, ReplaceByNew, Reset, ResetByCache,
     ResetForward, ResetReverse, Reverse, TokensPrint,
 };
 use Pair::Of;
 use regex_automata::tokens::Token;
+use search_script::Entry;
 
 const DATES: &[u8] = b"2018-12-24 2016-10-08";
 

@@ -8,13 +8,13 @@ use super::bench::counted;
 use super::plans::Mode;
 use super::reported::{Counted, Item, Reported, prints};
 use super::reports::{Automaton, Caller, RowOf, config};
-use crate::catalogue::Entry;
 use regex_automata::hybrid::dfa::Config;
 use regex_automata::hybrid::regex::{Cache, Regex, RegexBuildError};
 use regex_automata::hybrid::{BuildError, SearchError};
 use regex_automata::nfa::thompson::NFA;
 use regex_automata::tokens::{Token, TokenError, Tokens};
 use regex_automata::util::search::{Input, Match};
+use search_script::Entry;
 use std::alloc::{AllocError, Global};
 
 /// What a regex is made of.
@@ -269,7 +269,7 @@ impl RegexBench {
 
     /// Searches for a match.
     fn find(&mut self, input: &Input<'_>) -> Reported {
-        Reported::Span(self.regex.find(&mut self.cache, input), "")
+        Reported::Span(self.regex.find(&mut self.cache, input))
     }
 
     /// Searches by the forward part.

@@ -6,11 +6,9 @@
 use super::regex_bench::Pair;
 use super::reports::{Automaton, Turns};
 use super::{Host, Text, check, same_of};
-use crate::catalogue::Entry;
-use crate::reply::Line;
-use crate::script::Script;
 use regex_automata::hybrid::regex::Regex;
 use regex_automata::replay::{Reply, Request, replay};
+use search_script::{Entry, Line, Script};
 use std::fmt::Write;
 
 /// `[0-9]{22}`. Twelve digits need more rows than a new cache has room for, and twenty-two need more than these.

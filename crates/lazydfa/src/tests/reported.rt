@@ -1,9 +1,10 @@
 //! What calls report, in words.
 
-use crate::reply::{write_error, write_half, write_span};
 use regex_automata::hybrid::{BuildError, LazyStateID, SearchError, StartError, StepError};
+use regex_automata::replay::Reply;
 use regex_automata::tokens::TokenError;
 use regex_automata::util::search::{HalfMatch, Match};
+use search_script::Line;
 use std::alloc::{AllocError, Global};
 use std::fmt;
 
@@ -19,16 +20,16 @@ pub enum Reported {
     Word(&'static str),
     /// The match of a search of one DFA.
     Half(Result<Option<HalfMatch>, SearchError>),
-    /// The match of a regex, with text after it.
-    Span(Result<Option<Match>, SearchError>, &'static str),
+    /// The match of a regex.
+    Span(Result<Option<Match>, SearchError>),
     Truth(Result<bool, SearchError>),
     /// Patterns, and why there are no more.
     Set(usize, Result<(), SearchError>),
     NoStart(StartError),
     NoStep(StepError),
     Refused(BuildError),
-    /// A number, with text before it and after it.
-    Number(&'static str, usize, &'static str),
+    /// A number, with text after it.
+    Number(usize, &'static str),
     /// The pattern and the end of a match, and where the last of its spans began.
     Based(usize, usize, usize),
     /// Three numbers, with text after them.
@@ -74,22 +75,18 @@ impl fmt::Display for Reported {
     fn fmt<W: fmt::Write>(&self, f: &mut fmt::Formatter<W>) -> fmt::Result {
         match self {
             Reported::Word(word) => write!(f, "{word}"),
-            Reported::Half(found) => write_half(f, found),
-            Reported::Span(found, behind) => {
-                write_span(f, found)?;
-                write!(f, "{behind}")
-            }
-            Reported::Truth(Ok(holds)) => write!(f, "{holds}"),
-            Reported::Truth(Err(error)) => write_error(f, error),
+            Reported::Half(found) => write_reply(f, Reply::Half(*found)),
+            Reported::Span(found) => write_reply(f, Reply::Span(*found)),
+            Reported::Truth(holds) => write_reply(f, Reply::Truth(*holds)),
             Reported::Set(digits, Ok(())) => write!(f, "set {digits}"),
             Reported::Set(digits, Err(error)) => {
                 write!(f, "set {digits} ")?;
-                write_error(f, error)
+                write_reply(f, Reply::Done(Err(*error)))
             }
             Reported::NoStart(error) => write!(f, "{error}"),
             Reported::NoStep(error) => write!(f, "{error}"),
             Reported::Refused(error) => write!(f, "{error}"),
-            Reported::Number(before, number, behind) => write!(f, "{before}{number}{behind}"),
+            Reported::Number(number, behind) => write!(f, "{number}{behind}"),
             Reported::Based(pattern, end, place) => write!(f, "{pattern} {end} at {place}"),
             Reported::Counts((first, second, third), behind) => {
                 write!(f, "{first} {second} {third}{behind}")
@@ -98,6 +95,11 @@ impl fmt::Display for Reported {
             Reported::Items(items) => write_items(f, items),
         }
     }
+}
+
+/// Writes a reply as the script's line has it.
+fn write_reply<W: fmt::Write>(f: &mut fmt::Formatter<W>, reply: Reply) -> fmt::Result {
+    write!(f, "{}", Line(&reply))
 }
 
 /// The items before the end, if any. What comes after the end or an error is reported apart.
@@ -127,7 +129,7 @@ fn write_item<W: fmt::Write>(
 ) -> fmt::Result {
     match item {
         Ok((pattern, start, end)) => write!(f, "{pattern} {start}..{end}"),
-        Err(TokenError::Search(error)) => write_error(f, &error),
+        Err(TokenError::Search(error)) => write_reply(f, Reply::Done(Err(error))),
         Err(TokenError::NoToken(place)) => write!(f, "no token at {place}"),
     }
 }

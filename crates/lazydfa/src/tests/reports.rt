@@ -4,11 +4,10 @@
 use super::plans::{chain, plan};
 use super::reported::Reported;
 use super::{Host, Text, check, exhaust, same_of};
-use crate::catalogue::Entry;
-use crate::script::configured;
 use regex_automata::hybrid::BuildError;
 use regex_automata::hybrid::dfa::{Config, DFA};
 use regex_automata::nfa::thompson::{NFA, NfaError};
+use search_script::{Entry, configured};
 use std::alloc::Global;
 use std::fmt::Write;
 

@@ -3,7 +3,6 @@
 use super::plans::{pattern_id, plan};
 use super::reported::prints;
 use super::{Host, Text, check, same_of};
-use crate::error::RunError;
 use regex_automata::hybrid::regex::RegexBuildError;
 use regex_automata::hybrid::{BuildError, CacheError, SearchError, StartError, StepError};
 use regex_automata::nfa::thompson;
@@ -11,6 +10,7 @@ use regex_automata::nfa::thompson::{NfaError, ReverseError};
 use regex_automata::tokens::TokenError;
 use regex_automata::util::byte_set::ByteSet;
 use regex_automata::util::search::{Anchored, MatchError, PatternSet, PatternSetInsertError};
+use search_script::RunError;
 use std::fmt::Display;
 
 /// The texts that no reply of a script shows.

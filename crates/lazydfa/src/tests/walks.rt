@@ -2,10 +2,10 @@
 
 use super::bench::{Bench, Call, On, Over};
 use super::reports::{Automaton, RowOf, reports_all};
-use crate::catalogue::Entry;
 use Automaton::{Forward, Reverse};
 use Call::{Counts, Find, Match, Next, Prints, Reset, Switch};
 use Over::Text;
+use search_script::Entry;
 
 /// A row of calls over a walk.
 type Row = RowOf<On, Call>;

@@ -16,7 +16,7 @@ use std::alloc::{AllocError, Global};
 /// What a script asks for, in the order of its lines.
 #[derive(Drop)]
 pub struct Script {
-    pub definitions: Vec<Definition>,
+    pub(crate) definitions: Vec<Definition>,
     orders: Vec<Order>,
 }
 

@@ -53,33 +53,8 @@ pub enum Entry {
 }
 
 impl Entry {
-    /// All entries of the catalogue.
-    pub const ALL: [Entry; 21] = [
-        Entry::Ab,
-        Entry::Always,
-        Entry::Never,
-        Entry::Date,
-        Entry::Words,
-        Entry::Abc,
-        Entry::Aa,
-        Entry::Bnum,
-        Entry::Wordend,
-        Entry::Empty,
-        Entry::Snow,
-        Entry::Snowx,
-        Entry::Bound,
-        Entry::Crlf,
-        Entry::Any,
-        Entry::Runs,
-        Entry::A16,
-        Entry::Percents,
-        Entry::Starts,
-        Entry::Bounds,
-        Entry::Knot,
-    ];
-
     /// The entry with this name, or none if no entry has it.
-    pub fn named(name: &[u8]) -> Option<Entry> {
+    pub(crate) fn named(name: &[u8]) -> Option<Entry> {
         let (_, entry) = NAMES.iter().find(|(text, _)| *text == name)?;
         Some(*entry)
     }

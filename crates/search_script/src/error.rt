@@ -17,7 +17,7 @@ pub enum RunError {
 
 impl RunError {
     /// The error of a script whose input cannot be read, or whose output cannot be written.
-    pub fn of_io(error: io::Error) -> RunError {
+    pub(crate) fn of_io(error: io::Error) -> RunError {
         match error.kind() {
             io::ErrorKind::OutOfMemory => RunError::OutOfMemory,
             _ => RunError::Failed,

@@ -31,7 +31,7 @@ impl<'a> fmt::Display for Line<'a> {
 }
 
 /// Writes a half match as `half PATTERN OFFSET`, its offset in bytes, or `none`, or the words of the error.
-pub(crate) fn write_half<W: fmt::Write>(
+fn write_half<W: fmt::Write>(
     f: &mut fmt::Formatter<W>,
     found: &Result<Option<HalfMatch>, SearchError>,
 ) -> fmt::Result {
@@ -47,7 +47,7 @@ pub(crate) fn write_half<W: fmt::Write>(
 }
 
 /// Writes a match as `match PATTERN START..END`, its offsets in bytes, or `none`, or the words of the error.
-pub(crate) fn write_span<W: fmt::Write>(
+fn write_span<W: fmt::Write>(
     f: &mut fmt::Formatter<W>,
     found: &Result<Option<Match>, SearchError>,
 ) -> fmt::Result {
@@ -127,10 +127,7 @@ fn write_end<W: fmt::Write>(f: &mut fmt::Formatter<W>, error: Option<&SearchErro
 }
 
 /// Writes the words of the error of a search, its offset in bytes.
-pub(crate) fn write_error<W: fmt::Write>(
-    f: &mut fmt::Formatter<W>,
-    error: &SearchError,
-) -> fmt::Result {
+fn write_error<W: fmt::Write>(f: &mut fmt::Formatter<W>, error: &SearchError) -> fmt::Result {
     match error {
         SearchError::Match(error) => match error.kind() {
             MatchErrorKind::Quit { byte, offset } => write!(f, "quit {byte:02x} {offset}"),
