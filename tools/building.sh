@@ -1,8 +1,8 @@
 #!/bin/sh
-# Measures how long NFAs, reversed NFAs and regexes take to be built, in a copy of the repository with one crate more:
+# Measures how long it takes to build NFAs, reversed NFAs and regexes, in a copy of the repository with one more crate:
 #     tools/building.sh
-# It proves what is not proved yet, and then prints a line for each NFA, as measure/building.in says.
-# BUILDING_COPY names a copy to use again.
+# It proves what is not proved yet, and then prints a line for each NFA, as measure/building.in describes.
+# BUILDING_COPY names a copy to reuse.
 set -eu
 top=$(cd "$(dirname "$0")/.." && pwd)
 copy=${BUILDING_COPY:-$(mktemp -d)}

@@ -1,24 +1,27 @@
 #!/usr/bin/env python3
-"""Builds the library for C, installs it into a folder of its own, and runs the tests of bindings/c:
+"""Builds the C library, installs it into a folder of its own, and runs the tests of bindings/c:
 
-    tools/c.py ['N passed, M failed']
+    tools/c.py [--archive FILE] ['N passed, M failed']
 
-Every call, right and with every wrong argument (calls.c, texts.c, limits.c, facts.c, pieces.c, walks.c); each allocation
-refused in turn (faults.c); what caches take of malloc, beside what is told of them (memory.c); four threads over one
-regex (threads.c), under helgrind too if there is one; the script of the program
-`lazydfa` by a C program (script.c), which has to print what `lazydfa` does; the example grep.c, which has to print what
-`grep -E` does, if there is one; and the programs of docs/C.md, which have to print what is said there. Each C program
-is compiled twice, the second time under the address and undefined behaviour sanitizers, if the compiler has them.
+Every call, with valid and with every kind of invalid arguments (calls.c, texts.c, limits.c, facts.c, pieces.c,
+walks.c); each allocation made to fail in turn (faults.c); the memory that caches take from malloc, compared with what
+they report (memory.c); four threads over one regex (threads.c), under helgrind too if it is installed; the script of
+the program `lazydfa`, run by a C program (script.c), which has to print what `lazydfa` prints; the example grep.c,
+which has to print what `grep -E` prints, if that is installed; and the programs of docs/C.md, which have to print what
+is said there. Each C program is compiled twice, the second time with the address and undefined behaviour sanitizers, if
+the compiler has them.
 
 Then the symbols of the archive and of the shared library, programs over the shared library, the version, what is
-installed and removed, calls with arguments in a wrong order, which the compiler has to refuse, the header in C++ if
-there is a C++ compiler, and the pkg-config file if there is that program.
+installed and removed, calls with arguments in a wrong order, which the compiler must reject, the header in C++ if there
+is a C++ compiler, and the pkg-config file if pkg-config is installed.
 
-The last line counts these too, beside what the given line counts. It needs Python 3, the kit's rt, make, cc and
-binutils. The library stands on the crates as `rt ci` proved and left them, if it did so since they were last changed,
-and else as `rt lib` makes them, which first proves what was not proved yet. What it proves of the library's own crate
-is kept in its out/, as `rt check` keeps it, and `tools/wrong.py` begins with that.
+The last line counts these tests, added to those that the given line counts. It needs Python 3, the kit's rt, make, cc
+and binutils. The library uses the crates as `rt ci` proved and left them, if it did so since they were last changed,
+and otherwise as `rt lib` builds them, which first proves what is not proved yet. What it proves of the library's own
+crate is kept in its out/, as `rt check` does, and `tools/wrong.py` starts from that. With --archive nothing is built:
+the tests are those of the named archive, as tools/quick.sh builds it without proof.
 """
+import argparse
 import os
 import re
 import shutil
@@ -34,9 +37,9 @@ STRICT = ["-std=c99", "-Wall", "-Wextra", "-pedantic", "-Werror", "-O1", "-g"]
 SANITIZED = ["-fsanitize=address,undefined", "-fno-sanitize-recover=all"]
 WRAPPED = ["-Wl,--wrap=malloc,--wrap=realloc,--wrap=free"]
 HELGRIND = ["valgrind", "--tool=helgrind", "--error-exitcode=9", "--quiet"]
-# What the library calls.
+# The heap functions that the library calls.
 NEEDS = ["free", "malloc", "memcpy", "memmove", "memset", "realloc"]
-# Calls of a builder, of which the compiler takes the first, and none of the others.
+# Calls of a builder: the compiler accepts the first, and must reject the others.
 ORDERS = [
     "lazydfa_add_range(&b, 'a', 'z', id, &id), lazydfa_add_look(&b, LAZYDFA_LOOK_END, id, &id)",
     "lazydfa_add_range(&b, id, 'a', 'z', &id)",
@@ -49,7 +52,7 @@ ORDERS = [
     "lazydfa_finish_pattern(&b, id, &id)",
     "lazydfa_patch(&b, pattern, id)",
 ]
-# What is installed, below the folder for libraries or the one for headers.
+# The installed files, below the folder for libraries or the folder for headers.
 INSTALLED = [
     "include/lazydfa.h",
     "lib/liblazydfa.a",
@@ -58,7 +61,7 @@ INSTALLED = [
     "lib/liblazydfa.so.{version}",
     "lib/pkgconfig/lazydfa.pc",
 ]
-# Arguments of grep.c, to which `grep -E` has to answer the same.
+# Arguments of grep.c, with which `grep -E` has to print the same.
 GREPS = [
     ["-c", "-e", "lazy", "-e", "[0-9]{2,}", "README.md", "docs/C.md"],
     ["-n", "-i", "-e", "^the|DFA[.,]$", "README.md"],
@@ -83,7 +86,7 @@ def text(path):
 
 
 def archive(room):
-    """Proves and builds the crate over what rt ci left, and returns the words that have make take it, if it could."""
+    """Proves and builds the crate over what rt ci left, and returns the words with which make uses it, if it could."""
     uses = crates_used()
     if any(has_stamp(it) or not is_current(it) for it in below(CRATE, uses)):
         return []
@@ -99,16 +102,16 @@ def archive(room):
 
 
 def programs():
-    """Returns the programs of docs/C.md: the name of each, its text, and what it prints."""
+    """Returns the programs of docs/C.md: the name, the text and the output of each."""
     document = text("docs/C.md")
     found = re.findall(r"`(\w+)\.c`:\n\n```c\n(.*?)```\n\n[^\n]*prints:\n\n```text\n(.*?)```", document, re.S)
     is_each = len(found) == document.count("\nint main(") > 0
-    # One that is not in this form is counted as one that does not compile.
+    # A program that is not in this form counts as one that does not compile.
     return found if is_each else [*found, ("another", "", "")]
 
 
 class Tests:
-    """The tests over an installed library, and how they ended."""
+    """The tests over an installed library, and their results."""
 
     def __init__(self, room):
         self.room, self.passed, self.failed = room, 0, 0
@@ -123,25 +126,25 @@ class Tests:
         self.passed, self.failed = self.passed + (not fault), self.failed + bool(fault)
 
     def compile(self, source, flags, library=None):
-        """Compiles a program, and returns its path, or nothing and what is wrong."""
+        """Compiles a program, and returns its path, or an empty path and the error."""
         target = f"{self.room}/program"
         words = ["cc", *STRICT, *flags, f"-I{self.include}", "-o", target, source, library or self.archive]
         status, out, err = run(words)
         return ("", f"it does not compile\n{out}{err}") if status else (target, "")
 
     def write(self, name, source):
-        """Writes a source of a program, and returns its path."""
+        """Writes the source of a program, and returns its path."""
         with open(f"{self.room}/{name}", "w", encoding="utf-8") as it:
             it.write(source)
         return f"{self.room}/{name}"
 
     def has(self, flags):
-        """Whether the compiler has these flags, and what it makes with them runs."""
+        """Whether the compiler accepts these flags, and the program that it makes with them runs."""
         target, _ = self.compile(self.write("nothing.c", "int main(void) { return 0; }\n"), flags)
         return bool(target) and not run([target])[0]
 
     def try_program(self, name, source, flags, stdin="", prints=None, under=(), words=(), library=None):
-        """Compiles and runs a program, which has to end with status 0, and to print this if it is given."""
+        """Compiles and runs a program, which must end with status 0 and print this output, if one is given."""
         target, fault = self.compile(source, flags, library)
         if target:
             status, out, err = run([*under, target, *words], stdin)
@@ -168,7 +171,7 @@ class Tests:
             self.try_program(f"{name}.c of docs/C.md{kind}", path, ["-pthread", *flags], "", prints)
 
     def try_grep(self, name, flags):
-        """Compares what grep.c prints, and its status, with what `grep -E` does."""
+        """Compares the output and the status of grep.c with those of `grep -E`."""
         target, fault = self.compile(f"{C}/examples/grep.c", flags)
         for words in GREPS if target else []:
             paths = [f"{TOP}/{it}" if os.path.exists(f"{TOP}/{it}") else it for it in words]
@@ -179,7 +182,8 @@ class Tests:
         self.count(name, fault or (self.faults_of_grep(target) if target else ""))
 
     def faults_of_grep(self, target):
-        """What grep.c must report: a folder that cannot be read, and output that cannot be written."""
+        """Returns which errors grep.c fails to report: that a folder cannot be read, and that output cannot be
+        written."""
         fault = ""
         status, _, err = run([target, "-e", "x", f"{TOP}/README.md", self.room])
         if status != 2 or "cannot be read" not in err:
@@ -196,7 +200,8 @@ class Tests:
         self.count("the header in C++", f"it does not compile\n{out}{err}" if status else "")
 
     def try_package(self):
-        """The installed pkg-config file names the header's folder, the library, the archive and the version."""
+        """Tests that the installed pkg-config file names the header's folder, the library, the archive and the
+        version."""
         os.environ["PKG_CONFIG_PATH"] = f"{self.room}/lib/pkgconfig"
         asked = ["--cflags", "--libs", "--variable=archive", "--modversion"]
         wanted = [f"-I{self.include}", f"-L{self.room}/lib -llazydfa", self.archive, self.version]
@@ -204,7 +209,8 @@ class Tests:
         self.count("pkg-config", "" if [it[1].strip() for it in said] == wanted else f"{said}")
 
     def try_symbols(self):
-        """The archive and the shared library define what the header declares, and nothing else that others see."""
+        """Tests that the archive and the shared library define what the header declares, and nothing else that is
+        visible."""
         fault = ""
         for words in (["nm", "-g", self.archive], ["nm", "-D", self.shared]):
             symbols = [it.split()[-2:] for it in run(words)[1].splitlines() if " " in it.strip()]
@@ -217,7 +223,8 @@ class Tests:
         self.count("symbols", fault)
 
     def try_shared(self):
-        """Programs run with the shared library, and beside another library with heap functions of the kit's names."""
+        """Runs programs with the shared library, and beside another library that has heap functions of the kit's
+        names."""
         found = ["-pthread", f"-Wl,-rpath,{self.room}/lib"]
         self.try_program("calls, shared", f"{C}/tests/calls.c", found, library=self.shared)
         self.try_program("texts, shared", f"{C}/tests/texts.c", found, library=self.shared)
@@ -228,14 +235,15 @@ class Tests:
         self.try_program(f"{name}.c beside another library", path, [], "", prints)
 
     def try_version(self):
-        """The header's four words for its version say one thing."""
+        """Tests that the header's four definitions of its version agree."""
         parts = "LAZYDFA_VERSION_MAJOR, LAZYDFA_VERSION_MINOR, LAZYDFA_VERSION_PATCH"
         source = "#include <lazydfa.h>\n#include <stdio.h>\nint main(void) {\n"
         source += f'    printf("%s %d.%d.%d\\n", LAZYDFA_VERSION, {parts});\n    return 0;\n}}\n'
         self.try_program("version", self.write("version.c", source), [], "", f"{self.version} {self.version}\n")
 
     def try_orders(self):
-        """The compiler takes arguments in their order, and in no other one that the header's types tell."""
+        """Tests that the compiler accepts arguments in their order, and in no other order that the header's types
+        distinguish."""
         fault = ""
         for number, calls in enumerate(ORDERS):
             source = "#include <lazydfa.h>\nint main(void) {\n    lazydfa_builder b = LAZYDFA_INIT;\n"
@@ -247,7 +255,7 @@ class Tests:
         self.count("orders of arguments", fault)
 
     def try_install(self):
-        """What is built is installed below DESTDIR without rt, and removed again."""
+        """Tests that what is built can be installed below DESTDIR without rt, and removed again."""
         stage = f"{self.room}/stage"
         how = ["PREFIX=/it", "LIBDIR=/it/lib", f"DESTDIR={stage}", "CRATE=/none", "KIT=/none"]
         status, out, err = run(["make", "-C", C, "install", *how])
@@ -266,7 +274,7 @@ def files(folder):
 
 
 def differing(out, prints):
-    """Returns the first line that is not the one that is wanted."""
+    """Returns the first line that differs from the expected one."""
     if prints is None:
         return out
     lines, wanted = out.splitlines(), prints.splitlines()
@@ -277,11 +285,16 @@ def differing(out, prints):
 
 
 def main(words):
-    counted = re.fullmatch(r"(\d+) passed, (\d+) failed", words[0] if words else "0 passed, 0 failed")
+    parser = argparse.ArgumentParser()
+    parser.add_argument("--archive")
+    parser.add_argument("counted", nargs="?", default="0 passed, 0 failed")
+    given = parser.parse_args(words)
+    counted = re.fullmatch(r"(\d+) passed, (\d+) failed", given.counted)
     passed, failed = (int(counted[1]), int(counted[2])) if counted else (0, 1)
     with tempfile.TemporaryDirectory(prefix="c-") as room:
         tests = Tests(room)
-        status, out, err = run(["make", "-C", C, *archive(room)], seconds=7200)
+        named = [f"ARCHIVE={os.path.abspath(given.archive)}"] if given.archive else archive(room)
+        status, out, err = run(["make", "-C", C, *named], seconds=7200)
         if not status:
             status, out, err = run(["make", "-C", C, "install", f"PREFIX={room}", "DESTDIR="])
         tests.count("the library for C", f"it was not built\n{out}{err}" if status else "")

@@ -4,14 +4,14 @@
     tools/ci.py
 
 `rt ci` proves the crates side by side, lowest first. With RT_JOBS each check has one processor. Without it, a check has
-as many as its estimate of memory allows, which is some four times what a check takes, and shares them with all that is
-ready, also with what takes no work. So most processors are idle while one large crate after another is proved. This
-loads the kit's script and replaces the one function that gives checks their turns: what takes no work is done at once,
-those that are ready share the processors by their lines, up to four each, and memory is what checks were measured to
-take. What is checked, and how, is the kit's.
+as many as its estimate of memory allows, which is some four times what the check takes, and shares them with all checks
+that are ready, even those that have nothing to do. So most processors are idle while one large crate after another is
+proved. This loads the kit's script and replaces the one function that schedules checks: checks that have nothing to do
+are done at once, those that are ready share the processors in proportion to their lines, up to four each, and memory is
+what checks were measured to take. What is checked, and how, is up to the kit.
 
-A kit that is not the one below is called as it is, with RT_JOBS: as many checks side by side as there are processors,
-and 4 GB of memory for each. RT_JOBS, where it is set, is obeyed with any kit.
+A kit other than the known one is called unchanged, with RT_JOBS: as many checks side by side as there are processors,
+with 4 GB of memory for each. If RT_JOBS is set, it is used with any kit.
 """
 import concurrent.futures
 import importlib.machinery
@@ -22,21 +22,21 @@ import shutil
 import subprocess
 import sys
 
-# The end of `rt version`, for which the function was read and the memory was measured.
+# The end of `rt version` of the kit for which the function was read and the memory was measured.
 KNOWN_KIT = "logic dac8208d650f15bf"
-# The functions of its script that are replaced or called, and what they take.
+# The functions of its script that are replaced or called, and their parameters.
 TAKES = {"in_lanes": ["tasks"], "processors": [], "free": [], "main": ["words"]}
-# The most memory that a check took, in GB: of a crate, or of its tests; and by how much each further job adds to it.
-PEAKS = {"automata_base": 4.0, "automata_hybrid": 4.0, "lazydfa": 6.5}
+# The peak memory of a check, in GB: of a crate, or of its tests; and how much each further job adds to it.
+PEAKS = {"automata_base": 4.0, "automata_hybrid": 4.0, "examples": 5.0, "lazydfa": 6.5}
 ANY_OTHER = 2.5
 FURTHER_JOB = 0.3
 MOST_JOBS = 4
-# The memory for a check beside others, in kB, where nothing is known of it.
+# The memory for each of the checks side by side, in kB, if nothing is known about it.
 ROOM = 4 << 20
 
 
 def work_behind(tasks):
-    """Returns the work of each task with that of the longest chain of tasks that wait for it."""
+    """Returns the work of each task plus that of the longest chain of tasks that wait for it."""
     behind = {it: 0 for it in tasks}
     # (a task comes after those that it waits for)
     for key in reversed([*tasks]):
@@ -47,9 +47,9 @@ def work_behind(tasks):
 
 
 def take_turns(tasks, processors, memory):
-    """Runs tasks as the kit's `in_lanes` does, and returns what each gave. A task is what it waits for, its work in
-    lines, the kit's estimate of its memory, and a call that gets what the others gave and how many jobs it may use. Its
-    key is a crate's name and what is done."""
+    """Runs tasks as the kit's `in_lanes` does, and returns their results. A task consists of the tasks that it waits
+    for, its work in lines, the kit's estimate of its memory, and a function of the results of the others and of how
+    many jobs it may use. Its key is a crate's name and what is done."""
     behind = work_behind(tasks)
     left, running, given = sorted(tasks, key=lambda it: -behind[it]), {}, {}
     with concurrent.futures.ThreadPoolExecutor(processors) as pool:
@@ -89,7 +89,7 @@ def load(path):
 
 
 def is_known(path):
-    """Whether this is the script of the known kit."""
+    """Whether this script belongs to the known kit."""
     try:
         with open(f"{os.path.dirname(os.path.dirname(path))}/KIT-ID", encoding="utf-8") as it:
             return it.read().strip().endswith(KNOWN_KIT)
@@ -98,7 +98,7 @@ def is_known(path):
 
 
 def has_functions(module):
-    """Whether the module has the functions that are replaced or called, which take what they took."""
+    """Whether the module has the functions that are replaced or called, with the known parameters."""
     found = {it: getattr(module, it, None) for it in TAKES}
     return all(inspect.isfunction(it) for it in found.values()) and all(
         list(inspect.signature(it).parameters) == TAKES[name] for name, it in found.items()
@@ -106,8 +106,8 @@ def has_functions(module):
 
 
 def lanes():
-    """Returns how many checks run side by side where nothing is known of their memory: one a processor that this may
-    run on, with 4 GB for each."""
+    """Returns how many checks run side by side if nothing is known about their memory: one for each processor that this
+    may run on, with 4 GB for each."""
     free = 0
     with open("/proc/meminfo", encoding="utf-8") as it:
         for line in it:

@@ -3,11 +3,11 @@
 
     tools/ci_test.py ['N passed, M failed']
 
-The function that gives checks their turns is replaced in the known kit, whose status is returned. A kit of another
-identity, one whose functions are gone or take something else, and one beside RT_JOBS are called as they are. Tasks run
-once each, after those that they wait for, with no more jobs and no more memory together than there are.
+With the known kit, the function that schedules checks is replaced, and the kit's status is returned. A kit with another
+identity, a kit whose functions are missing or have other parameters, and any kit with RT_JOBS set are called unchanged.
+Each task runs once, after those that it waits for, with no more jobs and no more memory in total than there are.
 
-The last line counts these too, beside what the given line counts. It needs Python 3.
+The last line counts these tests, added to those that the given line counts. It needs Python 3.
 """
 import os
 import random
@@ -21,7 +21,7 @@ import time
 import ci
 
 KNOWN = f"kit of a test {ci.KNOWN_KIT}"
-# A kit's script that says who gave its only check a turn, and how it was called.
+# A kit's script that prints what scheduled its only check, and how it was called.
 RT = """#!/usr/bin/env python3
 import os, sys
 {functions}
@@ -34,7 +34,7 @@ if __name__ == "__main__":
 """
 FUNCTIONS = "def in_lanes(tasks): return 'its own'\ndef processors(): return 3\ndef free(): return 9e9"
 AS_IT_IS = r"\['as it is', 'ci'\] its own [1-9]\d*\n"
-# The name of a test, the kit's identity, its functions, RT_JOBS, and what has to be printed.
+# The name of a test, the kit's identity, its functions, RT_JOBS, and the expected output.
 ROWS = [
     ("the known kit", KNOWN, FUNCTIONS, None, r"\['ci'\] {\('low', 'proof'\): 3} None\n"),
     ("another kit", "kit logic 0", FUNCTIONS, None, AS_IT_IS),
@@ -64,7 +64,7 @@ def try_row(room, identity, functions, jobs, wanted):
 
 
 def try_tasks(seed, processors, memory):
-    """Returns what is wrong with the turns of random tasks, some of which take no work."""
+    """Returns what is wrong with the schedule of random tasks, some of which have no work."""
     draw, lock, now, faults = random.Random(seed), threading.Lock(), {}, []
     names = [(f"crate{n}", kind) for n in range(6) for kind in ("proof", "tests", "edits")]
     names = [("automata_base", "proof"), *names]
@@ -88,7 +88,7 @@ def try_tasks(seed, processors, memory):
     tasks = {}
     for key in names:
         tasks[key] = waits[key], draw.randrange(3), 1e9, lambda given, jobs, key=key: call(key, given, jobs)
-    # What takes no work is done at once, beside the others: here it would count as a job.
+    # A task without work is done at once, beside the others: here it would count as a job.
     tasks = {key: (it[0], it[1] + 1, *it[2:]) for key, it in tasks.items()}
     tasks["crate5", "edits"] = [names[0]], 0, 1e9, lambda given, jobs: ("crate5", "edits")
     given = ci.take_turns(tasks, processors, memory)

@@ -1,10 +1,10 @@
 #!/bin/sh
 # Compares the library with a slow model in Python, in a copy of the repository, outside the gate:
 #     tools/compare.sh [NFAS [SEED]]
-# The program `lazydfa` answers a script over so many random NFAs. Of each NFA `build_from_nfa` makes two regexes, which
-# get random requests. The replies have to be those that compare/model.py finds by following the paths of the NFA one by
-# one. It prints how many replies it compared, and the shortest part of the script with a wrong one. Nothing is proved:
-# the program runs under a sanitizer.
+# The program `lazydfa` answers a script over this many random NFAs. From each NFA `build_from_nfa` builds two regexes,
+# which get random requests. The replies must equal those that compare/model.py finds by following the paths of the NFA
+# one by one. It prints how many replies it compared, and the shortest part of the script with a wrong one. Nothing is
+# proved: the program runs under a sanitizer.
 set -eu
 nfas=${1:-3000}
 seed=${2:-1}

@@ -1,12 +1,12 @@
 #!/bin/sh
-# Counts the instructions of searches by callgrind, here, by the twin and by RE2, in a copy that measure.sh made:
+# Counts the instructions of searches with callgrind, here, in the twin and in RE2, in a copy that measure.sh made:
 #     tools/count.sh COPY [WORK..]
 #     tools/count.sh COPY c [WORK..]
-# The second form counts the works of the library for C, by its C program, the twin, RE2 and the Rust crate regex.
-# It needs valgrind, and takes half an hour for all works. These leave out haystacks of 1 MB and 64 MB, whose bytes take
-# the instructions of those in 64 KB. Only what the searches run is counted, of a first search its DFA and cache too, and
-# of a whole one also its automaton, or RE2's parse and program. It prints instructions a unit, by measure/works, and a dash
-# for a work that a program does not have, and for a program that is not there.
+# The second form counts the works of the C library, in its C program, the twin, RE2 and the Rust crate regex.
+# It needs valgrind, and takes half an hour for all works. They leave out haystacks of 1 MB and 64 MB, whose bytes take
+# as many instructions as those in 64 KB. Only what the searches run is counted; for a first search also its DFA and
+# cache, and for a whole one also its automaton, or RE2's parser and program. It prints instructions per unit, as
+# measure/works defines it, and a dash for a work that a program does not have, and for a program that is not installed.
 set -eu
 copy=$1
 shift

@@ -5,17 +5,19 @@ for definitions without a sentence:
     tools/documents.py [--write] ['N passed, M failed']
 
 Each block of Rattle or of antt in a document has to stand in the file that the line before it names, as
-`crates/example_words/src/main.rt`, line for line but for how far it is indented. A block after a line that ends in
+`crates/examples/src/words.rt`, line for line but for how far it is indented. A block after a line that ends in
 "prints:" has to be what the program writes, the file stdout of the crate that was named last. A block of Rattle in a
 docstring of the settings, the lazy DFA or the regex has to stand in some file of the example crates. Above each definition
 in specs/, and above each field of a record, stands a comment. The pictures docs/nfa.svg and docs/states.svg have the states
-and the edges of the two graphs that `example_picture` prints. The plots docs/words.svg, docs/sets.svg and docs/capacity.svg
-are what tools/plots.py draws of the tables of docs/PERFORMANCE.md.
+and the edges of the two graphs that the example `picture` prints. The plots docs/words.svg, docs/sets.svg and
+docs/capacity.svg are what tools/plots.py draws of the tables of docs/PERFORMANCE.md.
 
 docs/index has each definition, by crate, and docs/READING.md how many there are in each tier: both have to be what
-tools/index.py finds, and --write writes them. In specs/Private of the lazy DFA stands what no contract of a public call
-reaches, and nothing else. No two definitions have one name, and no line of specs/ and proofs/ has more than 120 signs.
-READING has each sign that specs/ use, and each name of the standard library.
+tools/index.py finds. docs/index/CALLS.md has each public call, and docs/index/CLAUSES.md what is proved of it: these have
+to be what tools/calls.py finds. --write writes them all. Each link of a document to a file of the repository has to lead
+to one, and to a heading or an anchor in it. In specs/Private of the lazy DFA stands what no
+contract of a public call reaches, and nothing else. No two definitions have one name, and no line of specs/ and proofs/
+has more than 120 signs. READING has each sign that specs/ use, and each name of the standard library.
 
 The last line counts each of these, beside what the given line counts, the last one of `rt ci`, which proves and runs the
 programs themselves. It needs Python 3 alone.
@@ -27,13 +29,17 @@ import sys
 
 sys.dont_write_bytecode = True
 
-import index  # of this folder, as plots is
+import calls  # of this folder, as index and plots are
+import index
 import plots
 
 TOP = os.path.dirname(os.path.dirname(os.path.abspath(__file__)))
-DOCUMENTS = ["README.md", "docs/CALLING.md", "docs/PATTERNS.md", "docs/READING.md"]
-PICTURES, GRAPHS = ["docs/nfa.svg", "docs/states.svg"], "crates/example_picture/stdout"
-READING, TIERS = "docs/READING.md", re.compile(r"(?<=\|---\|---\|---\|---\|---\|---\|---\|---\|---\|\n)(?:\|.*\n)*")
+DOCUMENTS = ["README.md", "docs/ARCHITECTURE.md", "docs/CALLING.md", "docs/PATTERNS.md", "docs/READING.md"]
+PICTURES, GRAPHS = ["docs/nfa.svg", "docs/states.svg"], "crates/examples/data/picture/stdout"
+READING, TIERS = "docs/READING.md", re.compile(r"(?<=<!-- tiers -->\n)(?:\|.*\n)*")
+CALLS, CLAUSES = "docs/index/CALLS.md", "docs/index/CLAUSES.md"
+# The folders of documents.
+FOLDERS = ["docs", "docs/index", "bindings/postgres"]
 DOCSTRINGS = ["automata_config", "automata_hybrid", "regex_automata"]
 # A definition, or a field of a record.
 DEFINITION = re.compile(
@@ -92,7 +98,7 @@ def below(folder, ending):
 
 def docstring_faults():
     """Returns which examples of docstrings stand in no example crate."""
-    crates = [it for it in sorted(os.listdir(f"{TOP}/crates")) if it.startswith("example_")]
+    crates = [it for it in sorted(os.listdir(f"{TOP}/crates")) if it.startswith("example")]
     sources = [bare(read(path).split("\n")) for it in crates for path in below(f"crates/{it}/src", ".rt")]
     faults = []
     for path in [it for crate in DOCSTRINGS for it in below(f"crates/{crate}/src", ".rt")]:
@@ -123,7 +129,7 @@ def drawn(picture):
 
 
 def picture_faults(picture, graph):
-    """Returns whether a picture is not that of a graph which `example_picture` prints."""
+    """Returns whether a picture is not that of a graph which the example `picture` prints."""
     wanted, nodes = [], {}
     for first, second, label in re.findall(r'^    (\w+)(?: -> (\w+))?(?: \[.*?(?:label="(.*)")?\])?$', graph, re.M):
         name = f"{first}->{second}" if second else first
@@ -137,18 +143,54 @@ def picture_faults(picture, graph):
     return [] if right else [f"{picture} is not the picture of its graph in {GRAPHS}"]
 
 
-def index_faults(specs, named, tier, write):
-    """Returns which pages of the index, and which counts of READING, are not those of specs/; or writes them."""
+def generated(specs, named, tier):
+    """Returns the pages that are made of the sources, in part or as a whole, with the text that each should have."""
     pages = {f"docs/index/{it}.md": index.table_of(specs, named, tier, it) for it in index.CRATES}
-    pages[READING] = TIERS.sub("".join(f"{it}\n" for it in index.tier_rows(tier)), read(READING), count=1)
+    pages[READING] = TIERS.sub("".join(f"{it}\n" for it in index.tier_table(tier)), read(READING), count=1)
+    pages[CALLS], pages[CLAUSES] = calls.calls_page(specs), calls.clauses_page(specs)
+    return pages
+
+
+def generated_faults(pages, write):
+    """Returns which of these pages do not have the text that they should have; or writes it."""
     faults = []
     for path, text in pages.items():
         if not os.path.exists(f"{TOP}/{path}") or read(path) != text:
-            faults.append(f"{path} is not that of specs: tools/documents.py --write")
+            faults.append(f"{path} is not that of the sources: tools/documents.py --write")
             if write:
                 with open(f"{TOP}/{path}", "w", encoding="utf-8") as it:
                     it.write(text)
     return [] if write else faults
+
+
+def documents():
+    """Returns all documents."""
+    found = [os.path.normpath(f"{folder}/{it}") for folder in [".", *FOLDERS] for it in os.listdir(f"{TOP}/{folder}")]
+    return sorted(it for it in found if it.endswith(".md"))
+
+
+def anchors(path):
+    """Returns to what a link into a page may lead: its headings, as GitHub names them, and its anchors."""
+    text = read(path)
+    headings = re.findall(r"^#+ (.*)$", re.sub(r"^```.*?^```$", "", text, flags=re.M | re.S), re.M)
+    named = [re.sub(r"[^\w\- ]", "", it).lower().replace(" ", "-") for it in headings]
+    return {*named, *re.findall(r'<a id="([^"]*)">', text)}
+
+
+def link_faults(path):
+    """Returns which links of a page lead nowhere. Those to other sites are not followed."""
+    faults, known = [], {}
+    text = re.sub(r"```.*?```|`[^`]*`", "", read(path), flags=re.S)
+    for target in dict.fromkeys(re.findall(r"\]\(([^)\s]+)\)", text)):
+        file, _, anchor = target.partition("#")
+        there = os.path.normpath(os.path.join(os.path.dirname(path), file)) if file else path
+        if "://" in target or os.path.exists(f"{TOP}/{there}") and not anchor:
+            continue
+        if not os.path.exists(f"{TOP}/{there}"):
+            faults.append(f"{target} is no file")
+        elif anchor not in known.setdefault(there, anchors(there)):
+            faults.append(f"{target} is no heading")
+    return faults
 
 
 def homonym_faults(specs):
@@ -190,13 +232,15 @@ def main(words):
     specs = index.Specs()
     named = index.calls(specs)
     tier = index.tiers(specs, named)
-    found["the index"] = index_faults(specs, named, tier, write), "it is that of specs"
+    found["generated"] = generated_faults(generated(specs, named, tier), write), "each page is that of the sources"
+    linked = documents()
+    found["links"] = [f"{page}: {it}" for page in linked for it in link_faults(page)], "each leads somewhere"
     found["Private"] = index.misplaced(specs, tier), "it has what no public contract reaches"
     found["names"] = homonym_faults(specs), "no two definitions have one"
     found["lines"] = width_faults(), "none of specs and proofs has more than 120 signs"
     found["signs"] = sign_faults(), f"each is in {READING}"
     for picture, graph in zip(PICTURES, read(GRAPHS).split("digraph ")[1:], strict=True):
-        found[picture] = picture_faults(picture, graph), "it is that of example_picture"
+        found[picture] = picture_faults(picture, graph), "it is that of the example picture"
     found["the plots"] = plots.faults(), "they are those of PERFORMANCE"
     for name, (faults, right) in found.items():
         print(f"{name}: {'; '.join(faults) or right}")

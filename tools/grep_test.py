@@ -1,13 +1,14 @@
 #!/usr/bin/env python3
-"""Compares what `example_grep` prints, and its status, with what `grep -E` does:
+"""Compares the output and the status of `example_grep` with those of `grep -E`:
 
     tools/grep_test.py [--program FILE] ['N passed, M failed']
 
 The program is the one that `rt ci` or `rt run` left in the crate's out/, unless another is named. The texts are
 documents of this repository, and short ones: with an empty line and no line feed at the end, binary ones, and a folder
-with files, folders, links and a pipe. What `--which` prints is compared with what one `grep -nE` for each pattern finds,
-and the counts of `--stats` with those of `grep -c`. A line that is too long is searched in little memory, where `grep`
-ends. Without the program `grep` nothing is compared. The last line counts these too, beside what the given line counts.
+with files, folders, links and a pipe. The output of `--which` is compared with that of one `grep -nE` for each pattern,
+and the counts of `--stats` with those of `grep -c`. A line that is too long for `grep` is searched in little memory. If
+`grep` is not installed, nothing is compared. The last line counts these tests, added to those that the given line
+counts.
 """
 import argparse
 import os
@@ -25,7 +26,7 @@ TEXTS = {
     "short": b"one\ntwo lazy\n\nthe last line is lazy 77",
     "patterns": b"lazy\n[0-9]{3,}\n",
     "six": "".join(f"{it}\n" for it in PATTERNS).encode(),
-    # A regex of these needs caches of more than the 2 MiB that the library takes if nothing is said.
+    # A regex of these needs caches of more than the 2 MiB that are the library's default.
     "many": "".join(f"{a}{b}{c}[a-z]{{0,9}}x?\n" for a in LETTERS for b in LETTERS for c in LETTERS).encode(),
     "binary": b"a lazy\0lazy b\nxx\n\0lazy\n",
     "ends": b"xx\0\0lazy\0",
@@ -39,7 +40,7 @@ TEXTS = {
 }
 LINKS = {"tree/link": "../short", "tree/loop": "a", "linked": "tree"}
 INPUT = "a lazy line\nanother\n"
-# The arguments of each call. README.md and LICENSE-MIT are of this repository.
+# The arguments of each call. README.md and LICENSE-MIT are files of this repository.
 CALLS = [
     ["lazy"],
     ["-c", "lazy"],
@@ -66,7 +67,7 @@ CALLS = [
     ["lazy", "no such file", "short"],
     ["-e"],
     ["--no-such-flag", "lazy"],
-    # Names of files, and nothing at all.
+    # Names of files, and no names at all.
     ["-H", "lazy", "short"],
     ["-hn", "lazy", "short", "README.md"],
     ["-q", "lazy", "short"],
@@ -116,7 +117,7 @@ CALLS = [
     ["-rq", "lazy", "tree"],
     ["-rq", "no such", "tree"],
 ]
-# The files below `tree` that have a match, in the order of names that `example_grep` searches them in.
+# The files below `tree` that have a match, in the order of names in which `example_grep` searches them.
 ORDER = b"tree/a/.hidden\ntree/a/0\ntree/a/z\ntree/b\ntree/b.txt\n"
 LONG = 100 << 20
 
@@ -135,7 +136,8 @@ def write_texts(room):
 
 
 def run(words, folder, limit=None):
-    """Runs a program, in so many bytes of memory if there is a limit, and returns its status and what it wrote."""
+    """Runs a program, with at most this many bytes of memory if there is a limit, and returns its status and its
+    output."""
     with tempfile.TemporaryFile() as given:
         given.write(INPUT.encode())
         given.seek(0)
@@ -146,8 +148,8 @@ def run(words, folder, limit=None):
 
 
 def compared(found, call):
-    """What of a run is compared: its status, what it printed, and which files it said to be binary or folders. Below a
-    folder `grep` has no order, and neither have these lines."""
+    """Returns the parts of a run that are compared: its status, its output, and the files that it reported to be binary
+    or folders. Below a folder `grep` has no order, so these lines have none either."""
     status, printed, said = found
     told = sorted(it for it in re.findall(rb"^[a-z_]+: (.*: (?:binary file matches|Is a directory))$", said, re.M))
     unordered = call[0].startswith("-r")
@@ -155,7 +157,8 @@ def compared(found, call):
 
 
 def which(room, name):
-    """What `--which -Hnf six` has to print of a file: the lines that `grep` finds by each pattern alone."""
+    """Returns the expected output of `--which -Hnf six` for a file: the lines that `grep` finds with each pattern
+    alone."""
     numbers, lines = {}, {}
     for number, pattern in enumerate(PATTERNS, 1):
         for line in run(["grep", "-nE", "-e", pattern, name], room)[1].splitlines():
@@ -167,7 +170,7 @@ def which(room, name):
 
 
 def own(program, room):
-    """What has no flag in `grep`: for each call its name, what was found, and what is wanted."""
+    """Tests what `grep` has no flag for: returns for each call its name, its result, and the expected one."""
     yield "-rl lazy tree, in order", run([program, "-rl", "lazy", "tree"], room)[1], ORDER
     files = ["README.md", "short", "LICENSE-MIT"]
     found = run([program, "-nf", "six", "--which", *files], room)

@@ -1,15 +1,16 @@
 """Reads which definitions of specs/ there are, what each says, and which public calls name it in their contracts.
 
-tools/documents.py writes docs/index from it, and the tiers in docs/READING.md. A definition is known by its module, as
-`automata_base.specs.Answers.Answers`, and its name. Names of the standard library and of the kit, and those that the
-toolchain declares from the code, are none. It needs Python 3 alone.
+tools/documents.py writes docs/index from it, and the tiers in docs/READING.md; tools/calls.py lists the calls that it
+reads. A definition is known by its module, as `automata_base.specs.Answers.Answers`, and its name. Names of the standard
+library and of the kit, and those that the toolchain declares from the code, are none. It needs Python 3 alone.
 """
+import collections
 import os
 import re
 
 TOP = os.path.dirname(os.path.dirname(os.path.abspath(__file__)))
-CRATES = ["automata_base", "automata_config", "automata_hybrid", "regex_automata", "match_facts", "patterns"]
-LIBRARY = CRATES[:4]
+LIBRARY = ["automata_base", "automata_config", "automata_hybrid", "regex_automata"]
+CRATES = [*LIBRARY, "meaning", "match_facts", "patterns", "lazydfa_c"]
 # What an answer means: the words of the fields and clauses that say what a search, a walk, a set, a regex or a list of
 # matches or tokens returns, and what a haystack, an input and a sound pair are.
 MEANING = """
@@ -54,10 +55,11 @@ def first_sentence(comment):
 
 
 class Specs:
-    """All definitions of specs/: what each is made of, the first sentence above it, and the names that each uses."""
+    """All definitions of specs/: what each is made of, the first sentence above it and above each of its fields, and the
+    names that each uses."""
 
     def __init__(self):
-        self.text, self.says, self.path, self.uses = {}, {}, {}, {}
+        self.text, self.says, self.fields, self.path, self.uses = {}, {}, {}, {}, {}
         self.renamed, files = {}, {}
         for crate in sorted(os.listdir(f"{TOP}/crates")):
             for path in below(f"crates/{crate}/specs", ".antt"):
@@ -74,14 +76,18 @@ class Specs:
         for line in lines:
             bare = line.split("--")[0].rstrip()
             if not bare:
-                comment = [*comment, line] if line.startswith("--") else [] if not line.strip() else comment
+                comment = [*comment, line.strip()] if line.strip().startswith("--") else [] if not line.strip() else comment
                 continue
             if re.match(r"(?:pub )?(?:use|mod|open|syntax|infix)\b", bare):
                 current = None
             elif re.match(r"(?:unfoldable |abbrev |opaque |pub |record |data )", bare):
                 current = module, HEAD.match(bare)[1]
                 self.text[current], self.says[current], self.path[current] = "", first_sentence(comment), path
+                self.fields[current] = []
                 names.pop(current[1], None)
+            field = re.match(r"  (?:pub )?([^\s:(]+) :", bare)
+            if field and current and comment:
+                self.fields[current].append((field[1], first_sentence(comment)))
             comment = []
             if current:
                 self.text[current] += bare + "\n"
@@ -93,11 +99,21 @@ class Specs:
 
     def named(self, text, names, modules):
         """Returns the definitions that a text names, by what its file imports."""
-        found = set()
-        for word in WORD.findall(text):
-            head, _, rest = word.partition(".")
-            found |= {names.get(word), names.get(head), (modules.get(head), rest.split(".")[0])}
-        return {self.origin(it) for it in found} & set(self.text)
+        return {it for word in WORD.findall(text) for it in self.named_by(word, names, modules)}
+
+    def named_by(self, word, names, modules):
+        """Returns the definitions that a word of a text names, by what its file imports."""
+        head, _, rest = word.partition(".")
+        keys = [names.get(word), names.get(head), (modules.get(head), rest.split(".")[0])]
+        return [it for it in map(self.origin, keys) if it in self.text]
+
+    def in_order(self, text, names, modules):
+        """Returns the definitions that a text names, in their order."""
+        return list(dict.fromkeys(it for word in WORD.findall(text) for it in self.named_by(word, names, modules)))
+
+    def is_fact(self, it):
+        """Whether a definition says that something holds, by its name, and is no type of values."""
+        return it[1][:1].isupper() and not re.match(r"pub data \S+ : Type 0 where", self.text[it])
 
     def origin(self, key):
         """Returns the definition that a module defines or exports by this name."""
@@ -129,8 +145,13 @@ def public_names(crate):
     return seen, exported
 
 
+# A public function: its file, its type and the trait that it belongs to (or ""), its name, its signature, the first
+# sentence above it, its clauses by name as texts, and the definitions that these name.
+Call = collections.namedtuple("Call", "path owner trait name signature says clauses named")
+
+
 def contracts(specs, crate):
-    """Yields of each public call of a crate its file, its type, its name, and the definitions that its contract names."""
+    """Yields the public functions of a crate, in the order of its files."""
     seen, exported = public_names(crate)
     files = {it: read(it) for it in below(f"crates/{crate}/src", ".rt")}
     types = set(exported)
@@ -141,21 +162,21 @@ def contracts(specs, crate):
         names, modules = imports(lines)
         owner, trait, begin = "", "", 0
         for number, line in enumerate(lines):
-            found = re.match(r"impl(?:<.*?>)? (?:([\w:]+)(?:<.*?>)? for )?(\w+)", line)
+            found = re.match(r"impl(?:<.*?>)? (?:([\w:]+(?:<[^>]*>+)?) for )?(\w+)", line)
             if found:
                 owner, trait, begin = found[2], found[1] or "", number
             if line.startswith("}"):
                 owner, trait = "", ""
-            found = re.match(r"(\s*)(pub )?(?:const )?fn (\w+)", line)
+            found = re.match(r"(\s*)(pub )?(?:const |(extern \"C\" ))?fn (\w+)", line)
             if not found or (owner and not found[1]) or not (found[2] or trait):
                 continue
-            if owner not in types if owner else path.split("/", 2)[2] not in seen and found[3] not in exported:
+            is_seen = found[3] or path.split("/", 2)[2] in seen or found[4] in exported
+            if owner not in types if owner else not is_seen:
                 continue
-            clauses = "\n".join(contract(lines[number:]))
-            if trait and trait != "Model":
-                text = "\n".join(it.split("//")[0] for it in lines[begin:number])
-                clauses += "\n".join(re.findall(r"ghost \w+ = \{(.*?)\};", text, re.S))
-            yield path, owner, found[3], specs.named(clauses, names, modules)
+            clauses = clauses_of(lines[number:], lines[begin:number] if trait and trait != "Model" else [])
+            named = specs.named(" ".join(clauses.values()), names, modules)
+            says = docstring(lines, number) or (trait and docstring(lines, begin)) or ""
+            yield Call(path, owner, trait, found[4], signature(lines[number:]), says, clauses, named)
 
 
 def contract(lines):
@@ -170,19 +191,53 @@ def contract(lines):
             yield bare
 
 
+def clauses_of(lines, above):
+    """Returns the clauses of the function that begins here, by their names, and those of its trait in the lines above."""
+    text = re.sub(r"\s+", " ", " ".join(contract(lines)))
+    found = re.findall(r"\b(requires|ensures)\*?(?: (\w+))? \{(.*?)\}(?= requires\b| ensures\b|$)", text)
+    clauses = {f"{kind} {name}".strip(): body for kind, name, body in found}
+    text = "\n".join(it.split("//")[0] for it in above)
+    return clauses | {f"ensures {name}": body for name, body in re.findall(r"ghost (\w+) = \{(.*?)\};", text, re.S)}
+
+
+def signature(lines):
+    """Returns the signature of the function that begins here, in one line and without its ghost parameters."""
+    text = []
+    for line in lines:
+        bare = line.split("//")[0].strip()
+        if re.match(r"(?:ensures|requires)\b|\{", bare):
+            break
+        text.append(bare.removesuffix("{").removesuffix("{}"))
+        if bare.endswith(("{", "{}", ";")):
+            break
+    text = re.sub(r"\bghost \w+: \{.*?\},? ?", "", " ".join(text))
+    text = re.sub(r",? \)", ")", re.sub(r"\( ", "(", re.sub(r"\s+", " ", text)))
+    return re.sub(r"^(?:pub )?(?:const |extern \"C\" )?fn ", "", text).strip().rstrip(";")
+
+
+def docstring(lines, number):
+    """Returns the first sentence of the docstring above a line, or none."""
+    above = number
+    while above and re.match(r"\s*(?:///|#\[)", lines[above - 1]):
+        above -= 1
+    text = [it.strip().removeprefix("///").strip() for it in lines[above:number] if it.strip().startswith("///")]
+    end = next((at for at, it in enumerate(text) if not it or it.startswith("```")), len(text))
+    return first_sentence(text[:end]).replace(":.", ".") if text else ""
+
+
 def calls(specs):
     """Returns of each public call, by its name with its type, the definitions that its contract names. A law, and a name that
     two files have, has the name of the file's module before it."""
     known = [it for crate in CRATES for it in contracts(specs, crate)]
     where = {}
-    for path, owner, name, _ in known:
-        where.setdefault((owner, name), set()).add(path)
+    for it in known:
+        where.setdefault((it.owner, it.name), set()).add(it.path)
     found = {}
-    for path, owner, name, named in known:
-        label = f"{owner}::{name}" if owner else name
-        if len(where[owner, name]) > 1 or path.endswith("/laws.rt"):
-            label = path.removesuffix(".rt").removesuffix("/mod").split("/")[-1] + "::" + label
-        found[label] = found.get(label, set()) | named
+    for it in known:
+        label = f"{it.owner}::{it.name}" if it.owner else it.name
+        if len(where[it.owner, it.name]) > 1 or it.path.endswith("/laws.rt"):
+            label = it.path.removesuffix(".rt").removesuffix("/mod").split("/")[-1] + "::" + label
+        found[label] = found.get(label, set()) | it.named
     return found
 
 
@@ -195,6 +250,11 @@ def tiers(specs, named):
     return {it: 1 if it in meaning else 2 if it in public else 3 for it in library}
 
 
+def sentences(specs, it):
+    """Returns what a definition says: the sentence above it, and of each of its fields or alternatives its own."""
+    return "<br>".join([specs.says[it], *(f"`{name}`: {says}" for name, says in specs.fields[it])])
+
+
 def table_of(specs, named, tier, crate):
     """Returns the index of a crate, as the text of a document."""
     users = {}
@@ -205,7 +265,8 @@ def table_of(specs, named, tier, crate):
         f"# The definitions of {crate}",
         "",
         "Each definition in `specs/` by its name: its file, its tier ([READING](../READING.md#which-definitions-to-read)), the first",
-        "sentence above it, and the public calls whose contracts name it. `tools/documents.py --write` writes this page.",
+        "sentence above it and, if it is not private, above each of its fields, and the public calls whose contracts name it.",
+        "`tools/documents.py --write` writes this page.",
         "",
         "| Definition | File | Tier | What it says | Named by |",
         "|---|---|---|---|---|",
@@ -214,18 +275,19 @@ def table_of(specs, named, tier, crate):
         file = specs.path[it].split("/specs/")[1].removesuffix(".antt")
         by = users.get(it, [])
         more = f" and {len(by) - 6} more" if len(by) > 6 else ""
-        link = f"[{file}](../../{specs.path[it]})"
-        lines.append(f"| `{it[1]}` | {link} | {tier[it]} | {specs.says[it]} | {', '.join(by[:6])}{more} |".replace("  |", " |"))
+        name, link = f'<a id="{it[1]}"></a>`{it[1]}`', f"[{file}](../../{specs.path[it]})"
+        says = sentences(specs, it) if tier[it] < 3 else specs.says[it]
+        lines.append(f"| {name} | {link} | {tier[it]} | {says} | {', '.join(by[:6])}{more} |".replace("  |", " |"))
     return "\n".join(lines) + "\n"
 
 
-def tier_rows(tier):
-    """Returns the rows of the table of tiers: how many definitions of each crate are in each."""
-    rows = []
-    for number, what in (1, "what an answer means"), (2, "what else a public contract stands on"), (3, "private"):
+def tier_table(tier):
+    """Returns the table of tiers, in lines: how many definitions of each crate are in each."""
+    lines = [f"| Tier | {' | '.join(f'[{it}](index/{it}.md)' for it in CRATES)} |", "|---" * (len(CRATES) + 1) + "|"]
+    for number, what in (1, "1: what an answer means"), (2, "2: what else contracts need"), (3, "3: private"):
         counts = [sum(it[0].startswith(f"{crate}.") and at == number for it, at in tier.items()) for crate in CRATES]
-        rows.append(f"| {number} | {what} | {' | '.join(str(it) for it in [*counts, sum(counts)])} |")
-    return rows
+        lines.append(f"| {what} | {' | '.join(str(it) for it in counts)} |")
+    return lines
 
 
 def misplaced(specs, tier):

@@ -1,4 +1,4 @@
-"""The libraries of the repository as `rt ci` or `rt lib` left them, and how rattle checks a crate over them."""
+"""The repository's libraries as `rt ci` or `rt lib` left them, and how rattle checks a crate over them."""
 import functools
 import os
 import shutil
@@ -7,7 +7,7 @@ import sys
 
 TOP = os.path.dirname(os.path.dirname(os.path.abspath(__file__)))
 KIT = os.path.dirname(os.path.dirname(os.path.realpath(shutil.which("rt") or sys.exit("there is no rt"))))
-# What a check reads of a crate.
+# What a check reads from a crate.
 PARTS = ("src", "specs", "proofs")
 
 
@@ -27,7 +27,7 @@ def files_of(name):
 
 
 def crates_used():
-    """Returns what each crate uses, as crates.txt says, and whether it is a static library."""
+    """Returns what each crate uses, according to crates.txt, and whether it is a static library."""
     uses = {}
     for line in text(f"{TOP}/crates.txt").splitlines():
         head, colon, rest = line.partition("#")[0].partition(":")
@@ -37,7 +37,7 @@ def crates_used():
 
 
 def below(name, uses):
-    """Returns the names of the repository's crates that this one stands on."""
+    """Returns the names of the repository's crates that this one depends on."""
     found, more = set(), [name]
     while more:
         new = [it for it in uses[more.pop()][0] if it in uses and it not in found]
@@ -50,13 +50,13 @@ def rlib(name):
 
 
 def has_stamp(name):
-    """Whether `rt lib` made the library, and not `rt ci`."""
+    """Whether the library was built by `rt lib`, not by `rt ci`."""
     return os.path.isfile(f"{os.path.dirname(rlib(name))}/stamp")
 
 
 def is_current(name):
-    """Whether there is a library of this crate that is younger than its files, and than their folders, from which files
-    may have been removed."""
+    """Whether there is a library of this crate that is newer than its files and its folders; a folder is newer if a
+    file was removed from it."""
     made = os.path.getmtime(rlib(name)) if os.path.isdir(rlib(name)) else 0
     read = [*files_of(name), *(at for at, _ in walks_of(name))]
     return made > 0 and all(os.path.getmtime(it) <= made for it in read)
@@ -64,16 +64,16 @@ def is_current(name):
 
 @functools.cache
 def is_built(name):
-    """Whether there is a library of this crate as it stands. `rt lib` goes by its stamp: where it finds the library out
-    of date, it builds it."""
+    """Whether there is a library of this crate as it is now. `rt lib` goes by its stamp: if the library is out of date,
+    it builds it."""
     if has_stamp(name):
         return not subprocess.run(["rt", "lib"], cwd=f"{TOP}/crates/{name}", stdout=sys.stderr).returncode
     return is_current(name)
 
 
 def words_over(name, root, uses, jobs):
-    """Returns the words that have rattle check a crate, by its root file, over the libraries that are built. It is one
-    of crates.txt, or uses what that one does."""
+    """Returns the words with which rattle checks a crate, by its root file, over the libraries that are built. The
+    crate is one of crates.txt, or uses what such a crate uses."""
     named, is_static = uses[name]
     words = ["--crate-name", name, root, "-L", f"dependency={KIT}/rlibs"]
     for it in below(name, uses):

@@ -1,26 +1,27 @@
 #!/bin/sh
-# Measures the library beside a lean twin in unchecked Rust, RE2 and the kit's `regex`, and the library for C beside grep,
-# RE2 and the Rust crate regex, in a copy of the repository with two crates more, outside the gate:
+# Measures the library, a lean twin in unchecked Rust, RE2 and the kit's `regex`, and the C library, grep, RE2 and the
+# Rust crate regex, in a copy of the repository with two more crates, outside the gate:
 #     tools/measure.sh [ROUNDS [WORK..]]
-# It needs rt, g++, Python 3, RE2's headers and library, and rustc; without rustc the twin is left out. Seven rounds, as by
-# default, take five minutes, and on a busy machine fifteen. The crates `measure` and `kit_works` are proved before
-# that, in ten minutes more; so are the library's crates, in half an hour more, unless each has its proofs in `out/`
-# (`rt all check`).
+# It needs rt, g++, Python 3, RE2's headers and library, and rustc; without rustc the twin is left out. Seven rounds,
+# the default, take five minutes, and fifteen on a busy machine. The crates `measure` and `kit_works` are proved before
+# that, which takes ten more minutes; so are the library's crates, which takes half an hour more, unless each has its
+# proofs in `out/` (`rt all check`).
 #
-# A round runs each work by the four programs in turn, so that ratios are of neighbours in time. For each work it prints
-# the middle of the rounds in nanoseconds of the processor a unit, and in brackets the first and the third quarter; and
-# the times of the others by ours, likewise. A machine that others use moves times by half and more: what it prints is
-# worth as much as these brackets are narrow. The works stand in measure/measure.in and measure/mixed.in, those of the
-# kit's `regex` in measure/kit.in, the texts of all in measure/texts.in, and their units in measure/works. The lines of
-# the licence make the running text of `prose` and `prosetail`. With all works it draws the plot docs/speed.svg.
-# MEASURE_COPY names a copy to use again.
+# A round runs each work with the four programs in turn, so that ratios are computed from runs close in time. For each
+# work it prints the median of the rounds, in nanoseconds of processor time per unit, with the first and the third
+# quartile in brackets; and the times of the others divided by ours, likewise. On a machine that others use, times vary
+# by half and more: a result is as reliable as its brackets are narrow. The works are in measure/measure.in and
+# measure/mixed.in, those of the kit's `regex` in measure/kit.in, the texts of all in measure/texts.in, and their units
+# in measure/works. The running text of `prose` and `prosetail` consists of lines of the licence. With all works it
+# draws the plot docs/speed.svg. MEASURE_COPY names a copy to reuse.
 #
-# The works of the library for C stand in measure/from_c.c, and their units in measure/works_c: with all works, and with
-# `c` in place of the works, they are measured after the others, by rounds of their own. Those that begin with `spans_` or
-# `which_` read what measure/made.py makes: a pattern, and a text that looks like Russian, Chinese, JSON, source code or
-# English. grep counts the lines with a date in a file, in the locale C, and its time is that in user mode, to a thousandth
-# of a second; the others have the same lines in memory. The crate regex is built by cargo from the sources that Debian's package librust-regex-dev installs, or those
-# in the folder that REGEX_SOURCES names; without cargo or these it is left out.
+# The works of the C library are in measure/from_c.c, and their units in measure/works_c: with all works, and with `c`
+# in place of the works, they are measured after the others, in their own rounds. Those whose names begin with `spans_`
+# or `which_` read what measure/made.py generates: a pattern, and a text that looks like Russian, Chinese, JSON, source
+# code or English. grep counts the lines with a date in a file, in the locale C, and its time is that in user mode, to a
+# thousandth of a second; the others have the same lines in memory. The crate regex is built by cargo from the sources
+# that Debian's package librust-regex-dev installs, or those in the folder that REGEX_SOURCES names; without cargo or
+# these sources it is left out.
 set -eu
 rounds=${1:-7}
 [ "$#" -eq 0 ] || shift

@@ -1,11 +1,11 @@
 #!/bin/sh
-# Compares what searches and walks in pieces answer with what searches of the whole haystack answer, in a copy of the
-# repository with one crate more, outside the gate:
+# Compares the results of searches and walks in pieces with those of searches of the whole haystack, in a copy of the
+# repository with one more crate, outside the gate:
 #     tools/pieces.sh [SEED]
-# 3,000 random NFAs get six haystacks each, which come in pieces of random lengths. Between calls the cache serves
-# other searches, is reset, or gives way to another one; and the answer is asked for, as if the haystack ended there and
-# as if it went on: of a search its match, of a walk all matches up to there, and the set of their patterns. It prints
-# how many answers there were, and how many differ. Nothing is proved: the program runs under a sanitizer.
+# 3,000 random NFAs get six haystacks each, which arrive in pieces of random lengths. Between calls the cache serves
+# other searches, is reset, or is replaced by another one; and the result is requested, as if the haystack ended there
+# and as if it continued: of a search its match, of a walk all matches so far, and the set of their patterns. It prints
+# how many results there were, and how many differ. Nothing is proved: the program runs under a sanitizer.
 set -eu
 tools=$(cd "$(dirname "$0")" && pwd)
 copy=$(mktemp -d)

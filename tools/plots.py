@@ -3,9 +3,9 @@
 
     tools/plots.py [--test]
 
-It writes docs/words.svg, docs/sets.svg, docs/capacity.svg and docs/searched.svg. With `--test` it writes nothing, and fails
-if one of them is not what it would write. A column of a table is a place from left to right, and a value its height, by
-powers of ten; in the last one, each row has a bar for each program.
+It writes docs/words.svg, docs/sets.svg, docs/capacity.svg and docs/searched.svg. With `--test` it writes nothing, and
+fails if one of them differs from what it would write. A column of a table is a position from left to right, and a value
+is a height, by powers of ten; in the last picture, each row has a bar for each program.
 """
 import html
 import math
@@ -17,20 +17,20 @@ TOP = os.path.dirname(os.path.dirname(os.path.abspath(__file__)))
 COLOURS = {"here": "#2a6f97", "twin": "#e09f3e", "RE2": "#9e2a2b", "the kit's regex": "#588157", "regex": "#588157"}
 UNITS = {"µs": 1.0, "ms": 1000.0}
 LEFT, TOP_EDGE, WIDTH, HEIGHT = 70, 50, 480, 260
-# For each picture: its title, the first cell of its table's head, the row that it begins with, and how many it has.
+# For each picture: its title, the first cell of its table's head, its first row, and its number of rows.
 PICTURES = {
     "words.svg": ("The first KB by a new DFA, in microseconds, by words", "Words", "the first KB, here", 3),
     "sets.svg": ("A set of words, in nanoseconds a byte", "Words", "a set, here, ns a byte", 3),
     "capacity.svg": ("A byte in nanoseconds, by the capacity of the cache", "Capacity", "here", 4),
 }
 
-# The picture of bars: its title, the first cell of its table's head, and the value at which a bar is cut. Programs are the
-# columns that have a colour.
+# The picture of bars: its title, the first cell of its table's head, and the value at which a bar is cut. Programs are
+# the columns that have a colour.
 BARS = {"searched.svg": ("Instructions a byte: a longer bar is one of more instructions", "Search", 360)}
 
 
 def rows_of(text, head):
-    """The table whose head begins with this cell, as lists of cells. It is an error if there is none."""
+    """Returns the table whose head begins with this cell, as lists of cells. It is an error if there is none."""
     rows = []
     for line in text.splitlines():
         cells = [it.strip() for it in line.strip().strip("|").split("|")]
@@ -44,13 +44,14 @@ def rows_of(text, head):
 
 
 def value(text):
-    """A number, in microseconds if it has a unit of time, or none."""
+    """Returns a number, in microseconds if it has a unit of time, or None."""
     found = re.fullmatch(r"([\d.,]*\d)(?: (µs|ms))?", text.strip())
     return float(found[1].replace(",", "")) * UNITS.get(found[2], 1.0) if found else None
 
 
 def series_of(rows):
-    """For each program its values: a row is that of one, or of the twin and RE2, a comma and a space between them."""
+    """Returns the values of each program: a row belongs to one program, or to the twin and RE2, separated by a comma
+    and a space."""
     series = {}
     for name, *cells in rows:
         if name == "twin and RE2":
@@ -63,14 +64,14 @@ def series_of(rows):
 
 
 def place(at, count, number, low, high):
-    """Where a value of a column stands in the picture."""
+    """Returns the position of a column's value in the picture."""
     x = LEFT + WIDTH * at / (count - 1)
     y = TOP_EDGE + HEIGHT * (1 - (math.log10(number) - low) / (high - low))
     return f"{x:.1f},{y:.1f}"
 
 
 def curve(name, values, low, high):
-    """A program's curve, with a dot and the number at each value."""
+    """Returns a program's curve, with a dot and the number at each value."""
     points = [(at, number) for at, number in enumerate(values) if number]
     spots = [place(at, len(values), number, low, high) for at, number in points]
     yield f'<polyline points="{" ".join(spots)}" fill="none" stroke="{COLOURS[name]}" stroke-width="2"/>'
@@ -80,7 +81,7 @@ def curve(name, values, low, high):
 
 
 def picture(title, columns, series):
-    """The lines of a picture."""
+    """Returns the lines of a picture."""
     numbers = [it for values in series.values() for it in values if it]
     low, high = math.floor(math.log10(min(numbers))), math.ceil(math.log10(max(numbers)))
     wide, tall = LEFT + WIDTH + 40, TOP_EDGE + HEIGHT + 40
@@ -105,7 +106,7 @@ def picture(title, columns, series):
 
 
 def bars(title, columns, rows, most):
-    """The lines of a picture of bars, a row of the table below the other."""
+    """Returns the lines of a picture of bars, with the rows of the table from top to bottom."""
     names = (it if it in COLOURS else it.lower() for it in columns)
     programs = [(at, it) for at, it in enumerate(names) if it in COLOURS]
     left, step = 150, 15 + 13 * len(programs)
@@ -135,7 +136,7 @@ def read(path):
 
 
 def pictures():
-    """Yields the file of each picture, and what it has to be."""
+    """Yields the file and the expected contents of each picture."""
     text = read("docs/PERFORMANCE.md")
     for name, (title, head, first, count) in PICTURES.items():
         (_, *columns), _, *rows = rows_of(text, head)
@@ -149,7 +150,7 @@ def pictures():
 
 
 def faults():
-    """Returns which pictures are not those of their tables, or which table or picture is missing."""
+    """Returns which pictures differ from their tables, or which table or picture is missing."""
     try:
         return [f"{path} is not what tools/plots.py draws" for path, drawn in pictures() if read(path) != drawn]
     except (LookupError, OSError) as error:

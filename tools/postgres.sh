@@ -1,17 +1,19 @@
 #!/bin/sh
-# Builds the extension for PostgreSQL, over the library for C that stands built in bindings/c, and tests it on a server
-# of its own, in a folder of its own, over a socket there:
+# Builds the extension for PostgreSQL, over the C library that is built in bindings/c, and tests it on its own server,
+# in its own folder, over a socket there:
 #     tools/postgres.sh ['N passed, M failed']
-# The expected answers of `make installcheck`; random patterns beside `~` (tools/postgres/agree.py), in pieces
-# (tools/postgres/pieces.py), and by indexes (tools/postgres/indexed.py); parallel workers; two backends at once; a
-# query that is cancelled, one that takes too long, a backend that is ended, and one that is killed in a search; each
-# search of a long text, cancelled and out of time; patterns that are costly to compile, by an ordinary user: their time
-# and their memory, and a backend and a server that end meanwhile; what many patterns hold of memory
-# (tools/postgres/memory.py); a backend without memory; and databases of other encodings.
+# The expected results of `make installcheck`; the statements of the extension's README; random patterns compared with
+# `~` (tools/postgres/agree.py), in pieces (tools/postgres/pieces.py), and with indexes (tools/postgres/indexed.py);
+# parallel workers; two backends at once; a query that is cancelled, one that takes too long, a backend that is
+# terminated, and one that is killed in a search;
+# each kind of search of a long text, cancelled and out of time; patterns that are costly to compile, by an ordinary
+# user: their time and their memory, and a backend and a server that are stopped meanwhile; the memory that many
+# patterns hold (tools/postgres/memory.py); a backend that runs out of memory; and databases of other encodings.
 #
-# The last line counts these too, beside what the given line counts. It needs a PostgreSQL server with its headers (on
-# Debian, postgresql-15 and postgresql-server-dev-15), make, cc, pkg-config, prlimit and Python 3. Without a server it
-# says so, and tests nothing. PG_CONFIG names another server's pg_config. As root the server runs as the user postgres.
+# The last line counts these tests, added to those that the given line counts. It needs a PostgreSQL server with its
+# headers (on Debian, postgresql-15 and postgresql-server-dev-15), make, cc, pkg-config, prlimit and Python 3. Without a
+# server it says so, and tests nothing. PG_CONFIG names another server's pg_config. As root, the server runs as the user
+# postgres.
 set -u
 umask 022
 top=$(cd "$(dirname "$0")/.." && pwd)
@@ -31,19 +33,19 @@ finish() {
     exit
 }
 
-# Counts a test, whose fault is empty if it passed.
+# Counts a test, which passed if its fault is empty.
 count() { # NAME FAULT
     printf '%s\n' "$1: ${2:-passed}"
     if [ -z "$2" ]; then passed=$((passed + 1)); else failed=$((failed + 1)); fi
 }
 
-# Counts a test, which has to have written what is wanted.
+# Counts a test, which passed if it wrote the expected output.
 same() { # NAME WANTED GOT
     if [ "$2" = "$3" ]; then count "$1" ""; else count "$1" "$3
 and not: $2"; fi
 }
 
-# Counts a test, which has to have written a part like this.
+# Counts a test, which passed if its output contains a line like this.
 has() { # NAME PATTERN GOT
     if printf '%s\n' "$3" | grep -q "$2"; then count "$1" ""; else count "$1" "$3
 has no $2"; fi
@@ -78,7 +80,7 @@ milliseconds() {
     echo $(($(date +%s%N) / 1000000))
 }
 
-# Installs the library and the extension below folders of their own.
+# Installs the library and the extension below their own folders.
 build() {
     make -s -C "$top/bindings/c" install PREFIX="$room/library" LIBDIR="$room/library/lib" DESTDIR= &&
         cp -r "$top/bindings/postgres" "$room/extension" &&
@@ -88,7 +90,7 @@ build() {
             -o "$room/held.so"
 }
 
-# Copies the server, which finds its files from where it is, so that nothing of the system is written to, and starts it.
+# Copies the server, which finds its files relative to itself, so that the system is not written to, and starts it.
 start() {
     libraries=$("$config" --pkglibdir)
     shared=$("$config" --sharedir)
@@ -106,7 +108,7 @@ run_server() {
         "-c listen_addresses= -c unix_socket_directories=$room -c fsync=off" start >"$room/said"
 }
 
-# Starts statements in another backend, and waits until it runs them. Its process is $backend, and that of psql $client.
+# Starts statements in another backend, and waits until it runs them. $backend is its process, and $client that of psql.
 begin() { # STATEMENTS
     PGAPPNAME=searching sql -c "$1" >"$room/output" 2>&1 &
     client=$!
@@ -120,7 +122,7 @@ begin() { # STATEMENTS
     done
 }
 
-# Counts a test: the statements that begin started ended within a second, with this message.
+# Counts a test, which passed if the statements that begin started ended within a second, with this message.
 ends() { # NAME MESSAGE
     wait "$client"
     took=$(($(milliseconds) - started))
@@ -129,6 +131,17 @@ ends() { # NAME MESSAGE
 }
 
 endless="SELECT count(*) FROM logs, generate_series(1, 100000) n WHERE line =~ ('x[a-z]+' || n)"
+
+# Runs the statements that the extension's README shows, in a database of their own.
+test_readme() {
+    sql -c 'CREATE DATABASE readme' && sql -d readme -c "CREATE TABLE logs AS SELECT * FROM unnest(
+        array['timeout on disk 2', 'refused 503', 'done']) line" &&
+        statements=$(sed -n '/^```sql$/,/^```$/p' "$top/bindings/postgres/README.md" | grep -v '^```')
+    same "the statements of the README" "1
+timeout on disk 2|{1}
+refused 503|{2,3}
+done|{}" "$(sql -d readme -c "$statements")"
+}
 
 test_answers() {
     if made=$(make -s -C "$room/extension" PG_CONFIG="$config" installcheck 2>&1); then
@@ -150,7 +163,7 @@ $(cat "$room/extension/regression.diffs")"
     agrees "memory" memory.py
 }
 
-# Counts a test: what a script compared did not differ.
+# Counts a test, which passed if what a script compared did not differ.
 agrees() { # NAME SCRIPT WORD..
     name=$1
     script=$top/tools/postgres/$2
@@ -208,7 +221,7 @@ test_ends() {
     same "after a backend that was killed others search" t "$(cat "$room/output")"
 }
 
-# Counts a test: a search of the long text by this expression has ended within a second.
+# Counts a test, which passed if a search of the long text with this expression ended within a second.
 ended() { # NAME MESSAGE
     wait "$client"
     took=$(($(milliseconds) - started))
@@ -220,7 +233,7 @@ ended() { # NAME MESSAGE
     count "$1" "$said"
 }
 
-# Each kind of search of 100 MB, and two back over 1 MB, which take minutes: each is cancelled, and its time is up.
+# Each kind of search of 100 MB, and two backward over 1 MB, which take minutes: each is cancelled, and times out.
 test_long() {
     sql -c "CREATE TABLE long(value text)" -c "ALTER TABLE long ALTER value SET STORAGE EXTERNAL" \
         -c "INSERT INTO long SELECT string_agg(md5(n::text), '') FROM generate_series(1, 3125000) n"
@@ -276,8 +289,8 @@ count(*) FROM small WHERE s =~* repeat('\PL', 2000)
 END
 }
 
-# Runs a costly statement as an ordinary user, out of whose time it may be after a second. Writes how much its backend
-# has grown at most, in kB.
+# Runs a costly statement as an ordinary user, which may time out after a second. Writes by how much its backend has
+# grown at most, in kB.
 grown() { # EXPRESSION
     PGUSER=joe psql -XAtq 2>&1 <<END
 SELECT ('a' =~ 'a')::text AS loaded, pg_backend_pid() AS backend \gset
@@ -323,7 +336,7 @@ test_costly() {
         "$(PGUSER=joe sql -c "SET lazydfa.pattern_length = '1MB'" -c "SELECT 'a' =~ repeat('a', 100000)")"
 }
 
-# A server that is stopped fast, while a backend compiles one costly pattern after another.
+# A server that is stopped in fast mode, while a backend compiles one costly pattern after another.
 test_shutdown() {
     begin "SELECT count(*) FROM generate_series(1, 100000) n WHERE 'a' =~* (repeat('[^[:alpha:]]', 5400) || n)"
     started=$(milliseconds)
@@ -336,7 +349,7 @@ test_shutdown() {
     run_server || count "a server that is stopped" "it did not start again"
 }
 
-# A backend whose memory is limited to some more than it has. Its own user may limit it.
+# A backend whose memory is limited to little more than it has. Its own user may limit it.
 test_memory() {
     limit=prlimit
     [ "$(id -u)" -ne 0 ] || limit="runuser -u postgres -- prlimit"
@@ -389,6 +402,7 @@ $made$(cat "$room/said" "$room/data/log" 2>/dev/null)"
     finish
 fi
 test_answers
+test_readme
 test_workers
 test_two_backends
 test_ends

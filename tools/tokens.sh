@@ -1,7 +1,7 @@
 #!/bin/sh
-# Tries what the lifetimes of tokens accept and what they refuse, by two tests in a copy of the repository: one keeps a token
-# when the cache is dropped, and runs, and one uses a cache while tokens over it are still used, which the compiler has to
-# refuse. The gate has no place for the second.
+# Tests which uses the lifetimes of tokens allow, with two tests in a copy of the repository: one keeps a token after
+# the cache is dropped, and runs; the other uses a cache while tokens over it are still in use, which the compiler must
+# reject. The gate has no place for the second.
 set -eu
 top=$(cd "$(dirname "$0")/.." && pwd)
 copy=$(mktemp -d)

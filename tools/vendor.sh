@@ -1,12 +1,13 @@
 #!/bin/sh
 # Copies the library into a repository of your own, and begins a program there:
 #     tools/vendor.sh [--proved] FOLDER [PROGRAM]
-# FOLDER gets the library's crates and their lines of crates.txt, in place of those that it has by these names: called again
-# from a later state of this repository, it brings that. PROGRAM is a copy of example_words, if FOLDER has no such crate.
+# FOLDER gets the library's crates and their lines of crates.txt, in place of those with the same names that it has:
+# called again from a later state of this repository, it copies that state. PROGRAM is a copy of the example words,
+# unless FOLDER has such a crate already.
 #
-# With --proved it copies along what `rt lib`, `rt check` or `rt run` proved of the library here (some 3 GB), so that your
-# first check proves your program alone. rt takes these if they are of the same kit and the same sources, and proves the
-# library itself if not.
+# With --proved it also copies what `rt lib`, `rt check` or `rt run` proved of the library here (some 3 GB), so that
+# your first check proves your program alone. rt accepts these if they belong to the same kit and the same sources, and
+# otherwise proves the library itself.
 set -eu
 proved=
 [ "${1-}" != --proved ] || { proved=yes; shift; }
@@ -36,6 +37,7 @@ for crate in automata_base automata_config automata_hybrid regex_automata match_
 done
 [ -e .gitignore ] || echo out/ > .gitignore
 [ "$#" -ge 2 ] && [ ! -e "crates/$2" ] || exit 0
-mkdir "crates/$2"
-cp -R "$top/crates/example_words/src" "$top/crates/example_words/stdout" "crates/$2/"
-sed -n "s/^example_words:/$2:/p" "$top/crates.txt" >> crates.txt
+mkdir "crates/$2" "crates/$2/src"
+cp "$top/crates/examples/src/words.rt" "crates/$2/src/main.rt"
+cp "$top/crates/examples/stdout" "crates/$2/"
+echo "$2: patterns regex_automata anyhow" >> crates.txt

@@ -1,15 +1,15 @@
 #!/usr/bin/env python3
-"""Tests tools/vendor.sh and the head of docs/CALLING.md, in an empty folder:
+"""Tests tools/vendor.sh and the beginning of docs/CALLING.md, in an empty folder:
 
     tools/vendor_test.py ['N passed, M failed']
 
-The commands of that page, with the folder in place of the one that they name, have to print what `example_words`
-prints. A second call of the script has to bring back a file of the library that was changed, and to leave the program
-alone. Then the crates of the library there have to be those that are here, byte for byte, and the program is proved
-over the libraries that `rt ci` or `rt lib` left here: so the library is not proved a second time. `--proved` has to copy
-what was proved of each library, and to name one that was not.
+The commands of that page, run with this folder in place of the one that they name, have to print what the example
+`words` prints. A second call of the script has to restore a file of the library that was changed, and must not touch
+the program. Then the library's crates there have to be equal to those here, byte for byte, and the program is proved
+over the libraries that `rt ci` or `rt lib` left here, so the library is not proved a second time. `--proved` has to
+copy what was proved of each library, and to name a library that was not proved.
 
-The last line counts these too, beside what the given line counts. It needs Python 3 and the kit's rt.
+The last line counts these tests, added to those that the given line counts. It needs Python 3 and the kit's rt.
 """
 import os
 import re
@@ -20,9 +20,11 @@ import tempfile
 
 from libraries import KIT, PARTS, TOP, below, crates_used, processors, words_over
 
-MODEL = "example_words"
+# The example that a new program is a copy of, what it prints, and the libraries that it uses.
+MODEL, PRINTED = f"{TOP}/crates/examples/src/words.rt", f"{TOP}/crates/examples/stdout"
+USES = ["patterns", "regex_automata", "anyhow"]
 PAGE = "docs/CALLING.md"
-# The heading of the page, its first lines of code, and the folder that these name.
+# The heading of the page, the first lines of its code, and the folder that these name.
 HEAD = re.compile(r"^## A repository of your own\n(?:.*\n)*?\n((?:    .*\n)+)", re.M)
 FOLDER = "../my_repo"
 
@@ -39,18 +41,19 @@ def run(words, folder):
 
 
 def try_page(folder):
-    """Returns what is wrong with the page's commands, and what they call the program."""
+    """Returns what is wrong with the page's commands, and the name that they give the program."""
     found = HEAD.search(read(f"{TOP}/{PAGE}"))
     program = found and re.search(rf"tools/vendor\.sh {re.escape(FOLDER)} (\w+)$", found[1], re.M)
     if not program:
         return f"{PAGE} has no commands under this heading", ""
     status, out, err = run(["sh", "-euc", found[1].replace(FOLDER, folder)], TOP)
-    wrong = status or out != read(f"{TOP}/crates/{MODEL}/stdout")
+    wrong = status or out != read(PRINTED)
     return f"status {status}\n{out}{err}" if wrong else "", program[1]
 
 
 def try_again(folder, program):
-    """Returns what is wrong after a second call: of a file of the library, a program's and crates.txt."""
+    """Returns what is wrong after a second call: with a file of the library, with the program's file, and with
+    crates.txt."""
     changed, kept = f"{folder}/crates/patterns/src/lib.rt", f"{folder}/crates/{program}/src/main.rt"
     listed = f"{folder}/crates.txt"
     before = read(changed), read(listed)
@@ -61,15 +64,20 @@ def try_again(folder, program):
     with open(kept, "r+", encoding="utf-8") as it:
         is_kept = it.read().endswith("// changed\n")
         it.seek(0)
-        it.write(read(f"{TOP}/crates/{MODEL}/src/main.rt"))
+        it.write(read(MODEL))
         it.truncate()
     if (read(changed), sorted(read(listed).split("\n"))) != (before[0], sorted(before[1].split("\n"))):
         return f"status {status}: the library or crates.txt is not as it was\n{out}{err}"
     return "" if is_kept and not status else f"status {status}: the program is not as it was\n{out}{err}"
 
 
+def library():
+    """Returns the crates that a new program is built over."""
+    return below("program", {**crates_used(), "program": (USES, False)})
+
+
 def contents(folder):
-    """Returns what each file below a crate's parts is, by its path from there."""
+    """Returns the contents of each file below a crate's parts, by its path from there."""
     found = {}
     for part in PARTS:
         for at, _, names in os.walk(f"{folder}/{part}"):
@@ -80,22 +88,22 @@ def contents(folder):
 
 
 def try_copies(folder, program):
-    """Returns which crates of the new repository are not those that are here, the program that of the example."""
-    pairs = [(it, it) for it in below(MODEL, crates_used())] + [(MODEL, program)]
-    differ = [copy for it, copy in pairs if contents(f"{TOP}/crates/{it}") != contents(f"{folder}/crates/{copy}")]
-    uses = {it.partition(":")[0]: it for it in read(f"{TOP}/crates.txt").splitlines()}
-    listed = sorted(uses[it].replace(it, copy, 1) for it, copy in pairs)
+    """Returns which crates of the new repository differ from those here, or the program from the example."""
+    names = library()
+    differ = [it for it in names if contents(f"{TOP}/crates/{it}") != contents(f"{folder}/crates/{it}")]
+    differ += [program] if contents(f"{folder}/crates/{program}") != {"src/main.rt": read(MODEL).encode()} else []
+    lines = {it.partition(":")[0]: it for it in read(f"{TOP}/crates.txt").splitlines()}
+    listed = sorted([*(lines[it] for it in names), f"{program}: {' '.join(USES)}"])
     differ += ["crates.txt"] if sorted(read(f"{folder}/crates.txt").splitlines()) != listed else []
-    copied = sorted(copy for _, copy in pairs)
-    more = sorted(set(os.listdir(f"{folder}/crates")) - set(copied))
+    more = sorted(set(os.listdir(f"{folder}/crates")) - {*names, program})
     return f"not as they are here: {differ}; besides: {more}" if differ or more else ""
 
 
 def try_proved(room):
-    """Returns what is wrong with a copy of what was proved, from a repository of a few files."""
+    """Returns what is wrong with a copy of what was proved, made from a repository of a few files."""
     here, there = f"{room}/here", f"{room}/there"
-    names = below(MODEL, crates_used())
-    for name in [*names, MODEL]:
+    names = library()
+    for name in names:
         os.makedirs(f"{here}/crates/{name}/src")
         with open(f"{here}/crates.txt", "a", encoding="utf-8") as it:
             it.write(f"{name}:\n")
@@ -104,7 +112,7 @@ def try_proved(room):
             for file in ("stamp", "made"):
                 with open(f"{here}/crates/{name}/out/rlib/{file}", "w", encoding="utf-8") as it:
                     it.write(name)
-    for file in ("tools/vendor.sh", "LICENSE-MIT", "crates/example_words/stdout"):
+    for file in ("tools/vendor.sh", "LICENSE-MIT"):
         os.makedirs(os.path.dirname(f"{here}/{file}"), exist_ok=True)
         shutil.copy(f"{TOP}/{file}", f"{here}/{file}")
     status, out, err = run([f"{here}/tools/vendor.sh", "--proved", there], room)
@@ -116,7 +124,7 @@ def try_proved(room):
 def try_proof(folder, program):
     """Returns what is wrong with the proof of the program, over the libraries that were proved here."""
     uses = crates_used()
-    uses[program] = uses[MODEL]
+    uses[program] = USES, False
     try:
         words = words_over(program, "src/main.rt", uses, min(4, processors()))
     except OSError as error:

@@ -3,20 +3,19 @@
 A function is proved over the contracts of what it calls, so the proof of a function with an edit reads the edit, the
 function itself, everything of its crate and of the crates below but the bodies of their functions, all definitions of
 these crates, the function's own proof files, and the lemma files that these and its source file name, one through
-another. Functions of a cycle are proved together, so their bodies stand for all. The key is a checksum of all that, of
-the kit, of the scripts that try edits, and of the cell of docs/WRONG_BODIES.md which says where the edit is refused.
+another. Functions of a cycle are proved together, so their bodies stand for all. The key is a checksum of all that
+without comments, of the kit, and of the scripts that try edits.
 
-crates/NAME/wrong/verdicts has a line for each edit that was refused: its name and its key.
+crates/NAME/wrong/verdicts has a line for each edit that was refused: its name, its key, and where it is refused.
 """
 import functools
 import hashlib
 import os
 import re
-import subprocess
 
 from libraries import KIT, TOP, below, files_of, text
 
-SCRIPTS = [f"{TOP}/tools/{it}.py" for it in ("libraries", "verdicts", "wrong")]
+SCRIPTS = [f"{TOP}/tools/{it}.py" for it in ("edits", "libraries", "verdicts")]
 FUNCTION = re.compile(r"( *)((?:pub(?:\([^)]*\))? |const |unsafe |extern \"C\" )*)fn (\w+)")
 CYCLE = re.compile(r"#\[cycle\((\w+)\)\]")
 # Whatever names a module of specs or proofs, with the name that is imported as a last part, or without; and the same in
@@ -24,6 +23,17 @@ CYCLE = re.compile(r"#\[cycle\((\w+)\)\]")
 IMPORT = re.compile(r"Rattle\.(\w+)\.(specs|proofs)\.([^\s{},;()]+)")
 USING = re.compile(r"\b(\w+)::(specs|proofs)::([\w:]+)")
 TACTIC = re.compile(r"^#!\[tactic\([^\]]*\busing\b", re.M)
+# A comment, and what may have the look of one: a text or a character. In definitions and proofs whole lines alone.
+COMMENT = re.compile(r"""(r(#*)".*?"\2|"(?:\\.|[^"\\])*"|'(?:\\.|[^'\\])')|//[^\n]*|/\*.*?\*/""", re.S)
+COMMENT_LINE = re.compile(r"^\s*--( .*)?$")
+
+
+def without_comments(text, is_source):
+    """Returns a text without its comments and empty lines, which no proof reads."""
+    if is_source:
+        text = COMMENT.sub(lambda it: it[1] or "", text)
+    lines = [it.rstrip() for it in text.split("\n")]
+    return "\n".join(it for it in lines if it and (is_source or not COMMENT_LINE.match(it)))
 
 
 def is_in_cycle(lines, first):
@@ -71,8 +81,9 @@ def outline(file):
 
 @functools.cache
 def digest(file, is_whole):
-    """Returns a checksum of a file: of all of it, or without the bodies of its functions."""
-    return hashlib.sha256((text(file) if is_whole else outline(file)[0]).encode()).hexdigest()
+    """Returns a checksum of a file without its comments: of all of it, or without the bodies of its functions."""
+    said = text(file) if is_whole else outline(file)[0]
+    return hashlib.sha256(without_comments(said, file.endswith(".rt")).encode()).hexdigest()
 
 
 def bodies_of(edit, folder):
@@ -83,12 +94,13 @@ def bodies_of(edit, folder):
         lines = text(f"{folder}/{file}").split("\n")
         bodies = outline(f"{folder}/{file}")[1] if file.endswith(".rt") else []
         inside = [it for it in bodies if it[1] <= number <= it[2]]
-        found += ["\n".join(lines[first : last + 1]) for _, first, last in inside] or ["\n".join(lines)]
+        parts = ["\n".join(lines[first : last + 1]) for _, first, last in inside] or ["\n".join(lines)]
+        found += [without_comments(it, file.endswith(".rt")) for it in parts]
     named = set(re.findall(r"\w+", " ".join(edit.lines.values())))
     for file in files_of(os.path.basename(folder)):
         lines = text(file).split("\n")
         for name, first, last in outline(file)[1] if file.endswith(".rt") else []:
-            found += ["\n".join(lines[first : last + 1])] if name in named else []
+            found += [without_comments("\n".join(lines[first : last + 1]), True)] if name in named else []
     return found
 
 
@@ -120,8 +132,8 @@ def proof_files(edit, folder):
     return [f"{at}/{it}" for at, found in (own if None not in edit.functions else walks) for it in found]
 
 
-def key_of(edit, crate, uses, cell):
-    """Returns the key of an edit of a crate, with the cell of the document."""
+def key_of(edit, crate, uses):
+    """Returns the key of an edit of a crate."""
     folder, names = f"{TOP}/crates/{crate}", [crate, *below(crate, uses)]
     files = [it for name in names for it in files_of(name) if "/proofs/" not in it[len(f"{TOP}/crates/{name}") :]]
     # (the lemmas of a tactic at the head of a file are for all that is below it)
@@ -131,32 +143,21 @@ def key_of(edit, crate, uses, cell):
     rests = [(it, digest(it, it.endswith(".antt") or None in edit.functions)) for it in files]
     rests += [(it, digest(it, True)) for it in lemmas if it not in sources]
     rests = [(os.path.relpath(it, TOP), sum) for it, sum in rests]
-    rests += [(os.path.relpath(it, TOP), digest(it, True)) for it in SCRIPTS]
-    said = [edit.name, edit.text, bodies_of(edit, folder), [(it, uses[it]) for it in names], cell, rests]
+    rests += [(os.path.relpath(it, TOP), hashlib.sha256(text(it).encode()).hexdigest()) for it in SCRIPTS]
+    said = [edit.name, edit.change, bodies_of(edit, folder), [(it, uses[it]) for it in names], rests]
     return hashlib.sha256(repr([text(f"{KIT}/KIT-ID"), said]).encode()).hexdigest()
 
 
 def recorded(crate):
-    """Returns the recorded key of each edit of a crate."""
+    """Returns the recorded key of each edit of a crate, and where the edit is refused."""
     file = f"{TOP}/crates/{crate}/wrong/verdicts"
-    return dict(it.split() for it in text(file).splitlines()) if os.path.isfile(file) else {}
+    lines = [it.split(" ", 2) for it in text(file).splitlines()] if os.path.isfile(file) else []
+    return {it[0]: (it[1], it[2]) for it in lines if len(it) == 3}
 
 
-def record(crate, keys):
-    """Records the keys of edits of a crate in place of those that they had."""
+def record(crate, verdicts):
+    """Records keys of edits of a crate, and where these are refused, in place of what was recorded of them."""
     folder = f"{TOP}/crates/{crate}/wrong"
-    kept = {it: key for it, key in (recorded(crate) | keys).items() if os.path.isfile(f"{folder}/{it}.edit")}
+    kept = {it: found for it, found in (recorded(crate) | verdicts).items() if os.path.isfile(f"{folder}/{it}.edit")}
     with open(f"{folder}/verdicts", "w", encoding="utf-8") as it:
-        it.write("".join(f"{name} {key}\n" for name, key in sorted(kept.items())))
-
-
-@functools.cache
-def commit():
-    """Returns the commit that is checked out, or a word that is new each time."""
-    ran = subprocess.run(["git", "rev-parse", "HEAD"], cwd=TOP, capture_output=True, text=True)
-    return ran.stdout.strip() if ran.returncode == 0 else os.urandom(8).hex()
-
-
-def is_drawn(crate, edit):
-    """Whether an edit is one of the tenth that is tried at this commit, whatever is recorded."""
-    return int(hashlib.sha256(f"{commit()} {crate} {edit}".encode()).hexdigest(), 16) % 10 == 0
+        it.write("".join(f"{name} {key} {where}\n" for name, (key, where) in sorted(kept.items())))

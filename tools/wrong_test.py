@@ -3,11 +3,12 @@
 
     tools/wrong_test.py ['N passed, M failed']
 
-The repository has a crate with one function that is not proved as it stands, and a crate over a library that nobody
-built. Each edit has to get the verdict that stands beside it below. Further runs fill the document in and record what
-was refused, and try none of that again. Then parts of the repository are changed, one at a time: the verdicts that rest
-on such a part have to be due, and no others. The last line counts these too, beside what the given line counts. It needs
-git, the kit's rt and Python 3, and takes about a minute of a processor.
+The repository has a crate with one function that is not proved even without an edit, and a crate over a library that
+was never built. Each edit has to get the verdict that is listed with it below. Further runs write the verdicts into the
+document and record which edits made a proof fail, and do not try these again. Then parts of the repository are changed,
+one at a time: the verdicts that depend on such a part have to be due, and no others. The last line counts these tests,
+added to those that the given line counts. It needs git, the kit's rt and Python 3, and takes about a minute of a
+processor.
 """
 import os
 import re
@@ -16,17 +17,17 @@ import subprocess
 import sys
 import tempfile
 
-TOOLS = [f"{os.path.dirname(os.path.abspath(__file__))}/{it}.py" for it in ("ci", "libraries", "verdicts", "wrong")]
-# Prints the name of each edit, whether it is tried at this commit anyway, and its key.
+TOOLS = [f"{os.path.dirname(os.path.abspath(__file__))}/{it}.py" for it in ("ci", "edits", "libraries", "verdicts", "wrong")]
+# Prints the name of each edit, whether it is tried at this commit although it is recorded, and its key.
 KEYS = """
-import wrong, verdicts
+import wrong
 uses = wrong.crates_used()
-document = wrong.Document(uses)
-for name in uses:
-    crate = wrong.Crate(name, uses, "wrong", set())
-    crate.look_up(document, False)
+crates = [wrong.Crate(name, uses, "wrong") for name in uses]
+drawn = wrong.drawn(crates)
+for crate in crates:
+    wrong.look_up(crate, set())
     for it in crate.edits:
-        print(f"{name}/{it.name}", verdicts.is_drawn(name, it.name), it.key)
+        print(f"{crate.name}/{it.name}", (crate.name, it.name) in drawn, it.key)
 """
 
 FILES = {
@@ -194,33 +195,36 @@ use Rattle.low.proofs.loose.Goals as goal
 pub returns : goal.returns
 returns c = omega arith
 """,
-    "crates/low/must-fail/half_is_twice.edit": "file: src/lib.rt\nold:     x / 2\nnew:     x * 2\n",
-    "docs/WRONG_BODIES.md": """# Wrong bodies
+    "crates/low/must-fail/half_is_twice.edit": "what: doubles\nfile: src/lib.rt\nold:     x / 2\nnew:     x * 2\n",
+    "docs/index/WRONG_BODIES.md": """# Wrong bodies
 
-| Wrong body | What it does | What refuses it | Refused at |
+### `low`
+
+| Mutation | What it does | What it breaks | Refused at |
 |---|---|---|---|
-| `clamp_a_is_nineteen` (low) | returns 19 | at most 9 | `least` of `clamp` |
-| `raise_by_one` (low) | adds one | the sum | |
-| `half_is_twice` (low) | doubles | the half | |
-| `is_no_edit` (low) | nothing | nothing | `it` |
+| `clamp_a_is_nineteen` | does something | something | `least` of `clamp` |
+| `half_a_is_all` | does something | something | `ensures` of `half` |
+| `is_no_edit` | nothing | nothing | `it` |
+
+## More
 """,
 }
 
-# An edit's name, its file, its old and new text, and the verdict on it.
+# An edit's name, its file, its old and new text, and its expected verdict.
 EDITS = [
     ("clamp_a_is_nineteen", "lib", "{ x } else", "{ 19 } else", "REFUSED at `most`, `same` of `clamp`"),
     ("raise_by_one", "pair", "self.second += by;", "self.second += 1;", "REFUSED at `second` of `Pair::raise`"),
-    # harmless ones: below a refused one, above one, and beside it as the second edit of a function
+    # Harmless edits: below a wrong one, above one, and beside one as the second edit of a function.
     ("limit_is_a_sum", "lib", "    9", "    4 + 5", "PROVED"),
     ("twice_from_zero", "lib", "    small + small", "    0 + small + small", "PROVED"),
     ("half_a_is_all", "lib", "    x / 2", "    255", "REFUSED at `ensures` of `half`"),
     ("half_b_is_a_third", "lib", "    x / 2", "    x / 3", "PROVED"),
-    # wrong ones above others: at a clause, at a call, and at what a type promises; and one outside of any body
+    # Wrong edits above others: at a clause, at a call, and at what a type promises; and one outside of any body.
     ("four_times_and_one", "lib", "    two + two", "    two + two + 1", "REFUSED at `ensures` of `four_times`"),
     ("widen_by_two", "pair", "self.raise(1);", "self.raise(2);", "REFUSED at `raise-requires` of `Pair::widen`"),
     ("from_begins_late", "pair", "first: 0,", "first: 10,", "REFUSED at `invariant_of-result` of `PairFromU8::from`"),
     ("most_is_eight", "most", "MOST: u8 = 9", "MOST: u8 = 8", "REFUSED at `ensures` of `most::most`"),
-    # what shows nothing of a contract
+    # Edits that show nothing about a contract.
     ("clamp_b_is_a_text", "lib", "{ limit() }", '{ "9" }', "BAD EDIT: it does not compile"),
     ("greater_renamed", "lib", "a < b { b } else { a }", "b < a { a } else { b }", "BAD EDIT: all that is refused is"),
     ("loose_is_half", "lib", "    y", "    y / 3", "NOT TRIED: low::loose is not proved as it stands"),
@@ -228,16 +232,16 @@ EDITS = [
     ("stands_never", "lib", "limits()", "limit()", "BAD EDIT: an 'old:' text stands in src/lib.rt 0 times"),
     ("changes_nothing", "lib", "two + two", "two + two", "BAD EDIT: it changes nothing"),
 ]
-# What is changed, the file, its old and new text, and which verdicts are due then: all of the crate, or some. An edit of
-# a line outside of any body rests on everything.
+# What is changed, the file, its old and new text, and which verdicts are then due: all of the crate, or some. The
+# verdict on an edit outside of any body depends on everything.
 ALL = {name for name, _, old, new, _ in EDITS} - {"stands_twice", "stands_never", "changes_nothing"}
 LIB = {name for name, file, *_ in EDITS if file == "lib"} & ALL
 LOW = "crates/low"
 CHANGES = [
     ("the body of another function", f"{LOW}/src/lib.rt", "    x / 2", "    x / 2 + 0",
      {"half_a_is_all", "half_b_is_a_third", "most_is_eight"}),
-    ("a comment in a body", f"{LOW}/src/lib.rt", "    two + two", "    // both\n    two + two",
-     {"four_times_and_one", "most_is_eight"}),
+    ("a comment in a body", f"{LOW}/src/lib.rt", "    two + two", "    // both\n    two + two", set()),
+    ("a comment of a definition", f"{LOW}/specs/Small.antt", "-- nine", "-- 9", set()),
     ("a contract of a callee", f"{LOW}/src/lib.rt", "ensures { result ≡ 9 }", "ensures { result ≤ 9 }", ALL),
     ("a constant", f"{LOW}/src/most.rt", "MOST: u8 = 9", "MOST: u8 = 4 + 5", ALL),
     ("a macro", f"{LOW}/src/lib.rt", "$x <= 9", "$x < 10", ALL),
@@ -255,17 +259,21 @@ CHANGES = [
     ("the proof of another function", f"{LOW}/proofs/loose/Answers.antt", "omega arith", "omega (arith)",
      {"loose_is_half", "most_is_eight"}),
     ("an edit", f"{LOW}/wrong/widen_by_two.edit", "raise(2)", "raise(3)", {"widen_by_two"}),
-    ("a cell", "docs/WRONG_BODIES.md", "| at most 9 | ", "| at most 9 | not ", {"clamp_a_is_nineteen"}),
-    ("the script", "tools/wrong.py", "import argparse", "import argparse  # new", ALL),
+    ("a row of the document", "docs/index/WRONG_BODIES.md", "| doubles |", "| halves |", set()),
+    ("what an edit's file says of it", f"{LOW}/wrong/widen_by_two.edit", "what: does", "what: did", set()),
+    ("the script", "tools/edits.py", "import os", "import os  # new", ALL),
 ]
+ROW = "does something | something |"
 FAULTS = [
-    "low/clamp_a_is_nineteen: `least` of `clamp`, and not: `most`, `same` of `clamp`",
-    "low/raise_by_one: nothing, and not: `second` of `Pair::raise`",
-    "low/widen_by_two: 0 rows, and not one, with `raise-requires` of `Pair::widen`",
-    "low/limit_is_a_sum: 0 rows, and not one",
-    "low/half_is_twice: nothing, and not: `rt ci`",
+    f"low/clamp_a_is_nineteen: its row is not: | `clamp_a_is_nineteen` | {ROW} `most`, `same` of `clamp` |",
+    f"low/widen_by_two: it has no row: | `widen_by_two` | {ROW} `raise-requires` of `Pair::widen` |",
+    f"low/limit_is_a_sum: it has no row: | `limit_is_a_sum` | {ROW}  |",
+    "low/half_is_twice: it does not say what it breaks",
+    "low/half_is_twice: it has no row: | `half_is_twice` | doubles |  | `rt ci` |",
     "low/is_no_edit: a row, and no edit",
 ]
+# What an edit's file says of it.
+SAID = "what: does something\nbreaks: something\n"
 
 
 def write(room):
@@ -278,9 +286,9 @@ def write(room):
         os.mkdir(f"{room}/crates/{crate}/wrong")
     for name, file, old, new, _ in EDITS:
         with open(f"{room}/crates/low/wrong/{name}.edit", "w", encoding="utf-8") as it:
-            it.write(f"file: src/{file}.rt\nold: {old}\nnew: {new}\n")
+            it.write(f"{SAID}file: src/{file}.rt\nold: {old}\nnew: {new}\n")
     with open(f"{room}/crates/top/wrong/zero_is_one.edit", "w", encoding="utf-8") as it:
-        it.write("file: src/lib.rt\nold:     0\nnew:     1\n")
+        it.write(f"{SAID}file: src/lib.rt\nold:     0\nnew:     1\n")
     os.mkdir(f"{room}/tools")
     for tool in TOOLS:
         shutil.copy(tool, f"{room}/tools")
@@ -290,13 +298,13 @@ def write(room):
 
 
 class Tests:
-    """The runs of the tool over the repository, and how they ended."""
+    """The runs of the tool over the repository, and their results."""
 
     def __init__(self, room):
         self.room, self.passed, self.failed = room, 0, 0
 
     def run(self, *words):
-        """Runs the tool, and returns its status, the lines that it wrote, and how many checks it made."""
+        """Runs the tool, and returns its status, the lines that it printed, and the number of checks that it made."""
         words = [f"{self.room}/tools/wrong.py", *words]
         ran = subprocess.run(words, stdin=subprocess.DEVNULL, capture_output=True, text=True)
         checks = sum(int(it) for it in re.findall(r"(\d+) checks", ran.stderr))
@@ -313,19 +321,21 @@ class Tests:
             said = next((it for it in lines if it.startswith(f"{name}: ")), "")
             self.want(name, said.startswith(f"{name}: {verdict}"), said)
         for fault in FAULTS:
-            self.want(fault, f"docs/WRONG_BODIES.md: {fault}" in lines, lines)
+            self.want(fault, f"docs/index/WRONG_BODIES.md: {fault}" in lines, lines)
         refused = sum(verdict.startswith("REFUSED") for _, _, _, _, verdict in EDITS)
-        faults = sum(it.startswith("docs/WRONG_BODIES.md: ") for it in lines)
+        faults = sum(it.startswith("docs/index/WRONG_BODIES.md: ") for it in lines)
         sums = f"{5 + refused} passed, {2 + len(EDITS) + 1 - refused + faults} failed"
         self.want("the sum", status == 1 and lines[-1:] == [sums], [status, sums, *lines[-1:]])
         self.want("the checks are few", checks <= 8, checks)
 
     def try_recorded(self):
-        """What was refused is recorded, and not tried again, but for a tenth of all."""
+        """Tests that an edit that made a proof fail is recorded, and not tried again, except for a tenth of all."""
         named = ["low/clamp_a_is_nineteen", "low/raise_by_one"]
+        with open(f"{self.room}/{LOW}/must-fail/half_is_twice.edit", "a", encoding="utf-8") as it:
+            it.write("breaks: the half\n")
         first, again = self.run("--write", *named), self.run("5 passed, 0 failed", *named)
         drawn = [it for it in named if self.keys()[it][0] == "True"]
-        self.want("--write fills the cells in", not first[0], first)
+        self.want("--write writes the rows", not first[0], first)
         said = [f"{it}: RECORDED as refused" for it in named if it not in drawn]
         self.want("what is recorded counts", all(it in again[1] for it in said), again)
         self.want("nothing else is tried", bool(again[2]) == bool(drawn), again)
@@ -336,12 +346,12 @@ class Tests:
         self.want("an edit that is not there fails", unknown[0] == 1, unknown)
 
     def keys(self):
-        """Returns the key of each edit, and whether it is tried anyway."""
+        """Returns the key of each edit, and whether it is tried although it is recorded."""
         ran = subprocess.run([sys.executable, "-c", KEYS], cwd=f"{self.room}/tools", capture_output=True, text=True)
         return {it.split()[0]: it.split()[1:] for it in ran.stdout.splitlines()}
 
     def try_changes(self):
-        """What a verdict rests on is in its key, and what it does not rest on is not."""
+        """Tests that the key of a verdict depends on everything that the verdict depends on, and on nothing else."""
         before = self.keys()
         for name, file, old, new, wanted in CHANGES:
             with open(f"{self.room}/{file}", encoding="utf-8") as it:
@@ -355,7 +365,7 @@ class Tests:
         self.want("a renamed file makes verdicts due", self.due(before) >= ALL - {"most_is_eight"}, self.due(before))
 
     def due(self, before):
-        """Returns the edits of the crate `low` whose keys are others than before, of those that can be applied."""
+        """Returns the edits of the crate `low` whose keys have changed, among those that can be applied."""
         now = self.keys()
         return {it[4:] for it, key in now.items() if it.startswith("low/") and it[4:] in ALL and key != before.get(it)}
 

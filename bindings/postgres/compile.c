@@ -1,4 +1,4 @@
-/* Compiles patterns, within the limits of the settings, and reports what is wrong with them. */
+/* Compiles patterns, within the limits of the settings, and reports their errors. */
 #include "compile.h"
 
 #include "access/detoast.h"
@@ -10,18 +10,17 @@
 
 #include "settings.h"
 
-/* As deep as patterns may nest by default in Rust's regex crate. It takes some 270 KiB of the stack; the server
-   leaves 512 KiB below max_stack_depth. */
+/* The default limit on nesting of Rust's regex crate. It takes some 270 KiB of the stack; the server leaves 512 KiB
+   below max_stack_depth. */
 #define NEST_LIMIT 250
 #define MESSAGE_ROOM 4096
 
-/* Up to tables of this size pieces are as long as the setting says. Of larger ones a byte can take longer, by as much
-   as they are larger, and pieces are shorter: with tables of 10 MB a byte takes 14 ms at worst, and a piece has 64.
-   */
+/* For tables up to this size, pieces are as long as the setting says. With larger tables a byte can take proportionally
+   longer, and pieces are shorter: with tables of 10 MB a byte takes at most 14 ms, and a piece has 64 bytes. */
 #define SMALL_TABLES 40960
 #define SHORTEST_PIECE 16
 
-/* The SQLSTATE of a status. */
+/* Returns the SQLSTATE of a status. */
 static int sqlstate_of(uint32_t code) {
     switch (code) {
     case LAZYDFA_MEMORY: return ERRCODE_OUT_OF_MEMORY;
@@ -49,13 +48,13 @@ void fail(lazydfa_status status) {
                 : 0);
 }
 
-/* The bytes of an array with as many patterns as may be, of as many bytes, at most: each has a length of four bytes,
-   and up to three behind it. */
+/* Returns the largest size of an array that the settings allow, in bytes: each pattern takes a length of four bytes,
+   and up to three bytes of padding. */
 static size_t longest_array(void) {
     return (size_t)setting_pattern_length * 9 + ARR_OVERHEAD_WITHNULLS(MAXDIM, 8);
 }
 
-/* Reports patterns that are too long. */
+/* Reports that patterns are too long. */
 static bool too_long(uint32 flags) {
     if (kept_is_estimating) return false;
     ereport(ERROR, errcode(ERRCODE_PROGRAM_LIMIT_EXCEEDED), errmsg("regular expression is too long"),
@@ -69,7 +68,7 @@ bool limit_length(Datum patterns, uint32 flags) {
     return too_long(flags);
 }
 
-/* Patterns, how they are compiled, and what was wrong with them. */
+/* Patterns, how they are compiled, and their error. */
 typedef struct {
     lazydfa_text *texts;
     size_t count;
@@ -79,7 +78,7 @@ typedef struct {
     char message[MESSAGE_ROOM];
 } Source;
 
-/* The elements of an array. NULL if there are none. */
+/* Returns the elements of an array, or NULL if it is not valid, while the planner estimates. */
 static lazydfa_text *elements_of(const ArrayType *array, uint32 flags, size_t *count) {
     size_t length = 0;
     lazydfa_text *texts;
@@ -102,7 +101,7 @@ static lazydfa_text *elements_of(const ArrayType *array, uint32 flags, size_t *c
     return texts;
 }
 
-/* The patterns of a key. NULL if there are none, while the planner estimates. */
+/* Returns the patterns of a key, or NULL if they are not valid, while the planner estimates. */
 static lazydfa_text *texts_of(const Key *key, size_t *count) {
     lazydfa_text *text;
     if (key->flags & IS_LIST) return elements_of((const ArrayType *)key->bytes, key->flags, count);
@@ -127,8 +126,8 @@ lazydfa_text_options text_options(uint32 flags) {
     return options;
 }
 
-/* The patterns of a key. Word boundaries of Unicode are allowed: a search for one fails where it meets text that is
-   not ASCII. False if there are none, while the planner estimates. */
+/* Reads the patterns of a key. Unicode word boundaries are allowed: a search for one fails if it reads text that is not
+   ASCII. Returns false if the patterns are not valid, while the planner estimates. */
 static bool read_source(Source *source, const Key *key) {
     lazydfa_settings *settings = &source->settings;
     memset(source, 0, sizeof *source);
@@ -155,7 +154,7 @@ static lazydfa_status open_regex(Kept *kept, Source *source) {
 }
 
 /* Opens a regex and its cache. Patterns that match the empty string, but not inside a character, are compiled so that
-   they do so there too, and searches skip these matches: such patterns are searched for in pieces. */
+   they match it there too, and searches skip these matches: so such patterns can be searched for in pieces. */
 static lazydfa_status open_patterns(Kept *kept, Source *source) {
     lazydfa_status status = open_regex(kept, source);
     if (status.code == LAZYDFA_OK) status = lazydfa_pieces_begin(&kept->cache, LAZYDFA_UNANCHORED, 0, -1, 0);
@@ -167,14 +166,14 @@ static lazydfa_status open_patterns(Kept *kept, Source *source) {
     return open_regex(kept, source);
 }
 
-/* How many class escapes a text has, as the library counts them. */
+/* Counts the class escapes of a text, as the library does. */
 static size_t class_escapes(const char *text, size_t length) {
     size_t count = 0;
     for (size_t i = 1; i < length; i++) count += text[i - 1] == '\\' && text[i] && strchr("dDpPsSwW", text[i]);
     return count;
 }
 
-/* Reports patterns that have too many classes, if they do. */
+/* Reports an error if patterns have too many classes. */
 static void limit_classes(const Source *source) {
     size_t count = 0;
     for (size_t i = 0; i < source->count; i++)
@@ -184,7 +183,7 @@ static void limit_classes(const Source *source) {
                 errdetail("lazydfa.pattern_classes allows %d escapes \\d, \\p, \\s or \\w.", setting_pattern_classes));
 }
 
-/* Reports that a pattern was refused. The library's message has a line for what is wrong, then the pattern and
+/* Reports the error of a pattern. The first line of the library's message says what is wrong; then come the pattern and
    carets. */
 static NEVER_RETURNS(void refuse(lazydfa_status status, const Source *source));
 
@@ -198,7 +197,7 @@ static void refuse(lazydfa_status status, const Source *source) {
     initStringInfo(&where);
     if (source->count > 1) appendStringInfo(&where, "Pattern %zu of the array", refusal->pattern + 1);
     else appendStringInfoString(&where, "The pattern");
-    /* Carets are below what they mean if the pattern is one line, and if there was room for all of it. */
+    /* The carets line up if the pattern has one line, and if there was room for all of it. */
     if (refusal->length < MESSAGE_ROOM && !memchr(refused->text, '\n', refused->length))
         appendStringInfo(&where, ":\n%s", end + 1);
     else
@@ -208,7 +207,7 @@ static void refuse(lazydfa_status status, const Source *source) {
             errdetail_internal("%s", where.data));
 }
 
-/* Closes what is open, after an error. */
+/* Closes what is open after an error. */
 static void close_all(Kept *kept) {
     lazydfa_cache_close(&kept->cache);
     lazydfa_regex_close(&kept->regex);

@@ -1,4 +1,4 @@
-/* What part of the rows the operators let through, for the planner. */
+/* Estimates the selectivity of the operators, for the planner. */
 #include "search.h"
 
 #include "access/htup.h"
@@ -6,11 +6,11 @@
 #include "utils/lsyscache.h"
 #include "utils/selfuncs.h"
 
-/* Where nothing is known: of the operators, and of those with `!`. */
+/* The selectivity of the operators, and of the operators with `!`, if nothing is known. */
 #define MATCHING DEFAULT_MATCHING_SEL
 #define NOT_MATCHING (1.0 - DEFAULT_MATCHING_SEL)
 
-/* The patterns, if they are constant, and what is searched is a column. */
+/* Returns the patterns, if they are constant and a column is searched. */
 static Node *constant_patterns(PlannerInfo *root, List *args, int relation) {
     VariableStatData column;
     Node *patterns;
@@ -20,17 +20,17 @@ static Node *constant_patterns(PlannerInfo *root, List *args, int relation) {
     return is_left && IsA(patterns, Const) ? patterns : NULL;
 }
 
-/* Whether the function of an operator is one of this extension. Anyone may name the estimators for another one, which
-   could run queries. */
+/* Whether the function of an operator belongs to this extension. Anyone may name the estimators for another operator,
+   whose function could run queries. */
 static bool is_own(Oid operator) {
     FmgrInfo function;
     fmgr_info(get_opcode(operator), &function);
     return tells_match(function.fn_addr);
 }
 
-/* What part of the rows an operator lets through, by the values that the statistics have. A value that cannot be
-   searched counts as one without a match, and patterns that cannot be compiled as ones that match nothing: the query
-   may search none of these values, and reports what is wrong if it does. */
+/* Estimates the selectivity of an operator from the values in the statistics. A value that cannot be searched counts as
+   a value without a match, and patterns that cannot be compiled match nothing: the query may search none of these
+   values, and reports the error if it does. */
 static double selectivity_of(FunctionCallInfo fcinfo, double unknown) {
     PlannerInfo *root = (PlannerInfo *)PG_GETARG_POINTER(0);
     List *args = (List *)PG_GETARG_POINTER(2);
@@ -39,7 +39,7 @@ static double selectivity_of(FunctionCallInfo fcinfo, double unknown) {
     bool before = kept_is_estimating;
     double selectivity = unknown;
     if (!patterns || !is_own(PG_GETARG_OID(1))) return unknown;
-    args = list_make2(linitial(args), patterns); /* no expression of the query is evaluated from here on */
+    args = list_make2(linitial(args), patterns); /* no expression of the query is evaluated after this */
     kept_is_estimating = true;
     PG_TRY();
     {
@@ -62,7 +62,7 @@ PG_FUNCTION_INFO_V1(lazydfa_pg_notsel);
 
 Datum lazydfa_pg_notsel(PG_FUNCTION_ARGS) { PG_RETURN_FLOAT8(selectivity_of(fcinfo, NOT_MATCHING)); }
 
-/* Of joins nothing is known: the patterns are values of a column, and none of the statistics is searched. */
+/* Nothing is known about joins: the patterns are values of a column, and no value of the statistics is searched. */
 
 PG_FUNCTION_INFO_V1(lazydfa_pg_joinsel);
 

@@ -1,4 +1,4 @@
-/* Keeps compiled patterns in the backend: the least recently used go first. */
+/* Keeps compiled patterns in the backend, and frees the least recently used ones first. */
 #include "kept.h"
 
 #include "common/hashfn.h"
@@ -12,27 +12,27 @@
 
 #define BUCKETS 1024
 
-/* A bound on what tables take of malloc: bytes per byte of their size, for one direction and for both, and a constant.
-   Every kind of pattern that was measured takes less, often half. */
+/* An upper bound on what tables hold from malloc: bytes per byte of their size, for one direction and for both, and a
+   constant. Every kind of pattern that was measured takes less, often half. */
 #define HELD_FORWARD 6
 #define HELD_BOTH 13
 #define HELD_BESIDE 14000
 
-/* Searching a byte adds at most one state in each direction: a row of transitions, up to 1 kB, and the states of the
-   NFA that it stands for. Lists have room to double. */
+/* Searching a byte adds at most one state in each direction: a row of transitions, up to 1 kB, and the state's NFA
+   states. Vectors have room to double. */
 #define HELD_STATE 4096
 
-/* What is not kept any more stays allocated, since a call site may look at its generation: these are free. */
-static dlist_head by_use = DLIST_STATIC_INIT(by_use); /* that used last is first */
+/* Entries that are no longer kept stay allocated, since a call site may check their generation: these are free. */
+static dlist_head by_use = DLIST_STATIC_INIT(by_use); /* the most recently used entry is first */
 static dlist_head free_ones = DLIST_STATIC_INIT(free_ones);
 static dlist_head buckets[BUCKETS];
 static int kept_number = 0;
-static size_t memory = 0; /* the sum of what they held when they were counted */
-static size_t uncounted = 0; /* and a bound on what they hold more */
+static size_t memory = 0; /* the sum of the bytes that they held when they were counted */
+static size_t uncounted = 0; /* and an upper bound on the bytes added since then */
 static int64 compiled = 0;
 static MemoryContext context = NULL;
-static Kept *in_use = NULL; /* whose search is not counted yet */
-static uint32 refused = 0;  /* the hash of patterns that an estimate had refused: the next one does not compile them */
+static Kept *in_use = NULL; /* the entry whose search is not counted yet */
+static uint32 refused = 0;  /* the hash of patterns that an estimate failed to compile: the next one does not try */
 
 bool kept_is_estimating = false;
 
@@ -68,7 +68,7 @@ void kept_set_pieces(int piece_size) {
     }
 }
 
-/* Room for patterns to be kept. */
+/* Returns a free entry for patterns. */
 static Kept *free_one(void) {
     Kept *kept;
     if (!dlist_is_empty(&free_ones)) return dlist_head_element(Kept, by_use, &free_ones);
@@ -77,7 +77,7 @@ static Kept *free_one(void) {
     return kept;
 }
 
-/* What the caches of patterns account for. */
+/* Returns the memory usage of the caches of patterns. */
 static lazydfa_usage usage_of(Kept *kept) {
     lazydfa_usage usage, backward;
     memset(&usage, 0, sizeof usage);
@@ -91,12 +91,12 @@ static lazydfa_usage usage_of(Kept *kept) {
     return usage;
 }
 
-/* What the tables of patterns, and their texts, hold. */
+/* Returns an upper bound on the bytes that the tables of patterns, and their texts, hold. */
 static size_t tables_of(const Kept *kept) {
     return kept->size * (kept->key.flags & ENDS_ONLY ? HELD_FORWARD : HELD_BOTH) + HELD_BESIDE + kept->key.length;
 }
 
-/* Counts what patterns hold. */
+/* Counts the bytes that patterns hold. */
 static void count(Kept *kept) {
     size_t before = kept->memory;
     kept->memory = usage_of(kept).held + tables_of(kept);
@@ -105,7 +105,7 @@ static void count(Kept *kept) {
     kept->uncounted = 0;
 }
 
-/* The patterns of a key, compiled and kept. NULL if there are none, while the planner estimates. */
+/* Compiles the patterns of a key and keeps them. Returns NULL if they are not valid, while the planner estimates. */
 static Kept *keep(const Key *key, uint32 hash) {
     Kept *kept;
     char *copy;
@@ -141,7 +141,8 @@ static bool is_of(const Kept *kept, const Key *key) {
            memcmp(own->bytes, key->bytes, key->length) == 0;
 }
 
-/* The patterns of a key, which are kept already, or compiled. NULL if there are none, while the planner estimates. */
+/* Returns the patterns of a key, compiling them if they are not kept already, or NULL if they are not valid, while the
+   planner estimates. */
 static Kept *look_up(const Key *key) {
     uint32 hash = hash_bytes((const unsigned char *)key->bytes, (int)key->length) ^ key->flags * 0x9e3779b9;
     dlist_iter at;
@@ -157,7 +158,7 @@ static Kept *look_up(const Key *key) {
 }
 
 /* Whether argument 1 is the same in each call of this expression. A parameter may change: PL/pgSQL evaluates one
-   expression with several values. Of `=~ ANY (array)` the expression has the array, and a call gets an element. */
+   expression with several values. For `=~ ANY (array)` the expression has the array, but a call is given an element. */
 static bool is_constant(const Node *call) {
     List *args = NIL;
     if (call && IsA(call, OpExpr)) args = ((const OpExpr *)call)->args;
@@ -165,7 +166,7 @@ static bool is_constant(const Node *call) {
     return list_length(args) > 1 && IsA(lsecond(args), Const);
 }
 
-/* The patterns in argument 1 of a call. False if they are too long, while the planner estimates. */
+/* Reads the patterns in argument 1 of a call. Returns false if they are too long, while the planner estimates. */
 static bool read_key(FunctionCallInfo fcinfo, uint32 flags, Key *key) {
     key->flags = flags;
     if (!limit_length(PG_GETARG_DATUM(1), flags)) return false;
@@ -181,7 +182,7 @@ static bool read_key(FunctionCallInfo fcinfo, uint32 flags, Key *key) {
     return true;
 }
 
-/* Has the call site remember its patterns. */
+/* Makes the call site remember its patterns. */
 static void find_patterns(FunctionCallInfo fcinfo, Site *site, uint32 flags) {
     Key key = site->key;
     bool is_short = key.bytes || read_key(fcinfo, flags, &key);
@@ -199,7 +200,7 @@ Kept *kept_of_call(FunctionCallInfo fcinfo, Site *site, uint32 flags) {
     if (site->is_refused) return NULL;
     if (!(site->is_constant && site->kept && site->kept->generation == site->generation))
         find_patterns(fcinfo, site, flags);
-    /* A search that was cancelled has been counted by nobody. */
+    /* A search that was cancelled has not been counted yet. */
     if (in_use && in_use->key.bytes) count(in_use);
     in_use = NULL;
     if (site->kept) dlist_move_head(&by_use, &site->kept->by_use);
@@ -220,7 +221,8 @@ lazydfa_cache *kept_backward(Kept *kept) {
 
 void kept_begin(Kept *kept) { in_use = kept; }
 
-/* What is held is counted only where it may have passed the limit: first of these patterns, and then of all. */
+/* The bytes held are counted only if they may exceed the limit: first those of these patterns, and then those of
+   all. */
 void kept_count(Kept *kept, size_t searched) {
     size_t limit = (size_t)setting_cache_size * 1024;
     size_t most = Min(searched * (HELD_STATE + kept->size) * (kept->key.flags & ENDS_ONLY ? 1 : 2), limit + 1);

@@ -1,6 +1,6 @@
 \echo Use "CREATE EXTENSION lazydfa" to load this file. \quit
 
--- What the planner asks. A search of a line of a log takes some five times what an operator on numbers does.
+-- Support functions for the planner. Searching a line of a log costs some five times as much as an operator on numbers.
 
 CREATE FUNCTION lazydfa_support(internal) RETURNS internal
     AS 'MODULE_PATHNAME', 'lazydfa_pg_support' LANGUAGE C STRICT;
@@ -15,7 +15,7 @@ CREATE FUNCTION lazydfa_notsel(internal, oid, internal, int) RETURNS float8
 CREATE FUNCTION lazydfa_notjoinsel(internal, oid, internal, smallint, internal) RETURNS float8
     AS 'MODULE_PATHNAME', 'lazydfa_pg_notjoinsel' LANGUAGE C STABLE STRICT PARALLEL SAFE;
 
--- Whether a text has a match of a pattern, or none; with letters in either case.
+-- Whether a text has a match of a pattern, or no match; also case-insensitive.
 
 CREATE FUNCTION lazydfa_match(string text, pattern text) RETURNS bool
     AS 'MODULE_PATHNAME', 'lazydfa_pg_match' LANGUAGE C IMMUTABLE STRICT PARALLEL SAFE COST 5 SUPPORT lazydfa_support;
@@ -26,14 +26,14 @@ CREATE FUNCTION lazydfa_imatch(string text, pattern text) RETURNS bool
 CREATE FUNCTION lazydfa_imatch_not(string text, pattern text) RETURNS bool
     AS 'MODULE_PATHNAME', 'lazydfa_pg_imatch_not' LANGUAGE C IMMUTABLE STRICT PARALLEL SAFE COST 5;
 
--- Whether any of the patterns of an array has a match, or none of them.
+-- Whether any pattern of an array has a match, or none has one.
 
 CREATE FUNCTION lazydfa_match_any(string text, patterns text[]) RETURNS bool
     AS 'MODULE_PATHNAME', 'lazydfa_pg_match_any' LANGUAGE C IMMUTABLE STRICT PARALLEL SAFE COST 5;
 CREATE FUNCTION lazydfa_match_none(string text, patterns text[]) RETURNS bool
     AS 'MODULE_PATHNAME', 'lazydfa_pg_match_any_not' LANGUAGE C IMMUTABLE STRICT PARALLEL SAFE COST 5;
 
--- The same of bytes.
+-- The same for bytes.
 
 CREATE FUNCTION lazydfa_match(bytes bytea, pattern text) RETURNS bool
     AS 'MODULE_PATHNAME', 'lazydfa_pg_match_bytes' LANGUAGE C IMMUTABLE STRICT PARALLEL SAFE COST 5;
@@ -48,12 +48,12 @@ CREATE FUNCTION lazydfa_match_any(bytes bytea, patterns text[]) RETURNS bool
 CREATE FUNCTION lazydfa_match_none(bytes bytea, patterns text[]) RETURNS bool
     AS 'MODULE_PATHNAME', 'lazydfa_pg_match_any_bytes_not' LANGUAGE C IMMUTABLE STRICT PARALLEL SAFE COST 5;
 
--- Which of the patterns have a match, by their places in the array, from 1.
+-- Which of the patterns have a match, by their indices in the array, from 1.
 
 CREATE FUNCTION lazydfa_which(string text, patterns text[]) RETURNS int[]
     AS 'MODULE_PATHNAME', 'lazydfa_pg_which' LANGUAGE C IMMUTABLE STRICT PARALLEL SAFE COST 10;
 
--- The first match: the place of its first character, from 1, and the place after its last; null if there is none.
+-- The first match: the position of its first character, from 1, and the position after its last; null if there is none.
 
 CREATE FUNCTION lazydfa_find(string text, pattern text, OUT start_at int, OUT end_at int)
     AS 'MODULE_PATHNAME', 'lazydfa_pg_find' LANGUAGE C IMMUTABLE STRICT PARALLEL SAFE COST 10;
@@ -69,15 +69,15 @@ CREATE FUNCTION lazydfa_count(string text, pattern text) RETURNS bigint
 CREATE FUNCTION lazydfa_replace(string text, pattern text, replacement text) RETURNS text
     AS 'MODULE_PATHNAME', 'lazydfa_pg_replace' LANGUAGE C IMMUTABLE STRICT PARALLEL SAFE COST 20;
 
--- The tokens of a text: each is the match of a pattern, by its place in the array, and begins where the last one ended.
+-- The tokens of a text: each is a match of a pattern, given by its index in the array, and begins where the last ended.
 
 CREATE FUNCTION lazydfa_tokens(string text, patterns text[], OUT pattern int, OUT token text)
     RETURNS SETOF record
     AS 'MODULE_PATHNAME', 'lazydfa_pg_tokens' LANGUAGE C IMMUTABLE STRICT PARALLEL SAFE COST 10 ROWS 10;
 
--- Of this backend: how many patterns it keeps; the bytes that their caches account for, those of their leaps beside
--- these, and what the caches hold of the allocator in all; the bytes of their tables; how often caches were cleared; and
--- how many patterns were compiled.
+-- Statistics of this backend: how many patterns it keeps; the bytes that their caches account for, the bytes of their
+-- leaps in addition, and all bytes that the caches hold from the allocator; the bytes of their tables; how often caches
+-- were cleared; and how many patterns were compiled.
 
 CREATE FUNCTION lazydfa_stats(OUT patterns bigint, OUT memory bigint, OUT leaps bigint, OUT held bigint,
     OUT tables bigint, OUT clears bigint, OUT compiled bigint)

@@ -1,4 +1,4 @@
-/* The functions of the extension. Each compiles the patterns of its argument 1, or has them compiled already, and
+/* The functions of the extension. Each compiles the patterns of its argument 1, unless they are compiled already, and
    searches the value of its argument 0. */
 #include "search.h"
 
@@ -18,7 +18,7 @@ void _PG_init(void);
 
 void _PG_init(void) { define_settings(); }
 
-/* The value of argument 0, to be searched for the patterns of argument 1. */
+/* Returns the value of argument 0, to be searched for the patterns of argument 1. */
 static Value value_of(FunctionCallInfo fcinfo, uint32 flags) {
     Value value;
     if (!fcinfo->flinfo->fn_extra)
@@ -33,13 +33,13 @@ static bool is_match(FunctionCallInfo fcinfo, uint32 flags) {
     return has_match(&value);
 }
 
-/* The bytes of a match, as a text. */
+/* Returns the bytes of a match as a text. */
 static Datum text_of(const Value *value, lazydfa_match match) {
     const char *at = (const char *)value->bytes + match.start;
     return PointerGetDatum(cstring_to_text_with_len(at, match.end - match.start));
 }
 
-/* The type of the rows that a function returns, which its call site remembers as long as this context lasts. */
+/* Returns the type of the rows that a function returns, which its call site remembers as long as this context lasts. */
 static TupleDesc row_of(FunctionCallInfo fcinfo, Site *site, MemoryContext context) {
     MemoryContext before;
     TupleDesc row;
@@ -51,13 +51,13 @@ static TupleDesc row_of(FunctionCallInfo fcinfo, Site *site, MemoryContext conte
     return site->row;
 }
 
-/* A row that a function returns. */
+/* Returns a row with these columns. */
 static Datum row_with(TupleDesc row, Datum *columns) {
     bool nulls[8] = {false};
     return HeapTupleGetDatum(heap_form_tuple(row, columns, nulls));
 }
 
-/* A function that returns whether there is a match, and one that returns whether there is none. */
+/* Defines a function that returns whether there is a match, and one that returns whether there is no match. */
 #define MATCH(name, flags)                                                     \
     PG_FUNCTION_INFO_V1(name);                                                 \
     Datum name(PG_FUNCTION_ARGS) { PG_RETURN_BOOL(is_match(fcinfo, flags)); } \
@@ -85,7 +85,7 @@ bool tells_match(PGFunction function) {
 
 PG_FUNCTION_INFO_V1(lazydfa_pg_find);
 
-/* Where the first match begins and ends, in characters. */
+/* Returns where the first match begins and ends, in characters. */
 Datum lazydfa_pg_find(PG_FUNCTION_ARGS) {
     Value value = value_of(fcinfo, 0);
     const char *bytes = (const char *)value.bytes;
@@ -137,13 +137,13 @@ Datum lazydfa_pg_replace(PG_FUNCTION_ARGS) {
     PG_RETURN_TEXT_P(cstring_to_text_with_len(out.data, out.len));
 }
 
-/* What a function that returns a row a call has from call to call. */
+/* What a set-returning function keeps from call to call. */
 typedef struct {
     Value value;
     Site site;
 } Walk;
 
-/* A copy of the patterns in argument 1. */
+/* Returns a copy of the patterns in argument 1. */
 static Key copy_of_patterns(FunctionCallInfo fcinfo, uint32 flags) {
     Key key = {NULL, 0, flags};
     limit_length(PG_GETARG_DATUM(1), flags);
@@ -159,8 +159,8 @@ static Key copy_of_patterns(FunctionCallInfo fcinfo, uint32 flags) {
     return key;
 }
 
-/* The walk of a function, which its first call begins over copies of the value and of the patterns. Between calls
-   other patterns may be compiled, and these freed, so each call looks for them. */
+/* Returns the walk of a function, which its first call begins over copies of the value and of the patterns. Between
+   calls other patterns may be compiled, and these freed, so each call looks them up. */
 static Walk *walk_of(FunctionCallInfo fcinfo, FuncCallContext *context, uint32 flags) {
     Walk *walk = context->user_fctx;
     if (!walk) {
@@ -189,7 +189,7 @@ Datum lazydfa_pg_matches(PG_FUNCTION_ARGS) {
 
 PG_FUNCTION_INFO_V1(lazydfa_pg_tokens);
 
-/* The tokens of a text, one after another, each with the pattern that it is of. */
+/* Returns the tokens of a text, one after another, each with the pattern that it matches. */
 Datum lazydfa_pg_tokens(PG_FUNCTION_ARGS) {
     FuncCallContext *context;
     lazydfa_status status;
@@ -212,7 +212,7 @@ Datum lazydfa_pg_tokens(PG_FUNCTION_ARGS) {
 
 PG_FUNCTION_INFO_V1(lazydfa_pg_which);
 
-/* The places in the array, from 1, of the patterns that match. */
+/* Returns the indices in the array, from 1, of the patterns that match. */
 Datum lazydfa_pg_which(PG_FUNCTION_ARGS) {
     Value value = value_of(fcinfo, IS_LIST | FINDS_ALL | ENDS_ONLY);
     size_t room = Max(value.kept->count, 1), count;

@@ -1,5 +1,5 @@
-/* What part of an index the operators need, for the planner. It is derived from what the library knows of every match
-   of a pattern, and each row that an index gives is searched again. */
+/* Derives index conditions for the operators, for the planner, from what the library reports that all matches of a
+   pattern have in common. Each row that an index returns is searched again. */
 #include "compile.h"
 
 #include <ctype.h>
@@ -21,7 +21,8 @@
 #include "utils/memutils.h"
 #include "utils/pg_locale.h"
 
-/* Patterns that are longer, or have more class escapes, are not read for a plan: it takes longer than it is worth. */
+/* Patterns that are longer, or have more class escapes, are not parsed for a plan: that would take longer than it
+   saves. */
 #define LONGEST 8192
 #define MOST_CLASSES 200
 
@@ -30,18 +31,18 @@
 #define MOST_LITERALS 16
 #define MOST_BYTES 2048
 
-/* What is known of every match: whether it begins and ends where the text does, its prefix, and texts that it
-   contains. More than there is room for is left out. */
+/* What all matches have in common: whether they begin and end where the text does, their prefix, and strings that they
+   contain. What there is no room for is left out. */
 typedef struct {
     lazydfa_facts facts;
     const char *prefix;
-    size_t prefix_length; /* of whole characters */
-    bool is_exact;        /* a text that has a match is its prefix */
+    size_t prefix_length; /* in whole characters */
+    bool is_exact;        /* a text that has a match equals its prefix */
     uint8_t bytes[MOST_BYTES];
     size_t lengths[MOST_LITERALS];
 } Known;
 
-/* How many bytes at the start of some are characters of a text. */
+/* Returns how many of these bytes form whole characters at their start. */
 static size_t whole_characters(const char *bytes, size_t length) {
     size_t at = 0;
     while (at < length && bytes[at]) {
@@ -52,7 +53,7 @@ static size_t whole_characters(const char *bytes, size_t length) {
     return at;
 }
 
-/* Reads a pattern for what is known of its matches. False if it is not one, or is not read. */
+/* Derives what a pattern's matches have in common. Returns false if the pattern is not valid, or is not parsed. */
 static bool read_facts(Known *known, const Key *key) {
     lazydfa_text_options options = text_options(key->flags);
     lazydfa_facts *facts = &known->facts;
@@ -68,8 +69,8 @@ static bool read_facts(Known *known, const Key *key) {
     return true;
 }
 
-/* What is known of a pattern's matches; NULL if nothing is. The planner asks for each index of a table, so this is kept
-   for the pattern that was asked about last. */
+/* Returns what a pattern's matches have in common, or NULL if that is not known. The planner asks for each index of a
+   table, so the last answer is cached. */
 static const Known *know(const text *pattern, uint32 flags) {
     static Key last = {NULL, 0, 0};
     static Known known;
@@ -82,13 +83,13 @@ static const Known *know(const text *pattern, uint32 flags) {
         if (last.bytes) pfree((char *)last.bytes);
         last = (Key){copy, key.length, flags};
         is_known = read_facts(&known, &last);
-        /* What was refused may be read another time: memory or the settings may be others. */
+        /* A pattern with an error may be valid another time: the memory or the settings may have changed. */
         if (!is_known) last.flags = ~0u;
     }
     return is_known ? &known : NULL;
 }
 
-/* An operator of the index between its column and a text. */
+/* Returns a comparison of the index's column with a text, by an operator of the index. */
 static Expr *compare(const SupportRequestIndexCondition *request, Node *column, int strategy, const char *bytes,
                      size_t length) {
     Oid operator = get_opfamily_member(request->opfamily, TEXTOID, TEXTOID, strategy);
@@ -104,8 +105,8 @@ static Expr *compare(const SupportRequestIndexCondition *request, Node *column, 
 /* Adds a condition to a list, if there is one. */
 static List *with(List *conditions, Expr *condition) { return condition ? lappend(conditions, condition) : conditions; }
 
-/* The least text, by its bytes, above all that begin with a prefix, or above more of them: a copy, and its length,
-   which is 0 if there is none. */
+/* Returns a copy of a text that is above all texts with a prefix, in byte order, and writes its length, which is 0 if
+   there is no such text. Texts without the prefix may be below it too. */
 static char *above(const char *prefix, size_t *length) {
     char *bound = pnstrdup(prefix, *length);
     while (*length > 0 && (unsigned char)bound[*length - 1] >= 0x7f) --*length;
@@ -113,19 +114,20 @@ static char *above(const char *prefix, size_t *length) {
     return bound;
 }
 
-/* Whether the index has its texts in the order of their bytes. */
+/* Whether the index orders its texts by their bytes. */
 static bool is_by_bytes(const SupportRequestIndexCondition *request) {
     if (request->opfamily == TEXT_PATTERN_BTREE_FAM_OID) return true;
     return request->opfamily == TEXT_BTREE_FAM_OID && COLLATES_BY_BYTES(request->indexcollation);
 }
 
-/* Whether equal texts of the index have equal bytes, and it has them in an order. */
+/* Whether equal texts of the index have equal bytes, and the index orders them. */
 static bool is_ordered(const SupportRequestIndexCondition *request) {
     if (request->opfamily == TEXT_PATTERN_BTREE_FAM_OID) return true;
     return request->opfamily == TEXT_BTREE_FAM_OID && get_collation_isdeterministic(request->indexcollation);
 }
 
-/* The rows of an ordered index that can match: those that begin with the prefix, or are equal to it. */
+/* Returns the conditions on an ordered index for rows that can match: they begin with the prefix, or are equal to
+   it. */
 static List *range_of(const SupportRequestIndexCondition *request, Node *column, const Known *known) {
     size_t length = known->prefix_length;
     List *conditions = NIL;
@@ -139,12 +141,13 @@ static List *range_of(const SupportRequestIndexCondition *request, Node *column,
     return conditions;
 }
 
-/* Whether the index has trigrams of its texts, by pg_trgm: whether its operator family has LIKE as this strategy. */
+/* Whether the index stores trigrams of its texts, by pg_trgm: whether its operator family has LIKE as this strategy. */
 static bool is_by_trigrams(const SupportRequestIndexCondition *request) {
     return get_opfamily_member(request->opfamily, TEXTOID, TEXTOID, LIKE_STRATEGY) == OID_TEXT_LIKE_OP;
 }
 
-/* Whether a text has as many letters or digits in a row as a trigram has. What is not ASCII may be a letter. */
+/* Whether a text has three letters or digits in a row, as a trigram has. A character that is not ASCII counts as a
+   letter. */
 static bool has_trigram(const char *bytes, size_t length) {
     int row = 0;
     for (size_t at = 0; at < length && row < 3; at += pg_utf_mblen((const unsigned char *)bytes + at)) {
@@ -154,7 +157,7 @@ static bool has_trigram(const char *bytes, size_t length) {
     return row == 3;
 }
 
-/* A condition that the column is LIKE a text, with these around it. */
+/* Returns a condition that the column is LIKE a text, with these strings around it. */
 static Expr *like(const SupportRequestIndexCondition *request, Node *column, const char *before, const char *bytes,
                   size_t length, const char *after) {
     StringInfoData pattern;
@@ -168,8 +171,8 @@ static Expr *like(const SupportRequestIndexCondition *request, Node *column, con
     return compare(request, column, LIKE_STRATEGY, pattern.data, pattern.len);
 }
 
-/* The rows of an index of trigrams that can match: those that contain all texts that every match contains. The prefix
-   is one of these texts, and is not asked for again. */
+/* Returns the conditions on an index of trigrams for rows that can match: they contain all strings that every match
+   contains. A string that the prefix contains gets no condition of its own. */
 static List *likes_of(const SupportRequestIndexCondition *request, Node *column, const Known *known) {
     const char *literal = known->prefix + known->facts.prefix, *end = (const char *)known->bytes + MOST_BYTES;
     bool has_prefix = has_trigram(known->prefix, known->prefix_length);
@@ -189,7 +192,7 @@ static List *likes_of(const SupportRequestIndexCondition *request, Node *column,
     return conditions;
 }
 
-/* The rows of an index that can match, as conditions on its column. */
+/* Returns conditions on an index's column that all rows that can match satisfy. */
 static List *conditions_of(SupportRequestIndexCondition *request, uint32 flags) {
     List *args = is_opclause(request->node)     ? ((OpExpr *)request->node)->args
                  : is_funcclause(request->node) ? ((FuncExpr *)request->node)->args
@@ -207,7 +210,7 @@ static List *conditions_of(SupportRequestIndexCondition *request, uint32 flags) 
     return range_of(request, linitial(args), known);
 }
 
-/* What a function offers the planner. */
+/* Answers a support request of the planner for a function. */
 static Datum offer(FunctionCallInfo fcinfo, uint32 flags) {
     Node *request = (Node *)PG_GETARG_POINTER(0);
     List *conditions = NIL;

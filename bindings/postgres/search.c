@@ -1,5 +1,5 @@
-/* Searches values: a short one by one call of the library, and one that is longer than Kept.piece in pieces, between
-   which a query can be cancelled. Such an error leaves a search in the cache, which the next one replaces. */
+/* Searches values: a short value with one call of the library, and a value longer than Kept.piece in pieces, between
+   which a query can be cancelled. Cancelling leaves a search in the cache, which the next search replaces. */
 #include "search.h"
 
 #include "miscadmin.h"
@@ -15,18 +15,18 @@ void begin_value(Value *value, struct varlena *it) {
     value->matches = lazydfa_iterate(value->tokens);
 }
 
-/* Whether what is left from an offset on is searched in pieces. */
+/* Whether the rest of the value from an offset on is searched in pieces. */
 static bool is_long(const Value *value, size_t from) { return value->length - from > value->kept->piece; }
 
-/* How much of a value is read next. */
+/* Returns the length of the next piece of a value. */
 static size_t piece_at(const Value *value, size_t at) { return Min(value->kept->piece, value->length - at); }
 
-/* Whether a match that ends here is none, since it is empty and inside a character. */
+/* Whether a match that ends here is skipped, since it is empty and inside a character. */
 static bool is_skipped(const Value *value, size_t at) {
     return value->kept->skips && at < value->length && (value->bytes[at] & 0xC0) == 0x80;
 }
 
-/* What lazydfa_find_end finds, in pieces. */
+/* Does what lazydfa_find_end does, in pieces. */
 static lazydfa_status end_in_pieces(Value *value, const lazydfa_input *left, lazydfa_half *end) {
     lazydfa_cache *cache = &value->kept->cache;
     int32_t behind = left->start > 0 ? value->bytes[left->start - 1] : -1;
@@ -44,8 +44,8 @@ static lazydfa_status end_in_pieces(Value *value, const lazydfa_input *left, laz
     return status;
 }
 
-/* Where the first match of what is left ends. After a match that is skipped what is left begins behind it: no other
-   match begins before it, and none that begins inside the character is longer. */
+/* Searches for the end of the first match in the remaining input. After a match that is skipped, the input begins after
+   it: no other match begins before it, and no match that begins inside the character is longer. */
 static lazydfa_status find_end(Value *value, lazydfa_input *left, lazydfa_half *end) {
     while (left->start <= left->end) {
         lazydfa_status status;
@@ -58,7 +58,7 @@ static lazydfa_status find_end(Value *value, lazydfa_input *left, lazydfa_half *
     return none;
 }
 
-/* What lazydfa_find_start finds, in pieces, which are short at first, since a match that is short ends the search. */
+/* Does what lazydfa_find_start does, in pieces, which are short at first, since a short match ends the search. */
 static lazydfa_status start_in_pieces(Value *value, const lazydfa_input *left, lazydfa_half *start) {
     lazydfa_cache *cache = kept_backward(value->kept);
     int32_t behind = left->end < value->length ? value->bytes[left->end] : -1;
@@ -79,17 +79,17 @@ static lazydfa_status start_in_pieces(Value *value, const lazydfa_input *left, l
     pfree(piece);
     if (status.code == LAZYDFA_OK) status = lazydfa_pieces_end(cache, ahead, start);
     if (status.code == LAZYDFA_OK) start->offset = left->end - start->offset;
-    else status.offset = left->end - 1 - status.offset; /* it counts back from the byte before the end */
+    else status.offset = left->end - 1 - status.offset; /* it counts backward from the byte before the end */
     return status;
 }
 
-/* Where the longest match begins that ends where what is left does. */
+/* Searches for the start of the longest match that ends where the remaining input ends. */
 static lazydfa_status find_start(Value *value, const lazydfa_input *left, lazydfa_half *start) {
     if (left->end - left->start > value->kept->piece) return start_in_pieces(value, left, start);
     return lazydfa_find_start(&value->kept->cache, value->bytes, value->length, left, start);
 }
 
-/* The first match from an offset on: its end, and by a search back from there its start. */
+/* Searches for the end of the first match from an offset on, and then backward from there for its start. */
 static lazydfa_status find_from(Value *value, size_t from, lazydfa_match *match) {
     lazydfa_input left = {from, value->length, LAZYDFA_UNANCHORED, 0, 0, 0};
     lazydfa_half end, start;
@@ -106,7 +106,7 @@ static lazydfa_status find_from(Value *value, size_t from, lazydfa_match *match)
     return status;
 }
 
-/* What lazydfa_next finds, where it is not enough. */
+/* Does what lazydfa_next does, where one call of it is not enough. */
 static lazydfa_status next_by_parts(Value *value, lazydfa_match *match) {
     lazydfa_iteration *at = &value->matches;
     lazydfa_status status = at->ended ? none : find_from(value, at->left.start, match);
@@ -121,7 +121,7 @@ static lazydfa_status next_by_parts(Value *value, lazydfa_match *match) {
     return status;
 }
 
-/* What lazydfa_token finds, in pieces. */
+/* Does what lazydfa_token does, in pieces. */
 static lazydfa_status token_in_pieces(Value *value, lazydfa_match *token) {
     lazydfa_input left = value->tokens;
     lazydfa_half end;
@@ -137,7 +137,7 @@ static lazydfa_status token_in_pieces(Value *value, lazydfa_match *token) {
     return status;
 }
 
-/* Marks the patterns that match where a walk stands, and counts them, up to `most`. */
+/* Marks the patterns that match at a walk's position, and counts them, up to `most`. */
 static lazydfa_status mark(Value *value, const lazydfa_stop *stop, size_t most, bool *found, size_t *count) {
     lazydfa_status status = {LAZYDFA_OK, 0, 0};
     if (stop->patterns > 0 && is_skipped(value, stop->offset)) return status;
@@ -151,7 +151,7 @@ static lazydfa_status mark(Value *value, const lazydfa_stop *stop, size_t most, 
     return status;
 }
 
-/* Walks over a value, and marks the patterns that match: at most `most` of them, those that are met first. */
+/* Walks over a value, and marks the first `most` patterns that match. */
 static lazydfa_status walk_on(Value *value, size_t most, bool *found, size_t *count) {
     lazydfa_cache *cache = &value->kept->cache;
     lazydfa_stop stop;
@@ -166,7 +166,7 @@ static lazydfa_status walk_on(Value *value, size_t most, bool *found, size_t *co
     return status.code <= LAZYDFA_NONE ? mark(value, &stop, most, found, count) : status;
 }
 
-/* What lazydfa_which finds, in pieces, but at most `most` patterns. */
+/* Does what lazydfa_which does, in pieces, for at most `most` patterns. */
 static lazydfa_status which_in_pieces(Value *value, size_t most, uint32_t *patterns, size_t *count) {
     bool *found = palloc0(Max(value->kept->count, 1));
     lazydfa_status status;
@@ -185,15 +185,15 @@ static void begin_search(Value *value) {
     kept_begin(value->kept);
 }
 
-/* Ends a search that may have read `length` bytes: what it has added to the cache is counted, and an error is reported,
-   unless the planner estimates. A search reads on behind a match for one that is preferred to it. */
+/* Ends a search that may have read `length` bytes: what it added to the cache is counted, and an error is reported,
+   unless the planner estimates. A search reads beyond a match for one that is preferred to it. */
 static void end_search(Value *value, size_t length, lazydfa_status status) {
     kept_count(value->kept, length);
     if (status.code == LAZYDFA_OK || status.code == LAZYDFA_NONE || status.code == LAZYDFA_NO_TOKEN) return;
     if (!kept_is_estimating) fail(status);
 }
 
-/* Whether a search of what is left from an offset on takes more than one call of the library. */
+/* Whether a search of the rest of the value from an offset on takes more than one call of the library. */
 static bool has_parts(const Value *value, size_t from) { return value->kept->skips || is_long(value, from); }
 
 bool has_match(Value *value) {
@@ -205,7 +205,7 @@ bool has_match(Value *value) {
     size_t count;
     if (!kept) return false;
     begin_search(value);
-    whole.earliest = !kept->skips; /* a match that is skipped may end before one that is not */
+    whole.earliest = !kept->skips; /* a match that is skipped may end before one that is not skipped */
     if (!has_parts(value, 0)) status = lazydfa_is_match(&kept->cache, value->bytes, value->length, &whole);
     else if (kept->skips && kept->key.flags & FINDS_ALL) status = which_in_pieces(value, 1, &pattern, &count);
     else status = find_end(value, &whole, &end);

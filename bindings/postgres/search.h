@@ -1,41 +1,42 @@
-/* Searches of a value for patterns that are compiled. */
+/* Searches of a value for compiled patterns. */
 #ifndef LAZYDFA_SEARCH_H
 #define LAZYDFA_SEARCH_H
 
 #include "kept.h"
 
-/* A value that is searched, and how far. */
+/* A value that is searched, and the progress of its searches. */
 typedef struct {
-    Kept *kept; /* NULL if the patterns cannot be searched for, while the planner estimates */
+    Kept *kept; /* NULL if the patterns cannot be compiled, while the planner estimates */
     const uint8_t *bytes;
     size_t length;
-    lazydfa_iteration matches; /* what is left for find_next */
-    lazydfa_input tokens;      /* what is left for find_token */
+    lazydfa_iteration matches; /* what remains for find_next */
+    lazydfa_input tokens;      /* what remains for find_token */
 } Value;
 
 /* Names of the extension, which no other library sees. */
 #pragma GCC visibility push(hidden)
 
-/* Begins the searches of a value, which is a text or a bytea. */
+/* Begins searches of a value, which is a text or a bytea. */
 extern void begin_value(Value *value, struct varlena *it);
 
 /* Each search reports errors of the library. A query can be cancelled before it, and in a long value while it runs.
    */
 
-/* Whether there is a match. */
+/* Whether the value has a match. */
 extern bool has_match(Value *value);
 
-/* The next match; false if there is none. */
+/* Writes the next match; returns false if there is no match. */
 extern bool find_next(Value *value, lazydfa_match *match);
 
-/* The next token: LAZYDFA_OK; LAZYDFA_NONE at the end of the value; or LAZYDFA_NO_TOKEN, with the offset where none
-   begins. */
+/* Writes the next token. Returns LAZYDFA_OK; LAZYDFA_NONE at the end of the value; or LAZYDFA_NO_TOKEN, with the offset
+   where no token begins. */
 extern lazydfa_status find_token(Value *value, lazydfa_match *token);
 
-/* The numbers of the patterns that match, in increasing order, and how many they are. There is room for all. */
+/* Writes the numbers of the patterns that match, in increasing order, and returns how many match. There must be room
+   for all patterns. */
 extern size_t find_all(Value *value, uint32_t *patterns);
 
-/* Whether a function is one of the operators', which return whether there is a match. */
+/* Whether a function implements an operator, and so returns whether there is a match. */
 extern bool tells_match(PGFunction function);
 
 #pragma GCC visibility pop

@@ -1,4 +1,4 @@
-/* The settings lazydfa.*, and what follows if one of them changes. */
+/* Defines the settings lazydfa.*, and applies changes to them. */
 #include "settings.h"
 
 #include <limits.h>
@@ -19,7 +19,7 @@ int setting_pattern_length = 65536;
 int setting_pattern_classes = 2000;
 int setting_piece_size = 16384;
 
-/* A limit of a pattern holds for those that are kept too: they are compiled anew. */
+/* A limit on patterns also applies to patterns that are kept: they are compiled anew. */
 static void assign_pattern_size(int value, void *extra) {
     if (value != setting_pattern_size) kept_forget_all();
 }
@@ -32,7 +32,7 @@ static void assign_pattern_classes(int value, void *extra) {
     if (value != setting_pattern_classes) kept_forget_all();
 }
 
-/* The size of a cache is fixed when it is made. */
+/* The size of a cache is fixed when it is created. */
 static void assign_pattern_cache_size(int value, void *extra) {
     if (Min(value, setting_cache_size) != Min(setting_pattern_cache_size, setting_cache_size)) kept_forget_all();
 }
@@ -50,7 +50,7 @@ static void assign_piece_size(int value, void *extra) {
     if (value != setting_piece_size) kept_set_pieces(value);
 }
 
-/* How long a query may take until it can be cancelled is for the superuser to say. */
+/* Only the superuser sets how long a query may take until it can be cancelled. */
 static void define_limits(void) {
     DefineCustomIntVariable("lazydfa.pattern_length", "Length of one pattern, or of all patterns of an array.",
                             "A longer one is an error. An array has as many patterns as this at most.",

@@ -13,7 +13,7 @@ extern int setting_pattern_length;     /* in bytes */
 extern int setting_pattern_classes;
 extern int setting_piece_size;         /* in bytes */
 
-/* Defines them. */
+/* Defines the settings. */
 extern void define_settings(void);
 
 #pragma GCC visibility pop

@@ -1,4 +1,4 @@
-/* What differs between the versions of PostgreSQL from 13 to 18. */
+/* Differences between the versions of PostgreSQL, from 13 to 18. */
 #ifndef LAZYDFA_VERSIONS_H
 #define LAZYDFA_VERSIONS_H
 
@@ -18,7 +18,7 @@
 #define NEVER_RETURNS(declaration) declaration pg_attribute_noreturn()
 #endif
 
-/* Whether a collation, as utils/pg_locale.h has it, compares by bytes. */
+/* Whether a collation compares by bytes; utils/pg_locale.h declares collations. */
 #if PG_VERSION_NUM >= 180000
 #define COLLATES_BY_BYTES(collation) (pg_newlocale_from_collation(collation)->collate_is_c)
 #else

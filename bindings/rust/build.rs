@@ -1,10 +1,10 @@
-//! Links `liblazydfa.a`: from the folder that `LAZYDFA_LIB` names, or as `make` in `bindings/c` makes it.
+//! Links `liblazydfa.a`: from the folder that `LAZYDFA_LIB` names, or as `make` in `bindings/c` builds it.
 use std::path::{Path, PathBuf};
 use std::process::Command;
 use std::{env, fs};
 
-/// Tells cargo where `liblazydfa.a` is, and when to link it again. If there is none, makes it, or says in one
-/// line what is missing.
+/// Tells cargo where `liblazydfa.a` is, and when to link it again. If there is none, builds it, or reports in
+/// one line what is missing.
 fn main() {
     println!("cargo::rerun-if-env-changed=LAZYDFA_LIB");
     match library() {
@@ -17,7 +17,7 @@ fn main() {
     }
 }
 
-/// The folder with `liblazydfa.a`, or what is missing.
+/// Returns the folder with `liblazydfa.a`, or what is missing.
 fn library() -> Result<PathBuf, String> {
     if let Some(folder) = env::var_os("LAZYDFA_LIB").map(PathBuf::from) {
         let is_there = folder.join("liblazydfa.a").is_file();
@@ -32,7 +32,7 @@ fn library() -> Result<PathBuf, String> {
     Ok(folder)
 }
 
-/// Makes `liblazydfa.a`. This proves the library if that was not done before, which takes a while.
+/// Builds `liblazydfa.a`. This proves the library if that was not done before, which takes a while.
 fn make(c: &Path) -> Result<(), String> {
     for (program, option) in [("rt", "version"), ("make", "--version")] {
         if Command::new(program).arg(option).output().is_err() {
@@ -50,7 +50,7 @@ fn make(c: &Path) -> Result<(), String> {
     Err(no(&format!("`make` in bindings/c does not make it, as {} says", log.display())))
 }
 
-/// A line that says that there is no library.
+/// Returns a line that says that there is no library.
 fn no(reason: &str) -> String {
     format!("there is no liblazydfa.a: {reason}")
 }

@@ -1,7 +1,7 @@
 """Compares replies with those of the model.
 
-`compare.py ask NFAS SEED` prints a script over so many random NFAs. `compare.py check NFAS SEED` makes the same one,
-and reads the replies to it.
+`compare.py ask NFAS SEED` prints a script over this many random NFAs. `compare.py check NFAS SEED` creates the same
+script, and reads the replies to it.
 """
 from __future__ import annotations
 
@@ -15,14 +15,14 @@ from scripts import ERROR, Script, numbered, random_script
 
 
 def random_scripts(count: int, seed: int) -> Iterator[Script]:
-    """The parts of a seed."""
+    """Yields the parts of a seed."""
     random = Random(seed)
     for _ in range(count):
         yield random_script(random)
 
 
 def bases_of(scripts: list[Script]) -> list[Counter[str]]:
-    """How many NFAs, regexes and walks stand before each part, where all follow one another in one script."""
+    """Returns how many NFAs, regexes and walks precede each part, if all parts follow each other in one script."""
     return list(accumulate((script.counts() for script in scripts[:-1]), initial=Counter()))
 
 
@@ -35,20 +35,20 @@ def ask(scripts: list[Script]) -> None:
 
 
 def replies_by_script(scripts: list[Script], lines: Iterable[str]) -> list[list[str]]:
-    """The replies to each part."""
+    """Returns the replies to each part."""
     replies = iter([line.rstrip("\n") for line in lines])
     defined = [list(islice(replies, len(script.definitions))) for script in scripts]
     return [before + list(islice(replies, len(script.requests))) for script, before in zip(scripts, defined)]
 
 
 def first_words(replies: list[str]) -> list[str]:
-    """What is counted of replies: their first words, or that an error ends them."""
+    """Returns what is counted of replies: their first words, or that an error ends them."""
     return ["error" if ERROR.match(reply) else reply if reply.startswith("refused") else reply.split()[0]
             for reply in replies]
 
 
 def check(seed: int, scripts: list[Script]) -> int:
-    """Prints what was compared, and the shortest part with a wrong reply if there is one."""
+    """Prints what was compared, and the shortest part with a wrong reply, if there is one."""
     counts: Counter[str] = Counter()
     wrong: list[tuple[str, str]] = []
     answers = replies_by_script(scripts, sys.stdin)
@@ -68,7 +68,7 @@ def check(seed: int, scripts: list[Script]) -> int:
 
 
 def main(what: str, count: int, seed: int) -> int:
-    """Asks or checks."""
+    """Prints the script, or checks the replies."""
     scripts = list(random_scripts(count, seed))
     if what == "check":
         return check(seed, scripts)

@@ -1,11 +1,11 @@
-"""The catalogue of `lazydfa`: its NFAs as scripts write them, and pieces of which haystacks are made."""
+"""The catalogue of `lazydfa`: its NFAs as scripts write them, and pieces from which haystacks are built."""
 from __future__ import annotations
 
 import re
 
 from model import LOOKS, Accept, Ask, Free, Nfa, Read, State
 
-# The NFA for forward searches, and the states of that for reverse searches where they are others.
+# The NFA for forward searches, and those states of the NFA for reverse searches that differ.
 ENTRIES = {
     "ab": ("0/0,0 B61:1 B62:2 M0", "B62:1 B61:2 M0"),
     "always": ("0/0,0 M0", ""),
@@ -57,13 +57,13 @@ FOUND = {
 
 
 def ranges_of(text: str) -> tuple[tuple[int, int, int], ...]:
-    """The ranges of a state, and where they lead to."""
+    """Returns the ranges of a state, and the states that they lead to."""
     parts = [re.split("[-:]", part) for part in text.split(",")]
     return tuple((int(part[0], 16), int(part[-2], 16), int(part[-1])) for part in parts)
 
 
 def state_of(word: str) -> State:
-    """The state that a word of a script writes, of those kinds that the catalogue has."""
+    """Returns the state that a word of a script describes, of the kinds that the catalogue has."""
     kind, rest = word[0], word[1:]
     if kind in "BS":
         return Read(kind, ranges_of(rest))
@@ -74,7 +74,7 @@ def state_of(word: str) -> State:
 
 
 def pair_of(name: str) -> tuple[Nfa, Nfa]:
-    """The two NFAs of an entry."""
+    """Returns the two NFAs of an entry."""
     forward, backward = ENTRIES[name]
     starts, *words = forward.split(" ")
     anchored, unanchored, *patterns = map(int, re.split("[/,]", starts))

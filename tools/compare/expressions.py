@@ -1,4 +1,4 @@
-"""Random regular expressions, compiled to NFAs, and how a script writes these."""
+"""Random regular expressions, compiled to NFAs, and how scripts write these."""
 from __future__ import annotations
 
 from dataclasses import dataclass
@@ -14,31 +14,31 @@ CLASSES = (((0x61, 0x62),), ((0x61, 0x61), (0x62, 0x7A)), ((0x0A, 0x0A), (0x0D, 
 
 @dataclass(frozen=True)
 class Text:
-    """These bytes one after another; none match the empty text."""
+    """These bytes in sequence; without a byte it matches the empty string."""
     bytes: bytes
 
 
 @dataclass(frozen=True)
 class Class:
-    """One byte of these ranges; without one it matches nothing."""
+    """One byte in these ranges; without a range it matches nothing."""
     ranges: tuple[tuple[int, int], ...]
 
 
 @dataclass(frozen=True)
 class Look:
-    """A look by its number."""
+    """A look, by its number."""
     number: int
 
 
 @dataclass(frozen=True)
 class Group:
-    """The same as its part, as a capture group."""
+    """Matches what its part matches, as a capture group."""
     part: Expression
 
 
 @dataclass(frozen=True)
 class Joined:
-    """The parts one after another."""
+    """The parts in sequence."""
     parts: tuple[Expression, ...]
 
 
@@ -50,7 +50,8 @@ class Either:
 
 @dataclass(frozen=True)
 class Repeat:
-    """The part again and again, at least so often (0 or 1), or at most once; more is preferred if greedy."""
+    """The part repeated at least `least` times (0 or 1), or at most once; more repetitions are preferred if it is
+    greedy."""
     part: Expression
     least: int
     once: bool
@@ -61,7 +62,7 @@ Expression = Union[Text, Class, Look, Group, Joined, Either, Repeat]
 
 
 def random_leaf(random: Random, utf8: bool) -> Expression:
-    """An expression without parts. In UTF-8 mode it rarely reads what is not UTF-8."""
+    """Returns an expression without parts. In UTF-8 mode it rarely reads what is not UTF-8."""
     kind = random.random()
     if kind < 0.25:
         unicode = random.random() < 0.2
@@ -78,7 +79,7 @@ def random_leaf(random: Random, utf8: bool) -> Expression:
 
 
 def random_expression(random: Random, depth: int, utf8: bool) -> Expression:
-    """An expression whose parts are nested so deep at most."""
+    """Returns an expression whose parts are nested at most this deep."""
     kind = random.random()
     if depth == 0 or kind < 0.25:
         return random_leaf(random, utf8)
@@ -94,7 +95,8 @@ def random_expression(random: Random, depth: int, utf8: bool) -> Expression:
 
 
 def random_cycle(random: Random, depth: int, utf8: bool) -> Expression:
-    """A look or another expression, again and again, as in `(?:\\b|a)*`: a cycle that reads nothing passes the look."""
+    """Returns a repetition of a look or another expression, as in `(?:\\b|a)*`: a cycle that reads nothing passes the
+    look."""
     look = Look(random.choice([number for number, name in enumerate(LOOKS) if "Unicode" not in name]))
     parts = (look, random_expression(random, depth, utf8))
     either = Either(parts if random.random() < 0.7 else parts[::-1])
@@ -102,7 +104,7 @@ def random_cycle(random: Random, depth: int, utf8: bool) -> Expression:
 
 
 class Compiler:
-    """Compiles expressions to states, each from what comes after it."""
+    """Compiles expressions to states, from the end to the start."""
 
     def __init__(self, random: Random) -> None:
         self.random = random
@@ -114,18 +116,19 @@ class Compiler:
         return len(self.states) - 1
 
     def free(self, targets: list[int]) -> Free:
-        """A state that reads nothing and leads to these states."""
+        """Returns a state that reads nothing and leads to these states."""
         letters = {0: "FU", 1: "UC", 2: "UE"}.get(len(targets), "U")
         return Free(self.random.choice(letters), tuple(targets))
 
     def read(self, ranges: tuple[tuple[int, int], ...], to: int) -> State:
-        """A state that reads a byte of these ranges. Only one range fits `B`, and a dense state cannot lead to 0."""
+        """Returns a state that reads a byte in these ranges. `B` takes only one range, and a dense state cannot lead to
+        0."""
         letters = ("B" if len(ranges) == 1 else "") + "S" + ("D" if to > 0 and self.random.random() < 0.3 else "")
         letter = self.random.choice(letters)
         return Read(letter, tuple((lo, hi, to) for lo, hi in ranges))
 
     def compile(self, expression: Expression, after: int) -> int:
-        """The state where an expression begins that goes on at a state."""
+        """Returns the first state of an expression that is followed by the state `after`."""
         if isinstance(expression, Text):
             for byte in reversed(expression.bytes):
                 after = self.add(self.read(((byte, byte),), after))
@@ -145,7 +148,7 @@ class Compiler:
         return self.compile_repeat(expression, after)
 
     def compile_repeat(self, expression: Repeat, after: int) -> int:
-        """A union before the part, to which the part leads back unless it is read once."""
+        """Adds a union before the part, to which the part leads back unless it is read at most once."""
         union = self.add(None)
         part = self.compile(expression.part, after if expression.once else union)
         self.states[union] = self.free([part, after] if expression.greedy else [after, part])
@@ -153,7 +156,7 @@ class Compiler:
 
 
 def random_nfa(random: Random) -> Nfa:
-    """The NFA of up to four random expressions, a pattern each. A few have starts that no regex can be made of."""
+    """Returns the NFA of up to four random expressions, each a pattern. From a few starts no regex can be built."""
     utf8 = random.random() < 0.4
     compiler = Compiler(random)
     count = random.choices((0, 1, 2, 3, 4), (1, 40, 30, 20, 9))[0]
@@ -172,7 +175,8 @@ def random_nfa(random: Random) -> Nfa:
 
 
 def random_end(random: Random, compiler: Compiler, pattern: int, starts: list[int]) -> int:
-    """Where a pattern ends: a match state, or now and then a union of it and a state of an earlier pattern."""
+    """Returns the state where a pattern ends: a match state, or sometimes a union of it and a state of an earlier
+    pattern."""
     end = compiler.add(Accept(pattern))
     if not starts or random.random() < 0.85:
         return end
@@ -181,7 +185,7 @@ def random_end(random: Random, compiler: Compiler, pattern: int, starts: list[in
 
 
 def random_prefix(random: Random, compiler: Compiler, start: int) -> int:
-    """The unanchored start: a lazy loop before the start, or the start itself."""
+    """Returns the unanchored start: a lazy loop before the start, or the start itself."""
     kind = random.random()
     if kind < 0.15:
         return start
@@ -193,12 +197,12 @@ def random_prefix(random: Random, compiler: Compiler, start: int) -> int:
 
 
 def ranges_word(ranges: tuple[tuple[int, int, int], ...]) -> str:
-    """Ranges of bytes and where they lead to, as a script has them."""
+    """Returns ranges of bytes and the states that they lead to, as scripts write them."""
     return ",".join(f"{lo:02x}:{to}" if lo == hi else f"{lo:02x}-{hi:02x}:{to}" for lo, hi, to in ranges)
 
 
 def word(state: State) -> str:
-    """A state, as a script has it."""
+    """Returns a state as scripts write it."""
     if isinstance(state, Accept):
         return f"M{state.pattern}"
     if isinstance(state, Ask):
@@ -209,7 +213,7 @@ def word(state: State) -> str:
 
 
 def written(nfa: Nfa) -> str:
-    """An NFA, as a line of a script has it."""
+    """Returns an NFA as a line of a script."""
     starts = ",".join(map(str, (nfa.unanchored, *nfa.patterns)))
     flags = ["utf8"] * nfa.utf8 + ["rev"] * nfa.reverse
     flags += [] if nfa.terminator == 0x0A else [f"line={nfa.terminator:02x}"]

@@ -1,4 +1,4 @@
-"""Random NFAs of which any state may lead to any other, for forward and for reverse searches."""
+"""Random NFAs in which any state may lead to any other, for forward and for reverse searches."""
 from __future__ import annotations
 
 from dataclasses import dataclass
@@ -17,7 +17,7 @@ class Alphabet:
     terminator: int = 0x0A
 
     def looks(self) -> list[int]:
-        """The looks that such NFAs ask, by number: of Unicode words only where each byte is ASCII."""
+        """Returns the numbers of the looks that such NFAs may have: Unicode words only if each byte is ASCII."""
         return [number for number, name in enumerate(LOOKS) if max(self.letters) < 0x80 or "Unicode" not in name]
 
 
@@ -26,14 +26,15 @@ ALPHABETS = (Alphabet(b"\n-a"), Alphabet(b"\n\ra"), Alphabet(b"-;a", False, 0x3B
 
 
 def random_ranges(random: Random, alphabet: Alphabet, count: int) -> tuple[tuple[int, int, int], ...]:
-    """Ranges for each letter, the first and the last with all bytes beside it. Rarely one is left out."""
+    """Returns ranges for each letter; the first and the last also contain all bytes beyond it. Rarely one is left
+    out."""
     first, second, third = alphabet.letters
     ranges = ((0, first), (second, second), (third, 255))
     return tuple((lo, hi, random.randrange(count)) for lo, hi in ranges if random.random() < 0.75)
 
 
 def random_state(random: Random, alphabet: Alphabet, count: int) -> State:
-    """A state among so many. A match state gets its pattern later."""
+    """Returns a state of an NFA with this many states. A match state gets its pattern later."""
     kind = random.choice(KINDS)
     if kind == "B":
         lo, hi = sorted(random.choices(alphabet.letters, k=2))
@@ -49,7 +50,7 @@ def random_state(random: Random, alphabet: Alphabet, count: int) -> State:
 
 
 def random_graph(random: Random, alphabet: Alphabet, patterns: int, reverse: bool) -> Nfa:
-    """An NFA of so many patterns, whose match states come in their order, since a builder makes no others."""
+    """Returns an NFA with this many patterns, whose match states are in order, since a builder makes no others."""
     count = random.randint(3, 6)
     states = [random_state(random, alphabet, count) for _ in range(count - 1)] + [Accept(0)]
     matches = [number for number, state in enumerate(states) if isinstance(state, Accept)]
@@ -63,5 +64,5 @@ def random_graph(random: Random, alphabet: Alphabet, patterns: int, reverse: boo
 
 
 def random_text(random: Random, alphabet: Alphabet) -> bytes:
-    """Up to six of the letters."""
+    """Returns up to six of the letters."""
     return bytes(random.choices(alphabet.letters, k=random.randint(0, 6)))

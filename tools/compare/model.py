@@ -1,7 +1,8 @@
-"""What an NFA answers, by the paths of docs/DEFINITIONS.md: slow, and for short haystacks alone.
+"""What searches of an NFA return, by the paths of docs/READING.md: slow, and only for short haystacks.
 
-It follows one path after another, each over the whole haystack, and knows no state sets, tables or caches. What the
-reversed NFA answers is read off the forward one, since both accept the same parts of a haystack by the same patterns.
+It follows one path after another, each over the whole haystack, and has no state sets, tables or caches. What searches
+of the reversed NFA return is derived from the forward NFA, since both accept the same parts of a haystack by the same
+patterns.
 """
 from __future__ import annotations
 
@@ -18,21 +19,21 @@ MOST_STEPS = 20_000
 
 @dataclass(frozen=True)
 class Read:
-    """Reads a byte by the range (lo, hi, next) that contains it. The letter says which kind of state it is."""
+    """Reads a byte by the range (lo, hi, next) that contains it. The letter gives the kind of state."""
     letter: str
     ranges: tuple[tuple[int, int, int], ...]
 
 
 @dataclass(frozen=True)
 class Free:
-    """Reads nothing, and leads to each target, the first preferred. Without a target it fails."""
+    """Reads nothing, and leads to each target, the first preferred. Without a target nothing matches."""
     letter: str
     targets: tuple[int, ...]
 
 
 @dataclass(frozen=True)
 class Ask:
-    """Leads to the target where the look holds."""
+    """Leads to the target if the look holds."""
     look: int
     target: int
 
@@ -49,14 +50,14 @@ Mode = Union[str, int]  # "unanchored", "anchored", or the number of a pattern
 
 
 class Found(NamedTuple):
-    """An accepting path: its pattern, where it first stood on the anchored start, and its end."""
+    """An accepting path: its pattern, where it was first at the anchored start, and its end."""
     pattern: int
     start: Optional[int]
     end: int
 
 
 class TooManyPaths(Exception):
-    """The paths over a haystack are too many to be followed."""
+    """There are too many paths over a haystack to follow them all."""
 
 
 @dataclass(frozen=True)
@@ -71,21 +72,21 @@ class Nfa:
     terminator: int
 
     def free_targets(self, state: int) -> Iterable[int]:
-        """Where edges lead that read nothing, looks taken as true."""
+        """Returns the targets of the edges that read nothing, looks taken as true."""
         node = self.states[state]
         if isinstance(node, Free):
             return node.targets
         return (node.target,) if isinstance(node, Ask) else ()
 
     def targets(self, state: int) -> Iterable[int]:
-        """Where all edges lead. Target 0 of a dense state is no edge."""
+        """Returns the targets of all edges. Target 0 of a dense state is not an edge."""
         node = self.states[state]
         if isinstance(node, Read):
             return [to for _, _, to in node.ranges if to or node.letter != "D"]
         return self.free_targets(state)
 
     def reached(self, starts: Iterable[int], reads: bool) -> set[int]:
-        """The states that edges lead to, or those that read nothing."""
+        """Returns the states that are reached over all edges, or over those that read nothing."""
         found, todo = set(), list(starts)
         while todo:
             state = todo.pop()
@@ -95,12 +96,12 @@ class Nfa:
         return found
 
     def is_empty_from(self, starts: Iterable[int]) -> bool:
-        """Whether a match state is reached without a byte."""
+        """Whether a match state is reached without reading a byte."""
         return any(isinstance(self.states[state], Accept) for state in self.reached(starts, False))
 
     @cached_property
     def skips_splits(self) -> bool:
-        """Whether offsets inside a character are left out."""
+        """Whether matches at offsets inside a character are skipped."""
         return self.utf8 and self.is_empty_from(self.patterns)
 
 
@@ -118,7 +119,7 @@ def is_lazy(nfa: Nfa) -> bool:
 
 @lru_cache(maxsize=None)
 def decoded(pending: bytes, byte: int) -> Optional[bytes]:
-    """What of a character is read after one byte more, or None where it cannot be UTF-8."""
+    """Returns what is pending of a character after one more byte, or None if it cannot be UTF-8."""
     decoder = getincrementaldecoder("utf-8")()
     try:
         decoder.decode(pending + bytes([byte]))
@@ -128,7 +129,7 @@ def decoded(pending: bytes, byte: int) -> Optional[bytes]:
 
 
 def keeps_utf8(nfa: Nfa) -> bool:
-    """Whether each way from a start to a match state reads UTF-8, looks taken as true."""
+    """Whether each path from a start to a match state reads UTF-8, looks taken as true."""
     if not nfa.utf8:
         return True
     todo: list[tuple[int, Optional[bytes]]] = [(start, b"") for start in (nfa.anchored, *nfa.patterns)]
@@ -148,7 +149,7 @@ def keeps_utf8(nfa: Nfa) -> bool:
 
 
 def refusal(nfa: Nfa, decides_words: bool) -> Optional[str]:
-    """Why no regex is made of an NFA. Looks at Unicode words ask for settings that decide them."""
+    """Returns why no regex is built from an NFA. Looks at Unicode words need settings that decide them."""
     if not is_lazy(nfa):
         return "NotLazy"
     if not keeps_utf8(nfa):
@@ -190,7 +191,7 @@ def is_split(haystack: bytes, offset: int) -> bool:
 
 
 def first_of_each(paths: Iterable[Found]) -> list[Found]:
-    """The paths that are the first with their pattern and their end."""
+    """Returns the paths that are the first with their pattern and their end."""
     first: dict[tuple[int, int], Found] = {}
     for path in paths:
         first.setdefault((path.pattern, path.end), path)
@@ -198,7 +199,7 @@ def first_of_each(paths: Iterable[Found]) -> list[Found]:
 
 
 class Haystack:
-    """The accepting paths of an NFA over a haystack, and what searches of it answer. It reads forward."""
+    """The accepting paths of an NFA over a haystack, and the results of searches. The NFA reads forward."""
 
     def __init__(self, nfa: Nfa, haystack: bytes) -> None:
         self.nfa = nfa
@@ -207,7 +208,7 @@ class Haystack:
         self.steps = 0
 
     def edges(self, state: int, at: int) -> Iterator[tuple[int, int]]:
-        """The states that the edges at an offset lead to in order, each with its offset."""
+        """Yields the states that the edges at an offset lead to, in order, each with its offset."""
         node = self.nfa.states[state]
         right = self.bytes[at] if at < len(self.bytes) else None
         if isinstance(node, Free):
@@ -221,14 +222,14 @@ class Haystack:
                         if lo <= right <= hi and (to or node.letter != "D"))
 
     def arrive(self, state: int, at: int, start: Optional[int]) -> list[Found]:
-        """The accepting paths on from a state to which a byte leads, in order."""
+        """Returns the accepting paths from a state that a byte leads to, in order."""
         key = (state, at, start)
         if key not in self.known:
             self.known[key] = self.go_on(state, at, start, frozenset())
         return self.known[key]
 
     def go_on(self, state: int, at: int, start: Optional[int], here: frozenset[int]) -> list[Found]:
-        """The accepting paths on from a state, which stands on no state twice at one offset."""
+        """Returns the accepting paths from a state. A path visits no state twice at one offset."""
         self.steps += 1
         if self.steps > MOST_STEPS:
             raise TooManyPaths
@@ -243,7 +244,7 @@ class Haystack:
         return first_of_each(paths)
 
     def paths(self, span: Span, mode: Mode) -> list[Found]:
-        """The accepting paths over a span in order, the first for each pattern and end."""
+        """Returns the accepting paths over a span in order, the first for each pattern and end."""
         begin, end = span
         if begin > end:
             return []
@@ -255,7 +256,8 @@ class Haystack:
         return [path for path in self.arrive(first, begin, begin) if path.end <= end]
 
     def paths_back(self, span: Span, mode: Mode) -> list[Found]:
-        """The same of the reversed NFA: what the NFA accepts up to the span's end, the nearest start first."""
+        """Returns the accepting paths of the reversed NFA: what the NFA accepts up to the span's end, the nearest start
+        first."""
         begin, end = span
         return [Found(pattern, at, end) for at in range(end, begin - 1, -1)
                 for pattern in sorted(path.pattern for path in self.paths((at, end), "anchored") if path.end == end)
@@ -266,7 +268,7 @@ class Haystack:
         return self.nfa.skips_splits and is_split(self.bytes, offset)
 
     def search(self, span: Span, mode: Mode, all_kind: bool, earliest: bool) -> Optional[Found]:
-        """The match of the path that a search chooses."""
+        """Returns the match of the path that a search chooses."""
         begin, end = span
         while paths := self.paths((begin, end), mode):
             chosen = paths[0]
@@ -281,7 +283,7 @@ class Haystack:
         return None
 
     def search_back(self, span: Span, mode: Mode, earliest: bool) -> Optional[Found]:
-        """The match of a search of the reversed NFA, under `MatchKind::All`."""
+        """Returns the match of a search of the reversed NFA, with `MatchKind::All`."""
         begin, end = span
         while paths := self.paths_back((begin, end), mode):
             at = (max if earliest else min)(path.start for path in paths)
@@ -293,7 +295,7 @@ class Haystack:
         return None
 
     def spans(self, span: Span, mode: Mode, all_kind: bool, earliest: bool) -> list[Found]:
-        """The matches one after another."""
+        """Returns the spans of the matches that do not overlap."""
         begin, end = span
         last, found = None, []
         while match := self.search((begin, end), mode, all_kind, earliest):
@@ -306,7 +308,7 @@ class Haystack:
         return found
 
     def tokens(self, span: Span, all_kind: bool) -> tuple[list[Found], Optional[int]]:
-        """The tokens one after another, and the offset before the span's end where there is none."""
+        """Returns the tokens in order, and the offset before the span's end where no token begins, if any."""
         begin, end = span
         found: list[Found] = []
         while begin < end:
@@ -318,7 +320,7 @@ class Haystack:
         return found, None
 
     def walk(self, span: Span, mode: Mode, all_kind: bool) -> list[tuple[int, int]]:
-        """The pairs of an overlapping walk: patterns and ends, by ends."""
+        """Returns the pairs of an overlapping walk, patterns and ends, ordered by end."""
         paths = self.paths(span, mode)
         pairs = []
         for end in sorted({path.end for path in paths}):
@@ -330,19 +332,19 @@ class Haystack:
         return pairs
 
     def walk_back(self, span: Span, mode: Mode) -> list[tuple[int, int]]:
-        """The pairs of an overlapping walk of the reversed NFA: patterns and starts."""
+        """Returns the pairs of an overlapping walk of the reversed NFA: patterns and starts."""
         return [(path.pattern, path.start) for path in self.paths_back(span, mode) if not self.skips(path.start)]
 
 
 class Mirror(Haystack):
-    """The same of an NFA for reverse searches, which reads from the haystack's end to its start."""
+    """The same for an NFA for reverse searches, which reads from the haystack's end to its start."""
 
     def __init__(self, nfa: Nfa, haystack: bytes) -> None:
         super().__init__(nfa, haystack[::-1])
         self.text = haystack
 
     def mirrored(self, span: Span) -> Span:
-        """A span as it is read."""
+        """Returns a span as it is read."""
         begin, end = span
         return len(self.bytes) - end, len(self.bytes) - begin
 
@@ -351,11 +353,11 @@ class Mirror(Haystack):
         return self.nfa.skips_splits and is_split(self.text, len(self.text) - offset)
 
     def search_back(self, span: Span, mode: Mode, earliest: bool) -> Optional[Found]:
-        """The match that a search reports, its start where its path ends."""
+        """Returns the match that a search reports; its start is where its path ends."""
         found = self.search(self.mirrored(span), mode, True, earliest)
         return found and Found(found.pattern, len(self.bytes) - found.end, span[1])
 
     def walk_back(self, span: Span, mode: Mode) -> list[tuple[int, int]]:
-        """The pairs of an overlapping walk: patterns and starts."""
+        """Returns the pairs of an overlapping walk: patterns and starts."""
         pairs = self.walk(self.mirrored(span), mode, True)
         return [(pattern, len(self.bytes) - end) for pattern, end in pairs]

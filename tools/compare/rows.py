@@ -3,9 +3,9 @@
 
     tools/compare/rows.py
 
-The definitions go behind those that `crates/lazydfa/stdin` has, and the requests to its end, each part between two
-comments; the replies go into `stdout`. What stood between the comments is replaced, and nothing else is changed, so it
-is run again where the other definitions or walks of the script change their number. It is the same each time.
+The definitions are added after those in `crates/lazydfa/stdin`, and the requests at its end, each part between two
+comments; the replies go into `stdout`. What was between the comments is replaced, and nothing else is changed, so this
+has to be run again if the other definitions or walks of the script change in number. The result is always the same.
 """
 from __future__ import annotations
 
@@ -34,7 +34,7 @@ PLAIN = ("fwd", "rev", "find", "is", "iter", "tok", "which 2")
 
 
 def random_settings(random: Random, unicode: bool, starts: float) -> Options:
-    """Settings that never end a search."""
+    """Returns settings that never end a search."""
     words = [name for name, part in (("all", 0.45), ("starts", starts), ("noclasses", 0.1), ("tags", 0.2))
              if random.random() < part]
     words += ["unicode"] * unicode
@@ -46,7 +46,7 @@ Texts = list[tuple[Haystack, Haystack]]
 
 
 def random_turn(random: Random, kind: str, texts: Texts, options: Options) -> Optional[list[Request]]:
-    """A request, and the steps of the walk that it begins; or nothing where the walk has too many."""
+    """Returns a request, with the steps of the walk if it begins one, or None if the walk has too many steps."""
     forward, backward = random.choice(texts)
     haystack = backward if kind in ("rev", "walk rev") else forward
     given = random_input(random, [haystack])
@@ -66,8 +66,8 @@ def random_turn(random: Random, kind: str, texts: Texts, options: Options) -> Op
 
 
 def random_turns(random: Random, kinds: tuple[str, ...], count: int, texts: Texts, options: Options) -> list[Request]:
-    """Requests of one regex, with at most one walk, whose steps are made between the others. In the middle of an odd
-    number of them the cache is made as new, and the walk goes on."""
+    """Returns requests of one regex, with at most one walk, whose steps are made between the others. If the number of
+    requests is odd, the cache is reset in the middle, and the walk continues."""
     plain: list[Request] = []
     walk: list[Request] = []
     for _ in range(count):
@@ -83,7 +83,7 @@ def random_turns(random: Random, kinds: tuple[str, ...], count: int, texts: Text
 
 
 def made(random: Random) -> Script:
-    """A regex that the library makes of the NFA of random expressions, or why it makes none."""
+    """Returns a regex that the library builds from the NFA of random expressions, or the reason why it builds none."""
     nfa = random_nfa(random)
     options = random_settings(random, asks_words(nfa) and random.random() < 0.95, 0.5)
     name = refusal(nfa, options.decides_words)
@@ -98,7 +98,7 @@ def made(random: Random) -> Script:
 
 
 def paired(random: Random) -> Script:
-    """A regex of two random NFAs, which need not fit each other."""
+    """Returns a regex of two random NFAs, which need not belong together."""
     alphabet, patterns = random.choice(ALPHABETS), random.choice((1, 1, 2, 3))
     forward, backward = (random_graph(random, alphabet, patterns, reverse) for reverse in (False, True))
     asked = asks_words(forward) or asks_words(backward)
@@ -111,7 +111,8 @@ def paired(random: Random) -> Script:
 
 
 def listed(name: str, is_made: bool) -> Callable[[Random], Script]:
-    """What makes a regex of an entry of the catalogue, or of its forward NFA alone, and requests to it."""
+    """Returns a function that makes a regex of an entry of the catalogue, or of its forward NFA alone, and requests to
+    it."""
     forward, backward = pair_of(name)
 
     def script(random: Random) -> Script:
@@ -126,7 +127,7 @@ def listed(name: str, is_made: bool) -> Callable[[Random], Script]:
 
 
 def goes_through(name: str) -> Iterator[Script]:
-    """Each request to an entry of the catalogue, in each match kind, over texts of its pieces."""
+    """Yields each request to an entry of the catalogue, with each match kind, over texts built from its pieces."""
     forward, backward = pair_of(name)
     random = Random(name)
     texts = [b"".join(random.choices(PIECES[name], k=length))[:16] for length in (1, 3, 5)] + [FOUND[name]]
@@ -141,8 +142,8 @@ def goes_through(name: str) -> Iterator[Script]:
 
 
 def each_request(number: int, texts: tuple[Haystack, Haystack], options: Options) -> list[Request]:
-    """All requests to a text. The walks that they begin are numbered by that of the text, and give all their matches;
-    those of every other text go on over a new cache after each step."""
+    """Returns all requests to a text. The walks that they begin are numbered by the text's number, and report all their
+    matches; for every other text they continue over a new cache after each step."""
     forward, backward = texts
     span = (0, len(forward.bytes))
     requests = []
@@ -160,7 +161,7 @@ def each_request(number: int, texts: tuple[Haystack, Haystack], options: Options
 
 
 def all_parts() -> list[Script]:
-    """All parts. A random one is made again if its paths are too many."""
+    """Returns all parts. A random part is generated again if it has too many paths."""
     random = Random(SEED)
     makers = [made] * MADE + [paired] * PAIRS
     makers += [listed(name, is_made) for name in ENTRIES for is_made in (False, False, False, name != "any")]
@@ -181,7 +182,7 @@ def asks(line: str) -> bool:
 
 
 def kept(lines: list[str], replies: list[str]) -> Iterator[tuple[str, str]]:
-    """The other lines of a script, each with its reply if it has one."""
+    """Returns the other lines of a script, each with its reply if it has one."""
     answers = iter(replies)
     is_written = False
     for line in lines:
@@ -193,7 +194,7 @@ def kept(lines: list[str], replies: list[str]) -> Iterator[tuple[str, str]]:
 
 
 def rows_of(parts: list[list[Request]], bases: list[Counter[str]]) -> list[tuple[str, str]]:
-    """The rows of all parts, between the two comments."""
+    """Returns the rows of all parts, between the two comments."""
     rows = [(numbered(request.line, base), numbered(" ".join(request.words), base))
             for part, base in zip(parts, bases) for request in part]
     return [(BEGIN, ""), *rows, (END, "")]

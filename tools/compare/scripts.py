@@ -1,4 +1,4 @@
-"""Random parts of scripts, each over a random NFA, with the replies that the model gives."""
+"""Random parts of scripts, each over a random NFA, with the replies of the model."""
 from __future__ import annotations
 
 import re
@@ -13,7 +13,7 @@ from model import LOOKS, Accept, Ask, Found, Free, Haystack, Mode, Nfa, Read, Sp
 REFUSALS = {
     "NotLazy": "the unanchored start does not skip lazily, so an unanchored match may have no start",
     "NotUtf8": "a match may be invalid UTF-8, so in UTF-8 mode it might split a character",
-    "Starts": "the starts differ in the empty match, so the reversed NFA would have others",
+    "Starts": "only some of the starts match the empty string, so a reversed NFA would match differently",
     "Build": "unsupported regex feature for DFAs: cannot build lazy DFAs for regexes with Unicode word boundaries; "
              "switch to ASCII word boundaries, or heuristically enable Unicode word boundaries or use a different "
              "regex engine",
@@ -23,7 +23,7 @@ ERROR = re.compile(r"(?:^|(.*) )(?:quit ([0-9a-f]{2}) (\d+)|gaveup (\d+))$")
 
 @dataclass(frozen=True)
 class Options:
-    """What the settings of a regex ask for."""
+    """What the settings of a regex request."""
     line: str
     all_kind: bool
     starts: bool
@@ -34,14 +34,14 @@ class Options:
 
 @dataclass(frozen=True)
 class Input:
-    """A haystack and how it is searched."""
+    """A haystack, and how it is searched."""
     haystack: Haystack
     span: Span
     mode: Mode
     earliest: bool
 
     def line(self) -> str:
-        """The words of a request."""
+        """Returns the words of a request."""
         mode = {"unanchored": "", "anchored": " anchored"}.get(str(self.mode), f" pattern={self.mode}")
         earliest = " earliest" if self.earliest else ""
         whole = self.span == (0, len(self.haystack.text))
@@ -50,14 +50,14 @@ class Input:
 
 
 def numbered(text: str, bases: Counter[str]) -> str:
-    """A line or a reply, its `%n0`, `%r0` and `%w0` replaced by the numbers of an NFA, a regex and a walk in a script,
-    where these of another part stand before them."""
+    """Returns a line or a reply with its `%n0`, `%r0` and `%w0` replaced by the numbers of an NFA, a regex and a walk
+    in a script where those of another part come before them."""
     return re.sub(r"%([nrw])(\d+)", lambda number: str(bases[number[1]] + int(number[2])), text)
 
 
 @dataclass
 class Request:
-    """A line of a script. Its reply is the words, or those from the first on up to an error that may come."""
+    """A line of a script. Its reply is the words, or the first of them followed by an error, if one may occur."""
     line: str
     words: list[str]
     input: Optional[Input] = None
@@ -66,7 +66,8 @@ class Request:
     walk: Optional[int] = None  # the walk of which it is a step
 
     def may_end(self, reply: str) -> Optional[str]:
-        """What stands before the error in a reply, if the error may come: it names a quit byte in reach, or a limit."""
+        """Returns what comes before the error in a reply, if the error may occur: it names a quit byte in reach, or a
+        limit."""
         error = ERROR.match(reply)
         if not error or self.input is None or self.options is None:
             return None
@@ -78,7 +79,7 @@ class Request:
         return error[1] or "" if named and byte in self.options.quits else None
 
     def allows(self, reply: str, bases: Counter[str]) -> bool:
-        """Whether a reply is right, or ends in an error that may come, with nothing wrong before it."""
+        """Whether a reply is right, or ends in an error that may occur, with nothing wrong before it."""
         if reply == numbered(" ".join(self.words), bases):
             return True
         before = self.may_end(reply)
@@ -92,21 +93,21 @@ class Request:
 
 @dataclass
 class Script:
-    """A part of a script: NFAs, regexes of them, and requests."""
+    """A part of a script: NFAs, regexes built from them, and requests."""
     definitions: list[Request] = field(default_factory=list)
     requests: list[Request] = field(default_factory=list)
 
     def counts(self) -> Counter[str]:
-        """How many NFAs, regexes and walks it has, by the letters that `numbered` knows."""
+        """Returns how many NFAs, regexes and walks it has, by the letters that `numbered` replaces."""
         kinds = [request.words[0][:1] for request in self.definitions + self.requests if "%" in "".join(request.words)]
         return Counter(kinds)
 
     def text(self) -> str:
-        """The part as a whole script."""
+        """Returns the part as a complete script."""
         return "\n".join(numbered(request.line, Counter()) for request in self.definitions + self.requests)
 
     def first_difference(self, replies: list[str], bases: Counter[str]) -> Optional[str]:
-        """The first request with a wrong reply."""
+        """Returns the first request with a wrong reply."""
         walks: list[list[str]] = []
         for request, reply in zip(self.definitions + self.requests, replies):
             if request.walk is not None:
@@ -121,12 +122,12 @@ class Script:
 
 
 def asks_words(nfa: Nfa) -> bool:
-    """Whether an NFA asks for Unicode words."""
+    """Whether an NFA has looks at Unicode words."""
     return any(isinstance(state, Ask) and "Unicode" in LOOKS[state.look] for state in nfa.states)
 
 
 def random_options(random: Random, nfa: Nfa) -> Options:
-    """Settings, of which a cache that is too small is as likely as an ample one."""
+    """Returns settings, in which a cache that is too small is as likely as an ample one."""
     words = [name for name, part in (("all", 0.4), ("starts", 0.5), ("noclasses", 0.2), ("tags", 0.3))
               if random.random() < part]
     quits = frozenset(random.sample((0x0A, 0x2D, 0x62, 0xE2), random.randint(1, 2)) if random.random() < 0.15 else ())
@@ -145,7 +146,7 @@ def random_options(random: Random, nfa: Nfa) -> Options:
 
 
 def random_text(random: Random, nfa: Nfa) -> bytes:
-    """What some path from the anchored start reads, looks taken as true, up to a match state or a few bytes."""
+    """Returns what some path from the anchored start reads, looks taken as true, up to a match state or a few bytes."""
     text, state = b"", nfa.anchored
     for _ in range(30):
         node = nfa.states[state]
@@ -160,7 +161,8 @@ def random_text(random: Random, nfa: Nfa) -> bytes:
 
 
 def random_haystack(random: Random, nfa: Nfa) -> Haystack:
-    """A haystack of a few pieces: characters, what the NFA reads, and now and then a byte that is no character."""
+    """Returns a haystack of a few pieces: characters, what the NFA reads, and sometimes a byte that is not a
+    character."""
     pieces = []
     for _ in range(random.randint(0, 5)):
         kind = random.random()
@@ -170,7 +172,7 @@ def random_haystack(random: Random, nfa: Nfa) -> Haystack:
 
 
 def random_input(random: Random, haystacks: list[Haystack]) -> Input:
-    """How a haystack is searched: half of the time all of it."""
+    """Returns how a haystack is searched: half of the time all of it."""
     haystack = random.choice(haystacks)
     length = len(haystack.bytes)
     end = length if random.random() < 0.6 else random.randint(0, length)
@@ -180,17 +182,17 @@ def random_input(random: Random, haystacks: list[Haystack]) -> Input:
 
 
 def match_word(found: Found) -> str:
-    """A match, as replies have it."""
+    """Returns a match as replies write it."""
     return f"{found.pattern} {found.start}..{found.end}"
 
 
 def half_words(found: Optional[Found], back: bool) -> list[str]:
-    """The reply to a search of one DFA."""
+    """Returns the reply to a search of one DFA."""
     return [f"half {found.pattern} {found.start if back else found.end}" if found else "none"]
 
 
 def wanted(kind: str, given: Input, options: Options) -> list[str]:
-    """The words of the reply to a request whose mode is supported."""
+    """Returns the words of the reply to a request whose anchored mode is supported."""
     haystack, how = given.haystack, (given.span, given.mode, options.all_kind, given.earliest)
     if kind == "rev":
         return half_words(haystack.search_back(given.span, given.mode, given.earliest), True)
@@ -212,12 +214,12 @@ def wanted(kind: str, given: Input, options: Options) -> list[str]:
 
 
 def is_unsupported(given: Input, options: Options) -> bool:
-    """Whether the DFAs have no starts for the mode of an input."""
+    """Whether the DFAs have no start states for the anchored mode of an input."""
     return isinstance(given.mode, int) and not options.starts and given.span[0] <= given.span[1]
 
 
 def random_request(random: Random, haystacks: list[Haystack], options: Options) -> Request:
-    """A request that begins no walk."""
+    """Returns a request that does not begin a walk."""
     which = f"which {random.randint(0, 4)}"
     kind = random.choice(("find", "find", "iter", "iter", "is", "fwd", "rev", "rev", "tok", which))
     given = random_input(random, haystacks)
@@ -230,7 +232,7 @@ def random_request(random: Random, haystacks: list[Haystack], options: Options) 
 
 def random_walk(
         random: Random, number: int, haystacks: list[Haystack], options: Options) -> tuple[Request, list[Request]]:
-    """A request that begins a walk, and its steps past its end. A walk that is not supported has one step."""
+    """Returns a request that begins a walk, and its steps beyond its end. A walk that is not supported has one step."""
     given = random_input(random, haystacks)
     way = random.choice(("fwd", "rev"))
     begin = Request(f"walk {way} {given.line()}", ["walk", f"%w{number}"], given, options, [])
@@ -245,7 +247,7 @@ def random_walk(
 
 
 def mixed(random: Random, one: list[Request], other: list[Request]) -> list[Request]:
-    """Both lists in one, each in its order."""
+    """Merges two lists, keeping the order of each."""
     turns = [one] * len(one) + [other] * len(other)
     random.shuffle(turns)
     sources = {id(one): iter(one), id(other): iter(other)}
@@ -253,7 +255,8 @@ def mixed(random: Random, one: list[Request], other: list[Request]) -> list[Requ
 
 
 def random_requests(random: Random, walks: int, haystacks: list[Haystack], options: Options) -> list[Request]:
-    """Requests of one regex, with two walks after so many. Their steps are made between the other requests."""
+    """Returns requests of one regex, with two walks after this many. Their steps are made between the other
+    requests."""
     requests = [random_request(random, haystacks, options) for _ in range(random.randint(4, 8))]
     first, first_steps = random_walk(random, walks, haystacks, options)
     second, second_steps = random_walk(random, walks + 1, haystacks, options)
@@ -262,7 +265,8 @@ def random_requests(random: Random, walks: int, haystacks: list[Haystack], optio
 
 
 def random_script(random: Random) -> Script:
-    """A script over two regexes of one NFA with settings of their own, the second current from the middle on."""
+    """Returns a script over two regexes of one NFA, each with its own settings, the second current from the middle
+    on."""
     while True:
         nfa = random_nfa(random)
         script = Script([Request(written(nfa), ["nfa", "%n0"])])

@@ -1,9 +1,9 @@
-"""NFAs by hand with their spans, worked out without the library and without the model."""
+"""NFAs with their spans, worked out by hand, without the library and without the model."""
 from __future__ import annotations
 
 from scripts import REFUSALS, Request, Script
 
-# What it shows, the NFA, a haystack, and its spans under leftmost-first and under `MatchKind::All`.
+# What it shows, the NFA, a haystack, and its spans with leftmost-first and with `MatchKind::All`.
 SPANS = (
     ("a loop and a tail", "0/7,0 E1,2 S61-62:0 B61:3 B62:4 B62:5 M0 B00-ff:7 E0,6", b"abababbxabb", "0 0..7 0 8..11",
      "0 8..11"),
@@ -30,12 +30,12 @@ SPANS = (
      "0 0..0 0 1..1 0 2..3 0 4..4", "0 4..4"),
     ("a part that isn't reached", "0/4,0 B61:1 M0 B62:1 B00-ff:4 E0,3", b"abab", "0 0..1 0 2..3", "0 2..3"),
 )
-# An NFA of which no regex is made, and why.
+# An NFA from which no regex is built, and why.
 REFUSED = (("0/2,0 B61:1 M0 E0,3 B62:2", "NotLazy"), ("0/0,1 B61:1 M0", "Starts"), ("0/0,0 utf8 E1,2 M0 B00-ff:0", "NotUtf8"))
 
 
 def spans_of(shows: str, nfa: str, haystack: bytes, first: str, last: str) -> Script:
-    """A regex of the NFA for each match kind, and all its spans."""
+    """Returns a regex of the NFA for each match kind, and all its spans."""
     kinds = (("unicode", first), ("all unicode", last))
     definitions = [Request(f"# {shows}", []), Request(f"nfa {nfa}", ["nfa", "%n0"])]
     requests = [Request(f"# {shows}: {haystack!r}", [])]
@@ -46,11 +46,11 @@ def spans_of(shows: str, nfa: str, haystack: bytes, first: str, last: str) -> Sc
 
 
 def refused_of(nfa: str, name: str) -> Script:
-    """A regex that is refused."""
+    """Returns a regex whose building fails."""
     return Script([Request(f"nfa {nfa}", ["nfa", "%n0"]), Request("regex %n0 made", ["refused", REFUSALS[name]])])
 
 
 def worked_parts() -> list[Script]:
-    """All of them, and a line that names no NFA."""
+    """Returns all of them, and a line that names no NFA."""
     parts = [spans_of(*row) for row in SPANS] + [refused_of(*row) for row in REFUSED]
     return parts + [Script([Request("regex 9999 made", ["bad nfa"]), Request("regex 9999 0 all", ["bad nfa"])])]

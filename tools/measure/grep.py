@@ -1,13 +1,13 @@
 #!/usr/bin/env python3
-"""Measures `example_grep` beside `grep` and, if there is one, ripgrep, by one thread:
+"""Measures `example_grep`, `grep` and, if it is installed, ripgrep, with one thread:
 
     tools/measure/grep.py [--program FILE] [MIB]
 
-The text is a log of so many MiB (100, if it is not said) of random lines, each with a time, a level, eight words of
+The text is a log of this many MiB (100 by default) of random lines, each with a time, a level, eight words of
 LICENSE-APACHE and a number. The program is the one that `rt run` or `rt ci` left in crates/example_grep/out, unless
-another is named. It prints the least of three times of the processor in user mode for each, the programs in turn, or the
-one time of a call that takes half a minute, and stops if two print something else. With `--which` the program is measured
-alone: without the numbers it has to print what it prints else.
+another is named. For each program it prints the least of three processor times in user mode, the programs in turn, or
+the only time of a call that takes half a minute, and stops if two programs print different results. With `--which` the
+program is measured alone: without the numbers, its output must equal its output without `--which`.
 """
 import argparse
 import hashlib
@@ -22,9 +22,9 @@ import sys
 import tempfile
 
 TOP = os.path.dirname(os.path.dirname(os.path.dirname(os.path.abspath(__file__))))
-# A call that takes so many seconds is not repeated.
+# A call that takes at least this many seconds is not repeated.
 LONG = 30
-# What is searched: the arguments that all have, and the pattern, if there is one.
+# What is searched for: the arguments of all programs, and the pattern, if there is one.
 WORKS = {
     "a word, in either case": (["-c", "-i"], "contributor [a-z]+"),
     "digits": (["-c"], "[0-9]{5} ms"),
@@ -38,7 +38,7 @@ WORKS = {
 
 
 def write_log(path, most):
-    """Writes the log, and beside it 1,000 words of random letters."""
+    """Writes the log, and 1,000 words of random letters in another file."""
     dice = random.Random(7)
     with open(f"{TOP}/LICENSE-APACHE", encoding="utf-8") as it:
         words = it.read().split()
@@ -57,14 +57,14 @@ def write_log(path, most):
 
 
 def measured(words, room):
-    """Returns the time of the processor in user mode that a program takes, and what it prints."""
+    """Returns the processor time in user mode of a program, and its output."""
     before = resource.getrusage(resource.RUSAGE_CHILDREN)
     ran = subprocess.run(words, cwd=room, stdout=subprocess.PIPE, env={**os.environ, "LC_ALL": "C"})
     return resource.getrusage(resource.RUSAGE_CHILDREN).ru_utime - before.ru_utime, ran.stdout
 
 
 def best(calls, room):
-    """Returns for each call the least of three times, the calls in turn, and a sum of what it prints."""
+    """Returns for each call the least of three times, with the calls in turn, and a checksum of its output."""
     times, sums = {name: [] for name in calls}, {}
     for _ in range(3):
         for name, words in calls.items():

@@ -1,10 +1,10 @@
 #!/usr/bin/env python3
-"""Makes what the works of works_c read that begin with `spans_` or `which_`:
+"""Generates what those works of works_c read whose names begin with `spans_` or `which_`:
 
     tools/measure/made.py FOLDER
 
-For each of them it writes a file of its name: a line with the pattern, or with words between bars, and then 4 MiB of text
-that looks like Russian, Chinese, JSON, source code or English, the same one each time.
+For each of them it writes a file with the work's name: a line with the pattern, or with words between bars, followed by
+4 MiB of text that looks like Russian, Chinese, JSON, source code or English. The text is always the same.
 """
 import bisect
 import itertools
@@ -12,19 +12,19 @@ import re
 import sys
 
 SIZE = 1 << 22
-# Vowels and consonants, each as often as it comes.
+# Vowels and consonants, each as often as it occurs.
 RUSSIAN = ("о" * 11 + "е" * 8 + "а" * 8 + "и" * 7 + "уууыыяяюэё",
            "н" * 7 + "т" * 6 + "с" * 5 + "р" * 5 + "в" * 5 + "л" * 4 + "кккмммдддпппггззббчйхжшцщфь")
 ENGLISH = ("e" * 12 + "a" * 8 + "o" * 8 + "i" * 7 + "uuuyy",
            "t" * 9 + "h" * 6 + "n" * 7 + "s" * 6 + "r" * 6 + "llllddddcccmmmwwffggppbbvkjxqz")
-# Lines of source code, with a place for each name, number and word.
+# Lines of source code, with a placeholder for each name, number and word.
 LINES = ["static int N(struct N *N, size_t N) {", "    int N = N + D;", "    if (N->N < D) return N(N, N);",
          "    for (size_t N = D; N < N; N++) N(N[N], D);", "    /* W W W W W. */", "    N.N = N(N, \"W W\", D);",
          "    return N;", "}", "", "#define N D"]
 
 
 class Noise:
-    """Numbers that look random, as those of texts.in."""
+    """Pseudo-random numbers, the same as those of texts.in."""
 
     def __init__(self, state):
         self.state = state
@@ -38,7 +38,7 @@ class Noise:
 
 
 def word_of(noise, letters):
-    """A word of one to ten letters, vowels and consonants mostly in turn."""
+    """Returns a word of one to ten letters, with vowels and consonants mostly in turn."""
     kind, word = noise.below(2), ""
     for _ in range(1 + noise.below(5) + noise.below(6)):
         word += noise.one_of(letters[kind])
@@ -47,13 +47,13 @@ def word_of(noise, letters):
 
 
 def chinese_word(noise):
-    """A word of one to four characters, those with low numbers more often."""
+    """Returns a word of one to four characters, in which those with low numbers are more frequent."""
     count = noise.one_of([1, 1, 2, 2, 2, 3, 4])
     return "".join(chr(0x4E00 + noise.below(1 + noise.below(0x51A0))) for _ in range(count))
 
 
 class Words:
-    """A vocabulary of 5,000 words, whose first ones come most often."""
+    """A vocabulary of 5,000 words, whose first ones are the most frequent."""
 
     def __init__(self, noise, make):
         made = (make(noise) for _ in itertools.count())
@@ -68,7 +68,7 @@ class Words:
 
 
 def sentence(words):
-    """4 to 18 words, of which every fortieth is a number, and a comma after every tenth."""
+    """Returns 4 to 18 words, of which every fortieth is a number, with a comma after every tenth."""
     noise, said = words.noise, words.some(4, 18)
     said = [str(noise.below(2025)) if not noise.below(40) else it for it in said]
     said = [it + ("," if not noise.below(10) else "") for it in said]
@@ -76,14 +76,14 @@ def sentence(words):
 
 
 def chinese_sentence(words, names):
-    """The same without blanks; every fiftieth word is in Latin letters."""
+    """Returns the same without spaces; every fiftieth word is in Latin letters."""
     noise, said = words.noise, words.some(4, 18)
     said = [names.one() if not noise.below(50) else it for it in said]
     return "".join(it + ("，" if not noise.below(10) else "") for it in said) + noise.one_of(["。", "。", "。\n", "？"])
 
 
 def record(words, russian):
-    """An object of JSON, on a line."""
+    """Returns a JSON object, on a line."""
     noise, one = words.noise, words.one
     note = " ".join(words.some(3, 12)) + noise.one_of(["", ".", f' \\"{one()}\\"', f"\\n{one()}", f" {russian.one()}"])
     tags = ", ".join(f'"{it}"' for it in words.some(0, 4))
@@ -94,7 +94,7 @@ def record(words, russian):
 
 
 def code_line(words):
-    """A line of source code."""
+    """Returns a line of source code."""
     noise, one = words.noise, words.one
     names = [one, one, lambda: f"{one()}_{one()}", lambda: f"{one()}{one().title()}", lambda: f"{one()}{noise.below(10)}"]
     numbers = [lambda: str(noise.below(100)), lambda: f"0x{noise.below(65536):x}"]
@@ -103,7 +103,7 @@ def code_line(words):
 
 
 def text_of(make):
-    """As many bytes as the works read, but for a character that would be cut."""
+    """Returns as many bytes as the works read, without a character that would be cut."""
     parts, size = [], 0
     while size < SIZE:
         parts.append(make().encode())

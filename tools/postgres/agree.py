@@ -1,13 +1,14 @@
 #!/usr/bin/env python3
-"""Compares answers of the extension for PostgreSQL with those of `~`:
+"""Compares results of the extension for PostgreSQL with those of `~`:
 
     agree.py PATTERNS SEED
 
-Random patterns that mean the same to both, each over ten random texts: `=~` with `~`, `=~*` with `~*`, their negations,
-and where the first match begins. Then lists of 25 patterns over 200 texts: `=~|` and lazydfa_which with `~` of each.
-It prints what was compared, and ends with status 1 if something differs. Of the texts of first matches it only compares
-that none is longer here, and counts those that are not equal: POSIX takes the longest match, and Rust's syntax the
-preferred one. psql finds the server by its environment.
+Random patterns that have the same meaning in both, each over ten random texts: `=~` is compared with `~`, `=~*` with
+`~*`, their negations too, and where the first match begins. Then lists of 25 patterns over 200 texts: `=~|` and
+lazydfa_which are compared with `~` for each pattern. It prints what was compared, and ends with status 1 if something
+differs. The texts of first matches may differ: it only checks that none is longer here, and counts those that are not
+equal, since POSIX takes the longest match, and Rust's syntax the preferred one. psql finds the server by its
+environment.
 """
 import random
 import subprocess
@@ -68,7 +69,7 @@ SELECT count(*), sum((lazydfa_which(s, patterns) <> which)::int), sum(((s =~| pa
 
 
 def script(count, seed):
-    """Returns what psql is to run."""
+    """Returns the statements for psql."""
     it = random.Random(seed)
     patterns = [alternation(it, 3) for _ in range(count)]
     pairs = [f"{pattern}\t{line}" for pattern in patterns for line in texts(it, 10)]

@@ -1,13 +1,13 @@
 #!/usr/bin/env python3
-"""Compares what a `=~` query of the extension for PostgreSQL finds by an index with what it finds by a scan:
+"""Compares what a `=~` query of the extension for PostgreSQL finds with an index and with a scan:
 
     indexed.py PATTERNS SEED [BACKENDS]
 
 Random patterns, with repetitions of repetitions, classes, flags, escapes, alternations and anchors, are constants of
-queries by `=~` or `=~*` over equal tables of short texts: one without an index, and one each with an index by
-text_pattern_ops, by the collations of the database and C, and by trigrams (GIN and GiST, of pg_trgm). Scans are off
-where there is an index for a query. It prints how many patterns used each index, and ends with status 1 if rows
-differ. psql finds the server by its environment; its user may create the extensions.
+queries with `=~` or `=~*` over equal tables of short texts: one without an index, and one each with an index with
+text_pattern_ops, with the collation of the database and C, and of trigrams (GIN and GiST, of pg_trgm). Scans are turned
+off if there is an index for a query. It prints how many patterns used each index, and ends with status 1 if rows
+differ. psql finds the server by its environment; its user must be allowed to create the extensions.
 """
 import random
 import subprocess
@@ -38,7 +38,7 @@ CREATE EXTENSION IF NOT EXISTS lazydfa;
 CREATE EXTENSION IF NOT EXISTS pg_trgm;
 CREATE SCHEMA indexed;
 """
-# A pattern that is refused is counted; another error ends the comparison.
+# A pattern that cannot be compiled is counted; any other error ends the comparison.
 COMPARED = """
 SET enable_seqscan = off;
 SET jit = off;
@@ -111,7 +111,7 @@ def alternation(it, depth):
 
 
 def pattern(it):
-    """Returns a pattern; one for which an index is of use more often than not."""
+    """Returns a pattern for which, more often than not, an index can be used."""
     made = alternation(it, 2)
     kind = it.random()
     if it.random() < 0.4:
@@ -137,7 +137,7 @@ def copied(rows):
 
 
 def tables(it):
-    """Returns statements that make the tables."""
+    """Returns the statements that create the tables."""
     texts = sorted({text(it) for _ in range(TEXTS)})
     made = MADE
     for name, index in TABLES.items():
@@ -148,7 +148,7 @@ def tables(it):
 
 
 def comparison(patterns):
-    """Returns statements that compare what patterns find."""
+    """Returns the statements that compare what patterns find."""
     sums = ", ".join(f"(SELECT count(*) || ' ' || coalesce(sum(id), 0) FROM indexed.{it} WHERE s %2$s %1$L)"
                      for it in TABLES)
     used = ", ".join(f"pg_stat_get_xact_numscans('indexed.{it}_by'::regclass)" for it in list(TABLES)[1:])
@@ -157,7 +157,7 @@ def comparison(patterns):
 
 
 def started(statements):
-    """Starts psql with statements, in a file, since it may answer before it has read all of them."""
+    """Starts psql with statements from a file, since it may answer before it has read all of them."""
     script = tempfile.TemporaryFile("w+", encoding="utf-8")
     script.write(statements)
     script.seek(0)
@@ -166,7 +166,7 @@ def started(statements):
 
 
 def finished(process):
-    """Returns what psql wrote, as lines."""
+    """Returns the output of psql, as lines."""
     said = process.communicate()[0]
     if process.returncode:
         sys.exit(said[-3000:])
@@ -187,7 +187,7 @@ def main(words):
     for answer in answers:
         print("\n".join(answer[1:]), end="\n" if answer[1:] else "")
     finished(started("DROP SCHEMA indexed CASCADE;"))
-    # A comparison in which an index is not used, or most patterns are refused, says nothing.
+    # A comparison in which an index is not used, or most patterns cannot be compiled, shows nothing.
     return 1 if differ or not all(used) or refused > count // 2 else 0
 
 

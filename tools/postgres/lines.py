@@ -1,5 +1,5 @@
 #!/usr/bin/env python3
-"""Writes random lines of a server's log, some 170 bytes each, as text that COPY reads:
+"""Writes random lines of a server's log, of some 170 bytes each, as text that COPY reads:
 
     lines.py COUNT SEED
 """

@@ -1,12 +1,12 @@
 #!/usr/bin/env python3
-"""Measures queries by `~`, LIKE and the extension for PostgreSQL over lines of a log, for docs/PERFORMANCE.md:
+"""Measures queries with `~`, LIKE and the extension for PostgreSQL over lines of a log, for docs/PERFORMANCE.md:
 
     measure.py LINES ROUNDS
 
-psql finds the server by its environment; its user may create the extension, and the script runs where the server does.
-Each query is timed by EXPLAIN ANALYZE, serial and with three workers. Those of one row run in turn, and a ratio is of
-one round: the middle one is printed. All queries of a row have to find the same number of lines. The memory is what a
-backend has of its own.
+psql finds the server by its environment; its user must be allowed to create the extension, and the script must run on
+the server's machine. Each query is timed by EXPLAIN ANALYZE, serially and with three workers. The queries of one row
+run in turn, and a ratio is computed for each round: the median is printed. All queries of a row must find the same
+number of lines. The memory is what a backend does not share.
 """
 import os
 import random
@@ -24,11 +24,11 @@ PATTERNS = [
 ]
 WORD = "refused"
 FOLDED = r"(zürich|straße).*trace=[0-9a-f]{32}"
-# A scan begins where the table does, so that LIMIT takes the same lines.
+# A scan starts at the beginning of the table, so that LIMIT takes the same lines.
 SERIAL = "SET max_parallel_workers_per_gather = 0; SET synchronize_seqscans = off;"
 PARALLEL = """SET max_parallel_workers_per_gather = 3; SET min_parallel_table_scan_size = 0;
     SET parallel_setup_cost = 0; SET parallel_tuple_cost = 0;"""
-# Of 100 patterns `~ ANY` is timed over these lines alone.
+# For 100 patterns `~ ANY` is timed over these lines only.
 FEW = 1000
 
 
@@ -45,7 +45,7 @@ def quoted(text):
 
 
 def timed(setup, query):
-    """Returns the milliseconds that a query took."""
+    """Returns how many milliseconds a query took."""
     out = psql(f"{setup} EXPLAIN (ANALYZE, TIMING off, COSTS off) {query};")
     if setup == PARALLEL and "Workers Launched: 3" not in out:
         sys.exit(f"not by three workers:\n{out}")
@@ -53,7 +53,7 @@ def timed(setup, query):
 
 
 def row(name, queries, rounds, setup, number):
-    """Times queries in turn, and prints the middle times, and the middle ratios to the last of them."""
+    """Times queries in turn, and prints the median times, and the median ratios to the last of them."""
     found = {it: psql(f"{SERIAL} {query};").strip() for it, query in queries.items()}
     if len(set(found.values())) > 1:
         sys.exit(f"{name}: {found}")
@@ -103,7 +103,8 @@ def measure_sets(rounds, lines):
 
 
 def memory():
-    """Prints the memory of a backend's own, in MB: at first, after each pattern, and after 100 patterns at once."""
+    """Prints the memory that a backend does not share, in MB: at first, after each pattern, and after 100 patterns at
+    once."""
     words = ["psql", "-XAtq", "-v", "ON_ERROR_STOP=1"]
     with subprocess.Popen(words, stdin=subprocess.PIPE, stdout=subprocess.PIPE, text=True) as client:
         def ask(query):

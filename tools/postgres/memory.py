@@ -1,13 +1,13 @@
 #!/usr/bin/env python3
-"""Compares what a backend says that its patterns hold with what malloc gave out, and with the limit:
+"""Compares the memory that a backend reports for its patterns with what malloc gave out, and with the limit:
 
     memory.py
 
-Hundreds of patterns, one after another, each over a text of 900 kB: by several settings of `lazydfa.cache_size`, for
-searches for an end, for starts too, for sets, and for searches that are cancelled. After each one malloc has to have
-given out at most 1.1 times what lazydfa_stats reports, and not less than a tenth. This has to be within the limit, unless it is that of a single
-pattern, or of a search that was cancelled, by which the limit may be exceeded until the next one. psql finds the
-server by its environment; the server has the function held() of held.c.
+Hundreds of patterns, one after another, each over a text of 900 kB: with several settings of `lazydfa.cache_size`, for
+searches for an end, for starts too, for sets, and for searches that are cancelled. After each search malloc must have
+given out at most 1.1 times what lazydfa_stats reports, and at least a tenth of it. This must be within the limit,
+except for the memory of a single pattern, or of a search that was cancelled, which may exceed the limit until the next
+search. psql finds the server by its environment; the server has the function held() of held.c.
 """
 import subprocess
 import sys
@@ -18,7 +18,7 @@ VARIOUS = ["(a|b)*a(a|b){6}c", "[0-9]{4}-[0-9]{2}-[0-9]{2}", r"(?-u:\b)[0-9]+(?-
 VARIOUS += ["[a-q][^u-z]{5}x", "foo|bar|baz|quux", "[a-z]+", '"[^"]*"', "(?i)sherlock|holmes|watson", "a.{8}b"]
 VARIOUS += [r"\pL+ \pL+", r"\w+@\w+"]
 EACH = [f"x{at}" for at in range(256)]
-# A limit in kB, a search by one of some patterns, and these.
+# A limit in kB, a search with one of some patterns, and these patterns.
 CASES = [
     (65536, "mixed =~ pattern", VARIOUS),
     (65536, "lazydfa_count(mixed, pattern) >= 0", VARIOUS),
@@ -27,7 +27,7 @@ CASES = [
     (1024, "lazydfa_count(value, pattern) > 0", ALIKE[:60]),
     (1024, "lazydfa_which(value, array[pattern, 'b{20}']) <> '{}'", ALIKE[:60]),
     (4096, CANCELLED, ALIKE[:30]),
-    # A match of a byte, behind which the search reads on, and states that stand for thousands of the NFA's
+    # A match of a byte, after which the search reads on, and DFA states of thousands of NFA states
     (65536, "lazydfa_substr(left(value, 16384), 'a(?:[ab]*a[ab]{14}c|' || pattern || ')?') <> ''", EACH),
     (65536, "left(value, 256) =~ ('(?:[ab]?){2000}x|a[ab]{20}c|' || pattern)", EACH[:100]),
     (8192, "value =~* ('(?i)' || pattern || '|\\w{9}z')", ALIKE[:60]),
@@ -42,9 +42,9 @@ EXCEPTION WHEN query_canceled THEN
     RETURN NULL;
 END $$;
 """
-# What a search may add that is cancelled before it is counted, in kB, for caches of 1 MB.
+# What a search that is cancelled before it is counted may add, in kB, for caches of 1 MB.
 UNCOUNTED = 2048
-# How many patterns are kept, what they hold by the extension, and what malloc gave out.
+# How many patterns are kept, what they hold according to the extension, and what malloc gave out.
 ASKED = "SELECT patterns, held + tables, held() - {before} FROM lazydfa_stats()"
 
 
@@ -75,7 +75,7 @@ class Backend:
 
 
 def tried(limit, search, patterns):
-    """Tries one of the cases. Returns what was wrong, and prints the figures."""
+    """Runs one of the cases. Returns what is wrong, and prints the figures."""
     backend = Backend()
     backend.run(MADE)
     backend.ask("SELECT 'a' =~ 'a'")

@@ -1,12 +1,12 @@
 #!/usr/bin/env python3
-"""Compares what the extension for PostgreSQL answers by one call of the library with what it answers in pieces:
+"""Compares results of the extension for PostgreSQL by one call of the library with its results in pieces:
 
     pieces.py PATTERNS SEED
 
-Random patterns, of which many match the empty string, each over ten random texts with characters of one to four bytes,
-by every operator and function, also of bytes; and lists of four of them. `lazydfa.piece_size` says how long pieces are:
-the answers for each of SIZES have to be those for SIZES[0], by which each text is searched at once, also which error
-there is. It prints what was compared, and ends with status 1 if something differs. psql finds the server by its
+Random patterns, many of which match the empty string, each over ten random texts with characters of one to four bytes,
+by every operator and function, also over bytes; and lists of four of them. `lazydfa.piece_size` sets the length of
+pieces: the results for each of SIZES must equal those for SIZES[0], with which each text is searched at once, including
+errors. It prints what was compared, and ends with status 1 if something differs. psql finds the server by its
 environment.
 """
 import random
@@ -82,7 +82,7 @@ def quoted(words):
 
 
 def script(count, seed):
-    """Returns what psql is to run."""
+    """Returns the statements for psql."""
     it = random.Random(seed)
     patterns = [alternation(it, 2) for _ in range(count)]
     made = ASKED + f"SET lazydfa.piece_size = {SIZES[0]};\n"

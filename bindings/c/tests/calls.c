@@ -1,11 +1,12 @@
-/* Makes every call, right and with every wrong argument. Prints each check that fails, and how many there were. */
+/* Makes every call, with valid and with every kind of invalid arguments. Prints each check that fails, and how many
+   checks there were. */
 #include <stdio.h>
 #include <stdlib.h>
 #include <string.h>
 #include "check.h"
 #include "nfas.h"
 
-/* ---- Right calls ---- */
+/* ---- Valid calls ---- */
 
 static void searches(void) {
     lazydfa_cache c = LAZYDFA_INIT;
@@ -168,7 +169,8 @@ static void capacities(void) {
     small.has_cache_capacity = 1;
     status = open_cache(&c, word, &small, NULL, 0);
     CHECK(status.code == LAZYDFA_CAPACITY && status.offset > 100);
-    /* the reverse DFA asks for more than the forward one: what is named is enough for both, and a byte less is not */
+    /* the reverse DFA needs more than the forward one: the reported capacity is enough for both, and a byte less is
+       not */
     enough = status.offset;
     small.cache_capacity = enough - 1;
     status = open_cache(&c, word, &small, NULL, 0);
@@ -267,7 +269,7 @@ static void builders(void) {
     CODE(lazydfa_add_range(&b, 'a', 'z', lazydfa_state(1000), &id), LAZYDFA_OK);
     CODE(lazydfa_finish_pattern(&b, id, &pattern), LAZYDFA_OK);
     CODE(lazydfa_regex_build(&re, &b, starts, &anchored, NULL, 0), LAZYDFA_STATE_RANGE);
-    /* every kind of state, in a pattern that matches: a group round [a-z] at the start of a line */
+    /* every kind of state, in a pattern that matches: a group around [a-z] at the start of a line */
     CODE(lazydfa_builder_clear(&b), LAZYDFA_OK);
     CODE(lazydfa_set_utf8(&b, 1), LAZYDFA_OK);
     CODE(lazydfa_set_utf8(&b, 0), LAZYDFA_OK);
@@ -287,13 +289,13 @@ static void builders(void) {
     starts.unanchored = starts.anchored;
     CODE(lazydfa_regex_build(&re, &b, starts, &anchored, NULL, 0), LAZYDFA_OK);
     CODE(lazydfa_regex_close(&re), LAZYDFA_OK);
-    /* an unanchored start that is no prefix of the anchored one */
+    /* an unanchored start that is not a prefix of the anchored one */
     starts.unanchored = lazydfa_state(0);
     CODE(lazydfa_regex_build(&re, &b, starts, NULL, NULL, 0), LAZYDFA_NOT_LAZY);
     CODE(lazydfa_builder_close(&b), LAZYDFA_OK);
 }
 
-/* Refusals of lazydfa_regex_build that need an NFA of their own. */
+/* Errors of lazydfa_regex_build, each of which needs an NFA of its own. */
 static void refusals(void) {
     lazydfa_builder b = LAZYDFA_INIT;
     lazydfa_regex re = LAZYDFA_INIT;
@@ -303,7 +305,7 @@ static void refusals(void) {
     uint32_t pattern;
     memset(&settings, 0, sizeof settings);
     settings.always_anchored = 1;
-    /* (?:^)* has a cycle through a look, and is no refusal */
+    /* (?:^)* has a cycle through a look, and is not an error */
     CODE(lazydfa_builder_new(&b), LAZYDFA_OK);
     CODE(lazydfa_start_pattern(&b, &pattern), LAZYDFA_OK);
     CODE(lazydfa_add_match(&b, &end), LAZYDFA_OK);
@@ -316,7 +318,7 @@ static void refusals(void) {
     starts.unanchored = starts.anchored;
     CODE(lazydfa_regex_build(&re, &b, starts, &settings, NULL, 0), LAZYDFA_OK);
     CODE(lazydfa_regex_close(&re), LAZYDFA_OK);
-    /* \b by Unicode */
+    /* a Unicode \b */
     CODE(lazydfa_builder_clear(&b), LAZYDFA_OK);
     CODE(lazydfa_start_pattern(&b, &pattern), LAZYDFA_OK);
     CODE(lazydfa_add_match(&b, &end), LAZYDFA_OK);
@@ -339,7 +341,7 @@ static void refusals(void) {
     CODE(lazydfa_builder_close(&b), LAZYDFA_OK);
 }
 
-/* The pair of ab and ba, which reads the same backward, and of ab and ab, which does not. */
+/* The pair of ab and ba, the second of which reads the same backward, and the pair of ab and ab, which does not. */
 static void pairs(void) {
     lazydfa_builder b[2] = { LAZYDFA_INIT, LAZYDFA_INIT };
     lazydfa_regex re = LAZYDFA_INIT;
@@ -389,7 +391,7 @@ static void pairs(void) {
     CODE(lazydfa_builder_close(&b[1]), LAZYDFA_OK);
 }
 
-/* Two handles on one regex, closed in both orders, and a cache by each. */
+/* Two handles on one regex, closed in both orders, and a cache created from each. */
 static void shares(void) {
     int is_first;
     for (is_first = 0; is_first < 2; is_first++) {
@@ -413,7 +415,7 @@ static void shares(void) {
     }
 }
 
-/* [a-c]{3} with one start: no match begins after the span's start, so this is asked for, or refused. */
+/* [a-c]{3} with one start: no match begins after the span's start, so this has to be allowed, or it is an error. */
 static void one_start(void) {
     lazydfa_builder b = LAZYDFA_INIT, back = LAZYDFA_INIT;
     lazydfa_regex re = LAZYDFA_INIT;
@@ -443,14 +445,14 @@ static void one_start(void) {
     CHECK(m.start == 0 && m.end == 3);
     CODE(lazydfa_cache_close(&c), LAZYDFA_OK);
     CODE(lazydfa_regex_close(&re), LAZYDFA_OK);
-    /* two starts are as good with the setting as without */
+    /* two starts work with the setting as they do without it */
     CODE(lazydfa_regex_build(&re, &b, both, &settings, NULL, 0), LAZYDFA_OK);
     CODE(lazydfa_cache_new(&c, &re), LAZYDFA_OK);
     CODE(lazydfa_find(&c, bytes("-abc"), 4, &in, &m), LAZYDFA_OK);
     CHECK(m.start == 1 && m.end == 4);
     CODE(lazydfa_cache_close(&c), LAZYDFA_OK);
     CODE(lazydfa_regex_close(&re), LAZYDFA_OK);
-    /* of a pair it is the first NFA that counts */
+    /* for a pair only the first NFA counts */
     CODE(lazydfa_builder_new(&back), LAZYDFA_OK);
     CODE(lazydfa_set_reverse(&back, 1), LAZYDFA_OK);
     CODE(lazydfa_start_pattern(&back, &pattern), LAZYDFA_OK);
@@ -469,7 +471,7 @@ static void one_start(void) {
     CODE(lazydfa_builder_close(&back), LAZYDFA_OK);
 }
 
-/* ---- Wrong handles: every call on a null, a closed and an open handle of another kind ---- */
+/* ---- Invalid handles: every call on a null, a closed and an open handle of another kind ---- */
 
 enum { BUILDER_CALLS = 18, CACHE_CALLS = 13 };
 
@@ -499,7 +501,7 @@ static lazydfa_status on_builder(int call, lazydfa_builder *b) {
     }
 }
 
-/* The calls of a cache over "a", with this input. */
+/* Makes a call on a cache over "a", with this input. */
 static lazydfa_status on_cache(int call, lazydfa_cache *c, const lazydfa_input *input) {
     lazydfa_usage usage;
     lazydfa_match m;
@@ -571,7 +573,7 @@ static void handles(void) {
     CODE(lazydfa_regex_close(NULL), LAZYDFA_ARGUMENT);
     CODE(lazydfa_cache_close(NULL), LAZYDFA_ARGUMENT);
     CODE(lazydfa_builder_new(NULL), LAZYDFA_ARGUMENT);
-    /* a cache keeps its regex */
+    /* a cache keeps its regex alive */
     CODE(lazydfa_regex_close(&re), LAZYDFA_OK);
     CODE(lazydfa_regex_close(&re), LAZYDFA_CLOSED);
     CODE(lazydfa_builder_close(&b), LAZYDFA_OK);
@@ -580,7 +582,7 @@ static void handles(void) {
     CODE(on_cache(2, &c, &in), LAZYDFA_CLOSED);
 }
 
-/* ---- Wrong inputs: every search, with each span and mode that is none ---- */
+/* ---- Invalid inputs: every search, with each kind of invalid span and mode ---- */
 
 static void inputs(void) {
     static const lazydfa_input bad[] = {
@@ -605,7 +607,7 @@ static void inputs(void) {
     CODE(lazydfa_cache_close(&c), LAZYDFA_OK);
 }
 
-/* ---- Wrong numbers: states, patterns and assertions ---- */
+/* ---- Invalid numbers: states, patterns and assertions ---- */
 
 static void numbers(void) {
     static const uint32_t bad[] = { 0x7FFFFFFFu, 0x80000000u, 0xFFFFFFFFu };
@@ -687,7 +689,7 @@ static void null_of_builders(void) {
     CODE(lazydfa_builder_close(&b), LAZYDFA_OK);
 }
 
-/* A call that finds nothing, since it is not made, writes so. */
+/* A call that is not made, and so counts nothing, writes a count of 0. */
 #define COUNTS_NONE(call, wanted) do { count = 99; CODE(call, wanted); CHECK(count == 0); } while (0)
 
 static void null_of_searches(void) {

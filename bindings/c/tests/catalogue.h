@@ -1,15 +1,15 @@
-/* The NFAs that scripts of the program `lazydfa` name, state by state, each forward and backward. */
+/* The NFAs that scripts of the program `lazydfa` name, state by state, in both directions. */
 #ifndef CATALOGUE_H
 #define CATALOGUE_H
 
 #include "lazydfa.h"
 
-/* A state: its kind, up to two bytes or an assertion, and up to two next states. A match state has its pattern first. */
+/* A state: its kind, up to two bytes or an assertion, and up to two next states. For ACCEPT, next is the pattern. */
 enum kind { RANGE, WORD, EITHER, ASSERT, ACCEPT, FAIL };
 
 struct state {
     enum kind kind;
-    uint8_t lo, hi; /* of ASSERT lo is the assertion */
+    uint8_t lo, hi; /* for ASSERT, lo is the assertion */
     uint8_t next, other;
 };
 
@@ -56,7 +56,7 @@ static const struct state runs[] = { E(1, 3), R('a', 'z', 2), E(1, 5), D(4), E(3
 static const struct state a16[] = { B('a', 1), B('a', 2), B('a', 3), B('a', 4), B('a', 5), B('a', 6), B('a', 7), B('a', 8),
                                     B('a', 9), B('a', 10), B('a', 11), B('a', 12), B('a', 13), B('a', 14), B('a', 15),
                                     B('a', 16), M(0) };
-/* Their cycles of edges that read nothing pass an assertion. */
+/* NFAs in which a cycle of edges that read nothing passes an assertion. */
 static const struct state percents[] = { E(1, 2), L(LAZYDFA_LOOK_WORD_ASCII, 3), B('%', 3), E(0, 4), M(0), PREFIX(0, 5) };
 static const struct state starts[] = { E(1, 2), L(LAZYDFA_LOOK_START, 3), B('a', 3), E(0, 4), M(0), PREFIX(0, 5) };
 static const struct state starts_backward[] = { E(1, 2), L(LAZYDFA_LOOK_END, 3), B('a', 3), E(0, 4), M(0), PREFIX(0, 5) };
@@ -66,8 +66,8 @@ static const struct state knot[] = { E(2, 1), R('a', 'z', 6), L(LAZYDFA_LOOK_WOR
 static const struct state knot_backward[] = { E(4, 1), R('a', 'z', 6), L(LAZYDFA_LOOK_WORD_ASCII, 3), E(2, 5), B('x', 2),
                                               M(0), M(1), PREFIX(0, 7) };
 
-/* An entry: its states in both directions, the unanchored start, how many patterns it has and where they start. The
-   anchored start is state 0. */
+/* An entry: its states in both directions, the unanchored start, the number of patterns, and where their searches
+   start. The anchored start is state 0. */
 struct entry {
     const char *name;
     const struct state *forward, *backward;

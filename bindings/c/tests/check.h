@@ -1,4 +1,4 @@
-/* What the tests count: checks, and those that failed, which are printed. */
+/* Counts checks, and those that fail, which it prints. */
 #ifndef CHECK_H
 #define CHECK_H
 
@@ -16,7 +16,7 @@ static int failed, made;
         }                                                            \
     } while (0)
 
-/* A call that returns this code. */
+/* Checks that a call returns this code. */
 #define CODE(call, wanted)                                                                         \
     do {                                                                                           \
         lazydfa_status status_ = (call);                                                           \

@@ -1,10 +1,12 @@
-/* What every match of a pattern has in common: a table of patterns, random patterns whose matches have to have it, each
-   room for what is written, and every wrong argument. Prints each check that fails, and how many there were. */
+/* Checks what all matches of a pattern have in common: a table of patterns, random patterns whose matches must have the
+   facts, every amount of room for what is written, and every kind of invalid argument. Prints each check that fails,
+   and how many checks there were. */
 #include <stdio.h>
 #include <string.h>
 #include "check.h"
 
-/* The facts of a pattern: ^, $ and = for the flags, then the prefix and the literals, with a bar after each. */
+/* Returns the facts of a pattern as text: ^, $ and = for the flags, then the prefix and the literals, with a bar after
+   each. */
 static const char *shown(const char *pattern, size_t length, const lazydfa_text_options *options) {
     static char out[512];
     uint8_t read[200];
@@ -74,7 +76,7 @@ static void cases(void) {
     HAS("(?i)\xC3\xA9x1", "\xC3|1|");
 }
 
-/* An alternation has no literals, but a prefix may come of it. */
+/* An alternation has no literals, but its alternatives may have a common prefix. */
 static void alternations(void) {
     HAS("^(?:foo|fob)x", "^fo|x|");
     HAS("foo(?:bar|baz)", "fooba|foo|");
@@ -112,7 +114,8 @@ static void errors(void) {
     HAS("(a{1000}){1000}", "aaaaaaaaaa|a|");
 }
 
-/* A literal of any length is written whole; a prefix of it is long, and not exact if it is not the whole. */
+/* A literal of any length is written whole; a prefix of it is long, and the flag `exact` is not set unless it is the
+   whole literal. */
 static void long_literals(void) {
     static char pattern[5000];
     static uint8_t read[10000];
@@ -128,7 +131,7 @@ static void long_literals(void) {
     }
 }
 
-/* Whether exactly the beginning of what is to be written was written, in a room. */
+/* Checks that exactly as much is written as there is room for. */
 static void rooms(void) {
     static const char pattern[] = "ab.cde.f", whole[] = "ababcdef";
     static const size_t sizes[3] = { 2, 3, 1 };
@@ -176,7 +179,7 @@ static void nulls(void) {
     CHECK(!memcmp(&facts, &none, sizeof facts) && read[0] == 9 && lengths[0] == 9);
 }
 
-/* Numbers of a fixed seed. */
+/* Returns a pseudo-random number; the seed is fixed. */
 static unsigned below(unsigned limit) {
     static uint64_t state = 83;
     state = state * 6364136223846793005u + 1442695040888963407u;
@@ -206,7 +209,7 @@ static char *expression(char *at, int depth) {
     }
 }
 
-/* How many matches were seen, and how many of them were of a pattern with each fact. */
+/* How many matches were checked, and for how many of them the pattern had each fact. */
 static unsigned long seen, begun, ended, whole, led, held;
 
 /* Checks a match of a haystack against the facts of its pattern. */
@@ -232,7 +235,7 @@ static void check_match(const char *pattern, const char *hay, size_t length, con
     held += facts->count > 1;
 }
 
-/* Searches random haystacks for a pattern: texts, or bytes. */
+/* Searches random haystacks, of text or of bytes, for a pattern. */
 static void search(const char *pattern, lazydfa_cache *cache, int is_text, const lazydfa_facts *facts,
                    const uint8_t *read, const size_t *lengths) {
     static const char *const parts[] = { "a", "b", "ab", "ba", "aabb", "bab", "A", "\n", "\xC3\xA9", "a\n",

@@ -1,6 +1,6 @@
-/* Refuses each allocation of a program in turn, and then each from there on. A call whose allocation is refused returns
-   LAZYDFA_MEMORY; made again, it does what it would have done; and no block is left at the end. The linker gives this
-   file the library's calls of malloc, realloc and free (--wrap). */
+/* Makes each allocation of a program fail in turn, and then all allocations from each one on. A call whose allocation
+   fails returns LAZYDFA_MEMORY; repeated, it does what it would have done; and no block is left at the end. The linker
+   gives this file the library's calls of malloc, realloc and free (--wrap). */
 #include <stdio.h>
 #include <stdlib.h>
 #include <string.h>
@@ -13,10 +13,10 @@ void *__wrap_malloc(size_t size);
 void *__wrap_realloc(void *at, size_t size);
 void __wrap_free(void *at);
 
-static long calls, blocks;          /* of this cycle: allocations asked for, and blocks not freed yet */
-static long only, from;             /* the allocation that is refused; the first of those that are. 0: none */
+static long calls, blocks;          /* of this cycle: allocations requested, and blocks not freed yet */
+static long only, from;             /* the one allocation that fails; the first of all that fail; 0: none */
 static long refused, reported, wrong;
-static long usual;                  /* how many allocations there are if none is refused */
+static long usual;                  /* how many allocations there are if none fails */
 
 static int refuses(void) {
     int yes;
@@ -43,7 +43,7 @@ void __wrap_free(void *at) {
     __real_free(at);
 }
 
-/* From the first refusal that a call reports on, nothing is refused: what is made again has to succeed. */
+/* After a call has reported the first failure, no allocation fails: the repeated call must succeed. */
 static int is_refused(lazydfa_status status) {
     if (status.code != LAZYDFA_MEMORY || !(only || from)) return 0;
     reported++;
@@ -56,7 +56,7 @@ static void complain(const char *what, int line) {
     printf("%s:%d: %s\n", __FILE__, line, what);
 }
 
-/* Makes a call, and makes it again if memory was refused. */
+/* Makes a call, and repeats it if an allocation failed. */
 #define WANT(call, wanted)                                                                       \
     do {                                                                                         \
         lazydfa_status status_ = (call);                                                         \
@@ -110,7 +110,7 @@ static void iterate(lazydfa_cache *c, const uint8_t *hay, size_t length) {
         status = lazydfa_next_all(c, hay, length, &at, all, 3, &count);
         for (i = 0; i < count; i++) sum += all[i].end;
         if (is_refused(status)) {
-            /* the error ended the iteration, which goes on from the last match */
+            /* the error ended the iteration, which is resumed from the last match */
             at.ended = 0;
             status.code = LAZYDFA_OK;
         }
@@ -127,7 +127,7 @@ static void take_tokens(lazydfa_cache *c, const uint8_t *hay, size_t length) {
     status = lazydfa_tokens(c, hay, length, &left, all, 3, &count);
     sum = count;
     if (is_refused(status)) {
-        /* the tokens before the error stay found */
+        /* the tokens before the error were written */
         status = lazydfa_tokens(c, hay, length, &left, all, 3, &count);
         sum += count;
     }
@@ -190,8 +190,7 @@ static void search(lazydfa_cache *c, lazydfa_cache *every, const uint8_t *hay, s
     IS(count == 0);
 }
 
-/* A search in pieces stands where it stood when the memory for a piece is refused, and other searches may come
-   between. */
+/* A search in pieces is unchanged if the allocation for a piece fails, and other searches may be made in between. */
 static void search_pieces(lazydfa_cache *c) {
     lazydfa_input in = lazydfa_whole(2);
     lazydfa_half h;
@@ -213,7 +212,7 @@ static void search_pieces(lazydfa_cache *c) {
     IS(h.offset == 6 && h.pattern == 0);
 }
 
-/* So does a walk, and it lists what it listed. In "-ab\n5-" [a-z]+ ends at 2 and at 3, and a line begins with 5. */
+/* So is a walk, and it lists the same patterns. In "-ab\n5-" [a-z]+ ends at 2 and at 3, and a line begins with 5. */
 static void walk_pieces(lazydfa_cache *c) {
     lazydfa_stop stop;
     uint32_t pattern, first = 0;
@@ -233,7 +232,7 @@ static void walk_pieces(lazydfa_cache *c) {
     IS(stop.read == 2 && stop.offset == 5 && stop.patterns == 1 && pattern == 1);
 }
 
-/* The pair of [a-z]+ with itself: it reads the same backward. */
+/* The pair of [a-z]+ with itself, since it reads the same backward. */
 static void search_pair(lazydfa_builder *b, lazydfa_regex *re, lazydfa_cache *c) {
     lazydfa_starts starts[2];
     lazydfa_input in = lazydfa_whole(5);
@@ -264,7 +263,8 @@ static void search_pair(lazydfa_builder *b, lazydfa_regex *re, lazydfa_cache *c)
     IS(m.start == 1 && m.end == 4);
 }
 
-/* Another handle on the regex of the first, and a cache by it, which stay when the first is closed. */
+/* Another handle on the first handle's regex, and a cache created from it, which stay usable after the first is
+   closed. */
 static void search_shared(lazydfa_regex *re, lazydfa_regex *other, lazydfa_cache *c) {
     lazydfa_input in = lazydfa_whole(5);
     lazydfa_match m;
@@ -279,7 +279,7 @@ static void search_shared(lazydfa_regex *re, lazydfa_regex *other, lazydfa_cache
     WANT(lazydfa_regex_reverse(other, re), LAZYDFA_OK);
 }
 
-/* The set of a\pN+ and (?i)b|, from their texts, and the message of a text that is none. */
+/* The set of a\pN+ and (?i)b|, built from their texts, and the message for a text that is not a valid pattern. */
 static void search_texts(lazydfa_regex *re, lazydfa_cache *c) {
     static const lazydfa_text texts[2] = { { "a\\pN+", 5 }, { "(?i)b|", 6 } };
     lazydfa_input in = lazydfa_whole(3);
@@ -301,7 +301,7 @@ static void search_texts(lazydfa_regex *re, lazydfa_cache *c) {
         status = lazydfa_regex_new(re, "a(b", 3, NULL, NULL, NULL, 0, &refusal, message, sizeof message);
     IS(status.code == LAZYDFA_SYNTAX && refusal.start == 1 && refusal.end == 2);
     if (only || from) {
-        /* a message for which there is no memory is an empty one, and no call reports that */
+        /* a message whose allocation fails is empty, which no call reports */
         reported += refusal.length == 0;
         IS(refusal.length ? !strcmp(message, "unclosed group\n  a(b\n   ^") : !*message);
     } else {
@@ -311,7 +311,7 @@ static void search_texts(lazydfa_regex *re, lazydfa_cache *c) {
     WANT(lazydfa_regex_new(re, "b+", 2, NULL, NULL, NULL, 0, NULL, NULL, 0), LAZYDFA_OK);
 }
 
-/* What every match of ^ab[cd]e(fg)+ has in common. */
+/* What all matches of ^ab[cd]e(fg)+ have in common. */
 static void report_facts(void) {
     lazydfa_facts facts;
     uint8_t read[8];
@@ -328,7 +328,8 @@ typedef struct {
     lazydfa_cache caches[5];
 } handles;
 
-/* A builder, two regexes of it and a cache of each, and every search; a pair, texts, and a regex with two handles. */
+/* Builds a builder, two regexes from it and a cache of each, and makes every search; also a pair, texts, and a regex
+   with two handles. */
 static void run(handles *h) {
     lazydfa_settings settings;
     lazydfa_starts starts = { { 0 }, { 0 } };
@@ -351,7 +352,7 @@ static void run(handles *h) {
     search_shared(&h->regexes[4], &h->other, &h->caches[4]);
 }
 
-/* Closes all, a regex before its cache or after it, while every allocation would be refused: none is asked for. */
+/* Closes everything, a regex before its cache or after it, while every allocation would fail: none is requested. */
 static void close_all(handles *h) {
     int i;
     only = 0;
@@ -383,7 +384,7 @@ static long cycle(long one, long first) {
     from = first;
     run(&h);
     asked = calls;
-    /* a vector that cannot double its room asks for just what it needs, and no call reports that */
+    /* a vector that cannot double its capacity requests just what it needs, and no call reports that */
     if (refused > before && reported == known && asked <= usual) complain("a refusal is not reported", __LINE__);
     close_all(&h);
     return asked;

@@ -1,11 +1,11 @@
-/* Limits on what is read, regexes that search forward only, and the size of tables. Prints each check that fails, and
-   how many there were. */
+/* Tests limits on texts, regexes that only search forward, and sizes of tables. Prints each check that fails, and how
+   many checks there were. */
 #include <stdio.h>
 #include <string.h>
 #include "check.h"
 #include "nfas.h"
 
-/* The code of building a regex of texts with these options. */
+/* Returns the code of building a regex from texts with these options. */
 static uint32_t built(const lazydfa_text *texts, size_t count, const lazydfa_text_options *options) {
     lazydfa_regex regex = LAZYDFA_INIT;
     lazydfa_status status = lazydfa_regex_any_of(&regex, texts, count, options, NULL, NULL, 0, NULL, NULL, 0);
@@ -14,7 +14,7 @@ static uint32_t built(const lazydfa_text *texts, size_t count, const lazydfa_tex
     return status.code;
 }
 
-/* The code of reading the facts of a text with these options. */
+/* Returns the code of reporting the facts of a text with these options. */
 static uint32_t read_facts(const lazydfa_text *text, const lazydfa_text_options *options) {
     lazydfa_facts facts;
     lazydfa_status status = lazydfa_text_facts(text->text, text->length, options, &facts, NULL, 0, NULL, 0);
@@ -40,7 +40,7 @@ static void text_limit(void) {
     CHECK(built(texts, 0, &options) == LAZYDFA_OK && built(texts, 1, &options) == LAZYDFA_TOO_LARGE);
 }
 
-/* Texts, how many class escapes each has, and what it is without a limit. */
+/* Texts, the number of class escapes of each, and the code without a limit. */
 static void class_limit(void) {
     static const struct {
         lazydfa_text text;
@@ -69,7 +69,7 @@ static void class_limit(void) {
     }
 }
 
-/* What a regex that searches forward only finds, beside one that has both parts. */
+/* Compares what a regex that only searches forward finds with what a regex with both parts finds. */
 static void forward_only(const char *pattern, const char *hay, uint32_t kind) {
     lazydfa_regex regex = LAZYDFA_INIT, forward = LAZYDFA_INIT, back = LAZYDFA_INIT;
     lazydfa_cache cache = LAZYDFA_INIT, other = LAZYDFA_INIT;
@@ -96,7 +96,8 @@ static void forward_only(const char *pattern, const char *hay, uint32_t kind) {
     CHECK(lazydfa_which(&cache, bytes(hay), whole.end, &whole, 1, &wanted_which, 1, &wanted_count).code == LAZYDFA_OK);
     CHECK(lazydfa_which(&other, bytes(hay), whole.end, &whole, 1, &which, 1, &count).code == LAZYDFA_OK);
     CHECK(count == wanted_count && which == wanted_which);
-    /* The start of a match is known without a search back if the match ends where the search began, or is anchored. */
+    /* The start of a match is known without a backward search if the match ends where the search began, or is
+       anchored. */
     if (status.code == LAZYDFA_OK && wanted.offset > 0) {
         CHECK(lazydfa_find(&other, bytes(hay), whole.end, &whole, &match).code == LAZYDFA_NOT_A_PAIR);
         whole.anchored = LAZYDFA_ANCHORED_YES;
@@ -113,7 +114,7 @@ static void forward_only(const char *pattern, const char *hay, uint32_t kind) {
     CHECK(lazydfa_regex_close(&regex).code == LAZYDFA_OK && lazydfa_regex_close(&forward).code == LAZYDFA_OK);
 }
 
-/* The sizes of two regexes of builders, counted by hand. */
+/* Checks the sizes of two regexes built from NFAs, which were computed by hand. */
 static void sizes(void) {
     lazydfa_builder b = LAZYDFA_INIT;
     lazydfa_regex re = LAZYDFA_INIT, closed = LAZYDFA_INIT;
@@ -134,7 +135,7 @@ static void sizes(void) {
     CHECK(lazydfa_add_unanchored_prefix(&b, starts.anchored, &starts.unanchored).code == LAZYDFA_OK);
     CHECK(lazydfa_regex_size(&closed, &size).code == LAZYDFA_CLOSED && size == 7);
     CHECK(lazydfa_regex_build(&re, &b, starts, NULL, NULL, 0).code == LAZYDFA_OK);
-    /* a match, a sparse state of two ranges, and the loop of a union and a range */
+    /* a match state, a sparse state of two ranges, and the loop of a union and a range */
     CHECK(lazydfa_regex_size(&re, &size).code == LAZYDFA_OK && size == 4 * 16 + 2 * 8);
     CHECK(lazydfa_regex_size((lazydfa_regex *)(void *)&b, &size).code == LAZYDFA_KIND);
     CHECK(lazydfa_cache_new(&cache, &re).code == LAZYDFA_OK);

@@ -1,7 +1,7 @@
-/* Counts what the allocations of caches take, and compares that with what lazydfa_cache_usage reports: after each
-   search of short and long texts by twelve patterns, then with capacities so small that caches are cleared, and of 300
-   caches that are kept within a limit. The linker gives this file the library's calls of malloc, realloc and free
-   (--wrap). Prints what each cache took, each check that fails, and how many there were. */
+/* Measures the memory that the allocations of caches take, and compares it with what lazydfa_cache_usage reports: after
+   each search of short and long texts with twelve patterns, then with capacities so small that caches are cleared, and
+   for 300 caches that are kept within a limit. The linker gives this file the library's calls of malloc, realloc and
+   free (--wrap). Prints what each cache took, each check that fails, and how many checks there were. */
 #include <malloc.h>
 #include <stdio.h>
 #include <stdlib.h>
@@ -17,11 +17,11 @@ void __wrap_free(void *at);
 
 enum { LENGTH = 3000000, SHORT = 100, LITERAL = 8000, KEPT = 300, SEARCHES = 1200 };
 
-/* What the allocations of a direction take at most, in capacities: while it is cleared, and between searches. */
+/* The most that the allocations of a direction take, in capacities: while it is cleared, and between searches. */
 enum { CLEARED = 5, BETWEEN = 4 };
 
-static size_t taken, peak; /* by all blocks now, and at most since it was last set */
-static int is_exact;       /* whether malloc tells what a block really takes: not under a sanitizer */
+static size_t taken, peak; /* by all blocks now, and the maximum since it was last reset */
+static int is_exact;       /* whether malloc reports the real size of a block: not under a sanitizer */
 static long made, failed;
 
 #define CHECK(fact, what)                                                     \
@@ -32,7 +32,7 @@ static long made, failed;
         }                                                                     \
     } while (0)
 
-/* What a block takes: what can be used of it, and the size that malloc keeps before it. */
+/* The real size of a block: its usable size, and the size field that malloc keeps before it. */
 static size_t block(void *at) { return at ? malloc_usable_size(at) + sizeof(size_t) : 0; }
 
 static void add(size_t bytes) {
@@ -46,7 +46,7 @@ void *__wrap_malloc(size_t size) {
     return at;
 }
 
-/* As if each block were moved: while it is copied, there are two. */
+/* Counts as if each block were moved: while it is copied, there are two. */
 void *__wrap_realloc(void *at, size_t size) {
     size_t before = block(at);
     void *next = __real_realloc(at, size);
@@ -72,7 +72,7 @@ static uint32_t random_below(uint32_t limit) {
 
 static uint8_t text[LENGTH];
 
-/* Fills the text with these letters, and now and then a word. */
+/* Fills the text with these letters, and occasionally a word. */
 static void fill(const char *letters, const char *word) {
     size_t i, count = strlen(letters), length = strlen(word);
     random_now = 7;
@@ -101,7 +101,8 @@ static lazydfa_usage usage_of(lazydfa_cache *cache) {
     return usage;
 }
 
-/* Checks that what a cache reports is within a tenth of what its blocks take, and returns what it reports. */
+/* Checks that the reported memory of a cache is within a tenth of the size of its blocks, and returns what was
+   reported. */
 static lazydfa_usage compare(lazydfa_cache *cache, size_t before, const char *pattern) {
     lazydfa_usage usage = usage_of(cache);
     size_t is = taken - before;
@@ -130,7 +131,7 @@ typedef struct {
     size_t capacity; /* of each direction */
 } row;
 
-/* The text's beginning, where it begins: as many states as letters, each with one state of the NFA. */
+/* The beginning of the text, anchored: as many DFA states as letters, each with one NFA state. */
 static char literal[LITERAL + 2] = "^";
 
 static const row rows[] = {
@@ -146,7 +147,7 @@ static const row rows[] = {
     { "a.{8}b", "abcdefgh ", "aaaabbbbb", 1 << 20 },
     { "\\pL+ \\pL+", "abcdef \xC3\xA9", "ab cd", 1 << 20 },
     { "[ab]*a[ab]{9}c", "ab", "aabababababc", 1 << 20 },
-    /* and with capacities so small that the cache is cleared */
+    /* with capacities so small that the cache is cleared */
     { "a.{8}b", "abcdefgh ", "aaaabbbbb", 1 << 17 },
     { "a.{8}b", "abcdefgh ", "aaaabbbbb", 1 << 15 },
     { "[ab]*a[ab]{9}c", "ab", "aabababababc", 1 << 16 },
@@ -186,7 +187,7 @@ static lazydfa_regex regexes[KEPT];
 static lazydfa_cache caches[KEPT];
 static size_t held[KEPT], used[KEPT];
 
-/* Closes the cache that was used longest ago, but for one, and returns what it held. */
+/* Closes the least recently used cache except one, and returns what it held. */
 static size_t close_oldest_but(int kept) {
     int i, oldest = -1;
     size_t was;
@@ -200,7 +201,7 @@ static size_t close_oldest_but(int kept) {
     return was;
 }
 
-/* Searches by one of many regexes, and drops caches until all that are kept are within the limit. */
+/* Searches with one of many regexes, and drops caches until the remaining ones are within the limit. */
 static void kept_within(size_t limit, size_t capacity, size_t length) {
     size_t before, sum = 0, most = 0, turn, closed;
     char pattern[80];

@@ -1,4 +1,4 @@
-/* NFAs of the tests. Each function returns the first status that is not LAZYDFA_OK. */
+/* NFAs for the tests. Each function returns the first status that is not LAZYDFA_OK. */
 #ifndef NFAS_H
 #define NFAS_H
 
@@ -12,7 +12,7 @@
 
 typedef lazydfa_status make_nfa(lazydfa_builder *, lazydfa_starts *);
 
-/* `count` copies of [lo-hi] before the state at *at, which becomes the first of them. */
+/* Adds `count` copies of [lo-hi] before the state at *at, which becomes the first of them. */
 static inline lazydfa_status repeat(lazydfa_builder *b, uint8_t lo, uint8_t hi, int count,
                                     lazydfa_state_id *at) {
     lazydfa_status ok = { LAZYDFA_OK, 0, 0 };

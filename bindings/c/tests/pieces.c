@@ -1,12 +1,13 @@
-/* Searches in pieces: every call, right and with every wrong argument; rows that grep finds; and random cuts of random
-   texts, which have to give what a search of the whole text does, with other searches, clears and resets of the cache
-   between the pieces, also backward. Prints each check that fails, and how many there were. */
+/* Searches in pieces: every call, with valid and with every kind of invalid arguments; rows whose matches grep reports;
+   and random cuts of random texts, which must give the same results as a search of the whole text, with other searches,
+   clears and resets of the cache between the pieces, also backward. Prints each check that fails, and how many checks
+   there were. */
 #include <stdio.h>
 #include <string.h>
 #include "check.h"
 #include "nfas.h"
 
-/* A piece that is read, and whether the answer stands then. */
+/* Reads a piece, and checks whether the result is then final. */
 #define READS(cache, text, code, stands)                                                           \
     do {                                                                                           \
         uint32_t done_ = 99;                                                                       \
@@ -14,7 +15,7 @@
         CHECK(done_ == (stands));                                                                  \
     } while (0)
 
-/* A match that ends at an offset, if this byte follows. */
+/* Checks that a match ends at an offset, if this byte follows. */
 #define ENDS(cache, ahead, at, number)                                                             \
     do {                                                                                           \
         lazydfa_half half_;                                                                        \
@@ -22,14 +23,14 @@
         CHECK(half_.offset == (at) && half_.pattern == (number) && half_.reserved == 0);           \
     } while (0)
 
-/* An error, with its byte and its offset. */
+/* Checks the error of a call, with its byte and its offset. */
 #define FAILS(call, error, what, at)                                                               \
     do {                                                                                           \
         lazydfa_status status_ = (call);                                                           \
         CHECK(status_.code == (error) && status_.byte == (what) && status_.offset == (at));        \
     } while (0)
 
-/* Opens a cache of a pattern's text, where bytes are searched and empty matches are not skipped. */
+/* Opens a cache of a pattern's text, with the option `bytes`, so that empty matches are not skipped. */
 static void open_text(lazydfa_cache *cache, const char *pattern, const lazydfa_settings *settings, const char *quits) {
     lazydfa_regex regex = LAZYDFA_INIT;
     lazydfa_text_options options;
@@ -41,7 +42,7 @@ static void open_text(lazydfa_cache *cache, const char *pattern, const lazydfa_s
     CODE(lazydfa_regex_close(&regex), LAZYDFA_OK);
 }
 
-/* ---- Right calls ---- */
+/* ---- Valid calls ---- */
 
 static void searches(void) {
     lazydfa_cache c = LAZYDFA_INIT;
@@ -63,12 +64,12 @@ static void searches(void) {
     ENDS(&c, -1, 6, 0);
     READS(&c, "more", LAZYDFA_OK, 1);
     ENDS(&c, 'x', 6, 0);
-    /* another search takes its place, and stops at the first match that it sees */
+    /* another search replaces it, and stops at the first match that it sees */
     CODE(lazydfa_pieces_begin(&c, LAZYDFA_UNANCHORED, 0, -1, 7), LAZYDFA_OK);
     CODE(lazydfa_pieces_end(&c, -1, &h), LAZYDFA_NONE);
     READS(&c, "1foo", LAZYDFA_OK, 1);
     ENDS(&c, -1, 2, 0);
-    /* an anchored one */
+    /* an anchored search */
     CODE(lazydfa_pieces_begin(&c, LAZYDFA_ANCHORED_YES, 0, -1, 0), LAZYDFA_OK);
     READS(&c, "foo", LAZYDFA_OK, 0);
     ENDS(&c, -1, 3, 0);
@@ -78,7 +79,7 @@ static void searches(void) {
     CODE(lazydfa_cache_close(&c), LAZYDFA_OK);
 }
 
-/* The bytes beside the pieces count for assertions. */
+/* The bytes before and after the pieces count for assertions. */
 static void beside(void) {
     lazydfa_cache c = LAZYDFA_INIT;
     lazydfa_half h;
@@ -123,7 +124,7 @@ static void modes(void) {
     CODE(lazydfa_cache_close(&c), LAZYDFA_OK);
 }
 
-/* ---- Errors of searches: each leaves the search as it was ---- */
+/* ---- Errors of searches: each leaves the search unchanged ---- */
 
 static void quits(void) {
     lazydfa_cache c = LAZYDFA_INIT;
@@ -141,7 +142,7 @@ static void quits(void) {
     READS(&c, "ab", LAZYDFA_OK, 0);
     ENDS(&c, -1, 4, 0);
     FAILS(lazydfa_pieces_end(&c, ';', &h), LAZYDFA_QUIT, ';', 4);
-    /* once the answer stands, no byte is read, and none is met */
+    /* once the result is final, no byte is read, so no quit byte is either */
     READS(&c, " x;", LAZYDFA_OK, 1);
     READS(&c, ";", LAZYDFA_OK, 1);
     ENDS(&c, ';', 4, 0);
@@ -165,7 +166,7 @@ static void gives_up(void) {
     READS(&c, "--", LAZYDFA_OK, 0);
     status = lazydfa_pieces_read(&c, hay, LENGTH, &done);
     CHECK(status.code == LAZYDFA_GAVE_UP && status.offset > 2 && status.offset < 2 + LENGTH && done == 0);
-    /* it stands where it stood, and over a fresh cache the bytes before the one that was to be read can be read */
+    /* the search is unchanged, and over a fresh cache it can read the bytes before the one at which it gave up */
     CODE(lazydfa_cache_reset(&c), LAZYDFA_OK);
     CODE(lazydfa_pieces_read(&c, hay, 1, &done), LAZYDFA_OK);
     CODE(lazydfa_pieces_end(&c, -1, &h), LAZYDFA_NONE);
@@ -191,7 +192,7 @@ static void skips(void) {
     CODE(lazydfa_cache_close(&c), LAZYDFA_OK);
 }
 
-/* ---- Wrong calls ---- */
+/* ---- Invalid calls ---- */
 
 static void handles(void) {
     lazydfa_builder b = LAZYDFA_INIT;
@@ -215,7 +216,7 @@ static void handles(void) {
         CHECK(done == 0);
         CODE(lazydfa_pieces_end(wrong[i], -1, &h), codes[i]);
     }
-    /* nothing was begun */
+    /* no search was begun */
     CODE(lazydfa_cache_new(&c, &re), LAZYDFA_OK);
     done = 99;
     CODE(lazydfa_pieces_read(&c, bytes("a"), 1, &done), LAZYDFA_NOT_BEGUN);
@@ -262,7 +263,7 @@ static void numbers(void) {
 /* Where the first match ends, as `printf %s HAY | grep -obP PATTERN` says: its offset and its length. */
 static const struct {
     const char *pattern, *hay;
-    int ends; /* -1: there is none */
+    int ends; /* -1: no match */
 } rows[] = {
     { "[a-z]+", "12 foo bar", 6 },
     { "[0-9]{4}-[0-9]{2}", "on 2024-1 or 2025-06-07", 20 },
@@ -279,7 +280,7 @@ static const struct {
     { "[^a-z ]{3}", "ab 12 345", 9 },
 };
 
-/* Each row, at every cut into two pieces, and byte by byte. */
+/* Checks each row, cut into two pieces at every offset, and byte by byte. */
 static void greps(void) {
     size_t row, cut, i;
     for (row = 0; row < sizeof rows / sizeof *rows; row++) {
@@ -315,8 +316,8 @@ static uint32_t below(uint32_t limit) {
     return (seed >> 8) % limit;
 }
 
-/* Whether the pieces so far have what a search of the whole text finds: that of `hay`, of which one byte before `start`
-   and one at `end` are seen, if they are there. */
+/* Checks that the pieces so far give the same result as a search of the whole text, which is `hay` and of which the
+   bytes before `start` and at `end` are seen, if there are any. */
 static void compare(lazydfa_cache *pieces, lazydfa_cache *whole, const uint8_t *hay, size_t length, lazydfa_input in) {
     lazydfa_half is, wanted;
     int32_t ahead = in.end < length ? hay[in.end] : -1;
@@ -328,7 +329,7 @@ static void compare(lazydfa_cache *pieces, lazydfa_cache *whole, const uint8_t *
     else CHECK(other.code == LAZYDFA_NONE);
 }
 
-/* One text, cut at random; after each piece the answer for what was given so far. */
+/* Cuts a text at random, and after each piece checks the result for the pieces so far. */
 static void cut(lazydfa_cache *pieces, lazydfa_cache *whole, const char *letters) {
     uint8_t hay[300];
     size_t i, length = 1 + below(sizeof hay - 1), at;
@@ -354,7 +355,7 @@ static void cut(lazydfa_cache *pieces, lazydfa_cache *whole, const char *letters
         if (more > length - at) more = length - at;
         status = lazydfa_pieces_read(pieces, hay + at, more, &done);
         if (status.code == LAZYDFA_QUIT) {
-            /* the whole text has that quit byte too; the search stands where it stood */
+            /* the search of the whole text reads that quit byte too; the search in pieces is unchanged */
             now.end = at + more;
             other = lazydfa_find_end(whole, hay, length, &now, &h);
             CHECK(other.code == LAZYDFA_QUIT && other.byte == status.byte && other.offset == status.offset + in.start);
@@ -373,7 +374,7 @@ static void cut(lazydfa_cache *pieces, lazydfa_cache *whole, const char *letters
         if (below(40) == 0) CODE(lazydfa_cache_reset(pieces), LAZYDFA_OK);
     }
     if (!done) return;
-    /* the answer stands, whatever follows */
+    /* the result is final, whatever follows */
     for (i = 0; i < 4; i++) {
         now.end = at + below((uint32_t)(length - at + 1));
         other = lazydfa_find_end(whole, hay, length, &now, &h);
@@ -415,7 +416,7 @@ static void cuts(void) {
 
 /* ---- Backward ---- */
 
-/* Opens two caches of a pattern's text: one of its regex, and one of the regex that reads it backward. */
+/* Opens two caches of a pattern's text: one of its regex, and one of the reversed regex. */
 static void open_both(lazydfa_cache *forward, lazydfa_cache *backward, const char *pattern) {
     lazydfa_regex regex = LAZYDFA_INIT, reversed = LAZYDFA_INIT;
     lazydfa_text_options options;
@@ -446,7 +447,7 @@ static void reverses(void) {
     CODE(lazydfa_regex_reverse(&re, (lazydfa_regex *)(void *)&b), LAZYDFA_OPEN);
     CODE(lazydfa_regex_reverse(no, (lazydfa_regex *)(void *)&b), LAZYDFA_OPEN);
     CODE(lazydfa_cache_close(&c), LAZYDFA_OK);
-    /* the other one stays when the first is closed */
+    /* the other one stays usable when the first is closed */
     CODE(lazydfa_regex_reverse(&re, &other), LAZYDFA_OK);
     CODE(lazydfa_regex_reverse(&re, &other), LAZYDFA_OPEN);
     CODE(lazydfa_regex_close(&re), LAZYDFA_OK);
@@ -457,7 +458,7 @@ static void reverses(void) {
     READS(&c, "of  ", LAZYDFA_OK, 1);
     ENDS(&c, -1, 4, 0);
     CODE(lazydfa_cache_close(&c), LAZYDFA_OK);
-    /* reversed once more it reads forward */
+    /* reversed twice, it reads forward */
     CODE(lazydfa_regex_reverse(&other, &re), LAZYDFA_OK);
     CODE(lazydfa_cache_new(&c, &re), LAZYDFA_OK);
     CODE(lazydfa_pieces_begin(&c, LAZYDFA_UNANCHORED, 0, -1, 0), LAZYDFA_OK);
@@ -469,7 +470,8 @@ static void reverses(void) {
     CODE(lazydfa_builder_close(&b), LAZYDFA_OK);
 }
 
-/* A span of a random text, from its end on in pieces whose bytes are in reverse order, and by lazydfa_find_start. */
+/* Searches a span of a random text backward, in pieces from its end on whose bytes are in reverse order, and compares
+   this with lazydfa_find_start. */
 static void cut_back(lazydfa_cache *pieces, lazydfa_cache *whole, const char *letters) {
     uint8_t hay[300], back[300];
     size_t i, length = 1 + below(sizeof hay - 1), at;

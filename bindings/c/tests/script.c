@@ -1,6 +1,6 @@
-/* Reads a script of the program `lazydfa` from standard input, runs it by the C library, and prints the same replies. A
-   walk is run whole at its first step, and once more at a step after an error; its matches are then given one by one.
-   It ends with status 2 at a line that it does not know. */
+/* Reads a script of the program `lazydfa` from standard input, runs it with the C library, and prints the same replies.
+   A walk is run completely at its first step, and again at a step after an error; its matches are then reported one by
+   one. The exit status is 2 if a line is not valid. */
 #include <stdio.h>
 #include <stdlib.h>
 #include <string.h>
@@ -17,11 +17,11 @@ enum { MOST = 4096, ROOM = 4096, STATES = 256 };
 static lazydfa_cache caches[MOST];
 static size_t regexes, current;
 
-/* The words of the NFAs that the script defines. */
+/* The words that define the script's NFAs. */
 static const char *nfas[MOST];
 static size_t nfa_count;
 
-/* A walk, the matches that are known of it, how many were reported, and what came after the known ones. */
+/* A walk, the matches found so far, how many of them were reported, and the status after the last one. */
 static struct walk {
     size_t regex, length, known, reported;
     int backward, is_whole;
@@ -49,7 +49,7 @@ static void *room_for(size_t count, size_t size) {
 
 /* ---- Words ---- */
 
-/* The next word of a line, which it ends with a zero; NULL after the last one. */
+/* Returns the next word of a line, which it terminates with a zero; NULL after the last one. */
 static char *next_word(char **line) {
     char *word = *line, *end;
     if (!word) return NULL;
@@ -83,7 +83,7 @@ static unsigned digit(char c) {
 
 static uint8_t byte(const char *pair) { return (uint8_t)(16 * digit(pair[0]) + digit(pair[1])); }
 
-/* What follows `name` in an option, or NULL. */
+/* Returns what follows `name` in an option, or NULL. */
 static const char *after(const char *option, const char *name) {
     size_t length = strlen(name);
     return strncmp(option, name, length) ? NULL : option + length;
@@ -91,7 +91,7 @@ static const char *after(const char *option, const char *name) {
 
 /* ---- NFAs that the script defines ---- */
 
-/* The words of an NFA, its starts, and how many patterns were started. */
+/* The words of an NFA, its starts, and the number of patterns started. */
 struct outline {
     char *text, *words[STATES];
     size_t word_count;
@@ -99,7 +99,7 @@ struct outline {
     lazydfa_starts starts;
 };
 
-/* The numbers of a list, and how many there are. */
+/* Reads the numbers of a list, and returns how many there are. */
 static uint32_t numbers(char *list, uint32_t *found) {
     uint32_t count = 0;
     char *part = *list ? strtok(list, ",") : NULL;
@@ -110,8 +110,8 @@ static uint32_t numbers(char *list, uint32_t *found) {
     return count;
 }
 
-/* Ranges and where they lead, and how many there are. Those of a dense state that lead to state 0 are no transitions.
-   */
+/* Reads ranges and the states that they lead to, and returns how many there are. Ranges of a dense state that lead to
+   state 0 are not transitions. */
 static size_t edges_of(char *list, lazydfa_edge *found, int is_dense) {
     size_t count = 0;
     char *part = *list ? strtok(list, ",") : NULL;
@@ -139,7 +139,7 @@ static uint32_t look_of(const char *name) {
     return 0;
 }
 
-/* Starts the patterns before this number, each after the one before is finished. */
+/* Starts the patterns below this number, each after the previous one is finished. */
 static lazydfa_status begin_patterns(lazydfa_builder *b, struct outline *o, uint32_t count) {
     lazydfa_status ok = { LAZYDFA_OK, 0, 0 };
     uint32_t pattern;
@@ -150,7 +150,7 @@ static lazydfa_status begin_patterns(lazydfa_builder *b, struct outline *o, uint
     return ok;
 }
 
-/* A union; with one alternate it is an empty state that is patched. */
+/* Adds a union; a union with one alternate is an empty state that is patched. */
 static lazydfa_status add_union(lazydfa_builder *b, char *list) {
     uint32_t found[STATES], count = numbers(list, found), i;
     lazydfa_state_id alternates[STATES], id;
@@ -168,7 +168,7 @@ static lazydfa_status add_look(lazydfa_builder *b, char *rest) {
     return lazydfa_add_look(b, look_of(rest), state_of(colon + 1), &id);
 }
 
-/* Adds a state that a word writes. */
+/* Adds the state that a word describes. */
 static lazydfa_status add_word(lazydfa_builder *b, struct outline *o, char *word) {
     lazydfa_edge found[STATES];
     lazydfa_state_id id;
@@ -186,7 +186,7 @@ static lazydfa_status add_word(lazydfa_builder *b, struct outline *o, char *word
     case 'E':
     case 'U': return add_union(b, rest);
     case 'L': return add_look(b, rest);
-    case 'C': /* The group is one of a pattern. Without one the state is written as a union of its target. */
+    case 'C': /* A group belongs to a pattern. Without one the state is a union of its target. */
         if (!o->pattern_count) return add_union(b, rest);
         if (!o->begun) TRY(begin_patterns(b, o, 1));
         return lazydfa_add_capture_start(b, 0, state_of(rest), &id);
@@ -200,7 +200,7 @@ static lazydfa_status add_word(lazydfa_builder *b, struct outline *o, char *word
     return lazydfa_bad_argument();
 }
 
-/* The start before which bytes are skipped lazily, if two words from a state on do that; or NULL. */
+/* Returns the start before which bytes are skipped lazily, if the two words from a state on do that; otherwise NULL. */
 static const char *skipped_before(const struct outline *o, size_t at, size_t state) {
     char either[64], any[64], *comma;
     if (at + 1 >= o->word_count) return NULL;
@@ -236,7 +236,7 @@ static lazydfa_status add_words(lazydfa_builder *b, struct outline *o) {
     return ok;
 }
 
-/* Adds the states of an NFA to a new builder, and says its starts. */
+/* Adds the states of an NFA to a new builder, and returns its start states. */
 static lazydfa_status add_nfa(lazydfa_builder *b, size_t at, lazydfa_starts *starts) {
     struct outline o;
     lazydfa_status status = { LAZYDFA_OK, 0, 0 };
@@ -266,7 +266,7 @@ static void define_nfa(const char *line) {
 
 /* ---- Regexes ---- */
 
-/* What a regex is made of: an entry, or one or two NFAs by their numbers; and its settings. */
+/* What a regex is built from: an entry, or one or two NFAs by their numbers; and its settings. */
 struct definition {
     const struct entry *entry;
     size_t forward, backward;
@@ -317,7 +317,7 @@ static lazydfa_status add_state(lazydfa_builder *b, const struct state *state) {
     }
 }
 
-/* The states in their order. The match state of a pattern is its last state, and prefixes come after all patterns. */
+/* Adds the states in order. The match state of a pattern is its last state, and prefixes come after all patterns. */
 static lazydfa_status add_states(lazydfa_builder *b, const struct entry *entry, const struct state *states) {
     lazydfa_status ok = { LAZYDFA_OK, 0, 0 };
     uint32_t pattern = 0;
@@ -332,7 +332,7 @@ static lazydfa_status add_states(lazydfa_builder *b, const struct entry *entry, 
     return ok;
 }
 
-/* Adds the states of one direction to a new builder, and says its starts. */
+/* Adds the states of one direction to a new builder, and returns its start states. */
 static lazydfa_status fill(lazydfa_builder *b, const struct definition *d, int is_backward, lazydfa_starts *starts) {
     TRY(lazydfa_builder_new(b));
     if (!d->entry) return add_nfa(b, is_backward ? d->backward : d->forward, starts);
@@ -375,12 +375,14 @@ static void refuse(const struct definition *d, lazydfa_status status) {
         puts("the unanchored start does not skip lazily, so an unanchored match may have no start");
         break;
     case LAZYDFA_NOT_UTF8: puts("a match may be invalid UTF-8, so in UTF-8 mode it might split a character"); break;
-    case LAZYDFA_STARTS: puts("the starts differ in the empty match, so the reversed NFA would have others"); break;
+    case LAZYDFA_STARTS:
+        puts("only some of the starts match the empty string, so a reversed NFA would match differently");
+        break;
     default: puts(lazydfa_code_text(status.code));
     }
 }
 
-/* Reads what a regex is made of, and leaves the options. */
+/* Reads what a regex is built from, and leaves the options. */
 static void set_source(struct definition *d, char **line) {
     const char *name = next_word(line), *rest = *line;
     size_t i;
@@ -449,7 +451,7 @@ static struct query query(char *line) {
     return q;
 }
 
-/* The words of an error. */
+/* Prints the words of an error. */
 static void print_error(lazydfa_status status) {
     switch (status.code) {
     case LAZYDFA_QUIT: printf("quit %02x %lu", (unsigned)status.byte, (unsigned long)status.offset); break;
@@ -472,7 +474,7 @@ static void print_match(lazydfa_match m) {
     printf("%lu %lu..%lu", (unsigned long)m.pattern, (unsigned long)m.start, (unsigned long)m.end);
 }
 
-/* What ended a list, if it is an error. */
+/* Prints the status that ended a list, if it is an error. */
 static void print_end(lazydfa_status status) {
     if (status.code == LAZYDFA_OK || status.code == LAZYDFA_NONE) return;
     putchar(' ');
@@ -553,7 +555,7 @@ static void begin_walk(struct query *q, int backward) {
     printf("walk %lu", (unsigned long)walk_count++);
 }
 
-/* Runs a walk from its beginning. */
+/* Runs a walk from its start. */
 static lazydfa_status run_walk(struct walk *w) {
     lazydfa_cache *cache = &caches[current];
     lazydfa_status status =
@@ -598,7 +600,7 @@ static void reset(size_t at) {
     } else print_error(status);
 }
 
-/* A request that has a haystack. */
+/* Runs a request that has a haystack. */
 static void request(const char *form, char *line) {
     const char *direction = strcmp(form, "walk") ? NULL : next_word(&line);
     size_t below = strcmp(form, "which") ? 0 : number(next_word(&line));
@@ -637,7 +639,7 @@ static void run_line(char *line) {
     putchar('\n');
 }
 
-/* The whole of standard input, ended by a zero. */
+/* Returns all of standard input, terminated by a zero. */
 static char *read_all(void) {
     size_t length = 0, room = 1 << 16, got;
     char *text = room_for(room, 1);

@@ -1,12 +1,13 @@
-/* Makes the calls that take texts of patterns, right and with every wrong argument, with each option, and with patterns
-   that are refused. Prints each check that fails, and how many there were. */
+/* Makes the calls that take texts of patterns, with valid and with every kind of invalid arguments, with each option,
+   and with texts that are not valid patterns. Prints each check that fails, and how many checks there were. */
 #define _POSIX_C_SOURCE 200809L
 #include <pthread.h>
 #include <stdio.h>
 #include <string.h>
 #include "check.h"
 
-/* What a pattern finds: the spans of all matches in brackets, or the code, offset and first line of the message. */
+/* Returns what a pattern finds: the spans of all matches in brackets, or the code, offset and first line of the
+   message. */
 static const char *found(const char *pattern, size_t length, const char *hay, const lazydfa_text_options *options,
                          const lazydfa_settings *settings) {
     static char out[512];
@@ -60,12 +61,13 @@ static void patterns(void) {
 static void refused(void) {
     FINDS("foo(b", "", "40 at 3, 3..4: unclosed group");
     FINDS("a{2,1}", "", "40 at 1, 1..6: invalid repetition count range, the start must be <= the end");
-    FINDS("\\bx", "", "24 at 0, 0..0: a Unicode word boundary is not supported: write (?-u:\\b) for one of ASCII");
+    FINDS("\\bx", "",
+          "24 at 0, 0..0: a Unicode word boundary is not supported: write (?-u:\\b) for an ASCII word boundary");
     FINDS("(a{1000}){1000}", "", "14 at 0, 0..0: the patterns are too large");
     FINDS("ab\xFF", "", "41 at 2, 2..0: ");
 }
 
-/* Writes a pattern of groups within each other, as many as this, and returns its length. */
+/* Writes a pattern of this many nested groups, and returns its length. */
 static size_t nest(char *pattern, size_t groups, const char *open, const char *close) {
     size_t length = 0, i;
     for (i = 0; i < groups; i++) length += (size_t)sprintf(pattern + length, "%s", open);
@@ -74,7 +76,7 @@ static size_t nest(char *pattern, size_t groups, const char *open, const char *c
     return length;
 }
 
-/* Whether so many groups within each other are a pattern. */
+/* Whether this many nested groups are a valid pattern. */
 static int nests(size_t groups, const lazydfa_text_options *options) {
     char pattern[1000];
     const char *is = found(pattern, nest(pattern, groups, "(", ")"), "a", options, NULL);
@@ -92,7 +94,7 @@ static void nesting(void) {
     CHECK(nests(250, &o) && !nests(251, &o));
 }
 
-/* Reads patterns that nest as deep as they may by default, and one level deeper. */
+/* Builds regexes from patterns that nest as deep as is allowed by default, and one level deeper. */
 static void *nest_in_thread(void *codes) {
     static const char *const parts[3][2] = { { "(", ")" }, { "[", "]" }, { "(?i:", ")" } };
     static char pattern[1000];
@@ -106,7 +108,7 @@ static void *nest_in_thread(void *codes) {
     return NULL;
 }
 
-/* The same on a thread whose stack has 64 KiB. */
+/* The same, on a thread with a stack of 64 KiB. */
 static void small_stack(void) {
     uint32_t codes[6] = { 0 };
     pthread_attr_t attributes;
@@ -117,7 +119,7 @@ static void small_stack(void) {
     for (i = 0; i < 6; i++) CHECK(codes[i] == (i % 2 ? LAZYDFA_SYNTAX : LAZYDFA_OK));
 }
 
-/* What a pattern finds with one option on. */
+/* Checks what a pattern finds with one option on. */
 #define FINDS_WITH(option, pattern, hay, wanted)                                             \
     do {                                                                                     \
         lazydfa_text_options o_;                                                             \
@@ -221,7 +223,7 @@ static void sets(void) {
     CHECK(lazydfa_regex_any_of(&regex, wrong, 1, NULL, NULL, NULL, 0, &refusal, NULL, 0).code == LAZYDFA_MEMORY);
 }
 
-/* A quit byte ends a search of a pattern's text, as of any regex. */
+/* A quit byte ends a search of a regex built from text, as of any other regex. */
 static void quit_bytes(void) {
     static const lazydfa_text text = { "b+", 2 };
     static const uint8_t quits[2] = { '-', 'x' };
@@ -243,7 +245,7 @@ static void quit_bytes(void) {
     }
 }
 
-/* A message of any room: it is cut at a character, and nothing after the room is written. */
+/* A message with any amount of room is cut at a character, and nothing is written outside the room. */
 static void messages(void) {
     static const char pattern[] = "\xC3\xA9(\xC3\xA9";
     static const char whole[] = "unclosed group\n  \xC3\xA9(\xC3\xA9\n   ^";
@@ -264,7 +266,7 @@ static void messages(void) {
     }
 }
 
-/* Whether a call wrote that it refused no text, over what stood there. */
+/* Checks that a call writes that no text has an error, over what was there before. */
 #define WRITES_NONE(call, wanted)                                                             \
     do {                                                                                      \
         memset(&refusal, 9, sizeof refusal);                                                  \

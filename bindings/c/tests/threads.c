@@ -1,7 +1,8 @@
-/* Four threads over one regex, each with a handle of its own: they share, search, make and close at once, and close
-   what the main thread opened. Prints each check that fails, and how many there were. Meant for helgrind too: with an
-   argument the main thread holds the regex until all have ended. Else any thread may free it, which helgrind takes for
-   a race, since it does not know that a count which is atomic puts what the others did before that. */
+/* Four threads share one regex, each with its own handle: they share, search, create and close at once, and close what
+   the main thread opened. Prints each check that fails, and how many checks there were. It is also meant for helgrind:
+   with an argument the main thread holds the regex until all threads have ended. Otherwise any thread may free it,
+   which helgrind reports as a race, since it does not know that the atomic count orders what the other threads did
+   before that. */
 #define _POSIX_C_SOURCE 200809L
 #include <pthread.h>
 #include <stdio.h>
@@ -9,7 +10,7 @@
 
 enum { THREADS = 4, ROUNDS = 8 };
 
-/* What a thread is given: a handle on the regex of all, and a cache that the main thread made. */
+/* The arguments of a thread: a handle on the shared regex, and a cache that the main thread created. */
 struct job {
     pthread_t thread;
     int number, made, failed;
@@ -45,7 +46,7 @@ static void search(struct job *job, lazydfa_cache *cache) {
     CHECK(status.code == LAZYDFA_NONE && count == 4);
 }
 
-/* Shares the regex once more, and closes the handles and a cache in one of the orders that there are. */
+/* Shares the regex once more, and closes the handles and a cache in one of all possible orders. */
 static void share(struct job *job, int round) {
     lazydfa_regex mine = LAZYDFA_INIT;
     lazydfa_cache cache = LAZYDFA_INIT;
@@ -60,7 +61,7 @@ static void share(struct job *job, int round) {
     if (round % 3 == 2) DONE(lazydfa_regex_close(&mine));
 }
 
-/* A regex of a builder of its own: nothing is shared with it. */
+/* Builds a regex from its own builder, with which nothing is shared. */
 static void build(struct job *job) {
     lazydfa_cache cache = LAZYDFA_INIT;
     lazydfa_input in = lazydfa_whole(LENGTH);
@@ -79,7 +80,7 @@ static void *run(void *at) {
         search(job, &job->cache);
         build(job);
     }
-    /* half of the caches are closed where they were used, the others by the main thread */
+    /* half of the caches are closed by the threads that used them, the others by the main thread */
     if (job->number % 2) DONE(lazydfa_cache_close(&job->cache));
     DONE(lazydfa_regex_close(&job->regex));
     return NULL;
@@ -108,7 +109,7 @@ int main(int argc, char **argv) {
     if (argc > 1 && lazydfa_regex_share(&regex, &held).code != LAZYDFA_OK) return 2;
     for (i = 0; i < THREADS; i++)
         if (pthread_create(&jobs[i].thread, NULL, run, &jobs[i])) return 2;
-    /* while they run */
+    /* while the threads run */
     if (lazydfa_regex_close(&regex).code != LAZYDFA_OK) failed++;
     for (i = 0; i < THREADS; i++, job++) {
         if (pthread_join(job->thread, NULL)) return 2;

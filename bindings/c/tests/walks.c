@@ -1,12 +1,13 @@
-/* Walks over a haystack in pieces: every call, right and with every wrong argument; rows that grep finds; and random
-   cuts of random texts, which have to give all ends and the set of patterns of the whole text, with other searches,
-   clears and resets of the cache between the pieces. Prints each check that fails, and how many there were. */
+/* Walks over a haystack in pieces: every call, with valid and with every kind of invalid arguments; rows whose matches
+   grep reports; and random cuts of random texts, which must give all ends and the set of patterns of the whole text,
+   with other searches, clears and resets of the cache between the pieces. Prints each check that fails, and how many
+   checks there were. */
 #include <stdio.h>
 #include <string.h>
 #include "check.h"
 #include "nfas.h"
 
-/* A call after which the walk stands where patterns match: it has read so many bytes. */
+/* Checks that a call stops where patterns match, after it has read this many bytes. */
 #define STOPS(call, bytes_read, at, which)                                                         \
     do {                                                                                           \
         memset(&stop, 0xa5, sizeof stop);                                                          \
@@ -15,7 +16,7 @@
         CHECK(lists(&c, stop.patterns, which));                                                    \
     } while (0)
 
-/* A call after which it stands at no match. */
+/* Checks that a call stops at no match, after it has read this many bytes. */
 #define PASSES(call, bytes_read)                                                                   \
     do {                                                                                           \
         memset(&stop, 0xa5, sizeof stop);                                                          \
@@ -23,7 +24,7 @@
         CHECK(stop.read == (bytes_read) && lists(&c, stop.patterns, 0));                           \
     } while (0)
 
-/* An error, with its byte and its offset: the walk stands nowhere. */
+/* Checks the error of a call, with its byte and its offset, and that the written position is all zeros. */
 #define FAILS(call, error, what, at)                                                               \
     do {                                                                                           \
         lazydfa_status status_;                                                                    \
@@ -36,7 +37,7 @@
 #define READ(text) lazydfa_walk_read(&c, bytes(text), strlen(text), &stop)
 #define END(ahead) lazydfa_walk_end(&c, ahead, &stop)
 
-/* The patterns that the walk of a cache lists, as bits, if they are so many and no two are the same. */
+/* Returns the patterns that the walk of a cache lists, as bits, if there are `count` of them and no two are equal. */
 static uint32_t listed(lazydfa_cache *cache, size_t count) {
     uint32_t set = 0, pattern;
     size_t i;
@@ -55,8 +56,8 @@ static uint32_t listed(lazydfa_cache *cache, size_t count) {
 
 static int lists(lazydfa_cache *cache, size_t count, uint32_t which) { return listed(cache, count) == which; }
 
-/* Opens a cache of patterns' texts, where bytes are searched, empty matches are not skipped, and all matches are
-   found. */
+/* Opens a cache of patterns' texts, with the option `bytes`, so that empty matches are not skipped. All matches are
+   reported. */
 static void open_texts(lazydfa_cache *cache, const char *const *patterns, lazydfa_settings settings,
                        const char *quits) {
     lazydfa_regex regex = LAZYDFA_INIT;
@@ -82,7 +83,7 @@ static lazydfa_settings plain(void) {
     return settings;
 }
 
-/* ---- Right calls ---- */
+/* ---- Valid calls ---- */
 
 /* [a-z]+ and [0-9a-z ], over "1ab": the second ends at 1, both at 2 and at 3. */
 static void walks(void) {
@@ -100,7 +101,7 @@ static void walks(void) {
     STOPS(END(-1), 0, 1, 2);
     STOPS(END('x'), 0, 1, 2);
     STOPS(READ("ab-"), 1, 1, 2);
-    /* a search in pieces goes on beside the walk */
+    /* a search in pieces continues beside the walk */
     CODE(lazydfa_pieces_begin(&c, LAZYDFA_UNANCHORED, 0, -1, 0), LAZYDFA_OK);
     CODE(lazydfa_pieces_read(&c, bytes("--z"), 3, &done), LAZYDFA_OK);
     CHECK(lists(&c, 1, 2));
@@ -114,7 +115,7 @@ static void walks(void) {
     PASSES(READ("--"), 2);
     PASSES(READ(" "), 1);
     STOPS(READ("-"), 1, 7, 2);
-    /* another walk takes its place; an anchored one is over once nothing can match */
+    /* another walk replaces it; an anchored walk is over once nothing can match */
     CODE(lazydfa_walk_begin(&c, LAZYDFA_ANCHORED_YES, 0, -1), LAZYDFA_OK);
     CHECK(lists(&c, 0, 0));
     PASSES(READ("x"), 1);
@@ -125,7 +126,7 @@ static void walks(void) {
     CODE(lazydfa_cache_close(&c), LAZYDFA_OK);
 }
 
-/* The bytes beside the pieces count for assertions. */
+/* The bytes before and after the pieces count for assertions. */
 static void beside(void) {
     static const char *const cat[] = { "\\bcat\\b", "at$", NULL };
     lazydfa_cache c = LAZYDFA_INIT;
@@ -173,7 +174,7 @@ static void modes(void) {
     CODE(lazydfa_cache_close(&c), LAZYDFA_OK);
 }
 
-/* ---- Errors of searches: each leaves the walk as it was ---- */
+/* ---- Errors of searches: each leaves the walk unchanged ---- */
 
 static void quits(void) {
     static const char *const b[] = { "b", NULL };
@@ -218,7 +219,7 @@ static void gives_up(void) {
     status = lazydfa_walk_read(&c, hay, LENGTH, &stop);
     CHECK(status.code == LAZYDFA_GAVE_UP && status.offset > 2 && status.offset < 2 + LENGTH);
     CHECK(stop.read == 0 && stop.offset == 0 && stop.patterns == 0);
-    /* it stands where it stood, and over a fresh cache the bytes before the one that was to be read can be read */
+    /* the walk is unchanged, and over a fresh cache it can read the bytes before the one at which it gave up */
     CODE(lazydfa_cache_reset(&c), LAZYDFA_OK);
     PASSES(lazydfa_walk_read(&c, hay, 1, &stop), 1);
     PASSES(END(-1), 0);
@@ -248,7 +249,7 @@ static void skips(void) {
     CODE(lazydfa_cache_close(&c), LAZYDFA_OK);
 }
 
-/* ---- Wrong calls ---- */
+/* ---- Invalid calls ---- */
 
 static void handles(void) {
     lazydfa_builder b = LAZYDFA_INIT;
@@ -271,7 +272,7 @@ static void handles(void) {
         FAILS(lazydfa_walk_end(wrong[i], -1, &stop), codes[i], 0, 0);
         CODE(lazydfa_walk_pattern(wrong[i], 0, &pattern), codes[i]);
     }
-    /* nothing was begun, and a search in pieces is no walk */
+    /* no walk was begun, and a search in pieces is not a walk */
     CODE(lazydfa_cache_new(&c, &re), LAZYDFA_OK);
     CODE(lazydfa_pieces_begin(&c, LAZYDFA_UNANCHORED, 0, -1, 0), LAZYDFA_OK);
     FAILS(READ("a"), LAZYDFA_NOT_BEGUN, 0, 0);
@@ -313,8 +314,8 @@ static void numbers(void) {
 
 /* ---- What grep finds ---- */
 
-/* The patterns that end at each offset, as a digit of their bits. A pattern ends at one if `grep -P '(?:PATTERN)\z'`
-   finds the text up to there; one with $ ends at the text's end alone. */
+/* The patterns that match up to each offset, as a digit of their bits. A pattern matches up to an offset if `grep -P
+   '(?:PATTERN)\z'` finds the text up to there; a pattern with $ matches only up to the text's end. */
 static const struct {
     const char *patterns[4], *hay, *ends;
 } rows[] = {
@@ -327,7 +328,7 @@ static const struct {
     { { "q", NULL }, "none", "00000" },
 };
 
-/* Whether a walk over two pieces finds just what the row says. */
+/* Whether a walk over two pieces finds exactly what the row lists. */
 static int finds(lazydfa_cache *cache, const uint8_t *hay, const char *ends, size_t length, size_t cut) {
     size_t at = 0, next = 0;
     lazydfa_stop stop;
@@ -370,7 +371,7 @@ static uint32_t below(uint32_t limit) {
     return (seed >> 8) % limit;
 }
 
-/* What a walk has found: the end of each match, with its pattern. */
+/* What a walk has reported: the end of each match, with its pattern. */
 static lazydfa_half found[MOST], wanted[MOST];
 static size_t count;
 
@@ -382,7 +383,7 @@ static void take(lazydfa_cache *walk, lazydfa_stop stop, size_t start) {
     }
 }
 
-/* Whether the walk has found all ends of the whole, and whether their patterns are the set of the whole. */
+/* Checks that the walk reported all ends in the whole text, and that their patterns are the set of the whole text. */
 static void compare(lazydfa_cache *whole, const uint8_t *hay, size_t length, lazydfa_input in) {
     uint32_t patterns[8];
     size_t many = 0, i, j;
@@ -401,7 +402,7 @@ static void compare(lazydfa_cache *whole, const uint8_t *hay, size_t length, laz
     }
 }
 
-/* One text, cut at random. */
+/* Walks over a text that is cut at random. */
 static void cut(lazydfa_cache *walk, lazydfa_cache *whole, const char *letters) {
     uint8_t hay[300];
     size_t i, length = 1 + below(sizeof hay - 1), at;

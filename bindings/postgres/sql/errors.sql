@@ -1,4 +1,4 @@
--- What is not a pattern, and what cannot be searched.
+-- Texts that are not patterns, and values that cannot be searched.
 \set VERBOSITY default
 SELECT 'a' =~ 'é(b';
 SELECT 'a' =~ 'a{2,1}';
@@ -12,7 +12,7 @@ SELECT 'a' =~ '(?-u:\xff)';
 SELECT lazydfa_which('a', array['a', NULL]);
 SELECT 'after errors' =~ 'err' AS yes;
 
--- Too long: a text, the texts of an array together, and the number of its elements
+-- Too long: a text, all texts of an array together, and the number of its elements
 SELECT 'a' =~ repeat('a', 65537);
 SELECT 'a' =~| array[repeat('a', 40000), repeat('a', 40000)];
 SELECT lazydfa_which('a', array_fill(''::text, array[65537]));
@@ -30,7 +30,7 @@ SELECT 'a' =~| array_agg('\w{9}' || n) FROM generate_series(1, 1000) n;
 SELECT 'a' =~ (repeat('(', 250) || 'a' || repeat(')', 250)) AS yes;
 SELECT 'a' =~ repeat('(', 60000);
 
--- A word boundary of Unicode is one of ASCII in text that is ASCII
+-- In ASCII text a Unicode word boundary is an ASCII word boundary
 SELECT 'an ERROR, ä' =~ '\bERROR\b' AS yes;
 SELECT 'ä ERROR' =~ '\bERROR\b';
 SET lazydfa.piece_size = 3;
@@ -38,7 +38,7 @@ SELECT 'ERROR ä' =~ '\bERRORS';
 SELECT lazydfa_count('ab äb', '\bb');
 RESET lazydfa.piece_size;
 
--- Each has its code
+-- Each error has its SQLSTATE
 \set VERBOSITY sqlstate
 SELECT 'a' =~ '(';
 SELECT 'a' =~ repeat('a', 100000);

@@ -1,4 +1,4 @@
--- How many rows the planner expects. It searches values of the statistics, and no query fails for one of them.
+-- How many rows the planner expects. It searches values of the statistics, and no query fails because of one of them.
 CREATE FUNCTION rows_of(query text) RETURNS int LANGUAGE plpgsql AS $$
 DECLARE
     plan json;
@@ -14,7 +14,7 @@ INSERT INTO log SELECT n, kind, line, convert_to(line, 'UTF8') FROM generate_ser
 -- Without statistics few rows match, and most do not
 SELECT rows_of('SELECT * FROM log WHERE line !=~ ''q''') > 50 * rows_of('SELECT * FROM log WHERE line =~ ''q''') AS most;
 
--- By statistics those that have a match, of which some are not searched by the query, and could not be
+-- With statistics it expects the rows that have a match; the query does not search some of them, and could not
 SELECT count(*) AS all_500 FROM log WHERE kind = 'ascii' AND line =~ '\bERROR\b';
 ANALYZE log;
 SELECT count(*) AS all_500 FROM log WHERE kind = 'ascii' AND line =~ '\bERROR\b';
@@ -31,21 +31,21 @@ SELECT rows_of('SELECT * FROM log WHERE line =~ ''\bERROR\b''') BETWEEN 400 AND 
     rows_of('SELECT * FROM log WHERE raw !=~* ''\berror\b''') BETWEEN 400 AND 600 AS half,
     rows_of('SELECT * FROM log WHERE line =~ ''[a-z]''') > 950 AS most, rows_of('SELECT * FROM log WHERE line !=~* ''E''') < 50 AS few;
 
--- also by more of them
+-- also with more statistics
 ALTER TABLE log ALTER line SET STATISTICS 1000, ALTER raw SET STATISTICS 1000;
 ANALYZE log;
 SELECT count(*) AS all_500 FROM log WHERE kind = 'ascii' AND line =~ '\bERROR\b' AND raw =~ '\bERROR\b';
 SELECT count(*) AS none FROM log WHERE kind = 'ascii' AND line !=~ '\bERROR\b';
 SELECT rows_of('SELECT * FROM log WHERE line =~ ''\bERROR\b''') AS all_500, rows_of('SELECT * FROM log WHERE line !=~ ''\bERROR\b''') AS all_500;
 
--- A pattern that cannot be compiled is an error of a search, and not of a plan
+-- A pattern that cannot be compiled is an error of a search, not of a plan
 SELECT rows_of('SELECT * FROM log WHERE line =~ ''(''') < 50 AS few, rows_of('SELECT * FROM log WHERE line !=~ ''(''') > 950 AS most,
     rows_of('SELECT * FROM log WHERE line =~ repeat(''a'', 100000)') < 50 AS few,
     rows_of('SELECT * FROM log WHERE line =~| array[''a'', NULL]') < 50 AS few;
 SELECT count(*) AS none FROM log WHERE kind = 'none' AND line =~ '(';
 SELECT count(*) FROM log WHERE line =~ '(';
 
--- Where the patterns are in the column, none is compiled for an estimate
+-- If the patterns are in the column, none is compiled for an estimate
 CREATE TABLE rules AS SELECT CASE WHEN n % 2 = 0 THEN '(' ELSE 'a' END || n AS rule FROM generate_series(1, 100) n;
 ANALYZE rules;
 SELECT compiled AS before FROM lazydfa_stats() \gset
@@ -53,7 +53,7 @@ SELECT rows_of('SELECT * FROM rules WHERE ''a1'' =~ rule') < 10 AS few, rows_of(
 SELECT compiled - :before AS none FROM lazydfa_stats();
 SELECT count(*) AS one FROM rules WHERE rule ~ '^a' AND 'a1' =~ rule;
 
--- An expression of the query is evaluated outside of the estimate, where a pattern that is refused is an error
+-- An expression of the query is evaluated outside of the estimate, where a pattern that cannot be compiled is an error
 CREATE FUNCTION checked(pattern text) RETURNS text STABLE LANGUAGE plpgsql AS $$
 BEGIN
     PERFORM lazydfa_count('', pattern);
@@ -64,7 +64,7 @@ END $$;
 SELECT rows_of($$SELECT * FROM log WHERE line =~ checked('(')$$) < 50 AS few;
 SELECT count(*) AS none FROM log WHERE line =~ checked('(');
 
--- An estimator that is named for an operator of somebody else calls nothing of it
+-- An estimator that is named for a foreign operator does not call its function
 CREATE FUNCTION counts(line text, word text) RETURNS bool LANGUAGE plpgsql AS $$
 BEGIN
     RETURN lazydfa_count(line, '(') > 0;

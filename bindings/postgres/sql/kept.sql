@@ -1,4 +1,4 @@
--- What a backend keeps, and within which bounds. The statistics are those of this backend alone.
+-- What a backend keeps, and within which limits. The statistics are those of this backend alone.
 SET max_parallel_workers_per_gather = 0;
 SELECT count(*) AS all_300 FROM generate_series(1, 300) n WHERE ('x' || n || 'y') =~ ('x' || n || 'y');
 SELECT patterns FROM lazydfa_stats();
@@ -7,7 +7,7 @@ SELECT patterns FROM lazydfa_stats();
 SELECT count(*) AS nine FROM generate_series(1, 300) n WHERE ('x' || n || 'y') =~ ('x' || n % 10 || 'y');
 SELECT patterns FROM lazydfa_stats();
 
--- The one that was used longest ago goes
+-- The least recently used pattern is freed
 SELECT 'a' =~ '1', 'a' =~ '2', 'a' =~ '3', 'a' =~ '4';
 SELECT compiled AS before FROM lazydfa_stats() \gset
 SELECT 'a' =~ '1', 'a' =~ '5';
@@ -17,14 +17,14 @@ SELECT 'a' =~ '2';
 SELECT compiled - :before AS two FROM lazydfa_stats();
 RESET lazydfa.cached_patterns;
 
--- Letters in either case, bytes, lists, and searches for where matches begin are patterns of their own
+-- Case-insensitive patterns, bytes, lists, and searches for starts of matches are kept separately
 SELECT compiled AS before FROM lazydfa_stats() \gset
 SELECT 'A' =~ 'a', 'A' =~* 'a', '\x41'::bytea =~ 'a', '\x41'::bytea =~* 'a', 'A' =~| '{a}', lazydfa_which('A', '{a}');
 SELECT compiled - :before AS five FROM lazydfa_stats();
 SELECT lazydfa_find('A', 'a') IS NULL AS none, lazydfa_count('A', 'a') AS none, 'A' !=~ 'a' AS yes;
 SELECT compiled - :before AS six FROM lazydfa_stats();
 
--- What all patterns hold, and what one holds, stay within their settings
+-- The memory of all patterns, and of each, stays within its setting
 SET lazydfa.cache_size = '1MB';
 SET lazydfa.pattern_cache_size = '256kB';
 CREATE TABLE hashes AS SELECT md5(n::text) AS hash FROM generate_series(1, 3000) n;
@@ -34,7 +34,7 @@ SELECT patterns > 1 AS several, memory + leaps <= held AS less, held + tables <=
 SELECT count(*) AS differ FROM hashes WHERE (hash =~ '[a-f].{12}[0-4]') <> (hash ~ '[a-f].{12}[0-4]');
 SELECT held + tables <= 1024 * 1024 AS within, clears > 0 AS cleared FROM lazydfa_stats();
 
--- and if they hold too much the pattern that was used longest ago goes: here the second of five, of which four have room
+-- and if they hold too much, the least recently used pattern is freed: here the second of five, since four have room
 RESET lazydfa.pattern_cache_size;
 CREATE FUNCTION search(pattern text) RETURNS bigint LANGUAGE sql
     AS $$ SELECT count(*) FROM (SELECT hash FROM hashes LIMIT 100) few WHERE hash =~ pattern $$;
@@ -48,7 +48,7 @@ SELECT count(search('a.{20}(?:b)'));
 SELECT compiled - :before AS one FROM lazydfa_stats();
 RESET lazydfa.cache_size;
 
--- Settings that stay the same, and how long pieces are, have nothing compiled anew
+-- Setting the same values, or the length of pieces, does not compile anything again
 CREATE FUNCTION in_pieces(pattern text) RETURNS bool LANGUAGE plpgsql SET lazydfa.piece_size = 1 SET lazydfa.pattern_cache_size = '4MB'
     SET lazydfa.cached_patterns = 256 AS $$ BEGIN RETURN 'abab' =~ pattern; END $$;
 SELECT 'a' =~ 'kept';
@@ -62,7 +62,7 @@ RESET lazydfa.pattern_cache_size;
 DROP TABLE hashes;
 DROP FUNCTION search, in_pieces;
 
--- The tables of one pattern, its length and its classes, and pieces: for the superuser to set
+-- The limits on a pattern's tables, length and classes, and the length of pieces, are for the superuser to set
 SET lazydfa.pattern_size = 64;
 SELECT 'a' =~ 'a{9000}';
 RESET lazydfa.pattern_size;
@@ -89,7 +89,7 @@ RESET ROLE;
 DROP ROLE regress_lazydfa;
 RESET lazydfa.cache_size;
 
--- Rows of two functions in turn, each with more patterns than are kept
+-- Rows of two functions alternately, each with more patterns than are kept
 SET lazydfa.cached_patterns = 1;
 SELECT lazydfa_matches('a1b2', '[a-z]') AS letter, lazydfa_matches('a1b2', '[0-9]') AS digit;
 SELECT (lazydfa_tokens('ab', '{a,b}')).pattern, lazydfa_matches('cd', '.');

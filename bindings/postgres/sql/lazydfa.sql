@@ -1,4 +1,4 @@
--- What the operators and functions answer.
+-- Results of the operators and functions.
 CREATE EXTENSION lazydfa;
 
 -- Whether there is a match
@@ -11,12 +11,12 @@ SELECT 'ERROR: a timeout' =~ '\bERROR\b.*timeout' AS yes, 'xERROR' =~ '\bERROR' 
 SELECT NULL =~ 'x' AS null, 'x' =~ NULL AS null, 'x' =~| NULL::text[] AS null, NULL =~| '{x}' AS null;
 SELECT 'abc'::varchar =~ 'b' AS yes, 'abc'::char(5) =~ 'c$' AS yes, 'abc'::name =~ '^a' AS yes;
 
--- Bytes, among them some that are no text
+-- Bytes, some of which are not text
 SELECT '\xff0061'::bytea =~ '^(?-u:\xff)\x00a$' AS yes, '\xff'::bytea =~ 'a' AS no, '\x4142'::bytea =~* 'b' AS yes;
 SELECT '\xff'::bytea !=~ '(?-u:[\x80-\xff])' AS no, '\xff'::bytea !=~* 'a' AS yes;
 SELECT '\xff61'::bytea =~| array['b', 'a'] AS yes, '\xff61'::bytea !=~| array['b', 'a'] AS no;
 
--- Where, in characters, and what
+-- Where the first match is, in characters, and its text
 SELECT * FROM lazydfa_find('é12 ab', '[a-z]+');
 SELECT * FROM lazydfa_find('aé', '$');
 SELECT lazydfa_find('é12', '[a-z]+') IS NULL AS none;
@@ -27,7 +27,7 @@ SELECT lazydfa_matches('ab ab ab', 'ab') LIMIT 2;
 SELECT lazydfa_count('foo 12 bär', '\w') AS eight, lazydfa_count('', 'x') AS none, lazydfa_count('xx', 'y*') AS three;
 SELECT lazydfa_replace('a-bb-c', 'b+', '<>'), lazydfa_replace('aé', '', '-'), lazydfa_replace('abc', 'x', '-');
 
--- Which of many
+-- Which of many patterns match
 SELECT lazydfa_which('foo 12', array['\d+', 'x', 'o{2}']), lazydfa_which('', array['a', 'b']), lazydfa_which('a', '{}');
 SELECT lazydfa_which('ab', array['b', 'b', 'a|b', '']);
 SELECT lazydfa_which('x42', array_agg('\D' || n || '$' ORDER BY n)) FROM generate_series(1, 100) n;
@@ -40,7 +40,7 @@ SELECT * FROM lazydfa_tokens('let x1 = 12;', array['let(?-u:\b)', '[a-z][a-z0-9]
 SELECT * FROM lazydfa_tokens('', array['a']);
 SELECT * FROM lazydfa_tokens('ab-', array['[a-z]+']);
 
--- A pattern that differs from call to call of one expression
+-- A pattern that differs between calls of one expression
 SELECT 'b' =~ ANY (array['a', 'b']) AS yes, 'b' =~ ALL (array['a', 'b']) AS no, 'b' !=~ ALL (array['a', 'c']) AS yes;
 SELECT string_agg(pattern, ' ' ORDER BY pattern) AS a_b_z FROM (VALUES ('^b'), ('^a'), ('z$'), ('q')) p(pattern), (VALUES ('a'), ('b'), ('z')) s(it)
     WHERE it =~ pattern;
@@ -87,7 +87,7 @@ SELECT lazydfa_count(line, 'a{10}') AS matches FROM long_lines ORDER BY 1;
 SELECT count(*) AS million FROM long_lines, lazydfa_matches(line, 'c');
 DROP TABLE long_lines;
 
--- An empty match is never inside a character, and a text begins only once, also if it is searched in pieces
+-- An empty match is never inside a character, and a text has one beginning, even if it is searched in pieces
 SELECT 'aéa' =~ '(?-u:\B)' AS no, 'aéa' =~| '{"(?-u:\\B)"}' AS no, 'éa' =~ '(?-u:\B)' AS yes, 'éa' =~| '{"(?-u:\\B)"}' AS yes,
     lazydfa_count('aéa', 'x*') AS four, lazydfa_replace('aéa', 'x*', '-'), lazydfa_find('aé€', '$'),
     lazydfa_which('aéa', '{"(?-u:\\B)",x*,é}'), array(SELECT lazydfa_matches('xaab', 'x|^aab|b'));

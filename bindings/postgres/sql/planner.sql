@@ -1,4 +1,4 @@
--- What the planner makes of the operators.
+-- How the planner uses the operators.
 CREATE TABLE words AS SELECT md5(n::text) AS word FROM generate_series(1, 20000) n;
 INSERT INTO words SELECT 'abcé' || n FROM generate_series(1, 300) n;
 INSERT INTO words VALUES ('ab'), ('abc'), ('abd'), ('abcz'), ('ac'), ('é'), ('éa'), ('ê'), ('');
@@ -7,7 +7,7 @@ ANALYZE words;
 -- A filter that costs less goes first
 EXPLAIN (COSTS off) SELECT * FROM words WHERE word =~ 'a+' AND length(word) > 3;
 
--- An index in the order of bytes is read from the pattern's prefix on
+-- An index ordered by bytes is scanned from the pattern's prefix on
 CREATE INDEX words_by_bytes ON words (word text_pattern_ops);
 SET enable_seqscan = off;
 SET enable_bitmapscan = off;
@@ -30,7 +30,7 @@ CREATE INDEX ON by_collation (word);
 EXPLAIN (COSTS off) SELECT * FROM by_collation WHERE word =~ '^abc';
 DROP TABLE by_collation;
 
--- and finds what a scan finds
+-- and returns what a sequential scan returns
 CREATE TABLE patterns(pattern text, posix text);
 INSERT INTO patterns SELECT pattern, pattern FROM unnest(array['^abc', '^abcé', '^abcé[0-9]', '^abcd*', '^abcé?', '^é', '^é+', '^é*a',
     '^abc{0}', '^ab+c', '^', '^a', '^abc$', '^ab(?:c|d)', '^0', '^ab\w', '^(?:abc)', '^abc.', '^abc z?', '^(abc|ab)$', '^abd?$']) pattern;

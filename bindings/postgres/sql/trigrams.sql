@@ -21,7 +21,7 @@ CREATE TABLE patterns(pattern text);
 INSERT INTO patterns VALUES ('timeout'), ('timeout of.*disk [0-9]'), ('^a timeout'), ('^a timeout of disk 7$'), ('50% of disk_1'),
     ('C:\\disk'), ('na(ï)ve.*timeout'), ('(?i)timeout'), ('t(imeou)?t of'), ('timeout|disk'), ('time(out)* of'), ('time'), ('ti'), ('(?:timeout){2}|');
 
--- By GIN
+-- With GIN
 CREATE INDEX lines_by_trigrams ON lines USING gin (line gin_trgm_ops);
 SELECT by_index('timeout.*disk');
 SELECT by_index('^a timeout');
@@ -37,13 +37,13 @@ EXPLAIN (COSTS off) SELECT * FROM lines WHERE lazydfa_match(line, 'timeout');
 CREATE TABLE by_gin AS SELECT pattern, found(pattern) FROM patterns;
 DROP INDEX lines_by_trigrams;
 
--- By GiST
+-- With GiST
 CREATE INDEX lines_by_trigrams ON lines USING gist (line gist_trgm_ops);
 SELECT by_index('timeout.*disk');
 CREATE TABLE by_gist AS SELECT pattern, found(pattern) FROM patterns;
 DROP INDEX lines_by_trigrams;
 
--- They find what a scan finds
+-- They return what a sequential scan returns
 RESET enable_seqscan;
 RESET enable_indexscan;
 SELECT pattern, by_gin.found AS by_gin, by_gist.found AS by_gist, found(pattern) AS by_scan

@@ -1,11 +1,11 @@
-//! The lines of files that match one of some patterns, as `grep -E` prints them, with a thread for each file:
+//! Prints the lines of files that match any of some patterns, as `grep -E` does, with a thread for each file:
 //!
 //!     grep [-c] [-i] [-n] [--which] PATTERN FILE..
 //!     grep [-c] [-i] [-n] [--which] -e PATTERN [-e PATTERN].. FILE..
 //!
-//! `-c` counts the lines, `-i` ignores case, and `-n` prints the numbers of lines. `--which` counts, in one pass
-//! over a file, the lines that match each of the patterns. The status is 0 if a line matches, 1 if none does,
-//! and 2 if there is an error.
+//! `-c` counts the lines, `-i` ignores case, and `-n` prints line numbers. `--which` counts, in one pass over
+//! a file, the lines that match each of the patterns. The status is 0 if a line matches, 1 if none does, and
+//! 2 after an error.
 use lazydfa::hybrid::dfa::{self, DFA};
 use lazydfa::hybrid::regex::Regex;
 use lazydfa::util::syntax;
@@ -15,7 +15,7 @@ use std::io::{self, Write};
 use std::process::ExitCode;
 use std::{fs, thread};
 
-/// What the arguments ask for.
+/// What the arguments request.
 #[derive(Default)]
 struct Options {
     count: bool,
@@ -27,7 +27,7 @@ struct Options {
 }
 
 impl Options {
-    /// Reads the arguments. The first one that is no option is a pattern, if `-e` gives none.
+    /// Reads the arguments. The first one that is not an option is a pattern, if `-e` gives none.
     fn read(mut words: impl Iterator<Item = String>) -> Result<Options, String> {
         let mut options = Options::default();
         while let Some(word) = words.next() {
@@ -50,13 +50,13 @@ impl Options {
         Ok(options)
     }
 
-    /// How patterns are read. Lines may be any bytes.
+    /// Returns the options for parsing patterns. Lines may be any bytes.
     fn syntax(&self) -> syntax::Config {
         syntax::Config::new().case_insensitive(self.ignore_case).utf8(false)
     }
 }
 
-/// What is looked for. All threads share it.
+/// What the files are searched with. All threads share it.
 enum Matcher {
     Any(Regex),
     Which(DFA),
@@ -73,14 +73,14 @@ impl Matcher {
     }
 }
 
-/// What is printed of a file, and whether a line of it matches.
+/// What is printed for a file, and whether a line of it matches.
 #[derive(Default)]
 struct Report {
     text: Vec<u8>,
     matched: bool,
 }
 
-/// The lines of a text, without the line feeds at their ends.
+/// Returns the lines of a text, without the line feeds at their ends.
 fn lines(text: &[u8]) -> impl Iterator<Item = &[u8]> {
     text.split_inclusive(|byte| *byte == b'\n').map(|line| line.strip_suffix(b"\n").unwrap_or(line))
 }
@@ -137,7 +137,7 @@ fn search(matcher: &Matcher, options: &Options, file: &str) -> Result<Report, St
     report.map_err(|error| format!("{file}: {error}"))
 }
 
-/// Searches all files at once, and prints what is found in their order.
+/// Searches all files at once, and prints what is found in the order of the files.
 fn run() -> Result<ExitCode, Box<dyn Error>> {
     let options = Options::read(std::env::args().skip(1))?;
     let matcher = Matcher::new(&options)?;

@@ -1,13 +1,13 @@
-//! The tokens of a small language: `lexer FILE` prints a line for each, with its kind and its text.
+//! Prints the tokens of a small language: `lexer FILE` prints a line for each, with its kind and its text.
 //!
-//! Where there is no token it prints the line of the text, and a caret below the character.
+//! Where no token begins, it prints the line of the text, and a caret below the character.
 use lazydfa::hybrid::regex::{Cache, Regex};
 use lazydfa::{BuildError, MatchErrorKind};
 use std::error::Error;
 use std::process::ExitCode;
 
-/// The kinds of tokens and their patterns. Where several match, the first is preferred, however far it goes: so a
-/// keyword stands before the names and ends at a word boundary, and `<=` stands before `<`.
+/// The kinds of tokens and their patterns. If several match, the first is preferred, however long its match
+/// is: so keywords come before names and end at a word boundary, and `<=` comes before `<`.
 const KINDS: [(&str, &str); 7] = [
     ("blank", r"[ \t\r\n]+|//[^\n]*"),
     ("keyword", r"(?:fn|let|if|else|while|return)(?-u:\b)"),
@@ -18,7 +18,7 @@ const KINDS: [(&str, &str); 7] = [
     ("mark", r"[(){},;]"),
 ];
 
-/// A lexer owns its regex and the cache for it.
+/// A lexer, which owns its regex and a cache of it.
 struct Lexer {
     regex: Regex,
     cache: Cache,
@@ -30,7 +30,8 @@ impl Lexer {
         Ok(Lexer { cache: regex.create_cache(), regex })
     }
 
-    /// The kind and the text of each token that is not blank, or the offset where there is none.
+    /// Returns the kind and the text of each token that is not blank, or an error with the place where no
+    /// token begins.
     fn tokens<'t>(&mut self, text: &'t str) -> Result<Vec<(&'static str, &'t str)>, Box<dyn Error>> {
         let mut tokens = Vec::new();
         for token in self.regex.tokens(&mut self.cache, text) {
@@ -47,7 +48,7 @@ impl Lexer {
     }
 }
 
-/// The line of an offset, and a caret below its character.
+/// Returns the line of an offset, and a caret below its character.
 fn at(text: &str, offset: usize) -> String {
     let start = text[..offset].rfind('\n').map_or(0, |end| end + 1);
     let line = text[start..].lines().next().unwrap_or_default();

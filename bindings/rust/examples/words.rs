@@ -1,4 +1,4 @@
-//! The words of a text, by an NFA that is built state by state: `words TEXT..`.
+//! Prints the words of a text, found with an NFA that is built state by state: `words TEXT..`.
 use lazydfa::hybrid::regex::Regex;
 use lazydfa::nfa::thompson::{Builder, Transition};
 use lazydfa::util::primitives::StateID;

@@ -1,4 +1,4 @@
-//! The library's objects behind a regex, its DFAs and its caches.
+//! The library's objects that regexes, DFAs and caches own.
 use crate::error::{BuildError, MatchError};
 use crate::handle::Handle;
 use crate::hybrid::dfa;
@@ -10,14 +10,14 @@ use crate::{Anchored, HalfMatch, Input, Match, PatternID, PatternSet};
 use std::fmt;
 use std::sync::{Arc, Mutex, MutexGuard, PoisonError};
 
-/// The two lazy DFAs of a regex. The lock is for calls with its handle, which create caches.
+/// The two lazy DFAs of a regex. The lock serializes the calls that use its handle, which create caches.
 pub struct Engine {
     regex: Mutex<Handle>,
     pattern_len: usize,
 }
 
 impl Engine {
-    /// The DFAs of the texts of patterns.
+    /// Builds the DFAs from the texts of patterns.
     pub fn of_texts<P: AsRef<str>>(
         patterns: &[P],
         syntax: &syntax::Config,
@@ -45,14 +45,14 @@ impl Engine {
         Ok(Engine::new(regex, patterns.len()))
     }
 
-    /// The DFAs of one NFA, the second by reversing it.
+    /// Builds the DFAs from one NFA: the second from the reversed NFA.
     pub fn of_nfa(nfa: &NFA, config: &dfa::Config) -> Result<Arc<Engine>, BuildError> {
         let mut regex = Handle::closed();
         nfa.open(&mut regex, &config.settings, &config.quits)?;
         Ok(Engine::new(regex, nfa.pattern_len()))
     }
 
-    /// The DFAs of two NFAs, of which the second reads backward.
+    /// Builds the DFAs from two NFAs, the second of which reads backward.
     pub fn of_nfas(forward: &NFA, reverse: &NFA, config: &dfa::Config) -> Result<Arc<Engine>, BuildError> {
         let mut regex = Handle::closed();
         forward.open_pair(reverse, &mut regex, &config.settings, &config.quits)?;
@@ -63,17 +63,17 @@ impl Engine {
         Arc::new(Engine { regex: Mutex::new(regex), pattern_len })
     }
 
-    /// How many patterns there are.
+    /// Returns the number of patterns.
     pub fn pattern_len(&self) -> usize {
         self.pattern_len
     }
 
-    /// The handle of the regex. No call panics while it has the lock, so a poisoned one is as good.
+    /// Locks the handle of the regex. No call panics while it holds the lock, so a poisoned lock can be used.
     fn lock(&self) -> MutexGuard<'_, Handle> {
         self.regex.lock().unwrap_or_else(PoisonError::into_inner)
     }
 
-    /// A fresh cache for searches with these DFAs.
+    /// Creates a fresh cache for searches with these DFAs.
     pub fn create_cache(self: &Arc<Engine>) -> Result<Cache, BuildError> {
         let mut cache = Handle::closed();
         raw::lazydfa_raw_cache_new(&mut cache, &mut self.lock()).built()?;
@@ -83,9 +83,9 @@ impl Engine {
 
 /// A cache of a regex: the states of its two DFAs that searches have built so far.
 ///
-/// It belongs to the regex that created it and to the clones of that one; a search of another regex with it
-/// panics. A program gives it to each search, so that a struct may own a regex and its cache, and it may go to
-/// another thread. Each thread that searches has a cache of its own.
+/// It belongs to the regex that created it and to that regex's clones; a search by another regex with it
+/// panics. It is passed to each search, so a struct may own both a regex and its cache, and it may be sent to
+/// another thread. Each thread that searches needs its own cache.
 ///
 /// ```
 /// use lazydfa::hybrid::regex::{Cache, Regex};
@@ -107,49 +107,51 @@ pub struct Cache {
 }
 
 impl Cache {
-    /// A fresh cache for searches with this regex, as [`Regex::create_cache`] makes one.
+    /// Creates a fresh cache for searches with this regex, as [`Regex::create_cache`] does.
     ///
     /// # Panics
     ///
-    /// If memory is out.
+    /// If an allocation fails.
     pub fn new(regex: &Regex) -> Cache {
         regex.create_cache()
     }
 
-    /// Makes it a fresh cache of this regex, as [`Regex::reset_cache`] does.
+    /// Resets the cache to a fresh one of this regex, as [`Regex::reset_cache`] does.
     ///
     /// # Panics
     ///
-    /// If memory is out.
+    /// If an allocation fails.
     pub fn reset(&mut self, regex: &Regex) {
         regex.reset_cache(self);
     }
 
-    /// How many bytes the cache accounts for, in its two parts together. The capacity bounds them.
+    /// Returns how many bytes both parts of the cache account for together. The capacity bounds them.
     pub fn memory_usage(&self) -> usize {
         self.usage().memory
     }
 
-    /// How many bytes leaps take, the tables by which a search over a long text reads a few bytes at a step. They are
-    /// made where there is room beside the accounted bytes: both together are within the capacities of the two parts.
+    /// Returns how many bytes leaps take: tables with which a search over a long text reads a few bytes per
+    /// step. They are built if there is room beside the accounted bytes: both together are within the
+    /// capacities of the two parts.
     pub fn leap_usage(&self) -> usize {
         self.usage().leaps
     }
 
-    /// How many bytes the cache takes of the allocator, with its leaps. An allocation of n bytes counts as n + 8,
-    /// rounded up to a multiple of 16, and as 32 at least, as `malloc` of glibc takes.
+    /// Returns how many bytes the cache holds from the allocator, including its leaps. An allocation of n
+    /// bytes counts as n + 8, rounded up to a multiple of 16, and at least as 32, which is what glibc's
+    /// `malloc` takes.
     pub fn heap_usage(&self) -> usize {
         self.usage().held
     }
 
-    /// How often the two parts of the cache were cleared: that of the DFA which searches forward, and that of
-    /// the DFA which searches backward.
+    /// Returns how often the two parts of the cache were cleared: the part of the DFA that searches forward,
+    /// and the part of the DFA that searches backward.
     pub fn clear_counts(&self) -> (usize, usize) {
         let usage = self.usage();
         (usage.forward_clears, usage.reverse_clears)
     }
 
-    /// What the library says of the cache.
+    /// Returns what the library reports about the cache.
     fn usage(&self) -> raw::Usage {
         let mut usage = raw::Usage::default();
         let mut handle = self.handle.lock().unwrap_or_else(PoisonError::into_inner);
@@ -157,22 +159,24 @@ impl Cache {
         usage
     }
 
-    /// Makes it a fresh cache of the same regex. If memory is out it fails, and stays as it is.
+    /// Resets the cache to a fresh one of the same regex. If an allocation fails, it returns an error, and
+    /// the cache is unchanged.
     pub fn try_reset(&mut self) -> Result<(), BuildError> {
         raw::lazydfa_raw_cache_reset(self.handle()).built()
     }
 
-    /// Whether the cache is one of these DFAs.
+    /// Whether the cache belongs to these DFAs.
     pub(crate) fn is_of(&self, engine: &Arc<Engine>) -> bool {
         Arc::ptr_eq(&self.engine, engine)
     }
 
-    /// Panics unless the cache is one of these DFAs: with those of another regex it would report their matches.
+    /// Panics unless the cache belongs to these DFAs: with another regex's cache, the matches of that regex
+    /// would be reported.
     pub(crate) fn check(&self, engine: &Arc<Engine>) {
         assert!(self.is_of(engine), "the cache is of another regex: create one by this regex");
     }
 
-    /// The handle. A search has the cache for itself, so it takes no lock.
+    /// Returns the handle. A search has exclusive use of the cache, so it takes no lock.
     fn handle(&mut self) -> &mut Handle {
         self.handle.get_mut().unwrap_or_else(PoisonError::into_inner)
     }
@@ -183,19 +187,19 @@ impl Cache {
         status.found(input.get_anchored())
     }
 
-    /// The first match.
+    /// Searches for the first match.
     pub(crate) fn find(&mut self, input: &Input<'_>) -> Result<Option<Match>, MatchError> {
         let mut found = raw::Match::default();
         let status = raw::find(self.handle(), input.haystack(), &input.raw(), &mut found);
         Ok(status.found(input.get_anchored())?.then(|| found.into()))
     }
 
-    /// The end of the first match.
+    /// Searches for the end of the first match.
     pub(crate) fn find_end(&mut self, input: &Input<'_>) -> Result<Option<HalfMatch>, MatchError> {
         self.half(input, raw::find_end)
     }
 
-    /// The start of a match that ends where the span does.
+    /// Searches for the start of a match that ends where the span ends.
     pub(crate) fn find_start(&mut self, input: &Input<'_>) -> Result<Option<HalfMatch>, MatchError> {
         self.half(input, raw::find_start)
     }
@@ -211,7 +215,7 @@ impl Cache {
         Ok(status.found(input.get_anchored())?.then(|| found.into()))
     }
 
-    /// Appends the ends of all overlapping matches, before an error those that were found.
+    /// Appends the ends of all overlapping matches; after an error, those found before it.
     pub(crate) fn all_ends(
         &mut self,
         input: &Input<'_>,
@@ -220,8 +224,8 @@ impl Cache {
         self.all(input, ends, raw::all_ends)
     }
 
-    /// Appends the starts of all overlapping matches that end where the span does, before an error those that
-    /// were found.
+    /// Appends the starts of all overlapping matches that end where the span ends; after an error, those
+    /// found before it.
     pub(crate) fn all_starts(
         &mut self,
         input: &Input<'_>,
@@ -230,8 +234,8 @@ impl Cache {
         self.all(input, starts, raw::all_starts)
     }
 
-    /// Runs a search of the library that writes all overlapping matches: once more, with room for as many as it
-    /// counted, until there is room for all.
+    /// Runs a search of the library that writes all overlapping matches, and repeats it with room for as many
+    /// as it counted, until there is room for all.
     fn all(
         &mut self,
         input: &Input<'_>,
@@ -250,8 +254,8 @@ impl Cache {
         }
     }
 
-    /// Inserts the patterns that match, before an error those that were found. Patterns past the set's capacity
-    /// are left out.
+    /// Inserts the patterns that match; after an error, those found before it. Patterns that are not below
+    /// the set's capacity are left out.
     pub(crate) fn which(&mut self, input: &Input<'_>, set: &mut PatternSet) -> Result<(), MatchError> {
         let mut patterns = vec![0; set.capacity()];
         let mut count = 0;
@@ -262,8 +266,8 @@ impl Cache {
         status.found(input.get_anchored()).map(|_| ())
     }
 
-    /// Writes the next matches of an iteration, as many as there is room for, and returns how many these are,
-    /// and what comes after them: more, nothing, or an error.
+    /// Writes the next matches of an iteration, as many as there is room for. Returns how many there are, and
+    /// what comes after them: more, nothing, or an error.
     pub(crate) fn next_all(
         &mut self,
         haystack: &[u8],
@@ -276,7 +280,7 @@ impl Cache {
         (count, status.found(mode))
     }
 
-    /// The token at the start of what is left, which then starts where the token ends.
+    /// Returns the token at the start of the remaining span, which then starts where the token ends.
     pub(crate) fn token(
         &mut self,
         haystack: &[u8],
@@ -287,7 +291,7 @@ impl Cache {
         Ok(status.found(Anchored::Yes)?.then(|| found.into()))
     }
 
-    /// Begins a search in pieces, in place of the one that was begun before.
+    /// Begins a search in pieces, which replaces the previous one.
     pub(crate) fn begin_pieces(&mut self, config: &start::Config, earliest: bool) -> Result<(), MatchError> {
         let mode = config.get_anchored();
         let ((anchored, pattern), behind) = (mode.raw(), raw::beside(config.get_look_behind()));
@@ -295,7 +299,7 @@ impl Cache {
         begin(self.handle(), anchored, pattern, behind, earliest.into()).found(mode).map(|_| ())
     }
 
-    /// Reads the next piece of the search that was begun, and writes whether its answer stands.
+    /// Reads the next piece of the search that was begun, and writes whether its result is final.
     pub(crate) fn read_piece(&mut self, piece: &[u8], is_done: &mut bool) -> Result<(), MatchError> {
         let mut done = 0;
         let status = raw::pieces_read(self.handle(), piece, &mut done);
@@ -303,34 +307,36 @@ impl Cache {
         status.found(Anchored::No).map(|_| ())
     }
 
-    /// The end of the match in the pieces so far, if this byte follows them or none.
+    /// Returns the end of the match in the pieces so far, where `look_ahead` is the byte that follows them,
+    /// if any.
     pub(crate) fn end_pieces(&mut self, look_ahead: Option<u8>) -> Result<Option<HalfMatch>, MatchError> {
         let mut found = Half::default();
         let status = raw::lazydfa_raw_pieces_end(self.handle(), raw::beside(look_ahead), &mut found);
         Ok(status.found(Anchored::No)?.then(|| found.into()))
     }
 
-    /// Begins a walk, in place of the one that was begun before.
+    /// Begins a walk, which replaces the previous one.
     pub(crate) fn begin_walk(&mut self, config: &start::Config) -> Result<(), MatchError> {
         let mode = config.get_anchored();
         let ((anchored, pattern), behind) = (mode.raw(), raw::beside(config.get_look_behind()));
         raw::lazydfa_raw_walk_begin(self.handle(), anchored, pattern, behind).found(mode).map(|_| ())
     }
 
-    /// Reads a piece up to the next offset where patterns match, and returns where the walk stands.
+    /// Reads a piece up to the next offset where patterns match, and returns the walk's position.
     pub(crate) fn read_walk(&mut self, piece: &[u8]) -> Result<Stop, MatchError> {
         let mut stop = Stop::default();
         raw::walk_read(self.handle(), piece, &mut stop).found(Anchored::No).map(|_| stop)
     }
 
-    /// The end of the pieces so far, as where the walk stands, if this byte follows them or none.
+    /// Returns the walk's position at the end of the pieces so far, where `look_ahead` is the byte that
+    /// follows them, if any.
     pub(crate) fn end_walk(&mut self, look_ahead: Option<u8>) -> Result<Stop, MatchError> {
         let mut stop = Stop::default();
         let status = raw::lazydfa_raw_walk_end(self.handle(), raw::beside(look_ahead), &mut stop);
         status.found(Anchored::No).map(|_| stop)
     }
 
-    /// One of the matches where the walk stands, which the last call said.
+    /// Returns one of the matches at the walk's position, which the last call returned.
     pub(crate) fn walk_match(&mut self, stop: &Stop, index: usize) -> HalfMatch {
         let mut pattern = 0;
         let status = raw::lazydfa_raw_walk_pattern(self.handle(), index, &mut pattern);

@@ -1,13 +1,13 @@
-//! Why a regex cannot be built, and why a search fails.
+//! Errors of building and of searching.
 use crate::raw::Status;
 use crate::{Anchored, PatternID};
 use std::fmt;
 use std::ops::Range;
 
-/// Why an NFA, a DFA or a regex cannot be built.
+/// An error from building an NFA, a DFA or a regex.
 ///
-/// For the text of a pattern it prints what is wrong, the pattern, and a caret below the part that this is
-/// about:
+/// For the text of a pattern, its message says what is wrong, and shows the pattern with carets below the
+/// part that this is about:
 ///
 /// ```
 /// use lazydfa::hybrid::regex::Regex;
@@ -22,7 +22,7 @@ pub struct BuildError {
     text: Option<Box<TextError>>,
 }
 
-/// What a text adds to an error.
+/// What an error about a pattern's text contains in addition.
 #[derive(Clone, Debug, PartialEq, Eq)]
 struct TextError {
     pattern: PatternID,
@@ -36,11 +36,11 @@ struct TextError {
 pub enum BuildErrorKind {
     /// An allocation failed.
     OutOfMemory,
-    /// The text of a pattern is no pattern.
+    /// The text is not a valid pattern.
     Syntax,
-    /// The text of a pattern was read, and could not be compiled.
+    /// The text of a pattern was parsed, but could not be compiled.
     NotCompiled,
-    /// There are too many states, patterns, groups or alternates, or the patterns pass the size limit.
+    /// There are too many states, patterns, groups or alternates, or the patterns exceed the size limit.
     TooLarge,
     /// There is a Unicode word boundary, and
     /// [`unicode_word_boundary`](crate::hybrid::dfa::Config::unicode_word_boundary) does not enable it.
@@ -50,12 +50,12 @@ pub enum BuildErrorKind {
         /// The minimum for both DFAs, in bytes.
         minimum: usize,
     },
-    /// The smallest table has more offsets than the ID of a state can hold.
+    /// The smallest table needs larger offsets than a state ID can hold.
     InsufficientStateIDCapacity {
         /// The ID that is too large.
         attempted: usize,
     },
-    /// A number is no state or no group, or one NFA was given twice.
+    /// A number is not a valid state or group, or one NFA was given twice.
     Argument,
     /// No pattern was started, or the last one was finished.
     NoPattern,
@@ -77,30 +77,32 @@ pub enum BuildErrorKind {
     NotLazy,
     /// In UTF-8 mode a match may be invalid UTF-8.
     NotUtf8,
-    /// The starts differ in the empty match, so that the NFA cannot be reversed.
+    /// Only some of the starts match the empty string, so that the NFA cannot be reversed.
     Starts,
-    /// The two NFAs of a pair do not have equally many patterns.
+    /// The two NFAs of a pair differ in their numbers of patterns.
     PatternCounts,
 }
 
 impl BuildError {
-    /// What kind of error it is.
+    /// Returns the kind of the error.
     pub fn kind(&self) -> BuildErrorKind {
         self.kind
     }
 
-    /// The pattern whose text is wrong, by its place in the list. An error that is not of a text has none.
+    /// Returns the pattern whose text has the error, by its index in the list, or `None` if the error is not
+    /// about a text.
     pub fn pattern(&self) -> Option<PatternID> {
         self.text.as_ref().map(|text| text.pattern)
     }
 
-    /// The bytes of the pattern's text that the error is about. It is `None` if it is about no part of a text.
+    /// Returns the span of the pattern's text that the error is about, in bytes, or `None` if it is about no
+    /// part of a text.
     pub fn span(&self) -> Option<Range<usize>> {
         let span = self.text.as_ref()?.span.clone();
         (!span.is_empty()).then_some(span)
     }
 
-    /// The same error, with what the library says of the text that is wrong. The message ends at a zero.
+    /// Returns the same error, with what the library reports about the text. The message ends at a zero.
     pub(crate) fn of_text(self, pattern: usize, span: Range<usize>, message: &[u8]) -> BuildError {
         let message = message.split(|byte| *byte == 0).next().unwrap_or_default();
         let message = String::from_utf8_lossy(message).into_owned();
@@ -132,7 +134,7 @@ impl fmt::Display for BuildErrorKind {
     fn fmt(&self, f: &mut fmt::Formatter<'_>) -> fmt::Result {
         let text = match *self {
             BuildErrorKind::OutOfMemory => "out of memory",
-            BuildErrorKind::Syntax => "the text is no pattern",
+            BuildErrorKind::Syntax => "the text is not a valid pattern",
             BuildErrorKind::NotCompiled => "the pattern was not compiled",
             BuildErrorKind::TooLarge => "too many states, patterns, groups or alternates",
             BuildErrorKind::Unsupported => "Unicode word boundaries are not enabled",
@@ -153,14 +155,14 @@ impl fmt::Display for BuildErrorKind {
             BuildErrorKind::Ranges => "ranges of bytes are not in order",
             BuildErrorKind::NotLazy => "the unanchored start does not skip lazily",
             BuildErrorKind::NotUtf8 => "a match may be invalid UTF-8",
-            BuildErrorKind::Starts => "the starts differ in the empty match",
-            BuildErrorKind::PatternCounts => "the two NFAs do not have equally many patterns",
+            BuildErrorKind::Starts => "only some of the starts match the empty string",
+            BuildErrorKind::PatternCounts => "the two NFAs have different numbers of patterns",
         };
         f.write_str(text)
     }
 }
 
-/// Why a search fails.
+/// An error from a search.
 #[derive(Clone, Copy, Debug, PartialEq, Eq)]
 pub struct MatchError(MatchErrorKind);
 
@@ -168,7 +170,7 @@ pub struct MatchError(MatchErrorKind);
 #[derive(Clone, Copy, Debug, PartialEq, Eq)]
 #[non_exhaustive]
 pub enum MatchErrorKind {
-    /// The search met a quit byte.
+    /// The search read a quit byte.
     Quit {
         /// The quit byte.
         byte: u8,
@@ -187,41 +189,41 @@ pub enum MatchErrorKind {
     },
     /// The second NFA of a pair finds no start for a match of the first.
     NotAPair,
-    /// No pattern matches here, or only the empty string does, so that there is no token.
+    /// No pattern matches at the offset, or only with the empty string, so there is no token.
     NoToken {
-        /// The offset in the haystack, in bytes, where there is none.
+        /// The offset in the haystack, in bytes, where no token begins.
         offset: usize,
     },
-    /// The haystack was to come in pieces, and the regex matches the empty string, but not inside a character.
-    /// Such a search would have to read again what is gone. With
-    /// [`utf8`](crate::nfa::thompson::Config::utf8) off there is one.
+    /// The haystack was to arrive in pieces, and the regex can match the empty string, but not inside a
+    /// character. Such a search would have to read earlier bytes again, which are gone. It is possible with
+    /// [`utf8`](crate::nfa::thompson::Config::utf8) turned off.
     Skips,
     /// An allocation failed.
     OutOfMemory,
 }
 
 impl MatchError {
-    /// The error of this kind.
+    /// Creates an error of this kind.
     pub fn new(kind: MatchErrorKind) -> MatchError {
         MatchError(kind)
     }
 
-    /// The error of a search that met a quit byte at this offset.
+    /// Creates the error of a search that read this quit byte at this offset.
     pub fn quit(byte: u8, offset: usize) -> MatchError {
         MatchError(MatchErrorKind::Quit { byte, offset })
     }
 
-    /// The error of a search that gave up at this offset.
+    /// Creates the error of a search that gave up at this offset.
     pub fn gave_up(offset: usize) -> MatchError {
         MatchError(MatchErrorKind::GaveUp { offset })
     }
 
-    /// The error of a search whose anchored mode is not supported.
+    /// Creates the error of a search whose anchored mode is not supported.
     pub fn unsupported_anchored(mode: Anchored) -> MatchError {
         MatchError(MatchErrorKind::UnsupportedAnchored { mode })
     }
 
-    /// What kind of error it is.
+    /// Returns the kind of the error.
     pub fn kind(&self) -> &MatchErrorKind {
         &self.0
     }
@@ -246,7 +248,7 @@ impl fmt::Display for MatchError {
             MatchErrorKind::NotAPair => f.write_str("the reverse NFA finds no start"),
             MatchErrorKind::NoToken { offset } => write!(f, "no token at offset {offset}"),
             MatchErrorKind::Skips => {
-                f.write_str("a regex that skips empty matches inside characters is not searched in pieces")
+                f.write_str("a regex that skips empty matches inside characters cannot be searched in pieces")
             }
             MatchErrorKind::OutOfMemory => f.write_str("out of memory"),
         }
@@ -256,7 +258,7 @@ impl fmt::Display for MatchError {
 impl std::error::Error for MatchError {}
 
 impl Status {
-    /// The error of a call that builds something, if it failed.
+    /// Returns the error of a call that builds something, if it failed.
     pub fn built(self) -> Result<(), BuildError> {
         let kind = match self.code {
             0 => return Ok(()),
@@ -285,7 +287,7 @@ impl Status {
         Err(kind.into())
     }
 
-    /// Whether a search with this anchored mode found something, or its error, if it failed.
+    /// Returns whether a search with this anchored mode found something, or its error, if it failed.
     pub fn found(self, mode: Anchored) -> Result<bool, MatchError> {
         let offset = self.offset;
         let kind = match self.code {

@@ -1,12 +1,12 @@
-//! An iteration over matches, whoever holds the cache.
+//! An iteration over matches that does not own a cache.
 use crate::{raw, Anchored, Cache, Input, Match, MatchError};
 use std::fmt;
 
-/// How many matches the library is asked for at a time, but for the first.
+/// How many matches are requested from the library at a time, except for the first.
 const ROOM: usize = 32;
 
-/// The matches of an input. It asks for one match first, since many callers want no more, and then for as many
-/// as it has room for.
+/// The matches of an input. The library is asked for one match first, since many callers need only one, and
+/// then for as many as there is room for.
 pub struct Matches<'h> {
     haystack: &'h [u8],
     mode: Anchored,
@@ -15,12 +15,12 @@ pub struct Matches<'h> {
     taken: usize,
     length: usize,
     room: usize,
-    // What comes after the matches of the buffer: more, nothing, or an error.
+    // What comes after the matches in the buffer: more, nothing, or an error.
     after: Result<bool, MatchError>,
 }
 
 impl<'h> Matches<'h> {
-    /// The matches of an input.
+    /// Returns an iteration over the matches of an input.
     pub fn new(input: Input<'h>) -> Matches<'h> {
         Matches {
             haystack: input.haystack(),
@@ -34,7 +34,7 @@ impl<'h> Matches<'h> {
         }
     }
 
-    /// The next match, or the error after the last one. Each call is given the same cache.
+    /// Returns the next match, or the error after the last one. Each call must be given the same cache.
     pub fn next(&mut self, cache: &mut Cache) -> Option<Result<Match, MatchError>> {
         if self.taken == self.length && self.after == Ok(true) {
             let room = &mut self.buffer[..self.room];

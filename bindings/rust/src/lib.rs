@@ -1,8 +1,8 @@
 //! A proved lazy DFA, with the names of regex-automata's `hybrid` module.
 //!
-//! Before the library behind this crate is built, each of its functions is proved to be safe, to return, and to
-//! find what its contract says. This crate is a layer over it, which is tested: its types keep what the library
-//! asks of a program, so that misuse does not compile.
+//! Before the library below this crate is built, each of its functions is proved to be safe, to terminate,
+//! and to return what its contract says. This crate is a layer over it, which is tested: its types ensure
+//! what the library requires of a program, so that misuse does not compile.
 //!
 //! ```
 //! use lazydfa::hybrid::regex::Regex;
@@ -17,7 +17,7 @@
 //! - [`hybrid::regex::Regex`] finds matches, and splits a text into tokens;
 //! - [`hybrid::dfa::DFA`] finds one end of a match, and which of many patterns match;
 //! - [`PooledRegex`] is a regex that searches without a cache;
-//! - [`nfa::thompson::Builder`] takes an NFA state by state, from an engine with a parser of its own.
+//! - [`nfa::thompson::Builder`] builds an NFA state by state, for an engine with its own parser.
 #![deny(missing_docs, unsafe_op_in_unsafe_fn, clippy::undocumented_unsafe_blocks)]
 
 mod engine;
@@ -38,7 +38,7 @@ pub use pooled::{PooledMatches, PooledRegex};
 pub use util::primitives::PatternID;
 pub use util::search::{Anchored, HalfMatch, Input, Match, MatchKind, PatternSet, Span};
 
-/// The programs of the document on this crate.
+/// The programs in the documentation of this crate.
 #[cfg(doctest)]
 #[doc = include_str!("../../../docs/RUST.md")]
 struct Document;

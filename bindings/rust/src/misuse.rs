@@ -1,5 +1,5 @@
-//! Programs that must not compile, each by the error that is named. `cargo test` tries them; without the last
-//! lines they compile, as the first one shows.
+//! Programs that must not compile, each because of the error that is named. `cargo test` tries them; without
+//! their last lines they compile, as the first one shows.
 //!
 //! A regex, a cache and an iterator:
 //!
@@ -16,7 +16,7 @@
 //! # Ok::<(), lazydfa::BuildError>(())
 //! ```
 //!
-//! A cache is not used while one of its iterators is.
+//! A cache is not used while one of its iterators is in use.
 //!
 //! ```compile_fail,E0499
 //! # use lazydfa::hybrid::regex::Regex;
@@ -28,7 +28,7 @@
 //! # Ok::<(), lazydfa::BuildError>(())
 //! ```
 //!
-//! A cache is not used while a search in pieces has it.
+//! A cache is not used while a search in pieces borrows it.
 //!
 //! ```compile_fail,E0499
 //! # use lazydfa::{hybrid::dfa::DFA, util::start};
@@ -40,7 +40,7 @@
 //! # Ok::<(), Box<dyn std::error::Error>>(())
 //! ```
 //!
-//! A cache is not used while a walk has it.
+//! A cache is not used while a walk borrows it.
 //!
 //! ```compile_fail,E0499
 //! # use lazydfa::{hybrid::dfa::DFA, util::start};
@@ -77,7 +77,7 @@
 //! # Ok::<(), lazydfa::BuildError>(())
 //! ```
 //!
-//! A cache does not go to another thread while one of its iterators is used.
+//! A cache is not sent to another thread while one of its iterators is in use.
 //!
 //! ```compile_fail,E0505
 //! # use lazydfa::hybrid::regex::Regex;
@@ -89,7 +89,7 @@
 //! # Ok::<(), lazydfa::BuildError>(())
 //! ```
 //!
-//! A haystack stays while it is searched.
+//! A haystack lives as long as it is searched.
 //!
 //! ```compile_fail,E0505
 //! # use lazydfa::hybrid::regex::Regex;
@@ -102,7 +102,7 @@
 //! # Ok::<(), lazydfa::BuildError>(())
 //! ```
 //!
-//! A haystack stays while its tokens are taken.
+//! A haystack lives as long as its tokens are read.
 //!
 //! ```compile_fail,E0505
 //! # use lazydfa::hybrid::regex::Regex;
@@ -115,7 +115,7 @@
 //! # Ok::<(), lazydfa::BuildError>(())
 //! ```
 //!
-//! A pool stays while matches are taken by one of its caches.
+//! A pool lives as long as matches are found with one of its caches.
 //!
 //! ```compile_fail,E0505
 //! # use lazydfa::PooledRegex;
@@ -136,14 +136,14 @@
 //! # Ok::<(), lazydfa::BuildError>(())
 //! ```
 //!
-//! A handle is not made by hand.
+//! A handle is not created by hand.
 //!
 //! ```compile_fail,E0451
 //! # use lazydfa::nfa::thompson::Builder;
 //! let builder = Builder { handle: todo!(), states: 0, patterns: 0 };
 //! ```
 //!
-//! A builder that was built is gone.
+//! A builder is consumed when it is built.
 //!
 //! ```compile_fail,E0382
 //! # use lazydfa::nfa::thompson::Builder;

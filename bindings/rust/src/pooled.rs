@@ -1,4 +1,4 @@
-//! Searches without a cache.
+//! Searches to which no cache is passed.
 use crate::hybrid::regex::Regex;
 use crate::iter::Matches;
 use crate::{BuildError, Cache, Input, Match, MatchError};
@@ -6,12 +6,12 @@ use std::fmt;
 use std::iter::FusedIterator;
 use std::sync::{Mutex, MutexGuard, PoisonError};
 
-/// A regex with a pool of caches: a search takes a cache of the pool, or creates one if all are in use, and
-/// gives it back.
+/// A regex with a pool of caches: a search takes a cache from the pool, or creates one if all are in use, and
+/// puts it back.
 ///
-/// It serves where threads share a regex and none has a place for a cache, as in a `static`. Each search takes a
-/// lock twice, for a few instructions; a thread that searches much is faster with a cache of its own, which
-/// [`PooledRegex::regex`] creates.
+/// It is meant for threads that share a regex and have no place for a cache, as with a `static`. Each search
+/// takes a lock twice, for a few instructions; a thread that searches a lot is faster with its own cache,
+/// which [`PooledRegex::regex`] can create.
 ///
 /// ```
 /// use lazydfa::PooledRegex;
@@ -29,17 +29,17 @@ pub struct PooledRegex {
 }
 
 impl PooledRegex {
-    /// The regex of the text of a pattern, with the default settings.
+    /// Builds the regex of a pattern, with the default settings.
     pub fn new(pattern: &str) -> Result<PooledRegex, BuildError> {
         Regex::new(pattern).map(PooledRegex::from)
     }
 
-    /// The regex of the texts of patterns, each of which has its place in the list as its number.
+    /// Builds the regex of several patterns, each numbered by its index in the list.
     pub fn new_many<P: AsRef<str>>(patterns: &[P]) -> Result<PooledRegex, BuildError> {
         Regex::new_many(patterns).map(PooledRegex::from)
     }
 
-    /// The regex itself, whose searches take a cache.
+    /// Returns the regex itself, whose searches are passed a cache.
     pub fn regex(&self) -> &Regex {
         &self.regex
     }
@@ -62,12 +62,12 @@ impl PooledRegex {
         self.regex.find(self.lend().cache(), input)
     }
 
-    /// Searches for the first match. It fails as [`Regex::try_search`].
+    /// Searches for the first match. It fails as [`Regex::try_search`] does.
     pub fn try_search(&self, input: &Input<'_>) -> Result<Option<Match>, MatchError> {
         self.regex.try_search(self.lend().cache(), input)
     }
 
-    /// The matches of an input, one after another. The iterator keeps one cache until it is dropped.
+    /// Returns an iterator over the matches of an input. The iterator keeps one cache until it is dropped.
     ///
     /// # Panics
     ///
@@ -76,7 +76,7 @@ impl PooledRegex {
         PooledMatches { lent: self.lend(), matches: Matches::new(input.into()) }
     }
 
-    /// A cache of the pool, or a new one.
+    /// Takes a cache from the pool, or creates one.
     fn lend(&self) -> Lent<'_> {
         let kept = lock(&self.caches).pop();
         let cache = kept.unwrap_or_else(|| self.regex.create_cache());
@@ -90,7 +90,7 @@ impl From<Regex> for PooledRegex {
     }
 }
 
-/// A clone shares the regex, and has a pool of its own.
+/// A clone shares the regex, and has its own pool.
 impl Clone for PooledRegex {
     fn clone(&self) -> PooledRegex {
         self.regex.clone().into()
@@ -104,13 +104,14 @@ impl fmt::Debug for PooledRegex {
     }
 }
 
-/// The caches that are not in use. Nothing panics while it has the lock, so a poisoned one is as good.
+/// Locks the caches that are not in use. Nothing panics while it holds the lock, so a poisoned lock can be
+/// used.
 fn lock(pool: &Mutex<Vec<Cache>>) -> MutexGuard<'_, Vec<Cache>> {
     pool.lock().unwrap_or_else(PoisonError::into_inner)
 }
 
-/// A cache that is in use. Dropping it gives it back, also after a panic: a search that fails leaves a cache
-/// that serves other searches.
+/// A cache that is in use. Dropping this puts the cache back, also after a panic: after a search that fails,
+/// the cache can serve other searches.
 #[derive(Debug)]
 struct Lent<'p> {
     cache: Option<Cache>,

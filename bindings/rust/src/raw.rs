@@ -1,11 +1,11 @@
 //! The types and exports of `lazydfa.h`.
 //!
-//! An export that takes references alone is safe: the library keeps no pointer past a call, and asks
-//! for nothing but what a reference promises. One that takes a slice takes it as a pointer and a
-//! length, and stands below the exports as a function that takes the slice.
+//! An export that takes only references is safe: the library keeps no pointer after a call, and requires
+//! nothing but what a reference guarantees. An export that takes a slice takes it as a pointer and a length;
+//! below the exports there is a function for it that takes the slice.
 use crate::handle::Handle;
 
-/// The number of a code, the quit byte if there is one, and an offset or a capacity, in bytes.
+/// A code's number, the quit byte if there is one, and an offset or a capacity, in bytes.
 #[repr(C)]
 #[derive(Clone, Copy)]
 pub struct Status {
@@ -14,8 +14,8 @@ pub struct Status {
     pub offset: usize,
 }
 
-/// A span, by its offsets in bytes, an anchored mode (0 no, 1 yes, 2 this pattern), and whether the search may stop at
-/// the first match that it sees.
+/// A span by its offsets in bytes, an anchored mode (0 no, 1 yes, 2 this pattern), and whether the search may
+/// stop at the first match that it sees.
 #[repr(C)]
 #[derive(Clone, Copy, Debug, Default)]
 pub struct Input {
@@ -46,8 +46,8 @@ pub struct Half {
     pub reserved: u32,
 }
 
-/// Where a walk stands: how many bytes of the piece the call has read, and how many patterns match up to the offset,
-/// in bytes, which counts only if there are some.
+/// The position of a walk: how many bytes of the piece the call has read, and how many patterns match at the
+/// offset, in bytes, which is meaningful only if there are some.
 #[repr(C)]
 #[derive(Clone, Copy, Debug, Default)]
 pub struct Stop {
@@ -56,8 +56,8 @@ pub struct Stop {
     pub patterns: usize,
 }
 
-/// An iteration: what is left to be searched, the offset, in bytes, where the last match ended if there was one, and
-/// whether the iteration has ended.
+/// An iteration: the input that remains to be searched, the offset, in bytes, where the last match ended if
+/// there was one, and whether the iteration has ended.
 #[repr(C)]
 #[derive(Clone, Copy, Debug, Default)]
 pub struct Iteration {
@@ -85,7 +85,7 @@ pub struct Starts {
     pub unanchored: u32,
 }
 
-/// The settings of a regex. The capacity is in bytes, and a number counts only if its `has` is not 0.
+/// The settings of a regex. The capacity is in bytes, and a number is used only if its `has` is not 0.
 #[repr(C)]
 #[derive(Clone, Copy, Debug, Default)]
 pub struct Settings {
@@ -104,8 +104,8 @@ pub struct Settings {
     pub always_anchored: u32,
 }
 
-/// How patterns are read. A limit counts only if its `has` is not 0; those on size and on text are in bytes. A limit on
-/// nesting of 0 is the default one.
+/// How patterns are parsed. A limit is used only if its `has` is not 0; the limits on size and on text are in
+/// bytes. A limit on nesting of 0 is the default limit.
 #[repr(C)]
 #[derive(Clone, Copy, Debug, Default)]
 pub struct TextOptions {
@@ -128,7 +128,8 @@ pub struct TextOptions {
     pub forward_only: u32,
 }
 
-/// Which pattern was refused, the bytes of its text that this is about, and how long the whole message is.
+/// The index of the pattern that has an error, the span of its text that the error is about, and the length
+/// of the whole message, in bytes.
 #[repr(C)]
 #[derive(Clone, Copy, Debug, Default)]
 pub struct Refusal {
@@ -138,8 +139,8 @@ pub struct Refusal {
     pub length: usize,
 }
 
-/// What every match of a pattern has in common: how long the prefix is and how many literals there are, the bytes of all
-/// of them, and flags, 0 or 1.
+/// What all matches of a pattern have in common: the length of the prefix, the number of literals, the number
+/// of bytes of all of these, and flags, 0 or 1.
 #[repr(C)]
 #[derive(Clone, Copy, Debug, Default)]
 pub struct Facts {
@@ -152,8 +153,8 @@ pub struct Facts {
     pub reserved: u32,
 }
 
-/// The bytes that a cache accounts for, those of its leaps, all that it holds of the allocator, how often its two parts
-/// were cleared, and how many patterns its regex has.
+/// The bytes that a cache accounts for, the bytes of its leaps, all bytes that it holds from the allocator,
+/// how often its two parts were cleared, and how many patterns its regex has.
 #[repr(C)]
 #[derive(Clone, Copy, Default)]
 pub struct Usage {
@@ -166,23 +167,23 @@ pub struct Usage {
 }
 
 unsafe extern "C" {
-    /// Frees what the handle owns, and closes it. If it owns nothing the status says so.
+    /// Frees what the handle owns, and closes it. The status says whether it owned something.
     pub safe fn lazydfa_raw_close(handle: &mut Handle) -> Status;
     /// Opens a handle on a builder without states.
     pub safe fn lazydfa_raw_builder_new(builder: &mut Handle) -> Status;
-    /// Removes all states and patterns of a builder. The settings stay.
+    /// Removes all states and patterns of a builder. The settings are kept.
     pub safe fn lazydfa_raw_builder_clear(builder: &mut Handle) -> Status;
     /// Starts a pattern, and writes its number.
     pub safe fn lazydfa_raw_start_pattern(builder: &mut Handle, pattern: &mut u32) -> Status;
-    /// Finishes the pattern that was started, whose searches start at this state, and writes its number.
+    /// Finishes the pattern that was started, whose searches start in this state, and writes its number.
     pub safe fn lazydfa_raw_finish_pattern(builder: &mut Handle, start: u32, pattern: &mut u32) -> Status;
-    /// Adds an edge from a state, or moves the one that it has.
+    /// Adds an edge from a state, or redirects the one that it has.
     pub safe fn lazydfa_raw_patch(builder: &mut Handle, from: u32, to: u32) -> Status;
     /// Sets whether the NFA is in UTF-8 mode: 0 for no.
     pub safe fn lazydfa_raw_set_utf8(builder: &mut Handle, yes: u32) -> Status;
     /// Sets whether the NFA reads its haystack backward: 0 for no.
     pub safe fn lazydfa_raw_set_reverse(builder: &mut Handle, yes: u32) -> Status;
-    /// Sets the byte that ends lines.
+    /// Sets the byte that ends a line.
     pub safe fn lazydfa_raw_set_line_terminator(builder: &mut Handle, byte: u8) -> Status;
     /// Adds a state with one edge that reads nothing, and writes its number.
     pub safe fn lazydfa_raw_add_empty(builder: &mut Handle, id: &mut u32) -> Status;
@@ -194,7 +195,7 @@ unsafe extern "C" {
         next: u32,
         id: &mut u32,
     ) -> Status;
-    /// Adds a look-around assertion, by its number, and writes the state's number.
+    /// Adds a state with a look-around assertion, given by its number, and writes the state's number.
     pub safe fn lazydfa_raw_add_look(builder: &mut Handle, next: u32, look: u32, id: &mut u32) -> Status;
     /// Adds a state where a group of the pattern begins, and writes its number.
     pub safe fn lazydfa_raw_add_capture_start(
@@ -218,12 +219,12 @@ unsafe extern "C" {
     pub safe fn lazydfa_raw_add_unanchored_prefix(builder: &mut Handle, start: u32, id: &mut u32) -> Status;
     /// Opens a handle on a fresh cache of a regex.
     pub safe fn lazydfa_raw_cache_new(cache: &mut Handle, regex: &mut Handle) -> Status;
-    /// Makes a cache a fresh one of its regex.
+    /// Resets a cache to a fresh one of its regex.
     pub safe fn lazydfa_raw_cache_reset(cache: &mut Handle) -> Status;
-    /// Writes what a cache accounts for and holds, in bytes, and how often its two parts were cleared.
+    /// Writes the memory usage of a cache, in bytes, and how often its two parts were cleared.
     pub safe fn lazydfa_raw_cache_usage(cache: &mut Handle, usage: &mut Usage) -> Status;
-    /// Begins a search in pieces over a cache, in place of the one that was begun before: in the anchored mode of two
-    /// numbers, after the byte of a third or none.
+    /// Begins a search in pieces over a cache, which replaces the previous one. Two numbers give the anchored
+    /// mode, and a third gives the byte before the pieces, if any.
     pub safe fn lazydfa_raw_pieces_begin(
         cache: &mut Handle,
         anchored: u32,
@@ -231,19 +232,20 @@ unsafe extern "C" {
         behind: u32,
         earliest: u32,
     ) -> Status;
-    /// Writes the end of the match in the pieces so far, before the byte of a number or none.
+    /// Writes the end of the match in the pieces so far. A number gives the byte that follows them, if any.
     pub safe fn lazydfa_raw_pieces_end(cache: &mut Handle, ahead: u32, found: &mut Half) -> Status;
-    /// Begins a walk over a cache, in place of the one that was begun before: in the anchored mode of two numbers,
-    /// after the byte of a third or none.
+    /// Begins a walk over a cache, which replaces the previous one. Two numbers give the anchored mode, and a
+    /// third gives the byte before the pieces, if any.
     pub safe fn lazydfa_raw_walk_begin(
         cache: &mut Handle,
         anchored: u32,
         pattern: u32,
         behind: u32,
     ) -> Status;
-    /// Writes how many patterns match up to the end of the pieces so far, before the byte of a number or none.
+    /// Writes how many patterns match at the end of the pieces so far. A number gives the byte that follows
+    /// them, if any.
     pub safe fn lazydfa_raw_walk_end(cache: &mut Handle, ahead: u32, stop: &mut Stop) -> Status;
-    /// Writes one of the patterns where the walk stands, by its index.
+    /// Writes one of the patterns that match at the walk's position, given by its index.
     pub safe fn lazydfa_raw_walk_pattern(cache: &mut Handle, index: usize, pattern: &mut u32) -> Status;
 
     fn lazydfa_raw_add_sparse(
@@ -372,12 +374,12 @@ unsafe extern "C" {
     fn lazydfa_raw_walk_read(cache: &mut Handle, piece: *const u8, length: usize, stop: &mut Stop) -> Status;
 }
 
-/// The number of a byte beside a haystack, or of none.
+/// Returns the number that encodes the byte before or after a haystack, if any.
 pub fn beside(byte: Option<u8>) -> u32 {
     byte.map_or(u32::MAX, u32::from)
 }
 
-/// Adds a state that reads a byte of several ranges, and writes its number.
+/// Adds a state that reads a byte in any of several ranges, and writes its number.
 pub fn add_sparse(builder: &mut Handle, edges: &[Edge], id: &mut u32) -> Status {
     // SAFETY: The pointer and the length are those of one slice.
     unsafe { lazydfa_raw_add_sparse(builder, edges.as_ptr(), edges.len(), id) }
@@ -395,7 +397,7 @@ pub fn add_union_reverse(builder: &mut Handle, ids: &[u32], id: &mut u32) -> Sta
     unsafe { lazydfa_raw_add_union_reverse(builder, ids.as_ptr(), ids.len(), id) }
 }
 
-/// Opens a handle on the regex of what a builder has.
+/// Opens a handle on the regex of a builder's NFA.
 pub fn regex_build(
     regex: &mut Handle,
     builder: &mut Handle,
@@ -407,7 +409,7 @@ pub fn regex_build(
     unsafe { lazydfa_raw_regex_build(regex, builder, starts, settings, quits.as_ptr(), quits.len()) }
 }
 
-/// Opens a handle on the regex of what two builders have, each with its starts, the forward one first.
+/// Opens a handle on the regex of the NFAs of two builders, each with its starts, the forward one first.
 pub fn regex_build_pair(
     regex: &mut Handle,
     forward: (&mut Handle, &Starts),
@@ -422,14 +424,14 @@ pub fn regex_build_pair(
     }
 }
 
-/// The texts of patterns, one after another, and the length of each in bytes.
+/// The concatenated texts of patterns, and the length of each in bytes.
 pub struct Texts<'t> {
     pub bytes: &'t str,
     pub lengths: &'t [usize],
 }
 
-/// Opens a handle on the regex of the texts of patterns. Writes which of them is wrong and where, and
-/// a message, which ends in a zero.
+/// Opens a handle on the regex of the texts of patterns. If one has an error, writes which one, where the
+/// error is, and a message, which ends with a zero.
 pub fn regex_any_of(
     regex: &mut Handle,
     texts: Texts<'_>,
@@ -458,8 +460,8 @@ pub fn regex_any_of(
     }
 }
 
-/// Writes what every match of a pattern's text has in common, and as many of its bytes and lengths as there
-/// is room for.
+/// Writes what all matches of a pattern have in common, and as many of the bytes and lengths as there is room
+/// for.
 pub fn text_facts(
     text: &str,
     options: &TextOptions,
@@ -500,13 +502,13 @@ pub fn find_end(cache: &mut Handle, haystack: &[u8], input: &Input, found: &mut 
     unsafe { lazydfa_raw_find_end(cache, haystack.as_ptr(), haystack.len(), input, found) }
 }
 
-/// Searches for the start of a match that ends where the span does, and writes it.
+/// Searches for the start of a match that ends where the span ends, and writes it.
 pub fn find_start(cache: &mut Handle, haystack: &[u8], input: &Input, found: &mut Half) -> Status {
     // SAFETY: The pointer and the length are those of one slice.
     unsafe { lazydfa_raw_find_start(cache, haystack.as_ptr(), haystack.len(), input, found) }
 }
 
-/// Writes the next matches of an iteration, as many as there is room for, and how many they are.
+/// Writes the next matches of an iteration, as many as there is room for, and their number.
 pub fn next_all(
     cache: &mut Handle,
     haystack: &[u8],
@@ -519,13 +521,13 @@ pub fn next_all(
     unsafe { lazydfa_raw_next_all(cache, haystack.as_ptr(), haystack.len(), at, found, room, count) }
 }
 
-/// Writes the token at the start of what is left, which then starts where the token ends.
+/// Writes the token at the start of the remaining span, which then starts where the token ends.
 pub fn token(cache: &mut Handle, haystack: &[u8], left: &mut Input, found: &mut Match) -> Status {
     // SAFETY: The pointer and the length are those of one slice.
     unsafe { lazydfa_raw_token(cache, haystack.as_ptr(), haystack.len(), left, found) }
 }
 
-/// Writes the ends of all overlapping matches, as many as there is room for, and how many there are.
+/// Writes the ends of all overlapping matches, as many as there is room for, and how many there are in all.
 pub fn all_ends(
     cache: &mut Handle,
     haystack: &[u8],
@@ -538,8 +540,8 @@ pub fn all_ends(
     unsafe { lazydfa_raw_all_ends(cache, haystack.as_ptr(), haystack.len(), input, found, room, count) }
 }
 
-/// Writes the starts of all overlapping matches that end where the span does, as many as there is room
-/// for, and how many there are.
+/// Writes the starts of all overlapping matches that end where the span ends, as many as there is room for,
+/// and how many there are in all.
 pub fn all_starts(
     cache: &mut Handle,
     haystack: &[u8],
@@ -552,7 +554,7 @@ pub fn all_starts(
     unsafe { lazydfa_raw_all_starts(cache, haystack.as_ptr(), haystack.len(), input, found, room, count) }
 }
 
-/// Writes the patterns that match, of those that there is room for, and how many they are.
+/// Writes those patterns that match and are below the length of `patterns`, and their number.
 pub fn which(
     cache: &mut Handle,
     haystack: &[u8],
@@ -566,13 +568,15 @@ pub fn which(
     unsafe { lazydfa_raw_which(cache, at, length, input, room, patterns, room, count) }
 }
 
-/// Reads the next piece of the search that was begun over a cache, and writes 1 if the answer stands, or 0.
+/// Reads the next piece of the search that was begun over a cache, and writes 1 if the result is final,
+/// otherwise 0.
 pub fn pieces_read(cache: &mut Handle, piece: &[u8], done: &mut u32) -> Status {
     // SAFETY: The pointer and the length are those of one slice.
     unsafe { lazydfa_raw_pieces_read(cache, piece.as_ptr(), piece.len(), done) }
 }
 
-/// Reads a piece up to the next offset where patterns match, and writes where the walk over a cache stands.
+/// Reads a piece up to the next offset where patterns match, and writes the position of the walk over a
+/// cache.
 pub fn walk_read(cache: &mut Handle, piece: &[u8], stop: &mut Stop) -> Status {
     // SAFETY: The pointer and the length are those of one slice.
     unsafe { lazydfa_raw_walk_read(cache, piece.as_ptr(), piece.len(), stop) }

@@ -1,4 +1,4 @@
-//! The types over the library itself.
+//! Tests of the types over the library.
 #![allow(clippy::single_range_in_vec_init)] // a list of spans may have one
 use lazydfa::hybrid::dfa::{self, DFA};
 use lazydfa::hybrid::regex::{Cache, Regex};
@@ -15,7 +15,7 @@ use std::ops::Range;
 
 type Tested = Result<(), Box<dyn Error>>;
 
-/// The NFA of `[a-z]+`.
+/// Returns the NFA of `[a-z]+`.
 fn word() -> Result<NFA, BuildError> {
     let mut builder = Builder::new();
     builder.start_pattern()?;
@@ -28,7 +28,7 @@ fn word() -> Result<NFA, BuildError> {
     Ok(builder.build(letter, prefix))
 }
 
-/// The NFA of `[a-z]` and `[a-z0-9]`.
+/// Returns the NFA of `[a-z]` and `[a-z0-9]`.
 fn two() -> Result<NFA, BuildError> {
     let mut builder = Builder::new();
     builder.start_pattern()?;
@@ -50,7 +50,7 @@ fn with(config: dfa::Config, nfa: &NFA) -> Result<Regex, BuildError> {
     Regex::builder().dfa(config).build_from_nfa(nfa)
 }
 
-/// Where the matches of a regex are.
+/// Returns the spans of a regex's matches.
 fn spans<'h>(regex: &Regex, haystack: impl Into<Input<'h>>) -> Vec<Range<usize>> {
     regex.find_iter(&mut regex.create_cache(), haystack).map(|found| found.range()).collect()
 }
@@ -71,7 +71,7 @@ fn finds() -> Tested {
     Ok(())
 }
 
-/// A haystack is a text, bytes, or a reference to what has them.
+/// A haystack may be a text, bytes, or a reference to anything that has them.
 #[test]
 fn haystacks() -> Tested {
     let regex = Regex::new("b+")?;
@@ -91,7 +91,7 @@ fn haystacks() -> Tested {
     Ok(())
 }
 
-/// An iteration returns every match, however many fit its buffer.
+/// An iteration returns every match, however many fit into its buffer.
 #[test]
 fn iterates_past_the_buffer() -> Tested {
     let regex = with(dfa::Config::new(), &word()?)?;
@@ -111,7 +111,8 @@ fn iterates_past_the_buffer() -> Tested {
     Ok(())
 }
 
-/// A search over a long text makes leaps, which count beside the accounted bytes, and a reset drops them.
+/// A search over a long text uses leaps, which count in addition to the accounted bytes, and a reset drops
+/// them.
 #[test]
 fn counts_leaps() -> Tested {
     let regex = Regex::new("(?-u)[0-9]{4}-[0-9]{2}")?;
@@ -125,7 +126,7 @@ fn counts_leaps() -> Tested {
     Ok(())
 }
 
-/// Tokens follow each other up to the offset where there is none.
+/// Tokens are returned up to the offset where no token begins.
 #[test]
 fn tokens() -> Tested {
     let regex = with(dfa::Config::new(), &two()?)?;
@@ -136,7 +137,7 @@ fn tokens() -> Tested {
     Ok(())
 }
 
-/// Sets of patterns and lists of overlapping matches have all that match.
+/// Sets of patterns and lists of overlapping matches contain everything that matches.
 #[test]
 fn sets() -> Tested {
     let regex = with(dfa::Config::new().match_kind(MatchKind::All), &two()?)?;
@@ -157,7 +158,7 @@ fn sets() -> Tested {
     Ok(())
 }
 
-/// What an overlapping search found before an error stays, also where the room for it had to grow.
+/// What an overlapping search found before an error is kept, even if the room for it had to grow.
 #[test]
 fn found_before_an_error() -> Tested {
     let config = dfa::Config::new().match_kind(MatchKind::All).quit(b';', true);
@@ -176,7 +177,7 @@ fn found_before_an_error() -> Tested {
     Ok(())
 }
 
-/// Each of these errors is the one that its search returns.
+/// Each search returns the expected error.
 #[test]
 fn errors_of_searches() -> Tested {
     let regex = with(dfa::Config::new().quit(b';', true), &word()?)?;
@@ -199,7 +200,7 @@ fn errors_of_searches() -> Tested {
     Ok(())
 }
 
-/// A pattern may be searched for alone, and one that the regex has not finds nothing.
+/// A pattern may be searched for alone, and a pattern that the regex does not have finds nothing.
 #[test]
 fn one_pattern_alone() -> Tested {
     let config = dfa::Config::new().starts_for_each_pattern(true);
@@ -212,7 +213,7 @@ fn one_pattern_alone() -> Tested {
     Ok(())
 }
 
-/// Each of these errors is the one that building returns.
+/// Building returns the expected errors.
 #[test]
 fn errors_of_building() -> Tested {
     let capacity = |bytes| with(dfa::Config::new().cache_capacity(bytes), &word()?).map(|_| ());
@@ -232,7 +233,7 @@ fn errors_of_building() -> Tested {
     Ok(())
 }
 
-/// `(?:\b|%)+`, whose cycle passes a look
+/// `(?:\b|%)+` has a cycle that passes a look.
 #[test]
 fn look_cycles() -> Tested {
     let mut builder = Builder::new();
@@ -264,7 +265,7 @@ fn one_start() -> Tested {
     Ok(())
 }
 
-/// A regex is built of two NFAs, but not of one NFA twice, nor of it and its clone.
+/// A regex is built from two NFAs, but not from one NFA twice, nor from an NFA and its clone.
 #[test]
 fn pairs() -> Tested {
     let same = word()?;
@@ -277,7 +278,7 @@ fn pairs() -> Tested {
     Ok(())
 }
 
-/// A clone of a regex searches with the same caches. A cache of another regex panics.
+/// A clone of a regex searches with the same caches. A search with the cache of another regex panics.
 #[test]
 #[should_panic(expected = "the cache is of another regex")]
 fn another_cache() {
@@ -287,7 +288,7 @@ fn another_cache() {
     one.is_match(&mut cache, "b");
 }
 
-/// A reset gives a cache to another regex.
+/// After a reset, a cache belongs to another regex.
 #[test]
 fn a_reset_cache() -> Tested {
     let (one, two) = (Regex::new("a")?, Regex::new("b")?);
@@ -325,7 +326,7 @@ fn a_bad_span() {
     let _ = Input::new("a").range(0..2);
 }
 
-/// A search that fails panics, if its call returns no error.
+/// A search that fails panics, if its function does not return errors.
 #[test]
 #[should_panic(expected = "Quit { byte: 120, offset: 1 }")]
 fn a_failed_search() {
@@ -334,7 +335,7 @@ fn a_failed_search() {
     regex.find(&mut regex.create_cache(), "axb");
 }
 
-/// A regex of texts, and what is wrong with a text.
+/// A regex is built from texts, or the error says what is wrong with a text.
 #[test]
 fn texts_of_patterns() -> Tested {
     assert_eq!(spans(&Regex::new(r"\pL+")?, "foo 12 bär"), [0..3, 7..11]);
@@ -353,7 +354,7 @@ fn texts_of_patterns() -> Tested {
     Ok(())
 }
 
-/// The DFA of texts of patterns.
+/// A DFA is built from texts of patterns.
 #[test]
 fn a_dfa_of_texts() -> Tested {
     let config = DFA::config().match_kind(MatchKind::All);
@@ -368,7 +369,7 @@ fn a_dfa_of_texts() -> Tested {
     Ok(())
 }
 
-/// Each option of patterns says what it says of Rust's regex crate.
+/// Each option has the same effect as in Rust's regex crate.
 #[test]
 fn options_of_patterns() -> Tested {
     let found = |config, pattern, haystack| {
@@ -390,7 +391,7 @@ fn options_of_patterns() -> Tested {
     Ok(())
 }
 
-/// Patterns nest 250 levels deep by default, as in regex-automata, or as deep as the limit says.
+/// By default patterns nest up to 250 levels deep, as in regex-automata; the limit can be set.
 #[test]
 fn nesting() -> Tested {
     let nested = |limit: u32, depth| {
@@ -405,7 +406,7 @@ fn nesting() -> Tested {
     Ok(())
 }
 
-/// What types print says what they are, and not how they stand in memory.
+/// The debug output of types says what they are, not how they are represented.
 #[test]
 fn prints() -> Tested {
     let regex = Regex::new_many(&["a", "b"])?;

@@ -1,9 +1,9 @@
-//! The programs of the folder examples, which `cargo test` builds.
+//! Tests of the programs in the folder `examples`, which `cargo test` builds.
 use std::path::PathBuf;
 use std::process::{Command, Output};
 use std::{env, fs};
 
-/// Runs an example in the folder of the repository.
+/// Runs an example in the repository's folder.
 fn run(name: &str, words: &[&str]) -> Output {
     let tests = env::current_exe().expect("a test has a path");
     let program = tests.ancestors().nth(2).expect("the folder of the profile").join("examples").join(name);
@@ -11,12 +11,12 @@ fn run(name: &str, words: &[&str]) -> Output {
     Command::new(program).args(words).current_dir(top()).output().expect("an example runs")
 }
 
-/// The folder of the repository.
+/// Returns the repository's folder.
 fn top() -> PathBuf {
     PathBuf::from(env!("CARGO_MANIFEST_DIR")).join("../..")
 }
 
-/// `grep` prints what `grep -E` does, and ends with the same status.
+/// `grep` prints what `grep -E` prints, and exits with the same status.
 #[test]
 fn grep() {
     let rows: [&[&str]; 8] = [
@@ -46,7 +46,7 @@ fn grep() {
     }
 }
 
-/// `grep --which` counts the lines that match each pattern, as `grep -c -E` does one by one.
+/// `grep --which` counts the lines that match each pattern, as `grep -c -E` does for each.
 #[test]
 fn grep_which() {
     let patterns = ["lazy", "[A-Z]{3}", "^ *$", "no such line in it"];
@@ -68,7 +68,7 @@ fn grep_which() {
     assert_eq!(found.lines().collect::<Vec<_>>(), wanted);
 }
 
-/// `lexer` prints tokens, or where there is none.
+/// `lexer` prints tokens, or the place where no token begins.
 #[test]
 fn lexer() {
     let file = env::temp_dir().join(format!("lazydfa-{}-lexer", std::process::id()));

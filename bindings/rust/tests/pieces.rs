@@ -1,4 +1,4 @@
-//! Searches whose haystack comes in pieces.
+//! Tests of searches whose haystack arrives in pieces.
 mod common;
 
 use common::{bytes_dfa, Numbers, Tested};
@@ -9,12 +9,12 @@ use lazydfa::{Anchored, HalfMatch, Input, Match, MatchError, MatchErrorKind, Mat
 use std::borrow::BorrowMut;
 use std::thread;
 
-/// A search that is not anchored, after no byte, and not earliest.
+/// Begins a search that is neither anchored nor earliest, with no byte before the first piece.
 fn begin<C: BorrowMut<Cache>>(dfa: &DFA, cache: C) -> Result<Pieces<C>, MatchError> {
     dfa.begin_pieces(cache, &start::Config::new(), false)
 }
 
-/// Where the first match ends, as `printf %s TEXT | grep -obP PATTERN` says: its offset and its length.
+/// Where the first match ends, according to `printf %s TEXT | grep -obP PATTERN`: its offset plus its length.
 const ROWS: [(&str, &str, Option<usize>); 13] = [
     ("[a-z]+", "12 foo bar", Some(6)),
     ("[0-9]{4}-[0-9]{2}", "on 2024-1 or 2025-06-07", Some(20)),
@@ -31,7 +31,7 @@ const ROWS: [(&str, &str, Option<usize>); 13] = [
     ("[^a-z ]{3}", "ab 12 345", Some(9)),
 ];
 
-/// Each row, at every cut into two pieces, and byte by byte.
+/// Searches each row, cut into two pieces at every offset, and byte by byte.
 #[test]
 fn as_grep() -> Tested {
     for (pattern, text, end) in ROWS {
@@ -53,7 +53,8 @@ fn as_grep() -> Tested {
     Ok(())
 }
 
-/// What a search in pieces answers for the span of an input, cut at random. Errors have offsets of the haystack.
+/// Returns the result of a search in pieces of the span of an input, cut at random. Errors have offsets in
+/// the haystack.
 fn in_pieces(
     dfa: &DFA,
     cache: &mut Cache,
@@ -85,8 +86,8 @@ fn in_pieces(
     })
 }
 
-/// Random texts at random cuts, over caches that are cleared and reset, have the end that a search of the whole
-/// finds, or its error.
+/// In random texts with random cuts, over caches that are cleared and reset, a search in pieces returns the
+/// same end, or the same error, as a search of the whole text.
 #[test]
 fn as_the_whole() -> Tested {
     let patterns: [(&[&str], &[u8], Option<u8>); 9] = [
@@ -115,7 +116,7 @@ fn as_the_whole() -> Tested {
             for _ in 0..300 {
                 let length = numbers.below(120);
                 let text: Vec<u8> = (0..length).map(|_| letters[numbers.below(letters.len())]).collect();
-                // A quit byte before the haystack is an error at the offset 0, and so is tested elsewhere.
+                // A quit byte before the haystack is an error at offset 0, so this is tested elsewhere.
                 let start = if quit.is_some() { 0 } else { numbers.below(length + 1) };
                 let end = start + numbers.below(length - start + 1);
                 let pattern = PatternID::must(numbers.below(3));
@@ -134,7 +135,8 @@ fn as_the_whole() -> Tested {
     Ok(())
 }
 
-/// The bytes beside the haystack count for assertions, and a search may be done before its first piece.
+/// The bytes before and after the haystack count for assertions, and a search may be done before its first
+/// piece.
 #[test]
 fn beside() -> Tested {
     let dfa = bytes_dfa(&[r"\bfoo\b"], Config::new())?;
@@ -162,7 +164,8 @@ fn beside() -> Tested {
     Ok(())
 }
 
-/// An earliest search is done at the first match that it sees, and others once no match can be longer.
+/// An earliest search is done at the first match that it sees, and other searches once no match can be
+/// longer.
 #[test]
 fn done() -> Tested {
     let regex = Regex::new("[a-z]+")?;
@@ -178,7 +181,7 @@ fn done() -> Tested {
     Ok(())
 }
 
-/// A search that is cancelled leaves a cache that serves others, in pieces too.
+/// A search that is cancelled leaves a cache that can serve other searches, also in pieces.
 #[test]
 fn cancelled() -> Tested {
     let regex = Regex::new("foo[0-9]+")?;
@@ -198,7 +201,7 @@ fn cancelled() -> Tested {
     Ok(())
 }
 
-/// A search that owns its cache stands in a struct, and goes to another thread between two pieces.
+/// A search that owns its cache can be stored in a struct, and sent to another thread between two pieces.
 #[test]
 fn moves() -> Tested {
     let dfa = DFA::new("foo[0-9]+")?;
@@ -211,7 +214,7 @@ fn moves() -> Tested {
     Ok(())
 }
 
-/// A quit byte is an error at its offset, wherever it stands, and the search goes on before the piece.
+/// A quit byte is an error at its offset, wherever it is, and the search continues before the piece.
 #[test]
 fn quits() -> Tested {
     let dfa = bytes_dfa(&["[a-z]+"], Config::new().quit(b';', true))?;
@@ -227,14 +230,14 @@ fn quits() -> Tested {
     assert!(!pieces.is_done());
     pieces.read(b"ab")?;
     assert_eq!(pieces.end(None)?, Some(HalfMatch::must(0, 4)));
-    // Once the answer stands no byte is read, and none is met.
+    // Once the result is final, no byte is read, so no quit byte is either.
     pieces.read(b" x;")?;
     pieces.read(b";")?;
     assert_eq!(pieces.end(Some(b';'))?, Some(HalfMatch::must(0, 4)));
     Ok(())
 }
 
-/// A search that gave up goes on with its cache reset.
+/// A search that gave up continues after its cache is reset.
 #[test]
 fn gives_up() -> Tested {
     let config = Config::new().cache_capacity(0).skip_cache_capacity_check(true);
@@ -256,7 +259,7 @@ fn gives_up() -> Tested {
     Ok(())
 }
 
-/// A mode that the DFA does not support, and a regex that skips, are errors by name.
+/// An anchored mode that the DFA does not support, and a regex that would have to skip matches, are errors.
 #[test]
 fn not_begun() -> Tested {
     let dfa = DFA::new("a")?;
@@ -270,7 +273,7 @@ fn not_begun() -> Tested {
     let mut cache = dfa.create_cache();
     let error = begin(&dfa, &mut cache).unwrap_err();
     assert_eq!(error.kind(), &MatchErrorKind::Skips);
-    let text = "a regex that skips empty matches inside characters is not searched in pieces";
+    let text = "a regex that skips empty matches inside characters cannot be searched in pieces";
     assert_eq!(error.to_string(), text);
     assert_eq!(dfa.try_search_fwd(&mut cache, &Input::new("aa"))?, Some(HalfMatch::must(0, 2)));
     let dfa = bytes_dfa(&["a*"], Config::new())?;
@@ -278,7 +281,7 @@ fn not_begun() -> Tested {
     Ok(())
 }
 
-/// A cache of another regex panics.
+/// A search with the cache of another regex panics.
 #[test]
 #[should_panic(expected = "the cache is of another regex")]
 fn another_cache() {
@@ -294,7 +297,7 @@ fn a_reverse_dfa() {
     let _ = begin(regex.reverse(), regex.create_cache());
 }
 
-/// Overlapping matches of `MatchKind::All`: the search reports the last end before it is done.
+/// With `MatchKind::All`, the search reports the last end before it is done.
 #[test]
 fn all_matches() -> Tested {
     let dfa = bytes_dfa(&["a+?", "ab"], Config::new().match_kind(MatchKind::All))?;

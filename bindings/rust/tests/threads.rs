@@ -1,4 +1,4 @@
-//! One regex on many threads.
+//! Tests of one regex on many threads.
 use lazydfa::hybrid::dfa::{self, Ends, Pieces, Walk, DFA};
 use lazydfa::hybrid::regex::{Cache, Regex};
 use lazydfa::nfa::thompson::{Builder, NFA};
@@ -6,7 +6,7 @@ use lazydfa::{Input, MatchKind, PatternSet, PooledRegex};
 use std::sync::mpsc;
 use std::thread;
 
-/// These types go to other threads and are shared by them, and a clone is as good as what it is of.
+/// These types can be sent to other threads and shared by them, and a clone is equivalent to its original.
 #[test]
 fn types() {
     fn shared<T: Send + Sync + Clone>() {}
@@ -25,13 +25,13 @@ fn types() {
     sent::<Ends>();
 }
 
-/// A text in which `[a-z]+[0-9]` has `n` matches that are not like each other.
+/// Returns a text in which `[a-z]+[0-9]` has `n` matches that differ from each other.
 fn text(n: usize) -> String {
     (0..n).map(|i| format!("{}{} ", "ab".repeat(i % 7 + 1), i % 10)).collect()
 }
 
-/// Four threads search with one regex, each with caches of its own that it makes, resets and drops, while its
-/// clones go away.
+/// Four threads search with one regex, each with its own caches that it creates, resets and drops, while its
+/// clones are dropped.
 #[test]
 fn one_regex() {
     let config = dfa::Config::new().cache_capacity(0).skip_cache_capacity_check(true);
@@ -54,7 +54,8 @@ fn one_regex() {
     });
 }
 
-/// Threads make, reset and drop many caches of one regex at once, and the regex goes with the last of them.
+/// Threads create, reset and drop many caches of one regex at once, and the regex is freed with the last of
+/// them.
 #[test]
 fn caches_that_come_and_go() {
     for _ in 0..300 {
@@ -77,7 +78,8 @@ fn caches_that_come_and_go() {
     }
 }
 
-/// A cache goes from thread to thread, and is dropped on another one than it was created on, after its regex.
+/// A cache is moved from thread to thread, and is dropped on another thread than it was created on, after its
+/// regex.
 #[test]
 fn a_cache_that_moves() {
     let regex = Regex::new("[a-z]+[0-9]").unwrap();
@@ -98,7 +100,7 @@ fn a_cache_that_moves() {
     searching.join().unwrap();
 }
 
-/// A pool serves as many searches at once as there are, and keeps as many caches.
+/// A pool serves any number of searches at once, and keeps as many caches.
 #[test]
 fn a_pool() {
     let regex = PooledRegex::new("[a-z]+[0-9]").unwrap();
@@ -119,7 +121,7 @@ fn a_pool() {
     assert!((1..=4).any(|n| caches.ends_with(&format!("caches: {n} }}"))), "{caches}");
 }
 
-/// Threads build regexes of one NFA, and of two NFAs in both orders, at once.
+/// Threads build regexes from one NFA, and from two NFAs in both orders, at once.
 #[test]
 fn one_nfa() {
     let nfa = |byte| {
@@ -147,7 +149,7 @@ fn one_nfa() {
     });
 }
 
-/// A DFA that tells which patterns match serves threads too.
+/// A DFA that reports which patterns match can also be used by several threads.
 #[test]
 fn one_dfa() {
     let config = DFA::config().match_kind(MatchKind::All);

@@ -1,4 +1,4 @@
-//! Walks over a haystack that comes in pieces: all ends, and sets of patterns.
+//! Tests of walks over a haystack that arrives in pieces: all ends, and sets of patterns.
 mod common;
 
 use common::{bytes_dfa, Numbers, Tested};
@@ -11,32 +11,33 @@ use lazydfa::{
 use std::borrow::BorrowMut;
 use std::thread;
 
-/// The settings by which all matches are reported.
+/// Returns the settings with which all matches are reported.
 fn all() -> Config {
     Config::new().match_kind(MatchKind::All)
 }
 
-/// A walk that is not anchored, after no byte.
+/// Begins a walk that is not anchored, with no byte before the first piece.
 fn begin<C: BorrowMut<Cache>>(dfa: &DFA, cache: C) -> Result<Walk<C>, MatchError> {
     dfa.begin_walk(cache, &start::Config::new())
 }
 
-/// What a walk reports of one more piece.
+/// Returns what a walk reports for one more piece.
 fn read<C: BorrowMut<Cache>>(walk: &mut Walk<C>, piece: &[u8]) -> Result<Vec<HalfMatch>, MatchError> {
     walk.read(piece).collect()
 }
 
-/// What it reports of the end of the haystack, or of the pieces so far before a byte.
+/// Returns what a walk reports for the end of the haystack, or for the pieces so far if a byte follows.
 fn end<C: BorrowMut<Cache>>(walk: &mut Walk<C>, ahead: Option<u8>) -> Result<Vec<HalfMatch>, MatchError> {
     Ok(walk.end(ahead)?.collect())
 }
 
-/// Half matches of patterns at offsets.
+/// Returns half matches of patterns at offsets.
 fn halves(wanted: &[(usize, usize)]) -> Vec<HalfMatch> {
     wanted.iter().map(|(pattern, offset)| HalfMatch::must(*pattern, *offset)).collect()
 }
 
-/// Where matches end: the lengths of the prefixes of the text in which `grep -P '(?:PATTERN)\z'` finds one.
+/// Where matches end: the lengths of the prefixes of the text in which `grep -P '(?:PATTERN)\z'` finds a
+/// match.
 const ROWS: [(&str, &str, &[usize]); 11] = [
     ("fo+", "12 fooo fo", &[5, 6, 7, 10]),
     ("[a-z]+", "a bc", &[1, 3, 4]),
@@ -51,7 +52,7 @@ const ROWS: [(&str, &str, &[usize]); 11] = [
     ("a+?b?", "aab", &[1, 2, 3]),
 ];
 
-/// Each row, at every cut into two pieces, and byte by byte.
+/// Walks over each row, cut into two pieces at every offset, and byte by byte.
 #[test]
 fn as_grep() -> Tested {
     for (pattern, text, ends) in ROWS {
@@ -75,8 +76,8 @@ fn as_grep() -> Tested {
     Ok(())
 }
 
-/// Appends what a walk reports of the span of an input, cut at random, and returns its error. Offsets are those of the
-/// haystack.
+/// Appends what a walk reports for the span of an input, cut at random, and returns its error. Offsets are in
+/// the haystack.
 fn in_pieces(
     dfa: &DFA,
     cache: &mut Cache,
@@ -100,7 +101,7 @@ fn in_pieces(
             walk.try_reset_cache().expect("a fresh cache");
         }
         if numbers.below(9) == 0 {
-            // What would match if the haystack ended here is no part of the answer.
+            // What would match if the haystack ended here is not part of the result.
             walk.end(None)?.for_each(drop);
         }
     }
@@ -108,7 +109,7 @@ fn in_pieces(
     Ok(())
 }
 
-/// The patterns of ends.
+/// Returns the set of the patterns of ends.
 fn patterns_of(ends: &[HalfMatch], capacity: usize) -> PatternSet {
     let mut set = PatternSet::new(capacity);
     for half in ends {
@@ -117,11 +118,11 @@ fn patterns_of(ends: &[HalfMatch], capacity: usize) -> PatternSet {
     set
 }
 
-/// Patterns, the letters of the texts that they are searched in, and a quit byte.
+/// Patterns, the letters of the texts to search, and a quit byte.
 type Row = (&'static [&'static str], &'static [u8], Option<u8>);
 
-/// Random texts at random cuts, over caches that are cleared and reset, have the ends, the set of patterns and the
-/// error of a search of the whole.
+/// In random texts with random cuts, over caches that are cleared and reset, a walk reports the same ends,
+/// the same set of patterns and the same error as searches of the whole text.
 #[test]
 fn as_the_whole() -> Tested {
     let rows: [Row; 9] = [
@@ -152,7 +153,7 @@ fn as_the_whole() -> Tested {
             for _ in 0..200 {
                 let length = numbers.below(120);
                 let text: Vec<u8> = (0..length).map(|_| letters[numbers.below(letters.len())]).collect();
-                // A quit byte before the haystack is an error at the offset 0, and so is tested elsewhere.
+                // A quit byte before the haystack is an error at offset 0, so this is tested elsewhere.
                 let start = if quit.is_some() { 0 } else { numbers.below(length + 1) };
                 let stop = start + numbers.below(length - start + 1);
                 let pattern = PatternID::must(numbers.below(4));
@@ -180,7 +181,8 @@ fn as_the_whole() -> Tested {
     Ok(())
 }
 
-/// Each pattern of an offset is reported once; by default those are left out that the first match is preferred to.
+/// Each pattern at an offset is reported once; by default patterns to which the first match is preferred are
+/// left out.
 #[test]
 fn patterns() -> Tested {
     let patterns = ["a+", "b", "ab", "[ab]+", "b$"];
@@ -198,7 +200,7 @@ fn patterns() -> Tested {
     Ok(())
 }
 
-/// The bytes beside the haystack count for assertions.
+/// The bytes before and after the haystack count for assertions.
 #[test]
 fn beside() -> Tested {
     let dfa = bytes_dfa(&[r"\bfoo\b", "foo$"], all())?;
@@ -215,7 +217,7 @@ fn beside() -> Tested {
     Ok(())
 }
 
-/// An iterator that is dropped has read the piece up to its rest, from where the walk goes on.
+/// An iterator that is dropped has read the piece up to its rest, from which the walk continues.
 #[test]
 fn stops_early() -> Tested {
     let dfa = bytes_dfa(&["[ab]", "b"], all())?;
@@ -231,13 +233,13 @@ fn stops_early() -> Tested {
     assert_eq!((ends.next(), ends.rest()), (None, &b""[..]));
     assert_eq!(ends.next(), None);
     assert_eq!(end(&mut walk, None)?, halves(&[(0, 5), (1, 5)]));
-    // One that is not advanced reads nothing.
+    // An iterator that is not advanced reads nothing.
     drop(walk.read(b"bbbb"));
     assert_eq!(end(&mut walk, None)?, halves(&[(0, 5), (1, 5)]));
     Ok(())
 }
 
-/// A walk that is cancelled leaves a cache that serves others, searches in pieces too.
+/// A walk that is cancelled leaves a cache that can serve other searches, also in pieces.
 #[test]
 fn cancelled() -> Tested {
     let regex = Regex::new("foo[0-9]+")?;
@@ -257,7 +259,7 @@ fn cancelled() -> Tested {
     Ok(())
 }
 
-/// A walk that owns its cache stands in a struct, and goes to another thread between two pieces.
+/// A walk that owns its cache can be stored in a struct, and sent to another thread between two pieces.
 #[test]
 fn moves() -> Tested {
     let dfa = bytes_dfa(&["foo[0-9]+", "o"], all())?;
@@ -275,7 +277,7 @@ fn moves() -> Tested {
     Ok(())
 }
 
-/// A quit byte is an error at its offset, wherever it stands, and the walk stands where it had come to before.
+/// A quit byte is an error at its offset, wherever it is, and the walk remains where it was before it.
 #[test]
 fn quits() -> Tested {
     let dfa = bytes_dfa(&["[a-z]+"], all().quit(b';', true))?;
@@ -296,7 +298,8 @@ fn quits() -> Tested {
     Ok(())
 }
 
-/// A walk that gave up goes on in the rest of its piece with its cache reset, and no match is lost or reported twice.
+/// A walk that gave up continues in the rest of its piece after its cache is reset, and no match is lost or
+/// reported twice.
 #[test]
 fn gives_up() -> Tested {
     let config = all().cache_capacity(0).skip_cache_capacity_check(true);
@@ -325,7 +328,7 @@ fn gives_up() -> Tested {
     Ok(())
 }
 
-/// A mode that the DFA does not support, and a regex that skips, are errors by name.
+/// An anchored mode that the DFA does not support, and a regex that would have to skip matches, are errors.
 #[test]
 fn not_begun() -> Tested {
     let dfa = DFA::new("a")?;
@@ -349,7 +352,7 @@ fn not_begun() -> Tested {
     Ok(())
 }
 
-/// A cache of another regex panics.
+/// A walk with the cache of another regex panics.
 #[test]
 #[should_panic(expected = "the cache is of another regex")]
 fn another_cache() {

@@ -1,6 +1,6 @@
--- The definitions by subject, in the order in which a reader needs them. What an answer means stands in these:
+-- The definitions by subject, in the order in which a reader needs them. What an answer means is defined in these:
 --
---     Haystacks    haystacks, spans, the tape that a direction makes of a span, where a look holds
+--     Haystacks    haystacks, spans, the tape of a span in each direction, where a look holds
 --     ByteClasses  which bytes are of one class, and which look-behind bytes of one kind
 --     Nfas         an NFA as paths see it (Nfa, Engines), and what its builder and its constructor do
 --     Paths        edges and paths, their order, which path a search selects
@@ -10,7 +10,7 @@
 --     Laws         the theorems, as statements; functions of `laws` have them as contracts
 --     Lists        members, sets and orders of lists of numbers, which all of these use
 --
--- Retraced has definitions that follow a loop of the code. No promise rests on one of them alone: the law
+-- Retraced has definitions that follow a loop of the code. No contract rests on one of them alone: the law
 -- `steps_are_right` ties the steps to the relations of Powersets, and proofs do so with the others.
 pub mod Haystacks
 pub mod ByteClasses

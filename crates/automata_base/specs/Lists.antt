@@ -2,7 +2,7 @@
 use Rattle.std.specs.Prelude.{ℕ, ◌≡◌, ◌&&◌, Bool, true, ltb, List, [], ◌∷◌, ◌⊎◌, Option, Some, None, slice_get}
 use Rattle.automata_base.specs.Paths.Order.{Before, Upto}
 
--- A member of the list.
+-- The number is a member of the list.
 abbrev pub In : ℕ → List ℕ → Type 0
 In x [] = ⊥
 In x (y ∷ ys) = (x ≡ y) ⊎ In x ys
@@ -16,7 +16,7 @@ Distinct (x ∷ xs) = (In x xs → ⊥) × Distinct xs
 pub record HasLeastKey (P : ℕ → List ℕ → Type 0) (q : ℕ) (rest : List ℕ) : Type 0 where
   -- that key
   pub key : List ℕ
-  -- it is one of the state's
+  -- it is a key of the state
   pub has : P q key
   -- no key of the state is less
   pub least : (other : List ℕ) → P q other → Upto key other
@@ -37,17 +37,17 @@ abbrev pub cons_some : Option ℕ → List ℕ → List ℕ
 cons_some None ys = ys
 cons_some (Some y) ys = y ∷ ys
 
--- What `g` makes of the states of a list, in order.
+-- The states that `g` gives for the states of a list, in order.
 abbrev pub pick : (ℕ → Option ℕ) → List ℕ → List ℕ
 pick g [] = []
 pick g (x ∷ xs) = cons_some (g x) (pick g xs)
 
--- A key that begins with a root's index goes on with a path from that root.
+-- A key is the index of a root, followed by a path from that root to the state.
 abbrev pub From : (ℕ → List ℕ → ℕ → Type 0) → List ℕ → ℕ → List ℕ → Type 0
 From S roots q [] = ⊥
 From S roots q (k ∷ path) = (root : ℕ) × (slice_get roots k ≡ Some root) × S root path q
 
--- The list has just the states that fit.
+-- The list has exactly the states for which `P` holds.
 abbrev pub IsSet : (ℕ → Type 0) → List ℕ → Type 0
 IsSet P xs = ((q : ℕ) → In q xs → P q) × ((q : ℕ) → P q → In q xs)
 

@@ -1,4 +1,4 @@
-//! The laws that searches are built on. Each function does nothing: its contract is the law.
+//! The laws that searches rely on. Each function does nothing: its contract is the law.
 ghost use Rattle.automata_base.specs.Nfas.Drafts.{PrefixesSkipLazily};
 ghost use Rattle.automata_base.specs.Laws.KeptUnions.{AcyclicKeepsCycles, UnionsKeepCycles, UnionsAreDropped};
 ghost use Rattle.automata_base.specs.Laws.LateIsRight.{SearchesAreRight, WalksAreRight, NearestEndsAreRight};
@@ -20,18 +20,18 @@ ghost use Rattle.automata_base.specs.Laws.MergedUnions.{MergedPairsAlike, Merged
 
 use crate::nfa::thompson::NFA;
 
-/// What powerset states keep. An NFA keeps its cycles if no cycle of epsilon edges passes a look, and if it keeps
-/// unions. If it does not keep unions, its powerset states have byte, look and match states alone.
+/// An NFA keeps its cycles if no cycle of epsilon edges passes a look, and also if it keeps unions. If it does not keep
+/// unions, its powerset states have only byte, look and match states.
 pub fn cycles_are_kept()
     ensures acyclic { AcyclicKeepsCycles }
     ensures unions { UnionsKeepCycles }
     ensures dropped { UnionsAreDropped }
 {}
 
-/// Late is right: a pass, whose matches are delayed by one byte, and whose looks are decided when the next byte is
-/// known, reports what the ordered paths select, if the NFA keeps its cycles. For every NFA an earliest search reports
-/// the nearest end, and under `MatchKind::All` any other one the farthest end, and an overlapping search the patterns
-/// of all accepting paths.
+/// Delayed matches are sound: a pass, which delays matches by one byte and decides looks when the next byte is known,
+/// reports what the ordered paths select, if the NFA keeps its cycles. For every NFA, an earliest search reports the
+/// nearest end. Under `MatchKind::All`, any other search reports the farthest end, and an overlapping search the
+/// patterns of all accepting paths.
 pub fn late_is_right()
     ensures searches { SearchesAreRight }
     ensures walks { WalksAreRight }
@@ -40,8 +40,9 @@ pub fn late_is_right()
     ensures pairs { PairsAreRight }
 {}
 
-/// The start is the right one: over a true pair whose forward NFA keeps the UTF-8 promise, the reverse pass finds where
-/// the chosen path began. Every reverse NFA finds the farthest place, even one with look cycles, and that is enough.
+/// The reverse search finds the right start: over a true pair whose forward NFA keeps the UTF-8 promise, the reverse
+/// pass finds where the chosen path began. Every reverse NFA, even one with look cycles, finds the farthest place, and
+/// that is enough.
 pub fn start_is_right()
     ensures starts { StartsAreRight }
     ensures found { SpansAreFound }
@@ -52,9 +53,9 @@ pub fn start_is_right()
     ensures quits { BackMeetsNone }
 {}
 
-/// The functions by which contracts retrace the powerset construction mean its relations: a step by `successor` goes to
-/// the one state that is the successor, and a search by `start_state_of` starts in the one that is the start. The
-/// patterns of each are the NFA's.
+/// The functions with which contracts retrace the powerset construction agree with its relations: `successor` gives the
+/// only successor of a state, and `start_state_of` the only start state of a search. The patterns of both are patterns
+/// of the NFA.
 pub fn steps_are_right(nfa: &NFA)
     ensures successors { SuccessorsAreRight nfa.now }
     ensures starts { PowersetStartsAreRight nfa.now }
@@ -63,8 +64,8 @@ pub fn steps_are_right(nfa: &NFA)
     let _states = nfa.states();
 }
 
-/// What steps and starts do not distinguish, so that one transition serves a class of bytes, and one start all
-/// look-behind bytes of a kind.
+/// Steps do not distinguish the bytes of a class, and starts do not distinguish look-behind bytes of one kind. So one
+/// transition serves a class of bytes, and one start state all look-behind bytes of a kind.
 pub fn steps_are_alike()
     ensures classes { ClassesStepAlike }
     ensures quits { ClassesQuitAlike }
@@ -72,9 +73,9 @@ pub fn steps_are_alike()
     ensures dead { DeadStaysDead }
 {}
 
-/// What a pass reports, byte by byte, is what the ordered paths through the tape select, if the NFA keeps its cycles.
-/// For every NFA it is the nearest end of an earliest search, or under `MatchKind::All` the farthest end of any other
-/// one. Passes report one answer, also if offsets inside a UTF-8 encoded character are skipped.
+/// A pass, which reads byte by byte, reports what the ordered paths through the tape select, if the NFA keeps its
+/// cycles. For every NFA, an earliest pass reports the nearest end, and under `MatchKind::All` any other pass reports
+/// the farthest end. Passes report at most one answer, even if offsets inside a UTF-8 encoded character are skipped.
 pub fn passes_report_paths()
     ensures selects { PassesSelect }
     ensures nearest { PassesFindNearest }
@@ -82,9 +83,9 @@ pub fn passes_report_paths()
     ensures one { ReportedIsOne }
 {}
 
-/// What passes report is the answer of the ordered paths, both with offsets inside characters skipped, if the NFA keeps
-/// its cycles; and for every NFA the nearest end of an earliest search, or under `MatchKind::All` the farthest end of
-/// any other one. It lies in the span, and its pattern is the NFA's.
+/// If the NFA keeps its cycles, passes report the answer of the ordered paths, with the same offsets inside characters
+/// skipped. For every NFA, the answer is the nearest end in an earliest search, and under `MatchKind::All` the farthest
+/// end in any other one. It lies in the span, and its pattern is a pattern of the NFA.
 pub fn reported_is_right(nfa: &NFA)
     ensures answer { ReportedIsRight nfa.now }
     ensures ends { ReportedEndsAreRight nfa.now }
@@ -93,9 +94,9 @@ pub fn reported_is_right(nfa: &NFA)
     let _states = nfa.states();
 }
 
-/// What the pass of an overlapping search reports is one list. If the NFA keeps its cycles, it is the list of the
-/// ordered paths; and for every NFA it has, under `MatchKind::All`, the pairs of all accepting paths. Each pair lies in
-/// the span, and its pattern is the NFA's.
+/// The pass of an overlapping search reports exactly one list. If the NFA keeps its cycles, it is the list of the
+/// ordered paths. For every NFA, under `MatchKind::All`, it has the pairs of all accepting paths. Each pair lies in the
+/// span, and its pattern is a pattern of the NFA.
 pub fn walk_is_right(nfa: &NFA)
     ensures reported { WalksAreReported nfa.now }
     ensures one { WalksAreOne }
@@ -110,22 +111,22 @@ pub fn walk_is_right(nfa: &NFA)
 }
 
 /// `NFA::skips_lazily` is true of an NFA that starts at the lazy loop which a builder adds, if the states before the
-/// loop lead to no others.
+/// loop lead only to each other.
 pub fn prefixes_skip_lazily()
     ensures { PrefixesSkipLazily }
 {}
 
-/// An NFA that skips lazily and the reversed one are a true pair: each edge of the one is an edge of the other that
-/// leads back, with its look flipped, and the paths of a pattern begin at its matches and end where those of the other
-/// begin.
+/// An NFA that skips lazily and its reversed NFA are a true pair: each edge of one is an edge of the other in the
+/// opposite direction, with its look flipped. In the reversed NFA, the paths of a pattern begin at the pattern's
+/// matches, and end where the paths of the NFA begin.
 pub fn reversed_is_true()
     ensures pair { ReversedIsTrue }
     ensures patterns { PatternsAreReversed }
 {}
 
-/// Merged unions change no answer: the paths of an NFA and those of the merged one correspond, in one order. What else
-/// a search or a regex asks of an NFA holds of the merged one as well: that no cycle of epsilon edges passes a look,
-/// that it keeps the UTF-8 promise, that the empty match begins alike, and that it is the reverse NFA of a true pair.
+/// Merging unions changes no answer: the paths of an NFA correspond to those of the merged NFA, in the same order. The
+/// other properties that searches and regexes need carry over: no cycle of epsilon edges passes a look, the NFA keeps
+/// the UTF-8 promise, the empty match begins alike, and it is the reverse NFA of a true pair.
 pub fn merged_answers_alike()
     ensures answers { MergedAnswerAlike }
     ensures accepts { MergedAcceptAlike }

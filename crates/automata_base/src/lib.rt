@@ -1,4 +1,4 @@
-//! The base of the lazy DFA: NFAs, inputs, determinization, and the theory that they stand on.
+//! The base of the lazy DFA: NFAs, inputs, determinization, and the laws that searches rely on.
 #![tactic(auto)]
 
 pub mod laws;

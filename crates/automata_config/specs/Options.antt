@@ -1,10 +1,10 @@
--- What contracts see of a configuration: each option as it was set, if it was set, and the value that it stands for.
+-- The view of a configuration in contracts: each option as it was set, if it was, and the value that takes effect.
 use Rattle.std.specs.Prelude.{ℕ, Bool, true, false, not, ◌&&◌, nat_le, List, Option, None, unwrap_or, replicate}
 use Rattle.std.specs.Option.{option_or}
 use Rattle.automata_base.specs.declared.util.search.MatchKind.{MatchKind}
 use Rattle.automata_base.specs.declared.util.search.MatchKind.TheVariants.{LeftmostFirst}
 
--- An option that was not set has its default.
+-- The options of a lazy DFA. An option that was not set has its default.
 pub record Options : Type 0 where
   -- which matches a search reports
   pub match_kind : Option MatchKind
@@ -12,7 +12,7 @@ pub record Options : Type 0 where
   pub starts_for_each_pattern : Option Bool
   -- whether bytes that the NFA does not distinguish share a class
   pub byte_classes : Option Bool
-  -- whether Unicode word boundaries are tried: decided as ASCII ones, with quit bytes from 0x80 on
+  -- whether Unicode word boundaries are treated as ASCII ones, with the bytes from 0x80 on as quit bytes
   pub unicode_word_boundary : Option Bool
   -- for each byte, whether it is in the quit set
   pub quits : Option (List Bool)
@@ -24,11 +24,11 @@ pub record Options : Type 0 where
   pub skip_cache_capacity_check : Option Bool
   -- the number of clears after which a search may give up; if it is set to none, it never does
   pub minimum_cache_clear_count : Option (Option ℕ)
-  -- the bytes for each state which keep a search from giving up, if so many were searched since the last clear; if it
-  -- is set to none, no number does
+  -- how many bytes for each state keep a search from giving up, if they were searched since the last clear; if it is
+  -- set to none, no number does
   pub minimum_bytes_per_state : Option (Option ℕ)
 
--- No option is set.
+-- The options when none was set.
 abbrev pub unset : Options
 unset = record {
   match_kind = None;
@@ -43,7 +43,7 @@ unset = record {
   minimum_bytes_per_state = None;
 }
 
--- Option by option, what is set in the newer one, and otherwise what the older one has.
+-- The options that the newer configuration sets, and for the others those of the older one.
 abbrev pub overwritten : (old new : Options) → Options
 overwritten old new = record {
   match_kind = option_or new.match_kind old.match_kind;
@@ -70,15 +70,15 @@ starts_for_each_pattern_of o = unwrap_or o.starts_for_each_pattern false
 abbrev pub byte_classes_of : Options → Bool
 byte_classes_of o = unwrap_or o.byte_classes true
 
--- Whether Unicode word boundaries are tried: by default they are not.
+-- Whether Unicode word boundaries are treated as ASCII ones: by default they are not.
 abbrev pub unicode_word_boundary_of : Options → Bool
 unicode_word_boundary_of o = unwrap_or o.unicode_word_boundary false
 
--- The quit set without a byte.
+-- The empty quit set.
 unfoldable pub no_quits : List Bool
 no_quits = replicate 256 false
 
--- For each byte, whether it is in the quit set that was configured: by default none is.
+-- For each byte, whether it is in the configured quit set, which is empty by default.
 abbrev pub quits_of : Options → List Bool
 quits_of o = unwrap_or o.quits no_quits
 
@@ -98,10 +98,11 @@ skip_cache_capacity_check_of o = unwrap_or o.skip_cache_capacity_check false
 abbrev pub minimum_cache_clear_count_of : Options → Option ℕ
 minimum_cache_clear_count_of o = unwrap_or o.minimum_cache_clear_count None
 
--- The bytes for each state which keep a search from giving up: by default no number does.
+-- The number of bytes for each state that keeps a search from giving up: by default no number does.
 abbrev pub minimum_bytes_per_state_of : Options → Option ℕ
 minimum_bytes_per_state_of o = unwrap_or o.minimum_bytes_per_state None
 
--- Under the heuristic for Unicode word boundaries no byte from 0x80 on may be taken out of the quit set.
+-- Whether a byte may be added to the quit set or removed from it: under the heuristic for Unicode word boundaries, no
+-- byte from 0x80 on may be removed.
 abbrev pub allows_quit : Options → (byte : ℕ) → (set : Bool) → Bool
 allows_quit o byte set = not (unicode_word_boundary_of o && nat_le 128 byte && not set)

@@ -1,7 +1,7 @@
--- What contracts see of what a DFA is built from.
+-- The view, in contracts, of the settled values that a DFA is built from.
 use Rattle.std.specs.Prelude.{ℕ, Bool, List}
 
--- The class of each byte, whether each byte is a quit byte, and the capacity.
+-- The settled values that a DFA is built from: the class of each byte, the quit bytes, and the capacity.
 pub record Settled : Type 0 where
   -- the class of each byte
   pub classes : List ℕ

@@ -1,4 +1,4 @@
--- What a configuration makes of an NFA: a quit set, classes and a capacity, or an error.
+-- What a configuration settles for an NFA: a quit set, byte classes and a capacity, or an error.
 use Rattle.std.specs.Prelude.{ℕ, ◌≡◌, ◌+◌, ◌*◌, ◌<◌, ◌≤◌, Bool, not, ◌&&◌, ◌||◌, nat_le, nat_lt, eqb, if◌then◌else◌}
 use Rattle.std.specs.Prelude.{List, [], ◌∷◌, map, Option, Some, None}
 use Rattle.std.specs.List.{list_all, list_any, range_with_len}
@@ -24,12 +24,12 @@ use Rattle.automata_config.specs.declared.error.BuildError.TheVariants.{Insuffic
 abbrev pub occurs : Automaton → Look → Bool
 occurs a look = any_node (λ other. eqb (look_index other) (look_index look)) (nfa_of a).nodes
 
--- The looks that ask for word characters of Unicode.
+-- The looks that test for Unicode word characters.
 abbrev pub unicode_word_looks : List Look
 unicode_word_looks =
     WordUnicode ∷ WordUnicodeNegate ∷ WordStartUnicode ∷ WordEndUnicode ∷ WordStartHalfUnicode ∷ WordEndHalfUnicode ∷ []
 
--- Whether some state of the NFA is one of these looks.
+-- Whether some state of the NFA is a look that tests for Unicode word characters.
 unfoldable pub has_unicode_word : Automaton → Bool
 has_unicode_word a = list_any (occurs a) unicode_word_looks
 
@@ -41,11 +41,12 @@ are_quits quits first count = list_all (is_quit quits) (range_with_len first cou
 abbrev pub holds_non_ascii : (quits : List Bool) → Bool
 holds_non_ascii quits = are_quits quits 128 128
 
--- A Unicode word boundary is decided on ASCII text alone: the heuristic or the quit set stops a search at other bytes.
+-- Whether the NFA has a Unicode word boundary that cannot be decided: neither the heuristic nor the quit set stops a
+-- search at each byte from 0x80 on.
 abbrev pub is_unsupported : Options → Automaton → Bool
 is_unsupported o a = has_unicode_word a && not (unicode_word_boundary_of o || holds_non_ascii (quits_of o))
 
--- The quit set of a DFA: what was configured, and the bytes from 0x80 on if the heuristic needs them.
+-- The quit set of a DFA: the configured bytes, and those from 0x80 on if the heuristic needs them.
 unfoldable pub settled_quits : Options → Automaton → List Bool
 settled_quits o a =
     map (λ byte. is_quit (quits_of o) byte || (has_unicode_word a && unicode_word_boundary_of o && nat_le 128 byte))
@@ -55,7 +56,7 @@ settled_quits o a =
 abbrev pub settled_stride : Options → Automaton → ℕ
 settled_stride o a = stride_for (class_of a (settled_quits o a) (byte_classes_of o) 255 + 2)
 
--- How many start slots a cache of the DFA has.
+-- The number of start slots of a cache of the DFA.
 abbrev pub settled_slots : Options → Automaton → ℕ
 settled_slots o a = start_slots a (starts_for_each_pattern_of o)
 
@@ -71,11 +72,11 @@ max_offset = 134217727
 unfoldable pub greatest_offset : Options → Automaton → ℕ
 greatest_offset o a = (4 + settled_slots o a) * settled_stride o a
 
--- The capacity is below the minimum, and the check is not skipped.
+-- Whether the capacity is below the minimum, and the check is not skipped.
 abbrev pub is_too_small : Options → Automaton → Bool
 is_too_small o a = not (skip_cache_capacity_check_of o) && nat_lt (cache_capacity_of o) (settled_minimum o a)
 
--- Why no DFA of the NFA is built, if none is.
+-- Why no DFA of the NFA can be built, or none if one can.
 abbrev pub settling_error : Options → Automaton → Option BuildError
 settling_error o a =
     if is_unsupported o a then Some Unsupported
@@ -83,13 +84,13 @@ settling_error o a =
     else (if nat_lt max_offset (greatest_offset o a) then Some (InsufficientStateIDCapacity (greatest_offset o a))
     else None))
 
--- What is settled: the quit set, the classes of bytes, and the capacity, which is at least the minimum.
+-- The record has the settled values: the quit set, the byte classes, and the capacity, which is at least the minimum.
 pub record IsSettled (o : Options) (a : Automaton) (s : Settled) : Type 0 where
-  -- the quit set: what was configured, and the bytes from 0x80 on if the heuristic needs them
+  -- the quit set: the configured bytes, and those from 0x80 on if the heuristic needs them
   pub quits : s.quits ≡ settled_quits o a
   -- the class of each byte
   pub classes : (byte : ℕ) → byte < 256 → class_in s.classes byte ≡ class_of a s.quits (byte_classes_of o) byte
-  -- the effective capacity: what was configured, or the minimum if that is larger
+  -- the effective capacity: the configured one, or the minimum if that is larger
   pub capacity : s.capacity ≡ effective_capacity (cache_capacity_of o) (settled_minimum o a)
   -- the offset of each row in a table of the minimum capacity fits into its ID
   pub offsets : greatest_offset o a ≤ max_offset

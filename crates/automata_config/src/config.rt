@@ -1,4 +1,4 @@
-//! The options of a lazy DFA, and what is settled by them for an NFA.
+//! The options of a lazy DFA, and what they settle for an NFA.
 ghost use Rattle.std.specs.Prelude.{◌≡◌, ◌<◌, ◌||◌, ℕ, length, nat_le};
 ghost use Rattle.automata_base.specs.ByteClasses.Classes.{is_quit};
 ghost use Rattle.automata_base.specs.Haystacks.LookSets.{truth_of};
@@ -71,14 +71,14 @@ impl Config {
     ghost use Rattle.automata_config.specs.Options.{unset, overwritten};
     ghost use Rattle.automata_config.specs.Options as options;
 
-    /// A configuration in which no option is set.
+    /// Returns a configuration in which no option is set.
     pub fn new() -> Config
         ensures { result ≡ unset }
     {
         Config::default()
     }
 
-    /// Which matches a search reports. By default `MatchKind::LeftmostFirst`: the match of the path that is preferred.
+    /// Sets which matches a search reports. The default is `MatchKind::LeftmostFirst`: the match of the preferred path.
     /// Choose `MatchKind::All` for all overlapping matches, for sets of patterns, and for the DFA of a reversed NFA.
     ///
     /// ```rust
@@ -95,9 +95,9 @@ impl Config {
         }
     }
 
-    /// Whether each pattern has start states of its own, so that it can be searched for alone, by `Anchored::Pattern`.
-    /// By default it has none, and such a search is an error. Six more start states for each pattern raise the minimum
-    /// capacity of a cache.
+    /// Sets whether each pattern has its own start states, so that a search can be anchored to it by
+    /// `Anchored::Pattern`. By default it does not, and such a search is an error. The six additional start states for
+    /// each pattern raise the minimum capacity of a cache.
     pub fn starts_for_each_pattern(self, yes: bool) -> Config
         ensures { result ≡ record self { starts_for_each_pattern = Some yes } }
     {
@@ -107,8 +107,8 @@ impl Config {
         }
     }
 
-    /// Whether bytes that the NFA does not distinguish share a class, which makes rows shorter. By default they do;
-    /// otherwise each byte is a class of its own, which only helps to look at a DFA while it is debugged.
+    /// Sets whether bytes that the NFA does not distinguish share a class, which makes rows shorter. By default they
+    /// do. Otherwise each byte is its own class, which only helps to debug a DFA.
     pub fn byte_classes(self, yes: bool) -> Config
         ensures { result ≡ record self { byte_classes = Some yes } }
     {
@@ -118,9 +118,9 @@ impl Config {
         }
     }
 
-    /// Whether Unicode word boundaries are tried: if the NFA has one, it is decided as an ASCII one, and the bytes from
-    /// 0x80 on are quit bytes, so that searches of other text fail. By default they are not tried: an NFA that has one
-    /// is an error, unless all these bytes are quit bytes.
+    /// Sets whether Unicode word boundaries are heuristically enabled. If the NFA has one, it is then treated as an
+    /// ASCII word boundary, and the bytes from 0x80 on are quit bytes, so that a search fails at such a byte. By
+    /// default they are not enabled: an NFA that has one is an error, unless all these bytes are quit bytes.
     pub fn unicode_word_boundary(self, yes: bool) -> Config
         ensures { result ≡ record self { unicode_word_boundary = Some yes } }
     {
@@ -130,18 +130,19 @@ impl Config {
         }
     }
 
-    /// Whether `quit` accepts this byte.
+    /// Whether `quit` accepts these arguments: with `unicode_word_boundary`, no byte from 0x80 on may be removed.
     pub fn allows_quit(&self, byte: u8, yes: bool) -> bool
         ensures { result ≡ options.allows_quit self.now byte yes }
     {
         !(self.get_unicode_word_boundary() && byte >= 0x80 && !yes)
     }
 
-    /// Puts a byte into the set of bytes at which a search quits, or takes it out. By default the set is empty. With
-    /// `unicode_word_boundary` no byte from 0x80 on may be taken out: `allows_quit` is the test.
+    /// Adds a byte to the quit set if `yes` is true, and removes it otherwise. A search stops with an error at a byte
+    /// of this set. By default the set is empty. With `unicode_word_boundary`, no byte from 0x80 on may be removed;
+    /// `allows_quit` tests this.
     ///
-    /// A search that meets a quit byte returns an error with its offset. So a caller with a second engine can have it
-    /// search what this DFA is not meant for:
+    /// A search that meets a quit byte returns an error with its offset. A caller that has a second engine can use it
+    /// for the haystacks that this DFA is not meant for:
     ///
     /// ```rust
     /// let fast = builder
@@ -158,8 +159,8 @@ impl Config {
         }
     }
 
-    /// Whether the IDs of start states are tagged, so that `LazyStateID::is_start` is true of them. By default they are
-    /// not. Only a search by steps of your own can make use of it.
+    /// Sets whether the IDs of start states are tagged, so that `LazyStateID::is_start` is true of them. By default
+    /// they are not. Only a search by your own steps can use the tag.
     pub fn specialize_start_states(self, yes: bool) -> Config
         ensures { result ≡ record self { specialize_start_states = Some yes } }
     {
@@ -169,10 +170,10 @@ impl Config {
         }
     }
 
-    /// The most bytes that a cache may account for. By default 2 MiB. A capacity below `get_minimum_cache_capacity` is
-    /// an error when a DFA is built, unless `skip_cache_capacity_check` is set.
+    /// Sets the most bytes that a cache may account for. The default is 2 MiB. A capacity below
+    /// `get_minimum_cache_capacity` is an error when a DFA is built, unless `skip_cache_capacity_check` is set.
     ///
-    /// A cache that is full is cleared, so a small one costs time: states are determinized again.
+    /// A full cache is cleared, and its states are determinized again, so a small cache costs time.
     pub fn cache_capacity(self, bytes: usize) -> Config
         ensures { result ≡ record self { cache_capacity = Some bytes } }
     {
@@ -182,7 +183,7 @@ impl Config {
         }
     }
 
-    /// Whether a capacity below the minimum is raised to it. By default such a capacity is an error.
+    /// Sets whether a capacity below the minimum is raised to it. By default such a capacity is an error.
     pub fn skip_cache_capacity_check(self, yes: bool) -> Config
         ensures { result ≡ record self { skip_cache_capacity_check = Some yes } }
     {
@@ -192,8 +193,8 @@ impl Config {
         }
     }
 
-    /// The number of clears after which a search may give up instead of clearing the cache once more. By default,
-    /// `None`, it never gives up. Set it if you have another engine to fall back on.
+    /// Sets the number of clears after which a search may give up instead of clearing the cache once more. With `None`,
+    /// the default, it never gives up. Set it if you have another engine to fall back on.
     pub fn minimum_cache_clear_count(self, min: Option<usize>) -> Config
         ensures { result ≡ record self { minimum_cache_clear_count = Some min } }
     {
@@ -203,8 +204,9 @@ impl Config {
         }
     }
 
-    /// The number of bytes for each state of the cache which keeps a search from giving up, if so many were searched
-    /// since the last clear. By default, `None`, no number does. It counts only if `minimum_cache_clear_count` is set.
+    /// Sets how many bytes must have been searched since the last clear, for each state of the cache, to keep a search
+    /// from giving up. With `None`, the default, no number of bytes does. The setting counts only if
+    /// `minimum_cache_clear_count` is set.
     pub fn minimum_bytes_per_state(self, min: Option<usize>) -> Config
         ensures { result ≡ record self { minimum_bytes_per_state = Some min } }
     {
@@ -214,28 +216,28 @@ impl Config {
         }
     }
 
-    /// Which matches a search reports. By default `MatchKind::LeftmostFirst`.
+    /// Returns which matches a search reports. The default is `MatchKind::LeftmostFirst`.
     pub fn get_match_kind(&self) -> MatchKind
         ensures { result ≡ options.match_kind_of self.now }
     {
         self.match_kind.unwrap_or(MatchKind::LeftmostFirst)
     }
 
-    /// Whether each pattern has start states of its own. By default it has none.
+    /// Whether each pattern has its own start states. By default it does not.
     pub fn get_starts_for_each_pattern(&self) -> bool
         ensures { result ≡ options.starts_for_each_pattern_of self.now }
     {
         self.starts_for_each_pattern.unwrap_or(false)
     }
 
-    /// Whether bytes that the NFA cannot distinguish share a class. By default they do.
+    /// Whether bytes that the NFA does not distinguish share a class. By default they do.
     pub fn get_byte_classes(&self) -> bool
         ensures { result ≡ options.byte_classes_of self.now }
     {
         self.byte_classes.unwrap_or(true)
     }
 
-    /// Whether Unicode word boundaries are decided as ASCII ones, with every byte from 0x80 on a quit byte. By default
+    /// Whether Unicode word boundaries are treated as ASCII ones, with the bytes from 0x80 on as quit bytes. By default
     /// they are not.
     pub fn get_unicode_word_boundary(&self) -> bool
         ensures { result ≡ options.unicode_word_boundary_of self.now }
@@ -243,7 +245,7 @@ impl Config {
         self.unicode_word_boundary.unwrap_or(false)
     }
 
-    /// Whether the byte was put into the quit set. Bytes that `unicode_word_boundary` adds are not included.
+    /// Whether the byte was added to the quit set. Bytes that `unicode_word_boundary` adds are not included.
     pub fn get_quit(&self, byte: u8) -> bool
         ensures { result ≡ is_quit (options.quits_of self.now) byte }
     {
@@ -257,7 +259,7 @@ impl Config {
         self.specialize_start_states.unwrap_or(false)
     }
 
-    /// The most bytes that a cache may account for. By default 2 MiB.
+    /// Returns the most bytes that a cache may account for. The default is 2 MiB.
     pub fn get_cache_capacity(&self) -> usize
         ensures { result ≡ options.cache_capacity_of self.now }
     {
@@ -271,23 +273,23 @@ impl Config {
         self.skip_cache_capacity_check.unwrap_or(false)
     }
 
-    /// The number of clears after which a search may give up instead of clearing the cache once more. By default,
-    /// `None`, it never gives up.
+    /// Returns the number of clears after which a search may give up instead of clearing the cache once more. With
+    /// `None`, the default, it never gives up.
     pub fn get_minimum_cache_clear_count(&self) -> Option<usize>
         ensures { result ≡ options.minimum_cache_clear_count_of self.now }
     {
         self.minimum_cache_clear_count.unwrap_or(None)
     }
 
-    /// The number of bytes for each state of the cache which keeps a search from giving up, if so many were searched
-    /// since the last clear. By default, `None`, no number does.
+    /// Returns how many bytes must have been searched since the last clear, for each state of the cache, to keep a
+    /// search from giving up. With `None`, the default, no number of bytes does.
     pub fn get_minimum_bytes_per_state(&self) -> Option<usize>
         ensures { result ≡ options.minimum_bytes_per_state_of self.now }
     {
         self.minimum_bytes_per_state.unwrap_or(None)
     }
 
-    /// Joins two configurations: each option that `new` sets, and otherwise what this one has.
+    /// Returns the options that `new` sets, and for the others those of this configuration.
     pub fn overwrite(&self, new: Config) -> Config
         ensures { result ≡ overwritten self.now new }
     {
@@ -309,7 +311,7 @@ impl Config {
         }
     }
 
-    /// The least capacity, in bytes, that a cache for the NFA may have. The only error is `Unsupported`.
+    /// Returns the minimum capacity, in bytes, of a cache for the NFA. The only error is `Unsupported`.
     pub fn get_minimum_cache_capacity(&self, nfa: &NFA) -> Result<usize, BuildError>
         ensures ok { IfOk result (λ minimum. minimum ≡ settled_minimum self.now nfa.now) }
         ensures refused { result_err result
@@ -320,11 +322,11 @@ impl Config {
         Ok(self.minimum_for(nfa, classes.stride()))
     }
 
-    /// Settles what a DFA of the NFA is built from.
+    /// Computes the byte classes, the quit set and the cache capacity of a DFA of the NFA.
     ///
-    /// It fails if a Unicode word boundary cannot be decided, if the capacity is below the minimum and the check of it
-    /// is not skipped, or if the offset of some row at the minimum is too great for an ID. The error is that of the
-    /// first test that fails.
+    /// It fails if the NFA has a Unicode word boundary that cannot be decided, if the capacity is below the minimum and
+    /// the check is not skipped, or if a row offset at the minimum capacity is too large for an ID. The first test that
+    /// fails, in this order, determines the error.
     pub fn settle(&self, nfa: &NFA) -> Result<Settled, BuildError>
         ensures ok { IfOk result (IsSettled self.now nfa.now) }
         ensures refused { result_err result ≡ settling_error self.now nfa.now }
@@ -348,7 +350,7 @@ impl Config {
         })
     }
 
-    /// Whether the configured capacity is below this minimum, in bytes, and the check of it is not skipped.
+    /// Whether the configured capacity is below this minimum, in bytes, and the check is not skipped.
     fn is_too_small_for(&self, minimum: usize) -> bool
         ensures { result ≡ (not (options.skip_cache_capacity_check_of self.now) && nat_lt
             (options.cache_capacity_of self.now) minimum) }
@@ -356,7 +358,7 @@ impl Config {
         !self.get_skip_cache_capacity_check() && self.get_cache_capacity() < minimum
     }
 
-    /// The least capacity, in bytes, that a cache for the NFA may have at this stride.
+    /// Returns the minimum capacity, in bytes, of a cache for the NFA at this stride.
     fn minimum_for(&self, nfa: &NFA, stride: usize) -> usize
         requires few { stride ≤ 512 }
         requires stride { stride ≡ settled_stride self.now nfa.now }
@@ -366,7 +368,8 @@ impl Config {
         minimum_capacity(stride, slots, max_cost(nfa), fixed_cost(nfa))
     }
 
-    /// The greatest offset of a row, in cells, in the table of a cache for the NFA that has the minimum capacity.
+    /// Returns the greatest offset of a row, in cells, in the table of a cache for the NFA that has the minimum
+    /// capacity.
     fn greatest_offset_for(&self, nfa: &NFA, stride: usize) -> usize
         requires few { stride ≤ 512 }
         requires stride { stride ≡ settled_stride self.now nfa.now }
@@ -376,8 +379,9 @@ impl Config {
         greatest_offset(stride, slots)
     }
 
-    /// The quit set of a DFA of the NFA. If the NFA has a Unicode word boundary, each byte from 0x80 on has to be in
-    /// it: the heuristic adds these bytes. If it is off and one of them is missing, the call fails with `Unsupported`.
+    /// Returns the quit set of a DFA of the NFA. If the NFA has a Unicode word boundary, the set must have every byte
+    /// from 0x80 on: the heuristic adds these bytes; if it is off and one of them is missing, the call fails with
+    /// `Unsupported`.
     fn settled_quits(&self, nfa: &NFA) -> Result<ByteSet, BuildError>
         ensures ok { IfOk result (λ quits. quits ≡ settled_quits self.now nfa.now) }
         ensures refused { result_err result
@@ -396,7 +400,7 @@ impl Config {
         Err(BuildError::Unsupported)
     }
 
-    /// The configured quit set, or the empty one if none is set.
+    /// Returns the configured quit set, or the empty one if none is set.
     fn quit_set(&self) -> ByteSet
         ensures whole { length result ≡ 256 }
         ensures set { result ≡ options.quits_of self.now }
@@ -405,7 +409,7 @@ impl Config {
     }
 }
 
-// The greatest number that the ID of a row may have without its tags.
+// The largest offset that the ID of a row can hold beside its tags: 2^27 - 1.
 const GREATEST_OFFSET: usize = 134217727;
 
 const UNICODE_WORD_LOOKS: [Look; 6] = [
@@ -443,7 +447,7 @@ fn holds_non_ascii(quits: &ByteSet) -> bool
     true
 }
 
-/// The quit set joined with the bytes from 0x80 on.
+/// Returns the quit set with every byte from 0x80 on added.
 fn with_non_ascii(quits: &ByteSet) -> ByteSet
     requires { length quits.now ≡ 256 }
     ensures whole { length result ≡ 256 }
@@ -456,7 +460,7 @@ fn with_non_ascii(quits: &ByteSet) -> ByteSet
     all
 }
 
-/// What a DFA is built from: what its settings make of its NFA.
+/// The byte classes, the quit set and the capacity that a DFA is built with, by its settings and its NFA.
 #[derive(Clone, Copy, Debug)]
 pub struct Settled {
     classes: ByteClasses,
@@ -478,7 +482,7 @@ impl Settled {
     ghost use Rattle.std.specs.Prelude.{◌≡◌};
     ghost use Rattle.automata_base.specs.ByteClasses.Classes.{is_quit};
 
-    /// The classes of bytes that the NFA or the quit set distinguishes.
+    /// Returns the byte classes: bytes that the NFA or the quit set distinguishes are in different ones.
     pub fn classes(&self) -> &ByteClasses
         ensures { result.now ≡ self.now.classes }
     {
@@ -492,14 +496,14 @@ impl Settled {
         self.quits.contains(byte)
     }
 
-    /// The quit bytes.
+    /// Returns the quit bytes.
     pub fn quit_set(&self) -> &ByteSet
         ensures { result.now ≡ self.now.quits }
     {
         &self.quits
     }
 
-    /// The most bytes that a cache may account for: at least the minimum.
+    /// Returns the most bytes that a cache may account for: at least the minimum.
     pub fn capacity(&self) -> usize
         ensures { result ≡ self.now.capacity }
     {

@@ -23,13 +23,13 @@ pub enum BuildError {
     /// The capacity given is below the minimum, both in bytes, and the check is not skipped.
     #[error("given cache capacity ({given}) is smaller than minimum required ({minimum})")]
     InsufficientCacheCapacity { minimum: usize, given: usize },
-    /// Some offset in the smallest table, in cells, is greater than an ID can hold.
+    /// A row offset in a table of the minimum capacity, in cells, is too large for an ID.
     #[error("failed to create LazyStateID from {attempted}, which exceeds 134217727")]
     InsufficientStateIDCapacity { attempted: usize },
     /// An allocation failed.
     #[error("out of memory")]
     OutOfMemory,
-    /// The two DFAs of a regex do not have equally many patterns.
+    /// The two DFAs of a regex have different numbers of patterns.
     #[error("forward DFA has {forward} patterns and reverse DFA has {reverse}")]
     PatternCounts { forward: usize, reverse: usize },
 }
@@ -76,7 +76,7 @@ pub enum SearchError {
     /// An allocation failed.
     #[error("out of memory")]
     OutOfMemory,
-    /// The search back found no start, since the two DFAs of the regex are no pair.
+    /// The reverse search found no start: the regex's reverse DFA does not belong to its forward DFA.
     #[error("reverse DFA finds no start for the match of the forward DFA")]
     NotAPair,
 }
@@ -169,7 +169,8 @@ impl<T: Drop> From<AllocFailed<T>> for SearchError {
     }
 }
 
-// A byte as text: printable ASCII as it is, a space in quotes, and the rest escaped.
+// A byte as text. Printable ASCII is unchanged, except that a space is in quotes, and quotes and backslashes are
+// escaped. All other bytes are escaped.
 #[derive(Clone, Copy)]
 struct ByteText(u8);
 

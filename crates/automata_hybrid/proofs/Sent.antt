@@ -1,4 +1,4 @@
--- A cache may move to another thread: what it owns may, field by field.
+-- A cache can be sent to another thread, because each of its fields can.
 use Rattle.std.proofs.Common.{List, [], ◌∷◌}
 use Rattle.std.proofs.Crossing.{crosses}
 use Rattle.std.proofs.MapsCrossing as maps
@@ -16,7 +16,7 @@ use Rattle.automata_hybrid.specs.contracts.cache.store.Store.TheInside as store
 use Rattle.automata_hybrid.specs.contracts.cache.table.Table.{the_row as table_row}
 use Rattle.automata_hybrid.specs.contracts.cache.table.Table.TheInside as table
 
--- each of these fields may move
+-- each of these fields can be sent
 abbrev pub MayMove : List Field → Type 0
 MayMove [] = Unit {0}
 MayMove (F ∷ Fs) = IsSend F.row × MayMove Fs

@@ -1,6 +1,6 @@
--- The words that most proofs of this crate use: a proof imports them from here, and others from where they stand.
--- Of the crate's own only those are here on which most of its proofs stand anyway, so that a change of another
--- definition proves no more anew.
+-- The names that most proofs of this crate use. A proof imports them from here, and other names from where they are
+-- defined. Of the crate's own definitions only those are here that most of its proofs depend on anyway, so that a
+-- change to any other definition does not invalidate more proofs.
 pub use Rattle.std.specs.Int.{bit_at}
 pub use Rattle.std.specs.Prelude.{Err, IfErr, IfOk, IfSome, is_some, IsBitSet, nat_le, nat_lt, Ok, OnOk}
 pub use Rattle.std.specs.Prelude.{option_and_then, option_map, Result, slice_get, slice_index, sum_by, unwrap_or, ◌&&◌}

@@ -1,5 +1,5 @@
 -- The definitions by subject, in the order in which a reader needs them. To learn what a call promises, begin with the
--- record that its contract names, and follow what its fields name:
+-- record that its contract names, and follow the names in its fields:
 --
 --     what a search returns                                Searches.Contracts: IsHalf, IsBased
 --     what a call of a walk returns                        Walks.Contracts: IsWalkCall
@@ -15,15 +15,15 @@
 --     what walks and sets do to it, and what follows       Known.Walks: IsWalkRun, IsSetRun; Known.WalksFollow
 --     what a step does to it, when it fails, what follows  Known.Steps: IsStepRun, StepFails, IsStartRun; Known.Effects
 --     what a search in pieces does to it                   Known.Pieces: IsBeginRun, IsPieceRun, IsAnswerRun
---     what follows of that                                 Known.PiecesFollow
+--     what follows from that                               Known.PiecesFollow
 --     what a walk in pieces does to it                     Known.Pieces: IsBeginRun, IsWalkCallRun, IsWalkEndRun
 --     what every call keeps of it                          Known.Growth: IsGrown; Known.Cached
 --
--- What a DFA is stands in Machines; its IDs, for steps and for what one looks at in a cache, in Cache.Ids, Cache.Table
--- and Cache.States. Private has, by the same folders, the words of private functions and of proofs: no contract of a
--- public call reaches them. There the cache's own functions speak of rows, cells and slots; what Known has too ends
--- with in_store there. Steps.BySteps says by `IsPassAnswer` and `IsUnderway` of Searches.PassContracts where a search
--- by steps stands. `marked` of Machines.Machine follows a loop of the code.
+-- Machines defines what a DFA is; Cache.Ids, Cache.Table and Cache.States define its IDs, for steps and for inspecting
+-- a cache. Private has, in the same folders, the definitions for private functions and for proofs: no contract of a
+-- public call reaches them. There the cache's own functions use rows, cells and slots; a definition that Known has too
+-- ends with in_store there. Steps.BySteps uses `IsPassAnswer` and `IsUnderway` of Searches.PassContracts to say where a
+-- search by steps is. `marked` of Machines.Machine follows a loop of the code.
 pub mod Machines
 pub mod Cache
 pub mod Steps

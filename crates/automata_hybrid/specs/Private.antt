@@ -1,4 +1,4 @@
--- What no contract of a public call reaches: the words of private functions and of proofs, by the same folders.
+-- What no contract of a public call reaches: the definitions for private functions and for proofs, in the same folders.
 pub mod Cache
 pub mod Machines
 pub mod Pieces

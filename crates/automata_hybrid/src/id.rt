@@ -6,13 +6,13 @@ ghost use Rattle.automata_hybrid.specs.Private.Cache.Ids.{HasOnly};
 
 use std::marker::Model;
 
-/// A state of a lazy DFA, by the offset of its row in the transition table. The five high bits are tags: unknown, dead,
-/// quit, start and match. An ID belongs to one cache, and a clear of that cache can end it.
+/// The ID of a state of a lazy DFA: the offset of the state's row in the transition table. The five high bits are tags:
+/// unknown, dead, quit, start and match. An ID belongs to one cache, and a clear of that cache can invalidate it.
 ///
-/// The default, 0, stands at the offset of the unknown row without its tag: no cache has a row of this ID, and
-/// `is_unknown` is false of it.
+/// The default, 0, is the offset of the unknown row without its tag. No cache has a row with this ID, and `is_unknown`
+/// returns false for it.
 ///
-/// A search by steps looks at the tags of each ID that a step returns:
+/// A search by steps checks the tags of each ID that a step returns:
 ///
 /// ```rust
 /// if next.is_match() {
@@ -42,7 +42,7 @@ impl Model for LazyStateID {
 }
 
 impl LazyStateID {
-    /// Offsets of rows are below this number.
+    /// All offsets of rows are less than this.
     pub(crate) const OFFSET_LIMIT: usize = 1 << 27;
 
     /// The greatest ID without a tag.
@@ -51,10 +51,10 @@ impl LazyStateID {
     /// The match tag.
     pub(crate) const MATCH: u32 = 1 << 27;
 
-    /// What stands in a cell or a slot while nothing is cached there.
+    /// The value of an empty cell or start slot.
     pub(crate) const UNKNOWN: LazyStateID = LazyStateID { id: 1 << 31 };
 
-    /// The ID of a row at this offset.
+    /// Returns the ID of the row at this offset, with the start tag if `started` and the match tag if `matches`.
     pub(crate) fn of_row(offset: u32, started: bool, matches: bool) -> LazyStateID
         requires { offset < offset_limit }
         ensures { result ≡ offset + tags started matches }
@@ -66,7 +66,7 @@ impl LazyStateID {
         }
     }
 
-    /// The ID of the dead row, the second one.
+    /// Returns the ID of the dead row, which is the second row.
     pub(crate) fn dead(stride: u32) -> LazyStateID
         requires { stride ≤ 512 }
         ensures { result ≡ dead_id stride }
@@ -76,7 +76,7 @@ impl LazyStateID {
         }
     }
 
-    /// The ID of the quit row, the third one.
+    /// Returns the ID of the quit row, which is the third row.
     pub(crate) fn quit(stride: u32) -> LazyStateID
         requires { stride ≤ 512 }
         ensures { result ≡ quit_id stride }
@@ -86,15 +86,15 @@ impl LazyStateID {
         }
     }
 
-    /// Whether any tag is set. While none is, a search of your own reads on without asking for each tag.
+    /// Whether any tag is set. While none is, a search of your own can read on without checking each tag.
     pub fn is_tagged(self) -> bool
         ensures { IsTrue result ↔ (offset_limit ≤ self) }
     {
         self.id > LazyStateID::MAX
     }
 
-    /// Whether it stands for a transition that is not computed yet. `DFA::next_state_untagged` can return it; then take
-    /// the same step by `DFA::next_state`.
+    /// Whether this is the unknown ID, which stands for a transition that is not computed yet. If
+    /// `DFA::next_state_untagged` returns it, take the same step with `DFA::next_state`.
     pub fn is_unknown(self) -> bool
         ensures bit { IsTrue result ↔ IsBitSet self 31 }
         ensures size { IsTrue result ↔ (unknown_id ≤ self) }
@@ -102,37 +102,39 @@ impl LazyStateID {
         self.id >= 1 << 31
     }
 
-    /// Whether no match can come after it: a search stops there, and reports the last match that it has seen.
+    /// Whether this is the dead state, after which no match can come. A search stops there and reports the last match
+    /// it has seen.
     pub fn is_dead(self) -> bool
         ensures { IsTrue result ↔ HasDeadTag self }
     {
         self.id & (1 << 30) != 0
     }
 
-    /// Whether a quit byte was read: a search stops there with an error, since it cannot know what comes after.
+    /// Whether this is the quit state, which a quit byte leads to. A search stops there with an error, since it cannot
+    /// know what comes after.
     pub fn is_quit(self) -> bool
         ensures { IsTrue result ↔ HasQuitTag self }
     {
         self.id & (1 << 29) != 0
     }
 
-    /// Whether it was added as a start state by a DFA that specializes them (`Config::specialize_start_states`). A
-    /// search of your own may run a prefilter there.
+    /// Whether the state was added as a start state by a DFA that specializes start states
+    /// (`Config::specialize_start_states`). A search of your own can run a prefilter there.
     pub fn is_start(self) -> bool
         ensures { IsTrue result ↔ HasStartTag self }
     {
         self.id & (1 << 28) != 0
     }
 
-    /// Whether its state has patterns that match, which are those of `DFA::match_pattern`. Matches are delayed by one
-    /// byte: they end before the byte that led to this state.
+    /// Whether patterns match at this state; `DFA::match_pattern` returns them. Matches are delayed by one byte: they
+    /// end before the byte that led to this state.
     pub fn is_match(self) -> bool
         ensures { IsTrue result ↔ HasMatchTag self }
     {
         self.id & (1 << 27) != 0
     }
 
-    /// Whether it has no tag, or the match tag alone.
+    /// Whether it has no tag, or only the match tag.
     #[inline(always)]
     pub(crate) fn is_plain(self) -> bool
         ensures { IsTrue result ↔ (self < 2 ^ 28) }
@@ -147,7 +149,7 @@ impl LazyStateID {
         self.id >= 1 << 29
     }
 
-    /// Whether it has this tag and no other; without a tag, whether it has none.
+    /// Whether `tag` is its only tag; if `tag` is 0, whether it has no tag.
     #[inline(always)]
     pub(crate) fn has_only(self, tag: u32) -> bool
         requires { tag ≤ offset_limit }
@@ -156,7 +158,7 @@ impl LazyStateID {
         self.id.wrapping_sub(tag) <= LazyStateID::MAX
     }
 
-    /// The offset of its row, if it has this tag and no other; and else what is no offset.
+    /// Returns the row's offset if `tag` is its only tag; otherwise a value that is not an offset.
     #[inline(always)]
     pub(crate) fn offset_by(self, tag: u32) -> usize
         requires { tag ≤ offset_limit }
@@ -166,7 +168,7 @@ impl LazyStateID {
         (self.id as usize).wrapping_sub(tag as usize)
     }
 
-    /// The ID of the row at an offset, with a tag.
+    /// Returns the ID of the row at an offset, with a tag.
     #[inline(always)]
     pub(crate) fn at_offset(offset: usize, tag: u32) -> LazyStateID
         requires offset { offset < offset_limit }
@@ -178,7 +180,7 @@ impl LazyStateID {
         }
     }
 
-    /// The offset of an ID without a tag: it needs no mask.
+    /// Returns the offset of an untagged ID, which needs no mask.
     #[inline(always)]
     pub(crate) fn untagged(self) -> u32
         requires { self < offset_limit }
@@ -187,7 +189,7 @@ impl LazyStateID {
         self.id
     }
 
-    /// The offset without the tags.
+    /// Returns the row's offset, without the tags.
     pub(crate) fn offset(self) -> u32
         ensures { result ≡ self % offset_limit }
     {

@@ -1,4 +1,4 @@
-//! Laws that searches and walks stand on. The contract of each function is the law; what it does is to cite others.
+//! Laws about searches and walks. The contract of each function is a law; its body only cites other facts.
 ghost use Rattle.std.specs.Prelude.{ℕ};
 ghost use Rattle.automata_hybrid.specs.Cache.Caches.{HoldsRow, IsCacheOf};
 ghost use Rattle.automata_hybrid.specs.Known.Bounds.{IsKnown};
@@ -19,32 +19,32 @@ use crate::cache::Cache;
 use crate::dfa::DFA;
 use automata_base::laws::{passes_report_paths, reported_is_right, steps_are_right, walk_is_right};
 
-/// What was searched before, and how large the cache is, shows in no answer: two searches of one automaton, match kind
-/// and input that answer find the same.
+/// Answers do not depend on earlier searches or on the size of the cache: two searches with the same automaton, match
+/// kind and input find the same if neither fails.
 pub fn answers_agree()
     ensures { AnswersAgree }
 {
     passes_report_paths();
 }
 
-/// What was searched before, and how large the cache is, shows in no overlapping search: two of one NFA, match kind and
-/// input report one list, match by match.
+/// Overlapping searches do not depend on earlier searches or on the size of the cache: two with the same NFA, match
+/// kind and input report the same list, match by match.
 pub fn walks_agree(dfa: &DFA)
     ensures { WalksAgree dfa.now }
 {
     walk_is_right(dfa.get_nfa());
 }
 
-/// The numbers of a DFA, by which its caches are counted, are those of its NFA, its settings and its byte classes.
+/// The sizes by which a DFA's caches are accounted follow from its NFA, its settings and its byte classes.
 pub fn sizes_are_of_nfa(dfa: &DFA)
     ensures { IsSized dfa.now }
 {
     dfa.see_machine();
 }
 
-/// What a cache of a DFA knows is what these laws are about: its rows have states of no greater cost than a state may
-/// have, none of them dead; it has all start slots; and its accounted bytes are within the capacity. And it knows each
-/// ID from which a step may be taken.
+/// What a cache of a DFA knows meets the premises of these laws: no row has the dead state, or a state that costs more
+/// than a state may; all start slots are there; the accounted bytes are within the capacity; and each ID from which a
+/// step may be taken is known.
 pub fn cache_is_known(dfa: &DFA, cache: &Cache)
     requires { IsCacheOf cache.now dfa.now }
     ensures known { IsKnown dfa.now (known_of cache.now) }
@@ -54,10 +54,10 @@ pub fn cache_is_known(dfa: &DFA, cache: &Cache)
     cache.see_bounds();
 }
 
-/// What follows of what a search makes of what its cache knows: how often it determinizes, and when it clears nothing;
-/// that until the next clear nothing is lost; that all that it used is cached after an answer; that nothing changes but
-/// the progress if all that was cached before; and when it fails with out of memory alone. And what passes cost that
-/// have ended one after another.
+/// The effect of a search on what its cache knows: how often it determinizes, and when it does not clear; that nothing
+/// is lost before the next clear; that everything it used is cached after an answer, if nothing was cleared; that only
+/// the progress changes if all of it was cached before; and when its only error is out of memory. Also, what
+/// consecutive passes cost.
 pub fn searches_follow(dfa: &DFA)
     ensures searches { SearchesFollow dfa.now }
     ensures passes { PassesCost dfa.now }
@@ -66,8 +66,8 @@ pub fn searches_follow(dfa: &DFA)
     steps_are_right(dfa.get_nfa());
 }
 
-/// What follows of what an event makes of what its cache knows, and so of a step and of a call for a start state: how
-/// often it determinizes, what stays, which row is added, when the cache is cleared, and what is cached then.
+/// The effect of an event, and so of a step or a call for a start state, on what its cache knows: how often it
+/// determinizes, what stays, which row is added, when the cache is cleared, and what is cached then.
 pub fn steps_follow(dfa: &DFA)
     ensures events { EventsFollow dfa.now }
     ensures steps { StepsFollow dfa.now }
@@ -77,7 +77,7 @@ pub fn steps_follow(dfa: &DFA)
     steps_are_right(dfa.get_nfa());
 }
 
-/// If all that a search uses was cached, and until a clear nothing was lost, it is still cached.
+/// Until the cache is cleared, everything that a search uses stays cached.
 pub fn known_stays(dfa: &DFA)
     ensures { KnownStays dfa.now }
 {
@@ -85,38 +85,38 @@ pub fn known_stays(dfa: &DFA)
 }
 
 /// If no offset is skipped, what a search by steps answers at its first match, or at the end of the span, is what
-/// `try_search_fwd` finds with an earliest input.
+/// `try_search_fwd` returns with an earliest input.
 pub fn first_match_is_found(dfa: &DFA)
     ensures { FirstMatchIsFound dfa.now }
 {
     reported_is_right(dfa.get_nfa());
 }
 
-/// Under `MatchKind::All` a set has, after `try_which_overlapping_matches`, what it had and, below its capacity, just
-/// the patterns that match: those of which some path through the span ends in a match.
+/// Under `MatchKind::All`, `try_which_overlapping_matches` adds to a set exactly the patterns below its capacity that
+/// match, those for which some path through the span ends in a match.
 pub fn sets_have_matching(dfa: &DFA)
     ensures { SetsHaveMatching dfa.now }
 {
     walk_is_right(dfa.get_nfa());
 }
 
-/// If the pieces that a search has read are the whole haystack, what `end_pieces` answers is what `try_search_fwd`
-/// returns for it.
+/// If the pieces that a search has read are the whole haystack, `end_pieces` answers what `try_search_fwd` returns for
+/// it.
 pub fn pieces_are_whole()
     ensures { PiecesAreWhole }
 {}
 
-/// Under `MatchKind::All`, at each offset of a span, its end included, the state of a pass reports just the patterns
-/// that match there. So the calls of a walk over a haystack in pieces, and its end, report all that match, each offset
-/// once.
+/// Under `MatchKind::All`, at each offset of a span, its end included, the state of a pass reports exactly the patterns
+/// that match there. So the calls of a walk over a haystack in pieces, together with its end, report all patterns that
+/// match, each offset once.
 pub fn states_have_matching(dfa: &DFA)
     ensures { StatesHaveMatching dfa.now }
 {
     let _states = dfa.get_nfa().states();
 }
 
-/// What follows of what reading a piece, or asking for the answer of a search in pieces, makes of what its cache knows:
-/// how often it determinizes, what stays, when nothing is cleared, and when it fails with out of memory alone.
+/// The effect of reading a piece, or of asking for the answer of a search in pieces, on what the cache knows: how often
+/// it determinizes, what stays, when nothing is cleared, and when the only error is out of memory.
 pub fn pieces_follow(dfa: &DFA)
     ensures pieces { PiecesFollow dfa.now }
     ensures answers { PieceAnswersFollow dfa.now }
@@ -125,8 +125,8 @@ pub fn pieces_follow(dfa: &DFA)
     steps_are_right(dfa.get_nfa());
 }
 
-/// What follows of what a call of an overlapping search makes of what its cache knows: how often it determinizes, what
-/// stays, what is cached after it, and that nothing changes but the progress if all that it uses is cached.
+/// The effect of a call of an overlapping search on what its cache knows: how often it determinizes, what stays, what
+/// is cached after it, and that only the progress changes if everything it uses is cached.
 pub fn calls_follow(dfa: &DFA)
     ensures { CallsFollow dfa.now }
 {
@@ -135,8 +135,8 @@ pub fn calls_follow(dfa: &DFA)
     let _skips = dfa.skips();
 }
 
-/// What follows of what the search for a set of patterns makes of what its cache knows: how often it determinizes, what
-/// stays, what is cached after it, and that nothing changes but the progress if all that it uses is cached.
+/// The effect of the search for a set of patterns on what its cache knows: how often it determinizes, what stays, what
+/// is cached after it, and that only the progress changes if everything it uses is cached.
 pub fn sets_follow(dfa: &DFA)
     ensures { SetsFollow dfa.now }
 {

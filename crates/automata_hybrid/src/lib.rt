@@ -1,4 +1,4 @@
-//! A lazy DFA: its states are determinized while it searches, into a cache whose accounted bytes never pass its
+//! A lazy DFA: its states are determinized during searches, into a cache whose accounted bytes never exceed its
 //! capacity.
 #![tactic(auto)]
 

@@ -1,4 +1,4 @@
--- A cache knows fewer states than it accounts for bytes.
+-- A cache holds fewer states than the bytes that it accounts for.
 use Rattle.std.proofs.Common.{◌≡◌, ℕ, ◌+◌, ◌*◌, ◌≤◌, List, [], ◌∷◌, length, refl, ap, suc, drop, arith}
 use Rattle.automata_hybrid.specs.declared.cache.row.Row.{Row}
 use Rattle.automata_hybrid.specs.Cache.States.{held_states, states_from}
@@ -7,7 +7,7 @@ use Rattle.automata_hybrid.specs.Known.Events.{usage}
 use Rattle.automata_hybrid.specs.Known.Known.{Known}
 use Rattle.automata_hybrid.specs.Machines.Machine.{Machine}
 
--- there is a state for each row
+-- there is one state for each row
 counted : (s at : ℕ) (cells : List ℕ) (rows : List Row) → length (states_from s at cells rows) ≡ length rows
 counted s at cells [] = refl
 counted s at cells (r ∷ rows) = ap suc (counted s (at + s) (drop s cells) rows)

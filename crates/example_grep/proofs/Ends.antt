@@ -3,7 +3,7 @@ use Rattle.std.proofs.Common.{◌≡◌, ◌<◌, ℕ, zero, suc, List, [], ◌�
 use Rattle.std.proofs.Common.{slice_set, arith}
 use Rattle.example_grep.specs.Blocks.{line_ends}
 
--- the bytes, of which so many are replaced
+-- the bytes, of which the first `n` are replaced
 abbrev pub so_far : ℕ → List ℕ → List ℕ
 so_far n [] = []
 so_far zero (x ∷ xs) = x ∷ xs

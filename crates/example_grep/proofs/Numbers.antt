@@ -8,7 +8,7 @@ use Rattle.example_grep.specs.Lines.{AreMatching, IsWanted, count_after, found_l
 false_true : false ≡ true → ⊥
 false_true e = cc
 
--- a line is taken as is asked for
+-- whether a line is taken, by whether it has a match
 pub wanted :
     (invert has : Bool) {Has : Type 0} → (IsTrue has ↔ Has) → IsTrue (cond invert (not has) has) ↔ IsWanted invert Has
 wanted false has h = h
@@ -46,14 +46,14 @@ module _ (n : ℕ) (yielded : List (Bor (List ℕ))) (line : Bor (List ℕ)) whe
   module _ (Has : List ℕ → Type 0) (found : List Line) (has : Bool)
       (so : AreMatching (λ l. Has l.1) (numbered n (nows yielded)) (map found_line found))
       (tells : IsTrue has ↔ Has line.now) where
-    -- a line that is left
+    -- a line that is not taken
     pub left :
         has ≡ false → AreMatching (λ l. Has l.1) (numbered n (nows (yielded ++ line ∷ []))) (map found_line found)
     left none =
         subst (λ ls. AreMatching (λ l. Has l.1) ls (map found_line found)) (sym more)
         (leaves _ _ (one_more (count_after n (nows yielded)), line.now) so (λ h. false_true (sym none ∙ tells.1 h)))
 
-    -- and one that is taken, with its number
+    -- a line that is taken, with its number
     pub taken : (longer : List Line) (own : Line) → has ≡ true → longer ≡ found ++ own ∷ [] → own.bytes.now ≡ line.now →
         own.number ≡ one_more (count_after n (nows yielded)) →
         AreMatching (λ l. Has l.1) (numbered n (nows (yielded ++ line ∷ []))) (map found_line longer)

@@ -30,12 +30,12 @@ use Rattle.example_grep.specs.declared.view.View.{View}
 use Rattle.example_grep.specs.declared.view.View.TheVariants as view
 use Rattle.example_grep.proofs.Numbers.{counted_push}
 
--- bytes are searched, whatever they are
+-- any bytes can be searched
 pub any_bytes : (case_insensitive : Bool) (hay : List ℕ) → IsFor (bytewise case_insensitive) hay
 any_bytes case_insensitive hay = (λ e. absurd (cc), λ e. absurd (cc))
 
 module _ (regex : Regex) (prefix line old : List ℕ) where
-  -- what is printed so far, with what the matches that are left will add, is what all matches add
+  -- what is printed so far, with what the remaining matches will add, is what all matches add
   abbrev pub Prints : (was : List ℕ) → (last : Option ℕ) → Type 0
   Prints was last =
       (case_insensitive : Bool) (res : List Re) → IsRegexOf (bytewise case_insensitive) res regex
@@ -68,7 +68,7 @@ module _ (regex : Regex) (prefix line old : List ℕ) where
         ∙ append-nil was)
         ∙ so case_insensitive res of
 
--- one line more
+-- one more line
 lines_push : (show : Show) (res : List Re) (found : List (ℕ × List ℕ)) (line : ℕ × List ℕ) →
     lines_shown show res (found ++ line ∷ []) ≡ lines_shown show res found ++ found_shown show res line
 lines_push show res [] line = append-nil (found_shown show res line)
@@ -107,7 +107,7 @@ pub count_next : (lines : List Line) (i : ℕ) → i < length lines → (n was i
 count_next [] i inside n was is so more = absurd (omega (arith, inside))
 count_next (line ∷ lines) i inside n was is so more = count_more (line ∷ lines) i line inside n was is so more
 
--- searches for the same patterns
+-- a searcher that keeps its patterns
 pub view_kept : (case_insensitive : Bool) (asked : How) (res : List Re) (old new : View) → KeepsView old new →
     IsViewFor case_insensitive asked res old → IsViewFor case_insensitive asked res new
 view_kept case_insensitive how.Whole res view.Whole view.Whole same is = tt
@@ -128,13 +128,13 @@ view_kept case_insensitive how.Which res (view.Which old) (view.Matches new) sam
 view_kept case_insensitive how.Which res (view.Which old) (view.Which new) same is =
     subst (λ (s : RegexSet). IsDfaOf (bytewise case_insensitive) res s.dfa) (sym same) is
 
--- a search that nothing has changed
+-- a searcher that has not changed
 pub view_same : (old new : View) → new ≡ old → KeepsView old new
 view_same view.Whole new same = subst (λ v. KeepsView view.Whole v) (sym same) tt
 view_same (view.Matches s) new same = subst (λ v. KeepsView (view.Matches s) v) (sym same) refl
 view_same (view.Which s) new same = subst (λ v. KeepsView (view.Which s) v) (sym same) refl
 
--- one search after another
+-- a searcher keeps its patterns over one search after another
 pub view_next : (a b c : View) → KeepsView a b → KeepsView b c → KeepsView a c
 view_next view.Whole view.Whole c first second = second
 view_next view.Whole (view.Matches b) c first second = absurd first
@@ -160,7 +160,7 @@ grep_kept case_insensitive res old new dfa show kept is = (
       (view_kept case_insensitive old.show.flags.how res old.view new.view kept is.1),
 )
 
--- and one that is made of them
+-- a grep that is built from its parts
 pub grep_made :
     (case_insensitive : Bool) (res : List Re) (nfa : Automaton) (show : Show) (lines : LineSearcher) (own : View)
     (grep : Grep) →
@@ -175,13 +175,13 @@ grep_made case_insensitive res nfa show lines own grep same_show same_lines same
       (subst (λ (v : View). IsViewFor case_insensitive show.flags.how res v) (sym same_view) for),
 )
 
--- what is said of a call that returns Ok
+-- what follows for a call that returns Ok
 pub on_ok : {U E A B : Type 0} (r : Result U E) → (A → B) → OnOk r A → OnOk r B
 on_ok (Ok u) f h = f h
 on_ok (Err e) f h = tt
 
 module _ (case_insensitive : Bool) (res : List Re) (prefix line was is : List ℕ) where
-  -- a line that is shown as it is
+  -- a line that is shown whole
   pub line_as_whole :
       (asked : How) → IsViewFor case_insensitive asked res view.Whole → is ≡ was ++ shown_after prefix line →
       is ≡ was ++ line_shown asked res prefix line
@@ -198,7 +198,7 @@ module _ (case_insensitive : Bool) (res : List Re) (prefix line was is : List �
   line_as_matches how.Matches own for said = said for
   line_as_matches how.Which own for said = absurd for
 
-  -- a line with the patterns that match it
+  -- a line after the numbers of the patterns that match it
   pub line_as_which : (asked : How) (own : SetSearcher) → IsViewFor case_insensitive asked res (view.Which own) →
       (IsDfaOf (bytewise case_insensitive) res own.set.dfa
       → is ≡ was ++ which_shown prefix line (map (is_found false line) res)) →

@@ -1,4 +1,4 @@
--- What a block of a binary file is searched as.
+-- What a byte of a binary file is searched as.
 use Rattle.std.specs.Prelude.{ℕ, ◌==◌, cond}
 
 -- a NUL ends a line as a line feed does

@@ -12,31 +12,31 @@ use Rattle.example_grep.specs.declared.show.How.TheVariants as how
 use Rattle.example_grep.specs.declared.view.View.{View}
 use Rattle.example_grep.specs.declared.view.View.TheVariants as view
 
--- what lines are searched for, to show of them what is asked for: patterns with these meanings
+-- the searcher for what is shown of lines is for patterns with these meanings
 abbrev pub IsViewFor : (case_insensitive : Bool) → How → List Re → View → Type 0
 IsViewFor case_insensitive how.Whole res view.Whole = Unit {0}
 IsViewFor case_insensitive how.Matches res (view.Matches s) = IsRegexOf (bytewise case_insensitive) res s.pattern.regex
 IsViewFor case_insensitive how.Which res (view.Which s) = IsDfaOf (bytewise case_insensitive) res s.set.dfa
 IsViewFor case_insensitive how res view = ⊥
 
--- they are searched for the same patterns as before
+-- the searcher for what is shown of lines keeps its patterns
 abbrev pub KeepsView : View → View → Type 0
 KeepsView view.Whole view.Whole = Unit {0}
 KeepsView (view.Matches old) (view.Matches new) = new.pattern ≡ old.pattern
 KeepsView (view.Which old) (view.Which new) = new.set ≡ old.set
 KeepsView old new = ⊥
 
--- all that it searches for are patterns with these meanings
+-- a grep searches only for patterns with these meanings
 abbrev pub IsGrepFor : (case_insensitive : Bool) → List Re → Grep → Type 0
 IsGrepFor case_insensitive res grep =
     IsSearcherFor case_insensitive res grep.lines.dfa
     × IsViewFor case_insensitive grep.show.flags.how res grep.view
 
--- what a search of the lines of a text adds
+-- what searching the lines of a text adds
 pub record ShowsLines (res : List Re) (text : List ℕ) (old new : Grep) : Type 0 where
-  -- the lines of which some part is a match of some pattern, or with `-v` the others, with their numbers
+  -- the lines in which some part is a match of some pattern, or with `-v` the others, with their numbers
   pub found : List (ℕ × List ℕ)
-  -- they are all such lines, in their order
+  -- they are all such lines, in order
   pub matching :
       AreMatching (λ line. IsWanted old.show.flags.invert (HasPart res line.1))
       (numbered old.lines.searched (lines text)) found

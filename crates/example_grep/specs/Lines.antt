@@ -8,20 +8,20 @@ use Rattle.patterns.specs.Patterns.{IsJoinedNfa, default_options}
 use Rattle.patterns.specs.declared.compile.Options.{Options}
 use Rattle.example_grep.specs.declared.lines.Line.{Line}
 
--- the lines of a text: what stands between its line feeds
+-- the lines of a text: the bytes between its line feeds
 abbrev pub lines : List ℕ → List (List ℕ)
 lines text = slice_split (λ byte. byte == 10) text
 
--- one more; a count stays at the greatest number of 64 bits
+-- one more; the count stops at the largest 64-bit number
 abbrev pub one_more : (count : ℕ) → ℕ
 one_more count = min (count + 1) (2 ^ 64 - 1)
 
--- the count after these, one by one
+-- the count after these elements
 abbrev pub count_after : {A : Type 0} → (count : ℕ) → List A → ℕ
 count_after count [] = count
 count_after count (x ∷ xs) = count_after (one_more count) xs
 
--- the lines with their numbers, where so many lines came before them
+-- the lines with their numbers, after `count` earlier lines
 abbrev pub numbered : (count : ℕ) → List (List ℕ) → List (ℕ × List ℕ)
 numbered count [] = []
 numbered count (line ∷ lines) = (one_more count, line) ∷ numbered (one_more count) lines
@@ -41,12 +41,12 @@ pub record HasMatch (m : Machine) (line : List ℕ) : Type 0 where
   -- it is the answer of the ordered paths
   pub answer : IsAnswer Forward (engine m) (whole_line line) (Some half)
 
--- what a line that is taken has: a match or, if those without one are taken, none
+-- what a line that is taken has: a match or, if lines without one are taken, none
 abbrev pub IsWanted : (invert : Bool) → (Has : Type 0) → Type 0
 IsWanted false Has = Has
 IsWanted true Has = Has → ⊥
 
--- these are the lines that have it, and no others, in their order
+-- these are exactly the lines that have it, in order
 pub data AreMatching {A : Type 0} (Has : A → Type 0) : List A → List A → Type 0 where
   begins : AreMatching Has [] []
   takes : (lines found : List A) (line : A)
@@ -54,11 +54,11 @@ pub data AreMatching {A : Type 0} (Has : A → Type 0) : List A → List A → T
   leaves : (lines found : List A) (line : A)
       → AreMatching Has lines found → (Has line → ⊥) → AreMatching Has (lines ++ line ∷ []) found
 
--- how patterns are read: they are searched in bytes
+-- the options that patterns are read with: they match bytes, and not only UTF-8
 abbrev pub bytewise : (case_insensitive : Bool) → Options
 bytewise case_insensitive = record default_options { case_insensitive = case_insensitive; utf8 = false }
 
--- the DFA is that of patterns with these meanings
+-- the DFA is for patterns with these meanings, and reports leftmost-first matches
 abbrev pub IsSearcherFor : (case_insensitive : Bool) → List Re → Machine → Type 0
 IsSearcherFor case_insensitive res m =
     IsJoinedNfa (bytewise case_insensitive) res m.nfa × (match_kind_of m.config ≡ LeftmostFirst)

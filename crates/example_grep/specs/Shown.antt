@@ -19,15 +19,15 @@ abbrev pub number_shown : (numbers : Bool) → (number : ℕ) → List ℕ
 number_shown false number = []
 number_shown true number = decimal number ++ 58 ∷ []
 
--- what stands before the bytes
+-- what precedes the bytes of a line
 abbrev pub prefix_shown : Show → (number : ℕ) → List ℕ
 prefix_shown show number = name_of show ++ number_shown show.flags.numbers number
 
--- some bytes after a prefix, as a line of their own
+-- bytes after a prefix, as a line of their own
 abbrev pub shown_after : (prefix bytes : List ℕ) → List ℕ
 shown_after prefix bytes = prefix ++ bytes ++ 10 ∷ []
 
--- a match in that way, and nothing if it is empty
+-- a match in that way, or nothing if it is empty
 abbrev pub part_shown : (prefix part : List ℕ) → List ℕ
 part_shown prefix [] = []
 part_shown prefix (byte ∷ bytes) = shown_after prefix (byte ∷ bytes)
@@ -47,31 +47,31 @@ abbrev pub numbers_listed : (first : Bool) → (patterns : List ℕ) → List �
 numbers_listed first [] = []
 numbers_listed first (pattern ∷ patterns) = number_after first pattern ++ numbers_listed false patterns
 
--- a line after a prefix, some numbers and a colon
+-- a line after a prefix, the numbers and a colon
 abbrev pub numbered_shown : (prefix numbers line : List ℕ) → List ℕ
 numbered_shown prefix numbers line = prefix ++ numbers ++ 58 ∷ line ++ 10 ∷ []
 
--- a line after the numbers of the patterns that match it, where the flags say which do
+-- a line after the numbers of the patterns that match it, by the flags of the patterns
 abbrev pub which_shown : (prefix line : List ℕ) → (flags : List Bool) → List ℕ
 which_shown prefix line flags = numbered_shown prefix (numbers_listed true (members flags)) line
 
--- a line that is taken: the line, its matches alone, or it after the numbers of the patterns that match it by
+-- a line that is taken: the line, only its matches, or the line after the numbers of the patterns that match it by
 -- themselves
 abbrev pub line_shown : How → List Re → (prefix line : List ℕ) → List ℕ
 line_shown how.Whole res prefix line = shown_after prefix line
 line_shown how.Matches res prefix line = parts_shown prefix line (left_any false res line None)
 line_shown how.Which res prefix line = which_shown prefix line (map (is_found false line) res)
 
--- whether no line is shown: the count is asked for, or names, or nothing; or the file is binary
+-- whether no line is shown, because only the count, names or nothing is asked for, or because the file is binary
 abbrev pub is_silent : Show → Bool
 is_silent show = show.flags.count || show.flags.names || show.flags.quiet || show.binary
 
--- a line that is taken, with its number, as the flags say
+-- what is shown of a line that is taken and has this number, by the flags
 abbrev pub found_shown : Show → List Re → ℕ × List ℕ → List ℕ
 found_shown show res line =
     cond (is_silent show) [] (line_shown show.flags.how res (prefix_shown show line.0) line.1)
 
--- lines that are taken, one after another, as the flags say
+-- what is shown of lines that are taken, one after another, by the flags
 abbrev pub lines_shown : Show → List Re → (found : List (ℕ × List ℕ)) → List ℕ
 lines_shown show res [] = []
 lines_shown show res (line ∷ found) = found_shown show res line ++ lines_shown show res found

@@ -1,4 +1,4 @@
-//! What the arguments ask for.
+//! The arguments of the program.
 use crate::files::Reading;
 use crate::show::{Flags, How};
 use anyhow::{Result, bail};
@@ -8,7 +8,7 @@ use std::fs;
 const USAGE: &str =
     "usage: example_grep [-acHhilnoqrv] [--which] [--stats] [--cache MIB] [-e PATTERN].. [-f FILE].. [PATTERN] [FILE]..";
 
-/// What the value of an argument is.
+/// The kind of value that a flag takes.
 #[derive(Clone, Copy)]
 enum Value {
     Pattern,
@@ -22,21 +22,21 @@ pub struct Args {
     pub reading: Reading,
     pub case_insensitive: bool,
     pub stats: bool,
-    /// How many bytes each cache may account for.
+    /// The capacity of each cache, in bytes.
     pub capacity: usize,
     pub patterns: Vec<String>,
     pub files: Vec<String>,
-    /// Patterns were given by `-e` or `-f`.
+    /// Whether patterns were given by `-e` or `-f`.
     has_patterns: bool,
-    /// The next argument is a value.
+    /// The kind of value that the next argument is, if it is the value of a flag.
     awaited: Option<Value>,
-    /// No further argument is a flag.
+    /// Whether no further argument is a flag.
     has_ended: bool,
-    /// Whether names of files are shown, if that is said.
+    /// Whether the names of files are shown, if `-H` or `-h` was given.
     names: Option<bool>,
 }
 
-// One call for an owner, whose proof then has no step for each part.
+// An owner drops this with one call, so that its proof has no step for each field.
 impl Drop for Args {
     fn drop(self) {
         let Self {
@@ -55,7 +55,7 @@ impl Drop for Args {
     }
 }
 
-/// What is printed without a flag.
+/// Returns what is printed if no flag is given.
 fn no_flags() -> Flags {
     Flags {
         invert: false,
@@ -68,7 +68,7 @@ fn no_flags() -> Flags {
     }
 }
 
-/// How files are read without a flag.
+/// Returns how files are read if no flag is given.
 fn as_files() -> Reading {
     Reading {
         recursive: false,
@@ -78,7 +78,7 @@ fn as_files() -> Reading {
     }
 }
 
-/// Appends the lines of a text.
+/// Appends the lines of a text to the patterns.
 fn push_lines(alloc: Global, text: &str, patterns: &mut Vec<String>) -> Result<()> {
     for line in text.lines() {
         patterns.push(String::from_str(alloc, line)?)?;
@@ -86,7 +86,7 @@ fn push_lines(alloc: Global, text: &str, patterns: &mut Vec<String>) -> Result<(
     Ok(())
 }
 
-/// Appends the lines of a file.
+/// Appends the lines of a file to the patterns.
 fn push_file(rt: &HostRuntime, path: &str, patterns: &mut Vec<String>) -> Result<()> {
     match fs::read_to_string(rt, path) {
         Ok(text) => push_lines(rt.alloc(), text.as_str(), patterns),
@@ -95,7 +95,7 @@ fn push_file(rt: &HostRuntime, path: &str, patterns: &mut Vec<String>) -> Result
 }
 
 impl Args {
-    /// Arguments without a flag, a pattern or a file.
+    /// Returns arguments without a flag, a pattern or a file.
     fn new(alloc: Global) -> Args {
         Args {
             flags: no_flags(),
@@ -112,7 +112,7 @@ impl Args {
         }
     }
 
-    /// Takes a value: a pattern, a file with one on each line, or a number of MiB.
+    /// Takes a value: a pattern, a file with a pattern on each line, or a number of MiB.
     fn take_value(&mut self, rt: &HostRuntime, value: Value, text: &str) -> Result<()> {
         self.awaited = None;
         match value {
@@ -128,7 +128,7 @@ impl Args {
         }
     }
 
-    /// Sets the capacity of the caches, in MiB.
+    /// Sets the capacity of the caches, in MiB; fails if the text is not a number up to 65535.
     fn set_capacity(&mut self, text: &str) -> Result<()> {
         match text.parse::<u16>() {
             Ok(number) => self.capacity = usize::from(number) << 20,
@@ -137,7 +137,7 @@ impl Args {
         Ok(())
     }
 
-    /// Takes the value of a letter: what follows it in its argument, or else the next argument.
+    /// Takes the value of a letter: the rest of its argument or, if that is empty, the next argument.
     fn begin_value(&mut self, rt: &HostRuntime, value: Value, rest: &str) -> Result<()> {
         if rest.is_empty() {
             self.awaited = Some(value);
@@ -146,18 +146,18 @@ impl Args {
         self.take_value(rt, value, rest)
     }
 
-    /// Asks for something of each line, which may be asked for only once.
+    /// Sets what is printed of each line; fails if both `-o` and `--which` are given.
     fn set_how(&mut self, how: How) -> Result<()> {
         match (self.flags.how, how) {
             (How::Matches, How::Which) | (How::Which, How::Matches) => {
-                bail!("-o and --which exclude each other")
+                bail!("-o and --which cannot be used together")
             }
             _ => self.flags.how = how,
         }
         Ok(())
     }
 
-    /// Takes a letter that has no value, and is about what is printed.
+    /// Sets a flag about what is printed, or any other flag that is a letter without a value.
     fn set_flag(&mut self, letter: char) -> Result<()> {
         match letter {
             'c' => self.flags.count = true,
@@ -170,7 +170,7 @@ impl Args {
         Ok(())
     }
 
-    /// Takes a letter that has no value, and is about how files are read and searched.
+    /// Sets a flag about how files are read and searched; fails if there is no flag with this letter.
     fn set_reading(&mut self, letter: char) -> Result<()> {
         match letter {
             'a' => self.reading.as_text = true,
@@ -184,7 +184,7 @@ impl Args {
         Ok(())
     }
 
-    /// Takes a flag that is a word.
+    /// Sets a flag that is a word, or ends the flags at `--`; fails if there is no such flag.
     fn set_word(&mut self, word: &str) -> Result<()> {
         match word {
             "" => self.has_ended = true,
@@ -196,7 +196,7 @@ impl Args {
         Ok(())
     }
 
-    /// Takes the letters of an argument such as `-cn`, of which `e` and `f` are the last.
+    /// Takes the letters of an argument such as `-cn`. What follows an `e` or `f` is its value.
     fn set_flags(&mut self, rt: &HostRuntime, letters: &str) -> Result<()> {
         for (at, letter) in letters.char_indices() {
             let rest = letters.get(at.saturating_add(1)..).unwrap_or("");
@@ -209,12 +209,12 @@ impl Args {
         Ok(())
     }
 
-    /// Takes an argument that is neither a flag nor a value: a file or, as the first one, maybe the pattern.
+    /// Takes an argument that is neither a flag nor a value: a file or, if it is the first, possibly the pattern.
     fn take_other(&mut self, alloc: Global, argument: &str) -> Result<()> {
         Ok(self.files.push(String::from_str(alloc, argument)?)?)
     }
 
-    /// Takes an argument.
+    /// Takes the next argument.
     fn take(&mut self, rt: &HostRuntime, argument: &str) -> Result<()> {
         if let Some(value) = self.awaited {
             return self.take_value(rt, value, argument);
@@ -229,8 +229,9 @@ impl Args {
         }
     }
 
-    /// Ends the arguments: without `-e` and `-f` the first one that is no flag is the pattern, and without a file
-    /// standard input is searched, or with `-r` the current directory.
+    /// Ends the arguments. Without `-e` and `-f`, the first argument that is not a flag is the pattern. Without a file,
+    /// standard input is searched or, with `-r`, the current directory. Fails if there is no pattern, if the value of a
+    /// flag is missing, or if both `-v` and `--which` are given.
     fn end(&mut self, alloc: Global) -> Result<()> {
         if self.awaited.is_some() || !self.has_patterns && self.files.is_empty() {
             bail!("{USAGE}");
@@ -250,8 +251,8 @@ impl Args {
         Ok(())
     }
 
-    /// Reads the arguments after the program's name, and the files of patterns. What begins with `-` is a flag, up to
-    /// an argument `--`; `-` alone is none.
+    /// Reads the arguments after the program's name, and the files of patterns. An argument that begins with `-` is a
+    /// flag, except for `-` alone and for arguments after `--`.
     pub fn read(rt: &HostRuntime, arguments: &[String]) -> Result<Args> {
         let mut args = Args::new(rt.alloc());
         for argument in arguments {

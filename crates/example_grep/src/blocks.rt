@@ -1,4 +1,4 @@
-//! Reads a file in blocks, and gives the lines that have ended.
+//! Reads a file in blocks, and splits off the complete lines.
 ghost use Rattle.std.specs.Prelude.{◌≡◌, map};
 ghost use Rattle.example_grep.specs.Blocks.{line_ends};
 
@@ -10,17 +10,17 @@ use std::mem;
 
 const BLOCK: usize = 1 << 18;
 
-/// What is read and not yet searched.
+/// The bytes that were read and not yet searched.
 pub struct Blocks {
     block: Vec<u8>,
     text: Vec<u8>,
-    /// A NUL makes no difference.
+    /// Whether a NUL has no effect.
     as_text: bool,
-    /// A NUL was read.
+    /// Whether a NUL was read that has an effect.
     binary: bool,
 }
 
-// One call for an owner, whose proof then has no step for each part.
+// An owner drops this with one call, so that its proof has no step for each field.
 impl Drop for Blocks {
     fn drop(self) {
         let Self {
@@ -32,14 +32,14 @@ impl Drop for Blocks {
     }
 }
 
-/// What a byte of a binary file is searched as.
+/// Returns the byte that a byte of a binary file is searched as.
 fn line_end(byte: u8) -> u8
     ensures { result ≡ line_ends byte }
 {
     if byte == 0 { b'\n' } else { byte }
 }
 
-/// Puts a line feed in place of each NUL.
+/// Replaces each NUL by a line feed.
 fn end_lines(bytes: &mut [u8])
     ensures { bytes.new ≡ map line_ends bytes.old }
 {
@@ -49,7 +49,7 @@ fn end_lines(bytes: &mut [u8])
 }
 
 impl Blocks {
-    /// Makes room for a block, before anything is read.
+    /// Allocates a block, before anything is read.
     pub fn new(alloc: Global, as_text: bool) -> Result<Blocks> {
         let block = vec![in alloc; 0; BLOCK]?;
         Ok(Blocks {
@@ -60,13 +60,13 @@ impl Blocks {
         })
     }
 
-    /// Whether a NUL was read, so that the file is binary.
+    /// Whether the file is binary, because a NUL was read that has an effect.
     pub fn is_binary(&self) -> bool {
         self.binary
     }
 
-    /// Reads a block, and returns how many bytes it has: none at the end of the input. In a binary file a NUL ends a
-    /// line as a line feed does.
+    /// Reads a block, and returns how many bytes it has, which is 0 at the end of the input. In a binary file a NUL
+    /// ends a line, as a line feed does.
     pub fn read<R: Read>(&mut self, input: &mut R) -> Result<usize> {
         let read = input.read(self.block.as_mut_slice())?;
         let read = read.min(self.block.len());
@@ -81,7 +81,7 @@ impl Blocks {
         Ok(read)
     }
 
-    /// Takes all lines that have ended, without the last line feed.
+    /// Takes all complete lines, without the last line feed; returns `None` if no line is complete.
     pub fn take_ended(&mut self, alloc: Global) -> Result<Option<Vec<u8>>> {
         match memrchr(b'\n', self.text.as_slice()) {
             Some(end) => {
@@ -94,7 +94,7 @@ impl Blocks {
         }
     }
 
-    /// Takes the last line, which no line feed ends.
+    /// Takes the remaining bytes, which are a last line without a line feed; returns `None` if there are none.
     pub fn take_last(&mut self, alloc: Global) -> Option<Vec<u8>> {
         if self.text.is_empty() {
             return None;

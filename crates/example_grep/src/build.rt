@@ -1,4 +1,4 @@
-//! What searches for the patterns: their NFA, and what is built of it.
+//! Builds the searchers for the patterns: their NFA, and what is built from it.
 ghost use Rattle.std.specs.Prelude.{◌≡◌, Bool, List, Some, IfOk, OnOk, map, true};
 ghost use Rattle.regex_hir.specs.Re.{Re};
 ghost use Rattle.automata_base.specs.Answers.TruePairs.{KeepsUtf8};
@@ -24,7 +24,7 @@ use regex_automata::nfa::thompson::NFA;
 use regex_automata::util::search::MatchKind;
 use std::alloc::Global;
 
-/// How patterns are read: they are searched in bytes.
+/// Returns the options that patterns are read with: they match bytes, and not only UTF-8.
 fn bytewise(case_insensitive: bool) -> Options
     ensures { result ≡ bytewise case_insensitive }
 {
@@ -44,7 +44,7 @@ fn bytewise(case_insensitive: bool) -> Options
     }
 }
 
-/// The NFA of the patterns.
+/// Returns the NFA of the patterns.
 pub fn patterns_nfa(
     alloc: Global,
     patterns: &[&str],
@@ -57,8 +57,8 @@ pub fn patterns_nfa(
     nfa_of(alloc, patterns, &how)
 }
 
-/// The settings of a DFA: which matches it reports, and how many bytes its cache may account for, or the least that it
-/// can do with.
+/// Returns the settings of a DFA: which matches it reports, and the capacity of its cache, in bytes. A capacity that is
+/// too small is raised to the minimum.
 fn settings(match_kind: MatchKind, capacity: usize) -> Config
     ensures { result ≡ record unset {
       match_kind = Some match_kind;
@@ -72,7 +72,7 @@ fn settings(match_kind: MatchKind, capacity: usize) -> Config
         .skip_cache_capacity_check(true)
 }
 
-/// The DFA of an NFA by these settings.
+/// Builds the DFA of an NFA with these settings.
 fn built(nfa: NFA, config: Config) -> Result<DFA, BuildError>
     ensures { IfOk result (Builds (overwritten unset config) nfa) }
 {
@@ -81,7 +81,7 @@ fn built(nfa: NFA, config: Config) -> Result<DFA, BuildError>
     builder.build_from_nfa(nfa)
 }
 
-/// The DFA of an NFA.
+/// Builds the DFA of an NFA that reports matches of this kind.
 fn dfa_of(nfa: NFA, match_kind: MatchKind, capacity: usize) -> Result<DFA>
     ensures nfa { IfOk result (λ dfa. dfa.nfa ≡ nfa) }
     ensures kind { IfOk result (λ dfa. match_kind_of dfa.config ≡ match_kind) }
@@ -91,7 +91,7 @@ fn dfa_of(nfa: NFA, match_kind: MatchKind, capacity: usize) -> Result<DFA>
     Ok(dfa)
 }
 
-/// The searcher of lines for the patterns of an NFA.
+/// Builds the searcher for lines with a match of the patterns of an NFA.
 fn line_searcher(nfa: NFA, capacity: usize) -> Result<LineSearcher>
     requires { HasNoLookCycle nfa }
     ensures nfa { IfOk result (λ s. s.dfa.nfa ≡ nfa) }
@@ -102,7 +102,7 @@ fn line_searcher(nfa: NFA, capacity: usize) -> Result<LineSearcher>
     LineSearcher::new(dfa)
 }
 
-/// The searcher of matches for the patterns of an NFA.
+/// Builds the searcher for the matches of the patterns of an NFA.
 fn span_searcher(nfa: NFA, case_insensitive: bool, capacity: usize) -> Result<SpanSearcher>
     ensures { IfOk result (λ s. (res : List Re) → IsJoinedNfa (bytewise case_insensitive) res nfa
         → IsRegexOf (bytewise case_insensitive) res s.pattern.regex) }
@@ -114,7 +114,7 @@ fn span_searcher(nfa: NFA, case_insensitive: bool, capacity: usize) -> Result<Sp
     Ok(spans)
 }
 
-/// Fails if matches might split characters of text. Those of an NFA for bytes never do.
+/// Fails if a match might split a UTF-8 encoded character. An NFA outside UTF-8 mode always passes.
 fn test_utf8(nfa: &NFA) -> Result<()>
     ensures { OnOk result (KeepsUtf8 Forward (engine_of nfa.now KindAll)) }
 {
@@ -124,7 +124,7 @@ fn test_utf8(nfa: &NFA) -> Result<()>
     Ok(())
 }
 
-/// The searcher of the patterns that match, for those of an NFA.
+/// Builds the searcher for the numbers of the patterns that match, for the patterns of an NFA.
 fn set_searcher(nfa: NFA, capacity: usize) -> Result<SetSearcher>
     ensures { IfOk result (λ s. (case_insensitive : Bool) (res : List Re)
         → IsJoinedNfa (bytewise case_insensitive) res nfa → IsDfaOf (bytewise case_insensitive) res s.set.dfa) }
@@ -134,7 +134,7 @@ fn set_searcher(nfa: NFA, capacity: usize) -> Result<SetSearcher>
     SetSearcher::new(RegexSet { dfa })
 }
 
-/// What searches lines for what is to be shown of them.
+/// Builds the searcher for what is shown of each line.
 fn view_of(nfa: &NFA, how: How, case_insensitive: bool, capacity: usize) -> Result<View>
     ensures { IfOk result (λ view. (res : List Re) → IsJoinedNfa (bytewise case_insensitive) res nfa.now
         → IsViewFor case_insensitive how res view) }
@@ -154,7 +154,7 @@ fn view_of(nfa: &NFA, how: How, case_insensitive: bool, capacity: usize) -> Resu
     }
 }
 
-/// A grep for the patterns of an NFA, which has searched nothing. Each cache may account for so many bytes.
+/// Builds a grep for the patterns of an NFA, which has searched nothing yet. Each cache has this capacity, in bytes.
 pub fn grep_of(
     alloc: Global,
     show: Show,

@@ -1,4 +1,4 @@
-//! Which files are searched, and which status the search of them ends with.
+//! Finds and searches the files, and determines the exit status.
 use crate::paths::{Found, Place, found_of, is_directory, name_of, output_place, place_of};
 use crate::search::Grep;
 use crate::stats::Stats;
@@ -10,28 +10,28 @@ use std::{fs, io};
 /// How files are read.
 #[derive(Clone, Copy)]
 pub struct Reading {
-    /// The files below a directory are searched.
+    /// Whether the files below a directory are searched.
     pub recursive: bool,
-    /// A file with a NUL is not binary.
+    /// Whether a file with a NUL is searched as text.
     pub as_text: bool,
-    /// No name of a file is shown before what is found in it.
+    /// Whether file names are never shown before what is found in them.
     pub unnamed: bool,
-    /// The search ends as soon as a line is taken.
+    /// Whether nothing is printed, and the search ends as soon as a line is taken.
     pub quiet: bool,
 }
 
-/// A search of files, and what came of it so far.
+/// A search of files, and its result so far.
 pub struct Search {
     grep: Grep,
     reading: Reading,
-    /// The file that lines are written to, if it is one.
+    /// The file that standard output is written to, if it is a file.
     output: Option<Place>,
     stats: Stats,
     is_found: bool,
     has_failed: bool,
 }
 
-// One call for an owner, whose proof then has no step for each part.
+// An owner drops this with one call, so that its proof has no step for each field.
 impl Drop for Search {
     fn drop(self) {
         let Self {
@@ -46,7 +46,7 @@ impl Drop for Search {
 }
 
 impl Search {
-    /// A search that has searched nothing.
+    /// Returns a search that has not searched any file.
     pub fn new(rt: &HostRuntime, grep: Grep, reading: Reading) -> Search {
         Search {
             grep,
@@ -58,13 +58,13 @@ impl Search {
         }
     }
 
-    /// Prints an error of a path.
+    /// Notes an error, and prints it after the path.
     fn fail(&mut self, rt: &HostRuntime, path: &str, error: &Error) -> Result<()> {
         self.has_failed = true;
         Ok(eprintln!(rt; "example_grep: {path}: {error}")?)
     }
 
-    /// Searches a file that is not the one that lines are written to, or standard input.
+    /// Searches standard input or a file; fails if lines are written to this very file.
     fn run(&mut self, rt: &HostRuntime, path: &str) -> Result<()> {
         let as_text = self.reading.as_text;
         let mut output = io::writer(rt);
@@ -78,7 +78,7 @@ impl Search {
         self.grep.run(&mut file, &mut output, as_text)
     }
 
-    /// Searches a file, and prints an error.
+    /// Searches a file, and prints its error, if any.
     fn search_file(&mut self, rt: &HostRuntime, path: &str) -> Result<()> {
         let name = name_of(path);
         self.grep.begin(String::from_str(rt.alloc(), name)?);
@@ -94,7 +94,7 @@ impl Search {
         }
     }
 
-    /// Notes an error of a file, and prints it if someone still reads what is printed.
+    /// Notes an error of a file, and prints it unless the output is a pipe that nobody reads any more.
     fn fail_file(&mut self, rt: &HostRuntime, name: &str, error: &Error) -> Result<()> {
         self.has_failed = true;
         match self.grep.output_error() {
@@ -103,7 +103,8 @@ impl Search {
         }
     }
 
-    /// Lists what is below a directory, the last name first, and prints what cannot be read.
+    /// Lists what is below a directory, in reverse order of names, and prints an error for each entry that cannot be
+    /// read.
     fn list(&mut self, rt: &HostRuntime, directory: &str) -> Result<Vec<Found>> {
         let mut all = Vec::new(rt.alloc());
         let opened = if directory.is_empty() { "." } else { directory };
@@ -122,7 +123,7 @@ impl Search {
         Ok(all)
     }
 
-    /// Searches a file, or appends what is below a directory.
+    /// Searches a file, or appends what is below a directory to `left`.
     fn visit(&mut self, rt: &HostRuntime, found: Found, left: &mut Vec<Found>) -> Result<()> {
         let path = found.path.as_str();
         if !found.is_directory {
@@ -134,7 +135,7 @@ impl Search {
         }
     }
 
-    /// Searches the files below a directory, by their names.
+    /// Searches the files below a directory, in the order of their names.
     fn search_below(&mut self, rt: &HostRuntime, path: &str) -> Result<()> {
         let mut left = Vec::new(rt.alloc());
         let path = String::from_str(rt.alloc(), path)?;
@@ -151,7 +152,7 @@ impl Search {
         Ok(())
     }
 
-    /// Searches the files below a directory, and shows their names.
+    /// Searches the files below a directory, and shows their names unless `-h` is given.
     fn search_directory(&mut self, rt: &HostRuntime, path: &str) -> Result<()> {
         if !self.reading.unnamed {
             self.grep.show_names();
@@ -159,7 +160,7 @@ impl Search {
         self.search_below(rt, path)
     }
 
-    /// Prints that a path is a directory, and what is shown of a file without a line.
+    /// Reports that a path is a directory, and prints what is shown at the end of a file in which no line is taken.
     fn pass_directory(&mut self, rt: &HostRuntime, path: &str) -> Result<()> {
         self.has_failed = true;
         eprintln!(rt; "example_grep: {path}: Is a directory")?;
@@ -167,7 +168,7 @@ impl Search {
         self.grep.end(&mut io::writer(rt))
     }
 
-    /// Searches what an argument names.
+    /// Searches the file or directory that an argument names.
     fn search_given(&mut self, rt: &HostRuntime, path: &str) -> Result<()> {
         if path == "-" || !is_directory(rt, path) {
             self.search_file(rt, path)
@@ -178,12 +179,12 @@ impl Search {
         }
     }
 
-    /// Whether the files that are left change nothing.
+    /// Whether the remaining files need not be searched.
     fn is_decided(&self) -> bool {
         self.reading.quiet && self.is_found || self.grep.output_error().is_some()
     }
 
-    /// Searches what the arguments name, and without one what is below the current directory.
+    /// Searches what the arguments name or, if there are none, what is below the current directory.
     pub fn search_all(&mut self, rt: &HostRuntime, paths: &[String]) -> Result<()> {
         if paths.is_empty() {
             return self.search_directory(rt, "");
@@ -196,13 +197,13 @@ impl Search {
         Ok(())
     }
 
-    /// Prints what was read and made since a time.
+    /// Prints what was read since a time, and how the caches were used.
     pub fn print_stats(&self, rt: &HostRuntime, since: Instant) -> Result<()> {
         self.stats.print(rt, self.grep.usage(), since)
     }
 
-    /// The status: 2 after an error, else 0 if a line was taken, else 1. If nothing is printed, a line that was taken
-    /// counts more than an error.
+    /// Returns the exit status: 2 after an error, otherwise 0 if a line was taken, otherwise 1. With `-q` it is 0 if a
+    /// line was taken, even after an error.
     pub fn status(&self) -> u8 {
         if self.reading.quiet && self.is_found {
             0

@@ -1,4 +1,4 @@
-//! Which lines of a text are taken: those that have a match, or those that have none.
+//! Which lines of a text are taken: those that have a match or, with `-v`, those that have none.
 ghost use Rattle.std.specs.Prelude.{◌≡◌, ◌↔◌, Bool, List, IfOk, IsTrue, OnOk, cond, map, not};
 ghost use Rattle.regex_hir.specs.Re.{Re};
 ghost use Rattle.regex_automata.specs.Promises.{IsCacheOf, IsLookAcyclic, nfa_of};
@@ -14,7 +14,7 @@ use regex_automata::laws::{cycles_are_kept, start_is_right};
 use regex_automata::util::search::Input;
 use std::alloc::Global;
 
-/// A DFA and its cache. The ghost fields are what each search needs.
+/// A DFA and its cache. The ghost fields are what each search requires.
 pub struct LineSearcher {
     dfa: DFA,
     cache: Cache,
@@ -23,7 +23,7 @@ pub struct LineSearcher {
     ghost ordered: { IsLookAcyclic (nfa_of dfa.nfa) },
 }
 
-// One call for an owner, whose proof then has no step for each part.
+// An owner drops this with one call, so that its proof has no step for each field.
 impl Drop for LineSearcher {
     fn drop(self) {
         let Self {
@@ -41,7 +41,7 @@ pub struct Line<'t> {
     pub bytes: &'t [u8],
 }
 
-/// Whether a line is taken.
+/// Whether a line is taken, by whether it has a match.
 fn is_taken(has_match: bool, invert: bool) -> bool
     ensures { result ≡ cond invert (not has_match) has_match }
 {
@@ -49,7 +49,7 @@ fn is_taken(has_match: bool, invert: bool) -> bool
 }
 
 impl LineSearcher {
-    /// A searcher over a fresh cache of the DFA, which has searched no line.
+    /// Returns a searcher with a new cache for the DFA, which has searched no line.
     pub fn new(dfa: DFA) -> Result<LineSearcher>
         requires { IsLookAcyclic (nfa_of dfa.nfa) }
         ensures dfa { IfOk result (λ s. s.dfa ≡ dfa) }
@@ -79,7 +79,7 @@ impl LineSearcher {
         Ok(found.is_some())
     }
 
-    /// Whether a line is taken: one that has a match or, if `invert`, one that has none.
+    /// Whether a line is taken: it has a match or, with `invert`, it has none.
     fn is_wanted(&mut self, line: &[u8], invert: bool) -> Result<bool, SearchError>
         ensures same { self.new.dfa ≡ self.old.dfa }
         ensures searched { self.new.searched ≡ self.old.searched }
@@ -91,7 +91,7 @@ impl LineSearcher {
         Ok(is_taken(has_match, invert))
     }
 
-    /// Begins a text whose lines are numbered from 1.
+    /// Begins a text. Its lines are numbered from 1.
     pub fn begin(&mut self)
         ensures dfa { self.new.dfa ≡ self.old.dfa }
         ensures searched { self.new.searched ≡ 0 }
@@ -99,19 +99,19 @@ impl LineSearcher {
         self.searched = 0;
     }
 
-    /// How many lines were searched.
+    /// Returns how many lines were searched.
     pub fn searched(&self) -> u64
         ensures { result ≡ self.now.searched }
     {
         self.searched
     }
 
-    /// What its cache has made.
+    /// Returns how the cache was used.
     pub fn usage(&self) -> Usage {
         Usage::of(&self.cache)
     }
 
-    /// The lines of a text that are taken, with their numbers. These go on from one text to the next.
+    /// Returns the lines of a text that are taken, with their numbers, which continue from one text to the next.
     pub fn matching<'t>(
         &mut self,
         alloc: Global,

@@ -7,37 +7,37 @@
 //! | `-e PATTERN`, `-f FILE` | a pattern; a file with a pattern on each line |
 //! | `-i` | ignores case |
 //! | `-v` | takes the lines without a match |
-//! | `-c`, `-l`, `-q` | prints only how many lines are taken; only the names of files that have one; nothing |
-//! | `-o` | prints the matches of the lines alone |
+//! | `-c`, `-l`, `-q` | prints only the number of lines taken; only the names of files with such a line; nothing |
+//! | `-o` | prints only the matches of the lines |
 //! | `--which` | prints before each line which patterns match it |
-//! | `-n`, `-H`, `-h` | prints numbers of lines; names of files; no names of files |
+//! | `-n`, `-H`, `-h` | prints line numbers; file names; no file names |
 //! | `-r` | searches the files below a directory, or below the current one if no FILE is named |
-//! | `-a` | takes a file with a NUL for text |
-//! | `--stats` | prints at the end, to standard error, what was read and what the caches have made |
-//! | `--cache MIB` | lets each cache account for so many MiB, in place of 64, but for those of `-o` |
+//! | `-a` | searches a file with a NUL as text |
+//! | `--stats` | prints at the end, to standard error, what was read and how the caches were used |
+//! | `--cache MIB` | sets the capacity of each cache in MiB, which is 64 by default |
 //!
-//! PATTERN is an argument only if there is neither `-e` nor `-f`. All patterns are searched at once. Without a FILE,
-//! or where it is `-`, standard input is searched. `--` ends the flags.
+//! PATTERN is given only if neither `-e` nor `-f` is. All patterns are searched at once. Without a FILE, or if it is
+//! `-`, standard input is searched. `--` ends the flags.
 //!
-//! A pattern is in the syntax of Rust's regex crate; a bad one is shown with a caret below its place. A line is a run
-//! of bytes up to a line feed. It need not be text: a byte that is no part of a character matches `(?-u:[\x80-\xFF])`,
-//! but no `.`. The status is 0 if a line is taken, 1 if none is, and 2 after an error; a file that cannot be read, or
-//! has a line that does not fit into the memory, is one, and does not keep the others from being searched.
+//! A pattern has the syntax of Rust's regex crate; an invalid pattern is shown with a caret below the error. A line is
+//! a run of bytes up to a line feed. It need not be text: a byte that is not part of a character matches
+//! `(?-u:[\x80-\xFF])`, but not `.`. The status is 0 if a line is taken, 1 if none is, and 2 after an error. It is an
+//! error if a file cannot be read, or has a line that does not fit into memory; the other files are still searched.
 //!
-//! With `--which` a line begins, after its file and its number, with the numbers of all patterns that match somewhere
-//! in it, in increasing order, with commas between them and a colon after the last. Patterns are numbered from 1 as
-//! they are given, so that those of one `-f FILE` have the numbers of its lines: `2,17:the line`. It excludes `-o` and
-//! `-v`.
+//! With `--which` a line begins, after its file name and its number, with the numbers of all patterns that match
+//! somewhere in it, in increasing order, separated by commas, and a colon. Patterns are numbered from 1 in the order in
+//! which they are given, so that those of one `-f FILE` have the numbers of its lines: `2,17:the line`. `--which`
+//! excludes `-o` and `-v`.
 //!
-//! A file with a NUL in a block that is read is binary from there on: of its lines none is printed, but to standard
-//! error that it matches, and a NUL ends a line as a line feed does. `-r` searches the files of a directory in the
-//! order of their names, and follows no link below it. A directory is an error without `-r`.
+//! A file is binary from the first block on in which a NUL is read. From there on no line is printed, but if one is
+//! taken, a message to standard error says that the file matches; and a NUL ends a line, as a line feed does. `-r`
+//! searches the files of a directory in the order of their names, and does not follow links below it. A directory is an
+//! error without `-r`.
 //!
-//! It is proved that of the lines of a text exactly those are taken of which some part is a match of some pattern, by
-//! what the patterns' texts mean, or with `-v` exactly the others; and that what is shown of them, and their count,
-//! are what the flags say (`Grep::search`): with `--which` the numbers of the patterns that match the line, each by
-//! itself. How arguments are read, which files are searched, how blocks are cut and what is written is safe, and no
-//! more is proved.
+//! It is proved that a line of a text is taken exactly if some part of it is a match of some pattern, by the meaning of
+//! the patterns' texts, or with `-v` exactly if none is; and that what is shown of the lines taken, and their count,
+//! are what the flags say (`Grep::search`). With `--which` the numbers are those of the patterns that match the line,
+//! each by itself. For reading the arguments, finding the files, cutting the blocks and writing, only safety is proved.
 #![tactic(auto)]
 
 ghost use Rattle.patterns.specs.Patterns.{HasNoLookCycle};
@@ -67,7 +67,7 @@ use std::env;
 use std::process::ExitCode;
 use std::time::Instant;
 
-/// Shows what is wrong with a pattern.
+/// Shows the error of a pattern, and returns the status 2.
 fn report(rt: &HostRuntime, patterns: &[&str], error: PatternError) -> Result<ExitCode> {
     let pattern = patterns.get(error.number).copied().unwrap_or("");
     let shown = error.show(rt.alloc(), pattern)?;
@@ -75,7 +75,7 @@ fn report(rt: &HostRuntime, patterns: &[&str], error: PatternError) -> Result<Ex
     Ok(ExitCode::from(2))
 }
 
-/// Searches the files for the patterns of an NFA.
+/// Searches the files for the patterns of an NFA, and returns the status.
 fn search_files(rt: &HostRuntime, args: &Args, nfa: NFA) -> Result<ExitCode>
     requires { HasNoLookCycle nfa }
 {
@@ -94,7 +94,7 @@ fn search_files(rt: &HostRuntime, args: &Args, nfa: NFA) -> Result<ExitCode>
     Ok(ExitCode::from(search.status()))
 }
 
-/// The arguments after the program's name.
+/// Returns the arguments after the program's name.
 fn words(rt: &HostRuntime) -> Result<Vec<String>> {
     let mut all = Vec::new(rt.alloc());
     for argument in env::args(rt)?.skip(1) {
@@ -103,7 +103,7 @@ fn words(rt: &HostRuntime) -> Result<Vec<String>> {
     Ok(all)
 }
 
-/// The texts of the patterns.
+/// Returns the texts of the patterns.
 fn texts_of<'t>(alloc: Global, patterns: &'t [String]) -> Result<Vec<&'t str>> {
     let mut texts = Vec::new(alloc);
     for pattern in patterns {
@@ -112,7 +112,7 @@ fn texts_of<'t>(alloc: Global, patterns: &'t [String]) -> Result<Vec<&'t str>> {
     Ok(texts)
 }
 
-/// Reads the arguments, and searches. A pattern that cannot be read is shown, and gives the status 2.
+/// Reads the arguments, and searches. An invalid pattern is shown, and gives the status 2.
 fn run(rt: &HostRuntime) -> Result<ExitCode> {
     let words = words(rt)?;
     let args = Args::read(rt, words.as_slice())?;

@@ -1,17 +1,17 @@
-//! Paths of files, and what is below a directory.
+//! Paths of files, and the entries of a directory.
 use anyhow::Result;
 use std::alloc::Global;
 use std::fs;
 use std::fs::{DirEntry, File};
 use std::os::unix::fs::MetadataExt;
 
-/// A path below a directory.
+/// A file or directory below a directory.
 pub struct Found {
     pub path: String,
     pub is_directory: bool,
 }
 
-// One call for an owner, whose proof then has no step for each part.
+// An owner drops this with one call, so that its proof has no step for each field.
 impl Drop for Found {
     fn drop(self) {
         let Self {
@@ -21,7 +21,7 @@ impl Drop for Found {
     }
 }
 
-/// What a file is called in what is printed.
+/// Returns the name of a file as it is printed.
 pub fn name_of(path: &str) -> &str {
     if path == "-" {
         "(standard input)"
@@ -38,7 +38,7 @@ pub fn is_directory(rt: &HostRuntime, path: &str) -> bool {
     }
 }
 
-/// The path of a name in a directory. That of the empty path is the current one.
+/// Returns the path of a name in a directory. The empty path is the current directory.
 fn below(alloc: Global, directory: &str, name: &str) -> Result<String> {
     let mut path = String::from_str(alloc, directory)?;
     if !directory.is_empty() && !directory.ends_with('/') {
@@ -48,7 +48,7 @@ fn below(alloc: Global, directory: &str, name: &str) -> Result<String> {
     Ok(path)
 }
 
-/// What is to be searched of an entry of a directory: a file or a directory, and no link.
+/// Returns the file or directory that a directory entry is; returns `None` for a link or anything else.
 pub fn found_of(alloc: Global, directory: &str, entry: &DirEntry) -> Result<Option<Found>> {
     let kind = entry.file_type()?;
     if !kind.is_dir() && !kind.is_file() {
@@ -59,14 +59,14 @@ pub fn found_of(alloc: Global, directory: &str, entry: &DirEntry) -> Result<Opti
     Ok(Some(Found { path, is_directory }))
 }
 
-/// Which file it is, whatever its path.
+/// The identity of a file, whatever its path.
 #[derive(Clone, Copy, PartialEq, Eq)]
 pub struct Place {
     device: u64,
     number: u64,
 }
 
-/// Which file standard output is written to, if it is one.
+/// Returns the file that standard output is written to, if it is a file.
 pub fn output_place(rt: &HostRuntime) -> Option<Place> {
     match fs::metadata(rt, "/dev/stdout") {
         Ok(found) if found.is_file() => Some(Place {
@@ -77,7 +77,7 @@ pub fn output_place(rt: &HostRuntime) -> Option<Place> {
     }
 }
 
-/// Which file an open one is.
+/// Returns the identity of an open file.
 pub fn place_of(file: &File) -> Result<Place> {
     let found = file.metadata()?;
     Ok(Place {

@@ -26,11 +26,11 @@ pub struct Grep {
     bytes: u64,
     /// How many lines were taken before the file turned out to be binary.
     plain: u64,
-    /// Why nothing more can be written.
+    /// The error after which nothing more can be written, if any.
     output_error: Option<ErrorKind>,
 }
 
-// One call for an owner, whose proof then has no step for each part.
+// An owner drops this with one call, so that its proof has no step for each field.
 impl Drop for Grep {
     fn drop(self) {
         let Self {
@@ -48,7 +48,7 @@ impl Drop for Grep {
 }
 
 impl Grep {
-    /// A grep that has found nothing so far.
+    /// Returns a grep that has found nothing yet.
     pub fn new(alloc: Global, show: Show, lines: LineSearcher, view: View) -> Grep
         ensures show { result.show ≡ show }
         ensures lines { result.lines ≡ lines }
@@ -69,7 +69,7 @@ impl Grep {
         }
     }
 
-    /// Begins a file of this name, of which nothing was read or searched so far.
+    /// Begins a file with this name, of which nothing has been read or searched.
     pub fn begin(&mut self, name: String)
         ensures show { self.new.show ≡ record self.old.show { name = name; binary = false } }
         ensures dfa { self.new.lines.dfa ≡ self.old.lines.dfa }
@@ -92,14 +92,14 @@ impl Grep {
         self.show.flags.named = true;
     }
 
-    /// How many lines of the file were taken.
+    /// Returns how many lines of the file were taken.
     pub fn count(&self) -> u64
         ensures { result ≡ self.now.count }
     {
         self.count
     }
 
-    /// How much of the file was read, searched and taken.
+    /// Returns how much of the file was read, searched and taken.
     pub fn stats(&self) -> Stats {
         Stats {
             bytes: self.bytes,
@@ -108,29 +108,29 @@ impl Grep {
         }
     }
 
-    /// What the caches have made.
+    /// Returns how the caches were used.
     pub fn usage(&self) -> Usage {
         self.lines.usage().and(self.view.usage())
     }
 
-    /// Why nothing more can be written, if so.
+    /// Returns the error after which nothing more can be written, if any.
     pub fn output_error(&self) -> Option<ErrorKind> {
         self.output_error
     }
 
-    /// Whether lines are written, and not only what is counted of them.
+    /// Whether lines are written, and not only their count, a file name or nothing.
     pub fn shows_lines(&self) -> bool {
         !is_silent(&self.show)
     }
 
-    /// Whether a line was taken that is not shown since the file is binary.
+    /// Whether a line was taken that is not shown because the file is binary.
     pub fn has_hidden(&self) -> bool {
         let flags = &self.show.flags;
         let is_asked = !(flags.count || flags.names || flags.quiet);
         self.show.binary && is_asked && self.count > self.plain
     }
 
-    /// Counts a line that is taken, and appends what is to be shown of it.
+    /// Counts a line that is taken, and appends what is shown of it.
     fn push_line(&mut self, line: &Line<'_>) -> Result<()>
         ensures same { OnOk result ((self.new.show ≡ self.old.show) × (self.new.lines ≡ self.old.lines)) }
         ensures view { OnOk result (KeepsView self.old.view self.new.view) }
@@ -148,7 +148,7 @@ impl Grep {
             .push(self.alloc, prefix.as_bytes(), line.bytes, &mut self.shown)
     }
 
-    /// Counts lines that are taken, and appends what is to be shown of them.
+    /// Counts lines that are taken, and appends what is shown of them.
     fn push_lines(&mut self, lines: &[Line<'_>]) -> Result<()>
         ensures same { OnOk result ((self.new.show ≡ self.old.show) × (self.new.lines ≡ self.old.lines)) }
         ensures view { OnOk result (KeepsView self.old.view self.new.view) }
@@ -163,7 +163,7 @@ impl Grep {
         Ok(())
     }
 
-    /// Searches the lines of a text, and appends what is to be shown of them.
+    /// Searches the lines of a text, and appends what is shown of those that are taken.
     fn search(&mut self, text: &[u8]) -> Result<()>
         ensures { OnOk result ((case_insensitive : Bool) (res : List Re) → IsGrepFor case_insensitive res self.old
             → IsGrepFor case_insensitive res self.new × ShowsLines res text.now self.old self.new) }
@@ -175,7 +175,7 @@ impl Grep {
         Ok(())
     }
 
-    /// Appends what is shown at the end of a file: its name or the count, if it is asked for.
+    /// Appends what is shown at the end of a file: its name, or the count if that is asked for.
     fn push_end(&mut self) -> Result<()>
         ensures { OnOk result (self.new.shown.items ≡ self.old.shown.items ++ end_shown self.old.show self.old.count) }
     {
@@ -183,7 +183,7 @@ impl Grep {
         Ok(self.shown.extend_from_slice(end.as_bytes())?)
     }
 
-    /// Writes what is shown so far.
+    /// Writes what was appended so far, and notes the error if that fails.
     fn write<W: Write>(&mut self, output: &mut W) -> Result<()> {
         if let Err(error) = output.write_all(self.shown.as_slice()) {
             self.output_error = Some(error.kind());
@@ -201,20 +201,20 @@ impl Grep {
         }
     }
 
-    /// Whether the lines that are left change nothing: a line was taken, and only whether there is one is asked for.
+    /// Whether the remaining lines do not matter: a line was taken, and it is only asked whether there is one.
     fn is_decided(&self) -> bool {
         let flags = &self.show.flags;
         let is_asked = flags.names || flags.quiet || self.show.binary && !flags.count;
         is_asked && self.count > self.plain
     }
 
-    /// Searches the lines of a text, and writes what is shown of them.
+    /// Searches the lines of a text, and writes what is shown of those that are taken.
     fn search_and_write<W: Write>(&mut self, text: &[u8], output: &mut W) -> Result<()> {
         self.search(text)?;
         self.write(output)
     }
 
-    /// Reads a block and searches the lines that have ended, and returns whether to go on.
+    /// Reads a block, and searches the lines that are complete. Returns whether to continue.
     fn turn<R: Read, W: Write>(
         &mut self,
         blocks: &mut Blocks,
@@ -239,7 +239,7 @@ impl Grep {
         Ok(output.flush()?)
     }
 
-    /// Searches the lines of a file, block by block, up to its end or as long as they can change what is shown. With
+    /// Searches the lines of a file, block by block, until its end or until the remaining lines do not matter. With
     /// `as_text` a file with a NUL is not binary.
     pub fn run<R: Read, W: Write>(
         &mut self,

@@ -23,7 +23,7 @@ pub struct SetSearcher {
     ghost of: { IsCacheOf cache set.dfa },
 }
 
-// One call for an owner, whose proof then has no step for each part.
+// An owner drops this with one call, so that its proof has no step for each field.
 impl Drop for SetSearcher {
     fn drop(self) {
         let Self {
@@ -33,7 +33,7 @@ impl Drop for SetSearcher {
     }
 }
 
-/// The number of a pattern, counted from 1, after a comma if it is not the first.
+/// Returns the number of a pattern, counted from 1, after a comma if it is not the first.
 fn number_text(alloc: Global, is_first: bool, pattern: PatternID) -> Result<String>
     ensures { IfOk result (λ text. string_bytes text ≡ number_after is_first pattern) }
 {
@@ -45,7 +45,7 @@ fn number_text(alloc: Global, is_first: bool, pattern: PatternID) -> Result<Stri
     }
 }
 
-/// The numbers of the patterns of a set, counted from 1, with commas between them.
+/// Returns the numbers of the patterns in a set, counted from 1 and separated by commas.
 fn numbers_of(alloc: Global, set: &PatternSet) -> Result<String>
     ensures { IfOk result (λ numbers. string_bytes numbers ≡ numbers_listed true (members set.now)) }
 {
@@ -59,7 +59,7 @@ fn numbers_of(alloc: Global, set: &PatternSet) -> Result<String>
     Ok(numbers)
 }
 
-/// Appends a line after the prefix and some numbers.
+/// Appends a line after the prefix, the numbers and a colon.
 fn push_numbered(prefix: &[u8], numbers: &str, line: &[u8], shown: &mut Vec<u8>) -> Result<()>
     ensures { OnOk result (shown.new.items ≡ shown.old.items ++ numbered_shown prefix.now numbers.now line.now) }
 {
@@ -71,7 +71,7 @@ fn push_numbered(prefix: &[u8], numbers: &str, line: &[u8], shown: &mut Vec<u8>)
 }
 
 impl SetSearcher {
-    /// A searcher of patterns over a fresh cache of the set.
+    /// Returns a searcher with a new cache for the set.
     pub fn new(set: RegexSet) -> Result<SetSearcher>
         ensures { IfOk result (λ s. s.set ≡ set) }
     {
@@ -97,7 +97,7 @@ impl SetSearcher {
         push_numbered(prefix, numbers.as_str(), line, shown)
     }
 
-    /// What its cache has made.
+    /// Returns how the cache was used.
     pub fn usage(&self) -> Usage {
         Usage::of(&self.cache)
     }

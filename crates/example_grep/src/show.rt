@@ -1,4 +1,4 @@
-//! What is printed of the lines that are taken, and of a file at its end.
+//! What is printed of the lines that are taken, and at the end of a file.
 ghost use Rattle.std.specs.Prelude.{◌≡◌, Bool, IfOk, string_bytes};
 ghost use Rattle.example_grep.specs.Shown.{count_shown, end_shown, file_shown, is_silent, name_of, number_shown};
 ghost use Rattle.example_grep.specs.Shown.{prefix_shown};
@@ -11,7 +11,7 @@ use std::alloc::Global;
 pub enum How {
     /// The line.
     Whole,
-    /// Its matches alone, each on a line of its own.
+    /// Only its matches, each on a line of its own.
     Matches,
     /// The numbers of the patterns that match it, and the line.
     Which,
@@ -20,19 +20,19 @@ pub enum How {
 /// What to print of the lines that are taken.
 #[derive(Clone, Copy)]
 pub struct Flags {
-    /// Lines without a match are taken, and not those with one.
+    /// Whether the lines without a match are taken, instead of those with one.
     pub invert: bool,
-    /// Only how many there are.
+    /// Whether only their number is printed.
     pub count: bool,
-    /// Only the name of the file, if there is one.
+    /// Whether only the name of the file is printed, if it has such a line.
     pub names: bool,
-    /// Nothing.
+    /// Whether nothing is printed.
     pub quiet: bool,
-    /// What of each.
+    /// What is printed of each line.
     pub how: How,
-    /// Their numbers too.
+    /// Whether line numbers are printed, too.
     pub numbers: bool,
-    /// The name of the file too.
+    /// Whether the name of the file is printed, too.
     pub named: bool,
 }
 
@@ -40,11 +40,11 @@ pub struct Flags {
 pub struct Show {
     pub flags: Flags,
     pub name: String,
-    /// The file is binary, so that no line is printed.
+    /// Whether the file is binary, so that no line is printed.
     pub binary: bool,
 }
 
-// One call for an owner, whose proof then has no step for each part.
+// An owner drops this with one call, so that its proof has no step for each field.
 impl Drop for Show {
     fn drop(self) {
         let Self {
@@ -62,7 +62,7 @@ pub fn is_silent(show: &Show) -> bool
     show.flags.count || show.flags.names || show.flags.quiet || show.binary
 }
 
-/// The name of the file and a colon, or nothing.
+/// Returns the name of the file and a colon, or nothing if names are not asked for.
 fn name_of(alloc: Global, show: &Show) -> Result<String>
     ensures { IfOk result (λ name. string_bytes name ≡ name_of show.now) }
 {
@@ -73,7 +73,7 @@ fn name_of(alloc: Global, show: &Show) -> Result<String>
     Ok(format!(in alloc; "{name}:")?)
 }
 
-/// The number of a line and a colon, or nothing.
+/// Returns the number of a line and a colon, or nothing if numbers are not asked for.
 fn number_of(alloc: Global, numbers: bool, number: u64) -> Result<String>
     ensures { IfOk result (λ shown. string_bytes shown ≡ number_shown numbers number) }
 {
@@ -83,7 +83,7 @@ fn number_of(alloc: Global, numbers: bool, number: u64) -> Result<String>
     Ok(format!(in alloc; "{number}:")?)
 }
 
-/// What stands before the bytes of a line.
+/// Returns what precedes the bytes of a line.
 pub fn prefix(alloc: Global, show: &Show, number: u64) -> Result<String>
     ensures { IfOk result (λ prefix. string_bytes prefix ≡ prefix_shown show.now number) }
 {
@@ -92,7 +92,7 @@ pub fn prefix(alloc: Global, show: &Show, number: u64) -> Result<String>
     Ok(format!(in alloc; "{name}{number}")?)
 }
 
-/// The name of a file, if a line of it was taken.
+/// Returns the name of a file, or nothing if no line of it was taken.
 fn file_end(alloc: Global, name: &str, count: u64) -> Result<String>
     ensures { IfOk result (λ shown. string_bytes shown ≡ file_shown name.now count) }
 {
@@ -102,7 +102,7 @@ fn file_end(alloc: Global, name: &str, count: u64) -> Result<String>
     Ok(format!(in alloc; "{name}\n")?)
 }
 
-/// The count, if it is asked for.
+/// Returns the count, or nothing if it is not asked for.
 fn count_end(alloc: Global, show: &Show, count: u64) -> Result<String>
     ensures { IfOk result (λ shown. string_bytes shown ≡ count_shown show.now count) }
 {
@@ -113,7 +113,7 @@ fn count_end(alloc: Global, show: &Show, count: u64) -> Result<String>
     Ok(format!(in alloc; "{name}{count}\n")?)
 }
 
-/// What is printed at the end of a file: nothing, its name, or the count.
+/// Returns what is printed at the end of a file: nothing, its name, or the count.
 pub fn file_shown(alloc: Global, show: &Show, count: u64) -> Result<String>
     ensures { IfOk result (λ shown. string_bytes shown ≡ end_shown show.now count) }
 {

@@ -19,7 +19,7 @@ pub struct SpanSearcher {
     ghost of: { AreCachesOf caches pattern.regex },
 }
 
-// One call for an owner, whose proof then has no step for each part.
+// An owner drops this with one call, so that its proof has no step for each field.
 impl Drop for SpanSearcher {
     fn drop(self) {
         let Self {
@@ -29,7 +29,7 @@ impl Drop for SpanSearcher {
     }
 }
 
-/// Appends some bytes, after the prefix and before a line feed.
+/// Appends bytes after the prefix and before a line feed.
 pub fn push_after(prefix: &[u8], bytes: &[u8], shown: &mut Vec<u8>) -> Result<()>
     ensures { OnOk result (shown.new.items ≡ shown.old.items ++ shown_after prefix.now bytes.now) }
 {
@@ -38,7 +38,7 @@ pub fn push_after(prefix: &[u8], bytes: &[u8], shown: &mut Vec<u8>) -> Result<()
     Ok(shown.push(b'\n')?)
 }
 
-/// Appends a match, and nothing if it is empty.
+/// Appends a match, unless it is empty.
 fn push_part(prefix: &[u8], part: &[u8], shown: &mut Vec<u8>) -> Result<()>
     ensures { OnOk result (shown.new.items ≡ shown.old.items ++ part_shown prefix.now part.now) }
 {
@@ -49,7 +49,7 @@ fn push_part(prefix: &[u8], part: &[u8], shown: &mut Vec<u8>) -> Result<()>
 }
 
 impl SpanSearcher {
-    /// A searcher of matches over fresh caches of the pattern.
+    /// Returns a searcher with new caches for the pattern.
     pub fn new(pattern: Pattern) -> Result<SpanSearcher>
         ensures { IfOk result (λ s. s.pattern ≡ pattern) }
     {
@@ -57,7 +57,7 @@ impl SpanSearcher {
         Ok(SpanSearcher { pattern, caches })
     }
 
-    /// Appends each match of a line that is not empty, after the prefix and before a line feed.
+    /// Appends each nonempty match of a line, after the prefix and before a line feed.
     pub fn push_matches(&mut self, prefix: &[u8], line: &[u8], shown: &mut Vec<u8>) -> Result<()>
         ensures same { self.new.pattern ≡ self.old.pattern }
         ensures shown { OnOk result ((case_insensitive : Bool) (res : List Re)
@@ -71,7 +71,7 @@ impl SpanSearcher {
         Ok(())
     }
 
-    /// What its caches have made.
+    /// Returns how the caches were used.
     pub fn usage(&self) -> Usage {
         let (ends, starts) = self.caches.as_parts();
         Usage::of(ends).and(Usage::of(starts))

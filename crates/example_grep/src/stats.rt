@@ -1,4 +1,4 @@
-//! What a run has read and made, for `--stats`.
+//! The statistics of a run, for `--stats`.
 ghost use Rattle.std.specs.Prelude.{◌≡◌, length};
 ghost use Rattle.automata_hybrid.specs.Cache.Caches.{dfa_of};
 ghost use Rattle.automata_hybrid.specs.Cache.States.{held_states};
@@ -9,7 +9,7 @@ use anyhow::Result;
 use regex_automata::hybrid::dfa::Cache;
 use std::time::Instant;
 
-/// How many clears of caches there were, how many states the caches hold, and how many bytes they account for.
+/// How many times caches were cleared, how many states they hold, and how many bytes they account for.
 #[derive(Clone, Copy)]
 pub struct Usage {
     pub clears: usize,
@@ -18,7 +18,7 @@ pub struct Usage {
 }
 
 impl Usage {
-    /// What a cache has made.
+    /// Returns how a cache was used.
     pub fn of(cache: &Cache) -> Usage
         ensures clears { result.clears ≡ (known_of cache.now).clears }
         ensures states { result.states ≡ length (held_states cache.now.store.table) }
@@ -32,7 +32,7 @@ impl Usage {
         }
     }
 
-    /// What two have made.
+    /// Returns the sum of two usages.
     pub fn and(self, other: Usage) -> Usage {
         Usage {
             clears: self.clears.saturating_add(other.clears),
@@ -51,7 +51,7 @@ pub struct Stats {
 }
 
 impl Stats {
-    /// Nothing was read.
+    /// Returns statistics before anything is read.
     pub fn new() -> Stats {
         Stats {
             bytes: 0,
@@ -60,15 +60,15 @@ impl Stats {
         }
     }
 
-    /// Adds those of a file.
+    /// Adds the statistics of a file.
     pub fn add(&mut self, file: Stats) {
         self.bytes = self.bytes.saturating_add(file.bytes);
         self.lines = self.lines.saturating_add(file.lines);
         self.taken = self.taken.saturating_add(file.taken);
     }
 
-    /// Prints them to standard error, with what the caches have made and how many megabytes were read in a second since
-    /// a time.
+    /// Prints the statistics to standard error, with how the caches were used and how many megabytes per second were
+    /// read since a time.
     pub fn print(&self, rt: &HostRuntime, usage: Usage, since: Instant) -> Result<()> {
         let micros = since.elapsed(rt)?.as_micros();
         eprintln!(rt; "bytes read: {}", self.bytes)?;

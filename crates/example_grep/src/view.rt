@@ -11,14 +11,14 @@ use crate::stats::Usage;
 use anyhow::Result;
 use std::alloc::Global;
 
-/// What searches a line that is taken for what is shown of it, if that is not the line alone.
+/// The searcher for what is shown of a line that is taken, if that is not the whole line.
 pub enum View {
     Whole,
     Matches(SpanSearcher),
     Which(SetSearcher),
 }
 
-// One call for an owner, whose proof then has no step for each part.
+// An owner drops this with one call, so that its proof has no step for each field.
 impl Drop for View {
     fn drop(self) {
         match self {
@@ -50,7 +50,7 @@ impl View {
         }
     }
 
-    /// What its caches have made.
+    /// Returns how the caches were used.
     pub fn usage(&self) -> Usage {
         match self {
             View::Whole => Usage {

@@ -1,4 +1,4 @@
--- Calls one after another, and one more.
+-- Sequences of calls, and one more call.
 use Rattle.std.proofs.Common.{ℕ, suc, zero, inl, inr, get_or, ◌≡◌, ◌+◌, ◌<◌, ◌++◌, List, [], ◌∷◌, add-one, ap, arith}
 use Rattle.std.proofs.Common.{drop, length, refl}
 use Rattle.std.proofs.Common.{subst, sym, take, ◌∙◌}
@@ -44,7 +44,7 @@ tail_of (suc i) (x ∷ xs) = tail_of i xs
 rest_more : {A : Type 0} (i : ℕ) (xs ys : List A) → drop i xs ≡ drop i ys → drop (suc i) xs ≡ drop (suc i) ys
 rest_more i xs ys same = tail_of i xs ∙ (ap (drop 1) same ∙ sym (tail_of i ys))
 
--- the matches before an index are those of the calls so far, and nothing is written after it
+-- the matches before an index are those that the calls so far wrote, and nothing is written from the index on
 pub record AreSoFar {A : Type 0} (Call : Found → A → A → Searcher → Searcher → Status → Type 0)
     (was items : List Found) (count i : ℕ) (old at : A) (s u : Searcher) : Type 0 where
   pub counted : count ≡ i

@@ -1,4 +1,4 @@
--- No two codes have one number: each number gives its code back.
+-- Different codes have different numbers: each number determines its code.
 use Rattle.std.proofs.Common.{ℕ, ◌≡◌, ◌==◌, Option, if◌then◌else◌, ap, refl}
 use Rattle.std.specs.Prelude.{Some, None}
 use Rattle.lazydfa_c.specs.Codes.{number_of}

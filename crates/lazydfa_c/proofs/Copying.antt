@@ -5,7 +5,7 @@ use Rattle.std.proofs.lemmas.List.{drop_more}
 use Rattle.lazydfa_c.specs.Caches.{written_over}
 use Rattle.lazydfa_c.proofs.Written.{goes_on, stops, under}
 
--- the next item is the first of those that are left
+-- the next item is the first of the remaining ones
 next_left :
     {A : Type 0} (items out : List A) (at i : ℕ) (x : A) → i < length items → x ≡ get_or items i x
     → under at (x ∷ drop (i + 1) items) out ≡ under at (drop i items) out

@@ -1,4 +1,4 @@
--- A status gives the error back, as it is told.
+-- A status determines what is reported of its error.
 use Rattle.std.proofs.Common.{◌≡◌, ◌==◌, ◌<◌, if◌then◌else◌, ap, refl, arith}
 use Rattle.automata_base.specs.declared.nfa.thompson.NfaError.TheVariants as nfa
 use Rattle.automata_base.specs.declared.nfa.thompson.building.BuildError.{BuildError as BuilderError}
@@ -24,7 +24,7 @@ use Rattle.lazydfa_c.specs.Statuses.{token_status}
 use Rattle.lazydfa_c.specs.declared.code.Code.TheVariants as code
 use Rattle.lazydfa_c.specs.declared.status.Status.{Status}
 
--- the error of a status; where there is none, some error
+-- the error of a status; if there is none, an arbitrary error
 abbrev builder_of : Status → BuilderError
 builder_of s =
     if s.code == 10 then builder.NoPattern else
@@ -129,7 +129,7 @@ token_back (Search (Match (UnsupportedAnchored mode))) = refl
 token_back (Search OutOfMemory) = refl
 token_back (Search NotAPair) = refl
 
--- errors whose statuses have an inverse are told apart
+-- if a status determines what is reported of its error, the same is reported of errors with equal statuses
 differ : {E : Type 0} (status : E → Status) (told : E → E) (back : Status → E)
     → ((e : E) → back (status e) ≡ told e) → (e f : E) → status e ≡ status f → told e ≡ told f
 differ status told back gives e f same =

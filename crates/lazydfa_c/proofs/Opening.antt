@@ -1,4 +1,4 @@
--- A handle that is opened on a regex which was made, by what opening it returned.
+-- Opening a handle on a regex that was built, by the result of the opening.
 use Rattle.std.proofs.Common.{◌≡◌, Ok, Err, OnErr, OnOk}
 use Rattle.std.specs.Prelude.{IfErr, Result}
 use Rattle.lazydfa_c.specs.Builds.{IsRegexIn, OpensRegex, LacksObject}

@@ -1,4 +1,4 @@
--- Numbers that are those of states.
+-- Numbers of states.
 use Rattle.std.proofs.Common.{ℕ, ◌≡◌, ◌&&◌, Bool, true, false, refl}
 use Rattle.std.specs.Prelude.{IsTrue, Ok, Err, if◌then◌else◌}
 use Rattle.lazydfa_c.specs.Drafts.{is_state, state_of}
@@ -9,7 +9,7 @@ chosen : (n i : ℕ) (is : Bool) → Ok i ≡ (if is then Ok n else Err (plain c
 chosen n i true e = (refl, cc)
 chosen n i false e = absurd cc
 
--- a number that is taken for a state's is one, and stays the same
+-- a number that is accepted as a state ID is valid, and is unchanged
 pub state_is : (n i : ℕ) → Ok i ≡ state_of n → IsTrue (is_state n) × (i ≡ n)
 state_is n i e = chosen n i (is_state n) e
 

@@ -1,4 +1,4 @@
--- A handle that is opened on the regex of texts, by what opening it on the regex of their NFA returned.
+-- Opening a handle on the regex of texts, by the result of opening it on the regex of their NFA.
 use Rattle.std.proofs.Common.{ℕ, zero, suc, ◌≡◌, ◌<◌, List, Result, Ok, Err, IfOk, arith, sym, subst, refl}
 use Rattle.automata_base.specs.Nfas.Nodes.{Automaton}
 use Rattle.automata_config.specs.Options.{Options}
@@ -16,7 +16,7 @@ use Rattle.lazydfa_c.specs.declared.status.Status.{Status}
 use Rattle.lazydfa_c.specs.declared.text.TextOptions.{TextOptions}
 use Rattle.lazydfa_c.proofs.Errors as errors
 
--- no memory is a failure
+-- out of memory is a failure
 memory_fails : IsFailure (plain code.Memory)
 memory_fails = omega arith
 
@@ -32,7 +32,7 @@ built_fails o nfa old new (Err e) (same, RefusesRegex (error, _, is)) =
     (same, subst IsFailure (sym is) f)
 built_fails o nfa old new (Err e) (same, LacksObject is) = (same, subst IsFailure (sym is) memory_fails)
 
--- and so is one of a regex that searches forward only
+-- an error of a regex that only searches forward is a failure
 forward_fails :
     (o : Options) (nfa : Automaton) (old new : Handle) (done : Result (Unit {0}) Status)
     → OpensRegex (IsForwardOnly o nfa) IsFailure old new done → OpensNfa (IsForwardOnly o nfa) old new done
@@ -40,7 +40,7 @@ forward_fails o nfa old new (Ok u) opened = opened
 forward_fails o nfa old new (Err e) (same, RefusesRegex fails) = (same, fails)
 forward_fails o nfa old new (Err e) (same, LacksObject is) = (same, subst IsFailure (sym is) memory_fails)
 
--- the regex of an NFA, if no other one is asked for
+-- the full regex of an NFA, if `forward_only` is 0
 pub opens_built :
     (o : Options) (nfa : Automaton) (forward_only : ℕ) (old new : Handle) (done : Result (Unit {0}) Status)
     → forward_only ≡ 0 → OpensRegex (IsBuiltRegex o nfa) (IsBuildErrorStatus o nfa) old new done
@@ -48,7 +48,7 @@ pub opens_built :
 opens_built o nfa forward_only old new done is opened =
     subst (λ n. OpensNfa (IsRegexFor n o nfa) old new done) (sym is) (built_fails o nfa old new done opened)
 
--- the one that searches forward only, if it is
+-- the regex that only searches forward, if `forward_only` is not 0
 pub opens_forward :
     (o : Options) (nfa : Automaton) (forward_only : ℕ) (old new : Handle) (done : Result (Unit {0}) Status)
     → (forward_only ≡ 0 → ⊥) → OpensRegex (IsForwardOnly o nfa) IsFailure old new done
@@ -63,7 +63,7 @@ pub opens_texts :
 opens_texts o options settings texts nfa old new (Ok u) meant opened = (nfa, meant, opened)
 opens_texts o options settings texts nfa old new (Err e) meant failed = failed
 
--- what is built of an NFA and of one without a match
+-- the regex that is built from an NFA and from one without a match only searches forward
 pub forward_only :
     (o : Options) (nfa none : Automaton) (result : Result Regex Status) → MatchesNothing none
     → IfOk result (IsPairOf o nfa none) → IfOk result (IsForwardOnly o nfa)

@@ -1,10 +1,10 @@
--- Writing a list into another, one element after another.
+-- Writing a list over another, one element after another.
 use Rattle.std.proofs.Common.{ℕ, suc, zero, ◌≡◌, ◌<◌, ◌≤◌, ◌++◌, List, [], ◌∷◌, length, take, drop, ap, refl, subst}
 use Rattle.std.proofs.Common.{arith, ◌∙◌}
 use Rattle.std.proofs.Math.ListN.{set}
 use Rattle.lazydfa_c.specs.Caches.{written_over}
 
--- what is written so far, and what is still to be written over the rest
+-- the list after some elements are written, as what is written and what remains to be written over the rest
 abbrev pub under : {A : Type 0} → (at : ℕ) → (rest out : List A) → List A
 under at rest out = take at out ++ written_over rest (drop at out)
 
@@ -29,14 +29,14 @@ stops (o ∷ out) zero x rest h = absurd (omega arith)
 stops {A = A} (o ∷ out) (suc at) x rest h =
     let h' : length out ≤ at = omega arith in ap (λ (r : List A). o ∷ r) (stops out at x rest h')
 
--- nothing is left to be written
+-- no element remains to be written
 pub ends : {A : Type 0} (out : List A) (at : ℕ) → under at [] out ≡ out
 ends [] zero = refl
 ends [] (suc at) = refl
 ends (o ∷ out) zero = refl
 ends {A = A} (o ∷ out) (suc at) = ap (λ (r : List A). o ∷ r) (ends out at)
 
--- an element more is written after those of a list
+-- one more element is written after the elements of a list
 put :
     {A : Type 0} (xs out : List A) (x : A) → length xs < length (written_over xs out)
     → set (written_over xs out) (length xs) x ≡ written_over (xs ++ x ∷ []) out
@@ -56,7 +56,7 @@ full (y ∷ xs) [] x h = refl
 full {A = A} (y ∷ xs) (o ∷ out) x h =
     let h' : length (written_over xs out) ≤ length xs = omega arith in ap (λ (r : List A). y ∷ r) (full xs out x h')
 
--- at the index after a list, which is written over another, one more element is written if there is room
+-- at the index after a list that is written over another, one more element is written if there is room
 pub puts :
     {A : Type 0} (xs out old new : List A) (at : ℕ) (x : A) → at ≡ length xs → old ≡ written_over xs out
     → at < length old → new ≡ set old at x → new ≡ written_over (xs ++ x ∷ []) out

@@ -1,4 +1,4 @@
--- What the calls do that write as many matches as there is room for.
+-- Contracts of the calls that write as many matches as there is room for.
 use Rattle.std.specs.Prelude.{ℕ, ◌≡◌, ◌⊎◌, ◌<◌, ◌-◌, ◌^◌, List, [], ◌∷◌, drop, length, map, take}
 use Rattle.std.specs.Prelude.{Option, None, Some, Result, Ok, Err, OnOk}
 use Rattle.std.specs.Result.{result_err}
@@ -21,37 +21,37 @@ use Rattle.lazydfa_c.specs.declared.input.Request.{Request}
 use Rattle.lazydfa_c.specs.declared.object.Searcher.{Searcher}
 use Rattle.lazydfa_c.specs.declared.status.Status.{Status}
 
--- a call that wrote this match
+-- a call wrote this match
 pub record WritesOne {A : Type 0} (Call : Found → A → A → Searcher → Searcher → Status → Type 0) (f : Found)
     (old new : A) (s t : Searcher) : Type 0 where
   -- its status
   pub status : Status
   -- it is `LAZYDFA_OK`
   pub done : status.code ≡ number_of code.Done
-  -- what the call does
+  -- the call does what is promised of it
   pub call : Call f old new s t status
 
--- calls one after another, each of which wrote one of these matches
+-- calls in sequence, each of which wrote one of these matches, in order
 pub data AreCalls {A : Type 0} (Call : Found → A → A → Searcher → Searcher → Status → Type 0) :
     List Found → (old new : A) → (s t : Searcher) → Type 0 where
-  -- none: nothing changes
+  -- no calls: nothing changes
   NoneCalled : (old new : A) (s t : Searcher) → new ≡ old → t ≡ s → AreCalls Call [] old new s t
-  -- one wrote the first match, and those after it the others
+  -- the first call wrote the first match, and the calls after it wrote the others
   CallsOn :
       (f : Found) (fs : List Found) (old at new : A) (s u t : Searcher) → WritesOne Call f old at s u
       → AreCalls Call fs at new u t → AreCalls Call (f ∷ fs) old new s t
 
--- a call that writes as many matches as there is room for: it makes calls one after another, each of which writes the
--- next match, until one writes none
+-- a call that writes as many matches as there is room for: a sequence of calls, each of which writes the next match,
+-- until one writes none
 pub record InTurn {A : Type 0} (Call : Found → A → A → Searcher → Searcher → Status → Type 0)
     (was written : List Found) (count : ℕ) (old new : A) (s t : Searcher) (status : Status) : Type 0 where
-  -- the iteration, or what is left for tokens, after the calls that wrote a match
+  -- the iteration, or the remaining input for tokens, after the calls that wrote a match
   pub at : A
   -- the cache after those calls
   pub between : Searcher
-  -- the matches that are counted are those of the calls
+  -- the counted matches are those that the calls wrote
   pub calls : AreCalls Call (take count written) old at s between
-  -- there is no more room, or the next call wrote none, and its status is that of all
+  -- there is no more room, or the next call writes no match, and its status is the status of the whole
   pub last :
       ((count ≡ length written) × (status ≡ plain code.Done) × (new ≡ at) × (t ≡ between))
       ⊎ ((count < length written) × (status.code ≡ number_of code.Done → ⊥)
@@ -59,69 +59,69 @@ pub record InTurn {A : Type 0} (Call : Found → A → A → Searcher → Search
   -- nothing else is written
   pub rest : drop count written ≡ drop count was
 
--- `lazydfa_token` and what is left: without an input nothing changes
+-- `lazydfa_token` on the remaining input: if that is not a valid input, it is unchanged
 abbrev pub Takes : List ℕ → Found → (old new : Request) → (s t : Searcher) → Status → Type 0
 Takes haystack found old new s t status =
     OfInput (TakesToken found old new) (input_of haystack old) s t status
     × (input_of haystack old ≡ None → new ≡ old)
 
--- the result of a call of an overlapping search, but for the match that it found
+-- the result of a call of an overlapping search, without the match that it found
 abbrev pub done_of : Result (Option HalfMatch) SearchError → Result (Unit {0}) SearchError
 done_of (Ok half) = Ok tt
 done_of (Err e) = Err e
 
--- a call of an overlapping search: the result of the library's call, with its promises
+-- a call of an overlapping search: the result of the library's call, and what it promises
 pub record IsWalkStep (way : Direction) (m : Machine) (input : Input) (walk next : Walk) (old new : CacheView)
     (result : Result (Option HalfMatch) SearchError) : Type 0 where
-  -- if the call does not fail, it returns the match that the walk then has, or none
+  -- if the call does not fail, it returns the match that the walk then has, if any
   pub found : OnOk result (result ≡ Ok next.found)
   -- what a call of a walk promises of its result, and of the walk after it
   pub call : IsWalkCall way m input walk next (done_of result)
-  -- what the call made of the cache, also if it failed
+  -- the effect of the call on the cache, also if it failed
   pub effect : IsWalkRun States way m input walk next (known_of old) (known_of new) (result_err result)
 
--- steps one after another, each of which found one of these matches
+-- steps in sequence, each of which found one of these matches, in order
 pub data AreWalkSteps (way : Direction) (m : Machine) (input : Input) :
     List HalfMatch → (walk next : Walk) → (old new : CacheView) → Type 0 where
-  -- none: nothing changes
+  -- no steps: nothing changes
   NoStep :
       (walk next : Walk) (old new : CacheView) → next ≡ walk → new ≡ old
       → AreWalkSteps way m input [] walk next old new
-  -- one found the first match, and those after it the others
+  -- the first step found the first match, and the steps after it found the others
   StepsFurther :
       (half : HalfMatch) (halves : List HalfMatch) (walk mid next : Walk) (old between new : CacheView)
       → IsWalkStep way m input walk mid old between (Ok (Some half))
       → AreWalkSteps way m input halves mid next between new
       → AreWalkSteps way m input (half ∷ halves) walk next old new
 
--- the status of the step after which there is none
+-- the status of the last step: none if it found a match, since another step follows
 abbrev pub end_status : Result (Option HalfMatch) SearchError → Option Status
 end_status (Ok (Some half)) = None
 end_status (Ok None) = Some (plain code.Done)
 end_status (Err e) = Some (search_status e)
 
--- a search for all overlapping matches of an input: the steps of a new walk, one after another, until one finds none
+-- a search for all overlapping matches of an input: the steps of a new walk until one finds no match
 pub record AreAll (way : Direction) (m : Machine) (input : Input) (was written : List FoundHalf) (count : ℕ)
     (old new : CacheView) (status : Status) : Type 0 where
-  -- the matches that the steps found, in their order
+  -- the matches that the steps found, in order
   pub halves : List HalfMatch
   -- the walk after the step that found the last of them
   pub walk : Walk
   -- the cache after that step
   pub between : CacheView
-  -- the first step is that of a new walk, and each found one of these matches
+  -- the first step is a new walk's, and each step found one of these matches
   pub steps : AreWalkSteps way m input halves fresh_walk walk old between
-  -- the last step found none, or failed; or there were as many as can be counted
+  -- the last step found no match, or failed; or the largest number of matches that can be counted was found
   pub last :
       ((next : Walk) × (result : Result (Option HalfMatch) SearchError)
       × IsWalkStep way m input walk next between new result × (end_status result ≡ Some status))
       ⊎ ((count ≡ 2 ^ 64 - 1) × (status ≡ plain code.Done) × (new ≡ between))
-  -- the first ones are written, as many as there is room for, and all are counted
+  -- as many of the matches as there is room for are written
   pub first : written ≡ written_over (map found_half halves) was
-  -- the count is of all of them, also of those that there was no room for
+  -- the count includes the matches that there was no room for
   pub counted : count ≡ length halves
 
--- `lazydfa_all_ends`: all overlapping matches by the forward DFA; the reverse cache stays
+-- `lazydfa_all_ends`: all overlapping matches by the forward DFA; the reverse cache is unchanged
 pub record FindsAllEnds (was written : List FoundHalf) (count : ℕ) (input : Input) (s t : Searcher) (status : Status)
     : Type 0 where
   -- the ends of all matches, by steps of the forward DFA over its cache
@@ -134,7 +134,7 @@ pub record FindsAllEnds (was written : List FoundHalf) (count : ℕ) (input : In
   -- its search and its walk in pieces are unchanged
   pub pieces : t.pieces ≡ s.pieces
 
--- `lazydfa_all_starts`: all of the reverse DFA; the forward cache stays
+-- `lazydfa_all_starts`: all overlapping matches by the reverse DFA; the forward cache is unchanged
 pub record FindsAllStarts (was written : List FoundHalf) (count : ℕ) (input : Input) (s t : Searcher) (status : Status)
     : Type 0 where
   -- the starts of all matches, by steps of the reverse DFA over its cache
@@ -147,7 +147,7 @@ pub record FindsAllStarts (was written : List FoundHalf) (count : ℕ) (input : 
   -- its search and its walk in pieces are unchanged
   pub pieces : t.pieces ≡ s.pieces
 
--- without an input nothing is written, and none is counted
+-- without a valid input nothing is written, and the count is 0
 abbrev pub NoneListed : {A : Type 0} → Option Input → (was written : List A) → (count : ℕ) → Type 0
 NoneListed None was written count = (written ≡ was) × (count ≡ 0)
 NoneListed (Some input) was written count = Unit {0}

@@ -1,4 +1,4 @@
--- What the calls make that open a handle on a regex or on a cache, and why they fail.
+-- Contracts of the calls that open a handle on a regex or on a cache, and why they fail.
 use Rattle.std.specs.Prelude.{◌≡◌, Bool, false, true, length, replicate, Some, IsSomeAnd, Result, Ok, Err, ℕ, zero}
 use Rattle.std.specs.Prelude.{suc, ◌==◌, ◌&&◌, not, List, [], ◌∷◌, Option, None, IsTrue, IsFalse, if◌then◌else◌}
 use Rattle.std.specs.Prelude.{slice_set}
@@ -28,20 +28,20 @@ use Rattle.lazydfa_c.specs.declared.regex.StartStates.{StartStates}
 use Rattle.lazydfa_c.specs.declared.settings.Settings.{Settings}
 use Rattle.lazydfa_c.specs.declared.status.Status.{Status}
 
--- what `build_from_nfa` returns of an NFA: the regex of it, which then keeps unions if it has a look cycle, and of its
--- reverse; its two DFAs are a sound pair
+-- the regex that `build_from_nfa` returns for an NFA: its forward DFA is built from the NFA, which then keeps unions if
+-- it has a look cycle, and its reverse DFA from the reversed NFA; the two DFAs are a sound pair
 abbrev pub IsBuiltRegex : Options → Automaton → Regex → Type 0
 IsBuiltRegex o nfa regex = BuildsOne o nfa regex × IsSoundPair regex
 
--- the status is that of an error of `build_from_nfa`
+-- the status is the status of an error of `build_from_nfa`
 abbrev pub IsBuildErrorStatus : Options → Automaton → Status → Type 0
 IsBuildErrorStatus o nfa status = (e : RegexBuildError) × IsBuildError o nfa e × (status ≡ regex_status e)
 
--- what `build_from_nfas` returns of two NFAs
+-- the regex that `build_from_nfas` returns for two NFAs
 abbrev pub IsPairOf : Options → (forward reverse : Automaton) → Regex → Type 0
 IsPairOf o forward reverse regex = BuildsPair o forward reverse regex
 
--- the status is that of an error of `build_from_nfas`
+-- the status is the status of an error of `build_from_nfas`
 abbrev pub IsPairError : Options → (forward reverse : Automaton) → Status → Type 0
 IsPairError o forward reverse status =
     (e : BuildError)
@@ -49,17 +49,18 @@ IsPairError o forward reverse status =
 
 -- each NFA keeps unions if it has a look cycle
 pub record AreKeeping (forward reverse front back : Automaton) : Type 0 where
-  -- `front` is the forward NFA, and keeps unions exactly if that one has a look cycle
+  -- `front` is the forward NFA, and keeps unions exactly if the forward NFA has a look cycle
   pub ahead : IsKeepingUnions forward front
   -- `back` is the reverse NFA, and keeps unions by the same rule
   pub behind : IsKeepingUnions reverse back
 
--- the same of the two, which then keep unions if they have look cycles
+-- the regex that `build_from_nfas` returns for two NFAs, each made to keep unions if it has a look cycle
 abbrev pub IsKeepingPairOf : Options → (forward reverse : Automaton) → Regex → Type 0
 IsKeepingPairOf o forward reverse regex =
     (front back : Automaton) × AreKeeping forward reverse front back × IsPairOf o front back regex
 
--- the status is that of an error of `build_from_nfas` for two NFAs, each made to keep unions if it has a look cycle
+-- the status is the status of an error of `build_from_nfas` for two NFAs, each made to keep unions if it has a look
+-- cycle
 abbrev pub IsKeepingPairError : Options → (forward reverse : Automaton) → Status → Type 0
 IsKeepingPairError o forward reverse status =
     (front back : Automaton) × AreKeeping forward reverse front back × IsPairError o front back status
@@ -77,49 +78,49 @@ pub record IsRegexIn (regex : Regex) (handle : Handle) : Type 0 where
   -- its object is this regex
   pub object : IsSomeAnd handle.slot.value (IsRegexObject regex)
 
--- the NFA of a builder with these starts, or why there is none
+-- whether both starts are valid state IDs
 abbrev pub are_starts : StartStates → Bool
 are_starts starts = is_state starts.anchored && is_state starts.unanchored
 
--- the NFA that a builder makes with these starts, or why there is none
+-- the NFA that a builder makes with these starts, or the status that says why there is none
 pub data IsNfaOfDraft (starts : StartStates) (draft : Draft) (result : Result Automaton Status) : Type 0 where
-  -- the starts are numbers of states, and it is what the builder makes
+  -- the starts are valid state IDs, and the result is what the builder returns
   HasStarts :
       IsTrue (are_starts starts) → MakesNfa draft starts.anchored starts.unanchored result
       → IsNfaOfDraft starts draft result
-  -- a start is too large for an ID, which is reported first
+  -- a start is not a valid state ID, which is reported first
   LacksOneStart : IsFalse (are_starts starts) → result ≡ Err (plain code.Argument) → IsNfaOfDraft starts draft result
 
--- the NFA of the builder that an object is; if it is no builder, its kind is reported
+-- the NFA of a builder object; for any other object its kind is reported
 abbrev pub IsNfaIn : StartStates → Object → Result Automaton Status → Type 0
 IsNfaIn starts (Builder draft) result = IsNfaOfDraft starts draft result
 IsNfaIn starts (RegexObject r) result = result ≡ Err (plain code.Kind)
 IsNfaIn starts (CacheObject s) result = result ≡ Err (plain code.Kind)
 
--- the settings that C gave, as options: a number of a match kind that is none is reported
+-- the match kind of a number that C gave, or the error if there is none
 abbrev pub kind_of : ℕ → Result MatchKind Status
 kind_of zero = Ok LeftmostFirst
 kind_of (suc zero) = Ok All
 kind_of (suc (suc n)) = Err (plain code.Argument)
 
--- a number that C gave, if it counts
+-- a number that C gave, if it is set
 abbrev pub number_if : (has number : ℕ) → Option ℕ
 number_if has number = if has == 0 then None else Some number
 
--- the same of a limit: it is set to the number, or it is not set
+-- a limit that C gave: it is set to the number, or it is not set
 abbrev pub limit_if : (has number : ℕ) → Option (Option ℕ)
 limit_if has number = if has == 0 then None else Some (Some number)
 
--- whether both starts are one state, so that every search is anchored, and the settings do not allow that
+-- whether both starts are one state, so that every search is anchored, although the settings do not allow that
 abbrev pub has_one_start : Settings → StartStates → Bool
 has_one_start s starts = (starts.anchored == starts.unanchored) && (s.always_anchored == 0)
 
--- the options with these quit bytes as well
+-- the options with these quit bytes added
 abbrev pub with_quits : Options → List ℕ → Options
 with_quits o [] = o
 with_quits o (byte ∷ bytes) = with_quits (record o { quits = Some (slice_set (quits_of o) byte true) }) bytes
 
--- the settings that C gave, as options, with this match kind; no quit bytes are set yet
+-- the settings that C gave, as options with this match kind; no quit bytes are set yet
 abbrev pub options_in : Settings → MatchKind → Options
 options_in s kind = record {
   match_kind = Some kind;
@@ -134,12 +135,12 @@ options_in s kind = record {
   minimum_bytes_per_state = limit_if s.has_minimum_bytes_per_state s.minimum_bytes_per_state;
 }
 
--- the settings that C gave, as options, with these quit bytes; or the error of the match kind
+-- the settings that C gave, as options with these quit bytes, or the error of the match kind
 abbrev pub options_of : Settings → (quits : List ℕ) → Result MatchKind Status → Result Options Status
 options_of s quits (Ok kind) = Ok (with_quits (options_in s kind) quits)
 options_of s quits (Err e) = Err e
 
--- the options for an NFA with these starts; if both are one state, and the settings do not allow that, it is reported
+-- the options for an NFA with these starts, or an error if both are one state and the settings do not allow that
 abbrev pub options_for : Settings → (quits : List ℕ) → StartStates → Result Options Status
 options_for s quits starts =
     if has_one_start s starts then Err (plain code.OneStart) else options_of s quits (kind_of s.match_kind)
@@ -155,68 +156,68 @@ pub record HoldsRegex (Makes : Regex → Type 0) (new : Handle) : Type 0 where
 
 -- why no handle is opened on a regex
 pub data IsNotOpened (Refuses : Status → Type 0) (e : Status) : Type 0 where
-  -- it is the error of the library's call
+  -- the library's call returned this error
   RefusesRegex : Refuses e → IsNotOpened Refuses e
-  -- there is no memory for the handle's object
+  -- the allocation of the handle's object failed
   LacksObject : e ≡ plain code.Memory → IsNotOpened Refuses e
 
--- a handle is opened on the regex that the library's call returned, or stays, and it is told why
+-- a handle is opened on the regex that the library's call returned, or is unchanged, and the status says why
 abbrev pub OpensRegex : (Makes : Regex → Type 0) → (Refuses : Status → Type 0)
     → (old new : Handle) → Result (Unit {0}) Status → Type 0
 OpensRegex Makes Refuses old new (Ok u) = HoldsRegex Makes new
 OpensRegex Makes Refuses old new (Err e) = (new ≡ old) × IsNotOpened Refuses e
 
--- the same of an NFA, if there is one
+-- a handle is opened on the regex of an NFA, if there is one
 abbrev pub OpensOf : Options → (old new : Handle) → Result Automaton Status → Result (Unit {0}) Status → Type 0
 OpensOf o old new (Ok nfa) done = OpensRegex (IsBuiltRegex o nfa) (IsBuildErrorStatus o nfa) old new done
 OpensOf o old new (Err e) done = (new ≡ old) × (done ≡ Err e)
 
--- and of two
+-- a handle is opened on the regex of two NFAs, if there are both
 abbrev pub OpensPair : Options → (old new : Handle) → Automaton → Result Automaton Status
     → Result (Unit {0}) Status → Type 0
 OpensPair o old new forward (Ok reverse) done =
     OpensRegex (IsKeepingPairOf o forward reverse) (IsKeepingPairError o forward reverse) old new done
 OpensPair o old new forward (Err e) done = (new ≡ old) × (done ≡ Err e)
 
--- a regex of the NFA of a builder, which is put back
+-- a handle is opened on the regex of the NFA of a builder, which is put back
 abbrev pub OpensIn : Options → StartStates → (old new from left : Handle) → Result (Unit {0}) Status → Type 0
 OpensIn o starts old new from left done =
     (nfa : Result Automaton Status) × ReadsHandle (IsNfaIn starts) from left nfa × OpensOf o old new nfa done
 
--- a regex of the NFAs of two builders, of which the first gave its NFA: the second is read
+-- the first of two builders gave its NFA: the second is read, and a handle is opened on the regex of both NFAs
 pub record OpensBoth (o : Options) (starts : StartStates) (old new from left : Handle) (forward : Automaton)
     (done : Result (Unit {0}) Status) : Type 0 where
-  -- what the second gives
+  -- the result of the second builder
   pub reverse : Result Automaton Status
-  -- it is put back
+  -- the second builder is put back
   pub read : ReadsHandle (IsNfaIn starts) from left reverse
   -- the handle is opened on the regex of both NFAs
   pub opens : OpensPair o old new forward reverse done
 
--- the first gave no NFA: the second is not read, and nothing is opened
+-- the first of two builders gave no NFA: the second is not read, and no handle is opened
 pub record OpensNeither (old new from left : Handle) (e : Status) (done : Result (Unit {0}) Status) : Type 0 where
-  -- the handle stays
+  -- the handle is unchanged
   pub same : new ≡ old
-  -- that on the second builder stays
+  -- the handle of the second builder is unchanged
   pub unread : left ≡ from
-  -- the error is told
+  -- the error is returned
   pub told : done ≡ Err e
 
--- a regex of the NFAs of two builders, of which the second is read only if the first gave its NFA
+-- a handle is opened on the regex of the NFAs of two builders; the second is read only if the first gave its NFA
 abbrev pub OpensAfter : Options → StartStates → (old new from left : Handle) → Result Automaton Status
     → Result (Unit {0}) Status → Type 0
 OpensAfter o starts old new from left (Ok forward) done = OpensBoth o starts old new from left forward done
 OpensAfter o starts old new from left (Err e) done = OpensNeither old new from left e done
 
--- a regex of the NFAs of two builders, which are put back: the first NFA is made, and then, if that does not fail,
--- the second
+-- a handle is opened on the regex of the NFAs of two builders, which are put back: the first NFA is built, and then, if
+-- that succeeds, the second
 abbrev pub OpensPairIn : Options → (forward reverse : StartStates) → (old new : Handle)
     → (from left : Handle) → (from_reverse left_reverse : Handle) → Result (Unit {0}) Status → Type 0
 OpensPairIn o forward reverse old new from left from_reverse left_reverse done =
     (nfa : Result Automaton Status) × ReadsHandle (IsNfaIn forward) from left nfa
     × OpensAfter o reverse old new from_reverse left_reverse nfa done
 
--- a regex is asked for with options: over a handle that is open, and without options, nothing is done
+-- a handle is to be opened on a regex: if it is already open, or the options have an error, nothing is done
 abbrev pub WithOptions : (Does : Options → Result (Unit {0}) Status → Type 0) → (Stays : Type 0) → (is_taken : Bool)
     → Result Options Status → Result (Unit {0}) Status → Type 0
 WithOptions Does Stays true options done = Stays × (done ≡ Err (plain code.Open))
@@ -231,16 +232,16 @@ BuildsRegex settings quits starts old new from left status =
     (options_for settings quits starts) done
     × (status ≡ done_status done)
 
--- a handle stays, and so do those on two builders
+-- a handle is unchanged, and so are the handles of two builders
 pub record AllStay (old new from left from_reverse left_reverse : Handle) : Type 0 where
-  -- the handle stays
+  -- the handle is unchanged
   pub same : new ≡ old
-  -- so does that on the first builder
+  -- the handle of the first builder is unchanged
   pub forward : left ≡ from
-  -- and that on the second
+  -- the handle of the second builder is unchanged
   pub reverse : left_reverse ≡ from_reverse
 
--- `lazydfa_regex_build_pair`, where one start is reported of the forward NFA alone
+-- `lazydfa_regex_build_pair`, which reports `LAZYDFA_ONE_START` for the forward NFA alone
 abbrev pub BuildsRegexPair : Settings → (quits : List ℕ) → (forward reverse : StartStates) → (old new : Handle)
     → (from left : Handle) → (from_reverse left_reverse : Handle) → Status → Type 0
 BuildsRegexPair settings quits forward reverse old new from left from_reverse left_reverse status =
@@ -250,52 +251,53 @@ BuildsRegexPair settings quits forward reverse old new from left from_reverse le
     (options_for settings quits forward) done
     × (status ≡ done_status done)
 
--- the regex of an object is shared, if it is one and there is memory
+-- the object's regex is shared, if the object is a regex and the allocation succeeds
 abbrev pub IsShareOf : Object → Result Shared Status → Type 0
 IsShareOf (RegexObject r) (Ok s) = s.regex.value ≡ r.regex.value
 IsShareOf (RegexObject r) (Err status) = status ≡ plain code.Memory
 IsShareOf (Builder b) result = result ≡ Err (plain code.Kind)
 IsShareOf (CacheObject s) result = result ≡ Err (plain code.Kind)
 
--- the regex of a handle is shared
+-- the handle's regex is shared
 abbrev pub SharesRegex : (old new : Handle) → Result Shared Status → Type 0
 SharesRegex old new result = ReadsHandle IsShareOf old new result
 
--- the regex that reads backward what another one reads forward, and forward what that one reads backward
+-- the regex whose two DFAs are swapped: it reads backward what the other one reads forward, and the other way round
 abbrev pub reversed : Regex → Regex
 reversed r = record { forward = r.reverse; reverse = r.forward }
 
--- the two DFAs of a regex do not have equally many patterns
+-- the two DFAs of a regex differ in their numbers of patterns
 abbrev pub HasTwoCounts : Regex → Type 0
 HasTwoCounts r = length r.forward.nfa.start_pattern ≡ length r.reverse.nfa.start_pattern → ⊥
 
 -- why a regex is not reversed
 pub data IsNotReversed (r : Regex) (status : Status) : Type 0 where
-  -- there is no memory
+  -- an allocation failed
   HasNoMemory : status ≡ plain code.Memory → IsNotReversed r status
-  -- its DFAs do not have equally many patterns
+  -- its DFAs differ in their numbers of patterns
   DiffersInCounts : HasTwoCounts r → status ≡ plain code.PatternCounts → IsNotReversed r status
 
--- the regex of an object is reversed, if it is one, there is memory, and its DFAs have equally many patterns
+-- the object's regex is reversed, if the object is a regex, its DFAs have equally many patterns, and the allocation
+-- succeeds
 abbrev pub IsReverseOf : Object → Result Shared Status → Type 0
 IsReverseOf (RegexObject r) (Ok s) = s.regex.value ≡ reversed r.regex.value
 IsReverseOf (RegexObject r) (Err status) = IsNotReversed r.regex.value status
 IsReverseOf (Builder b) result = result ≡ Err (plain code.Kind)
 IsReverseOf (CacheObject s) result = result ≡ Err (plain code.Kind)
 
--- the regex of a handle is reversed
+-- the handle's regex is reversed
 abbrev pub ReversesRegex : (old new : Handle) → Result Shared Status → Type 0
 ReversesRegex old new result = ReadsHandle IsReverseOf old new result
 
--- a fresh cache of a regex, with an empty set for all its patterns
+-- a fresh cache of a regex, with an empty set of its patterns
 pub record IsFreshOf (regex : Regex) (s : Searcher) : Type 0 where
   -- it belongs to this regex
   pub regex_is : regex_of s ≡ regex
   -- the caches of both DFAs are fresh
   pub cache : AreFresh regex s.cache
-  -- its set has room for each pattern of the regex, and no pattern in it
+  -- its set has room for all patterns of the regex, and is empty
   pub patterns : s.patterns ≡ replicate (length regex.forward.nfa.start_pattern) false
-  -- no search and no walk in pieces was begun over it
+  -- neither a search nor a walk in pieces was begun over it
   pub pieces : s.pieces ≡ record { search = None; walk = None }
 
 -- the object is a fresh cache of this regex
@@ -311,38 +313,39 @@ pub record IsCacheIn (regex : Regex) (handle : Handle) : Type 0 where
   -- its object is a fresh cache of this regex
   pub object : IsSomeAnd handle.slot.value (IsCacheObject regex)
 
--- a handle is opened on the regex that was shared, or on something of it; without one, or without memory, it stays
+-- a handle is opened on a shared regex, or on a cache of it; without a regex, or if the allocation fails, it is
+-- unchanged
 abbrev pub OpensOn : (IsIn : Regex → Handle → Type 0) → (old new : Handle) → Result Shared Status
     → Result (Unit {0}) Status → Type 0
 OpensOn IsIn old new (Ok shared) (Ok u) = IsIn shared.regex.value new
 OpensOn IsIn old new (Ok shared) (Err status) = (new ≡ old) × (status ≡ plain code.Memory)
 OpensOn IsIn old new (Err e) done = (new ≡ old) × (done ≡ Err e)
 
--- a handle is to be opened on a regex that another handle gives, or on something of it
+-- a handle is opened on the regex that another handle gives, or on a cache of it
 pub record OpensFrom
     (Gives : (from left : Handle) → Result Shared Status → Type 0) (IsIn : Regex → Handle → Type 0)
     (old new : Handle) (from left : Handle) (done : Result (Unit {0}) Status)
     : Type 0 where
-  -- if the handle is open already, both handles stay as they are, and that is reported
+  -- if the handle is already open, both handles are unchanged, and that is reported
   pub taken : is_open old.live ≡ true → (new ≡ old) × (left ≡ from) × (done ≡ Err (plain code.Open))
-  -- if not, the other handle gives a regex, and this handle is opened, or stays
+  -- otherwise the other handle gives a regex, and this handle is opened on it, or is unchanged
   pub made :
       is_open old.live ≡ false
       → (shared : Result Shared Status) × Gives from left shared × OpensOn IsIn old new shared done
 
--- `lazydfa_regex_share`: the handle is opened on the regex of the other one
+-- `lazydfa_regex_share`: the handle is opened on the other handle's regex
 abbrev pub SharesHandle : (old new : Handle) → (from left : Handle) → Status → Type 0
 SharesHandle old new from left status =
     (done : Result (Unit {0}) Status) × OpensFrom SharesRegex IsRegexIn old new from left done
     × (status ≡ done_status done)
 
--- `lazydfa_regex_reverse`: the handle is opened on the regex of the other one, reversed
+-- `lazydfa_regex_reverse`: the handle is opened on the reverse of the other handle's regex
 abbrev pub ReversesHandle : (old new : Handle) → (from left : Handle) → Status → Type 0
 ReversesHandle old new from left status =
     (done : Result (Unit {0}) Status)
     × OpensFrom ReversesRegex IsRegexIn old new from left done × (status ≡ done_status done)
 
--- `lazydfa_cache_new`: the handle is opened on a fresh cache of the regex of the other one
+-- `lazydfa_cache_new`: the handle is opened on a fresh cache of the other handle's regex
 abbrev pub NewsCache : (old new : Handle) → (from left : Handle) → Status → Type 0
 NewsCache old new from left status =
     (done : Result (Unit {0}) Status) × OpensFrom SharesRegex IsCacheIn old new from left done

@@ -1,4 +1,4 @@
--- What the calls do that list patterns, make a cache a fresh one, or report what it accounts for.
+-- Contracts of the calls that list patterns, reset a cache, or report its memory usage.
 use Rattle.std.specs.Prelude.{ℕ, ◌≡◌, ◌⊎◌, ◌+◌, ◌-◌, ◌^◌, ◌≤◌, List, [], ◌∷◌, false, length, min, replicate}
 use Rattle.automata_base.specs.Haystacks.PatternSet.{members}
 use Rattle.automata_hybrid.specs.Cache.Caches.{dfa_of}
@@ -13,7 +13,7 @@ use Rattle.lazydfa_c.specs.declared.object.Searcher.{Searcher}
 use Rattle.lazydfa_c.specs.declared.status.Status.{Status}
 use Rattle.lazydfa_c.specs.declared.usage.Usage.{Usage}
 
--- a cache stays as it is
+-- a cache is unchanged
 pub record KeepsCaches (s t : Searcher) : Type 0 where
   -- the caches of both DFAs are unchanged
   pub cache : t.cache ≡ s.cache
@@ -24,7 +24,7 @@ pub record KeepsCaches (s t : Searcher) : Type 0 where
   -- its search and its walk in pieces are unchanged
   pub pieces : t.pieces ≡ s.pieces
 
--- the elements of a list, as many as there is room for, in place of those of another
+-- a list of the same length as `old` that begins with the given elements, as many as fit, and keeps the rest of `old`
 abbrev pub written_over : {A : Type 0} → List A → (old : List A) → List A
 written_over [] old = old
 written_over (x ∷ xs) [] = []
@@ -33,16 +33,16 @@ written_over (x ∷ xs) (o ∷ old) = x ∷ written_over xs old
 -- `lazydfa_which`: the patterns below a number that match are written and counted
 pub data Lists (below : ℕ) (old new : List ℕ) (count : ℕ) (input : Input) (s t : Searcher) (status : Status) :
     Type 0 where
-  -- an empty set is joined with the patterns that match; its members are written and counted, also after an error
+  -- the patterns that match are added to an empty set; its members are written and counted, also after an error
   AreWritten :
       JoinsPatterns (replicate below false) input s t status → new ≡ written_over (members t.patterns) old
       → count ≡ length (members t.patterns) → Lists below old new count input s t status
-  -- there is no memory for the set: all stays, and none is counted
+  -- the allocation of the set fails: nothing changes, and the count is 0
   NoMemory :
       status ≡ plain code.Memory → KeepsCaches s t → new ≡ old → count ≡ 0
       → Lists below old new count input s t status
 
--- `lazydfa_cache_reset`: the cache is a fresh one of its regex, or memory is out and it stays
+-- `lazydfa_cache_reset`: the cache is a fresh one of its regex, or is unchanged if an allocation fails
 pub record Resets (s t : Searcher) (status : Status) : Type 0 where
   -- it is fresh and the status is `LAZYDFA_OK`, or it is unchanged and the status is `LAZYDFA_MEMORY`
   pub told :
@@ -55,23 +55,23 @@ pub record Resets (s t : Searcher) (status : Status) : Type 0 where
   -- its search and its walk in pieces are unchanged
   pub pieces : t.pieces ≡ s.pieces
 
--- how much memory a cache takes, how often its parts were cleared, and how many patterns its regex has
+-- the memory usage of a cache, how often its parts were cleared, and how many patterns its regex has
 pub record IsUsageOf (s : Searcher) (u : Usage) : Type 0 where
   -- the accounted bytes of both parts
   pub memory :
       u.memory ≡ min (usage (dfa_of s.cache.forward) (known_of s.cache.forward)
       + usage (dfa_of s.cache.reverse) (known_of s.cache.reverse)) (2 ^ 64 - 1)
-  -- with those of leaps they are within the capacities of both parts
+  -- together with the bytes of leaps they are within the sum of the capacities of both parts
   pub leaps : u.memory + u.leaps ≤ (dfa_of s.cache.forward).capacity + (dfa_of s.cache.reverse).capacity
-  -- no less is held than both
+  -- at least as many bytes are held as are accounted for and taken by leaps
   pub held : min (u.memory + u.leaps) (2 ^ 64 - 1) ≤ u.held
   -- how often the cache of the forward DFA was cleared
   pub forward_clears : u.forward_clears ≡ (known_of s.cache.forward).clears
-  -- and that of the reverse DFA
+  -- how often the cache of the reverse DFA was cleared
   pub reverse_clears : u.reverse_clears ≡ (known_of s.cache.reverse).clears
   -- the number of patterns
   pub patterns : u.patterns ≡ length (regex_of s).forward.nfa.start_pattern
 
--- `lazydfa_cache_usage`: it changes nothing
+-- `lazydfa_cache_usage`, which changes nothing
 abbrev pub ReportsUsage : Usage → (s t : Searcher) → Status → Type 0
 ReportsUsage written s t status = (t ≡ s) × IsUsageOf s written × (status ≡ plain code.Done)

@@ -1,4 +1,4 @@
--- What the calls for a cache do, each seen by the cache before and after it and by the status that it returns.
+-- Contracts of the calls on a cache, each stated by the cache before and after the call and by the status.
 use Rattle.std.specs.Prelude.{ℕ, ◌≡◌, ◌==◌, Bool, true, false, List}
 use Rattle.std.specs.Prelude.{Option, Some, None, Result, Ok, Err, IfOk, IsSomeAnd, if◌then◌else◌}
 use Rattle.std.specs.Result.{result_err}
@@ -31,35 +31,35 @@ use Rattle.lazydfa_c.specs.declared.status.Status.{Status}
 abbrev pub regex_of : Searcher → Regex
 regex_of s = s.shared.regex.value
 
--- what a search found, or why it failed, is told: a match is written as C reads it, and the status says the rest
+-- the result of a search is reported: a match is written as C reads it, and the status says whether there is one
 abbrev pub IsTold : {A C : Type 0} → (as_read : A → C) → (written : C) → Result (Option A) SearchError → Status → Type 0
 IsTold as_read written (Ok (Some found)) status = (written ≡ as_read found) × (status ≡ plain code.Done)
 IsTold as_read written (Ok None) status = status ≡ plain code.Nothing
 IsTold as_read written (Err e) status = status ≡ search_status e
 
--- the same of a search that writes nothing
+-- the result of a search that writes nothing is reported
 abbrev pub IsTruthTold : Result Bool SearchError → Status → Type 0
 IsTruthTold (Ok true) status = status ≡ plain code.Done
 IsTruthTold (Ok false) status = status ≡ plain code.Nothing
 IsTruthTold (Err e) status = status ≡ search_status e
 
--- the same of a call that answers nothing else
+-- the result of a call that returns no value is reported
 abbrev pub IsDoneTold : Result (Unit {0}) SearchError → Status → Type 0
 IsDoneTold (Ok u) status = status ≡ plain code.Done
 IsDoneTold (Err e) status = status ≡ search_status e
 
--- what a call found is written only if its status says that it did what it was asked to
+-- a result is written only if the status says that the call did what it was asked to do
 abbrev pub WritesIfDone : {A : Type 0} → (was written : A) → Status → Type 0
 WritesIfDone was written status = (status.code ≡ number_of code.Done → ⊥) → written ≡ was
 
--- a call that searches an input; without one it changes nothing, and the argument is reported
+-- a call that searches an input; if there is no valid input, nothing changes, and `Code::Argument` is reported
 abbrev pub OfInput :
     (Does : Input → Searcher → Searcher → Status → Type 0)
     → Option Input → Searcher → Searcher → Status → Type 0
 OfInput Does None s t status = (t ≡ s) × (status ≡ plain code.Argument)
 OfInput Does (Some input) s t status = Does input s t status
 
--- a call on the object of a handle, which does this to a cache; any other object stays, and its kind is reported
+-- a call on an object, which does this to a cache; any other object is unchanged, and its kind is reported
 abbrev pub OfObject : (Does : Searcher → Searcher → Status → Type 0) → Object → Object → Status → Type 0
 OfObject Does (CacheObject s) (CacheObject t) status = Does s t status
 OfObject Does (CacheObject s) (Builder b) status = ⊥
@@ -67,7 +67,7 @@ OfObject Does (CacheObject s) (RegexObject r) status = ⊥
 OfObject Does (Builder b) new status = (new ≡ Builder b) × (status ≡ plain code.Kind)
 OfObject Does (RegexObject r) new status = (new ≡ RegexObject r) × (status ≡ plain code.Kind)
 
--- a call on a handle, which does this to the object of one that is open, and puts it back; a closed one is reported
+-- a call on a handle, which does this to the handle's object and puts it back; a closed handle is reported
 pub record OnHandle {R : Type 0}
     (Does : Object → Object → R → Type 0) (is_closed : R) (old new : Handle) (result : R)
     : Type 0 where
@@ -75,33 +75,33 @@ pub record OnHandle {R : Type 0}
   pub opened :
       (o : Object) → old.live ≡ 1 → old.slot.value ≡ Some o
       → (new.live ≡ 1) × IsSomeAnd new.slot.value (λ p. Does o p result)
-  -- one that was not is closed, and the result says so
+  -- a handle that was not open is closed, and the result reports that
   pub closed : (old.live ≡ 1 → ⊥) → (new.live ≡ 0) × (result ≡ is_closed)
 
--- a call for a cache
+-- a call on a cache's handle
 abbrev pub OfHandle : (Does : Searcher → Searcher → Status → Type 0) → (old new : Handle) → Status → Type 0
 OfHandle Does old new status = OnHandle (OfObject Does) (plain code.Closed) old new status
 
--- what a call for a cache leaves as it is, if the object is none
+-- what stays unchanged if the object is not a cache
 abbrev pub KeepsUnlessCache : (Stays : Type 0) → Object → Type 0
 KeepsUnlessCache Stays (CacheObject s) = Unit {0}
 KeepsUnlessCache Stays (Builder b) = Stays
 KeepsUnlessCache Stays (RegexObject r) = Stays
 
--- and if its handle is not open on one
+-- what stays unchanged if the handle is not open on a cache
 pub record KeepsUnlessOpen (Stays : Type 0) (handle : Handle) : Type 0 where
-  -- it stays if the handle is open, but not on a cache
+  -- it is unchanged if the handle is open on another object
   pub opened :
       (o : Object) → handle.live ≡ 1 → handle.slot.value ≡ Some o → KeepsUnlessCache Stays o
-  -- it stays if the handle is not open
+  -- it is unchanged if the handle is not open
   pub closed : (handle.live ≡ 1 → ⊥) → Stays
 
--- a call that makes this of the object of a handle, which it puts back as it was
+-- a call that computes this from the handle's object, which is unchanged
 abbrev pub ReadsHandle : {A : Type 0} → (Makes : Object → Result A Status → Type 0)
     → (old new : Handle) → Result A Status → Type 0
 ReadsHandle Makes old new result = OnHandle (λ o p r. (p ≡ o) × Makes o r) (Err (plain code.Closed)) old new result
 
--- `lazydfa_find`: the result of `Regex::find`, with its promises, is told
+-- `lazydfa_find`: reports the result of `Regex::find`, and keeps its promises
 pub record ReportsMatch (found : Found) (input : Input) (s t : Searcher) (status : Status) : Type 0 where
   -- what `Regex::find` returns
   pub result : Result (Option Match) SearchError
@@ -109,7 +109,7 @@ pub record ReportsMatch (found : Found) (input : Input) (s t : Searcher) (status
   pub told : IsTold found_from found result status
   -- what the search promises of its result, whatever the cache
   pub returned : IsSpanOf (regex_of s) input result
-  -- what the search made of the caches of both DFAs, also if it failed
+  -- the effect of the search on the caches of both DFAs, also if it failed
   pub effect : IsSpanRun (regex_of s) input s.cache t.cache (result_err result)
   -- the cache keeps its regex
   pub same : t.shared ≡ s.shared
@@ -120,26 +120,26 @@ pub record ReportsMatch (found : Found) (input : Input) (s t : Searcher) (status
 pub record Tests (input : Input) (s t : Searcher) (status : Status) : Type 0 where
   -- what `Regex::is_match` returns
   pub result : Result Bool SearchError
-  -- the status reports it: a match by `LAZYDFA_OK`, none by `LAZYDFA_NONE`
+  -- the status reports it: `LAZYDFA_OK` for a match, `LAZYDFA_NONE` for no match
   pub told : IsTruthTold result status
   -- what the search promises of its result, whatever the cache
   pub returned : IsTruthOf (regex_of s) input result
-  -- what the search made of the forward cache, also if it failed; the reverse cache is unchanged
+  -- the effect of the search on the forward cache, also if it failed; the reverse cache is unchanged
   pub effect : IsTruthRun (regex_of s) input s.cache t.cache (result_err result)
   -- the cache keeps its regex
   pub same : t.shared ≡ s.shared
   -- its search and its walk in pieces are unchanged
   pub pieces : t.pieces ≡ s.pieces
 
--- `lazydfa_find_end`: the result of a search of the forward DFA; the reverse cache stays
+-- `lazydfa_find_end`: the result of a search of the forward DFA; the reverse cache is unchanged
 pub record FindsEnd (found : FoundHalf) (input : Input) (s t : Searcher) (status : Status) : Type 0 where
-  -- what `DFA::try_search_fwd` returns: the pattern and the end of a match, or none
+  -- the result of `DFA::try_search_fwd`: the pattern and the end of a match, or no match
   pub result : Result (Option HalfMatch) SearchError
   -- the status reports the result, and a match is written
   pub told : IsTold found_half found result status
   -- what the search promises of its result, whatever the cache
   pub returned : IsHalf Forward (regex_of s).forward input result
-  -- what the search made of the forward cache, also if it failed
+  -- the effect of the search on the forward cache, also if it failed
   pub effect :
       IsSearchRun Forward (regex_of s).forward input (known_of s.cache.forward) (known_of t.cache.forward)
       (result_err result)
@@ -150,15 +150,15 @@ pub record FindsEnd (found : FoundHalf) (input : Input) (s t : Searcher) (status
   -- its search and its walk in pieces are unchanged
   pub pieces : t.pieces ≡ s.pieces
 
--- `lazydfa_find_start`: the result of a search of the reverse DFA; the forward cache stays
+-- `lazydfa_find_start`: the result of a search of the reverse DFA; the forward cache is unchanged
 pub record FindsStartBack (found : FoundHalf) (input : Input) (s t : Searcher) (status : Status) : Type 0 where
-  -- what `DFA::try_search_rev` returns: the pattern and the start of a match, or none
+  -- the result of `DFA::try_search_rev`: the pattern and the start of a match, or no match
   pub result : Result (Option HalfMatch) SearchError
   -- the status reports the result, and a match is written
   pub told : IsTold found_half found result status
   -- what the search promises of its result, whatever the cache
   pub returned : IsHalf Backward (regex_of s).reverse input result
-  -- what the search made of the reverse cache, also if it failed
+  -- the effect of the search on the reverse cache, also if it failed
   pub effect :
       IsSearchRun Backward (regex_of s).reverse input (known_of s.cache.reverse) (known_of t.cache.reverse)
       (result_err result)
@@ -169,7 +169,7 @@ pub record FindsStartBack (found : FoundHalf) (input : Input) (s t : Searcher) (
   -- its search and its walk in pieces are unchanged
   pub pieces : t.pieces ≡ s.pieces
 
--- an iteration after a search from where it stands: a match is passed, and anything else ends it
+-- an iteration after a search: it is advanced past a match, and ends if there is no match or the search failed
 abbrev pub iterated : Iteration → Result (Option Match) SearchError → Iteration
 iterated at (Ok (Some m)) =
     record at { left = record at.left { start = m.end }; last = m.end; has_last = 1 }
@@ -187,40 +187,40 @@ pub record FindsNext (found : Found) (old new : Iteration) (input : Input) (s t 
   pub result : Result (Option Match) SearchError
   -- the status reports the result, and a match is written
   pub told : IsTold found_from found result status
-  -- if it did not fail, it is the next match, or none; an empty one where the last match ended does not count
+  -- if the search did not fail, this is the next match, or none; an empty match where the last one ended does not count
   pub next : IfOk result (IsNextMatch (regex_of s) input (last_of old))
-  -- what its search, or its two, made of the caches of both DFAs, also if one failed
+  -- the effect of one or two searches on the caches of both DFAs, also if one failed
   pub effect : IsNextRun (regex_of s) input (last_of old) s.cache t.cache (result_err result)
   -- the cache keeps its regex
   pub same : t.shared ≡ s.shared
   -- its search and its walk in pieces are unchanged
   pub pieces : t.pieces ≡ s.pieces
-  -- the iteration is moved past the match, or has ended
+  -- the iteration is advanced past the match, or has ended
   pub iterated : new ≡ iterated old result
 
 -- `lazydfa_next`: the next match of an iteration
 pub record Iterates (haystack : List ℕ) (found : Found) (old new : Iteration) (s t : Searcher) (status : Status) :
     Type 0 where
-  -- an iteration that has not ended searches what is left
+  -- an iteration that has not ended searches the remaining input
   pub searches : old.ended ≡ 0 → OfInput (FindsNext found old new) (input_of haystack old.left) s t status
-  -- one that has ended stays, and the status is `LAZYDFA_NONE`
+  -- an iteration that has ended is unchanged, and the status is `LAZYDFA_NONE`
   pub over : (old.ended ≡ 0 → ⊥) → (t ≡ s) × (new ≡ old) × (status ≡ plain code.Nothing)
-  -- one without an input stays
+  -- an iteration whose remaining input is not valid is unchanged
   pub same : old.ended ≡ 0 → input_of haystack old.left ≡ None → new ≡ old
 
--- the next token, or why there is none, is told
+-- the next token, or the reason why there is none, is reported
 abbrev pub IsTokenTold : (written : Found) → Option (Result Token TokenError) → Status → Type 0
 IsTokenTold written (Some (Ok t)) status = (written ≡ found_from (token_match t)) × (status ≡ plain code.Done)
 IsTokenTold written None status = status ≡ plain code.Nothing
 IsTokenTold written (Some (Err e)) status = status ≡ token_status e
 
--- where the next token begins, and whether an error was the last item
+-- the offset where the next token begins
 abbrev pub offset_after : ℕ → Option (Result Token TokenError) → ℕ
 offset_after offset (Some (Ok t)) = t.span.end
 offset_after offset None = offset
 offset_after offset (Some (Err e)) = offset
 
--- whether an item is an error, which is then the last one
+-- whether an item is an error, which is then the last item
 abbrev pub has_failed : Option (Result Token TokenError) → Bool
 has_failed (Some (Ok t)) = false
 has_failed None = false
@@ -229,15 +229,15 @@ has_failed (Some (Err e)) = true
 -- `lazydfa_token`: the next item of `Regex::tokens`
 pub record TakesToken (found : Found) (old new : Request) (input : Input) (s t : Searcher) (status : Status)
     : Type 0 where
-  -- the item: a token, an error, or none at the end of the span
+  -- the item: a token, an error, or `None` at the end of the span
   pub item : Option (Result Token TokenError)
   -- the status reports the item, and a token is written
   pub told : IsTokenTold found item status
-  -- it is the item that `Regex::tokens` has at the start of the input
+  -- it is the item that `Regex::tokens` returns at the start of the input
   pub given :
       GivesToken (regex_of s).forward input.haystack input.end item
       input.start (offset_after input.start item) false (has_failed item)
-  -- what the search for it made of the forward cache, also if it failed
+  -- the effect of the search on the forward cache, also if it failed
   pub effect :
       IsTokenRun (regex_of s).forward input.haystack input.end input.start s.cache.forward t.cache.forward item
   -- the reverse cache is unchanged
@@ -246,18 +246,18 @@ pub record TakesToken (found : Found) (old new : Request) (input : Input) (s t :
   pub same : t.shared ≡ s.shared
   -- its search and its walk in pieces are unchanged
   pub pieces : t.pieces ≡ s.pieces
-  -- what is left begins where the token ends; without a token it stays
+  -- the remaining input begins where the token ends; if there is no token, it is unchanged
   pub left : new ≡ record old { start = offset_after old.start item }
 
--- this set is joined with the patterns that match
+-- the patterns that match are added to this set
 pub record JoinsPatterns (set : List Bool) (input : Input) (s t : Searcher) (status : Status) : Type 0 where
-  -- what `DFA::try_which_overlapping_matches` returns, beside the set
+  -- the result of `DFA::try_which_overlapping_matches`, apart from the set
   pub result : Result (Unit {0}) SearchError
   -- the status reports whether it failed, and why
   pub told : IsDoneTold result status
   -- what the call promises of its result and of the set
   pub returned : IsWhich (regex_of s).forward input set t.patterns result
-  -- what it made of the forward cache, and of the set if it failed
+  -- the effect of the call on the forward cache, and on the set if it failed
   pub effect :
       IsSetRun (regex_of s).forward input set t.patterns (known_of s.cache.forward) (known_of t.cache.forward)
       (result_err result)

@@ -1,4 +1,4 @@
--- The table of codes: the number that the header gives each.
+-- The numbers of the codes, as in the header.
 use Rattle.std.specs.Prelude.{ℕ, ◌≡◌}
 use Rattle.lazydfa_c.specs.declared.code.Code.{Code}
 use Rattle.lazydfa_c.specs.declared.code.Code.TheVariants.{Done, Nothing, Closed, Open, Kind, Argument, Memory}
@@ -46,6 +46,6 @@ number_of Syntax = 40
 number_of NotText = 41
 number_of NotCompiled = 42
 
--- No two codes have one number.
+-- Different codes have different numbers.
 abbrev pub CodesDiffer : Type 0
 CodesDiffer = (a b : Code) → number_of a ≡ number_of b → a ≡ b

@@ -1,4 +1,4 @@
--- What a status tells of an error: which one it is, beside what C gave itself or has another name for.
+-- What a status reports of an error: all of it, except for values that the caller gave, and errors that share a code.
 use Rattle.std.specs.Prelude.{◌≡◌, ◌<◌}
 use Rattle.automata_base.specs.declared.nfa.thompson.NfaError.TheVariants as nfa
 use Rattle.automata_base.specs.declared.nfa.thompson.building.BuildError.{BuildError as BuilderError}
@@ -20,7 +20,7 @@ use Rattle.lazydfa_c.specs.Codes.{number_of}
 use Rattle.lazydfa_c.specs.declared.code.Code.TheVariants as code
 use Rattle.lazydfa_c.specs.declared.status.Status.{Status}
 
--- an error of a builder: too many states, and out of memory, are told alike wherever they come up
+-- what is reported of a builder's error: too many states, and out of memory, are reported alike wherever they arise
 abbrev pub told_builder : BuilderError → BuilderError
 told_builder builder.NoPattern = builder.NoPattern
 told_builder builder.UnfinishedPattern = builder.UnfinishedPattern
@@ -35,7 +35,7 @@ told_builder (builder.NFA nfa.Ranges) = builder.NFA nfa.Ranges
 told_builder (builder.NFA nfa.TooLarge) = builder.TooLarge
 told_builder (builder.NFA nfa.OutOfMemory) = builder.OutOfMemory
 
--- why a DFA was not built: the capacity that was given, and how many patterns the two NFAs have, are not told
+-- what is reported of an error of building a DFA: neither the given capacity nor the two NFAs' numbers of patterns
 abbrev pub told_build : BuildError → BuildError
 told_build dfa.Unsupported = dfa.Unsupported
 told_build (dfa.InsufficientCacheCapacity minimum given) = dfa.InsufficientCacheCapacity minimum 0
@@ -43,7 +43,7 @@ told_build (dfa.InsufficientStateIDCapacity attempted) = dfa.InsufficientStateID
 told_build dfa.OutOfMemory = dfa.OutOfMemory
 told_build (dfa.PatternCounts forward reverse) = dfa.PatternCounts 0 0
 
--- why a regex was not built: out of memory is told alike wherever it comes up
+-- what is reported of an error of building a regex: out of memory is reported alike wherever it arises
 abbrev pub told_regex : RegexBuildError → RegexBuildError
 told_regex regex.NotLazy = regex.NotLazy
 told_regex regex.NotUtf8 = regex.NotUtf8
@@ -58,7 +58,7 @@ told_regex (regex.Build (dfa.InsufficientStateIDCapacity attempted)) =
 told_regex (regex.Build dfa.OutOfMemory) = regex.OutOfMemory
 told_regex (regex.Build (dfa.PatternCounts forward reverse)) = regex.Build (dfa.PatternCounts 0 0)
 
--- why a search failed: the anchored mode that is not supported, which C gave, is not told
+-- what is reported of an error of a search: not the unsupported anchored mode, which the caller gave
 abbrev pub told_search : SearchError → SearchError
 told_search (Match (Quit byte offset)) = Match (Quit byte offset)
 told_search (Match (GaveUp offset)) = Match (GaveUp offset)
@@ -66,7 +66,8 @@ told_search (Match (UnsupportedAnchored mode)) = Match (UnsupportedAnchored No)
 told_search OutOfMemory = OutOfMemory
 told_search NotAPair = NotAPair
 
--- why a search in pieces does not begin: the anchored mode that is not supported, which C gave, is not told
+-- what is reported of an error of beginning a search in pieces: not the unsupported anchored mode, which the caller
+-- gave
 abbrev pub told_begin : BeginError → BeginError
 told_begin begin.Skips = begin.Skips
 told_begin (begin.Start (start.Cache err)) = begin.Start (start.Cache err)
@@ -74,7 +75,7 @@ told_begin (begin.Start (start.Quit byte)) = begin.Start (start.Quit byte)
 told_begin (begin.Start (start.UnsupportedAnchored mode)) = begin.Start (start.UnsupportedAnchored No)
 told_begin (begin.Start start.OutOfMemory) = begin.Start start.OutOfMemory
 
--- why there is no next token
+-- what is reported of an error in place of a token: not the unsupported anchored mode
 abbrev pub told_token : TokenError → TokenError
 told_token (NoToken offset) = NoToken offset
 told_token (Search (Match (Quit byte offset))) = Search (Match (Quit byte offset))
@@ -83,10 +84,10 @@ told_token (Search (Match (UnsupportedAnchored mode))) = Search (Match (Unsuppor
 told_token (Search OutOfMemory) = Search OutOfMemory
 told_token (Search NotAPair) = Search NotAPair
 
--- the statuses of the errors of one call: none is that of a success, of a result without a match or of a handle or an
--- argument that was refused; and two errors with one status are told alike
+-- the statuses of the errors of one call: none is the status of a success, of no match, or of an invalid handle or
+-- argument; and two errors have the same status only if the same is reported of both
 pub record TellErrors {E : Type 0} (status : E → Status) (told : E → E) : Type 0 where
-  -- the code of an error is none of those of a success, of no match, of handles and of arguments
+  -- the code of an error is none of the codes of a success, of no match, of handles and of arguments
   pub fails : (e : E) → number_of code.Argument < (status e).code
-  -- two errors with one status are the same, but for what a status does not report
+  -- two errors with the same status are equal, except for what a status does not report
   pub differ : (e f : E) → status e ≡ status f → told e ≡ told f

@@ -1,4 +1,4 @@
--- What every match of a pattern's text has in common, as C is told it.
+-- What all matches of a pattern have in common, as it is reported to C.
 use Rattle.std.specs.Prelude.{ℕ, ◌≡◌, Bool, IsTrue, List, ◌++◌, length, map, vec_len, if◌then◌else◌}
 use Rattle.std.specs.List.{flat_map}
 use Rattle.match_facts.specs.declared.Facts.{Facts as Known}
@@ -14,7 +14,7 @@ use Rattle.lazydfa_c.specs.declared.settings.Settings.{Settings}
 use Rattle.lazydfa_c.specs.declared.status.Status.{Status}
 use Rattle.lazydfa_c.specs.declared.text.TextOptions.{TextOptions}
 
--- settings of zeros
+-- settings of which every number is zero
 abbrev pub default_settings : Settings
 default_settings = record {
   cache_capacity = 0;
@@ -32,23 +32,23 @@ default_settings = record {
   always_anchored = 0;
 }
 
--- how a text is read; what it means does not depend on the settings
+-- how a pattern's text is parsed; its meaning does not depend on the settings
 abbrev pub plain_reading : TextOptions → Reading
 plain_reading options = reading_of options default_settings
 
--- 1 for yes and 0 for no
+-- 1 for true and 0 for false
 abbrev pub flag : Bool → ℕ
 flag b = if b then 1 else 0
 
--- the bytes of the prefix and then those of the literals
+-- the bytes of the prefix, followed by the bytes of the literals
 abbrev pub fact_bytes : Known → List ℕ
 fact_bytes known = known.prefix.items ++ flat_map (λ literal. literal.items) known.literals.items
 
--- how long the literals are
+-- the lengths of the literals
 abbrev pub literal_lengths : Known → List ℕ
 literal_lengths known = map (λ literal. vec_len literal) known.literals.items
 
--- the facts, whose bytes have this length
+-- the facts, as C lays them out, where `bytes` is the length of the prefix and the literals together
 abbrev pub facts_of : Known → (bytes : ℕ) → Facts
 facts_of known bytes = record {
   prefix = vec_len known.prefix;
@@ -72,21 +72,21 @@ no_facts = record {
   reserved = 0;
 }
 
--- what is written over old bytes and lengths as far as there is room, and the facts: they hold of every match of what
--- the text means
+-- facts that hold of every match of the pattern, and their bytes and lengths, of which as many are written as there is
+-- room for
 pub record HasFacts (options : TextOptions) (text : List ℕ) (facts : Facts)
     (old_bytes new_bytes old_lengths new_lengths : List ℕ) : Type 0 where
   -- the text is within the limits
   pub within : IsTrue (admits options text)
   -- the prefix, the literals and the flags
   pub known : Known
-  -- they are those of the text
+  -- they are facts of the pattern
   pub of : AreFactsOf (plain_reading options) text known
-  -- the facts are of these, with the length of all bytes
+  -- the facts are laid out for C, with the length of all bytes
   pub written : facts ≡ facts_of known (length (fact_bytes known))
-  -- the prefix and then the literals
+  -- the bytes of the prefix and of the literals are written, as many as there is room for
   pub bytes : new_bytes ≡ written_over (fact_bytes known) old_bytes
-  -- the lengths of the literals
+  -- the lengths of the literals are written, as many as there is room for
   pub lengths : new_lengths ≡ written_over (literal_lengths known) old_lengths
 
 -- `lazydfa_text_facts`

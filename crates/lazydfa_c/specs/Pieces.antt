@@ -1,5 +1,4 @@
--- What the calls of a search in pieces do, each seen by the cache before and after it and by the status that it
--- returns.
+-- Contracts of the calls of a search in pieces, each stated by the cache before and after the call and by the status.
 use Rattle.std.specs.Prelude.{ℕ, ◌≡◌, Bool, List, Option, Some, None}
 use Rattle.std.specs.Prelude.{Result, Ok, Err, OnOk, OnErr, IfOk}
 use Rattle.std.specs.Result.{result_err}
@@ -20,35 +19,37 @@ use Rattle.lazydfa_c.specs.declared.object.InPieces.{InPieces}
 use Rattle.lazydfa_c.specs.declared.object.Searcher.{Searcher}
 use Rattle.lazydfa_c.specs.declared.status.Status.{Status}
 
--- a call for what numbers of C stand for; if they stand for none it changes nothing, and the argument is reported
+-- a call with the value that numbers from C encode; if they encode none, nothing changes, and `Code::Argument` is
+-- reported
 abbrev pub OfNumbers :
     {A : Type 0} → (Does : A → Searcher → Searcher → Status → Type 0)
     → Option A → Searcher → Searcher → Status → Type 0
 OfNumbers Does None s t status = (t ≡ s) × (status ≡ plain code.Argument)
 OfNumbers Does (Some x) s t status = Does x s t status
 
--- a call for the search in pieces of a cache, or for its walk; without one it changes nothing, and that is reported
+-- a call on the search in pieces of a cache, or on its walk; without one, nothing changes, and that is reported
 abbrev pub OfPieces :
     {V : Type 0} → (Does : V → Searcher → Searcher → Status → Type 0)
     → Option V → Searcher → Searcher → Status → Type 0
 OfPieces Does None s t status = (t ≡ s) × (status ≡ plain code.NotBegun)
 OfPieces Does (Some v) s t status = Does v s t status
 
--- a search that has begun is put into a cache
+-- a search that was begun is stored in a cache
 pub data IsSearchPut (m : Machine) (p : PiecesView) (old new : InPieces) (status : Status) : Type 0 where
-  -- the cache has it
+  -- the cache has this search
   HasSearch :
       new ≡ record old { search = Some (record { machine = m; pieces = p }) } → status ≡ plain code.Done
       → IsSearchPut m p old new status
-  -- it cannot share the regex: the cache has the one that it had
+  -- the allocation that shares the regex failed: the cache keeps its previous search
   CannotShare : new ≡ old → status ≡ plain code.Memory → IsSearchPut m p old new status
 
--- a cache has the search that has begun; if it did not begin, or cannot share the regex, the one that it had
+-- a cache has the search that was begun; if it was not begun, or cannot share the regex, the cache keeps the previous
+-- one
 abbrev pub IsBegun : Machine → Result PiecesView BeginError → (old new : InPieces) → Status → Type 0
 IsBegun m (Ok p) old new status = IsSearchPut m p old new status
 IsBegun m (Err e) old new status = (new ≡ old) × (status ≡ begin_status e)
 
--- `lazydfa_pieces_begin`: the result of `DFA::begin_pieces` of the forward DFA; the reverse cache stays
+-- `lazydfa_pieces_begin`: the result of the forward DFA's `DFA::begin_pieces`; the reverse cache is unchanged
 pub record BeginsPieces (earliest : Bool) (start : StartConfig) (s t : Searcher) (status : Status) : Type 0 where
   -- what `DFA::begin_pieces` returns
   pub result : Result PiecesView BeginError
@@ -56,7 +57,7 @@ pub record BeginsPieces (earliest : Bool) (start : StartConfig) (s t : Searcher)
   pub told : IsBegun (regex_of s).forward result s.pieces t.pieces status
   -- what the call promises of the search
   pub begun : IfOk result (HasBegun (regex_of s).forward start.anchored start.look_behind earliest)
-  -- what it made of the forward cache, also if it failed
+  -- the effect of the call on the forward cache, also if it failed
   pub effect :
       IsBeginRun (regex_of s).forward start.anchored start.look_behind (known_of s.cache.forward)
       (known_of t.cache.forward) (result_err result)
@@ -65,37 +66,38 @@ pub record BeginsPieces (earliest : Bool) (start : StartConfig) (s t : Searcher)
   -- the cache keeps its regex
   pub same : t.shared ≡ s.shared
 
--- `lazydfa_pieces_read`: the result of `DFA::read_piece` of the forward DFA; the reverse cache stays
+-- `lazydfa_pieces_read`: the result of the forward DFA's `DFA::read_piece`; the reverse cache is unchanged
 pub record ReadsPiece (piece : List ℕ) (stream : StreamView) (s t : Searcher) (status : Status) : Type 0 where
   -- the search after the call
   pub next : StreamView
-  -- the cache has it, and its walk is unchanged
+  -- the cache has this search, and its walk is unchanged
   pub has : t.pieces ≡ record s.pieces { search = Some next }
   -- what `DFA::read_piece` returns
   pub result : Result (Unit {0}) SearchError
   -- the status reports whether it failed, and why
   pub told : IsDoneTold result status
-  -- if it did not fail, the search was given the bytes of the piece too
+  -- if it did not fail, the search has also read the bytes of the piece
   pub reads : OnOk result (ReadsOn (regex_of s).forward piece stream.pieces next.pieces)
-  -- if it failed, the search stands where it stood
+  -- if it failed, the search is unchanged
   pub unchanged : OnErr result (next.pieces ≡ stream.pieces)
-  -- what the call made of the search and of the forward cache, also if it failed
+  -- the effect of the call on the search and on the forward cache, also if it failed
   pub effect :
       IsPieceRun (regex_of s).forward piece stream.pieces next.pieces (known_of s.cache.forward)
       (known_of t.cache.forward) (result_err result)
   -- the reverse cache is unchanged, and the cache keeps its regex
   pub rest : (t.cache.reverse ≡ s.cache.reverse) × (t.shared ≡ s.shared)
 
--- `lazydfa_pieces_end`: the result of `DFA::end_pieces` of the forward DFA; the search and the reverse cache stay
+-- `lazydfa_pieces_end`: the result of the forward DFA's `DFA::end_pieces`; the search and the reverse cache are
+-- unchanged
 pub record EndsPieces (found : FoundHalf) (ahead : Option ℕ) (stream : StreamView) (s t : Searcher) (status : Status)
     : Type 0 where
-  -- what `DFA::end_pieces` returns: the pattern and the end of a match, or none
+  -- the result of `DFA::end_pieces`: the pattern and the end of a match, or no match
   pub result : Result (Option HalfMatch) SearchError
   -- the status reports the result, and a match is written
   pub told : IsTold found_half found result status
   -- if it did not fail, it is what a search of the whole haystack returns
   pub answer : IfOk result (EndsHere (regex_of s).forward stream.pieces ahead)
-  -- what the call made of the forward cache, also if it failed
+  -- the effect of the call on the forward cache, also if it failed
   pub effect :
       IsAnswerRun (regex_of s).forward ahead stream.pieces (known_of s.cache.forward) (known_of t.cache.forward)
       (result_err result)
@@ -106,11 +108,11 @@ pub record EndsPieces (found : FoundHalf) (ahead : Option ℕ) (stream : StreamV
   -- its search and its walk in pieces are unchanged
   pub pieces : t.pieces ≡ s.pieces
 
--- `lazydfa_pieces_begin` by its numbers
+-- `lazydfa_pieces_begin` with the start configuration that its numbers encode
 abbrev pub BeginsBy : (earliest : Bool) → Option StartConfig → (s t : Searcher) → Status → Type 0
 BeginsBy earliest start s t status = OfNumbers (BeginsPieces earliest) start s t status
 
--- `lazydfa_pieces_read` over a cache, with or without a search in pieces, and whether the answer stands then
+-- `lazydfa_pieces_read` over a cache, with or without a search in pieces, and whether its result is then final
 abbrev pub ReadsIn : (piece : List ℕ) → (done : ℕ) → (s t : Searcher) → Status → Type 0
 ReadsIn piece done s t status =
     OfPieces (ReadsPiece piece) s.pieces.search s t status × (done ≡ done_in t.pieces.search)

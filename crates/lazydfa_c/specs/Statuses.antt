@@ -22,20 +22,20 @@ use Rattle.lazydfa_c.specs.declared.code.Code.{Code}
 use Rattle.lazydfa_c.specs.declared.code.Code.TheVariants as code
 use Rattle.lazydfa_c.specs.declared.status.Status.{Status}
 
--- a code, and the offset that goes with it
+-- the status of a code with an offset
 abbrev pub status_at : Code → (offset : ℕ) → Status
 status_at c offset = record { code = number_of c; byte = 0; offset = offset }
 
--- a code alone
+-- the status of a code alone
 abbrev pub plain : Code → Status
 plain c = status_at c 0
 
--- whether a call did what it was asked to, or why not
+-- the status of a call that returns no value
 abbrev pub done_status : Result (Unit {0}) Status → Status
 done_status (Ok u) = plain code.Done
 done_status (Err status) = status
 
--- why states are no NFA
+-- the code of an error in the states of an NFA
 abbrev pub nfa_code : NfaError → Code
 nfa_code nfa.StateRange = code.StateRange
 nfa_code nfa.StartRange = code.StartRange
@@ -44,7 +44,7 @@ nfa_code nfa.Ranges = code.Ranges
 nfa_code nfa.TooLarge = code.TooLarge
 nfa_code nfa.OutOfMemory = code.Memory
 
--- why a builder of an NFA refused
+-- the code of an error of a builder of NFAs
 abbrev pub builder_code : BuilderError → Code
 builder_code builder.NoPattern = code.NoPattern
 builder_code builder.UnfinishedPattern = code.UnfinishedPattern
@@ -58,7 +58,8 @@ builder_code (builder.NFA e) = nfa_code e
 abbrev pub builder_status : BuilderError → Status
 builder_status e = plain (builder_code e)
 
--- why a DFA was not built; of a capacity that is too small, the minimum that the error names
+-- the status of an error of building a DFA; if the capacity is too small, the offset is the minimum that the error
+-- names
 abbrev pub build_status : BuildError → Status
 build_status dfa.Unsupported = plain code.Unsupported
 build_status (dfa.InsufficientCacheCapacity minimum given) = status_at code.Capacity minimum
@@ -66,7 +67,7 @@ build_status (dfa.InsufficientStateIDCapacity attempted) = status_at code.StateI
 build_status dfa.OutOfMemory = plain code.Memory
 build_status (dfa.PatternCounts forward reverse) = plain code.PatternCounts
 
--- why a regex was not built
+-- the status of an error of building a regex
 abbrev pub regex_status : RegexBuildError → Status
 regex_status regex.NotLazy = plain code.NotLazy
 regex_status regex.NotUtf8 = plain code.NotUtf8
@@ -75,7 +76,7 @@ regex_status regex.TooLarge = plain code.TooLarge
 regex_status regex.OutOfMemory = plain code.Memory
 regex_status (regex.Build e) = build_status e
 
--- why a search failed
+-- the status of an error of a search
 abbrev pub search_status : SearchError → Status
 search_status (Match (Quit byte offset)) = record { code = number_of code.Quit; byte = byte; offset = offset }
 search_status (Match (GaveUp offset)) = status_at code.GaveUp offset
@@ -83,19 +84,20 @@ search_status (Match (UnsupportedAnchored mode)) = plain code.Anchored
 search_status OutOfMemory = plain code.Memory
 search_status NotAPair = plain code.NotAPair
 
--- why there is no start state for the first piece; the byte before it has no offset, and the quit byte has none
+-- the status of an error of the start state for the first piece; its offset is 0, since the byte before the piece has
+-- none
 abbrev pub start_status : StartError → Status
 start_status (start.Cache err) = status_at code.GaveUp 0
 start_status (start.Quit byte) = record { code = number_of code.Quit; byte = byte; offset = 0 }
 start_status (start.UnsupportedAnchored mode) = plain code.Anchored
 start_status start.OutOfMemory = plain code.Memory
 
--- why a search in pieces does not begin
+-- the status of an error of beginning a search in pieces
 abbrev pub begin_status : BeginError → Status
 begin_status begin.Skips = plain code.Skips
 begin_status (begin.Start e) = start_status e
 
--- why there is no next token
+-- the status of an error in place of a token
 abbrev pub token_status : TokenError → Status
 token_status (NoToken offset) = status_at code.NoToken offset
 token_status (Search e) = search_status e

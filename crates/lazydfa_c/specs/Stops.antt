@@ -1,4 +1,4 @@
--- Where a walk in pieces stands, as C reads it.
+-- The position of a walk in pieces, as C lays it out.
 use Rattle.std.specs.Prelude.{ℕ, zero, suc, length}
 use Rattle.lazydfa_c.specs.Statuses.{plain}
 use Rattle.lazydfa_c.specs.Streams.{WalkView, listed, offset_of}
@@ -10,11 +10,11 @@ use Rattle.lazydfa_c.specs.declared.walk.Stop.{Stop}
 abbrev pub nowhere : Stop
 nowhere = record { read = 0; offset = 0; patterns = 0 }
 
--- where a walk stands after a call that has read so many bytes of its piece
+-- the position of a walk after a call that has read this many bytes of its piece
 abbrev pub stop_of : (read : ℕ) → WalkView → Stop
 stop_of read walk = record { read = read; offset = offset_of walk; patterns = length (listed walk) }
 
--- the status of a call of a walk that did not fail, by how many patterns match where it stands
+-- the status of a walk's call that did not fail, by how many patterns match at its position
 abbrev pub stop_status : (patterns : ℕ) → Status
 stop_status zero = plain code.Nothing
 stop_status (suc n) = plain code.Done

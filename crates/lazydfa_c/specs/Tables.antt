@@ -1,4 +1,4 @@
--- How large the tables of a regex are.
+-- The sizes of the tables of regexes.
 use Rattle.std.specs.Prelude.{ℕ, ◌≡◌, ◌+◌, ◌*◌, ◌-◌, ◌^◌, List, length, min, sum_by, Result, Ok, Err}
 use Rattle.automata_base.specs.declared.nfa.thompson.State.{State}
 use Rattle.automata_base.specs.declared.nfa.thompson.State.TheVariants as is
@@ -10,7 +10,7 @@ use Rattle.lazydfa_c.specs.declared.object.Object.{Object}
 use Rattle.lazydfa_c.specs.declared.object.Object.TheVariants.{Builder, Regex as RegexObject, Searcher as CacheObject}
 use Rattle.lazydfa_c.specs.declared.status.Status.{Status}
 
--- how many ranges of bytes a sparse state has
+-- the number of byte ranges of a sparse state, and 0 for any other state
 abbrev pub range_count : State → ℕ
 range_count (is.Sparse ranges) = length ranges.items
 range_count (is.ByteRange lo hi next) = 0
@@ -22,15 +22,15 @@ range_count (is.Capture next pattern index slot) = 0
 range_count is.Fail = 0
 range_count (is.Match pattern) = 0
 
--- a state counts 16 bytes, and 8 for each of its ranges
+-- the size of a state, in bytes: 16, and 8 for each of its ranges
 abbrev pub state_size : State → ℕ
 state_size state = 16 + 8 * range_count state
 
--- the sum over all states, or the greatest number of 64 bits if it is more
+-- the sum of the sizes of all states, or the largest 64-bit number if the sum exceeds it
 abbrev pub table_size : List State → ℕ
 table_size states = min (sum_by state_size states) (2 ^ 64 - 1)
 
--- the size of the forward NFA of the regex that an object is; if it is none, its kind is reported
+-- the size of the forward NFA of a regex object; for any other object its kind is reported
 abbrev pub IsSizeIn : Object → Result ℕ Status → Type 0
 IsSizeIn (RegexObject r) result = result ≡ Ok (table_size r.regex.value.forward.nfa.states)
 IsSizeIn (Builder b) result = result ≡ Err (plain code.Kind)
@@ -41,7 +41,7 @@ abbrev pub IsSizeTold : (written : ℕ) → Result ℕ Status → Status → Typ
 IsSizeTold written (Ok size) status = (written ≡ size) × (status ≡ plain code.Done)
 IsSizeTold written (Err e) status = status ≡ e
 
--- `lazydfa_regex_size`: the regex stays as it is
+-- `lazydfa_regex_size`: the regex is unchanged
 abbrev pub ReportsSize : (written : ℕ) → (old new : Handle) → Status → Type 0
 ReportsSize written old new status =
     (result : Result ℕ Status) × ReadsHandle IsSizeIn old new result × IsSizeTold written result status

@@ -1,4 +1,4 @@
--- Regexes of the texts of patterns.
+-- Contracts of the calls that build regexes of the texts of patterns.
 use Rattle.std.specs.Prelude.{ℕ, zero, suc, ◌≡◌, ◌==◌, ◌<◌, Bool, true, false, not, List, [], ◌∷◌, take, drop}
 use Rattle.std.specs.Prelude.{Result, Ok, Err, if◌then◌else◌}
 use Rattle.automata_base.specs.Nfas.Nodes.{Automaton}
@@ -18,21 +18,21 @@ use Rattle.lazydfa_c.specs.declared.settings.Settings.{Settings}
 use Rattle.lazydfa_c.specs.declared.status.Status.{Status}
 use Rattle.lazydfa_c.specs.declared.text.TextOptions.{TextOptions}
 
--- the texts that lie one after another, by their lengths
+-- the texts that are concatenated, split by their lengths
 abbrev pub texts_in : (bytes : List ℕ) → (lengths : List ℕ) → List (List ℕ)
 texts_in bytes [] = []
 texts_in bytes (n ∷ ns) = take n bytes ∷ texts_in (drop n bytes) ns
 
--- how many bytes the tables of the patterns may take, 10 MB by default
+-- the greatest size of the tables of the patterns, in bytes; the default is 10 MiB
 abbrev pub size_limit_of : TextOptions → ℕ
 size_limit_of options = if options.has_size_limit == 0 then 10485760 else options.size_limit
 
--- how deep a pattern may nest, 32 by default
+-- the greatest depth to which a pattern may nest; the default is 32
 abbrev pub nest_limit_of : TextOptions → ℕ
 nest_limit_of options = if options.nest_limit == 0 then 32 else options.nest_limit
 
--- how texts are read: a number of C that is not 0 is yes, and `no_unicode` and `bytes` say what is off then; a word
--- boundary of Unicode is allowed where the settings allow it
+-- the options for parsing texts: any number of C but 0 is true, `no_unicode` and `bytes` turn an option off, and a
+-- Unicode word boundary is allowed if the settings allow it
 abbrev pub reading_of : TextOptions → Settings → Reading
 reading_of options settings = record {
   unicode = options.no_unicode == 0;
@@ -57,27 +57,27 @@ IsFailure status = number_of code.Nothing < status.code
 abbrev pub MatchesNothing : Automaton → Type 0
 MatchesNothing nfa = nfa.states ≡ Fail ∷ []
 
--- the regex searches forward for what an NFA finds, and backward for nothing
+-- the forward DFA of the regex is an NFA's, and its reverse DFA matches nothing
 pub record IsForwardOnly (o : Options) (nfa : Automaton) (regex : Regex) : Type 0 where
   -- the NFA of its reverse DFA
   pub none : Automaton
   -- nothing matches there
   pub nothing : MatchesNothing none
-  -- the regex is what the library builds of both
+  -- the regex is built from both NFAs
   pub built : IsPairOf o nfa none regex
 
--- what is built of an NFA: its regex, or one that searches forward only if that is asked for
+-- the regex that is built from an NFA: the full one, or, if that is requested, one that only searches forward
 abbrev pub IsRegexFor : (forward_only : ℕ) → Options → Automaton → Regex → Type 0
 IsRegexFor zero o nfa regex = IsBuiltRegex o nfa regex
 IsRegexFor (suc n) o nfa regex = IsForwardOnly o nfa regex
 
--- the handle is open on such a regex; or it stays, and the status says that the call failed
+-- the handle is opened on a regex of this kind, or is unchanged, and the status says that the call failed
 abbrev pub OpensNfa : (Makes : Regex → Type 0) → (old new : Handle) → Result (Unit {0}) Status → Type 0
 OpensNfa Makes old new (Ok u) = HoldsRegex Makes new
 OpensNfa Makes old new (Err e) = (new ≡ old) × IsFailure e
 
--- the handle is open on the regex of an NFA that finds what the texts mean; or it stays, and the status says that there
--- is no such regex
+-- the handle is opened on the regex of an NFA that matches what the texts mean, or is unchanged, and the status says
+-- that there is no such regex
 abbrev pub OpensTexts : Options → TextOptions → Settings → (texts : List (List ℕ)) → (old new : Handle)
     → Result (Unit {0}) Status → Type 0
 OpensTexts o options settings texts old new (Ok u) =
@@ -85,19 +85,20 @@ OpensTexts o options settings texts old new (Ok u) =
     × HoldsRegex (IsRegexFor options.forward_only o nfa) new
 OpensTexts o options settings texts old new (Err e) = (new ≡ old) × IsFailure e
 
--- the same if the texts are within the limits; otherwise nothing is read, and the status says that they are too large
+-- the handle is opened if the texts are within the limits; otherwise nothing is parsed, and the texts are reported as
+-- too large
 abbrev pub OpensAdmitted : (is_within : Bool) → Options → TextOptions → Settings → (texts : List (List ℕ))
     → (old new : Handle) → Result (Unit {0}) Status → Type 0
 OpensAdmitted true o options settings texts old new done = OpensTexts o options settings texts old new done
 OpensAdmitted false o options settings texts old new done = (new ≡ old) × (done ≡ Err (plain code.TooLarge))
 
--- the same of texts that lie one after another
+-- the handle is opened if the concatenated texts are within the limits
 abbrev pub OpensWithin : Options → TextOptions → Settings → (bytes lengths : List ℕ) → (old new : Handle)
     → Result (Unit {0}) Status → Type 0
 OpensWithin o options settings bytes lengths old new done =
     OpensAdmitted (admits options bytes) o options settings (texts_in bytes lengths) old new done
 
--- the same with settings and quit bytes, over a handle that is closed
+-- the handle is opened, unless it is already open, on the regex with these settings and quit bytes
 abbrev pub BuildsTexts : Settings → (quits : List ℕ) → TextOptions → (bytes lengths : List ℕ) → (old new : Handle)
     → Result (Unit {0}) Status → Type 0
 BuildsTexts settings quits options bytes lengths old new done =

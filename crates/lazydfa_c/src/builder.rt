@@ -1,4 +1,4 @@
-//! NFAs, state by state.
+//! Builders of NFAs, which a C program fills state by state.
 ghost use Rattle.std.specs.Prelude.{◌≡◌, ◌⊎◌, ◌==◌, not, IfErr, IfOk, IsFalse, IsTrue, None, map, nat_lt};
 ghost use Rattle.automata_base.specs.Haystacks.LookSets.{nth_look};
 ghost use Rattle.lazydfa_c.specs.Drafts.{AddsToHandle, AddsTo, Changes, ChangesDraft, ChangesPattern, CreatesDraft};
@@ -44,7 +44,7 @@ enum Added<'a> {
     UnanchoredPrefix { start: u32 },
 }
 
-/// A state's ID, if the number is one.
+/// Returns the ID of the state of this number. It fails with `Code::Argument` if the number is not a valid state ID.
 pub fn state_id(number: u32) -> Result<StateID, Status>
     ensures { result ≡ state_of number }
 {
@@ -54,7 +54,7 @@ pub fn state_id(number: u32) -> Result<StateID, Status>
     }
 }
 
-/// The IDs of the states of these numbers. It fails with `Code::Argument` at a number that is no ID.
+/// Returns the IDs of the states of these numbers. It fails with `Code::Argument` if a number is not a valid state ID.
 fn state_ids(alloc: Global, numbers: &[u32]) -> Result<Vec<StateID>, Status>
     ensures ok { IfOk result (λ ids. ids.items ≡ numbers.now) }
     ensures states { IfOk result (λ ids. IsTrue (are_states numbers.now)) }
@@ -69,7 +69,8 @@ fn state_ids(alloc: Global, numbers: &[u32]) -> Result<Vec<StateID>, Status>
     Ok(ids)
 }
 
-/// The transition of an edge as C lays it out. It fails with `Code::Argument` if the number of its state is no ID.
+/// Converts an edge as C lays it out to a transition. It fails with `Code::Argument` if the number of its state is not
+/// a valid state ID.
 fn transition(edge: Edge) -> Result<Transition, Status>
     ensures ok { IfOk result (λ t. t ≡ transition_of edge) }
     ensures state { IfOk result (λ t. IsTrue (is_state edge.next)) }
@@ -83,8 +84,8 @@ fn transition(edge: Edge) -> Result<Transition, Status>
     })
 }
 
-/// The transitions of edges as C lays them out, in their order. It fails with `Code::Argument` if the number of a state
-/// is no ID.
+/// Converts edges as C lays them out to transitions, in their order. It fails with `Code::Argument` if the number of a
+/// state is not a valid state ID.
 fn transitions(alloc: Global, edges: &[Edge]) -> Result<Vec<Transition>, Status>
     ensures ok { IfOk result (λ ts. ts.items ≡ map transition_of edges.now) }
     ensures states { IfOk result (λ ts. IsTrue (lead_on edges.now)) }
@@ -99,7 +100,7 @@ fn transitions(alloc: Global, edges: &[Edge]) -> Result<Vec<Transition>, Status>
     Ok(transitions)
 }
 
-/// The look of this number. It fails with `Code::Argument` if the number is not below 18.
+/// Returns the look of this number. It fails with `Code::Argument` if the number is not below 18.
 fn look_of(number: u32) -> Result<Look, Status>
     ensures ok { IfOk result (λ l. l ≡ nth_look number) }
     ensures look { IfOk result (λ l. IsTrue (nat_lt number 18)) }
@@ -112,7 +113,7 @@ fn look_of(number: u32) -> Result<Look, Status>
     }
 }
 
-/// The number of the state that a builder's call added, or the status of that call's error.
+/// Returns the number of the state that a builder's call added, or the status of that call's error.
 fn told_state(answer: Result<StateID, BuildError>) -> Result<u32, Status>
     ensures { result ≡ told_by answer }
 {
@@ -122,7 +123,7 @@ fn told_state(answer: Result<StateID, BuildError>) -> Result<u32, Status>
     }
 }
 
-/// The number of the pattern that a builder's call started or finished, or the status of that call's error.
+/// Returns the number of the pattern that a builder's call started or finished, or the status of that call's error.
 fn told_pattern(answer: Result<PatternID, BuildError>) -> Result<u32, Status>
     ensures { result ≡ told_by answer }
 {
@@ -132,7 +133,7 @@ fn told_pattern(answer: Result<PatternID, BuildError>) -> Result<u32, Status>
     }
 }
 
-/// Zero for a builder's call that returns no number, or the status of that call's error.
+/// Returns zero for a builder's call that returns no number, or the status of that call's error.
 fn told_done(answer: Result<(), BuildError>) -> Result<u32, Status>
     ensures { result ≡ told_by (zeroed answer) }
 {
@@ -142,9 +143,9 @@ fn told_done(answer: Result<(), BuildError>) -> Result<u32, Status>
     }
 }
 
-/// Adds a state to a builder, and returns its number. It fails with `Code::Argument` at a number that is no state or
-/// look-around assertion, with `Code::Memory` if a list cannot be copied, and else with the status of the builder's
-/// error. After an error the builder is unchanged.
+/// Adds a state to a builder, and returns its number. It fails with `Code::Argument` if a number is not a valid state
+/// ID or look-around assertion, with `Code::Memory` if a list cannot be copied, and otherwise with the status of the
+/// builder's error. After an error the builder is unchanged.
 fn add_to(alloc: Global, builder: &mut Builder, added: Added<'_>) -> Result<u32, Status>
     ensures { AddsTo added.entry builder.old builder.new result }
 {
@@ -173,8 +174,7 @@ fn add_to(alloc: Global, builder: &mut Builder, added: Added<'_>) -> Result<u32,
     }
 }
 
-/// Adds a state to the builder that an object is, and returns its number. It fails with `Code::Kind` if the object is
-/// no builder.
+/// Adds a state to a builder object, and returns its number. It fails with `Code::Kind` if the object is not a builder.
 fn add_in(alloc: Global, object: &mut Object, added: Added<'_>) -> Result<u32, Status>
     ensures { OfBuilder (AddsTo added.entry) object.old object.new result }
 {
@@ -184,8 +184,8 @@ fn add_in(alloc: Global, object: &mut Object, added: Added<'_>) -> Result<u32, S
     }
 }
 
-/// Adds a state to the builder behind a handle, and returns its number. It fails with `Code::Closed` if the handle owns
-/// nothing, and with `Code::Kind` if it owns no builder.
+/// Adds a state to a handle's builder, and returns its number. It fails with `Code::Closed` if the handle owns nothing,
+/// and with `Code::Kind` if it does not own a builder.
 fn add_behind(alloc: Global, handle: &mut Handle, added: Added<'_>) -> Result<u32, Status>
     ensures { OfDraft (AddsTo added.entry) handle.old handle.new result }
 {
@@ -197,7 +197,7 @@ fn add_behind(alloc: Global, handle: &mut Handle, added: Added<'_>) -> Result<u3
     result
 }
 
-/// Writes the number of a result, and returns its status.
+/// Writes the number of a result if there is one, and returns the result's status.
 fn tell(answer: Result<u32, Status>, number: &mut u32) -> Status
     ensures { IsNumberTold number.old number.new answer result }
 {
@@ -210,14 +210,14 @@ fn tell(answer: Result<u32, Status>, number: &mut u32) -> Status
     }
 }
 
-/// Adds a state to the builder behind a handle, and writes its ID.
+/// Adds a state to a handle's builder, and writes its ID.
 fn add(alloc: Global, handle: &mut Handle, added: Added<'_>, id: &mut u32) -> Status
     ensures { AddsToHandle added.entry id.old id.new handle.old handle.new result }
 {
     tell(add_behind(alloc, handle, added), id)
 }
 
-/// A change of a builder that adds no state.
+/// A change to a builder that adds no state.
 #[derive(Clone, Copy)]
 enum Change {
     Clear,
@@ -229,7 +229,7 @@ enum Change {
     LineTerminator(u8),
 }
 
-/// Changes a builder, and returns a pattern where the change has one.
+/// Changes a builder, and returns the number of the pattern that the change starts or finishes, or else zero.
 fn change_to(builder: &mut Builder, change: Change) -> Result<u32, Status>
     ensures { Changes change builder.old builder.new result }
 {
@@ -249,8 +249,8 @@ fn change_to(builder: &mut Builder, change: Change) -> Result<u32, Status>
     Ok(0)
 }
 
-/// Changes the builder that an object is, and returns a pattern where the change has one, else zero. It fails with
-/// `Code::Kind` if the object is no builder.
+/// Changes a builder object, and returns the number of the pattern that the change starts or finishes, or else zero. It
+/// fails with `Code::Kind` if the object is not a builder.
 fn change_in(object: &mut Object, change: Change) -> Result<u32, Status>
     ensures { OfBuilder (Changes change) object.old object.new result }
 {
@@ -260,8 +260,8 @@ fn change_in(object: &mut Object, change: Change) -> Result<u32, Status>
     }
 }
 
-/// Changes the builder behind a handle, and returns a pattern where the change has one, else zero. It fails with
-/// `Code::Closed` if the handle owns nothing, and with `Code::Kind` if it owns no builder.
+/// Changes a handle's builder, and returns the number of the pattern that the change starts or finishes, or else zero.
+/// It fails with `Code::Closed` if the handle owns nothing, and with `Code::Kind` if it does not own a builder.
 fn change_behind(alloc: Global, handle: &mut Handle, change: Change) -> Result<u32, Status>
     ensures { OfDraft (Changes change) handle.old handle.new result }
 {
@@ -273,7 +273,7 @@ fn change_behind(alloc: Global, handle: &mut Handle, change: Change) -> Result<u
     result
 }
 
-/// Changes the builder behind a handle. The status says whether it was changed, and if not, why.
+/// Changes a handle's builder. The status says whether it was changed, and if not, why.
 fn changed(alloc: Global, handle: &mut Handle, wanted: Change) -> Status
     ensures { ChangesDraft wanted handle.old handle.new result }
 {
@@ -283,8 +283,8 @@ fn changed(alloc: Global, handle: &mut Handle, wanted: Change) -> Status
     }
 }
 
-/// Changes the builder behind a handle by starting or finishing a pattern, and writes the pattern's number. After an
-/// error nothing is written.
+/// Changes a handle's builder by starting or finishing a pattern, and writes the pattern's number. After an error
+/// nothing is written.
 fn changed_pattern(alloc: Global, handle: &mut Handle, wanted: Change, pattern: &mut u32) -> Status
     ensures { ChangesPattern wanted pattern.old pattern.new handle.old handle.new result }
 {
@@ -301,8 +301,8 @@ fn open_builder(alloc: Global, handle: &mut Handle, builder: Builder) -> Result<
     Ok(())
 }
 
-/// Opens a handle on a builder without states. It fails with `Code::Open` if the handle is open already, and with
-/// `Code::Memory` if there is no memory for the builder; the handle is then unchanged.
+/// Opens a handle on a builder without states. It fails with `Code::Open` if the handle is already open, and with
+/// `Code::Memory` if the allocation fails; the handle is then unchanged.
 fn new_builder(alloc: Global, handle: &mut Handle) -> Result<(), Status>
     ensures { CreatesDraft handle.old handle.new result }
 {
@@ -328,7 +328,7 @@ pub extern "C" fn lazydfa_raw_builder_clear(alloc: Global, builder: &mut Handle)
     changed(alloc, builder, Change::Clear)
 }
 
-/// Starts a pattern, to which matches and groups belong until it is finished.
+/// Starts a pattern. The match states and groups that are added until it is finished belong to it.
 #[unsafe(no_mangle)]
 pub extern "C" fn lazydfa_raw_start_pattern(
     alloc: Global,
@@ -340,7 +340,7 @@ pub extern "C" fn lazydfa_raw_start_pattern(
     changed_pattern(alloc, builder, Change::StartPattern, pattern)
 }
 
-/// Finishes the pattern, whose searches start at a state.
+/// Finishes the pattern that was started, and sets the state in which its searches start.
 #[unsafe(no_mangle)]
 pub extern "C" fn lazydfa_raw_finish_pattern(
     alloc: Global,
@@ -353,7 +353,7 @@ pub extern "C" fn lazydfa_raw_finish_pattern(
     changed_pattern(alloc, builder, Change::FinishPattern { start }, pattern)
 }
 
-/// Adds an edge from a state, or moves the one that it has.
+/// Adds an edge from a state, or redirects the one that it has.
 #[unsafe(no_mangle)]
 pub extern "C" fn lazydfa_raw_patch(
     alloc: Global,
@@ -366,7 +366,7 @@ pub extern "C" fn lazydfa_raw_patch(
     changed(alloc, builder, Change::Patch { from, to })
 }
 
-/// Sets UTF-8 mode: no match splits an encoded character.
+/// Sets UTF-8 mode, in which no match splits an encoded character.
 #[unsafe(no_mangle)]
 pub extern "C" fn lazydfa_raw_set_utf8(alloc: Global, builder: &mut Handle, yes: u32) -> Status
     ensures { ChangesDraft (change.Utf8 (not (yes == 0))) builder.old builder.new result }
@@ -374,7 +374,7 @@ pub extern "C" fn lazydfa_raw_set_utf8(alloc: Global, builder: &mut Handle, yes:
     changed(alloc, builder, Change::Utf8(yes != 0))
 }
 
-/// Says that the NFA reads its haystack backward.
+/// Sets whether the NFA reads its haystack backward.
 #[unsafe(no_mangle)]
 pub extern "C" fn lazydfa_raw_set_reverse(alloc: Global, builder: &mut Handle, yes: u32) -> Status
     ensures { ChangesDraft (change.Reverse (not (yes == 0))) builder.old builder.new result }
@@ -382,7 +382,7 @@ pub extern "C" fn lazydfa_raw_set_reverse(alloc: Global, builder: &mut Handle, y
     changed(alloc, builder, Change::Reverse(yes != 0))
 }
 
-/// Sets the byte that ends lines.
+/// Sets the byte that ends a line.
 #[unsafe(no_mangle)]
 pub extern "C" fn lazydfa_raw_set_line_terminator(
     alloc: Global,
@@ -402,7 +402,7 @@ pub extern "C" fn lazydfa_raw_add_empty(alloc: Global, builder: &mut Handle, id:
     add(alloc, builder, Added::Empty, id)
 }
 
-/// Adds a state that reads one byte of a range.
+/// Adds a state that reads one byte in a range.
 #[unsafe(no_mangle)]
 pub extern "C" fn lazydfa_raw_add_range(
     alloc: Global,
@@ -424,7 +424,7 @@ pub extern "C" fn lazydfa_raw_add_range(
     add(alloc, builder, Added::Range(edge), id)
 }
 
-/// Adds a state that reads one byte of several ranges.
+/// Adds a state that reads one byte in any of several ranges.
 #[unsafe(no_mangle)]
 pub extern "C" fn lazydfa_raw_add_sparse(
     alloc: Global,
@@ -437,7 +437,7 @@ pub extern "C" fn lazydfa_raw_add_sparse(
     add(alloc, builder, Added::Sparse(edges), id)
 }
 
-/// Adds a look-around assertion.
+/// Adds a state with a look-around assertion.
 #[unsafe(no_mangle)]
 pub extern "C" fn lazydfa_raw_add_look(
     alloc: Global,
@@ -521,7 +521,7 @@ pub extern "C" fn lazydfa_raw_add_match(alloc: Global, builder: &mut Handle, id:
     add(alloc, builder, Added::Match, id)
 }
 
-/// Adds the states that skip bytes before a start.
+/// Adds the states that skip bytes before a start state.
 #[unsafe(no_mangle)]
 pub extern "C" fn lazydfa_raw_add_unanchored_prefix(
     alloc: Global,

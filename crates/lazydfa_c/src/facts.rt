@@ -1,4 +1,4 @@
-//! What every match of a pattern's text has in common.
+//! What all matches of a pattern have in common.
 ghost use Rattle.std.specs.Prelude.{◌≡◌, IfErr, IfOk, IsTrue, OnErr, OnOk};
 ghost use Rattle.patterns.specs.Facts.{AreFactsOf};
 ghost use Rattle.lazydfa_c.specs.Caches.{written_over};
@@ -14,8 +14,9 @@ use crate::text::{TextOptions, status_of};
 use patterns::{Facts as PatternFacts, facts_of};
 use std::alloc::{AllocError, Global};
 
-/// How long the prefix is and how many literals there are, the bytes of all of them, and the flags, 0 or 1: whether
-/// every match begins or ends where the haystack does, and whether it is the prefix and nothing more.
+/// The length of the prefix, the number of literals, the number of bytes of all of these, and the flags, each 0 or 1:
+/// whether every match begins where the haystack begins, whether every match ends where it ends, and whether every
+/// match is exactly the prefix.
 #[repr(C)]
 #[derive(Clone, Copy)]
 pub struct Facts {
@@ -29,7 +30,7 @@ pub struct Facts {
 }
 
 impl Facts {
-    /// No facts, as after an error.
+    /// Returns no facts, as a call reports after an error.
     fn none() -> Facts
         ensures { result ≡ no_facts }
     {
@@ -44,7 +45,7 @@ impl Facts {
         }
     }
 
-    /// The facts, whose prefix and literals have so many bytes.
+    /// Converts facts to their layout in C, where `length` is the number of bytes of the prefix and the literals.
     fn of(facts: &PatternFacts, length: usize) -> Facts
         ensures { result ≡ facts_of facts.now length }
     {
@@ -60,7 +61,8 @@ impl Facts {
     }
 }
 
-/// The settings by which a text is read alone: whether a word boundary of Unicode is allowed makes no difference then.
+/// Returns the settings with which a pattern is parsed for its facts, which do not depend on whether a Unicode word
+/// boundary is allowed.
 fn default_settings() -> Settings
     ensures { result ≡ default_settings }
 {
@@ -81,8 +83,8 @@ fn default_settings() -> Settings
     }
 }
 
-/// The facts of a text. It fails with `Code::TooLarge` if it is beyond the limits on text and on class escapes, before
-/// anything is read, and with `Code::NotText` and an offset in the text if it is not UTF-8.
+/// Returns the facts of a pattern's text. It fails with `Code::TooLarge` if the text exceeds the limits on text and on
+/// class escapes, before anything is parsed, and with `Code::NotText` and an offset in the text if it is not UTF-8.
 fn facts_of_text(alloc: Global, text: &[u8], options: &TextOptions) -> Result<PatternFacts, Status>
     ensures within { IfOk result (λ _. IsTrue (admits options.now text.now)) }
     ensures ok { IfOk result (AreFactsOf (plain_reading options.now) text.now) }
@@ -102,7 +104,7 @@ fn facts_of_text(alloc: Global, text: &[u8], options: &TextOptions) -> Result<Pa
     }
 }
 
-/// The bytes of the prefix and then those of the literals, one after another.
+/// Concatenates the bytes of the prefix and of the literals.
 fn joined(alloc: Global, facts: &PatternFacts) -> Result<Vec<u8>, AllocError>
     ensures { IfOk result (λ v. v.items ≡ fact_bytes facts.now) }
 {
@@ -113,7 +115,7 @@ fn joined(alloc: Global, facts: &PatternFacts) -> Result<Vec<u8>, AllocError>
     Ok(all)
 }
 
-/// The lengths of the literals, in bytes.
+/// Returns the lengths of the literals, in bytes.
 fn lengths_of(alloc: Global, facts: &PatternFacts) -> Result<Vec<usize>, AllocError>
     ensures { IfOk result (λ v. v.items ≡ literal_lengths facts.now) }
 {
@@ -124,7 +126,7 @@ fn lengths_of(alloc: Global, facts: &PatternFacts) -> Result<Vec<usize>, AllocEr
         .collect(alloc)
 }
 
-/// Writes the items that there is room for.
+/// Writes as many of the items as there is room for.
 fn write_over<T: Copy>(items: &[T], out: &mut [T])
     ensures { out.new ≡ written_over items.now out.old }
 {
@@ -137,7 +139,8 @@ fn write_over<T: Copy>(items: &[T], out: &mut [T])
     }
 }
 
-/// Writes the facts of a text, and the bytes and lengths that there is room for. After an error nothing is written.
+/// Writes the facts of a pattern's text, and as many of the bytes and lengths as there is room for. After an error
+/// nothing is written.
 fn write_facts(
     alloc: Global,
     text: &[u8],
@@ -159,8 +162,8 @@ fn write_facts(
     Ok(())
 }
 
-/// Writes what every match of a pattern's text has in common, and the bytes and lengths that there is room for. After
-/// an error all facts are 0, and no bytes and lengths are written.
+/// Writes what all matches of a pattern have in common, and as many of the bytes and lengths as there is room for.
+/// After an error all facts are 0, and no bytes or lengths are written.
 #[unsafe(no_mangle)]
 pub extern "C" fn lazydfa_raw_text_facts(
     alloc: Global,

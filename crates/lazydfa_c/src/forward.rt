@@ -1,4 +1,5 @@
-//! Regexes that search forward alone: whether there is a match, and where it ends. What finds starts is not built.
+//! Regexes that only search forward: they report whether there is a match and where it ends. No part that finds starts
+//! is built.
 ghost use Rattle.std.specs.Prelude.{◌≡◌, IfErr, IfOk, None};
 ghost use Rattle.automata_config.specs.Options.{overwritten, unset};
 ghost use Rattle.lazydfa_c.specs.Builds.{OpensRegex};
@@ -14,7 +15,7 @@ use regex_automata::hybrid::regex::Regex;
 use regex_automata::nfa::thompson::{Flags, NFA, State};
 use std::alloc::Global;
 
-/// An NFA of so many patterns, none of which matches.
+/// Builds an NFA with this number of patterns, none of which matches.
 fn nfa_without_match(alloc: Global, patterns: usize) -> Result<NFA, Status>
     ensures none { IfOk result MatchesNothing }
     ensures refused { IfErr result IsFailure }
@@ -35,7 +36,7 @@ fn nfa_without_match(alloc: Global, patterns: usize) -> Result<NFA, Status>
     }
 }
 
-/// The regex that searches forward for what an NFA finds, beside a reverse DFA that finds nothing.
+/// Builds the regex whose forward DFA is that of an NFA and whose reverse DFA finds nothing.
 fn forward_of(alloc: Global, nfa: NFA, config: Config) -> Result<Regex, Status>
     ensures built { IfOk result (IsForwardOnly (overwritten unset config) nfa) }
     ensures refused { IfErr result IsFailure }
@@ -47,7 +48,7 @@ fn forward_of(alloc: Global, nfa: NFA, config: Config) -> Result<Regex, Status>
     }
 }
 
-/// Opens a handle on the regex that searches forward for what an NFA finds.
+/// Opens a handle on a regex of an NFA that only searches forward.
 pub fn open_forward(
     alloc: Global,
     handle: &mut Handle,

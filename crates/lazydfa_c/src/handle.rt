@@ -1,4 +1,4 @@
-//! Handles: what C holds of an object on the heap.
+//! Handles, through which C owns objects on the heap.
 ghost use Rattle.std.specs.Prelude.{◌≡◌, ◌↔◌, IfSome, IsFalse, IsSome, None, Option, Some};
 ghost use Rattle.lazydfa_c.specs.Held.{held};
 ghost use Rattle.lazydfa_c.specs.Handles.{is_open};
@@ -12,8 +12,8 @@ use std::marker::Model;
 use std::mem;
 use std::ptr::null_mut;
 
-/// A pointer that owns an object, or is of no use. It has no `Drop`, and so neither has a handle: code that lets an
-/// object go with one does not compile.
+/// A pointer that owns an object, or is unused. It has no `Drop`, and so a handle has none either: code that drops an
+/// object together with its handle does not compile.
 #[repr(C)]
 pub struct Slot {
     at: *mut u8,
@@ -25,14 +25,14 @@ impl Model for Slot {
 }
 
 impl Slot {
-    /// A slot that owns nothing, with this pointer in it.
+    /// Returns a slot that owns nothing and holds this pointer.
     fn closed(at: *mut u8) -> Slot
         ensures { result.value ≡ None }
     {
         Slot { at }
     }
 
-    /// A slot that owns the object behind this pointer.
+    /// Returns a slot that owns the object at this pointer.
     fn of(object: Loose<Object, Global>) -> Slot
         ensures { result.value ≡ Some object.value }
     {
@@ -40,7 +40,7 @@ impl Slot {
         Slot { at: at as *mut u8 }
     }
 
-    /// The pointer to the object that a slot owns.
+    /// Returns the pointer to the object that a slot owns.
     fn open(self, alloc: Global) -> Loose<Object, Global>
         requires { IsSome self.value }
         ensures { self.value ≡ Some result.value }
@@ -52,14 +52,14 @@ impl Slot {
         }
     }
 
-    /// Ends a slot that owns nothing.
+    /// Consumes a slot that owns nothing.
     fn end(self)
         requires { self.value ≡ None }
     {
         let Slot { at: _ } = self;
     }
 
-    /// A slot that owns nothing, with a null pointer in it.
+    /// Returns a slot that owns nothing and holds a null pointer.
     fn empty() -> Slot
         ensures { result.value ≡ None }
     {
@@ -68,7 +68,7 @@ impl Slot {
     }
 }
 
-/// What C holds: a pointer, and whether it is open. C begins with zeros, and changes neither.
+/// What C holds: a pointer, and whether the handle is open. C initially sets both to zero, and never changes them.
 #[repr(C)]
 pub struct Handle {
     slot: Slot,
@@ -78,7 +78,7 @@ pub struct Handle {
 }
 
 impl Handle {
-    /// A handle that owns the object, and is open.
+    /// Returns an open handle that owns the object.
     pub fn of(object: Box<Object>) -> Handle
         ensures live { result.live ≡ 1 }
         ensures value { result.slot.value ≡ Some object.value }
@@ -97,7 +97,7 @@ impl Handle {
         self.live != 0
     }
 
-    /// Takes the object out of a handle, and leaves the handle closed.
+    /// Takes the object out of a handle, if it owns one, and leaves the handle closed.
     pub fn take(&mut self, alloc: Global) -> Option<Box<Object>>
         ensures empty { self.new.slot.value ≡ None }
         ensures live { self.new.live ≡ 0 }
@@ -113,7 +113,7 @@ impl Handle {
         Some(slot.open(alloc).into_box())
     }
 
-    /// Puts an object into a handle that owns nothing, which is then open.
+    /// Puts an object into a handle that owns nothing, and opens the handle.
     pub fn put(&mut self, object: Box<Object>)
         requires { self.now.slot.value ≡ None }
         ensures live { self.new.live ≡ 1 }

@@ -1,11 +1,11 @@
-//! What is searched and what is found, as C lays it out.
+//! Inputs and matches, as C lays them out.
 ghost use Rattle.std.specs.Prelude.{◌≡◌};
 ghost use Rattle.lazydfa_c.specs.Requests.{beside_of, found_from, found_half, input_of, mode_of, start_of};
 
 use regex_automata::util::start;
 use regex_automata::{Anchored, HalfMatch, Input, Match, PatternID};
 
-/// A span, by its offsets in bytes, an anchored mode (0 no, 1 yes, 2 this pattern) and whether the search may stop at
+/// A span by its offsets in bytes, an anchored mode (0 no, 1 yes, 2 this pattern), and whether the search may stop at
 /// the first match that it sees.
 #[repr(C)]
 #[derive(Clone, Copy)]
@@ -37,8 +37,8 @@ pub struct FoundHalf {
     pub reserved: u32,
 }
 
-/// The anchored mode of two numbers: 0 is unanchored, 1 anchored, 2 of the pattern. It is none for another number, or
-/// if the pattern's number is no ID.
+/// Returns the anchored mode of two numbers: 0 is unanchored, 1 is anchored, 2 is anchored to the pattern. Returns
+/// `None` for any other number, and for a pattern that is not a valid ID.
 fn mode_of(anchored: u32, pattern: u32) -> Option<Anchored>
     ensures { result ≡ mode_of anchored pattern }
 {
@@ -53,8 +53,8 @@ fn mode_of(anchored: u32, pattern: u32) -> Option<Anchored>
     }
 }
 
-/// The byte beside the pieces of a haystack that a number stands for: that byte, or none for -1 as an unsigned number.
-/// It is none at all for any other number.
+/// Returns the byte before or after the pieces of a haystack that a number encodes: that byte, or `Some(None)` for -1
+/// as an unsigned number, which means that there is none. Returns `None` for any other number.
 pub fn beside_of(number: u32) -> Option<Option<u8>>
     ensures { result ≡ beside_of number }
 {
@@ -67,7 +67,8 @@ pub fn beside_of(number: u32) -> Option<Option<u8>>
     None
 }
 
-/// What the start state of a search in pieces depends on, or none if the numbers stand for no mode or no byte beside.
+/// Returns the configuration of the start state of a search in pieces, or `None` if a number does not encode an
+/// anchored mode or the byte before the pieces.
 pub fn start_of(anchored: u32, pattern: u32, behind: u32) -> Option<start::Config>
     ensures { result ≡ start_of anchored pattern behind }
 {
@@ -77,7 +78,8 @@ pub fn start_of(anchored: u32, pattern: u32, behind: u32) -> Option<start::Confi
 }
 
 impl Request {
-    /// The input that the request stands for, or none if its mode is none or its span does not lie in the haystack.
+    /// Returns the input of a request, or `None` if its anchored mode is not valid or its span does not lie in the
+    /// haystack.
     pub fn input<'h>(&self, haystack: &'h [u8]) -> Option<Input<'h>>
         ensures { result ≡ input_of haystack.now self.now }
     {
@@ -97,7 +99,7 @@ impl Request {
 }
 
 impl Found {
-    /// A match as C lays it out.
+    /// Converts a match to its layout in C.
     pub fn of(found: Match) -> Found
         ensures { result ≡ found_from found }
     {
@@ -111,7 +113,7 @@ impl Found {
 }
 
 impl FoundHalf {
-    /// A half match as C lays it out.
+    /// Converts a half match to its layout in C.
     pub fn of(found: HalfMatch) -> FoundHalf
         ensures { result ≡ found_half found }
     {

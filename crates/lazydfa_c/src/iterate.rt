@@ -1,4 +1,4 @@
-//! The matches of an input, one after another.
+//! Iterations over the matches of an input.
 ghost use Rattle.std.specs.Prelude.{◌≡◌, Ok, Some};
 ghost use Rattle.lazydfa_c.specs.Batches.{InTurn};
 ghost use Rattle.lazydfa_c.specs.Calls.{FindsNext, Iterates, KeepsUnlessCache, KeepsUnlessOpen, OfHandle, OfObject};
@@ -13,8 +13,8 @@ use crate::status::Status;
 use regex_automata::Input;
 use std::alloc::Global;
 
-/// An iteration: what is left to be searched, the offset, in bytes, where the last match ended if there was one, and
-/// whether the iteration has ended.
+/// An iteration: the input that remains to be searched, the offset, in bytes, where the last match ended if there was
+/// one, and whether the iteration has ended.
 #[repr(C)]
 #[derive(Clone, Copy)]
 pub struct Iteration {
@@ -25,7 +25,7 @@ pub struct Iteration {
 }
 
 impl Iteration {
-    /// Moves an iteration on to the end of a match.
+    /// Advances an iteration past a match.
     fn pass(&mut self, found: &Found)
         ensures { self.new ≡ iterated self.old (Ok (Some (match_of_found found.now))) }
     {
@@ -34,7 +34,7 @@ impl Iteration {
         self.has_last = 1;
     }
 
-    /// The offset where the last match ended, if there was one.
+    /// Returns the offset where the last match ended, if there was one.
     fn last(&self) -> Option<usize>
         ensures { result ≡ last_of self.now }
     {
@@ -47,8 +47,8 @@ impl Iteration {
 }
 
 impl Searcher {
-    /// Searches for the next match of an iteration that has not ended, and writes it. If there is none, or the search
-    /// fails, the iteration has ended.
+    /// Searches for the next match of an iteration that has not ended, and writes it. If there is no match, or the
+    /// search fails, the iteration ends.
     fn go_on(&mut self, input: &Input<'_>, at: &mut Iteration, found: &mut Found) -> Status
         ensures found { FindsNext found.new at.old at.new input.now self.old self.new result }
         ensures written { WritesIfDone found.old found.new result }
@@ -71,8 +71,8 @@ impl Searcher {
         }
     }
 
-    /// Searches for the next match of an iteration, and writes it. The status is `Code::Nothing` if the iteration has
-    /// ended, and `Code::Argument` if what is left is no input of the haystack.
+    /// Searches for the next match of an iteration, and writes it. The status is `Code::Nothing` if there is no match
+    /// or the iteration has ended, and `Code::Argument` if the remaining span does not lie in the haystack.
     fn next(&mut self, haystack: &[u8], at: &mut Iteration, found: &mut Found) -> Status
         ensures found { Iterates haystack.now found.new at.old at.new self.old self.new result }
         ensures written { WritesIfDone found.old found.new result }
@@ -86,8 +86,8 @@ impl Searcher {
         }
     }
 
-    /// Writes the next matches of an iteration, as many as there is room for, and counts them. The status is that of
-    /// the last one, or of what came after it.
+    /// Writes the next matches of an iteration, as many as there is room for, and counts them. The status is
+    /// `Code::Done` if there was no room for more, and otherwise says why the iteration stopped.
     fn next_all(
         &mut self,
         haystack: &[u8],
@@ -110,7 +110,7 @@ impl Searcher {
 }
 
 /// Searches for the next match of an iteration over a cache, and writes it. The status is `Code::Kind` if the object is
-/// no cache.
+/// not a cache.
 fn next_in(object: &mut Object, haystack: &[u8], at: &mut Iteration, found: &mut Found) -> Status
     ensures found { OfObject (Iterates haystack.now found.new at.old at.new) object.old object.new result }
     ensures written { WritesIfDone found.old found.new result }
@@ -123,7 +123,7 @@ fn next_in(object: &mut Object, haystack: &[u8], at: &mut Iteration, found: &mut
 }
 
 /// Writes the next matches of an iteration over a cache, as many as there is room for, and counts them. The status is
-/// `Code::Kind` if the object is no cache.
+/// `Code::Kind` if the object is not a cache.
 fn next_all_in(
     object: &mut Object,
     haystack: &[u8],
@@ -141,7 +141,7 @@ fn next_all_in(
     }
 }
 
-/// Searches for the next match of an iteration over the cache behind a handle, and writes it.
+/// Searches for the next match of an iteration over a handle's cache, and writes it.
 #[unsafe(no_mangle)]
 pub extern "C" fn lazydfa_raw_next(
     alloc: Global,
@@ -162,8 +162,7 @@ pub extern "C" fn lazydfa_raw_next(
     status
 }
 
-/// Writes the next matches of an iteration over the cache behind a handle, as many as there is room for, and counts
-/// them.
+/// Writes the next matches of an iteration over a handle's cache, as many as there is room for, and counts them.
 #[unsafe(no_mangle)]
 pub extern "C" fn lazydfa_raw_next_all(
     alloc: Global,

@@ -1,8 +1,8 @@
-//! The library for C: `bindings/c/include/lazydfa.h` declares each export, and says what a C program has to keep.
+//! The C library. `bindings/c/include/lazydfa.h` declares each export and says what a C program must ensure.
 //!
-//! A builder, a regex and a cache are behind handles of one type. A call takes the object out of its handle, works on
-//! it, and puts it back. So a handle that is closed, open already, or of another kind is reported by a status, as is
-//! every error of the library.
+//! Builders, regexes and caches are owned by handles, which all have one type. A call takes the object out of its
+//! handle, works on it, and puts it back. The returned status reports every error of the library, and a handle that is
+//! closed, already open, or of another kind.
 #![tactic(auto)]
 
 mod builder;

@@ -1,4 +1,4 @@
-//! How much text is read: what limits count, before any of it is read.
+//! Limits on the texts of patterns, which are checked before anything is parsed.
 ghost use Rattle.std.specs.Prelude.{◌≡◌};
 ghost use Rattle.lazydfa_c.specs.Limits.{class_escapes, is_class_letter};
 
@@ -16,8 +16,8 @@ fn is_class_letter(byte: u8) -> bool
         || byte == b'W'
 }
 
-/// How many letters of class escapes stand behind a backslash. The parser makes of each a class that may have some
-/// hundred ranges, and of every other byte a few at most.
+/// Counts the class letters that follow a backslash: at least as many as the text has class escapes. The parser turns
+/// each class escape into a class that may have some hundred ranges, and every other byte into a few at most.
 pub fn class_escapes(text: &[u8]) -> usize
     ensures { result ≡ class_escapes text.now }
 {

@@ -1,4 +1,4 @@
-//! What handles own.
+//! The objects that handles own.
 ghost use Rattle.std.specs.Option.{ForSome};
 ghost use Rattle.std.specs.Prelude.{◌≡◌};
 ghost use Rattle.regex_automata.specs.Promises.{AreCachesOf};
@@ -10,21 +10,22 @@ use regex_automata::hybrid::regex::{Cache, Regex};
 use regex_automata::nfa::thompson::Builder;
 use std::sync::Arc;
 
-/// A regex that handles and caches share, on whatever threads they are.
+/// A regex that handles and caches share, on any threads.
 #[derive(Drop)]
 pub struct Shared {
     pub regex: Arc<Regex>,
 }
 
-/// What was begun over a cache whose haystack comes in pieces: a search, and a walk.
+/// The search and the walk in pieces that were begun over a cache.
 #[derive(Drop)]
 pub struct InPieces {
     pub search: Option<Stream>,
     pub walk: Option<Walk>,
 }
 
-/// A cache, with the regex that it belongs to, and the search and the walk in pieces that were begun over it. So no
-/// call can be given a cache, a search or a walk of another regex, and the regex stays while one of its caches does.
+/// A cache, the regex that it belongs to, and the search and the walk in pieces that were begun over it. Since they are
+/// kept together, no call can use a cache, a search or a walk with another regex, and the regex lives as long as any of
+/// its caches.
 #[derive(Drop)]
 pub struct Searcher {
     pub shared: Shared,
@@ -36,7 +37,7 @@ pub struct Searcher {
     pub ghost path: { ForSome pieces.walk (λ w. w.machine ≡ shared.regex.value.forward) },
 }
 
-/// An object behind a handle.
+/// An object that a handle owns.
 #[derive(Drop)]
 pub enum Object {
     Builder(Builder),

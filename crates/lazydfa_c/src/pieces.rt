@@ -1,5 +1,5 @@
-//! A search in pieces over each cache, whose haystack comes piece by piece. Other searches of the cache may come
-//! between two pieces.
+//! Searches over a haystack that arrives in pieces, one for each cache. Other searches may use the cache between two
+//! pieces.
 ghost use Rattle.std.specs.Prelude.{◌≡◌, ◌==◌, not};
 ghost use Rattle.lazydfa_c.specs.Calls.{KeepsUnlessCache, KeepsUnlessOpen, OfHandle, OfObject, WritesIfDone};
 ghost use Rattle.lazydfa_c.specs.Pieces.{BeginsBy, BeginsPieces, EndsIn, OfNumbers, ReadsIn};
@@ -15,8 +15,8 @@ use regex_automata::util::start;
 use std::alloc::Global;
 
 impl Searcher {
-    /// Begins a search in pieces by the forward DFA, in place of the one that was begun before. If it fails, that one
-    /// stays.
+    /// Begins a search in pieces by the forward DFA, which replaces the previous one. If it fails, the previous one
+    /// remains.
     fn begin_pieces(&mut self, start: &start::Config, earliest: bool) -> Status
         ensures { BeginsPieces earliest start.now self.old self.new result }
     {
@@ -34,7 +34,7 @@ impl Searcher {
         }
     }
 
-    /// Reads the next piece, and writes whether the answer stands. The status is `Code::NotBegun` if no search in
+    /// Reads the next piece, and writes whether the result is final. The status is `Code::NotBegun` if no search in
     /// pieces was begun.
     fn read_piece(&mut self, piece: &[u8], done: &mut u32) -> Status
         ensures { ReadsIn piece.now done.new self.old self.new result }
@@ -51,8 +51,8 @@ impl Searcher {
         }
     }
 
-    /// Writes the end of the match in the pieces so far, before this byte or none. The status is `Code::Nothing` if
-    /// there is no match, and `Code::NotBegun` if no search in pieces was begun.
+    /// Writes the end of the match in the pieces so far, where `ahead` is the byte that follows them, if any. The
+    /// status is `Code::Nothing` if there is no match, and `Code::NotBegun` if no search in pieces was begun.
     fn end_pieces(&mut self, ahead: Option<u8>, found: &mut FoundHalf) -> Status
         ensures found { EndsIn found.new ahead self.old self.new result }
         ensures written { WritesIfDone found.old found.new result }
@@ -71,8 +71,8 @@ impl Searcher {
     }
 }
 
-/// Begins a search in pieces over a cache. The status is `Code::Kind` if the object is no cache, and `Code::Argument`
-/// if there is nothing to start from.
+/// Begins a search in pieces over a cache. The status is `Code::Kind` if the object is not a cache, and
+/// `Code::Argument` if `start` is `None`.
 fn begin_in(object: &mut Object, start: Option<start::Config>, earliest: bool) -> Status
     ensures { OfObject (BeginsBy earliest start) object.old object.new result }
 {
@@ -85,8 +85,8 @@ fn begin_in(object: &mut Object, start: Option<start::Config>, earliest: bool) -
     }
 }
 
-/// Reads a piece over a cache, and writes whether the answer stands. The status is `Code::Kind` if the object is no
-/// cache.
+/// Reads the next piece over a cache, and writes whether the result is final. The status is `Code::Kind` if the object
+/// is not a cache.
 fn read_in(object: &mut Object, piece: &[u8], done: &mut u32) -> Status
     ensures reads { OfObject (ReadsIn piece.now done.new) object.old object.new result }
     ensures kept { KeepsUnlessCache (done.new ≡ done.old) object.old }
@@ -97,8 +97,8 @@ fn read_in(object: &mut Object, piece: &[u8], done: &mut u32) -> Status
     }
 }
 
-/// Writes the end of the match in the pieces so far, over a cache. The status is `Code::Kind` if the object is no
-/// cache, and `Code::Argument` if the byte that follows is none.
+/// Writes the end of the match in the pieces so far, over a cache. The status is `Code::Kind` if the object is not a
+/// cache, and `Code::Argument` if `ahead` is `None`.
 fn end_in(object: &mut Object, ahead: Option<Option<u8>>, found: &mut FoundHalf) -> Status
     ensures found { OfObject (OfNumbers (EndsIn found.new) ahead) object.old object.new result }
     ensures written { WritesIfDone found.old found.new result }
@@ -112,8 +112,8 @@ fn end_in(object: &mut Object, ahead: Option<Option<u8>>, found: &mut FoundHalf)
     }
 }
 
-/// Begins a search in pieces over the cache behind a handle: in the anchored mode of two numbers, after the byte of a
-/// third or none.
+/// Begins a search in pieces over a handle's cache. Two numbers give the anchored mode, and a third gives the byte
+/// before the pieces, if any.
 #[unsafe(no_mangle)]
 pub extern "C" fn lazydfa_raw_pieces_begin(
     alloc: Global,
@@ -134,8 +134,8 @@ pub extern "C" fn lazydfa_raw_pieces_begin(
     status
 }
 
-/// Reads the next piece of the search over the cache behind a handle, and writes whether the answer stands: 0 if there
-/// is no search.
+/// Reads the next piece of the search over a handle's cache, and writes whether the result is final: 0 if no search was
+/// begun.
 #[unsafe(no_mangle)]
 pub extern "C" fn lazydfa_raw_pieces_read(
     alloc: Global,
@@ -155,8 +155,8 @@ pub extern "C" fn lazydfa_raw_pieces_read(
     status
 }
 
-/// Writes the end of the match in the pieces so far, of the search over the cache behind a handle, before the byte of a
-/// number or none.
+/// Writes the end of the match in the pieces so far, for the search over a handle's cache. A number gives the byte
+/// after the pieces, if any.
 #[unsafe(no_mangle)]
 pub extern "C" fn lazydfa_raw_pieces_end(
     alloc: Global,

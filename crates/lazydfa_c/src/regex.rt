@@ -33,8 +33,8 @@ pub struct StartStates {
     pub unanchored: u32,
 }
 
-/// Builds the NFA of what a builder has, with these start states. It fails with `Code::Argument` if a start is no ID,
-/// and else with the status of the builder's error.
+/// Builds the NFA of a builder, with these start states. It fails with `Code::Argument` if a start is not a valid state
+/// ID, and otherwise with the status of the builder's error.
 fn nfa_of(builder: &Builder, starts: StartStates) -> Result<NFA, Status>
     ensures { IsNfaOfDraft starts builder.now result }
 {
@@ -43,8 +43,8 @@ fn nfa_of(builder: &Builder, starts: StartStates) -> Result<NFA, Status>
     Ok(builder.build(anchored, unanchored)?)
 }
 
-/// Builds the NFA of the builder that an object is, with these start states. It fails with `Code::Kind` if the object
-/// is no builder.
+/// Builds the NFA of a builder object, with these start states. It fails with `Code::Kind` if the object is not a
+/// builder.
 fn nfa_of_object(object: &Object, starts: StartStates) -> Result<NFA, Status>
     ensures { IsNfaIn starts object.now result }
 {
@@ -54,8 +54,8 @@ fn nfa_of_object(object: &Object, starts: StartStates) -> Result<NFA, Status>
     }
 }
 
-/// Builds the NFA of the builder behind a handle, which stays as it is. It fails with `Code::Closed` if the handle owns
-/// nothing, and with `Code::Kind` if it owns no builder.
+/// Builds the NFA of a handle's builder, which stays unchanged. It fails with `Code::Closed` if the handle owns
+/// nothing, and with `Code::Kind` if it does not own a builder.
 fn nfa_in(alloc: Global, builder: &mut Handle, starts: StartStates) -> Result<NFA, Status>
     ensures { ReadsHandle (IsNfaIn starts) builder.old builder.new result }
 {
@@ -67,7 +67,7 @@ fn nfa_in(alloc: Global, builder: &mut Handle, starts: StartStates) -> Result<NF
     nfa
 }
 
-/// A builder of regexes with this configuration.
+/// Returns a builder of regexes with this configuration.
 fn builder_of(config: Config) -> regex::Builder
     ensures { result ≡ overwritten unset config }
 {
@@ -76,8 +76,8 @@ fn builder_of(config: Config) -> regex::Builder
     builder
 }
 
-/// Builds the regex of one NFA, whose reverse DFA is that of the reversed NFA. It fails with the status of the error
-/// that building returns.
+/// Builds the regex of one NFA, whose reverse DFA is built from the reversed NFA. It fails with the status of the
+/// builder's error.
 fn regex_of(nfa: NFA, config: Config) -> Result<Regex, Status>
     ensures built { IfOk result (IsBuiltRegex (overwritten unset config) nfa) }
     ensures refused { IfErr result (IsBuildErrorStatus (overwritten unset config) nfa) }
@@ -85,8 +85,8 @@ fn regex_of(nfa: NFA, config: Config) -> Result<Regex, Status>
     Ok(builder_of(config).build_from_nfa(nfa)?)
 }
 
-/// Builds the regex of two NFAs. It fails with the status of the error that building returns; whether the NFAs are a
-/// pair is not tested.
+/// Builds the regex of two NFAs. It fails with the status of the builder's error; whether the NFAs belong together is
+/// not checked.
 pub fn pair_of(forward: NFA, reverse: NFA, config: Config) -> Result<Regex, Status>
     ensures built { IfOk result (IsPairOf (overwritten unset config) forward reverse) }
     ensures refused { IfErr result (IsPairError (overwritten unset config) forward reverse) }
@@ -97,7 +97,7 @@ pub fn pair_of(forward: NFA, reverse: NFA, config: Config) -> Result<Regex, Stat
     }
 }
 
-/// Opens a handle on a regex that others may share. If the allocation fails, the handle is as it was.
+/// Opens a handle on a regex that others may share. If the allocation fails, the handle is unchanged.
 fn open_shared(alloc: Global, handle: &mut Handle, shared: Shared) -> Result<(), Status>
     requires { handle.now.slot.value ≡ None }
     ensures opened { OnOk result (IsRegexIn shared.regex.value handle.new) }
@@ -109,7 +109,7 @@ fn open_shared(alloc: Global, handle: &mut Handle, shared: Shared) -> Result<(),
     Ok(())
 }
 
-/// Shares a regex and opens a handle on it. If an allocation fails, the handle is as it was.
+/// Shares a regex and opens a handle on it. If an allocation fails, the handle is unchanged.
 pub fn open(alloc: Global, handle: &mut Handle, regex: Regex) -> Result<(), Status>
     requires { handle.now.slot.value ≡ None }
     ensures opened { OnOk result (IsRegexIn regex handle.new) }
@@ -138,7 +138,7 @@ pub fn open_sound(
     open(alloc, handle, regex)
 }
 
-/// Opens a handle on the regex of two NFAs, which keep unions if they have cycles through look-around assertions.
+/// Opens a handle on the regex of two NFAs. An NFA with cycles through look-around assertions keeps its unions.
 fn open_pair(
     alloc: Global,
     handle: &mut Handle,
@@ -158,8 +158,8 @@ fn open_pair(
     }
 }
 
-/// Opens a handle on the regex of the NFA in a builder behind another handle, with this configuration. After an error
-/// both handles are unchanged.
+/// Opens a handle on the regex of the NFA in another handle's builder, with this configuration. After an error both
+/// handles are unchanged.
 fn build_of(
     alloc: Global,
     regex: &mut Handle,
@@ -174,8 +174,8 @@ fn build_of(
     open_sound(alloc, regex, nfa, config)
 }
 
-/// The configuration for an NFA with these starts, with these quit bytes. It fails with `Code::OneStart` if both are
-/// one state and the settings do not allow that, and with `Code::Argument` if the match kind is none.
+/// Returns the configuration for an NFA with these starts and quit bytes. It fails with `Code::OneStart` if both starts
+/// are one state and the settings do not allow that, and with `Code::Argument` if the match kind is not valid.
 fn config_for(settings: &Settings, quits: &[u8], starts: StartStates) -> Result<Config, Status>
     ensures { result ≡ options_for settings.now quits.now starts }
 {
@@ -185,8 +185,8 @@ fn config_for(settings: &Settings, quits: &[u8], starts: StartStates) -> Result<
     settings.config(quits)
 }
 
-/// Opens a handle on the regex of the NFA in a builder behind another handle, with these settings and quit bytes. It
-/// fails with `Code::Open` if the first handle is open already, and as `config_for` does.
+/// Opens a handle on the regex of the NFA in another handle's builder, with these settings and quit bytes. It fails
+/// with `Code::Open` if the first handle is already open, and otherwise with the errors of `config_for` and `build_of`.
 fn build(
     alloc: Global,
     regex: &mut Handle,
@@ -206,7 +206,7 @@ fn build(
     build_of(alloc, regex, builder, starts, config)
 }
 
-/// Opens a handle on the regex of an NFA and of that of a builder.
+/// Opens a handle on the regex of a forward NFA and the reverse NFA of a builder.
 fn open_after(
     alloc: Global,
     regex: &mut Handle,
@@ -226,7 +226,7 @@ fn open_after(
 }
 
 /// Opens a handle on the regex of the NFAs in two builders, the forward one first, with this configuration. The second
-/// builder is read only if the first gave its NFA. After an error all handles are unchanged.
+/// builder is read only if building the first NFA succeeds. After an error all handles are unchanged.
 fn build_pair_of(
     alloc: Global,
     regex: &mut Handle,
@@ -243,8 +243,9 @@ fn build_pair_of(
     open_after(alloc, regex, reverse, starts.1, nfa, config)
 }
 
-/// Opens a handle on the regex of what two builders have, the forward one first. It fails with `Code::Open` if the
-/// handle is open already, and as `config_for` does for the forward starts; after an error it is as it was.
+/// Opens a handle on the regex of the NFAs in two builders, the forward one first. It fails with `Code::Open` if the
+/// handle is already open, and with the errors of `config_for` for the forward starts and of `build_pair_of`; after an
+/// error all handles are unchanged.
 fn build_pair(
     alloc: Global,
     regex: &mut Handle,
@@ -266,7 +267,7 @@ fn build_pair(
     build_pair_of(alloc, regex, forward, reverse, starts, config)
 }
 
-/// Opens a handle on the regex of what a builder has. The builder stays as it is.
+/// Opens a handle on the regex of the NFA in a builder. The builder stays unchanged.
 #[unsafe(no_mangle)]
 pub extern "C" fn lazydfa_raw_regex_build(
     alloc: Global,
@@ -281,7 +282,8 @@ pub extern "C" fn lazydfa_raw_regex_build(
     Status::of(build(alloc, regex, builder, *starts, settings, quits))
 }
 
-/// Opens a handle on the regex of two NFAs, of which the second reads the same backward. The builders stay as they are.
+/// Opens a handle on the regex of two NFAs, the second of which matches the same strings backward. The builders stay
+/// unchanged.
 #[unsafe(no_mangle)]
 pub extern "C" fn lazydfa_raw_regex_build_pair(
     alloc: Global,
@@ -300,7 +302,7 @@ pub extern "C" fn lazydfa_raw_regex_build_pair(
     Status::of(build_pair(alloc, regex, forward, reverse, starts, settings, quits))
 }
 
-/// Another owner of a shared regex.
+/// Returns another owner of a shared regex.
 fn share(shared: &Shared) -> Result<Shared, Status>
     ensures ok { IfOk result (λ s. s.regex.value ≡ shared.now.regex.value) }
     ensures err { IfErr result (λ s. s ≡ plain code.Memory) }
@@ -309,7 +311,7 @@ fn share(shared: &Shared) -> Result<Shared, Status>
     Ok(Shared { regex })
 }
 
-/// Another owner of the regex behind a handle. It fails if the handle is closed or owns no regex.
+/// Returns another owner of a handle's regex. It fails if the handle is closed or does not own a regex.
 fn shared_in(alloc: Global, regex: &mut Handle) -> Result<Shared, Status>
     ensures { SharesRegex regex.old regex.new result }
 {
@@ -324,8 +326,8 @@ fn shared_in(alloc: Global, regex: &mut Handle) -> Result<Shared, Status>
     shared
 }
 
-/// Opens a handle on the regex behind another handle, which stays as it is. It fails with `Code::Open` if the first
-/// handle is open already.
+/// Opens a handle on another handle's regex, which stays unchanged. It fails with `Code::Open` if the first handle is
+/// already open.
 fn share_handle(alloc: Global, out: &mut Handle, regex: &mut Handle) -> Result<(), Status>
     ensures { OpensFrom SharesRegex IsRegexIn out.old out.new regex.old regex.new result }
 {
@@ -337,7 +339,7 @@ fn share_handle(alloc: Global, out: &mut Handle, regex: &mut Handle) -> Result<(
     Ok(())
 }
 
-/// Opens a handle on the regex behind another handle. The two may be used on two threads, and closed in any order.
+/// Opens a handle on another handle's regex. The two handles may be used on two threads, and closed in any order.
 #[unsafe(no_mangle)]
 pub extern "C" fn lazydfa_raw_regex_share(
     alloc: Global,
@@ -349,8 +351,8 @@ pub extern "C" fn lazydfa_raw_regex_share(
     Status::of(share_handle(alloc, out, regex))
 }
 
-/// The regex that reads backward what a shared one reads forward: the DFAs of that one, exchanged. It fails with
-/// `Code::PatternCounts` if these do not have equally many patterns.
+/// Returns the regex that reads backward what a shared one reads forward: its two DFAs are swapped. It fails with
+/// `Code::PatternCounts` if they differ in their numbers of patterns.
 fn reversed(alloc: Global, shared: &Shared) -> Result<Shared, Status>
     ensures ok { IfOk result (λ s. s.regex.value ≡ reversed shared.now.regex.value) }
     ensures err { IfErr result (IsNotReversed shared.now.regex.value) }
@@ -366,7 +368,7 @@ fn reversed(alloc: Global, shared: &Shared) -> Result<Shared, Status>
     })
 }
 
-/// The regex behind a handle, reversed. It fails if the handle is closed or owns no regex.
+/// Reverses a handle's regex. It fails if the handle is closed or does not own a regex.
 fn reversed_in(alloc: Global, regex: &mut Handle) -> Result<Shared, Status>
     ensures { ReversesRegex regex.old regex.new result }
 {
@@ -381,8 +383,8 @@ fn reversed_in(alloc: Global, regex: &mut Handle) -> Result<Shared, Status>
     shared
 }
 
-/// Opens a handle on the regex behind another handle, which stays as it is, reversed. It fails with `Code::Open` if the
-/// first handle is open already.
+/// Opens a handle on the reverse of another handle's regex, which stays unchanged. It fails with `Code::Open` if the
+/// first handle is already open.
 fn reverse_handle(alloc: Global, out: &mut Handle, regex: &mut Handle) -> Result<(), Status>
     ensures { OpensFrom ReversesRegex IsRegexIn out.old out.new regex.old regex.new result }
 {
@@ -394,7 +396,7 @@ fn reverse_handle(alloc: Global, out: &mut Handle, regex: &mut Handle) -> Result
     Ok(())
 }
 
-/// Opens a handle on the regex that reads backward what the regex behind another handle reads forward.
+/// Opens a handle on the regex that reads backward what another handle's regex reads forward.
 #[unsafe(no_mangle)]
 pub extern "C" fn lazydfa_raw_regex_reverse(
     alloc: Global,
@@ -406,7 +408,7 @@ pub extern "C" fn lazydfa_raw_regex_reverse(
     Status::of(reverse_handle(alloc, out, regex))
 }
 
-/// Creates a fresh cache of a regex, with room for a set of its patterns.
+/// Creates a fresh cache of a regex, with room for a set of the regex's patterns.
 fn searcher_of(alloc: Global, shared: Shared) -> Result<Searcher, Status>
     ensures ok { IfOk result (IsFreshOf shared.regex.value) }
     ensures err { IfErr result (λ s. s ≡ plain code.Memory) }
@@ -424,7 +426,7 @@ fn searcher_of(alloc: Global, shared: Shared) -> Result<Searcher, Status>
     })
 }
 
-/// Opens a handle on a cache. If an allocation fails, the handle is as it was.
+/// Opens a handle on a cache. If an allocation fails, the handle is unchanged.
 fn open_cache(alloc: Global, handle: &mut Handle, searcher: Searcher) -> Result<(), Status>
     requires { handle.now.slot.value ≡ None }
     ensures live { OnOk result (handle.new.live ≡ 1) }
@@ -437,8 +439,8 @@ fn open_cache(alloc: Global, handle: &mut Handle, searcher: Searcher) -> Result<
     Ok(())
 }
 
-/// Opens a handle on a fresh cache of the regex behind another handle. It fails with `Code::Open` if the first handle
-/// is open already.
+/// Opens a handle on a fresh cache of another handle's regex. It fails with `Code::Open` if the first handle is already
+/// open.
 fn create_cache(alloc: Global, cache: &mut Handle, regex: &mut Handle) -> Result<(), Status>
     ensures { OpensFrom SharesRegex IsCacheIn cache.old cache.new regex.old regex.new result }
 {
@@ -451,7 +453,7 @@ fn create_cache(alloc: Global, cache: &mut Handle, regex: &mut Handle) -> Result
     Ok(())
 }
 
-/// Opens a handle on a cache of a regex. It keeps the regex, whose handle may be closed before.
+/// Opens a handle on a cache of a regex. The cache keeps the regex alive, whose handle may be closed first.
 #[unsafe(no_mangle)]
 pub extern "C" fn lazydfa_raw_cache_new(
     alloc: Global,

@@ -41,8 +41,8 @@ impl Searcher {
         }
     }
 
-    /// Searches for the end of the first match by the forward DFA, and writes it with its pattern. The status is
-    /// `Code::Nothing` if there is none.
+    /// Searches for the end of the first match with the forward DFA, and writes it with its pattern. The status is
+    /// `Code::Nothing` if there is no match.
     fn find_end(&mut self, input: &Input<'_>, found: &mut FoundHalf) -> Status
         ensures found { FindsEnd found.new input.now self.old self.new result }
         ensures written { WritesIfDone found.old found.new result }
@@ -59,8 +59,8 @@ impl Searcher {
         }
     }
 
-    /// Searches by the reverse DFA for the start of a match that ends at the span's end, and writes it with its
-    /// pattern. The status is `Code::Nothing` if there is none.
+    /// Searches with the reverse DFA for the start of a match that ends at the end of the span, and writes it with its
+    /// pattern. The status is `Code::Nothing` if there is no match.
     fn find_start(&mut self, input: &Input<'_>, found: &mut FoundHalf) -> Status
         ensures found { FindsStartBack found.new input.now self.old self.new result }
         ensures written { WritesIfDone found.old found.new result }
@@ -78,8 +78,8 @@ impl Searcher {
     }
 }
 
-/// Searches for the first match of a request over a cache. The status is `Code::Kind` if the object is no cache, and
-/// `Code::Argument` if the request is no input of the haystack.
+/// Searches for the first match of a request over a cache. The status is `Code::Kind` if the object is not a cache, and
+/// `Code::Argument` if the request is not a valid input for the haystack.
 fn find_in(object: &mut Object, haystack: &[u8], request: &Request, found: &mut Found) -> Status
     ensures found { OfObject (OfInput (ReportsMatch found.new) (input_of haystack.now request.now))
         object.old object.new result }
@@ -94,8 +94,8 @@ fn find_in(object: &mut Object, haystack: &[u8], request: &Request, found: &mut 
     }
 }
 
-/// Tests whether a request has a match, over a cache. The status is `Code::Kind` if the object is no cache, and
-/// `Code::Argument` if the request is no input of the haystack.
+/// Tests whether a request has a match, over a cache. The status is `Code::Kind` if the object is not a cache, and
+/// `Code::Argument` if the request is not a valid input for the haystack.
 fn is_match_in(object: &mut Object, haystack: &[u8], request: &Request) -> Status
     ensures { OfObject (OfInput Tests (input_of haystack.now request.now)) object.old object.new result }
 {
@@ -108,8 +108,8 @@ fn is_match_in(object: &mut Object, haystack: &[u8], request: &Request) -> Statu
     }
 }
 
-/// Searches for the end of the first match of a request over a cache. The status is `Code::Kind` if the object is no
-/// cache, and `Code::Argument` if the request is no input of the haystack.
+/// Searches for the end of the first match of a request over a cache. The status is `Code::Kind` if the object is not a
+/// cache, and `Code::Argument` if the request is not a valid input for the haystack.
 fn find_end_in(
     object: &mut Object,
     haystack: &[u8],
@@ -130,7 +130,7 @@ fn find_end_in(
 }
 
 /// Searches for the start of a match that ends at the end of a request's span, over a cache. The status is `Code::Kind`
-/// if the object is no cache, and `Code::Argument` if the request is no input of the haystack.
+/// if the object is not a cache, and `Code::Argument` if the request is not a valid input for the haystack.
 fn find_start_in(
     object: &mut Object,
     haystack: &[u8],
@@ -150,7 +150,7 @@ fn find_start_in(
     }
 }
 
-/// Searches for the first match of a request over the cache behind a handle, and writes it.
+/// Searches for the first match of a request over a handle's cache, and writes it.
 #[unsafe(no_mangle)]
 pub extern "C" fn lazydfa_raw_find(
     alloc: Global,
@@ -171,7 +171,7 @@ pub extern "C" fn lazydfa_raw_find(
     status
 }
 
-/// Tests whether a request has a match, over the cache behind a handle.
+/// Tests whether a request has a match, over a handle's cache.
 #[unsafe(no_mangle)]
 pub extern "C" fn lazydfa_raw_is_match(
     alloc: Global,
@@ -189,8 +189,7 @@ pub extern "C" fn lazydfa_raw_is_match(
     status
 }
 
-/// Searches for the offset where the first match of a request ends, over the cache behind a handle, and writes it with
-/// the pattern.
+/// Searches for the end of the first match of a request over a handle's cache, and writes it with its pattern.
 #[unsafe(no_mangle)]
 pub extern "C" fn lazydfa_raw_find_end(
     alloc: Global,
@@ -211,8 +210,8 @@ pub extern "C" fn lazydfa_raw_find_end(
     status
 }
 
-/// Searches for the offset where a match starts that ends at the end of a request's span, over the cache behind a
-/// handle, and writes it with the pattern.
+/// Searches for the start of a match that ends at the end of a request's span, over a handle's cache, and writes it
+/// with its pattern.
 #[unsafe(no_mangle)]
 pub extern "C" fn lazydfa_raw_find_start(
     alloc: Global,

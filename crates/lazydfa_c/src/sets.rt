@@ -21,7 +21,7 @@ use regex_automata::hybrid::dfa::{Cache, DFA, OverlappingState};
 use regex_automata::{Direction, HalfMatch, Input, PatternSet};
 use std::alloc::Global;
 
-/// Searches for the next of all overlapping matches in a direction: its end forward, and its start backward.
+/// Searches for the next overlapping match in a direction: for its end forward, for its start backward.
 fn next_half(
     dfa: &DFA,
     cache: &mut Cache,
@@ -41,7 +41,7 @@ fn next_half(
     }
 }
 
-/// Writes a match at an index, if there is room, and counts it.
+/// Writes a match at index `count`, if there is room, and counts it.
 fn write(out: &mut [FoundHalf], count: &mut usize, half: HalfMatch)
     ensures written { (halves : List FoundHalf) (was : List FoundHalf) → count.old ≡ length halves
         → out.old ≡ written_over halves was → out.new ≡ written_over (halves ++ found_half half ∷ []) was }
@@ -55,7 +55,7 @@ fn write(out: &mut [FoundHalf], count: &mut usize, half: HalfMatch)
     *count = index.saturating_add(1);
 }
 
-/// Writes the ends of all overlapping matches, or their starts, as many as there is room for, and counts all.
+/// Writes the ends of all overlapping matches, or their starts, as many as there is room for, and counts them all.
 fn all_halves(
     dfa: &DFA,
     cache: &mut Cache,
@@ -80,7 +80,7 @@ fn all_halves(
     Status::from(Code::Done)
 }
 
-/// Writes the members of a set that there is room for, and returns how many it has.
+/// Writes the members of a set, as many as there is room for, and returns how many the set has.
 fn write_members(set: &PatternSet, out: &mut [u32]) -> usize
     ensures written { out.new ≡ written_over (members set.now) out.old }
     ensures count { result ≡ length (members set.now) }
@@ -96,7 +96,7 @@ fn write_members(set: &PatternSet, out: &mut [u32]) -> usize
 }
 
 impl Searcher {
-    /// Writes the ends of all matches of an input that there is room for, and counts all.
+    /// Writes the ends of all overlapping matches of an input, as many as there is room for, and counts them all.
     fn all_ends(&mut self, input: &Input<'_>, out: &mut [FoundHalf], count: &mut usize) -> Status
         ensures { FindsAllEnds out.old out.new count.new input.now self.old self.new result }
     {
@@ -112,7 +112,7 @@ impl Searcher {
         )
     }
 
-    /// Writes the starts of all matches of an input that there is room for, and counts all.
+    /// Writes the starts of all overlapping matches of an input, as many as there is room for, and counts them all.
     fn all_starts(&mut self, input: &Input<'_>, out: &mut [FoundHalf], count: &mut usize) -> Status
         ensures { FindsAllStarts out.old out.new count.new input.now self.old self.new result }
     {
@@ -128,7 +128,7 @@ impl Searcher {
         )
     }
 
-    /// Makes the set of the searcher an empty one for the patterns below a number.
+    /// Makes the searcher's set empty, with room for the patterns below a number.
     fn empty_set(&mut self, alloc: Global, below: usize) -> Result<(), Status>
         ensures ok { OnOk result (self.new.patterns ≡ replicate below false) }
         ensures err { IfErr result (λ s. s ≡ plain code.Memory) }
@@ -145,7 +145,7 @@ impl Searcher {
         Ok(())
     }
 
-    /// Adds the patterns that match to the set of the searcher.
+    /// Adds the patterns that match to the searcher's set.
     fn join(&mut self, input: &Input<'_>) -> Status
         ensures { JoinsPatterns self.old.patterns input.now self.old self.new result }
     {
@@ -161,7 +161,7 @@ impl Searcher {
         }
     }
 
-    /// Writes the patterns below a number that match, as many as there is room for, and counts all.
+    /// Writes the patterns below a number that match, as many as there is room for, and counts them all.
     fn which(
         &mut self,
         alloc: Global,
@@ -186,9 +186,9 @@ impl Searcher {
     }
 }
 
-/// Writes the patterns below a number that match a request, over a cache, as many as there is room for, and counts all.
-/// The status is `Code::Kind` if the object is no cache, and `Code::Argument` if the request is no input of the
-/// haystack.
+/// Writes the patterns below a number that match a request, over a cache, as many as there is room for, and counts them
+/// all. The status is `Code::Kind` if the object is not a cache, and `Code::Argument` if the request is not a valid
+/// input for the haystack.
 fn which_in(
     object: &mut Object,
     alloc: Global,
@@ -216,9 +216,9 @@ fn which_in(
     }
 }
 
-/// Writes the ends of all overlapping matches of a request, over a cache, as many as there is room for, and counts all.
-/// The status is `Code::Kind` if the object is no cache, and `Code::Argument` if the request is no input of the
-/// haystack.
+/// Writes the ends of all overlapping matches of a request, over a cache, as many as there is room for, and counts them
+/// all. The status is `Code::Kind` if the object is not a cache, and `Code::Argument` if the request is not a valid
+/// input for the haystack.
 fn all_ends_in(
     object: &mut Object,
     haystack: &[u8],
@@ -244,8 +244,9 @@ fn all_ends_in(
     }
 }
 
-/// Writes the starts of all matches of a request, over a cache, as many as there is room for, and counts all. The
-/// status is `Code::Kind` if the object is no cache, and `Code::Argument` if the request is no input of the haystack.
+/// Writes the starts of all overlapping matches of a request, over a cache, as many as there is room for, and counts
+/// them all. The status is `Code::Kind` if the object is not a cache, and `Code::Argument` if the request is not a
+/// valid input for the haystack.
 fn all_starts_in(
     object: &mut Object,
     haystack: &[u8],
@@ -271,7 +272,7 @@ fn all_starts_in(
     }
 }
 
-/// Writes the ends of all overlapping matches of a request, as many as there is room for, and counts all.
+/// Writes the ends of all overlapping matches of a request, as many as there is room for, and counts them all.
 #[unsafe(no_mangle)]
 pub extern "C" fn lazydfa_raw_all_ends(
     alloc: Global,
@@ -295,8 +296,8 @@ pub extern "C" fn lazydfa_raw_all_ends(
     status
 }
 
-/// Writes the starts of all overlapping matches of a request that end at the end of its span, by the reverse DFA, as
-/// many as there is room for, and counts all.
+/// Writes the starts of all overlapping matches that end at the end of a request's span, as many as there is room for,
+/// and counts them all. The search is by the reverse DFA.
 #[unsafe(no_mangle)]
 pub extern "C" fn lazydfa_raw_all_starts(
     alloc: Global,
@@ -321,7 +322,7 @@ pub extern "C" fn lazydfa_raw_all_starts(
 }
 
 /// Writes the patterns below a number that match a request, overlapping matches included, as many as there is room for,
-/// and counts all.
+/// and counts them all.
 #[unsafe(no_mangle)]
 pub extern "C" fn lazydfa_raw_which(
     alloc: Global,

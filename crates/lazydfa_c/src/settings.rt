@@ -1,4 +1,4 @@
-//! The settings of a regex, as C lays them out. Zeros are the default settings.
+//! The settings of a regex, as C lays them out. The default settings are all zeros.
 ghost use Rattle.std.specs.Prelude.{◌≡◌, None};
 ghost use Rattle.lazydfa_c.specs.Builds.{kind_of, limit_if, number_if, options_of, with_quits};
 
@@ -7,7 +7,8 @@ use crate::status::Status;
 use regex_automata::MatchKind;
 use regex_automata::hybrid::dfa::Config;
 
-/// The settings of a regex. The capacity is in bytes, and a number counts only if its `has` is not 0.
+/// The settings of a regex. The capacity is in bytes. The capacity and the two limits are used only if their `has` is
+/// not 0.
 #[repr(C)]
 #[derive(Clone, Copy)]
 pub struct Settings {
@@ -24,11 +25,11 @@ pub struct Settings {
     pub unicode_word_boundary: u32,
     pub specialize_start_states: u32,
     pub skip_cache_capacity_check: u32,
-    /// Whether both starts may be one state, so that every search is anchored.
+    /// Whether both starts may be one state, in which case every search is anchored.
     pub always_anchored: u32,
 }
 
-/// The configuration with these quit bytes.
+/// Returns the configuration with these quit bytes added.
 fn with_quits(config: Config, quits: &[u8]) -> Config
     ensures { result ≡ with_quits config quits.now }
 {
@@ -40,7 +41,7 @@ fn with_quits(config: Config, quits: &[u8]) -> Config
 }
 
 impl Settings {
-    /// The match kind: 0 for leftmost-first, 1 for all. It fails with `Code::Argument` for another number.
+    /// Returns the match kind: 0 is leftmost-first, 1 is all. It fails with `Code::Argument` for any other number.
     fn kind(&self) -> Result<MatchKind, Status>
         ensures { result ≡ kind_of self.now.match_kind }
     {
@@ -51,8 +52,8 @@ impl Settings {
         }
     }
 
-    /// The configuration with the capacity, in bytes, and the limits of clears and of bytes for each state, those that
-    /// are set.
+    /// Returns the configuration with those limits that are set: the cache capacity, in bytes, and the minima of cache
+    /// clears and of bytes searched for each state.
     fn with_limits(&self, config: Config) -> Config
         requires capacity { config.cache_capacity ≡ None }
         requires clears { config.minimum_cache_clear_count ≡ None }
@@ -77,7 +78,7 @@ impl Settings {
         config
     }
 
-    /// The configuration, with these quit bytes.
+    /// Returns the configuration for these settings and quit bytes.
     pub fn config(&self, quits: &[u8]) -> Result<Config, Status>
         ensures { result ≡ options_of self.now quits.now (kind_of self.now.match_kind) }
     {

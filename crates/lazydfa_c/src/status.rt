@@ -16,8 +16,8 @@ use regex_automata::tokens::TokenError;
 use regex_automata::{Anchored, MatchErrorKind};
 use std::alloc::{AllocError, AllocFailed};
 
-/// The number of a code, the quit byte if there is one, and an offset in bytes; of `Code::Capacity` a capacity, in
-/// bytes, that is enough for both DFAs.
+/// A code's number, the quit byte if there is one, and an offset, in bytes. For `Code::Capacity` the offset is instead
+/// a cache capacity, in bytes, that is enough for both DFAs, and for `Code::StateIDs` the state ID that does not fit.
 #[repr(C)]
 #[derive(Clone, Copy)]
 pub struct Status {
@@ -26,7 +26,7 @@ pub struct Status {
     pub offset: usize,
 }
 
-/// States a fact for proofs, and does nothing: no two codes have one number.
+/// States a fact for proofs, and does nothing: different codes have different numbers.
 pub fn codes_differ()
     ensures { CodesDiffer }
 {}
@@ -42,7 +42,7 @@ pub fn errors_differ()
 {}
 
 impl Status {
-    /// The status of a code at an offset, with no quit byte.
+    /// Returns the status of a code at an offset, with no quit byte.
     pub fn at(code: Code, offset: usize) -> Status
         ensures { result ≡ status_at code offset }
     {
@@ -53,14 +53,14 @@ impl Status {
         }
     }
 
-    /// Whether a call did what it was asked to, or a search found a match.
+    /// Whether a call did what it was asked to do; for a search, whether it found a match.
     pub fn is_done(&self) -> bool
         ensures { IsTrue result ↔ (self.now.code ≡ number_of code.Done) }
     {
         self.code == 0
     }
 
-    /// The status of a call that returns nothing else.
+    /// Returns the status of a call whose result has no value.
     pub fn of(done: Result<(), Status>) -> Status
         ensures { result ≡ done_status done }
     {

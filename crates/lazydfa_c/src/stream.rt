@@ -1,4 +1,4 @@
-//! A search in pieces, with the regex that it is one of.
+//! A search in pieces, together with the regex it is a search of.
 ghost use Rattle.std.specs.Prelude.{◌≡◌, IfOk, None, OnErr, OnOk, false, true};
 ghost use Rattle.std.specs.Result.{result_err};
 ghost use Rattle.automata_hybrid.specs.Pieces.Answers.{EndsHere, ReadsOn};
@@ -33,7 +33,7 @@ impl Model for Stream {
 }
 
 impl Stream {
-    /// A search that was begun by the forward DFA of the regex.
+    /// Returns a search that was begun by the regex's forward DFA.
     pub fn of(regex: Arc<Regex>, pieces: Pieces) -> Stream
         requires { IsPiecesOf pieces regex.value.forward }
         ensures machine { result.machine ≡ regex.value.forward }
@@ -42,7 +42,7 @@ impl Stream {
         Stream { regex, pieces }
     }
 
-    /// Whether the answer stands, whatever follows.
+    /// Whether the result is final, whatever follows.
     pub fn is_done(&self) -> bool
         ensures yes { result ≡ true → self.now.pieces.state ≡ None }
         ensures no { result ≡ false → self.now.pieces.state ≡ None → ⊥ }
@@ -64,7 +64,8 @@ impl Stream {
         regex.forward().read_piece(cache, &mut self.pieces, piece)
     }
 
-    /// The match in the pieces so far, if this byte follows or none, with a cache of the forward DFA.
+    /// Returns the match in the pieces so far, with a cache of the forward DFA, where `ahead` is the byte that follows,
+    /// if any.
     pub fn end(
         &self,
         cache: &mut Cache,

@@ -1,4 +1,4 @@
-//! How large the tables of a regex are.
+//! The sizes of the tables of regexes.
 ghost use Rattle.std.specs.Prelude.{◌≡◌};
 ghost use Rattle.lazydfa_c.specs.Calls.{ReadsHandle, WritesIfDone};
 ghost use Rattle.lazydfa_c.specs.Tables.{IsSizeIn, ReportsSize, range_count, table_size};
@@ -10,7 +10,7 @@ use crate::status::Status;
 use regex_automata::nfa::thompson::{NFA, State};
 use std::alloc::Global;
 
-/// How many ranges of bytes a sparse state has; any other state has none.
+/// Returns the number of byte ranges of a sparse state, and 0 for any other state.
 fn range_count(state: &State) -> usize
     ensures { result ≡ range_count state.now }
 {
@@ -27,7 +27,7 @@ fn range_count(state: &State) -> usize
     }
 }
 
-/// How many bytes the states of an NFA count. If they are more than the greatest `usize`, it is that number.
+/// Returns the size of an NFA's states, in bytes, or `usize::MAX` if it exceeds that.
 fn table_size(nfa: &NFA) -> usize
     ensures { result ≡ table_size nfa.now.states }
 {
@@ -39,7 +39,7 @@ fn table_size(nfa: &NFA) -> usize
     size
 }
 
-/// How large the tables of the regex are that an object is. It fails with `Code::Kind` if the object is no regex.
+/// Returns the size of the tables of a regex object. It fails with `Code::Kind` if the object is not a regex.
 fn size_of(object: &Object) -> Result<usize, Status>
     ensures { IsSizeIn object.now result }
 {
@@ -49,7 +49,8 @@ fn size_of(object: &Object) -> Result<usize, Status>
     }
 }
 
-/// How large the tables of the regex behind a handle are. It fails with `Code::Closed` if the handle owns nothing.
+/// Returns the size of the tables of a handle's regex. It fails with `Code::Closed` if the handle owns nothing, and
+/// with `Code::Kind` if it does not own a regex.
 fn size_in(alloc: Global, regex: &mut Handle) -> Result<usize, Status>
     ensures { ReadsHandle IsSizeIn regex.old regex.new result }
 {
@@ -61,7 +62,7 @@ fn size_in(alloc: Global, regex: &mut Handle) -> Result<usize, Status>
     size
 }
 
-/// Writes how large the tables of the regex behind a handle are, in bytes.
+/// Writes the size of the tables of a handle's regex, in bytes.
 #[unsafe(no_mangle)]
 pub extern "C" fn lazydfa_raw_regex_size(
     alloc: Global,

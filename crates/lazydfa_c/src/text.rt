@@ -1,4 +1,4 @@
-//! Regexes of the texts of patterns.
+//! Regexes built from the texts of patterns.
 ghost use Rattle.std.specs.Prelude.{◌≡◌, IfErr, IfOk, None, map};
 ghost use Rattle.automata_config.specs.Options.{overwritten, unset};
 ghost use Rattle.patterns.specs.Patterns.{IsNfaOf};
@@ -18,21 +18,21 @@ use regex_automata::hybrid::dfa::Config;
 use regex_automata::nfa::thompson::{BuildError as NfaBuildError, NFA};
 use std::alloc::Global;
 
-/// How patterns are read, as C lays it out. Zeros are the default options. A limit counts only if its `has` is not 0;
-/// those on size and on text are in bytes. A limit on nesting of 0 is the default one.
+/// How patterns are parsed, as C lays it out. The default options are all zeros. A limit is used only if its `has` is
+/// not 0; the limits on size and on text are in bytes. A limit on nesting of 0 is the default limit.
 #[repr(C)]
 #[derive(Clone, Copy)]
 pub struct TextOptions {
     pub size_limit: usize,
-    /// How long all texts may be together.
+    /// The greatest total length of all texts.
     pub text_limit: usize,
-    /// How many class escapes, as `\w` or `\pL`, all texts may have together.
+    /// The greatest number of class escapes, such as `\w` or `\pL`, in all texts together.
     pub class_limit: usize,
     pub has_size_limit: u32,
     pub has_text_limit: u32,
     pub has_class_limit: u32,
     pub nest_limit: u32,
-    /// Whether the flag `u` is off, which is on by default.
+    /// Whether the flag `u`, which is on by default, is off.
     pub no_unicode: u32,
     pub case_insensitive: u32,
     pub multi_line: u32,
@@ -41,13 +41,14 @@ pub struct TextOptions {
     pub swap_greed: u32,
     pub ignore_whitespace: u32,
     pub octal: u32,
-    /// Whether bytes are searched. Otherwise text is, and no match splits a character.
+    /// Whether matches may be any bytes. Otherwise they are UTF-8, and no match splits a character.
     pub bytes: u32,
-    /// Whether the regex has no part that finds starts of matches.
+    /// Whether the regex is built without the part that finds the starts of matches.
     pub forward_only: u32,
 }
 
-/// Which pattern was refused, the bytes of its text that this is about, and how long the whole message is.
+/// The number of the pattern that has an error, the span of its text that the error is about, and the length of the
+/// whole message, all lengths and offsets in bytes.
 #[repr(C)]
 #[derive(Clone, Copy)]
 pub struct Refusal {
@@ -58,7 +59,7 @@ pub struct Refusal {
 }
 
 impl Refusal {
-    /// That no pattern was refused.
+    /// The value that is written if no pattern has an error.
     fn none() -> Refusal {
         Refusal {
             pattern: 0,
@@ -70,7 +71,7 @@ impl Refusal {
 }
 
 impl TextOptions {
-    /// How many bytes the tables of all patterns may take.
+    /// Returns the greatest size of the tables of all patterns, in bytes.
     fn size_limit(&self) -> usize
         ensures { result ≡ size_limit_of self.now }
     {
@@ -81,7 +82,7 @@ impl TextOptions {
         }
     }
 
-    /// How deep a pattern may nest. The default needs no more stack than a small thread has.
+    /// Returns how deep a pattern may nest. The default needs no more stack than a small thread has.
     fn nest_limit(&self) -> u32
         ensures { result ≡ nest_limit_of self.now }
     {
@@ -92,7 +93,7 @@ impl TextOptions {
         }
     }
 
-    /// Whether texts, which lie one after another, are within the limits on text and on class escapes.
+    /// Whether concatenated texts are within the limits on text and on class escapes.
     pub fn admits(&self, texts: &[u8]) -> bool
         ensures { result ≡ admits self.now texts.now }
     {
@@ -100,7 +101,7 @@ impl TextOptions {
             && (self.has_class_limit == 0 || class_escapes(texts) <= self.class_limit)
     }
 
-    /// The options, as patterns take them. A word boundary of Unicode is allowed if the settings allow it.
+    /// Returns the options for parsing patterns. A Unicode word boundary is allowed if the settings allow it.
     pub(crate) fn options(&self, settings: &Settings) -> Options
         ensures { result ≡ reading_of self.now settings.now }
     {
@@ -123,8 +124,8 @@ impl TextOptions {
     }
 }
 
-/// The status of what is wrong with a pattern; of a text that is no pattern, with the offset of the first byte that
-/// this is about.
+/// Returns the status of an error in a pattern. For a syntax error, its offset is where the erroneous part of the text
+/// begins.
 pub(crate) fn status_of(error: &PatternError) -> Status
     ensures { IsFailure result }
 {
@@ -140,9 +141,9 @@ pub(crate) fn status_of(error: &PatternError) -> Status
     }
 }
 
-/// Cuts texts that lie one after another, by their lengths in bytes. It fails with `Code::Argument` if these are not
-/// the lengths of all of it, and with `Code::NotText` and an offset in the text if one is not UTF-8. How many texts
-/// were cut before is written then.
+/// Splits concatenated texts by their lengths in bytes. It fails with `Code::Argument` if the lengths do not add up to
+/// the length of the whole, and with `Code::NotText` and an offset in the text if a text is not UTF-8; the text's
+/// number is then written.
 fn cut<'t>(
     alloc: Global,
     texts: &'t [u8],
@@ -173,7 +174,7 @@ fn cut<'t>(
     Ok(parts)
 }
 
-/// Writes a message, as many whole characters as there is room for, and a zero after it.
+/// Writes as many whole characters of a message as there is room for, followed by a zero.
 fn write_message(message: &str, out: &mut [u8]) {
     if out.is_empty() {
         return;
@@ -189,7 +190,7 @@ fn write_message(message: &str, out: &mut [u8]) {
     out[at] = 0;
 }
 
-/// Writes what is wrong with a pattern.
+/// Writes which pattern has an error, what the error is about, and the message.
 fn tell(
     alloc: Global,
     error: &PatternError,
@@ -219,7 +220,7 @@ fn tell(
     };
 }
 
-/// The NFA of the texts that lie one after another.
+/// Builds the NFA of the patterns of concatenated texts.
 fn nfa_of_texts(
     alloc: Global,
     texts: &[u8],
@@ -249,7 +250,7 @@ fn nfa_of_texts(
     }
 }
 
-/// Opens a handle on the regex of an NFA, or on one of its forward part alone.
+/// Opens a handle on the regex of an NFA, or on one that only searches forward.
 fn open_nfa(
     alloc: Global,
     regex: &mut Handle,
@@ -267,7 +268,8 @@ fn open_nfa(
     }
 }
 
-/// Opens a handle on the regex of the texts of patterns, with this configuration. After an error it is as it was.
+/// Opens a handle on the regex of the texts of patterns, with this configuration. After an error the handle is
+/// unchanged.
 fn open_texts(
     alloc: Global,
     regex: &mut Handle,
@@ -288,8 +290,8 @@ fn open_texts(
     open_nfa(alloc, regex, nfa, config, options.forward_only)
 }
 
-/// Opens a handle on the regex of the texts of patterns, if these are within the limits. Otherwise it fails with
-/// `Code::TooLarge`, and nothing was read.
+/// Opens a handle on the regex of the texts of patterns, if they are within the limits. Otherwise it fails with
+/// `Code::TooLarge`, and nothing is parsed.
 fn open_within(
     alloc: Global,
     regex: &mut Handle,
@@ -313,8 +315,8 @@ fn open_within(
     )
 }
 
-/// Opens a handle on the regex of the texts of patterns. It fails with `Code::Open` if the handle is open already, and
-/// with `Code::Argument` if the match kind is none.
+/// Opens a handle on the regex of the texts of patterns. It fails with `Code::Open` if the handle is already open, and
+/// with `Code::Argument` if the match kind is not valid.
 fn build_texts(
     alloc: Global,
     regex: &mut Handle,
@@ -337,8 +339,7 @@ fn build_texts(
     )
 }
 
-/// Opens a handle on the regex of the texts of patterns, which lie one after another. What is wrong with one is
-/// written.
+/// Opens a handle on the regex of the concatenated texts of patterns. If one has an error, the error is written.
 #[unsafe(no_mangle)]
 pub extern "C" fn lazydfa_raw_regex_any_of(
     alloc: Global,

@@ -1,4 +1,4 @@
-//! Tokens, one after another.
+//! Iterations over the tokens of a haystack.
 ghost use Rattle.std.specs.Prelude.{◌≡◌};
 ghost use Rattle.regex_automata.specs.Tokens.{match_of as token_match};
 ghost use Rattle.lazydfa_c.specs.Batches.{InTurn, Takes};
@@ -16,7 +16,7 @@ use regex_automata::tokens::Token;
 use std::alloc::Global;
 
 impl Found {
-    /// A token's pattern and span as C lays out a match.
+    /// Converts a token's pattern and span to the layout of a match in C.
     fn of_token(token: &Token<'_>) -> Found
         ensures { result ≡ found_from (token_match token.now) }
     {
@@ -30,8 +30,8 @@ impl Found {
 }
 
 impl Searcher {
-    /// Writes the token at the start of an input's span, and moves the start of what is left to the token's end. The
-    /// status is `Code::Nothing` if the span has ended.
+    /// Writes the token at the start of an input's span, and moves the start of the remaining span to the token's end.
+    /// The status is `Code::Nothing` if the span is empty.
     fn token(&mut self, input: Input<'_>, left: &mut Request, found: &mut Found) -> Status
         ensures found { TakesToken found.new left.old left.new input.entry self.old self.new result }
         ensures written { WritesIfDone found.old found.new result }
@@ -48,8 +48,8 @@ impl Searcher {
         }
     }
 
-    /// Searches for the token at the start of what is left, and writes it. The status is `Code::Argument` if what is
-    /// left is no input of the haystack.
+    /// Writes the token at the start of the remaining span. The status is `Code::Argument` if the remaining span does
+    /// not lie in the haystack.
     fn next_token(&mut self, haystack: &[u8], left: &mut Request, found: &mut Found) -> Status
         ensures found { Takes haystack.now found.new left.old left.new self.old self.new result }
         ensures written { WritesIfDone found.old found.new result }
@@ -60,8 +60,8 @@ impl Searcher {
         }
     }
 
-    /// Writes the next tokens of what is left, as many as there is room for, and counts them. The status is that of the
-    /// last one, or of what came after it.
+    /// Writes the next tokens of the remaining span, as many as there is room for, and counts them. The status is
+    /// `Code::Done` if there was no room for more, and otherwise says why no further token was written.
     fn next_tokens(
         &mut self,
         haystack: &[u8],
@@ -83,8 +83,8 @@ impl Searcher {
     }
 }
 
-/// Searches for the token at the start of what is left, over a cache, and writes it. The status is `Code::Kind` if the
-/// object is no cache.
+/// Writes the token at the start of the remaining span, over a cache. The status is `Code::Kind` if the object is not a
+/// cache.
 fn token_in(object: &mut Object, haystack: &[u8], left: &mut Request, found: &mut Found) -> Status
     ensures found { OfObject (Takes haystack.now found.new left.old left.new) object.old object.new result }
     ensures written { WritesIfDone found.old found.new result }
@@ -96,8 +96,8 @@ fn token_in(object: &mut Object, haystack: &[u8], left: &mut Request, found: &mu
     }
 }
 
-/// Writes the next tokens of what is left, over a cache, as many as there is room for, and counts them. The status is
-/// `Code::Kind` if the object is no cache.
+/// Writes the next tokens of the remaining span, over a cache, as many as there is room for, and counts them. The
+/// status is `Code::Kind` if the object is not a cache.
 fn tokens_in(
     object: &mut Object,
     haystack: &[u8],
@@ -116,7 +116,7 @@ fn tokens_in(
     }
 }
 
-/// Writes the token at the start of what is left, over the cache behind a handle.
+/// Writes the token at the start of the remaining span, over a handle's cache.
 #[unsafe(no_mangle)]
 pub extern "C" fn lazydfa_raw_token(
     alloc: Global,
@@ -137,8 +137,7 @@ pub extern "C" fn lazydfa_raw_token(
     status
 }
 
-/// Writes the next tokens of what is left, over the cache behind a handle, as many as there is room for, and counts
-/// them.
+/// Writes the next tokens of the remaining span, over a handle's cache, as many as there is room for, and counts them.
 #[unsafe(no_mangle)]
 pub extern "C" fn lazydfa_raw_tokens(
     alloc: Global,

@@ -1,4 +1,4 @@
-//! What a cache accounts for and holds, and making it a fresh one.
+//! Memory accounting of caches, and their reset.
 ghost use Rattle.std.specs.Prelude.{◌≡◌};
 ghost use Rattle.lazydfa_c.specs.Calls.{OfHandle, OfObject, WritesIfDone};
 ghost use Rattle.lazydfa_c.specs.Caches.{IsUsageOf, ReportsUsage, Resets};
@@ -10,8 +10,8 @@ use crate::status::Status;
 use automata_base::util::heap::{array, block};
 use std::alloc::Global;
 
-/// The accounted bytes of a cache, those of its leaps, all that it holds of the allocator, how often each part was
-/// cleared, and how many patterns its regex has.
+/// A cache's accounted bytes, the bytes of its leaps, all bytes that it holds from the allocator, how often each of its
+/// two parts was cleared, and the number of patterns of its regex.
 #[repr(C)]
 #[derive(Clone, Copy)]
 pub struct Usage {
@@ -24,7 +24,7 @@ pub struct Usage {
 }
 
 impl Searcher {
-    /// Makes the cache a fresh one of its regex.
+    /// Resets the cache to a fresh one of its regex.
     fn reset(&mut self) -> Status
         ensures { Resets self.old self.new result }
     {
@@ -35,14 +35,14 @@ impl Searcher {
         }
     }
 
-    /// The bytes that the cache takes of the allocator beside its two parts: the object behind the handle, and its set of
-    /// patterns. The state that a search or walk in pieces holds is not counted.
+    /// Returns the bytes that the cache holds from the allocator in addition to its two parts: those of the object that
+    /// the handle owns and of its set of patterns. The state that a search or walk in pieces holds is not counted.
     fn own_usage(&self) -> usize {
         array(self.patterns.capacity(), 1).saturating_add(block(size_of::<Object>()))
     }
 
-    /// Returns what the cache accounts for and holds, in bytes, how often its two parts were cleared, and how many
-    /// patterns its regex has.
+    /// Returns the bytes that the cache accounts for and holds, how often each of its two parts was cleared, and the
+    /// number of patterns of its regex.
     fn usage(&self) -> Usage
         ensures { IsUsageOf self.now result }
     {
@@ -59,7 +59,7 @@ impl Searcher {
     }
 }
 
-/// Makes a cache a fresh one of its regex. The status is `Code::Kind` if the object is no cache.
+/// Resets a cache to a fresh one of its regex. The status is `Code::Kind` if the object is not a cache.
 fn reset_in(object: &mut Object) -> Status
     ensures { OfObject Resets object.old object.new result }
 {
@@ -69,7 +69,7 @@ fn reset_in(object: &mut Object) -> Status
     }
 }
 
-/// Writes what a cache accounts for and holds. The status is `Code::Kind` if the object is no cache.
+/// Writes the memory usage of a cache. The status is `Code::Kind` if the object is not a cache.
 fn usage_in(object: &mut Object, usage: &mut Usage) -> Status
     ensures reports { OfObject (ReportsUsage usage.new) object.old object.new result }
     ensures written { WritesIfDone usage.old usage.new result }
@@ -83,7 +83,7 @@ fn usage_in(object: &mut Object, usage: &mut Usage) -> Status
     }
 }
 
-/// Makes the cache behind a handle a fresh one of its regex.
+/// Resets a handle's cache to a fresh one of its regex.
 #[unsafe(no_mangle)]
 pub extern "C" fn lazydfa_raw_cache_reset(alloc: Global, cache: &mut Handle) -> Status
     ensures { OfHandle Resets cache.old cache.new result }
@@ -96,7 +96,7 @@ pub extern "C" fn lazydfa_raw_cache_reset(alloc: Global, cache: &mut Handle) -> 
     status
 }
 
-/// Writes what the cache behind a handle accounts for and holds, in bytes, and how often its two parts were cleared.
+/// Writes the memory usage of a handle's cache, in bytes, and how often each of its two parts was cleared.
 #[unsafe(no_mangle)]
 pub extern "C" fn lazydfa_raw_cache_usage(
     alloc: Global,

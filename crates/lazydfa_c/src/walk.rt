@@ -1,4 +1,4 @@
-//! A walk in pieces, with the regex that it is one of.
+//! A walk in pieces, together with the regex whose matches it lists.
 ghost use Rattle.std.specs.Prelude.{◌≡◌, ◌<◌, IfOk, IsSomeAnd, None, OnErr, OnOk, length, slice_get, slice_index};
 ghost use Rattle.std.specs.Result.{result_err};
 ghost use Rattle.automata_hybrid.specs.Pieces.State.{IsPiecesOf};
@@ -18,8 +18,8 @@ use regex_automata::hybrid::regex::Regex;
 use std::marker::Model;
 use std::sync::Arc;
 
-/// Where a walk stands: how many bytes of a piece were read, the offset of the match, in bytes, and how many patterns
-/// match there.
+/// The position of a walk: how many bytes of a piece were read, the offset of the match, in bytes, and how many
+/// patterns match there.
 #[repr(C)]
 #[derive(Clone, Copy)]
 pub struct Stop {
@@ -29,7 +29,7 @@ pub struct Stop {
 }
 
 impl Stop {
-    /// No byte, and no match.
+    /// The position after no byte, with no match.
     pub fn nowhere() -> Stop
         ensures { result ≡ nowhere }
     {
@@ -40,7 +40,7 @@ impl Stop {
         }
     }
 
-    /// Whether patterns match there, as a status.
+    /// Returns the status: `Code::Done` if patterns match there, and `Code::Nothing` if none do.
     pub fn status(&self) -> Status
         ensures { result ≡ stop_status self.now.patterns }
     {
@@ -52,8 +52,8 @@ impl Stop {
     }
 }
 
-/// A walk in pieces by the forward DFA of a regex, which it shares. It lists the patterns at its match, or those at the
-/// end of the haystack once it was asked for them.
+/// A walk in pieces by the forward DFA of a shared regex. It lists the patterns that match at its current offset, or,
+/// once `end` was called, those that match at the end of the haystack.
 #[derive(Drop)]
 pub struct Walk {
     regex: Arc<Regex>,
@@ -73,7 +73,7 @@ impl Model for Walk {
 }
 
 impl Walk {
-    /// A walk that was begun by the forward DFA of the regex.
+    /// Returns a walk that was begun by the regex's forward DFA.
     pub fn of(regex: Arc<Regex>, walk: PiecesWalk) -> Walk
         requires { IsPiecesOf walk regex.value.forward }
         ensures machine { result.machine ≡ regex.value.forward }
@@ -87,7 +87,7 @@ impl Walk {
         }
     }
 
-    /// Reads a piece up to the next match, with a cache of the forward DFA, and returns how many bytes it has read.
+    /// Reads a piece up to the next match, with a cache of the forward DFA, and returns the number of bytes read.
     pub fn read(&mut self, cache: &mut Cache, piece: &[u8]) -> Result<usize, SearchError>
         requires { IsCacheOf cache.old self.old.machine }
         ensures of { IsCacheOf cache.new self.old.machine }
@@ -108,8 +108,8 @@ impl Walk {
         }
     }
 
-    /// Lists the patterns that match up to the end of the pieces so far, if this byte follows or none, with a cache of
-    /// the forward DFA.
+    /// Lists the patterns that match at the end of the pieces so far, with a cache of the forward DFA, where `ahead` is
+    /// the byte that follows, if any.
     pub fn end(&mut self, cache: &mut Cache, ahead: Option<u8>) -> Result<(), SearchError>
         requires { IsCacheOf cache.old self.old.machine }
         ensures of { IsCacheOf cache.new self.old.machine }
@@ -130,7 +130,7 @@ impl Walk {
         }
     }
 
-    /// How many patterns it lists.
+    /// Returns how many patterns the walk lists.
     fn len(&self) -> usize
         ensures { result ≡ length (listed self.now) }
     {
@@ -140,7 +140,7 @@ impl Walk {
         }
     }
 
-    /// One of them, by its index.
+    /// Returns the listed pattern at an index.
     fn at(&self, index: usize) -> PatternID
         requires { index < length (listed self.now) }
         ensures { result ≡ slice_index (listed self.now) index }
@@ -151,7 +151,7 @@ impl Walk {
         }
     }
 
-    /// One of them, by its index, or none if it lists fewer.
+    /// Returns the listed pattern at an index, or `None` if fewer are listed.
     pub fn pattern(&self, index: usize) -> Option<PatternID>
         ensures { result ≡ slice_get (listed self.now) index }
     {
@@ -162,7 +162,7 @@ impl Walk {
         }
     }
 
-    /// The offset of these patterns.
+    /// Returns the offset at which the listed patterns match.
     fn offset(&self) -> usize
         ensures { result ≡ offset_of self.now }
     {
@@ -175,7 +175,7 @@ impl Walk {
         }
     }
 
-    /// Where it stands, after so many bytes of a piece.
+    /// Returns the position of the walk after it has read this many bytes of a piece.
     pub fn stop(&self, read: usize) -> Stop
         ensures { result ≡ stop_of read self.now }
     {

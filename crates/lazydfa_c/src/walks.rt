@@ -1,5 +1,5 @@
-//! A walk in pieces over each cache: the offsets at which patterns match, one after another, in a haystack that comes
-//! piece by piece. Other searches of the cache may come between two calls.
+//! Walks over a haystack that arrives in pieces, one for each cache. A walk lists the offsets at which patterns match,
+//! in order. Other searches may use the cache between two calls.
 ghost use Rattle.std.specs.Prelude.{◌≡◌, None};
 ghost use Rattle.lazydfa_c.specs.Calls.{KeepsUnlessCache, KeepsUnlessOpen, OfHandle, OfObject, WritesIfDone};
 ghost use Rattle.lazydfa_c.specs.Pieces.{OfNumbers};
@@ -17,8 +17,8 @@ use regex_automata::util::start;
 use std::alloc::Global;
 
 impl Searcher {
-    /// Begins a walk in pieces by the forward DFA, in place of the one that was begun before. If it fails, that one
-    /// stays.
+    /// Begins a walk in pieces by the forward DFA, which replaces the previous one. If it fails, the previous one
+    /// remains.
     fn begin_walk(&mut self, start: &start::Config) -> Status
         ensures { BeginsWalk start.now self.old self.new result }
     {
@@ -36,8 +36,8 @@ impl Searcher {
         }
     }
 
-    /// Reads a piece up to the next match, and writes where the walk stands. The status is `Code::Nothing` if there is
-    /// no match in the piece, and `Code::NotBegun` if no walk was begun.
+    /// Reads a piece up to the next match, and writes the walk's position. The status is `Code::Nothing` if there is no
+    /// match in the piece, and `Code::NotBegun` if no walk was begun.
     fn walk_piece(&mut self, piece: &[u8], stop: &mut Stop) -> Status
         ensures { WalksIn piece.now stop.new self.old self.new result }
     {
@@ -54,8 +54,9 @@ impl Searcher {
         }
     }
 
-    /// Lists the patterns that match up to the end of the pieces so far, before this byte or none, and writes where
-    /// that is. The status is `Code::Nothing` if there are none, and `Code::NotBegun` if no walk was begun.
+    /// Lists the patterns that match at the end of the pieces so far, where `ahead` is the byte that follows them, if
+    /// any, and writes the walk's position. The status is `Code::Nothing` if no pattern matches there, and
+    /// `Code::NotBegun` if no walk was begun.
     fn end_walk(&mut self, ahead: Option<u8>, stop: &mut Stop) -> Status
         ensures { EndsWalkIn ahead stop.new self.old self.new result }
     {
@@ -72,8 +73,8 @@ impl Searcher {
         }
     }
 
-    /// Writes one of the patterns that the walk lists. The status is `Code::Argument` if it lists fewer, and
-    /// `Code::NotBegun` if no walk was begun.
+    /// Writes the listed pattern at an index. The status is `Code::Argument` if fewer are listed, and `Code::NotBegun`
+    /// if no walk was begun.
     fn walk_pattern(&self, index: usize, pattern: &mut u32) -> Status
         ensures lists { ListsIn index pattern.new self.now self.now result }
         ensures written { WritesIfDone pattern.old pattern.new result }
@@ -91,8 +92,8 @@ impl Searcher {
     }
 }
 
-/// Begins a walk in pieces over a cache. The status is `Code::Kind` if the object is no cache, and `Code::Argument` if
-/// there is nothing to start from.
+/// Begins a walk in pieces over a cache. The status is `Code::Kind` if the object is not a cache, and `Code::Argument`
+/// if `start` is `None`.
 fn begin_in(object: &mut Object, start: Option<start::Config>) -> Status
     ensures { OfObject (BeginsWalkBy start) object.old object.new result }
 {
@@ -105,8 +106,8 @@ fn begin_in(object: &mut Object, start: Option<start::Config>) -> Status
     }
 }
 
-/// Reads a piece over a cache up to the next match, and writes where the walk stands. The status is `Code::Kind` if the
-/// object is no cache.
+/// Reads a piece over a cache up to the next match, and writes the walk's position. The status is `Code::Kind` if the
+/// object is not a cache.
 fn walk_in(object: &mut Object, piece: &[u8], stop: &mut Stop) -> Status
     ensures walks { OfObject (WalksIn piece.now stop.new) object.old object.new result }
     ensures kept { KeepsUnlessCache (stop.new ≡ stop.old) object.old }
@@ -117,8 +118,8 @@ fn walk_in(object: &mut Object, piece: &[u8], stop: &mut Stop) -> Status
     }
 }
 
-/// Lists the patterns at the end of the pieces so far, over a cache, and writes where that is. The status is
-/// `Code::Kind` if the object is no cache, and `Code::Argument` if the byte that follows is none.
+/// Lists the patterns that match at the end of the pieces so far, over a cache, and writes the walk's position. The
+/// status is `Code::Kind` if the object is not a cache, and `Code::Argument` if `ahead` is `None`.
 fn end_in(object: &mut Object, ahead: Option<Option<u8>>, stop: &mut Stop) -> Status
     ensures ends { OfObject (OfNumbers (λ a. EndsWalkIn a stop.new) ahead) object.old object.new result }
     ensures kept { KeepsUnlessCache (stop.new ≡ stop.old) object.old }
@@ -133,7 +134,8 @@ fn end_in(object: &mut Object, ahead: Option<Option<u8>>, stop: &mut Stop) -> St
     }
 }
 
-/// Writes one of the patterns that the walk over a cache lists. The status is `Code::Kind` if the object is no cache.
+/// Writes the pattern at an index that the walk over a cache lists. The status is `Code::Kind` if the object is not a
+/// cache.
 fn pattern_in(object: &mut Object, index: usize, pattern: &mut u32) -> Status
     ensures lists { OfObject (ListsIn index pattern.new) object.old object.new result }
     ensures written { WritesIfDone pattern.old pattern.new result }
@@ -144,8 +146,8 @@ fn pattern_in(object: &mut Object, index: usize, pattern: &mut u32) -> Status
     }
 }
 
-/// Begins a walk in pieces over the cache behind a handle: in the anchored mode of two numbers, after the byte of a
-/// third or none.
+/// Begins a walk in pieces over a handle's cache. Two numbers give the anchored mode, and a third gives the byte before
+/// the pieces, if any.
 #[unsafe(no_mangle)]
 pub extern "C" fn lazydfa_raw_walk_begin(
     alloc: Global,
@@ -164,7 +166,7 @@ pub extern "C" fn lazydfa_raw_walk_begin(
     status
 }
 
-/// Reads a piece up to the next match, by the walk over the cache behind a handle, and writes where the walk stands.
+/// Reads a piece up to the next match, by the walk over a handle's cache, and writes the walk's position.
 #[unsafe(no_mangle)]
 pub extern "C" fn lazydfa_raw_walk_read(
     alloc: Global,
@@ -184,8 +186,8 @@ pub extern "C" fn lazydfa_raw_walk_read(
     status
 }
 
-/// Lists the patterns that match up to the end of the pieces so far, of the walk over the cache behind a handle, before
-/// the byte of a number or none, and writes where that is.
+/// Lists the patterns that match at the end of the pieces so far, by the walk over a handle's cache, and writes the
+/// walk's position. A number gives the byte after the pieces, if any.
 #[unsafe(no_mangle)]
 pub extern "C" fn lazydfa_raw_walk_end(
     alloc: Global,
@@ -206,7 +208,7 @@ pub extern "C" fn lazydfa_raw_walk_end(
     status
 }
 
-/// Writes one of the patterns that the walk over the cache behind a handle lists.
+/// Writes the pattern at an index that the walk over a handle's cache lists.
 #[unsafe(no_mangle)]
 pub extern "C" fn lazydfa_raw_walk_pattern(
     alloc: Global,

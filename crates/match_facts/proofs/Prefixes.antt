@@ -1,4 +1,4 @@
--- What texts have in common at their start.
+-- Common prefixes of texts.
 use Rattle.std.proofs.Common.{ℕ, ◌≡◌, ◌+◌, ◌<◌, List, [], ◌∷◌, ◌++◌, length, take, drop, get_or, sym, ap, ◌∙◌}
 use Rattle.std.proofs.Common.{arith, append_assoc, take-append-drop, length-append, le_refl}
 use Rattle.std.proofs.lemmas.List.{get_or_append_left, take_more}
@@ -10,7 +10,7 @@ use Rattle.regex_extract.specs.Needles.{StartsWithNeedle}
 use Rattle.match_facts.specs.Facts.{HasLength, StartsWith}
 use Rattle.match_facts.specs.Prefixes.{BeginsWith}
 
--- a text begins with less of what it begins with
+-- a text begins with each prefix of what it begins with
 pub shorter_begins : (bytes text : List ℕ) (n : ℕ) → BeginsWith bytes text → BeginsWith (take n bytes) text
 shorter_begins bytes text n b = (
   drop n bytes ++ b.0,
@@ -20,7 +20,7 @@ shorter_begins bytes text n b = (
 pub common_begins : (bytes text : List ℕ) (n : ℕ) → take n bytes ≡ take n text → BeginsWith (take n bytes) text
 common_begins bytes text n e = (drop n text, sym (take-append-drop n text) ∙ ap (λ v. v ++ drop n text) (sym e))
 
--- one byte more in common
+-- the common prefix is one byte longer
 pub common_more :
     (xs ys : List ℕ) (i : ℕ) → i < length xs → i < length ys → get_or xs i 0 ≡ get_or ys i 0 → take i xs ≡ take i ys
     → take (i + 1) xs ≡ take (i + 1) ys
@@ -28,7 +28,7 @@ common_more xs ys i l m same e =
     take_more xs i 0 l ∙ ap (λ v. v ++ get_or xs i 0 ∷ []) e ∙ ap (λ b. take i ys ++ b ∷ []) same
     ∙ sym (take_more ys i 0 m)
 
--- bytes that a text begins with stand where it stands
+-- bytes that a text begins with occur where the text occurs
 begins_there : (hay bytes text : List ℕ) (k : ℕ) → BeginsWith bytes text → OccursAt hay text k → OccursAt hay bytes k
 begins_there hay bytes text k b o = record {
   fits = omega (arith, o.fits, ap length b.1, length-append bytes b.0);
@@ -37,7 +37,7 @@ begins_there hay bytes text k b o = record {
       ∙ ap (λ v. get_or v j 0) b.1 ∙ get_or_append_left bytes b.0 0 j lt;
 }
 
--- every match begins with what all needles begin with
+-- every match begins with the common prefix of all needles
 pub starts_with_shared :
     (re : Re) (needles : List (List ℕ)) (bytes : List ℕ)
     → ((n : ℕ) → n < length needles → BeginsWith bytes (needle_at needles n)) → StartsWithNeedle re needles
@@ -61,7 +61,7 @@ starts_with_none re hay ok i j w s =
       high = omega (arith, span.0);
     }
 
--- a match that begins with a prefix, and is no longer, is the prefix
+-- if every match begins with a prefix, and is no longer, every match is the prefix
 pub is_prefix :
     (re : Re) (bytes : List ℕ) → StartsWith re bytes → IsMaxLen re (length bytes) → HasLength re (length bytes)
 is_prefix re bytes starts longest hay ok i j w s =

@@ -1,4 +1,4 @@
--- What a walk over a tree keeps of its run.
+-- The run of a walk over a tree.
 use Rattle.std.proofs.Common.{ℕ, zero, suc, ◌≡◌, ◌+◌, ◌-◌, ◌<◌, ◌≤◌, true, Bool, List, [], ◌∷◌, ◌++◌, All, length}
 use Rattle.std.proofs.Common.{map, take, drop, get_or, Option, Some, None, sym, ap, ◌∙◌, subst, ⊎_elim, arith}
 use Rattle.std.proofs.Common.{le_refl, le_trans, length-append}
@@ -20,7 +20,7 @@ use Rattle.match_facts.specs.Facts.{ContainsAll, StandsIn}
 use Rattle.match_facts.specs.Runs.{EndsRun, ExtendsRun, HasLiterals, StandsBefore}
 use Rattle.match_facts.specs.declared.literals.Run.{Run}
 
--- texts that stand in a span stand in a longer one
+-- texts that occur in a span occur in a longer one
 wider :
     (hay : List ℕ) (xs : List (List ℕ)) (i m j : ℕ) → m ≤ j → All (λ b. StandsIn hay b i m) xs
     → All (λ b. StandsIn hay b i j) xs
@@ -28,12 +28,12 @@ wider hay xs i m j le h k d lt =
     let s = h k d lt in
     (s.0, record { occurs = s.1.occurs; low = s.1.low; high = let a = s.1.high in omega (arith, a, le) })
 
--- no bytes stand before any offset
+-- the empty text occurs before any offset
 no_bytes : (hay : List ℕ) (i j : ℕ) → i ≤ j → j ≤ length hay → StandsBefore hay [] i j
 no_bytes hay i j le w =
     (j, record { fits = omega (arith, w); reads = λ n lt. absurd (omega (arith, lt)) }, le, omega arith)
 
--- the bytes that stand before an offset are in the span
+-- the bytes that occur before an offset are in the span
 in_span : (hay bytes : List ℕ) (i m j : ℕ) → m ≤ j → StandsBefore hay bytes i m → StandsIn hay bytes i j
 in_span hay bytes i m j le s =
     (s.0, record { occurs = s.1; low = s.2; high = let e = s.3 in omega (arith, e, le) })
@@ -77,7 +77,7 @@ extends_ends re old new e = record {
   filled = e.filled;
 }
 
--- where a text stands before an offset, and bytes at it, both stand before the end of these
+-- if a text occurs before an offset, and bytes at it, both together occur before the end of these bytes
 longer :
     (hay xs bs : List ℕ) (i m j : ℕ) → m ≤ length hay → StandsBefore hay xs i m → has_bytes_at hay m bs ≡ true
     → j ≡ m + length bs → StandsBefore hay (xs ++ bs) i j
@@ -134,7 +134,7 @@ first_copy :
 first_copy hay zero g a m j s = first_round hay a m j s
 first_copy hay (suc n) g a m j s = (s.0, s.1, (Matches-IsSpan hay (copies n a (plus g a)) s.0 j s.2).0)
 
--- a repetition that is not left out begins with a match of its part
+-- a repetition that is not optional begins with a match of its part
 first_match :
     (hay : List ℕ) (least : ℕ) (most : Option ℕ) (g : Bool) (a : Re) (m j : ℕ) → 0 < least
     → Matches hay (repeat least most g a) m j → (l : ℕ) × Matches hay a m l × (l ≤ j)
@@ -178,7 +178,7 @@ extends_more hs i h old mid new lt e p q =
     subst (λ rs. ExtendsRun (cat_all rs) old new) (sym (meanings_more hs i h lt e))
     (extends_push (map meaning (take i hs)) (meaning h) old mid new p q)
 
--- a run that has nothing yet
+-- a run that is still empty
 begin :
     (run : Run) (hay : List ℕ) (i : ℕ) → run.literals.items ≡ [] → run.last.items ≡ [] → i ≤ length hay
     → HasLiterals run hay i i
@@ -188,7 +188,7 @@ begin run hay i none bare w = record {
   last = subst (λ bs. StandsBefore hay bs i i) (sym bare) (no_bytes hay i i (le_refl i) w);
 }
 
--- what is passed from such a run on is in every match
+-- what a walk from an empty run finds is in every match
 pub contains_all :
     (re : Re) (run mid new : Run) → run.literals.items ≡ [] → run.last.items ≡ [] → ExtendsRun re run mid
     → EndsRun mid new → ContainsAll re (needles_of new.literals)

@@ -11,16 +11,16 @@ abbrev pub EachMatch : Re → (List ℕ → (i j : ℕ) → Type 0) → Type 0
 EachMatch re P =
     (hay : List ℕ) → All (λ b. b < 256) hay → (i j : ℕ) → i ≤ length hay → Matches hay re i j → P hay i j
 
--- the bytes stand at offset k of the haystack, between i and j
+-- the bytes occur at offset k of the haystack, between i and j
 pub record StandsBetween (hay bytes : List ℕ) (k i j : ℕ) : Type 0 where
-  -- they stand there
+  -- they occur there
   pub occurs : OccursAt hay bytes k
-  -- not before i
+  -- they do not begin before i
   pub low : i ≤ k
-  -- they end at j or before it
+  -- they do not end after j
   pub high : k + length bytes ≤ j
 
--- the bytes stand somewhere in the haystack between i and j
+-- the bytes occur somewhere in the haystack between i and j
 abbrev pub StandsIn : (hay bytes : List ℕ) → (i j : ℕ) → Type 0
 StandsIn hay bytes i j = (k : ℕ) × StandsBetween hay bytes k i j
 
@@ -28,7 +28,7 @@ StandsIn hay bytes i j = (k : ℕ) × StandsBetween hay bytes k i j
 abbrev pub StartsWith : Re → (bytes : List ℕ) → Type 0
 StartsWith re bytes = EachMatch re (λ hay i j. StandsBetween hay bytes i i j)
 
--- every match has as many bytes
+-- every match has `n` bytes
 abbrev pub HasLength : Re → ℕ → Type 0
 HasLength re n = EachMatch re (λ hay i j. j ≡ i + n)
 

@@ -1,4 +1,4 @@
--- What texts have in common at their start.
+-- Common prefixes of texts.
 use Rattle.std.specs.Prelude.{ℕ, ◌≡◌, ◌++◌, List}
 
 -- the text begins with the bytes

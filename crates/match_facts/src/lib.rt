@@ -1,7 +1,7 @@
-//! What every match of a pattern has in common, by the tree that the kit's parser makes of the pattern: whether it
-//! touches an edge of the haystack, the bytes that it begins with, and literals that it contains.
+//! What every match of a pattern has in common, computed from the tree to which the kit's parser parses the pattern:
+//! whether it touches an edge of the haystack, the bytes that it begins with, and literals that it contains.
 //!
-//! A search by an index, or by a fast search for a literal, may skip the haystacks where these are missing. Nothing is
+//! A search with an index, or with a fast search for a literal, may skip haystacks that lack these. Nothing is
 //! compiled, and no haystack is read.
 #![tactic(auto)]
 
@@ -18,7 +18,7 @@ use regex_extract::{is_anchored_end, is_anchored_start, max_len};
 use regex_hir::Hir;
 use std::alloc::{AllocError, Global};
 
-/// What every match of a pattern has in common. Nothing is said where a flag is false or a text is empty.
+/// What every match of a pattern has in common. A flag that is false, and an empty list of bytes, say nothing.
 #[derive(Drop)]
 pub struct Facts {
     /// Whether every match begins where the haystack does.
@@ -29,12 +29,12 @@ pub struct Facts {
     pub exact: bool,
     /// The bytes that every match begins with.
     pub prefix: Vec<u8>,
-    /// Each of them is in every match. None is empty, and a literal may overlap the prefix or be in it.
+    /// Byte strings that every match contains. None is empty, and a literal may overlap the prefix or be in it.
     pub literals: Vec<Vec<u8>>,
 }
 
-/// The facts of a pattern. A prefix has at most some 130 bytes, while the literals may have as many bytes as the
-/// pattern. Neither is the longest possible: what an alternation or a class spells out counts for the prefix alone.
+/// Returns the facts of a pattern. A prefix has at most about 130 bytes, while the literals may have as many bytes as
+/// the pattern. Neither is the longest possible: the strings of an alternation or a class count only for the prefix.
 pub fn facts_of_tree(alloc: Global, hir: &Hir) -> Result<Facts, AllocError>
     ensures { IfOk result (AreFacts (meaning hir.now)) }
 {

@@ -9,14 +9,14 @@ use regex_hir::Hir;
 use std::alloc::{AllocError, Global};
 use std::mem;
 
-/// What is known where the walk over a tree is: the literals that were passed before, and the bytes that the haystack
-/// has just before this offset.
+/// What is known at a position of the walk over a tree: the literals before it, and the bytes that the haystack has
+/// just before this offset.
 struct Run {
     literals: Vec<Vec<u8>>,
     last: Vec<u8>,
 }
 
-// One call for an owner, whose proof then has no step for each part.
+// With its own `drop`, the proof of an owner has one step for it instead of one for each part.
 impl Drop for Run {
     fn drop(self) {
         let Self {
@@ -27,7 +27,7 @@ impl Drop for Run {
 }
 
 impl Run {
-    /// The run so far is a literal of its own.
+    /// Ends the run: its last bytes become a literal, unless there are none.
     fn end(&mut self, alloc: Global) -> Result<(), AllocError>
         ensures { OnOk result (EndsRun self.old self.new) }
     {
@@ -40,8 +40,8 @@ impl Run {
     }
 }
 
-/// Literals that every match contains, in the order in which they stand there. An alternation has none, nor has what
-/// may be left out.
+/// Returns literals that every match contains, in the order in which they occur. An alternation has none, and an
+/// optional part has none.
 pub(crate) fn literals_of(alloc: Global, hir: &Hir) -> Result<Vec<Vec<u8>>, AllocError>
     ensures contains { IfOk result (λ v. ContainsAll (meaning hir.now) (needles_of v)) }
     ensures filled { IfOk result (λ v. AreFilled (needles_of v)) }
@@ -55,7 +55,7 @@ pub(crate) fn literals_of(alloc: Global, hir: &Hir) -> Result<Vec<Vec<u8>>, Allo
     Ok(mem::replace(&mut run.literals, Vec::new(alloc)))
 }
 
-/// Passes a tree.
+/// Walks over a tree.
 #[cycle(walk)]
 fn walk(alloc: Global, hir: &Hir, run: &mut Run) -> Result<(), AllocError>
     ensures { OnOk result (ExtendsRun (meaning hir.now) run.old run.new) }
@@ -76,7 +76,7 @@ fn walk(alloc: Global, hir: &Hir, run: &mut Run) -> Result<(), AllocError>
     }
 }
 
-/// Passes trees that stand one after another.
+/// Walks over a sequence of trees.
 #[cycle(walk)]
 fn walk_all(alloc: Global, subs: &[Hir], run: &mut Run) -> Result<(), AllocError>
     ensures { OnOk result (ExtendsRun (cat_all (map meaning subs.now)) run.old run.new) }

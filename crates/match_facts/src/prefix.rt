@@ -9,7 +9,8 @@ use regex_extract::prefixes;
 use regex_hir::Hir;
 use std::alloc::{AllocError, Global};
 
-/// The bytes that every match begins with: what the needles have in common of which each match begins with one.
+/// Returns the bytes that every match begins with: the longest common prefix of needles, one of which each match begins
+/// with.
 pub(crate) fn prefix_of(alloc: Global, hir: &Hir) -> Result<Vec<u8>, AllocError>
     ensures { IfOk result (λ v. StartsWith (meaning hir.now) v.items) }
 {
@@ -20,7 +21,7 @@ pub(crate) fn prefix_of(alloc: Global, hir: &Hir) -> Result<Vec<u8>, AllocError>
     }
 }
 
-/// The longest bytes that all these begin with.
+/// Returns the longest common prefix of the needles.
 fn shared(needles: &[Vec<u8>]) -> &[u8]
     ensures { (n : ℕ) → n < length needles.now
         → BeginsWith result.now (needle_at (map (λ v. v.items) needles.now) n) }
@@ -36,7 +37,7 @@ fn shared(needles: &[Vec<u8>]) -> &[u8]
     common
 }
 
-/// How many bytes the two have in common at their start.
+/// Returns the length of the common prefix of two byte strings.
 fn common_len(first: &[u8], second: &[u8]) -> usize
     ensures within { result ≤ length first.now }
     ensures same { take result first.now ≡ take result second.now }

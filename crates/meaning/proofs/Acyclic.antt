@@ -1,4 +1,4 @@
--- No cycle of edges that read nothing passes a look in the joined NFA, since a rank falls along each edge of a pattern.
+-- No cycle of epsilon edges passes a look in the joined NFA, since a rank falls along each edge of a pattern.
 use Rattle.std.proofs.Common.{ℕ, zero, suc, ◌≡◌, ◌+◌, ◌-◌, ◌<◌, ◌≤◌, List, [], ◌∷◌, Some, length, refl, sym, ap, ◌∙◌}
 use Rattle.std.proofs.Common.{subst, ⊎_elim, arith, lt_irrefl}
 use Rattle.std.specs.Prelude.{slice_get}
@@ -35,7 +35,7 @@ module _ (k : kit_nfa.Nfa) (b p : ℕ) where
   hop_falls q kit.Match is e r h = absurd (none_some h)
   hop_falls q kit.Fail is e r h = absurd (none_some h)
 
-  -- so it has fallen at the end of each path of such edges
+  -- so the rank is lower at the end of each path of such edges
   run_falls : (n : Nfa) → HasStatesOf n b p k → (q : ℕ) (path : List ℕ) (z : ℕ) → q < length k.states.items →
       Run n (b + q) path z → (y : ℕ) × (z ≡ b + y) × (rank k y ≤ rank k q)
   run_falls n holds q [] z l h = (q, sym h, omega arith)
@@ -70,7 +70,7 @@ in_patterns n b p (k ∷ ks) holds q low high h =
     in_patterns n (b + length k.states.items) (suc p) ks holds.1 q l (omega (arith, high)) h)
     (cases_lt q (b + length k.states.items))
 
--- behind the patterns there is no look
+-- after the patterns' states there is no look
 no_look :
     (ks : List kit_nfa.Nfa) (i : ℕ) (look : Look) (to : ℕ) → node (joined_nfa ks) (size_of ks + i) ≡ Assert look to → ⊥
 no_look ks i look to is = go i (sym (behind ks i) ∙ is) where

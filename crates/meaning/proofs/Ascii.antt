@@ -18,7 +18,7 @@ use Rattle.meaning.specs.Translated.{look_of}
 use Rattle.meaning.specs.Agreeing.{HasSameLooks}
 use Rattle.meaning.proofs.Looking.{holds_is, word_byte_is, differ_is, before_is}
 
--- a side is missing, or an ASCII byte that is its character
+-- a side is missing, or is an ASCII byte, which is its own character
 abbrev pub IsAsciiSide : Option ℕ → Type 0
 IsAsciiSide None = Unit {0}
 IsAsciiSide (Some u) = u < 128
@@ -60,7 +60,7 @@ holds_ascii is.WordStartHalfUnicode a b x y = ap₂ (λ v w. v && not w) (whole 
 holds_ascii is.WordEndHalfUnicode a b x y = ap₂ (λ v w. v && not w) (whole b) (word_is b y)
 
 module _ (hay : List ℕ) (ascii : All (λ b. b < 128) hay) where
-  -- an offset inside has an ASCII byte, which is its character
+  -- an offset inside has an ASCII byte, which is its own character
   inside : (i : ℕ) → i < length hay → (slice_get hay i ≡ Some (get_or hay i 0)) × (get_or hay i 0 < 128)
   inside i l = (slice_get-get_or hay i 0 l, ascii i 0 l)
 
@@ -94,6 +94,6 @@ module _ (hay : List ℕ) (ascii : All (λ b. b < 128) hay) where
       ∙ ap (λ v. holds_between l (side (byte_before hay i)) (record { byte = slice_get hay i; char = v })) a.0
       ∙ holds_ascii l (byte_before hay i) (slice_get hay i) b.1 a.1
 
-  -- so with all 18 looks what is proved of searches holds over ASCII text
+  -- so, with all 18 looks, what is proved about searches holds over ASCII text
   pub same_looks_ascii : (k : kit_nfa.Nfa) → HasSameLooks hay k
   same_looks_ascii k q r l is i h = looks_agree_ascii l i h

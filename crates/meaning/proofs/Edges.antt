@@ -1,4 +1,4 @@
--- The least accepting path from a state, by the least ones from where its edges lead.
+-- The least accepting path from a state, by the least ones from the targets of its edges.
 use Rattle.std.proofs.Common.{ℕ, suc, ◌≡◌, ◌+◌, ◌<◌, ◌≤◌, List, [], ◌∷◌, ◌⊎◌, Option, Some, None, option_map, refl, sym}
 use Rattle.std.proofs.Common.{ap, ◌∙◌, subst, ⊎_elim, inl, inr, arith}
 use Rattle.std.proofs.lemmas.Bool.{cases_lt}
@@ -25,7 +25,7 @@ upto_nil [] = inl refl
 upto_nil (x ∷ path) = inr EndsFirst
 
 module _ (n : Nfa) (t : Tape) (s p : ℕ) (seen : List ℕ) (q : ℕ) where
-  -- a path that goes on by this edge to this state
+  -- a path that continues by this edge to this state
   abbrev pub Follows : ℕ → ℕ → List ℕ → ℕ → ℕ → Type 0
   Follows e r path j z = (rest : List ℕ) × (path ≡ e ∷ rest) × IsPathFrom n t p (q ∷ seen) r rest j z
 
@@ -52,7 +52,7 @@ module _ (n : Nfa) (t : Tape) (s p : ℕ) (seen : List ℕ) (q : ℕ) where
   first_edge (e ∷ rest) j z pattern not (ReadsByte r edge moves on) acc =
       inr (r, rest, ap (λ v. v ∷ rest) edge, moves, on)
 
-  -- the least accepting path by the edges from this number on
+  -- the least accepting path over the edges from this number on
   abbrev pub IsLeastPast : ℕ → Option HalfMatch → Type 0
   IsLeastPast e None = (path : List ℕ) (j z pattern : ℕ) → IsPast e path j z → accepts n z ≡ Some pattern → ⊥
   IsLeastPast e (Some half) =
@@ -60,11 +60,11 @@ module _ (n : Nfa) (t : Tape) (s p : ℕ) (seen : List ℕ) (q : ℕ) where
       × (s + j ≡ half.offset)
       × ((other : List ℕ) (j2 z2 pattern : ℕ) → IsPast e other j2 z2 → accepts n z2 ≡ Some pattern → Upto path other)
 
-  -- there are no more edges
+  -- no edges remain
   pub past_none : (e : ℕ) → ((d r : ℕ) → e ≤ d → hop n (truth n t p) q d ≡ Some r → ⊥) → IsLeastPast e None
   past_none e none path j z pattern w acc = none w.0 w.1 w.2 w.3
 
-  -- one edge, and those after it
+  -- one edge, and the edges after it
   pub past_edge : (e r : ℕ) (o o2 : Option HalfMatch) → hop n (truth n t p) q e ≡ Some r → (In r (q ∷ seen) → ⊥) →
       IsLeastEnd n t s p (q ∷ seen) r o → IsLeastPast (suc e) o2 → IsLeastPast e (option_or o o2)
   past_edge e r o o2 leads new = go o o2
@@ -174,7 +174,7 @@ module _ (n : Nfa) (t : Tape) (s p : ℕ) (seen : List ℕ) (q : ℕ) where
             upto_cons 0 b.path w.0 other w.1 (b.least w.0 j z pattern w.2 acc));
       }
 
-  -- a state that reads: `f` is where it leads on a byte, raised by `b`, and `go` what is given from there
+  -- a byte state: `f` gives its target for a byte, to which `b` is added, and `go` the result from there
   pub read_best : (b : ℕ) (f : ℕ → Option ℕ) (go : ℕ → Option HalfMatch) (o : Option ℕ) → AcceptsNot →
       ((e r2 : ℕ) → hop n (truth n t p) q e ≡ Some r2 → ⊥) → ((u : ℕ) → takes n q u ≡ option_map (λ r. b + r) (f u)) →
       slice_get t.bytes p ≡ o → ((u r : ℕ) → o ≡ Some u → f u ≡ Some r → IsLeastEnd n t s (suc p) [] (b + r) (go r)) →

@@ -47,7 +47,7 @@ same_flags (x ∷ xs) [] count same = absurd (omega (arith, count))
 same_flags (x ∷ xs) (y ∷ ys) count same =
     ap₂ (λ v w. v ∷ w) (same_flag x y (same 0)) (same_flags xs ys (omega (arith, count)) (λ p. same (suc p)))
 
--- so a set is given by its capacity and its members
+-- so a set is determined by its capacity and its members
 pub same_set : (xs ys : List Bool) → length xs ≡ length ys → ((p : ℕ) → In p (members xs) ↔ (has ys p ≡ true)) → xs ≡ ys
 same_set xs ys count same =
     same_flags xs ys count (λ p. (λ e. (same p).0 ((is_member xs p).1 e), λ e. (is_member xs p).0 ((same p).1 e)))

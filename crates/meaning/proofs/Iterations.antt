@@ -33,7 +33,7 @@ module _ (d : Engine) (res : List Re) (hay : List ℕ) (search : ℕ → Option 
       h (spans s)
       ∙ some_map (numbered_match res hay) (search s)
 
-  -- the span is the one that is meant
+  -- the span that a search finds is the one that is meant
   pub span_is :
       (s : ℕ) (o : Option Match) → IsSpan d (span_input hay s (length hay)) o
       → o ≡ option_map (numbered_match res hay) (search s)
@@ -66,7 +66,7 @@ module _ (d : Engine) (res : List Re) (hay : List ℕ) (search : ℕ → Option 
   some_of (Some k) m e = (k, refl, some_inj e)
 
   module _ (start : ℕ) where
-    -- what the search finds decides whether it is made again one place later
+    -- what the search finds decides whether it is made again one offset later
     abbrev taken : Option kit_find.Match → Option kit_find.Match
     taken o = if is_some_and o (λ m. m.trace.end == start) then search (start + 1) else search start
 
@@ -95,7 +95,7 @@ module _ (d : Engine) (res : List Re) (hay : List ℕ) (search : ℕ → Option 
         let w = some_of (search start) m (span_is start (Some m) h) in
         again w.0 w.1 (sym (some_inj empty.1 ∙ ap (λ (v : Match). v.end) w.2))
 
-    -- the item after a match that ended here
+    -- the item after a match with this end
     next_is :
         (begin : ℕ) (o : Option Match) → IsNextItem (IsSpan d) (span_input hay begin (length hay)) start (Some start) o
         →
@@ -118,7 +118,7 @@ module _ (d : Engine) (res : List Re) (hay : List ℕ) (search : ℕ → Option 
   yields_none zero = refl
   yields_none (suc fuel) = refl
 
-  -- the first item, and each one
+  -- the first item, and each later one
   first_is : (begin : ℕ) (o : Option Match) → IsNextItem (IsSpan d) (span_input hay begin (length hay)) 0 None o →
       o ≡ option_map (numbered_match res hay) (search 0)
   first_is begin o (FindsHere h apart) = span_is 0 o h
@@ -130,7 +130,7 @@ module _ (d : Engine) (res : List Re) (hay : List ℕ) (search : ℕ → Option 
   item_is begin None o h = first_is begin o h
   item_is begin (Some end) o h = next_is end begin o h
 
-  -- what the search finds lies in what is searched
+  -- what the search finds lies in the searched span
   found_inside :
       (s : ℕ) (m : kit_find.Match) → search s ≡ Some m → (s ≤ m.start) × (m.start ≤ m.trace.end)
       × (m.trace.end ≤ length hay)
@@ -138,7 +138,7 @@ module _ (d : Engine) (res : List Re) (hay : List ℕ) (search : ℕ → Option 
       spans_inside d (span_input hay s (length hay)) (own m) (omega arith)
       (subst (λ o. IsSpan d (span_input hay s (length hay)) (option_map (numbered_match res hay) o)) e (spans s))
 
-  -- so ends rise
+  -- so ends increase
   rises : (e : ℕ) (m : kit_find.Match) → find_after search e ≡ Some m → (e < m.trace.end) × (m.trace.end ≤ length hay)
   rises e m is =
       ⊎_elim
@@ -155,7 +155,7 @@ module _ (d : Engine) (res : List Re) (hay : List ℕ) (search : ℕ → Option 
       (cases_lt e w.0.trace.end))
       (option_cases (search e))
 
-  -- and any count that leaves room for an end at each offset gives the same matches
+  -- so any count that leaves room for an end at each offset gives the same matches
   enough : (n k e : ℕ) → length hay ≤ e + n → length hay ≤ e + k →
       matches_from search n (find_after search e) ≡ matches_from search k (find_after search e)
   unfolding matches_from
@@ -201,7 +201,7 @@ module _ (d : Engine) (res : List Re) (hay : List ℕ) (search : ℕ → Option 
       ap (λ o. map (numbered_match res hay) (matches_from search (length hay + 1) o)) w.1 ∙ after w.0
       ∙ ap (λ (v : Match). v ∷ left_by search res hay (Some v.end)) (sym w.2)
 
-  -- an item is the first of the matches that are left
+  -- an item is the first of the remaining matches
   pub item_left : (begin : ℕ) (last : Option ℕ) (o : Option Match) →
       IsNextItem (IsSpan d) (span_input hay begin (length hay)) (unwrap_or last 0) last o →
       IsFirstLeft (left_by search res hay) last o

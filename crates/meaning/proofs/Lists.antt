@@ -1,4 +1,4 @@
--- One more state, range or pattern, for loops that make the lists.
+-- One more state, range or pattern, for the loops that build these lists.
 use Rattle.std.proofs.Common.{ℕ, suc, ◌≡◌, ◌<◌, ◌+◌, List, [], ◌∷◌, ◌++◌, take, get_or, length, sym, ap, ap₂, ◌∙◌, refl}
 use Rattle.std.proofs.Common.{add-one, arith}
 use Rattle.std.proofs.Math.Seq.{take-suc}

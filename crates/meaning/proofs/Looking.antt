@@ -58,7 +58,7 @@ differ_same false b = refl
 pub differ_is : (a b c d : Bool) → a ≡ c → b ≡ d → kit_looks.differ a b ≡ our.differ c d
 differ_is a b c d e f = differ_same a b ∙ ap₂ our.differ e f
 
--- by the bytes on both sides
+-- a look holds by the bytes on both sides
 pub holds_is : (l : kit_look.Look) (a b c d : Option ℕ) → is_unicode_look l ≡ false →
     holds_between l (record { byte = a; char = c }) (record { byte = b; char = d }) ≡ our.holds 10 false (look_of l) a b
 unfolding holds_between
@@ -83,7 +83,7 @@ holds_is is.WordEndHalfAscii a b c d h = ap not (word_is b d)
 holds_is is.WordStartHalfUnicode a b c d h = absurd (true≢false h)
 holds_is is.WordEndHalfUnicode a b c d h = absurd (true≢false h)
 
--- at an offset of a haystack
+-- a look holds at an offset of a haystack
 pub looks_agree : (l : kit_look.Look) (hay : List ℕ) (i : ℕ) → is_unicode_look l ≡ false →
     kit_looks.holds l hay i ≡ our.holds 10 false (look_of l) (byte_before hay i) (slice_get hay i)
 unfolding kit_looks.holds

@@ -1,4 +1,4 @@
--- The loop before the union of the joined NFA is a lazy one.
+-- The loop before the union of the joined NFA is a lazy loop.
 use Rattle.std.proofs.Common.{ℕ, zero, suc, ◌≡◌, ◌+◌, ◌-◌, ◌<◌, ◌≤◌, List, [], ◌∷◌, Option, Some, None, length}
 use Rattle.std.proofs.Common.{option_map, refl, sym, ap, ◌∙◌, subst, ⊎_elim, arith}
 use Rattle.std.specs.Prelude.{slice_get}
@@ -18,7 +18,7 @@ use Rattle.meaning.specs.Agreeing.{HasStatesOf, HoldsAll}
 use Rattle.meaning.proofs.Nodes.{node_known, takes_known}
 use Rattle.meaning.proofs.Unions.{holds_all, union_is, loop_is, skip_is}
 
--- a target that is raised
+-- a target with the base added
 raised : (b N r : ℕ) (o : Option ℕ) → ((x : ℕ) → o ≡ Some x → x < N) → option_map (λ v. b + v) o ≡ Some r → r < b + N
 raised b N r None inside h = absurd (none_some h)
 raised b N r (Some x) inside h = let e = some_inj h in let l = inside x refl in omega (arith, e, l)

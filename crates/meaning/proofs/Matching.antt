@@ -25,7 +25,7 @@ use Rattle.meaning.proofs.Means.{bytes_mean}
 use Rattle.meaning.proofs.Options.{some_map}
 
 module _ (d : Engine) (all : IsSkipping d → ⊥) (hay : List ℕ) (s stop : ℕ) (inside : s ≤ stop) where
-  -- the same span, of a search that may stop at its first match
+  -- the same span, for a search that may stop at its first match
   abbrev pub over : Bool → Input
   over e = record (span_input hay s stop) { earliest = e }
 
@@ -52,7 +52,7 @@ module _ (d : Engine) (all : IsSkipping d → ⊥) (hay : List ℕ) (s stop : �
         (once e a.0 a.1) a.2.reported.1,
   )
 
-  -- earliest or not, all searches agree whether there is a match
+  -- earliest or not, all searches agree on whether there is a match
   same_truth :
       (e f : Bool) (o p : Option Half) → IsAnswer Forward d (over e) o → IsAnswer Forward d (over f) p
       → is_some o ≡ is_some p
@@ -61,7 +61,7 @@ module _ (d : Engine) (all : IsSkipping d → ⊥) (hay : List ℕ) (s stop : �
   same_truth e f (Some half) None a b = let w = accepts_some e half a in absurd (accepts_none f b w.0 w.1 w.2 w.3)
   same_truth e f (Some half) (Some other) a b = refl
 
-  -- so an answer tells whether there is a span
+  -- so an answer decides whether there is a span
   pub answer_tells : (e : Bool) (o : Option Half) → IsAnswer Forward d (over e) o → (m : Option Match) →
       IsSpan d (span_input hay s stop) m → is_some o ≡ is_some m
   answer_tells e o a None h = same_truth e false o None a h
@@ -71,7 +71,7 @@ begins : (re : Re) (hay : List ℕ) (start : ℕ) (m : kit_find.Match) → find 
 unfolding find
 begins re hay start m e = (IsFirst-of_first_between _ start (length hay) m e).to
 
--- a match is found exactly if some part of the haystack is one
+-- a match is found exactly if some part of the haystack is a match
 pub part_is :
     (res : List Re) (hay : List ℕ) (truth : Bool) → truth ≡ is_some (find (any_of res) hay 0)
     → IsTrue truth ↔ HasPart res hay
@@ -87,7 +87,7 @@ part_is res hay truth e = (
       let w = find_sound (any_of res) hay 0 m found in
       (m.start, m.trace.end, begins (any_of res) hay 0 m found, w.1)
 
--- So a search over bytes, earliest or not, tells whether some part of the haystack is a match.
+-- So a search over bytes, earliest or not, decides whether some part of the haystack is a match.
 pub part_of_answer :
     (ks : List kit_nfa.Nfa) (res : List Re) → ImplementAll ks res → (hay : List ℕ) → Each (HasSameLooks hay) ks →
     IsHaystack hay → (e : Bool) (o : Option Half) →

@@ -26,7 +26,7 @@ use Rattle.meaning.proofs.Loops.{loops_lazily}
 use Rattle.meaning.proofs.Spanning.{bytes_span, text_span}
 use Rattle.meaning.proofs.Texts.{empty_start, whole_match}
 
--- no byte is in no range
+-- no byte is in an empty list of ranges
 nowhere : (hay : List ℕ) (i : ℕ) (o : Option ℕ) → (if is_some_and o (in_ranges []) then accept (i + 1) else None) ≡ None
 unfolding in_ranges
 nowhere hay i None = refl
@@ -36,7 +36,7 @@ pub nothing : (hay : List ℕ) (i : ℕ) → attempt hay (byte_in []) accept i �
 unfolding attempt
 nothing hay i = nowhere hay i (slice_get hay i)
 
--- the first pattern, or else the others
+-- an alternation matches as its first pattern does, or else as the others do
 pub either : (re : Re) (res : List Re) (hay : List ℕ) (i : ℕ) →
     attempt hay (any_of (re ∷ res)) accept i ≡ option_or (attempt hay re accept i) (attempt hay (any_of res) accept i)
 unfolding attempt
@@ -44,7 +44,7 @@ either re [] hay i =
     sym (ap (option_or (attempt hay re accept i)) (nothing hay i) ∙ option_or-None (attempt hay re accept i))
 either re (next ∷ res) hay i = refl
 
--- and its number
+-- the number of the pattern that matches
 numbers : (a b : Option Trace) (p later : ℕ) →
     option_or (option_map (half_of p) a) (option_map (half_of (suc p + later)) b)
     ≡ option_map (half_of (p + cond (is_some a) 0 (suc later))) (option_or a b)
@@ -72,7 +72,7 @@ module _ (ks : List kit_nfa.Nfa) (res : List Re) (is : ImplementAll ks res) (hay
       ∙ ap (λ v. option_map (half_of v) (attempt hay (any_of res) accept (s + place))) (omega arith))
       (union_finds ks hay (length hay) (omega arith) same s place inside)
 
-  -- over bytes
+  -- the span over bytes
   pub bytes_mean : IsHaystack hay → (s : ℕ) →
       IsSpan (joined_engine false ks) (span_input hay s (length hay))
       (option_map (numbered_match res hay) (find (any_of res) hay s))
@@ -82,7 +82,7 @@ module _ (ks : List kit_nfa.Nfa) (res : List Re) (is : ImplementAll ks res) (hay
       hay (length hay)
       (omega arith) bytes (attempt hay (any_of res) accept) (first_at res hay) finds s refl
 
-  -- where a match begins, as the least path there
+  -- the start of a match, by the least path there
   here : (i : ℕ) (trace : Trace) → i ≤ length hay → attempt hay (any_of res) accept i ≡ Some trace →
       IsLeastEnd (joined_nfa ks) (forward_tape hay i (length hay)) i 0 [] (size_of ks)
       (Some (half_of (first_at res hay i) trace))
@@ -107,7 +107,7 @@ module _ (ks : List kit_nfa.Nfa) (res : List Re) (is : ImplementAll ks res) (hay
       let e = own.ends in
       omega (arith, l, count, e, inside)
 
-  -- over text, under the UTF-8 promise
+  -- the span over text, under the UTF-8 promise
   text_means : IsHaystack hay → IsUtf8 hay → KeepsUtf8 Forward (joined_engine true ks) → (s : ℕ) →
       IsSpan (joined_engine true ks) (span_input hay s (length hay))
       (option_map (numbered_match res hay) (find_str (any_of res) hay s))

@@ -1,4 +1,4 @@
--- What a node does is what the kit's state does, its targets raised.
+-- A node does what the kit's state does, with the base added to its targets.
 use Rattle.std.proofs.Common.{ℕ, zero, suc, ◌≡◌, ◌+◌, ◌<◌, List, [], ◌∷◌, Option, Some, refl, sym, ap, ◌∙◌, ⊎_elim}
 use Rattle.std.proofs.Common.{find, option_map, length, arith}
 use Rattle.std.specs.Prelude.{slice_get}
@@ -56,7 +56,7 @@ module _ (n : Nfa) (b p : ℕ) (k : kit_nfa.Nfa) (holds : HasStatesOf n b p k) (
   pub node_known : (x : kit_state.State) → state_of k q ≡ x → node n (b + q) ≡ node_of b p k.transitions.items x
   node_known x is = holds.nodes q inside ∙ ap (node_of b p k.transitions.items) is
 
-  -- where it leads on a byte
+  -- the target of a node for a byte
   pub takes_known : (x : kit_state.State) → state_of k q ≡ x → (u : ℕ) →
       takes n (b + q) u ≡ option_map (λ r. b + r) (next_on k.transitions.items x u)
   takes_known x is u = ap (λ v. takes_at v u) (node_known x is) ∙ takes_at-node_of b p k.transitions.items x u

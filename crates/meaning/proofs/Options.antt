@@ -1,4 +1,4 @@
--- What is done to a value under an option.
+-- A function that is applied to an optional value.
 use Rattle.std.proofs.Common.{◌≡◌, ℕ, ◌+◌, Option, None, Some, option_map, refl}
 use Rattle.std.specs.Prelude.{Bool, true, false, cond, is_some, option_and_then}
 use Rattle.std.specs.Option.{option_or}

@@ -1,4 +1,4 @@
--- A rank falls along each edge that reads no byte, so no state stands twice at one place.
+-- A rank falls along each epsilon edge, so no state is visited twice at one place.
 use Rattle.std.proofs.Common.{ℕ, ◌≡◌, ◌+◌, ◌<◌, List, ◌∷◌, sym, subst, inl, inr, arith, lt_irrefl, length}
 use Rattle.std.specs.Prelude.{slice_index}
 use Rattle.regex_nfa.specs.declared.nfa.Nfa as kit_nfa
@@ -8,7 +8,7 @@ abbrev pub rank : kit_nfa.Nfa → ℕ → ℕ
 rank k q = slice_index k.ranks.items q
 
 module _ (k : kit_nfa.Nfa) (b : ℕ) where
-  -- The pattern's states that were met before have a higher rank.
+  -- The pattern's states that were already visited have a higher rank.
   abbrev pub IsAbove : List ℕ → ℕ → Type 0
   IsAbove seen q = (x : ℕ) → x < length k.states.items → In (b + x) seen → rank k q < rank k x
 

@@ -1,4 +1,4 @@
--- A run of the kit's NFA gives where the least accepting path ends, and nothing if no path accepts.
+-- A run of the kit's NFA returns the end of the least accepting path, and none if no path accepts.
 use Rattle.std.proofs.Common.{ℕ, zero, suc, ◌≡◌, ◌+◌, ◌<◌, ◌≤◌, List, [], ◌∷◌, Some, None, Option, Bool, true, false}
 use Rattle.std.proofs.Common.{cond, length, option_map, refl, sym, ap, ap₂, ◌∙◌, subst, ⊎_elim, arith}
 use Rattle.std.specs.Prelude.{slice_get, option_and_then, if◌then◌else◌}
@@ -32,7 +32,7 @@ use Rattle.meaning.proofs.Nodes.{node_known, takes_known}
 use Rattle.meaning.proofs.Ranks.{IsAbove, above_new, above_next}
 use Rattle.meaning.proofs.Edges.{past_none, past_edge, all_edges, none_best, read_best, here_best}
 
--- the byte that a run reads at an offset is the one of the tape there
+-- the byte that a run reads at an offset is the byte of the tape there
 pub tape_byte : (hay : List ℕ) (s stop p : ℕ) → s + p ≤ stop → stop ≤ length hay →
     slice_get (forward_tape hay s stop).bytes p ≡ byte_below hay stop (s + p)
 tape_byte hay s stop p inside fits =
@@ -45,7 +45,7 @@ tape_byte hay s stop p inside fits =
     (cases_lt (s + p) stop)
 
 module _ (n : Nfa) (t : Tape) (p q : ℕ) where
-  -- what a union, a look, a byte state and a match have not
+  -- what unions, looks, byte states and match states lack
   pub moves_none : (x : Node) → node n q ≡ x → ((u r : ℕ) → takes_at x u ≡ Some r → ⊥) → (r : ℕ) → Moves n t p q r → ⊥
   moves_none x is none r m = none m.0 r (sym (ap (λ v. takes_at v m.0) is) ∙ m.2)
 
@@ -56,7 +56,7 @@ module _ (n : Nfa) (t : Tape) (p q : ℕ) where
       (x : Node) → node n q ≡ x → (e r : ℕ) → hop n (truth n t p) q e ≡ Some r → hop_at x (truth n t p) e ≡ Some r
   hop_known x is e r h = sym (ap (λ v. hop_at v (truth n t p) e) is) ∙ h
 
--- a union has no edges past its alternates, and a look has one at most
+-- a union has no edges after its alternates, and a look has at most one
 split_past :
     (alternates : List ℕ) (A : Truth) (d r : ℕ) → length alternates ≤ d → hop_at (Split alternates) A d ≡ Some r → ⊥
 split_past alternates A d r l h = none_some (sym (slice_get_past alternates d l) ∙ h)
@@ -74,11 +74,11 @@ module _ (n : Nfa) (b pat : ℕ) (k : kit_nfa.Nfa) (holds : HasStatesOf n b pat 
   abbrev t : Tape
   t = forward_tape hay s stop
 
-  -- what a run gives, as the end of a match of the pattern
+  -- what a run returns, as the end of a match of the pattern
   abbrev pub end_of : ℕ → ℕ → Option HalfMatch
   end_of q i = option_map (half_of pat) (run k hay stop q i)
 
-  -- wherever the run stands, whatever was met at the place before
+  -- a run agrees with the least path from its state, whatever was visited at this place before
   abbrev pub Agrees : ℕ → ℕ → Type 0
   Agrees q i =
       (p : ℕ) (seen : List ℕ) → q < length k.states.items → i ≡ s + p → i ≤ stop → IsAbove k b seen q

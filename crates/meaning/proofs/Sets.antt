@@ -40,12 +40,12 @@ use Rattle.meaning.proofs.Singles.{IsUnionPath, MatchesAt, union_matches, union_
 use Rattle.meaning.proofs.Texts.{boundary_is, empty_start, whole_path}
 use Rattle.meaning.proofs.Unions.{union_is}
 
--- The pattern matches from an offset on, in text one where a character begins.
+-- The pattern matches from an offset on; in text, from one where a character begins.
 abbrev pub IsFoundAt : (utf8 : Bool) → List ℕ → Re → ℕ → Trace → Type 0
 IsFoundAt utf8 hay re i trace =
     (i ≤ length hay) × (attempt hay re accept i ≡ Some trace) × (utf8 ≡ true → is_split hay i ≡ false)
 
--- A search for one that is among these offsets has one.
+-- A search over these offsets finds a match exactly if there is one at some of them.
 begins : (at : Rest) (stop : ℕ) → is_some (kit_find.first_between at 0 stop) ≡ true →
     (i : ℕ) × (trace : Trace) × (i ≤ stop) × (at i ≡ Some trace)
 begins at stop e =
@@ -149,7 +149,7 @@ EndsAt d hay pattern end =
 
 module _ (ks : List kit_nfa.Nfa) (res : List Re) (is : ImplementAll ks res) (utf8 : Bool) (hay : List ℕ)
     (same : Each (HasSameLooks hay) ks) (bytes : IsHaystack hay) (text : utf8 ≡ true → IsUtf8 hay) where
-  -- It is searched for all matches.
+  -- The engine searches for all matches.
   abbrev pub all : Engine
   all = record (joined_engine utf8 ks) { kind = KindAll }
 
@@ -181,7 +181,7 @@ module _ (ks : List kit_nfa.Nfa) (res : List Re) (is : ImplementAll ks res) (utf
         )))
         (cases_lt k place)
 
-    -- And one that begins so ends so.
+    -- And a match that begins where a character does ends where one does.
     end_whole :
         (k place z pattern : ℕ) (path : List ℕ) → place ≤ length hay
         → IsPathFrom (joined_nfa ks) t k [] (size_of ks) path place z →
@@ -227,7 +227,7 @@ module _ (ks : List kit_nfa.Nfa) (res : List Re) (is : ImplementAll ks res) (utf
         (re : Re) × (slice_get res pattern ≡ Some re) × (is_found utf8 hay re ≡ true)
     ends_found pattern end h = let w = ends_begin pattern end h in (w.0, w.3, at_found utf8 hay w.0 w.1 w.2 w.5)
 
-    -- a path from the union, at a place where a character begins, is one from the loop before it
+    -- a path from the union, at a place where a character begins, is also a path from the loop before it
     path_ends : (i pattern end : ℕ) → (inside : 0 + i ≤ length hay) → (utf8 ≡ true → is_split hay i ≡ false) →
         IsUnionPath ks res is hay same 0 i inside pattern end → EndsAt all hay pattern end
     path_ends i pattern end inside begin w = (w.1, skips i (0 ∷ w.0), within, (w.2, path, w.4), sym w.5, whole)
@@ -273,7 +273,7 @@ module _ (ks : List kit_nfa.Nfa) (res : List Re) (is : ImplementAll ks res) (utf
         path_ends i pattern end inside begin
         (union_way ks res is hay same 0 i inside pattern re end at (subst (λ v. Matches hay re v end) from way))
 
-  -- So of an automaton that joins these:
+  -- So for an automaton that joins these:
   module _ (a : Automaton) (engines : engine_of a LeftmostFirst ≡ joined_engine utf8 ks)
       (keeps : KeepsUtf8 Forward (engine_of a KindAll)) where
     -- an accepting path of a pattern through the haystack ends at this offset
@@ -285,7 +285,7 @@ module _ (ks : List kit_nfa.Nfa) (res : List Re) (is : ImplementAll ks res) (utf
     alike : engine_of a KindAll ≡ all
     alike = ap (λ (d : Engine). record d { kind = KindAll }) engines
 
-    -- That is an end of the patterns joined.
+    -- Such a path ends at an end of the joined patterns.
     is_end : (pattern end : ℕ) → EndsAt all hay pattern end → IsEnd pattern end
     is_end pattern end h =
         let w = subst (λ d. EndsAt d hay pattern end) (sym alike) h in record {
@@ -313,13 +313,13 @@ module _ (ks : List kit_nfa.Nfa) (res : List Re) (is : ImplementAll ks res) (utf
       λ w. let own = found_ends kept pattern w.0 w.1 w.2 in (own.0, is_end pattern own.0 own.1),
     )
 
-    -- In whatever way it matches, it has one to the end of the match.
+    -- In whatever way it matches, it has such a path to the end of the match.
     pub way_is_accepted : (pattern : ℕ) (re : Re) (i end : ℕ) → slice_get res pattern ≡ Some re → i ≤ length hay →
         (utf8 ≡ true → is_split hay i ≡ false) → Matches hay re i end → IsEnd pattern end
     way_is_accepted pattern re i end at l begin way =
         is_end pattern end (way_ends kept pattern re i end at l way begin)
 
-    -- And where it has one, it matches in some way, from an offset on that is not after the path's end.
+    -- And if it has such a path, it matches in some way, from an offset on that is not after the path's end.
     pub accepted_matches : (pattern end : ℕ) → IsEnd pattern end →
         (re : Re) × (i j : ℕ) × (slice_get res pattern ≡ Some re) × (i ≤ end) × (utf8 ≡ true → is_split hay i ≡ false)
         × Matches hay re i j

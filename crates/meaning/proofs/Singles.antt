@@ -1,6 +1,5 @@
--- The paths of each pattern in the joined NFA: from the union of the starts, a path to a match state of a pattern is
--- one
--- of that pattern alone.
+-- The paths of each pattern in the joined NFA: from the union of the starts, a path to a match state of a pattern is a
+-- path of that pattern alone.
 use Rattle.std.proofs.Common.{ℕ, zero, suc, ◌≡◌, ◌+◌, ◌<◌, ◌≤◌, List, [], ◌∷◌, Option, Some, None, length, option_map}
 use Rattle.std.proofs.Common.{refl, sym, ap, ◌∙◌, subst, ⊎_elim, arith}
 use Rattle.std.specs.Prelude.{slice_get}
@@ -60,7 +59,7 @@ module _ (n : Nfa) (b p : ℕ) (k : kit_nfa.Nfa) (holds : HasStatesOf n b p k) w
   match_is kit.Match pattern h = sym (some_inj h)
   match_is kit.Fail pattern h = absurd (none_some h)
 
-  -- so the match that it reaches is one of the pattern
+  -- so the match state that it reaches belongs to the pattern
   path_is_own : (t : Tape) (i : ℕ) (seen : List ℕ) (path : List ℕ) (j z pattern : ℕ) →
       IsPathFrom n t i seen (b + k.start) path j z → accepts n z ≡ Some pattern → pattern ≡ p
   path_is_own t i seen path j z pattern h acc =
@@ -68,7 +67,7 @@ module _ (n : Nfa) (b p : ℕ) (k : kit_nfa.Nfa) (holds : HasStatesOf n b p k) w
       match_is (state_of k w.0) pattern
       (sym (ap accepts_at (node_known n b p k holds w.0 w.2 _ refl)) ∙ sym (ap (λ v. accepts n v) w.1) ∙ acc)
 
--- What a pattern of these matches at an offset.
+-- The pattern with this number matches at an offset.
 abbrev pub MatchesAt : List ℕ → (i : ℕ) → List Re → ℕ → Type 0
 MatchesAt hay i res e =
     (re : Re) × (trace : Trace) × (slice_get res e ≡ Some re) × (attempt hay re accept i ≡ Some trace)
@@ -77,7 +76,7 @@ module _ (n : Nfa) (hay : List ℕ) (s u place : ℕ) (inside : s + place ≤ le
   abbrev tape : Tape
   tape = forward_tape hay s (length hay)
 
-  -- what a run finds that has an accepting path
+  -- a run finds something if there is an accepting path
   found_some : (p r : ℕ) (o : Option Trace) → IsLeastEnd n tape s place (u ∷ []) r (option_map (half_of p) o) →
       (path : List ℕ) (j z pattern : ℕ) → IsPathFrom n tape place (u ∷ []) r path j z → accepts n z ≡ Some pattern →
       (trace : Trace) × (o ≡ Some trace)
@@ -90,7 +89,7 @@ module _ (n : Nfa) (hay : List ℕ) (s u place : ℕ) (inside : s + place ≤ le
       (path : List ℕ) × (j z : ℕ) × IsPathFrom n tape place (u ∷ []) r path j z × (accepts n z ≡ Some pattern)
       × (s + j ≡ end)
 
-  -- the path from the start of a pattern is a match of it
+  -- the path from the start of a pattern is a match of the pattern
   path_matches : (b p : ℕ) (ks : List kit_nfa.Nfa) (res : List Re) → HoldsAll n b p ks → ImplementAll ks res →
       Each (HasSameLooks hay) ks → b + size_of ks ≤ u → (e r : ℕ) → slice_get (starts_of b ks) e ≡ Some r →
       (pattern end : ℕ) → IsPathOf r pattern end → (pattern ≡ p + e) × MatchesAt hay (s + place) res e
@@ -111,7 +110,7 @@ module _ (n : Nfa) (hay : List ℕ) (s u place : ℕ) (inside : s + place ≤ le
       pattern end w in
       (let own = rest.0 in omega (arith, own), rest.1)
 
-  -- and each match has such a path
+  -- each match has such a path
   match_has_path : (b p : ℕ) (ks : List kit_nfa.Nfa) (res : List Re) → HoldsAll n b p ks → ImplementAll ks res →
       Each (HasSameLooks hay) ks → b + size_of ks ≤ u → (e : ℕ) (re : Re) (trace : Trace) → slice_get res e ≡ Some re →
       attempt hay re accept (s + place) ≡ Some trace →
@@ -144,7 +143,7 @@ module _ (n : Nfa) (hay : List ℕ) (s u place : ℕ) (inside : s + place ≤ le
       let number : suc p + e ≡ p + suc e = omega arith in
       (rest.0, rest.1, subst (λ v. IsPathOf rest.0 v trace.end) number rest.2)
 
-  -- and so has each way in which it matches
+  -- each way in which the pattern matches has such a path
   way_has_path : (b p : ℕ) (ks : List kit_nfa.Nfa) (res : List Re) → HoldsAll n b p ks → ImplementAll ks res →
       Each (HasSameLooks hay) ks → b + size_of ks ≤ u → (e : ℕ) (re : Re) (end : ℕ) → slice_get res e ≡ Some re →
       Matches hay re (s + place) end → (r : ℕ) × (slice_get (starts_of b ks) e ≡ Some r) × IsPathOf r (p + e) end
@@ -172,7 +171,7 @@ module _ (n : Nfa) (hay : List ℕ) (s u place : ℕ) (inside : s + place ≤ le
 module _ (ks : List kit_nfa.Nfa) (res : List Re) (is : ImplementAll ks res) (hay : List ℕ)
     (same : Each (HasSameLooks hay) ks) (s place : ℕ)
     (inside : s + place ≤ length hay) where
-  -- an accepting path of a pattern from the union, and where it ends
+  -- an accepting path of a pattern from the union, and its end
   abbrev pub IsUnionPath : (pattern end : ℕ) → Type 0
   IsUnionPath pattern end =
       (path : List ℕ) × (j z : ℕ)
@@ -198,7 +197,7 @@ module _ (ks : List kit_nfa.Nfa) (res : List Re) (is : ImplementAll ks res) (hay
       absurd (moves_none (joined_nfa ks) (forward_tape hay s (length hay)) place (size_of ks) _ (union_is ks)
       (λ v r m. none_some m) r moves)
 
-  -- a path from the start of a pattern is one from the union
+  -- a path from the start of a pattern is also a path from the union
   from_union :
       (e r end : ℕ) → slice_get (starts_of 0 ks) e ≡ Some r
       → IsPathOf (joined_nfa ks) hay s (size_of ks) place inside r (0 + e) end →
@@ -218,7 +217,7 @@ module _ (ks : List kit_nfa.Nfa) (res : List Re) (is : ImplementAll ks res) (hay
         w.5,
       )
 
-  -- And each match of a pattern has such a path, to its end.
+  -- Each match of a pattern has such a path, to its end.
   pub union_path : (e : ℕ) → (m : MatchesAt hay (s + place) res e) → IsUnionPath e m.1.end
   union_path e m =
       let own =
@@ -226,7 +225,7 @@ module _ (ks : List kit_nfa.Nfa) (res : List Re) (is : ImplementAll ks res) (hay
       m.0 m.1 m.2 m.3 in
       from_union e own.0 m.1.end own.1 own.2
 
-  -- And so has each way in which it matches.
+  -- Each way in which a pattern matches has such a path.
   pub union_way :
       (e : ℕ) (re : Re) (end : ℕ) → slice_get res e ≡ Some re → Matches hay re (s + place) end → IsUnionPath e end
   union_way e re end at way =

@@ -1,4 +1,4 @@
--- The leftmost match by what is found at each offset is the span that the paths define, where a lazy loop begins them.
+-- The leftmost match, by what is found at each offset, is the span that the paths define, if a lazy loop begins them.
 use Rattle.std.proofs.Common.{ℕ, zero, suc, ◌≡◌, ◌+◌, ◌-◌, ◌<◌, ◌≤◌, ◌⊎◌, List, [], ◌∷◌, Some, None, Bool, true, false}
 use Rattle.std.proofs.Common.{not, length, option_map, refl, sym, ap, ◌∙◌, subst, ⊎_elim, inl, inr, arith, true≢false}
 use Rattle.std.specs.Prelude.{if◌then◌else◌}
@@ -37,14 +37,14 @@ use Rattle.meaning.proofs.Options.{half_of}
 use Rattle.meaning.proofs.Edges.{upto_cons}
 use Rattle.meaning.proofs.Texts.{boundary_is}
 
--- as much as is skipped before both
+-- the order of two paths is kept if the same offsets are skipped before both
 upto_skips : (k : ℕ) (a b : List ℕ) → Upto a b → Upto (skips k (0 ∷ a)) (skips k (0 ∷ b))
 upto_skips zero a b h = upto_cons 0 a b _ refl h
 upto_skips (suc k) a b h =
     upto_cons 1 (0 ∷ skips k (0 ∷ a)) (0 ∷ skips k (0 ∷ b)) _ refl
     (upto_cons 0 (skips k (0 ∷ a)) (skips k (0 ∷ b)) _ refl (upto_skips k a b h))
 
--- a match of the pattern that has this number where it begins
+-- a match belongs to the pattern that has this number where it begins
 abbrev pub numbered : (ℕ → ℕ) → kit_find.Match → Match
 numbered number m = record { pattern = number m.start; start = m.start; end = m.trace.end }
 
@@ -204,7 +204,7 @@ module _ (n : Nfa) (a u x : ℕ) (starts : List ℕ) (utf8 : Bool) (loop : Loops
     from_here : first_between at (s + 0) stop ≡ first_between at s stop
     from_here = ap (λ v. first_between at v stop) (omega arith)
 
-    -- over bytes the first span is the only one that is tried
+    -- over bytes only the first span is tried
     pub bytes_span : utf8 ≡ false → IsSpan searched input (option_map (numbered number) (first_between at s stop))
     bytes_span plain =
         ⊎_elim
@@ -215,7 +215,7 @@ module _ (n : Nfa) (a u x : ℕ) (starts : List ℕ) (utf8 : Bool) (loop : Loops
         (λ skip. absurd (true≢false (sym skip.0 ∙ plain)))))
         (option_cases (first_between at s stop))
 
-  -- Over text a match is empty, or begins and ends where characters do; and if one is empty, places inside characters
+  -- Over text a match is empty, or begins and ends where characters do; and if one is empty, offsets inside characters
   -- are skipped.
   module _ (plain : (i : ℕ) (trace : Trace) → i ≤ stop → at i ≡ Some trace →
       (i ≡ trace.end) ⊎ ((is_split hay i ≡ false) × (is_split hay trace.end ≡ false)))
@@ -269,7 +269,7 @@ module _ (n : Nfa) (a u x : ℕ) (starts : List ℕ) (utf8 : Bool) (loop : Loops
               (λ (w : (is_split hay m.start ≡ false) × (is_split hay m.trace.end ≡ false)). w.0)
               (plain m.start m.trace first.to first.here)
 
-      -- it ends inside a character, so it is empty there, and the search goes on
+      -- it ends inside a character, so it is empty there, and the search continues
       split_here :
           (k : ℕ) (m : kit_find.Match) → IsFirst at (s + k) stop m → is_split hay m.trace.end ≡ true → Spans (suc k)
           → Spans k

@@ -30,7 +30,7 @@ boundary_of : (o : Option ℕ) → is_none_or o (λ b. not (is_in_range 0x80 0xB
 boundary_of None = refl
 boundary_of (Some u) = refl
 
--- the kit's word and this library's
+-- the kit's character boundaries are the offsets that this library does not call split
 pub boundary_is : (hay : List ℕ) (i : ℕ) → is_boundary hay i ≡ not (is_split hay i)
 unfolding is_boundary
 boundary_is hay i = boundary_of (slice_get hay i)
@@ -49,7 +49,7 @@ boundary hay i l e = (
         ap is_continuation (slice_get-get_or hay i 0 inside)
         ∙ ap₂ (λ v w. v && w) (le-leb 128 (get_or hay i 0) low) (le-leb (get_or hay i 0) 191 (omega (arith, high)))
 
--- text that begins and goes on with whole characters ends with one
+-- text that begins and continues with whole characters ends with one
 ends_whole :
     (hay : List ℕ) (i e : ℕ) → IsUtf8 hay → i ≤ e → e ≤ length hay → is_split hay i ≡ false → IsUtf8 (between hay i e) →
     is_split hay e ≡ false
@@ -96,7 +96,7 @@ module _ (d : Engine) (keeps : KeepsUtf8 Forward d) (utf8 : d.utf8 ≡ true) (ha
           let from : i + 0 ≡ i = omega arith in
           (subst (λ v. is_split hay v ≡ false) from whole.0, subst (λ v. is_split hay v ≡ false) own.ends whole.1)
 
--- A path that stays at its place reads nothing.
+-- A path that stays at its place reads no byte.
 still :
     (n : Nfa) (t : Tape) (i : ℕ) (seen : List ℕ) (q : ℕ) (path : List ℕ) (z : ℕ) → IsPathFrom n t i seen q path i z
     → HasEpsilonPath n q z
@@ -107,7 +107,7 @@ still n t i seen q (e ∷ path) z (StaysHere r hops new on) =
 still n t i seen q (e ∷ path) z (ReadsByte r edge moves on) =
     absurd (let g = path_grows n t (suc i) [] r path i z on in omega (arith, g))
 
--- So if a match from a union of starts is empty, the empty match is one of a start.
+-- So if a match from a union of starts is empty, it is the empty match of one of the starts.
 pub empty_start :
     (n : Nfa) (t : Tape) (i u : ℕ) (starts : List ℕ) → node n u ≡ Split starts → (path : List ℕ) (z pattern : ℕ) →
     IsPathFrom n t i [] u path i z → accepts n z ≡ Some pattern → MatchesEmpty n starts

@@ -40,7 +40,7 @@ length-nodes_of_all b p (k ∷ ks) =
     (nodes_of_all (b + length k.states.items) (suc p) ks) in
     omega (arith, own, rest, both)
 
--- each pattern's states stand behind those of the patterns before it
+-- each pattern's states come after those of the previous patterns
 holds_from :
     (n : Nfa) → n.terminator ≡ 10 → n.reverse ≡ false → (ks : List kit_nfa.Nfa) (b p : ℕ) (pre post : List Node) →
     length pre ≡ b → n.nodes ≡ pre ++ (nodes_of_all b p ks ++ post) → HoldsAll n b p ks
@@ -98,7 +98,7 @@ module _ (ks : List kit_nfa.Nfa) where
   pub skip_is : node n (union + 2) ≡ any_byte (union + 1)
   skip_is = behind 2
 
--- The end of the match at an offset: that of the first pattern which has one there.
+-- The end of the match at an offset: it belongs to the first pattern that has a match there.
 abbrev pub found_of : List ℕ → (stop i p : ℕ) → List kit_nfa.Nfa → Option HalfMatch
 found_of hay stop i p [] = None
 found_of hay stop i p (k ∷ ks) =
@@ -106,7 +106,7 @@ found_of hay stop i p (k ∷ ks) =
 
 module _ (n : Nfa) (hay : List ℕ) (s stop u place i : ℕ) (fits : stop ≤ length hay) (at : i ≡ s + place)
     (inside : i ≤ stop) where
-  -- from the start of one pattern, after the union
+  -- a path from the start of one pattern, after the union
   pub pattern_finds :
       (b p : ℕ) (k : kit_nfa.Nfa) → HasStatesOf n b p k → HasSameLooks hay k → b + length k.states.items ≤ u →
       IsLeastEnd n (forward_tape hay s stop) s place (u ∷ []) (b + k.start)
@@ -116,7 +116,7 @@ module _ (n : Nfa) (hay : List ℕ) (s stop u place i : ℕ) (fits : stop ≤ le
       inside
       (λ x l m. ⊎_elim (λ (e : b + x ≡ u). absurd (omega (arith, l, e, room))) (λ (x : ⊥). absurd x) m)
 
-  -- by the edges to the starts of the patterns from number `p` on
+  -- paths by the edges to the starts of the patterns from number `p` on
   past : (b p : ℕ) (ks : List kit_nfa.Nfa) → HoldsAll n b p ks → Each (HasSameLooks hay) ks → b + size_of ks ≤ u →
       ((e : ℕ) → hop n (truth n (forward_tape hay s stop) place) u (p + e) ≡ slice_get (starts_of b ks) e) →
       IsLeastPast n (forward_tape hay s stop) s place [] u p (found_of hay stop i p ks)

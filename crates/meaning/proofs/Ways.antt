@@ -1,4 +1,4 @@
--- Each path of the NFA of a pattern, be it the first or not, is one of the joined NFA.
+-- Each path of the NFA of a pattern, whether or not it is the first, is a path of the joined NFA.
 use Rattle.std.proofs.Common.{ℕ, suc, ◌≡◌, ◌+◌, ◌<◌, ◌≤◌, List, [], ◌∷◌, Some, None, cond, length, option_map, refl}
 use Rattle.std.proofs.Common.{sym, ap, ◌∙◌, arith}
 use Rattle.regex_nfa.specs.Paths.{Accepts, EmptyEdge, by_first, by_second, by_save, by_look, consumed, matched, skipped}
@@ -21,7 +21,7 @@ module _ (n : Nfa) (b pat : ℕ) (k : kit_nfa.Nfa) (holds : HasStatesOf n b pat 
   abbrev t : Tape
   t = forward_tape hay s stop
 
-  -- an accepting path from a state at a place, where these states were met there before, and where it ends
+  -- an accepting path from a state at a place, where these states were already visited, and its end
   abbrev pub IsPathTo : (end p : ℕ) → List ℕ → ℕ → Type 0
   IsPathTo end p seen q =
       (path : List ℕ) × (j z : ℕ) × IsPathFrom n t p seen (b + q) path j z × (accepts n z ≡ Some pat) × (s + j ≡ end)

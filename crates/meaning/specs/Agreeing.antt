@@ -1,4 +1,4 @@
--- When a run of the kit's NFA and the least accepting path of this library are the same thing.
+-- How runs of the kit's NFA correspond to least accepting paths of this library.
 use Rattle.std.specs.Prelude.{ℕ, suc, ◌≡◌, ◌+◌, ◌<◌, ◌≤◌, false, List, [], ◌∷◌, length, Option, Some, None, slice_get}
 use Rattle.regex_hir.specs.Looks as kit_looks
 use Rattle.regex_hir.specs.declared.look.Look as kit_look
@@ -16,7 +16,7 @@ use Rattle.automata_base.specs.Paths.Order.{Upto}
 use Rattle.automata_base.specs.Paths.Paths.{Tape, IsPathFrom}
 use Rattle.meaning.specs.Translated.{look_of, node_of}
 
--- No look of the NFA is one of characters.
+-- The NFA has no Unicode look.
 abbrev pub HasNoUnicodeLook : kit_nfa.Nfa → Type 0
 HasNoUnicodeLook k = (q r : ℕ) (l : kit_look.Look) → state_of k q ≡ kit.Look l r → is_unicode_look l ≡ false
 
@@ -31,8 +31,8 @@ abbrev pub Each : (kit_nfa.Nfa → Type 0) → List kit_nfa.Nfa → Type 0
 Each P [] = Unit {0}
 Each P (k ∷ ks) = P k × Each P ks
 
--- From its start the NFA finds at each offset what the pattern means, and each way in which the pattern matches, be it
--- preferred or not, is a path of it.
+-- From its start the NFA finds at each offset what the pattern means, and each way in which the pattern matches,
+-- preferred or not, is a path of the NFA.
 abbrev pub HasMeaning : kit_nfa.Nfa → Re → Type 0
 HasMeaning k re = Implements k re × HasPaths k re
 
@@ -60,8 +60,8 @@ abbrev pub HoldsAll : Nfa → (base p : ℕ) → List kit_nfa.Nfa → Type 0
 HoldsAll n base p [] = Unit {0}
 HoldsAll n base p (k ∷ ks) = HasStatesOf n base p k × HoldsAll n (base + length k.states.items) (suc p) ks
 
--- The least accepting path from `q` at place `p` of a span that begins at offset `s`, where these states were met at
--- that place before, has this pattern and this end.
+-- The least accepting path from `q` at place `p` of a span that begins at offset `s`, where these states were already
+-- visited at that place, has this pattern and this end.
 pub record HasLeastPath (n : Nfa) (t : Tape) (s p : ℕ) (seen : List ℕ) (q : ℕ) (half : HalfMatch) : Type 0 where
   -- the path
   pub path : List ℕ
@@ -73,7 +73,7 @@ pub record HasLeastPath (n : Nfa) (t : Tape) (s p : ℕ) (seen : List ℕ) (q : 
   pub is_path : IsPathFrom n t p seen q path place state
   -- it accepts the pattern
   pub accepted : accepts n state ≡ Some half.pattern
-  -- its place is that of the end
+  -- its place is the place of the end
   pub ends : s + place ≡ half.offset
   -- no accepting path from `q` comes before it
   pub least :
@@ -81,7 +81,7 @@ pub record HasLeastPath (n : Nfa) (t : Tape) (s p : ℕ) (seen : List ℕ) (q : 
       → Upto path other
 
 -- The pattern and the end of the least accepting path from `q` at place `p` of a span that begins at offset `s`, where
--- these states were met at that place before; none if no path accepts.
+-- these states were already visited at that place; none if no path accepts.
 abbrev pub IsLeastEnd : Nfa → Tape → (s p : ℕ) → (seen : List ℕ) → ℕ → Option HalfMatch → Type 0
 IsLeastEnd n t s p seen q None =
     (path : List ℕ) (j z pattern : ℕ) → IsPathFrom n t p seen q path j z → accepts n z ≡ Some pattern → ⊥

@@ -1,4 +1,4 @@
--- The NFAs that the kit's compiler makes of patterns, joined to one NFA of this library.
+-- The NFAs to which the kit's compiler compiles patterns, joined into one NFA of this library.
 use Rattle.std.specs.Prelude.{ℕ, suc, ◌+◌, Bool, false, List, [], ◌∷◌, ◌++◌, length, slice_range}
 use Rattle.regex_hir.specs.declared.look.Look as kit_look
 use Rattle.regex_hir.specs.declared.look.Look.TheVariants as is
@@ -12,7 +12,7 @@ use Rattle.automata_base.specs.declared.util.search.MatchKind.TheVariants.{Leftm
 use Rattle.automata_base.specs.Nfas.Engines.{Engine, any_byte}
 use Rattle.automata_base.specs.Nfas.Nfa.{Nfa, Node, Range, Split, Assert, Read, Accept}
 
--- The same look.
+-- The look of this library for a look of the kit.
 abbrev pub look_of : kit_look.Look → our_look.Look
 look_of is.Start = our.Start
 look_of is.End = our.End
@@ -33,7 +33,7 @@ look_of is.WordEndHalfAscii = our.WordEndHalfAscii
 look_of is.WordStartHalfUnicode = our.WordStartHalfUnicode
 look_of is.WordEndHalfUnicode = our.WordEndHalfUnicode
 
--- The nodes of one pattern's states. They stand after `base` others, so each target is raised by that.
+-- The nodes of one pattern's states. They come after `base` others, so `base` is added to each target.
 module _ (base : ℕ) where
   -- A transition as a range.
   abbrev pub range_of : Transition → Range
@@ -44,7 +44,7 @@ module _ (base : ℕ) where
   ranges_of [] = []
   ranges_of (t ∷ ts) = range_of t ∷ ranges_of ts
 
-  -- What a capture writes is ignored.
+  -- The node of a state. What a capture writes is ignored.
   abbrev pub node_of : (pattern : ℕ) → List Transition → kit_state.State → Node
   node_of p ts (kit.ByteRange t) = Read (range_of t ∷ [])
   node_of p ts (kit.Sparse from to) = Read (ranges_of (slice_range ts from to))
@@ -59,12 +59,12 @@ module _ (base : ℕ) where
   nodes_of p ts [] = []
   nodes_of p ts (x ∷ xs) = node_of p ts x ∷ nodes_of p ts xs
 
--- How many states the patterns have.
+-- The number of states of the patterns.
 abbrev pub size_of : List kit_nfa.Nfa → ℕ
 size_of [] = 0
 size_of (k ∷ ks) = length k.states.items + size_of ks
 
--- The nodes of patterns that are numbered from `p` on, one pattern after the other.
+-- The nodes of patterns that are numbered from `p` on, one pattern after another.
 abbrev pub nodes_of_all : (base p : ℕ) → List kit_nfa.Nfa → List Node
 nodes_of_all base p [] = []
 nodes_of_all base p (k ∷ ks) =
@@ -75,7 +75,8 @@ abbrev pub starts_of : (base : ℕ) → List kit_nfa.Nfa → List ℕ
 starts_of base [] = []
 starts_of base (k ∷ ks) = (base + k.start) ∷ starts_of (base + length k.states.items) ks
 
--- After the patterns come a union of their starts, and a loop that tries it and then skips a byte.
+-- The NFA that joins patterns: after their states come a union of their starts, and a loop that tries it and then skips
+-- a byte.
 abbrev pub joined_nfa : List kit_nfa.Nfa → Nfa
 joined_nfa ks = let union = size_of ks in record {
   nodes = nodes_of_all 0 0 ks
@@ -85,7 +86,7 @@ joined_nfa ks = let union = size_of ks in record {
   keeps_unions = false;
 }
 
--- It is searched leftmost first: over text if `utf8` is true, and else over bytes.
+-- The joined NFA as it is searched: leftmost-first, over text if `utf8` is true, otherwise over bytes.
 abbrev pub joined_engine : (utf8 : Bool) → List kit_nfa.Nfa → Engine
 joined_engine utf8 ks = record {
   nfa = joined_nfa ks;

@@ -1,6 +1,5 @@
--- The NFA of patterns answers as the one that joins them, and their regex searches it as it is: it has no look cycle,
--- so
--- that it keeps no unions.
+-- The NFA of patterns answers as the one that joins them, and their regex searches it unchanged: it has no look cycle,
+-- so it does not keep unions.
 use Rattle.std.proofs.Common.{◌≡◌, ◌∙◌, ◌↔◌, Bool, true, false, List, length, ap, sym, subst, refl}
 use Rattle.std.specs.Prelude.{Result, Ok, Err, IfErr, IsErrAnd, IsTrue}
 use Rattle.regex_hir.specs.Re.{Re}
@@ -34,7 +33,7 @@ has_no_look_cycle :
     → HasNoLookCycle a
 has_no_look_cycle a ks utf8 same = subst IsLookAcyclic (sym (ap (λ (d : Engine). d.nfa) same)) (joined_acyclic ks)
 
--- an NFA whose unions are merged answers as it did
+-- an NFA whose unions are merged answers as before
 answers_as : (a b : Automaton) → IsChecked a → IsMergedNfa a b → AnswersAs a b
 answers_as a b checked into = record {
   alike = λ kind. merged_alike a b kind checked into;
@@ -48,7 +47,7 @@ answers_as a b checked into = record {
   count = ap length (sym into.begins.patterns);
 }
 
--- so what is made of some patterns joins them
+-- so the NFA that is built for some patterns joins them
 pub joined_is :
     (o : Options) (res : List Re) (ks : List kit_nfa.Nfa) (a b : Automaton) → AreNfasOf o ks res
     → engine_of a LeftmostFirst ≡ joined_engine o.utf8 ks → IsMergedWithin o.size_limit a b → IsJoinedNfa o res b
@@ -79,7 +78,7 @@ regex_is o options res a p kind is (kept, b, keeping, reversed, built) sound = r
       (sym (ap (λ (m : Machine). m.nfa) built.0.2 ∙ kept_is a kept is.acyclic is.unions keeping)) is;
 }
 
--- what holds of the error that is returned
+-- a property of the error that is returned
 pub of_error : {A E : Type 0} (r : Result A E) (e : E) (P : E → Type 0) → IsErrAnd r (λ x. x ≡ e) → P e → IfErr r P
 of_error (Ok a) e P is h = absurd is
 of_error (Err x) e P is h = subst P (sym is) h

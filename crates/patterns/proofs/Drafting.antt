@@ -48,7 +48,7 @@ each_push :
 each_push P [] k all own = (own, tt)
 each_push P (x ∷ ks) k all own = (all.0, each_push P ks k all.1 own)
 
--- how many states and patterns a draft has
+-- the number of states and patterns in a draft
 pub states_count : (draft : Draft) (ks : List kit_nfa.Nfa) → Has draft ks → length draft.states.items ≡ size_of ks
 states_count draft ks has =
     sym (length-our_nodes draft.states.items) ∙ ap length has.nodes ∙ length-nodes_of_all 0 0 ks
@@ -73,13 +73,13 @@ has_push ascii old new ks k has grows = record {
       ∙ sym (starts_of_push 0 ks k);
 }
 
--- what a pattern takes of the room
+-- the room that a pattern takes
 left_push : (o : Options) (old new : Draft) (ks : List kit_nfa.Nfa) (k : kit_nfa.Nfa) → IsLeft o old ks →
     table_bytes k ≤ old.room + 24 → new.room ≤ old.room - table_bytes k → IsLeft o new (ks ++ k ∷ [])
 left_push o old new ks k left small room =
     omega (arith, left, small, room, sum_by-append table_bytes ks (k ∷ []), length-append ks (k ∷ []))
 
--- one text more
+-- one more text
 pub draft_push : (o : Options) (texts : List (List ℕ)) (text : List ℕ) (old new : Draft) → IsDraftOf o texts old →
     (k : kit_nfa.Nfa) × IsCompiled (config_of o) text k × (table_bytes k ≤ old.room + 24) × Grows o.ascii old k new →
     IsDraftOf o (texts ++ text ∷ []) new
@@ -95,7 +95,7 @@ draft_push o texts text old new is (k, compiled, small, grows) = record {
   left = left_push o old new is.ks k is.left small grows.room;
 }
 
--- none yet
+-- no text yet
 pub draft_empty :
     (o : Options) (draft : Draft) → draft.states.items ≡ [] → draft.starts.items ≡ [] → draft.room ≡ o.size_limit →
     IsDraftOf o [] draft
@@ -123,7 +123,7 @@ draft_next o texts i d old new inside is more =
     (sym (take-suc texts i d inside) ∙ ap (λ v. take v texts) (sym (add-one i))))
     (draft_push o (map (λ text. text.now) (take i texts)) (get_or texts i d).now old new is more)
 
--- how many patterns a draft of texts has
+-- the number of patterns in a draft of texts
 meanings_count :
     (config : Config) (texts : List (List ℕ)) (res : List Re) → AreMeanings config texts res → length res ≡ length texts
 meanings_count config [] [] are = refl
@@ -142,7 +142,7 @@ patterns_count :
 patterns_count o texts draft is =
     implement_count is.ks is.res is.nfas.0 ∙ meanings_count (config_of o) texts is.res is.meant
 
--- the text at which a draft of those before it fails
+-- the text at which the draft fails, after the texts before it were added
 pub first_fault :
     (o : Options) (texts : List (Bor (List ℕ))) (i : ℕ) (d : Bor (List ℕ)) (draft : Draft) (number : ℕ) (fault : Fault)
     →
@@ -170,7 +170,7 @@ first_fault o texts i d draft number fault inside is count at =
       fault = at;
     }
 
--- the states of patterns that are within the size limit
+-- the states of patterns are within the size limit
 states_small : (ks : List kit_nfa.Nfa) → 12 * size_of ks ≤ sum_by table_bytes ks
 states_small [] = omega arith
 states_small (k ∷ ks) = omega (arith, states_small ks, sum_by-cons table_bytes k ks, k.states.ok.0)
@@ -193,7 +193,7 @@ states_within o texts draft a is same =
       patterns_count o texts draft is,
     )
 
--- also where unions are merged
+-- the states are within the size limit also if unions are merged
 pub within_limit :
     (o : Options) (texts : List (List ℕ)) (draft : Draft) (a b : Automaton) (is : IsDraftOf o texts draft) →
     engine_of a LeftmostFirst ≡ joined_engine o.utf8 is.ks → IsMergedWithin o.size_limit a b → IsWithinLimit o texts b
@@ -214,7 +214,7 @@ joined_nodes s0 s1 s2 s3 x y z n1 n2 n3 e1 e2 e3 is1 is2 is3 =
     ∙ append_assoc (ours.nodes_of s0 ++ n1 ∷ []) (n2 ∷ []) (n3 ∷ [])
     ∙ append_assoc (ours.nodes_of s0) (n1 ∷ []) (n2 ∷ n3 ∷ [])
 
--- the NFA that is made of them
+-- the NFA that is built from them
 pub finished : (draft : Draft) (ks : List kit_nfa.Nfa) (a : Automaton) (utf8 : Bool) → Has draft ks →
     ours.nodes_of a.states
     ≡ ours.nodes_of draft.states.items

@@ -1,4 +1,4 @@
--- One fault as another.
+-- Conversions of one fault to another.
 use Rattle.std.proofs.Common.{ℕ, List}
 use Rattle.regex_nfa.specs.declared.nfa.Nfa as kit_nfa
 use Rattle.patterns.specs.Drafts.{IsCompiled}
@@ -9,7 +9,7 @@ use Rattle.patterns.specs.declared.error.Fault.{Fault}
 use Rattle.patterns.specs.declared.error.Fault.TheVariants.{Syntax, UnicodeWord, TooLarge, Malformed, Refused, Unbuilt}
 use Rattle.patterns.specs.declared.error.Fault.TheVariants.{OutOfMemory}
 
--- of the text whose states are not added
+-- the fault of a text whose states are not added
 pub text_fault : (o : Options) (text : List ℕ) (k : kit_nfa.Nfa) → IsCompiled (config_of o) text k → (fault : Fault) →
     IsAddFault o.ascii k fault → IsFaultOf o text fault
 text_fault o text k compiled (Syntax error) is = absurd is

@@ -16,12 +16,12 @@ use Rattle.regex_automata.specs.declared.hybrid.regex.Regex.{Regex}
 use Rattle.regex_automata.specs.declared.hybrid.regex.caches.Cache.{Cache}
 use Rattle.patterns.specs.Iteration.{GivesMatch, IsNextMeant, most_left, rest_of}
 
--- what is said of an option, where there is one
+-- a property of an option's value, if it has one
 pub given : {A : Type 0} {a : A} {o : Option A} (P : A → Type 0) → o ≡ Some a → IfSome o P → P a
 given {a = a} {o = None} P is h = absurd (none-some a is)
 given {a = a} {o = Some b} P is h = subst P (same_Some b a is) h
 
--- what is said of the error that a call returns, if it returns one
+-- a property of the error that a call returns, if it returns one
 pub refused : {A : Type 0} (r : Result A SearchError) (P : SearchError → Type 0) → IfSome (result_err r) P → IfErr r P
 refused (Ok a) P h = tt
 refused (Err e) P h = h
@@ -52,7 +52,7 @@ module _ (p : Regex) (old new : Cache) (hay : List ℕ) (last : Option ℕ) wher
   gives_error true e on refused = open_is on
   gives_error false e on refused = (refused, record { place = refl; over = refl })
 
--- what an item of an iteration that goes on makes of the caches
+-- the effect on the caches of an item of an iteration that has not ended
 pub item_run :
     (p : Regex) (input : Input) (last : Option ℕ) (ended : Bool) (old new : Cache)
     (item : Option (Result Match SearchError)) →
@@ -60,7 +60,7 @@ pub item_run :
 item_run p input last true old new item on run = open_is on
 item_run p input last false old new item on run = run
 
--- after a match fewer items may come, and after an error none
+-- after a match the upper bound on the remaining items is lower
 pub fewer_left :
     (p : Regex) (hay : List ℕ) (last : Option ℕ) (ended : Bool) (m : Match) (end : ℕ) → ended ≡ false → end ≡ m.end →
     GoesPast p (rest_of hay last) last m → most_left ended hay (Some end) < most_left ended hay last
@@ -75,7 +75,7 @@ some_left hay last true on within = open_is on
 some_left hay None false on within = omega arith
 some_left hay (Some at) false on within = omega (arith, within)
 
--- what an item says
+-- the match of an item, and the iteration after it
 pub item_match :
     (p : Regex) (old new : Cache) (hay : List ℕ) (m : Match) (last last' : Option ℕ) (ended ended' : Bool) →
     GivesMatch p old new hay (Some (Ok m)) last last' ended ended' → IsNextMeant p hay last (Some m)

@@ -38,7 +38,7 @@ use Rattle.patterns.specs.declared.compile.Options.{Options}
 all_ascii : (hay : List ℕ) → IsAscii hay → All (λ b. b < 128) hay
 all_ascii hay ascii i d l = subst (λ v. v < 128) (get_or_default hay i 0 d l) (ascii i)
 
--- the looks agree on what the options say is searched
+-- the looks agree on haystacks that the options allow
 pub looks_same : (ascii : Bool) (hay : List ℕ) → (ascii ≡ true → IsAscii hay) → (ks : List kit_nfa.Nfa) →
     Each (λ k. ascii ≡ false → HasNoUnicodeLook k) ks → Each (HasSameLooks hay) ks
 looks_same ascii hay only [] looks = tt
@@ -53,7 +53,7 @@ module _ (p : Regex) (o : Options) (res : List Re) (is : IsRegexOf o res p) (hay
   abbrev made : IsJoinedNfa o res p.forward.nfa
   made = is.joined
 
-  -- the forward engine is the one that answers as the joined one
+  -- the forward engine answers as the joined one
   own : forward_engine p ≡ engine_of p.forward.nfa LeftmostFirst
   own = ap (engine_of p.forward.nfa) is.kind
 
@@ -92,14 +92,14 @@ module _ (p : Regex) (o : Options) (res : List Re) (is : IsRegexOf o res p) (hay
   end_means s found (answer, a, same) =
       same ∙ end_is (forward_engine p) res hay (find_any o.utf8 res hay) spans s answer a
 
-  -- the next match is the first of those that are left
+  -- the next match is the first of the remaining ones
   pub next_means : (begin : ℕ) (last : Option ℕ) (found : Option Match) →
       IsNextItem (IsSpan (forward_engine p)) (span_input hay begin (length hay)) (unwrap_or last 0) last found →
       IsFirstLeft (left_any o.utf8 res hay) last found
   next_means begin last found h =
       item_left (forward_engine p) res hay (find_any o.utf8 res hay) spans begin last found h
 
--- for every meaning that the regex is of
+-- for every meaning that the regex has
 pub found_means : (p : Regex) (hay : List ℕ) (s : ℕ) (input : Input) (r : Result (Option Match) SearchError) →
     input ≡ span_input hay s (length hay) → IsHaystack input.haystack → IsSpanOf p input r →
     IfOk r (λ found. (o : Options) (res : List Re) → IsRegexOf o res p → IsFor o hay →

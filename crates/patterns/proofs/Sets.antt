@@ -35,7 +35,7 @@ use Rattle.patterns.specs.declared.compile.Options.{Options}
 use Rattle.patterns.proofs.Drafting.{implement_count}
 use Rattle.patterns.proofs.Searching.{looks_same}
 
--- The DFA that is built of the NFA of some patterns.
+-- The DFA that is built from the NFA of some patterns.
 pub dfa_is :
     (o : Options) (res : List Re) (a : Automaton) (m : Machine) → IsJoinedNfa o res a
     → KeepsUtf8 Forward (engine_of a KindAll) →
@@ -48,7 +48,7 @@ dfa_is o res a m joins keeps (s, settled, same) =
       utf8 = subst (λ v. KeepsUtf8 Forward (engine_of v KindAll)) (sym own) keeps;
     }
 
--- A set that was empty, with room for each pattern.
+-- An empty set, with room for each pattern.
 pub joins_empty :
     (m : Machine) (hay : List ℕ) (i : Input) (n : ℕ) (old new : List Bool) → i ≡ span_input hay 0 (length hay) →
     old ≡ empty_set n → n ≡ length m.nfa.start_pattern → JoinsReported m i old new →
@@ -57,7 +57,7 @@ joins_empty m hay i n old new same fresh room which =
     subst (λ v. JoinsReported m v (empty_set (length m.nfa.start_pattern)) new) same
     (subst (λ v. JoinsReported m i v new) (fresh ∙ ap empty_set room) which)
 
--- What the search for a set that was empty does.
+-- The effect of a search for an empty set.
 pub searches_empty :
     (m : Machine) (hay : List ℕ) (i : Input) (n : ℕ) (set new : List Bool) (before after : CacheView)
     (result : Result (List Bool) SearchError)
@@ -81,7 +81,7 @@ first_match m hay i old new same fresh reports pairs walked =
     ((reports 0 (subst (λ (w : Walk). HasReported Forward m i w 0) (sym fresh) (refl, refl))).1 pairs
     (subst (λ (v : Input). AreWalked Forward m v pairs) (sym same) walked)).0
 
--- Only a pattern that matches is in a set that was empty.
+-- Only a pattern that matches is added to an empty set.
 joined : (n p : ℕ) (P : Type 0) → In p (members (empty_set n)) ⊎ ((p < length (empty_set n)) × P) → P
 joined n p P (inl h) = absurd (subst (In p) (members_from-replicate n 0) h)
 joined n p P (inr h) = h.1
@@ -94,7 +94,7 @@ module _ (m : Machine) (o : Options) (res : List Re) (is : IsDfaOf o res m) (hay
   abbrev made : IsJoinedNfa o res m.nfa
   made = is.joined
 
-  -- what accepts in the NFA accepts in the one that joins the patterns
+  -- the NFA accepts what the NFA that joins the patterns accepts
   ends :
       (pair : Pair)
       → IsAccepted Forward made.joined input made.joined.start_unanchored pair
@@ -107,7 +107,7 @@ module _ (m : Machine) (o : Options) (res : List Re) (is : IsDfaOf o res m) (hay
   keeps : KeepsUtf8 Forward (engine_of made.joined KindAll)
   keeps = (made.answers.utf8 KindAll).1 is.utf8
 
-  -- what is found by itself has an accepting path, and nothing else
+  -- exactly the patterns that are found by themselves have an accepting path
   found_is : (p : ℕ) →
       ((end : ℕ) × IsAccepted Forward m.nfa input m.nfa.start_unanchored (record { pattern = p; place = end }))
       ↔ ((re : Re) × (slice_get res p ≡ Some re) × (is_found o.utf8 hay re ≡ true))
@@ -127,7 +127,7 @@ module _ (m : Machine) (o : Options) (res : List Re) (is : IsDfaOf o res m) (hay
       sym made.answers.count ∙ ap (λ (d : Engine). length d.starts) made.joins ∙ length-starts_of 0 made.ks
       ∙ implement_count made.ks res made.nfas.0
 
-  -- a set that was empty has the patterns that are found
+  -- an empty set gets the patterns that are found
   pub set_means : SetsHaveMatching m → (new : List Bool) → length new ≡ length m.nfa.start_pattern →
       JoinsReported m input (empty_set (length m.nfa.start_pattern)) new → new ≡ map (is_found o.utf8 hay) res
   set_means law new capacity which =
@@ -156,7 +156,7 @@ module _ (m : Machine) (o : Options) (res : List Re) (is : IsDfaOf o res m) (hay
           let below = law.own input m.nfa.start_unanchored p refl (bytes, omega arith) (omega arith) w in
           (said p).1 (inr (subst (λ n. p < n) (sym (length-replicate (length m.nfa.start_pattern) false)) below, w))
 
-  -- and a walk has a match exactly if some pattern is found
+  -- a walk has a match exactly if some pattern is found
   pub any_means : WalksAreReported m.nfa → AllPairsAreReported m.nfa → (found : Option HalfMatch) →
       ((pairs : List Pair) → AreWalked Forward m input pairs → found ≡ half_nth pairs 0) →
       is_some found ≡ is_some (find_any o.utf8 res hay 0)
@@ -189,7 +189,7 @@ module _ (m : Machine) (o : Options) (res : List Re) (is : IsDfaOf o res m) (hay
       has_pair [] pair h = absurd h
       has_pair (x ∷ pairs) pair h = refl
 
-  -- what a walk reports are ends of matches
+  -- the pairs that a walk reports are ends of matches
   pub ends_meant :
       AllPairsAreReported m.nfa → (pairs : List Pair) → AreWalked Forward m input pairs → AreEnds o res hay pairs
   ends_meant all pairs walked = record {

@@ -1,4 +1,4 @@
--- The facts of one tree of a text hold of each of its trees: both match alike.
+-- The facts of one tree of a text hold for each of its trees, since all match alike.
 use Rattle.std.proofs.Common.{ℕ, ◌≡◌, ◌<◌, true, cond, nat_eq, List, All, Option, Some, None, is_some, refl, sym, ap}
 use Rattle.std.proofs.Common.{◌∙◌, subst, eq-eqb, eqb-true}
 use Rattle.std.specs.Prelude.{IsSomeAnd, chars}
@@ -19,7 +19,7 @@ use Rattle.patterns.specs.Facts.{AreFactsOf}
 use Rattle.patterns.specs.Patterns.{config_of}
 use Rattle.patterns.specs.declared.compile.Options.{Options}
 
--- what follows a pattern that is to end at one offset
+-- a continuation that accepts only at one offset
 only : (j : ℕ) → Rest
 only j l = cond (nat_eq l j) (accept l) None
 
@@ -36,7 +36,7 @@ unfolding outcome
 seen None = refl
 seen (Some t) = refl
 
--- patterns that match alike for a caller match the same spans
+-- patterns that match alike for every continuation match the same spans
 same_matches :
     (a b : Re) → SameCaptures a b → (hay : List ℕ) → All (λ x. x < 256) hay → (i j : ℕ) → Matches hay a i j
     → Matches hay b i j

@@ -1,4 +1,4 @@
--- What a draft has of the patterns so far.
+-- What a draft contains of the patterns so far.
 use Rattle.std.specs.Prelude.{ℕ, ◌≡◌, ◌+◌, ◌-◌, ◌*◌, ◌≤◌, ◌⊎◌, Bool, false, List, [], ◌∷◌, ◌++◌, length, sum_by}
 use Rattle.regex_nfa.specs.Sizes.{table_bytes}
 use Rattle.regex_nfa.specs.declared.nfa.Nfa as kit_nfa
@@ -18,28 +18,28 @@ use Rattle.patterns.specs.declared.compile.Options.{Options}
 abbrev pub IsCompiled : Config → (text : List ℕ) → kit_nfa.Nfa → Type 0
 IsCompiled config text k = (re : Re) × IsMeaning config text re × HasMeaning k re
 
--- one pattern more, for which room is taken
+-- the draft grows by one pattern, which takes room
 pub record Grows (ascii : Bool) (old : Draft) (k : kit_nfa.Nfa) (new : Draft) : Type 0 where
-  -- the states of the pattern's NFA come after those that were there, as those of the next pattern
+  -- the states of the pattern's NFA come after the previous ones, with the next pattern's number
   pub nodes :
       ours.nodes_of new.states.items
       ≡ ours.nodes_of old.states.items
       ++ nodes_of (length old.states.items) (length old.starts.items) k.transitions.items k.states.items
-  -- its start comes after the starts that were there
+  -- its start comes after the previous starts
   pub starts : new.starts.items ≡ old.starts.items ++ (length old.states.items + k.start) ∷ []
   -- it has no Unicode word boundary, unless the text is ASCII
   pub looks : ascii ≡ false → HasNoUnicodeLook k
-  -- the room that is left is at most the room before, less the bytes of its tables; or there is none
+  -- the remaining room is at most the previous room less the bytes of its tables, or none
   pub room : new.room ≤ old.room - table_bytes k
 
 -- the states and starts of these patterns, and no others
 pub record Has (draft : Draft) (ks : List kit_nfa.Nfa) : Type 0 where
-  -- its states are those of the NFAs of these patterns, one pattern after another
+  -- its states are the states of these NFAs, one pattern after another
   pub nodes : ours.nodes_of draft.states.items ≡ nodes_of_all 0 0 ks
-  -- where each of them begins, in the same order
+  -- the start of each of them, in the same order
   pub starts : draft.starts.items ≡ starts_of 0 ks
 
--- the room that is left of the size limit; each pattern may have passed it by 24 bytes
+-- the remaining room under the size limit; each pattern may have exceeded it by 24 bytes
 abbrev pub IsLeft : Options → Draft → List kit_nfa.Nfa → Type 0
 IsLeft options draft ks = sum_by table_bytes ks + draft.room ≤ options.size_limit + 24 * length ks
 
@@ -55,15 +55,15 @@ pub record IsDraftOf (options : Options) (texts : List (List ℕ)) (draft : Draf
   pub nfas : AreNfasOf options ks res
   -- the draft has the states and starts of these NFAs
   pub has : Has draft ks
-  -- the room that they leave of the size limit
+  -- the remaining room under the size limit
   pub left : IsLeft options draft ks
 
--- the NFA joins the patterns of a draft, whichever these are
+-- the NFA joins the patterns of a draft, whichever they are
 abbrev pub JoinsDraft : (utf8 : Bool) → Draft → ours.Automaton → Type 0
 JoinsDraft utf8 draft nfa =
     (ks : List kit_nfa.Nfa) → Has draft ks → engine_of nfa LeftmostFirst ≡ joined_engine utf8 ks
 
--- the second NFA is the first one with some of its unions merged, where that is within a limit
+-- the second NFA is the first one with some of its unions merged, if that is within a limit
 pub record IsMergedWithin (limit : ℕ) (nfa merged : ours.Automaton) : Type 0 where
   -- the first one is an NFA
   pub checked : IsChecked nfa

@@ -15,7 +15,7 @@ use Rattle.patterns.specs.declared.error.PatternError.{PatternError}
 pub record AreFactsOf (options : Options) (text : List ℕ) (facts : Facts) : Type 0 where
   -- the text is a pattern
   pub pattern : (re : Re) × IsMeaning (config_of options) text re
-  -- by whichever tree it is read
+  -- whichever tree it is parsed to
   pub hold : (re : Re) → IsMeaning (config_of options) text re → AreFacts re facts
 
 -- why a text has no facts, with the number 0

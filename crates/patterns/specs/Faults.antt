@@ -1,5 +1,5 @@
--- Why texts have no pattern, no NFA or no regex. Errors of size and of memory are left open: no contract of the kit's
--- compiler says when they come.
+-- Why texts yield no pattern, no NFA or no regex. When errors of size and of memory occur is left open: no contract of
+-- the kit's compiler says it.
 use Rattle.std.specs.Prelude.{ℕ, ◌≡◌, ◌≢◌, ◌≤◌, ◌⊎◌, false, Bool, List, IsCharBoundary, Some, slice_get, take}
 use Rattle.regex_hir.specs.Re.{Re}
 use Rattle.regex_nfa.specs.declared.nfa.Nfa as kit_nfa
@@ -35,20 +35,20 @@ IsOfSize Malformed = Unit {0}
 IsOfSize OutOfMemory = Unit {0}
 IsOfSize fault = ⊥
 
--- the parser reads no pattern in the text, or one that nests too deep; the error is about a part of the text
+-- the text is not a valid pattern, or it nests too deep; the error is about a part of the text
 pub record IsSyntaxFault (config : Config) (text : List ℕ) (error : syntax_error.Error) : Type 0 where
-  -- The text is no pattern, or the error is that it nests too deep, or that memory ran out.
+  -- The parser rejects the text with this kind of error.
   pub refused : Refuses config text error.kind
-  -- It is not that memory ran out.
+  -- The error is not out of memory.
   pub kind : error.kind ≢ parsing.OutOfMemory
-  -- The span has whole characters of the text.
+  -- The span's start is not after its end.
   pub order : error.span.start ≤ error.span.end
   -- It starts where a character starts, or at the text's end.
   pub start : IsCharBoundary text error.span.start
   -- It ends at such an offset.
   pub end : IsCharBoundary text error.span.end
 
--- an NFA that finds what the text means has a look at characters
+-- an NFA that finds what the text means has a Unicode look
 abbrev pub HasUnicodeLook : Config → (text : List ℕ) → Type 0
 HasUnicodeLook config text = (k : kit_nfa.Nfa) × IsCompiled config text k × (HasNoUnicodeLook k → ⊥)
 
@@ -65,35 +65,35 @@ IsFaultOf options text fault = IsOfSize fault
 
 -- the first of these texts that has no pattern, and why it has none: all texts before it are patterns
 pub record IsFirstFault (options : Options) (texts : List (List ℕ)) (error : PatternError) : Type 0 where
-  -- The texts before the one of the error's number are all patterns.
+  -- All texts before the error's number are patterns.
   pub before : (res : List Re) × AreMeanings (config_of options) (take error.number texts) res
   -- The text that has no pattern.
   pub text : List ℕ
-  -- It is the one of the error's number, counted from 0.
+  -- It is the text at the error's number, counted from 0.
   pub is : slice_get texts error.number ≡ Some text
   -- This is why it has no pattern.
   pub fault : IsFaultOf options text error.fault
 
--- why patterns are not joined: they are too large, the library refuses their states, or memory runs out
+-- why patterns are not joined: they are too large, the library does not accept their states, or memory runs out
 abbrev pub IsJoinFault : Fault → Type 0
 IsJoinFault (Refused error) = error ≢ nfa_error.OutOfMemory
 IsJoinFault fault = IsOfSize fault
 
 -- why texts have no NFA
 pub data IsNfaFault (options : Options) (texts : List (List ℕ)) (error : PatternError) : Type 0 where
-  -- One of them has no pattern.
+  -- One of them is not a pattern.
   LacksPattern : IsFirstFault options texts error → IsNfaFault options texts error
-  -- All have one, and these cannot be joined, with the number 0.
+  -- All are patterns, but they cannot be joined; the error's number is 0.
   CannotJoin :
       (res : List Re) → AreMeanings (config_of options) texts res → error.number ≡ 0 → IsJoinFault error.fault
       → IsNfaFault options texts error
 
--- why nothing is built of their NFA, with the number 0: it is the error of the builder. `Fails` says when that fails
+-- why nothing is built from their NFA: the builder fails, as `Fails` says; the error's number is 0
 pub record IsUnbuilt (Fails : Automaton → RegexBuildError → Type 0) (options : Options) (texts : List (List ℕ))
     (error : PatternError) : Type 0 where
-  -- The NFA that nothing is built of.
+  -- The NFA from which nothing is built.
   pub nfa : Automaton
-  -- It is that of the patterns of these texts.
+  -- It is the NFA of the patterns of these texts.
   pub of : IsNfaOf options texts nfa
   -- The error of the builder.
   pub cause : RegexBuildError
@@ -104,7 +104,7 @@ pub record IsUnbuilt (Fails : Automaton → RegexBuildError → Type 0) (options
   -- The error's number is 0, since it is about all texts.
   pub number : error.number ≡ 0
 
--- why texts have no regex: they have no NFA, or no regex is built of it with the settings of these options
+-- why texts have no regex: they have no NFA, or no regex is built from it with the settings of these options
 abbrev pub IsPatternFault : Options → (texts : List (List ℕ)) → PatternError → Type 0
 IsPatternFault options texts error =
     IsNfaFault options texts error ⊎ IsUnbuilt (IsBuildError (settings_of options)) options texts error

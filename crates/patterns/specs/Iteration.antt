@@ -13,37 +13,36 @@ use Rattle.meaning.specs.Patterns.{IsFirstLeft, left_any, span_input}
 use Rattle.patterns.specs.Patterns.{IsFor, IsRegexOf}
 use Rattle.patterns.specs.declared.compile.Options.{Options}
 
--- what is left to be searched after a match that ended at `last`
+-- the remaining input after a match that ended at `last`
 abbrev pub rest_of : List ℕ → (last : Option ℕ) → Input
 rest_of hay last = span_input hay (unwrap_or last 0) (length hay)
 
--- the next of the matches that are left, by each meaning that the regex is of
+-- the next of the remaining matches, by each meaning that the regex has
 abbrev pub IsNextMeant : Regex → List ℕ → (last : Option ℕ) → Option Match → Type 0
 IsNextMeant regex hay last found =
     (o : Options) (res : List Re) → IsRegexOf o res regex → IsFor o hay
     → IsFirstLeft (left_any o.utf8 res hay) last found
 
--- an iteration has ended, and the last match is that of before
+-- an iteration has ended, and its last match is unchanged
 pub record HasNoMore (last last' : Option ℕ) (ended' : Bool) : Type 0 where
   -- the last match ended at the same offset
   pub place : last' ≡ last
   -- the iteration has ended
   pub over : ended' ≡ true
 
--- an iteration gives a match of the patterns, and goes on from its end
+-- an iteration returns a match of the patterns, and continues from its end
 pub record GivesNext (regex : Regex) (hay : List ℕ) (m : Match) (last last' : Option ℕ) (ended' : Bool) : Type 0 where
-  -- it is the next of the matches that are left
+  -- it is the next of the remaining matches
   pub next : IsNextMeant regex hay last (Some m)
-  -- it lies in what is left of the haystack
+  -- it lies in the remaining haystack
   pub within : MatchLiesIn regex (rest_of hay last) m
-  -- it is the last match then
+  -- the last match ended at its end
   pub place : last' ≡ Some m.end
   -- the iteration has not ended
   pub going : ended' ≡ false
 
 -- one item of an iteration, and the caches before it and after it; where the last match ended, and whether the
--- iteration
--- has ended, before it and after it
+-- iteration has ended, before it and after it
 abbrev pub GivesMatch :
     Regex → (old new : Cache) → List ℕ → Option (Result Match SearchError) → (last last' : Option ℕ)
     → (ended ended' : Bool) → Type 0
@@ -54,7 +53,7 @@ GivesMatch regex old new hay (Some (Ok m)) last last' false ended' = GivesNext r
 GivesMatch regex old new hay (Some (Err e)) last last' false ended' =
     IsNextError regex old new (rest_of hay last) last e × HasNoMore last last' ended'
 
--- how many items may come: ends rise, and an error may be the last item
+-- an upper bound on the number of remaining items: ends increase, and an error may be the last item
 abbrev pub most_left : (ended : Bool) → List ℕ → (last : Option ℕ) → ℕ
 most_left true hay last = 0
 most_left false hay None = length hay + 2

@@ -1,4 +1,4 @@
--- What NFAs and regexes of patterns are: each text is read as a tree, and what its NFA finds is what the tree means.
+-- What NFAs and regexes of patterns are: each text is parsed to a tree, and its NFA finds what the tree means.
 use Rattle.std.specs.Prelude.{ℕ, ◌≡◌, ◌+◌, ◌*◌, ◌≤◌, ◌↔◌, true, false, List, [], ◌∷◌, length, Option, Some, IsAscii}
 use Rattle.std.specs.Prelude.{IsUtf8}
 use Rattle.regex_hir.specs.Re.{Re}
@@ -39,7 +39,7 @@ default_options = record {
   nest_limit = 250;
 }
 
--- how these options read a text: each flag, and the limit on nesting, is the option of its name
+-- the parser's configuration for these options: each flag, and the limit on nesting, is the option of its name
 abbrev pub config_of : Options → Config
 config_of options = record {
   flags = record {
@@ -56,7 +56,7 @@ config_of options = record {
   nest_limit = options.nest_limit;
 }
 
--- the text is read as a tree, whose meaning this is
+-- the text is parsed to a tree, whose meaning this is
 abbrev pub IsMeaning : Config → (text : List ℕ) → Re → Type 0
 IsMeaning config text re =
     (hir : kit_hir.Hir) × (names : List (Option (List ℕ))) × Reads config text hir names × (re ≡ meaning hir)
@@ -68,15 +68,15 @@ AreMeanings config [] (re ∷ res) = ⊥
 AreMeanings config (text ∷ texts) [] = ⊥
 AreMeanings config (text ∷ texts) (re ∷ res) = IsMeaning config text re × AreMeanings config texts res
 
--- some NFAs of the kit find what the patterns mean; no look of them is one of characters, unless the text is ASCII
+-- some NFAs of the kit find what the patterns mean; they have no Unicode look, unless the text is ASCII
 abbrev pub AreNfasOf : Options → List kit_nfa.Nfa → List Re → Type 0
 AreNfasOf options ks res = ImplementAll ks res × Each (λ k. options.ascii ≡ false → HasNoUnicodeLook k) ks
 
--- no cycle of what reads nothing passes a look: such an NFA keeps its cycles without being asked to keep unions
+-- no cycle of epsilon transitions passes a look: such an NFA keeps its cycles without keeping unions
 abbrev pub HasNoLookCycle : Automaton → Type 0
 HasNoLookCycle nfa = IsLookAcyclic (nfa_of nfa)
 
--- the second NFA answers as the first one: no search, walk or iteration finds anything else
+-- the second NFA answers as the first one: every search, walk and iteration finds the same
 pub record AnswersAs (first second : Automaton) : Type 0 where
   -- under each match kind, all searches find the same
   pub alike : (kind : MatchKind) → AnswerAlike (engine_of first kind) (engine_of second kind)
@@ -87,10 +87,10 @@ pub record AnswersAs (first second : Automaton) : Type 0 where
       ↔ IsAccepted Forward second input second.start_unanchored pair
   -- both keep the UTF-8 promise, or neither does
   pub utf8 : (kind : MatchKind) → KeepsUtf8 Forward (engine_of first kind) ↔ KeepsUtf8 Forward (engine_of second kind)
-  -- both have as many patterns
+  -- both have the same number of patterns
   pub count : length first.start_pattern ≡ length second.start_pattern
 
--- the NFA answers as the one that joins some NFAs, each of which finds what one of these patterns means
+-- the NFA answers as one that joins NFAs, each of which finds what one of these patterns means
 pub record IsJoinedNfa (options : Options) (res : List Re) (nfa : Automaton) : Type 0 where
   -- the NFAs of the kit
   pub ks : List kit_nfa.Nfa
@@ -100,30 +100,30 @@ pub record IsJoinedNfa (options : Options) (res : List Re) (nfa : Automaton) : T
   pub joined : Automaton
   -- it has their states and starts
   pub joins : engine_of joined LeftmostFirst ≡ joined_engine options.utf8 ks
-  -- the NFA answers as that one
+  -- the NFA answers as the joined one
   pub answers : AnswersAs joined nfa
-  -- no cycle of what reads nothing passes a look
+  -- no cycle of epsilon transitions passes a look
   pub acyclic : HasNoLookCycle nfa
-  -- so it needs to keep no unions
+  -- it does not keep unions, since it does not need to
   pub unions : nfa.keeps_unions ≡ false
 
--- the NFA is that of the patterns of these texts
+-- this is the NFA of the patterns of these texts
 abbrev pub IsNfaOf : Options → (texts : List (List ℕ)) → Automaton → Type 0
 IsNfaOf options texts nfa =
     (res : List Re) × AreMeanings (config_of options) texts res × IsJoinedNfa options res nfa
 
--- the states that the size limit leaves room for, of 12 bytes each: each pattern may pass it by the 24 bytes of two
--- states, and three states join the patterns
+-- at 12 bytes each, the states take at most the size limit, plus 24 bytes for each pattern, plus 36 bytes for the three
+-- states that join the patterns
 abbrev pub IsWithinLimit : Options → (texts : List (List ℕ)) → Automaton → Type 0
 IsWithinLimit options texts nfa = 12 * length nfa.states ≤ options.size_limit + 24 * length texts + 36
 
--- the settings of the DFAs: those of the library, with Unicode's word boundaries where the text is ASCII
+-- the settings of the DFAs: the library's defaults, with Unicode word boundaries if the text is ASCII
 abbrev pub settings_of : Options → settings.Options
 settings_of options = settings.overwritten settings.unset
     (record settings.unset { unicode_word_boundary = Some options.ascii })
 
--- these settings, but for the match kind, which is leftmost-first, and Unicode's word boundaries, which are those of
--- the options
+-- these settings, except for the match kind, which is `MatchKind::LeftmostFirst`, and for Unicode word boundaries,
+-- which the options decide
 abbrev pub settings_with : settings.Options → Options → settings.Options
 settings_with config options = settings.overwritten settings.unset
     (record config { match_kind = Some LeftmostFirst; unicode_word_boundary = Some options.ascii })
@@ -132,27 +132,27 @@ settings_with config options = settings.overwritten settings.unset
 pub record IsRegexOf (options : Options) (res : List Re) (regex : Regex) : Type 0 where
   -- its two DFAs are a sound pair
   pub sound : IsSoundPair regex
-  -- the forward one is searched leftmost first
+  -- the match kind of the forward DFA is `MatchKind::LeftmostFirst`
   pub kind : match_kind_of regex.forward.config ≡ LeftmostFirst
   -- its NFA answers as one that joins NFAs of what these patterns mean
   pub joined : IsJoinedNfa options res regex.forward.nfa
 
--- the regex is that of the patterns of these texts
+-- this is a regex of the patterns of these texts
 abbrev pub IsRegexOfTexts : Options → (texts : List (List ℕ)) → Regex → Type 0
 IsRegexOfTexts options texts regex =
     (res : List Re) × AreMeanings (config_of options) texts res × IsRegexOf options res regex
 
--- the regex is built of the NFA of these texts, which is within the size limit, by the settings of these options
+-- the regex is built from the NFA of these texts, which is within the size limit, with the settings of these options
 pub record IsBuiltOf (options : Options) (texts : List (List ℕ)) (regex : Regex) : Type 0 where
-  -- the NFA that the regex is built of
+  -- the NFA from which the regex is built
   pub nfa : Automaton
-  -- it is that of the patterns of these texts
+  -- it is the NFA of the patterns of these texts
   pub of : IsNfaOf options texts nfa
   -- it is within the size limit
   pub small : IsWithinLimit options texts nfa
-  -- the regex is what the library builds of it with the settings of these options
+  -- the regex is what the library builds from it with the settings of these options
   pub built : BuildsOne (settings_of options) nfa regex
 
--- the bytes are what the options say is searched
+-- the haystack is valid UTF-8 if the options search text, and ASCII if they say that it is
 abbrev pub IsFor : Options → List ℕ → Type 0
 IsFor options hay = (options.utf8 ≡ true → IsUtf8 hay) × (options.ascii ≡ true → IsAscii hay)

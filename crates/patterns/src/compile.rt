@@ -20,19 +20,19 @@ use regex_syntax::{Config, Flags as SyntaxFlags, Parsed};
 use std::alloc::{AllocError, Global};
 use std::mem;
 
-/// How many bytes of the size limit a state of a merged NFA takes.
+/// The bytes that a state of a merged NFA counts toward the size limit.
 const STATE_BYTES: usize = 12;
 
-/// How patterns are read, and how large they may become. The flags are those of the same names of Rust's
-/// `RegexBuilder`; a pattern sets one for a part of itself by `(?flags)`.
+/// How patterns are parsed, and how large they may become. The flags are those of Rust's `RegexBuilder` with the same
+/// names; a pattern can set a flag for a part of itself with `(?flags)`.
 #[derive(Clone, Copy, Debug)]
 pub struct Options {
-    /// The flag `u`: whether classes such as `\w` and `.` are of characters, and letters have the cases of Unicode.
-    /// Otherwise they are of bytes and of ASCII.
+    /// The flag `u`: whether classes such as `\w` and `.` match characters, with Unicode case folding. Otherwise they
+    /// match bytes, with ASCII case folding.
     pub unicode: bool,
-    /// The flag `i`: whether a letter stands for the same letter in both cases.
+    /// The flag `i`: whether a letter matches in both cases.
     pub case_insensitive: bool,
-    /// The flag `m`: whether `^` and `$` match at the ends of each line, and not of the whole haystack.
+    /// The flag `m`: whether `^` and `$` match at the start and end of each line, not only of the haystack.
     pub multi_line: bool,
     /// The flag `s`: whether `.` matches a line feed.
     pub dot_matches_new_line: bool,
@@ -40,19 +40,19 @@ pub struct Options {
     pub crlf: bool,
     /// The flag `U`: whether `a*` prefers fewer repetitions, and `a*?` more.
     pub swap_greed: bool,
-    /// The flag `x`: whether blanks in the pattern, and comments after `#`, are skipped.
+    /// The flag `x`: whether whitespace in the pattern, and comments after `#`, are skipped.
     pub ignore_whitespace: bool,
-    /// Whether a backslash and digits, as `\141`, are a character by its number in octal.
+    /// Whether a backslash and digits, such as `\141`, are an octal escape for a character.
     pub octal: bool,
-    /// Whether text is searched: no match splits a character. Otherwise bytes are searched.
+    /// Whether text is searched, so that no match splits a character. Otherwise bytes are searched.
     pub utf8: bool,
-    /// Whether the text is ASCII. Then a pattern may have a word boundary of Unicode; over other text a search for it
-    /// may fail, and nothing is promised of what it finds. Otherwise such a pattern is refused.
+    /// Whether the text is ASCII. Then a pattern may contain a Unicode word boundary; over other text a search for it
+    /// may fail, and what it finds is not promised. Otherwise such a pattern is an error.
     pub ascii: bool,
-    /// How many bytes the tables of all patterns may take.
+    /// The size limit for the tables of all patterns, in bytes.
     pub size_limit: usize,
-    /// How deep groups, repetitions and classes may nest. The parser's calls nest as deep, so a higher limit needs a
-    /// larger stack.
+    /// How deep groups, repetitions and classes may nest. The parser recurses as deep, so a higher limit needs a larger
+    /// stack.
     pub nest_limit: u32,
 }
 
@@ -79,14 +79,14 @@ impl Default for Options {
     }
 }
 
-/// The states of the patterns so far, one pattern behind the other, and where each begins.
+/// The states of the patterns so far, one pattern after another, and the start of each.
 struct Draft {
     states: Vec<State>,
     starts: Vec<StateID>,
     room: usize,
 }
 
-// One call for an owner, whose proof then has no step for each part.
+// With its own `drop`, the proof of an owner has one step for it instead of one for each part.
 impl Drop for Draft {
     fn drop(self) {
         let Self {
@@ -97,7 +97,7 @@ impl Drop for Draft {
     }
 }
 
-/// The options, as the parser takes them.
+/// Converts the options to the parser's configuration.
 fn config_of(options: &Options) -> Config
     ensures { result ≡ config_of options.now }
 {
@@ -117,7 +117,7 @@ fn config_of(options: &Options) -> Config
     }
 }
 
-/// Reads a text as the options say.
+/// Parses a text with the options.
 pub(crate) fn parse(alloc: Global, text: &str, options: &Options) -> Result<Parsed, Fault>
     ensures read { IfOk result (λ p.
         Reads (config_of options.now) text.now p.hir (map (option_map string_bytes) p.names.items)) }
@@ -131,7 +131,7 @@ pub(crate) fn parse(alloc: Global, text: &str, options: &Options) -> Result<Pars
     }
 }
 
-/// The kit's NFA of a pattern, whose tables take at most so many bytes.
+/// Compiles a pattern to the kit's NFA. Its tables take at most 24 bytes more than `room`.
 fn compile(alloc: Global, text: &str, options: &Options, room: usize) -> Result<Nfa, Fault>
     ensures compiled { IfOk result (IsCompiled (config_of options.now) text.now) }
     ensures small { IfOk result (λ nfa. sizes.table_bytes nfa ≤ room + 24) }
@@ -147,7 +147,7 @@ fn compile(alloc: Global, text: &str, options: &Options, room: usize) -> Result<
     }
 }
 
-/// At least as many bytes as the tables of an NFA take.
+/// Returns at least the number of bytes that the tables of an NFA take.
 fn table_bytes(nfa: &Nfa) -> usize
     ensures { min (sizes.table_bytes nfa.now) (2 ^ 64 - 1) ≤ result }
 {
@@ -157,7 +157,7 @@ fn table_bytes(nfa: &Nfa) -> usize
 }
 
 impl Draft {
-    /// A draft of no pattern.
+    /// Returns a draft without patterns.
     fn new(alloc: Global, room: usize) -> Draft
         ensures states { result.states.items ≡ [] }
         ensures starts { result.starts.items ≡ [] }
@@ -170,7 +170,8 @@ impl Draft {
         }
     }
 
-    /// Adds the patterns of texts. It fails at the first text that is no pattern, or that makes the patterns too large.
+    /// Adds the patterns of texts. It fails at the first text that is not a valid pattern, or that makes the patterns
+    /// too large.
     fn read(&mut self, alloc: Global, texts: &[&str], options: &Options) -> Result<(), PatternError>
         requires states { self.old.states.items ≡ [] }
         requires starts { self.old.starts.items ≡ [] }
@@ -198,7 +199,7 @@ impl Draft {
         self.add(alloc, &nfa, options.ascii)
     }
 
-    /// Adds the states of a pattern behind those of the patterns before it.
+    /// Adds the states of a pattern after those of the previous patterns.
     fn add(&mut self, alloc: Global, nfa: &Nfa, ascii: bool) -> Result<(), Fault>
         ensures grows { OnOk result (Grows ascii self.old nfa.now self.new) }
         ensures refused { IfErr result (IsAddFault ascii nfa.now) }
@@ -218,7 +219,8 @@ impl Draft {
         Ok(())
     }
 
-    /// Adds a union of all starts, and before it a lazy loop that skips bytes. Returns where the loop begins.
+    /// Adds a union of all starts, and a lazy loop that skips bytes and leads to it. Returns the first state of the
+    /// loop.
     fn join(&mut self, alloc: Global) -> Result<StateID, Fault>
         ensures nodes { OnOk result (nodes.nodes_of self.new.states.items ≡ nodes.nodes_of self.old.states.items
             ++ Split self.old.starts.items
@@ -240,7 +242,7 @@ impl Draft {
         Ok(next)
     }
 
-    /// The NFA of all patterns.
+    /// Builds the NFA of all patterns. It takes the states from the draft.
     fn finish(&mut self, alloc: Global, utf8: bool) -> Result<NFA, Fault>
         ensures joined { IfOk result (JoinsDraft utf8 self.old) }
         ensures refused { IfErr result IsJoinFault }
@@ -261,7 +263,7 @@ impl Draft {
         }
     }
 
-    /// The NFA of all patterns, with its wide unions merged if the size limit leaves room.
+    /// Builds the NFA of all patterns, with its wide unions merged if the size limit leaves room.
     fn finish_merged(&mut self, alloc: Global, options: &Options) -> Result<NFA, Fault>
         ensures merged { IfOk result (λ nfa. (joined : nodes.Automaton)
             × JoinsDraft options.now.utf8 self.old joined × IsMergedWithin options.now.size_limit joined nfa) }
@@ -275,8 +277,8 @@ impl Draft {
     }
 }
 
-/// The NFA with its wide unions merged, if its states then take no more bytes than the limit; otherwise it is as it
-/// was.
+/// Returns the NFA with its wide unions merged, if its states then take no more bytes than the limit; otherwise it
+/// returns the NFA unchanged.
 fn merged_within(nfa: NFA, limit: usize) -> Result<NFA, AllocError>
     ensures { IfOk result (IsMergedWithin limit nfa) }
 {
@@ -288,13 +290,13 @@ fn merged_within(nfa: NFA, limit: usize) -> Result<NFA, AllocError>
     }
 }
 
-/// The NFA of these patterns, in which each has its place in the list as its number. It fails at the first text that is
-/// no pattern, or that makes the patterns too large.
+/// Compiles patterns to one NFA, in which each pattern is numbered by its position in the list. It fails at the first
+/// text that is not a valid pattern, or that makes the patterns too large.
 ///
-/// Behind the states of the patterns stand a union of their starts and a loop that skips bytes, also for one pattern.
-/// Of eight patterns or more that union is merged where `NFA::merged` does so, if the size limit leaves room for 12
-/// bytes of each state: states that read bytes for several patterns at once come after the loop. No cycle of what reads
-/// nothing passes a look-around assertion, whatever the patterns.
+/// After the states of the patterns come a union of their starts and a loop that skips bytes, even for one pattern. For
+/// eight patterns or more that union is merged where `NFA::merged` does so, if the size limit leaves room for 12 bytes
+/// per state: states that read bytes for several patterns at once come after the loop. No cycle of epsilon transitions
+/// passes a look-around assertion, whatever the patterns.
 pub fn nfa_of(alloc: Global, texts: &[&str], options: &Options) -> Result<NFA, PatternError>
     ensures meant { IfOk result (IsNfaOf options.now (map (λ text. text.now) texts.now)) }
     ensures acyclic { IfOk result HasNoLookCycle }

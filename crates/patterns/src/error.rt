@@ -12,22 +12,22 @@ use thiserror::Error;
 /// What is wrong with a pattern.
 #[derive(Clone, Copy, Debug, PartialEq, Eq, Error)]
 pub enum Fault {
-    /// The text is no pattern.
+    /// The text is not a valid pattern.
     #[error("{}", .0.kind.message())]
     Syntax(regex_syntax::Error),
-    /// The pattern has a word boundary of Unicode, which the library supports in ASCII text alone.
-    #[error("a Unicode word boundary is not supported: write (?-u:\\b) for one of ASCII")]
+    /// The pattern has a Unicode word boundary, which the library supports only in ASCII text.
+    #[error("a Unicode word boundary is not supported: write (?-u:\\b) for an ASCII word boundary")]
     UnicodeWord,
-    /// The tables of all patterns together would pass the size limit.
+    /// The tables of all patterns together would exceed the size limit.
     #[error("the patterns are too large")]
     TooLarge,
     /// The compiler made tables that it does not accept itself.
     #[error("the pattern was not compiled")]
     Malformed,
-    /// The library refused the states.
+    /// The library does not accept the states: `NFA::from_states` failed.
     #[error("{0}")]
     Refused(NfaError),
-    /// No regex, or no DFA of a set, could be built of the NFA.
+    /// No regex, or no DFA of a set, can be built from the NFA.
     #[error("{0}")]
     Unbuilt(RegexBuildError),
     /// An allocation failed.
@@ -63,18 +63,18 @@ impl From<regex_compile::Error> for Fault {
     }
 }
 
-/// The first pattern that has no NFA, and why it has none.
+/// The first pattern that cannot be compiled, and why.
 #[derive(Clone, Copy, Debug, PartialEq, Eq, Error)]
 #[error("pattern {number}: {fault}")]
 pub struct PatternError {
-    /// The place of the pattern in the list, counted from 0.
+    /// The position of the pattern in the list, counted from 0. It is 0 if the error is about all patterns.
     pub number: usize,
-    /// What is wrong with it.
+    /// What is wrong with the pattern.
     pub fault: Fault,
 }
 
 impl PatternError {
-    /// The part of the pattern that the parser's error is about, by the offsets of its bytes.
+    /// Returns the part of the pattern that the parser's error is about, as byte offsets, or none for another error.
     pub fn span(&self) -> Option<Span> {
         match self.fault {
             Fault::Syntax(error) => Some(error.span),
@@ -82,7 +82,7 @@ impl PatternError {
         }
     }
 
-    /// What is wrong, the pattern's text, and below it a caret for each character that the error is about.
+    /// Formats what is wrong, the pattern's text, and below it a caret for each character that the error is about.
     pub fn show(&self, alloc: Global, text: &str) -> Result<String, AllocError> {
         let mut shown = String::new(alloc);
         let fault = self.fault;
@@ -95,7 +95,7 @@ impl PatternError {
     }
 }
 
-/// Appends a blank for each character before the span, and a caret for each one in it, but at least one.
+/// Appends a space for each character before the span, and a caret for each character in it, at least one.
 fn push_carets(shown: &mut String, text: &str, span: Span) -> Result<(), AllocError> {
     let mut carets = 0;
     for (offset, _) in text.char_indices() {

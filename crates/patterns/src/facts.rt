@@ -8,12 +8,12 @@ use crate::error::{Fault, PatternError};
 use match_facts::{Facts, facts_of_tree};
 use std::alloc::Global;
 
-/// What every match of a pattern has in common: whether it touches an edge of the haystack, the bytes that it begins
-/// with, and literals that it contains.
+/// Returns what every match of a pattern has in common: whether it touches an edge of the haystack, the bytes that it
+/// begins with, and literals that it contains.
 ///
-/// The text is read, and nothing is compiled: a text that is too large for an NFA, or has a word boundary of Unicode,
-/// has facts too. They are about each way in which the pattern matches, whether or not a search would prefer it, and in
-/// bytes as well as in text. A letter that stands for both cases is not a literal. The error has number 0.
+/// It parses the text and compiles nothing: a text that is too large for an NFA, or has a Unicode word boundary, has
+/// facts too. They hold for every way in which the pattern matches, whether or not a search would prefer it, and in
+/// bytes as well as in text. A letter that matches in both cases is not a literal. An error has number 0.
 pub fn facts_of(alloc: Global, text: &str, options: &Options) -> Result<Facts, PatternError>
     ensures facts { IfOk result (AreFactsOf options.now text.now) }
     ensures refused { IfErr result (IsFactsError options.now text.now) }
@@ -24,7 +24,7 @@ pub fn facts_of(alloc: Global, text: &str, options: &Options) -> Result<Facts, P
     }
 }
 
-/// The facts, or what is wrong with the text.
+/// Returns the facts, or what is wrong with the text.
 fn read_facts(alloc: Global, text: &str, options: &Options) -> Result<Facts, Fault>
     ensures facts { IfOk result (AreFactsOf options.now text.now) }
     ensures refused { IfErr result (IsFaultOf options.now text.now) }

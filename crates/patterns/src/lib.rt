@@ -1,16 +1,16 @@
-//! From the texts of patterns to one NFA that the library searches, and to what is found.
+//! Compiles the texts of patterns to one NFA for this library, and searches for them.
 //!
-//! The kit's parser reads each text, and the kit's compiler makes an NFA of it. `nfa_of` translates these states into
-//! those of the library, and joins the patterns by one union, which it merges if they are many: a pattern's number is
-//! its place in the list, and where two match at one offset, the first one is preferred. The tables of all patterns
-//! take at most `Options::size_limit` bytes and 24 more for each. What is wrong with a text is a `PatternError`, which
-//! has the pattern's number and, for an error of the parser, the bytes that it is about. `Pattern` is a regex of this
-//! NFA; `RegexSet` is a DFA of it, which reports all patterns that match. `facts_of` says what every match of a pattern
-//! has in common, for a search by an index.
+//! The kit's parser parses each text, and the kit's compiler compiles it to an NFA. `nfa_of` translates the states to
+//! the library's, and joins the patterns by one union, which it merges if they are many: a pattern's number is its
+//! position in the list, and where two match at one offset, the first one is preferred. The tables of all patterns take
+//! at most `Options::size_limit` bytes and 24 more for each. A `PatternError` says what is wrong with a text: it has
+//! the pattern's number and, for an error of the parser, the bytes that it is about. `Pattern` is a regex of this NFA;
+//! `RegexSet` is a DFA of it, which reports all patterns that match. `facts_of` returns what every match of a pattern
+//! has in common, for a search with an index.
 //!
-//! It is proved that what these find is what the texts mean, by the kit's grammar and its specification of matching
-//! (`specs/Patterns.antt`; the lemmas are those of `meaning`). That these are what Rust's regex crate does is the
-//! kit's claim. Groups are read, and what they capture is not found.
+//! It is proved that these find what the texts mean, by the kit's grammar and its specification of matching
+//! (`specs/Patterns.antt`; the lemmas are those of `meaning`). That these are what Rust's regex crate does is the kit's
+//! claim. Groups are parsed, but captures are not reported.
 #![tactic(auto)]
 
 mod compile;

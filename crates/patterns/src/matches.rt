@@ -11,7 +11,7 @@ use regex_automata::hybrid::SearchError;
 use regex_automata::hybrid::regex::Cache;
 use regex_automata::util::search::Match;
 
-/// An iterator over the matches of a haystack that are left. An error is its last item. After the last item each call
+/// An iterator over the remaining matches of a haystack. An error is its last item. After the last item each call
 /// returns none.
 #[derive(Drop)]
 pub struct Matches<'p, 'c, 'h> {
@@ -25,7 +25,7 @@ pub struct Matches<'p, 'c, 'h> {
 }
 
 impl<'p, 'c, 'h> Matches<'p, 'c, 'h> {
-    /// All matches of the haystack.
+    /// Returns an iterator over all matches of the haystack.
     pub(crate) fn new(
         pattern: &'p Pattern,
         cache: &'c mut Cache,

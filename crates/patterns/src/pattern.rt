@@ -1,4 +1,4 @@
-//! Patterns, to be searched for.
+//! Patterns to search for.
 ghost use Rattle.std.specs.Prelude.{◌≡◌, ◌≤◌, List, [], ◌∷◌, IfErr, IfOk, IfSome, None, Some, false, is_some};
 ghost use Rattle.std.specs.Prelude.{length, map, option_map};
 ghost use Rattle.std.specs.Option.{unwrap_or};
@@ -30,20 +30,21 @@ use regex_automata::nfa::thompson::NFA;
 use regex_automata::util::search::{HalfMatch, Input, Match, MatchKind};
 use std::alloc::{AllocError, Global};
 
-/// One pattern, or several. Of several a match is of the first that matches where it begins, and has that one's number.
+/// One pattern, or several. Of several patterns, a match belongs to the first one that matches where it begins, and has
+/// that pattern's number.
 pub struct Pattern {
     /// The regex that searches for it.
     pub regex: Regex,
 }
 
-// One call for an owner, whose proof then has no step for each part.
+// With its own `drop`, the proof of an owner has one step for it instead of one for each part.
 impl Drop for Pattern {
     fn drop(self) {
         let Self { regex: _regex } = self;
     }
 }
 
-/// The regex of an NFA, by the settings of its DFAs.
+/// Builds the regex of an NFA, with the settings of its DFAs.
 fn regex_of(nfa: NFA, config: Config) -> Result<Regex, RegexBuildError>
     ensures sound { IfOk result IsSoundPair }
     ensures built { IfOk result (BuildsOne (overwritten unset config) nfa) }
@@ -54,7 +55,7 @@ fn regex_of(nfa: NFA, config: Config) -> Result<Regex, RegexBuildError>
     builder.build_from_nfa(nfa)
 }
 
-/// The haystack from an offset on.
+/// Returns the input for the haystack from an offset on.
 fn rest<'h>(hay: &'h [u8], start: usize) -> Input<'h>
     requires { start ≤ length hay.now }
     ensures { result ≡ span_input hay.now start (length hay.now) }
@@ -63,7 +64,7 @@ fn rest<'h>(hay: &'h [u8], start: usize) -> Input<'h>
 }
 
 impl Pattern {
-    /// The pattern of a text.
+    /// Compiles a text to a pattern.
     pub fn new(alloc: Global, text: &str, options: &Options) -> Result<Pattern, PatternError>
         ensures meant { IfOk result (λ pattern. IsRegexOfTexts options.now (text.now ∷ []) pattern.regex) }
         ensures built { IfOk result (λ pattern. IsBuiltOf options.now (text.now ∷ []) pattern.regex) }
@@ -72,7 +73,7 @@ impl Pattern {
         Pattern::any_of(alloc, &[text], options)
     }
 
-    /// The patterns of texts, in which each has its place in the list as its number.
+    /// Compiles texts to patterns, each numbered by its position in the list.
     pub fn any_of(alloc: Global, texts: &[&str], options: &Options) -> Result<Pattern, PatternError>
         ensures meant { IfOk result (λ pattern.
             IsRegexOfTexts options.now (map (λ text. text.now) texts.now) pattern.regex) }
@@ -90,7 +91,7 @@ impl Pattern {
         }
     }
 
-    /// The patterns of an NFA that `nfa_of` made under these options. It fails if no regex can be built of it.
+    /// Builds patterns from an NFA that `nfa_of` returned for these options. It fails if no regex can be built from it.
     pub fn from_nfa(nfa: NFA, options: &Options) -> Result<Pattern, RegexBuildError>
         ensures meant { IfOk result (λ pattern. (res : List Re) → IsJoinedNfa options.now res nfa
             → IsRegexOf options.now res pattern.regex) }
@@ -102,8 +103,9 @@ impl Pattern {
         Ok(Pattern { regex })
     }
 
-    /// The same with settings of your own: what its caches may take, say, and when a search gives up. The match kind is
-    /// leftmost-first and Unicode's word boundaries are those of the options, whatever the settings say of these two.
+    /// Builds patterns as `from_nfa` does, but with settings of your own: for example what its caches may take, and
+    /// when a search gives up. The match kind is `MatchKind::LeftmostFirst`, and the options decide about Unicode word
+    /// boundaries, whatever the settings say about these two.
     pub fn from_nfa_with(
         nfa: NFA,
         options: &Options,
@@ -121,7 +123,7 @@ impl Pattern {
         Ok(Pattern { regex })
     }
 
-    /// A cache for its searches, which serves one search after another.
+    /// Returns a new cache for searches, which serves one search after another.
     pub fn create_cache(&self) -> Result<Cache, AllocError>
         ensures of { IfOk result (λ cache. AreCachesOf cache self.now.regex) }
         ensures fresh { IfOk result (AreFresh self.now.regex) }
@@ -145,7 +147,8 @@ impl Pattern {
         self.regex.is_match(cache, &input)
     }
 
-    /// The leftmost match that begins at `start` or later, of those there the one that the pattern prefers.
+    /// Returns the leftmost match that begins at `start` or later; of those that begin there, the one that the pattern
+    /// prefers.
     pub fn find(
         &self,
         cache: &mut Cache,
@@ -167,8 +170,8 @@ impl Pattern {
         self.regex.find(cache, &input)
     }
 
-    /// The end of the match that `find` returns, and its pattern. The forward DFA alone searches for it, so that it
-    /// costs less than `find`, and fails as a search of that DFA does. Rust's regex crate may return an earlier end.
+    /// Returns the end and the pattern of the match that `find` returns. It searches with the forward DFA alone, so it
+    /// costs less than `find`, and returns the errors of that search. Rust's regex crate may return an earlier end.
     pub fn shortest_match(
         &self,
         cache: &mut Cache,
@@ -193,7 +196,8 @@ impl Pattern {
             .try_search_fwd(cache.forward_mut(), &left)
     }
 
-    /// The match after one that ended at `last`, which is not an empty match there; the first match if `last` is none.
+    /// Returns the match after one that ended at `last`, which is not an empty match there; the first match if `last`
+    /// is none.
     pub(crate) fn next_match(
         &self,
         cache: &mut Cache,
@@ -215,10 +219,10 @@ impl Pattern {
         self.regex.next_match(cache, &input, last)
     }
 
-    /// The matches of the haystack, one after another. An empty match at the end of the one before it is none of them.
+    /// Returns an iterator over the matches of the haystack. It skips an empty match at the end of the previous one.
     ///
-    /// If a search fails, its error is the last item: the items before it are the first of the matches. Afterwards the
-    /// cache serves other searches as before.
+    /// If a search fails, its error is the last item; the items before it are the first matches. Afterwards the cache
+    /// serves other searches as before.
     pub fn find_iter<'p, 'c, 'h>(
         &'p self,
         cache: &'c mut Cache,

@@ -1,4 +1,4 @@
-//! Several patterns, to be searched for all at once.
+//! Sets of patterns, to search for all at once.
 ghost use Rattle.std.specs.Prelude.{◌≡◌, List, IfErr, IfOk, OnOk, is_some, length, map};
 ghost use Rattle.regex_hir.specs.Re.{Re};
 ghost use Rattle.automata_base.specs.Answers.TruePairs.{KeepsUtf8};
@@ -23,18 +23,18 @@ use std::alloc::{AllocError, Global};
 
 /// Several patterns that are searched for at once: a search reports which of them match, as with Rust's `RegexSet`.
 pub struct RegexSet {
-    /// The DFA that searches for them, with `MatchKind::All`. Use it for other searches, as for matches that overlap.
+    /// The DFA that searches for them, with `MatchKind::All`. Use it for other searches, such as overlapping ones.
     pub dfa: DFA,
 }
 
-// One call for an owner, whose proof then has no step for each part.
+// With its own `drop`, the proof of an owner has one step for it instead of one for each part.
 impl Drop for RegexSet {
     fn drop(self) {
         let Self { dfa: _dfa } = self;
     }
 }
 
-/// Fails if the NFA is to search text, and a match might split a character.
+/// Fails if the NFA searches text, and a match might split a character.
 fn test_utf8(nfa: &NFA) -> Result<(), RegexBuildError>
     ensures keeps { OnOk result (KeepsUtf8 Forward (engine_of nfa.now KindAll)) }
     ensures refused { IfErr result (λ error. (o : options.Options) → IsDfaError o nfa.now error) }
@@ -46,7 +46,7 @@ fn test_utf8(nfa: &NFA) -> Result<(), RegexBuildError>
     }
 }
 
-/// The DFA of an NFA, which reports all matches.
+/// Builds the DFA of an NFA, which reports all matches.
 fn dfa_of(nfa: NFA, options: &Options) -> Result<DFA, RegexBuildError>
     ensures keeps { OnOk result (KeepsUtf8 Forward (engine_of nfa KindAll)) }
     ensures built { IfOk result (Builds (set_settings_of options.now) nfa) }
@@ -67,7 +67,7 @@ fn dfa_of(nfa: NFA, options: &Options) -> Result<DFA, RegexBuildError>
 }
 
 impl RegexSet {
-    /// The set of the patterns of texts, in which each has its place in the list as its number.
+    /// Compiles texts to a set of patterns, each numbered by its position in the list.
     pub fn new(alloc: Global, texts: &[&str], options: &Options) -> Result<RegexSet, PatternError>
         ensures meant { IfOk result (λ set. IsSetOf options.now (map (λ text. text.now) texts.now) set.dfa) }
         ensures built { IfOk result (λ set. IsSetBuiltOf options.now (map (λ text. text.now) texts.now) set.dfa) }
@@ -83,7 +83,7 @@ impl RegexSet {
         }
     }
 
-    /// A cache for its searches, which serves one search after another.
+    /// Returns a new cache for searches, which serves one search after another.
     pub fn create_cache(&self) -> Result<Cache, AllocError>
         ensures of { IfOk result (λ cache. IsCacheOf cache self.now.dfa) }
         ensures fresh { IfOk result (λ cache. cache ≡ fresh_cache self.now.dfa) }
@@ -91,11 +91,11 @@ impl RegexSet {
         self.dfa.create_cache()
     }
 
-    /// The patterns that match somewhere in the haystack, each by itself: which others match, and where, makes no
-    /// difference. They are found in one pass, however many there are.
+    /// Returns the patterns that match somewhere in the haystack, each by itself: which others match, and where, makes
+    /// no difference. It finds them in one pass, however many there are.
     ///
-    /// The set is allocated by each call, with a flag for each pattern. To use one set again and again, clear it and
-    /// pass it to `try_which_overlapping_matches` of `dfa`. After an error the cache serves other searches as before.
+    /// Each call allocates the set, with a flag for each pattern. To use one set again and again, clear it and pass it
+    /// to `try_which_overlapping_matches` of `dfa`. After an error the cache serves other searches as before.
     ///
     /// ```rust
     /// let found = set.which(alloc, cache, line.as_bytes())?;

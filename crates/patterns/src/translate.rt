@@ -1,4 +1,4 @@
-//! The states of the kit's NFA as those of the library.
+//! Translates the states of the kit's NFA to the library's.
 ghost use Rattle.std.specs.Prelude.{◌≡◌, ◌+◌, ◌++◌, IfErr, IfOk, OnOk, false, true};
 ghost use Rattle.automata_base.specs.Nfas.Nodes as nodes;
 ghost use Rattle.meaning.specs.Agreeing.{HasNoUnicodeLook};
@@ -12,14 +12,14 @@ use regex_automata::util::primitives::{PatternID, StateID};
 use regex_nfa::Nfa;
 use std::alloc::Global;
 
-/// The pattern that states belong to, and how many states stand before them.
+/// The pattern of some states, and the number of states before them.
 #[derive(Clone, Copy)]
 pub(crate) struct Origin {
     pub base: usize,
     pub pattern: PatternID,
 }
 
-/// The ID of a state by its number.
+/// Converts the number of a state to its ID.
 pub(crate) fn id_of(number: usize) -> Result<StateID, Fault>
     ensures id { IfOk result (λ id. id ≡ number) }
     ensures refused { IfErr result IsOfSize }
@@ -30,7 +30,7 @@ pub(crate) fn id_of(number: usize) -> Result<StateID, Fault>
     }
 }
 
-/// The ID in the NFA of all patterns of a state of one.
+/// Returns the ID that a state of one pattern has in the NFA of all patterns.
 pub(crate) fn shifted(origin: &Origin, number: u32) -> Result<StateID, Fault>
     ensures id { IfOk result (λ id. id ≡ origin.now.base + number) }
     ensures refused { IfErr result IsOfSize }
@@ -41,7 +41,7 @@ pub(crate) fn shifted(origin: &Origin, number: u32) -> Result<StateID, Fault>
     }
 }
 
-/// The library's name of an assertion of the kit's.
+/// Returns the library's name of an assertion of the kit.
 fn look_of(look: regex_hir::Look) -> Look
     ensures { result ≡ translated.look_of look }
 {
@@ -67,7 +67,7 @@ fn look_of(look: regex_hir::Look) -> Look
     }
 }
 
-/// The ranges of a sparse state.
+/// Returns the ranges of a sparse state.
 fn ranges_of(
     alloc: Global,
     own: &[regex_nfa::Transition],
@@ -87,7 +87,7 @@ fn ranges_of(
     Ok(ranges)
 }
 
-/// The library's state for one of the pattern. What a capture writes is kept, and no search of the library reads it.
+/// Translates a state of the pattern to the library's. Captures are kept, but no search of the library reads them.
 fn state_of(
     alloc: Global,
     nfa: &Nfa,
@@ -156,7 +156,7 @@ pub(crate) fn push_states(
     Ok(())
 }
 
-/// Whether an assertion of the pattern looks at characters.
+/// Whether the pattern has a Unicode look-around assertion.
 pub(crate) fn has_unicode_look(nfa: &Nfa) -> bool
     ensures no { result ≡ false → HasNoUnicodeLook nfa.now }
     ensures yes { result ≡ true → HasNoUnicodeLook nfa.now → ⊥ }

@@ -1,9 +1,9 @@
--- The definitions by subject. A caller begins with one module, Promises: it has the words for contracts of one's own.
--- What the calls of a regex promise stands in these:
+-- The definitions by subject. Callers begin with one module, Promises, which has the names for their own contracts.
+-- What the calls of a regex promise is defined in these:
 --
 --     Regexes    the two DFAs of a regex, when they are a sound pair, how a builder makes them; the two caches
---     Spans      what a search for a match with its start returns (Contracts); iterations, errors; what becomes of
---                the caches (Runs), and what follows of that (Follows)
+--     Spans      what a search for a match with its start returns (Contracts); iterations, errors; the effect on
+--                the caches (Runs), and its consequences (Follows)
 --     Tokens     the tokens of an input, one after another
 --     Replay     a list of requests over one cache: each reply is its request's own value (Replies)
 pub mod Regexes

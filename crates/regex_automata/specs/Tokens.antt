@@ -22,12 +22,12 @@ use Rattle.regex_automata.specs.declared.tokens.error.TokenError.{TokenError}
 use Rattle.regex_automata.specs.declared.tokens.error.TokenError.TheVariants.{NoToken, Search}
 use Rattle.regex_automata.specs.declared.tokens.token.Token.{Token}
 
--- what is searched at an offset: what is left of the span, anchored and not earliest
+-- the input of the search at an offset: the remaining span, anchored and not earliest
 abbrev pub asked : List ℕ → (end offset : ℕ) → Input
 asked h end offset = record { haystack = h; start = offset; end = end; anchored = Yes; earliest = false }
 
--- what the answer there makes: a token up to its end, if that is past the offset; no token, if it ends at the offset or
--- there is none; and an error is passed on
+-- the item for an answer at an offset: a token up to its end, if that is after the offset; no token, if the answer ends
+-- at the offset or there is none; an error is passed on
 abbrev pub item_of : (offset : ℕ) → Result (Option HalfMatch) SearchError → Result Match TokenError
 item_of offset (Ok (Some half)) =
     if nat_lt offset half.offset
@@ -42,7 +42,7 @@ SearchReturns m h end offset result =
     IsHalf Forward m (asked h end offset) result
     × IfOk result (WithoutBase (IsFound Forward m (asked h end offset)))
 
--- an item at an offset before the span's end: what an answer makes that the forward search there returns
+-- an item at an offset before the span's end: the item for an answer that the forward search there returns
 abbrev pub IsItemAt : Machine → List ℕ → (end offset : ℕ) → Result Match TokenError → Type 0
 IsItemAt m h end offset item =
     (offset < end)
@@ -58,7 +58,7 @@ abbrev pub joined : List ℕ → List Match → List ℕ
 joined h [] = []
 joined h (t ∷ ts) = match_bytes h t ++ joined h ts
 
--- a token by its pattern and its span
+-- a token as a match: its pattern and its span
 abbrev pub match_of : Token → Match
 match_of t = record { pattern = t.pattern; start = t.span.start; end = t.span.end }
 
@@ -87,7 +87,7 @@ pub record IsNoTokenAt (m : Machine) (h : List ℕ) (end offset : ℕ) : Type 0 
       ⊎ ((pattern : ℕ)
       × SearchReturns m h end offset (Ok (Some (record { pattern = pattern; offset = offset }))))
 
--- an error names this offset, or is that of the search there, whose run says why it failed
+-- an error names this offset, or is an error of the search there, whose run says why it failed
 abbrev pub IsErrorAt : Machine → List ℕ → (end offset : ℕ) → TokenError → Type 0
 IsErrorAt m h end offset (NoToken at) = (at ≡ offset) × IsNoTokenAt m h end offset
 IsErrorAt m h end offset (Search e) = Unit {0}
@@ -97,7 +97,7 @@ abbrev pub IsGivenAt : Machine → List ℕ → (end offset : ℕ) → Result To
 IsGivenAt m h end offset (Ok t) = IsTokenAt m h end offset t
 IsGivenAt m h end offset (Err e) = IsItemAt m h end offset (Err e) × IsErrorAt m h end offset e
 
--- an iteration over tokens has no further item, and stays as it is
+-- an iteration over tokens has no more items, and is unchanged
 pub record EndsTokens (end offset offset' : ℕ) (failed failed' : Bool) : Type 0 where
   -- an error was reported, or the span's end is reached
   pub why : (failed ≡ true) ⊎ (end ≤ offset)
@@ -106,7 +106,7 @@ pub record EndsTokens (end offset offset' : ℕ) (failed failed' : Bool) : Type 
   -- whether an error was reported is unchanged
   pub same : failed' ≡ failed
 
--- an iteration over tokens gives a token, and goes on from its end
+-- an iteration over tokens returns a token, and continues from its end
 pub record PassesToken (m : Machine) (h : List ℕ) (end : ℕ) (t : Token) (offset offset' : ℕ) (failed failed' : Bool) :
     Type 0 where
   -- it is the token at the offset
@@ -145,14 +145,14 @@ search_error (Ok t) = None
 search_error (Err (NoToken at)) = None
 search_error (Err (Search e)) = Some e
 
--- what an item makes of the forward cache: it is a search at the offset; without an item nothing changes
+-- the effect of an item on the forward cache, by a search at the offset; without an item nothing changes
 abbrev pub IsTokenRun :
     Machine → List ℕ → (end offset : ℕ) → (old new : CacheView) → Option (Result Token TokenError) → Type 0
 IsTokenRun m h end offset old new None = new ≡ old
 IsTokenRun m h end offset old new (Some r) =
     IsSearchRun Forward m (asked h end offset) (known_of old) (known_of new) (search_error r)
 
--- how many items may come
+-- an upper bound on the number of remaining items
 abbrev pub most_tokens : (failed : Bool) → (end offset : ℕ) → ℕ
 most_tokens true end offset = 0
 most_tokens false end offset = end - offset
@@ -164,8 +164,8 @@ pub data StopsTokens (m : Machine) (h : List ℕ) (end offset : ℕ) (e : TokenE
   -- it is the item there
   IsErrorThere : IsItemAt m h end offset (Err e) → StopsTokens m h end offset e
 
--- tokens one after another, the first at this offset: each is the item where the one before ended. After the last comes
--- the span's end, or an error
+-- tokens one after another, the first at this offset: each is the item at the end of the previous one. After the last
+-- comes the span's end, or an error
 abbrev pub AreGiven : Machine → List ℕ → (end offset : ℕ) → List Match → Option TokenError → Type 0
 AreGiven m h end offset [] None = end ≤ offset
 AreGiven m h end offset [] (Some e) = StopsTokens m h end offset e
@@ -192,16 +192,16 @@ pub data FindsNoToken (Finds : Input → Option HalfMatch → Type 0) (h : List 
       (pattern : ℕ) → Finds (asked h end offset) (Some (record { pattern = pattern; offset = offset }))
       → FindsNoToken Finds h end offset
 
--- no token by what searches find, told of an offset
+-- no token by what searches find, and the offset that the error names
 pub record IsNoTokenFound (Finds : Input → Option HalfMatch → Type 0) (h : List ℕ) (end offset told : ℕ) : Type 0 where
-  -- the offset of the error is that of the search
+  -- the error names the offset of the search
   pub place : told ≡ offset
   -- the offset is before the span's end
   pub within : offset < end
   -- the search there finds none
   pub none : FindsNoToken Finds h end offset
 
--- the tokens of an input, by what searches find: each begins where the one before ended
+-- the tokens of an input, by what searches find: each begins where the previous one ended
 abbrev pub AreFoundBy :
     (Finds : Input → Option HalfMatch → Type 0) → List ℕ → (end offset : ℕ) → List Match → Option TokenError → Type 0
 AreFoundBy Finds h end offset [] None = end ≤ offset
@@ -210,7 +210,7 @@ AreFoundBy Finds h end offset [] (Some (Search e)) = Unit {0}
 AreFoundBy Finds h end offset (t ∷ ts) error =
     FindsToken Finds h end offset t × AreFoundBy Finds h end t.end ts error
 
--- one list of bytes begins another
+-- the first list of bytes is a prefix of the second
 abbrev pub IsBeginningOf : List ℕ → List ℕ → Type 0
 IsBeginningOf part whole = (rest : List ℕ) × (whole ≡ part ++ rest)
 
@@ -222,7 +222,7 @@ IsNoTokenOrMemory (Search e) = IsMemory e
 -- the tokens of an input by the searches at their offsets, for every NFA; or the first ones, and the error that ended
 -- them
 pub record AreTokensReported (m : Machine) (input : Input) (ts : List Match) (error : Option TokenError) : Type 0 where
-  -- each is what an answer makes that the search at its offset returns
+  -- each is the item for an answer that the search at its offset returns
   pub given : AreGiven m input.haystack input.end input.start ts error
   -- it is what the passes report
   pub found : AreFoundBy (λ i. WithoutBase (IsFound Forward m i)) input.haystack input.end input.start ts error
@@ -234,21 +234,21 @@ pub record AreTokensUpto (m : Machine) (input : Input) (ts : List Match) (error 
       KeepsCycles (nfa_of m.nfa)
       → AreFoundBy (λ i. WithoutBase (IsAnswer Forward (engine m) i))
       input.haystack input.end input.start ts error
-  -- their bytes, joined, are a beginning of the span's bytes
+  -- their bytes, joined, are a prefix of the span's bytes
   pub beginning :
       IsBeginningOf (joined input.haystack ts) (slice_range input.haystack input.start input.end)
   -- without an error they are all of the span's bytes
   pub whole : error ≡ None → joined input.haystack ts ≡ slice_range input.haystack input.start input.end
-  -- if nothing prevents an answer, an error is no token or out of memory
+  -- if nothing prevents an answer, the only errors are no token and out of memory
   pub free : IsUnhindered m (asked input.haystack input.end input.start) → IfSome error IsNoTokenOrMemory
 
--- the spans of a tokenizer by the ordered paths, one after another: each that of an anchored search from where the one
--- before ended
+-- the spans of a tokenizer by the ordered paths: each is the span of an anchored search from the end of the previous
+-- one
 abbrev pub AreTokenSpans : Engine → List ℕ → (end offset : ℕ) → List Match → Type 0
 AreTokenSpans d h end offset [] = Unit {0}
 AreTokenSpans d h end offset (t ∷ ts) = IsSpan d (asked h end offset) (Some t) × AreTokenSpans d h end t.end ts
 
--- the anchored search at an offset has no span past the offset by the ordered paths
+-- by the ordered paths, the anchored search at an offset has no span that ends after the offset
 pub data HasNoSpanPast (d : Engine) (h : List ℕ) (end offset : ℕ) : Type 0 where
   -- it has none
   HasNoSpan : IsSpan d (asked h end offset) None → HasNoSpanPast d h end offset
@@ -261,14 +261,14 @@ pub data HasNoSpanPast (d : Engine) (h : List ℕ) (end offset : ℕ) : Type 0 w
 pub record AreOfPaths (m : Machine) (d : Engine) (h : List ℕ) (end : ℕ) : Type 0 where
   -- a token is the span of the search at its offset
   pub token : (offset : ℕ) (t : Token) → IsTokenAt m h end offset t → IsSpan d (asked h end offset) (Some (match_of t))
-  -- where there is none, that search has no span or an empty one
+  -- where there is no token, that search has no span or an empty one
   pub none : (offset : ℕ) → IsNoTokenAt m h end offset → HasNoSpanPast d h end offset
-  -- tokens that are collected are these spans, one after another
+  -- collected tokens are these spans, one after another
   pub list :
       (offset : ℕ) (ts : List Match) (error : Option TokenError) → AreGiven m h end offset ts error
       → AreTokenSpans d h end offset ts
 
--- So it is if the NFA keeps its cycles.
+-- If the NFA keeps its cycles, tokens are the spans of the ordered paths.
 abbrev pub TokensAreSpans : Type 0
 TokensAreSpans =
     (m : Machine) (h : List ℕ) (end : ℕ)

@@ -1,4 +1,4 @@
-//! Laws about searches over two lazy DFAs. The contract of each function is the law; its body only cites other laws.
+//! Laws about searches with two lazy DFAs. The contract of each function is the law; its body only cites other laws.
 ghost use Rattle.regex_automata.specs.Regexes.Caches.{AreCachesOf, AreKnown};
 ghost use Rattle.regex_automata.specs.Spans.Agreement.{MatchesAgree, TruthIffFound, TruthsAgree};
 ghost use Rattle.regex_automata.specs.Spans.Follows.{NextsFollow, ErrorsFollow, SpansFollow};
@@ -16,33 +16,33 @@ pub use automata_hybrid::laws::{
     sizes_are_of_nfa, states_have_matching, steps_follow, walks_agree,
 };
 
-/// Earlier searches and the capacity of the caches show in no match: two searches for one input that answer find the
-/// same, over one regex, or over two of the same NFAs and match kinds, in whatever else their settings differ.
+/// Two searches for a match with its start that succeed on one input find the same, over one regex, or over two of the
+/// same NFAs and match kinds. Earlier searches, the capacities of the caches and other settings make no difference.
 pub fn matches_agree()
     ensures { MatchesAgree }
 {
     answers_agree();
 }
 
-/// Earlier searches and the capacity of the caches do not show in whether there is a match: two searches for one input
-/// that answer say the same, over DFAs of one forward NFA and match kind.
+/// Two searches for whether there is a match that succeed on one input return the same, over DFAs of one forward NFA
+/// and match kind. Earlier searches and the capacities of the caches make no difference.
 pub fn truths_agree()
     ensures { TruthsAgree }
 {
     passes_report_paths();
 }
 
-/// If both answer, `is_match` is true exactly if `find` returns a match. An earliest input over DFAs that skip offsets
-/// inside characters is excluded: there `find` may skip the only match that it sees.
+/// If both succeed, `is_match` returns true exactly if `find` returns a match. An earliest input over DFAs that skip
+/// offsets inside characters is excluded: there `find` may skip the only match that it sees.
 pub fn truth_is_found()
     ensures { TruthIffFound }
 {
     passes_report_paths();
 }
 
-/// Over a sound pair, what the passes of both DFAs report are the spans that the ordered paths define: the match of a
-/// search, the match after another, the match of each item of `find_iter`, and the list of them. And how a loop over
-/// `find_iter` collects such a list, turn by turn.
+/// Over a sound pair, the passes of both DFAs report the spans that the ordered paths define: for a search, for the
+/// next match, for each item of `find_iter`, and for the list of them. A loop over `find_iter` collects such a list,
+/// turn by turn.
 pub fn matches_are_spans(regex: &Regex)
     ensures spans { MatchesAreSpans regex.now }
     ensures loops { LoopsCollect }
@@ -53,12 +53,12 @@ pub fn matches_are_spans(regex: &Regex)
 }
 
 /// Each token is the span that the ordered paths define for an anchored search at its offset, if the NFA keeps its
-/// cycles; and where there is no token, that search has no span, or an empty one.
+/// cycles. Where there is no token, that search has no span, or an empty one.
 pub fn tokens_are_spans()
     ensures { TokensAreSpans }
 {}
 
-/// The caches of a regex know what such caches may know, as `spans_follow` asks of them.
+/// The caches of a regex meet the premise of `spans_follow`.
 pub fn regex_caches_are_known(regex: &Regex, cache: &Cache)
     requires { AreCachesOf cache.now regex.now }
     ensures { AreKnown regex.now cache.now }
@@ -68,10 +68,10 @@ pub fn regex_caches_are_known(regex: &Regex, cache: &Cache)
     cache_is_known(regex.reverse(), reverse);
 }
 
-/// What follows of what a search for a span makes of the two caches, and one for the next match: how often it
-/// determinizes, and when it clears nothing; that until the next clear nothing is lost; that all that it used is cached
-/// after an answer; that with all that cached nothing changes but the progress; and why it fails. For a search of one
-/// DFA, as `is_match` and the tokens make it, this is `searches_follow`.
+/// Consequences of a search for a span, and of `next_match`, for both caches of a regex, and why these fail. They say
+/// how often the caches determinize, when nothing is cleared, that nothing is lost until the next clear, that what the
+/// search used is cached if it succeeds, and that only the progress changes if all of it was cached. For a search of
+/// one DFA, as `is_match` and the tokens make it, the law is `searches_follow`.
 pub fn spans_follow(regex: &Regex)
     ensures spans { SpansFollow regex.now }
     ensures refusals { ErrorsFollow regex.now }

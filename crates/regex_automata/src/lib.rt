@@ -1,5 +1,5 @@
-//! Regular expressions as automata. The paths are those of the crate `regex-automata`, for the lazy DFA and what it is
-//! built on; `laws`, `replay` and `tokens` are added.
+//! Regular expressions as automata. The module paths are those of the crate `regex-automata`, for the lazy DFA and what
+//! it is built on; `laws`, `replay` and `tokens` are additions.
 #![tactic(auto)]
 
 pub mod hybrid;

@@ -1,11 +1,11 @@
-//! What several threads may use at once, and what may move from one to another. The bounds are the promise; the
+//! What several threads may share, and what may move from one thread to another. The trait bounds are the promise; the
 //! functions do nothing when they run.
 use crate::hybrid::dfa::{self, DFA, OverlappingState, Pieces};
 use crate::hybrid::regex::{self, FindMatches, Regex};
 use crate::nfa::thompson::NFA;
 use crate::tokens::Tokens;
 
-/// Takes what may be sent to another thread, and used by several threads at once.
+/// Accepts a value that several threads may share, and that may move from one to another.
 fn is_shared<T: Send + Sync>(_value: &T) {}
 
 /// An NFA may be used by several threads at once.
@@ -23,10 +23,10 @@ pub fn regex_is_shared(regex: &Regex) {
     is_shared(regex);
 }
 
-/// Takes what may move to another thread.
+/// Accepts a value that may move to another thread.
 fn is_sent<T: Send>(_value: &T) {}
 
-/// The cache of a lazy DFA may move to another thread, where its searches go on with what it has.
+/// The cache of a lazy DFA may move to another thread, where searches go on with what it has cached.
 pub fn dfa_cache_is_sent(cache: &dfa::Cache) {
     is_sent(cache);
 }
@@ -41,17 +41,17 @@ pub fn overlapping_state_is_sent(state: &OverlappingState) {
     is_sent(state);
 }
 
-/// Matches may be asked for in another thread than the first one was.
+/// An iterator over matches may move to another thread between two items.
 pub fn matches_are_sent<'r, 'c, 'h>(matches: &FindMatches<'r, 'c, 'h>) {
     is_sent(matches);
 }
 
-/// Tokens may be asked for in another thread than the first one was.
+/// An iterator over tokens may move to another thread between two items.
 pub fn tokens_are_sent<'r, 'c, 'h>(tokens: &Tokens<'r, 'c, 'h>) {
     is_sent(tokens);
 }
 
-/// A search in pieces may go on in another thread than the one that read the piece before.
+/// A search in pieces may move to another thread between two pieces.
 pub fn pieces_are_sent(pieces: &Pieces) {
     is_sent(pieces);
 }

@@ -11,7 +11,7 @@ pub use super::pieces::Pieces;
 pub use super::walk::{Ends, Walk};
 pub use crate::engine::Cache;
 
-/// The settings of a lazy DFA, or of the two of a regex.
+/// The settings of a lazy DFA, or of the two DFAs of a regex.
 #[derive(Clone, Debug)]
 pub struct Config {
     pub(crate) settings: raw::Settings,
@@ -20,14 +20,14 @@ pub struct Config {
 
 impl Default for Config {
     fn default() -> Config {
-        // As in the crate, an NFA whose two starts are one state is one whose searches are all anchored.
+        // As in regex-automata, an NFA whose two starts are one state has only anchored searches.
         let settings = raw::Settings { always_anchored: 1, ..raw::Settings::default() };
         Config { settings, quits: Vec::new() }
     }
 }
 
 impl Config {
-    /// The default settings.
+    /// Returns the default settings.
     pub fn new() -> Config {
         Config::default()
     }
@@ -38,8 +38,8 @@ impl Config {
         self
     }
 
-    /// Sets whether each pattern has start states of its own, so that it can be searched for alone. By default
-    /// it has none.
+    /// Sets whether each pattern has its own start states, so that a search can be for it alone. By default
+    /// it does not.
     pub fn starts_for_each_pattern(mut self, yes: bool) -> Config {
         self.settings.starts_for_each_pattern = yes.into();
         self
@@ -52,18 +52,19 @@ impl Config {
         self
     }
 
-    /// Sets whether a pattern may have a Unicode word boundary, which is decided as an ASCII one, with every
-    /// byte from 0x80 on a quit byte. By default it may not, and is an error.
+    /// Sets whether a pattern may have a Unicode word boundary, which is then decided like an ASCII one, with
+    /// every byte from 0x80 on a quit byte. By default such a pattern is an error.
     pub fn unicode_word_boundary(mut self, yes: bool) -> Config {
         self.settings.unicode_word_boundary = yes.into();
         self
     }
 
-    /// Makes this byte a quit byte, at which a search fails, or makes it none. By default no byte is one.
+    /// Sets whether a byte is a quit byte, at which a search fails. By default no byte is.
     ///
     /// # Panics
     ///
-    /// If the byte is not ASCII, is to be no quit byte, and Unicode word boundaries are enabled, which need it.
+    /// If the byte is not ASCII, is set not to be a quit byte, and Unicode word boundaries are enabled, which
+    /// need it.
     pub fn quit(mut self, byte: u8, yes: bool) -> Config {
         let needed = self.settings.unicode_word_boundary != 0 && !byte.is_ascii();
         assert!(yes || !needed, "Unicode word boundaries need {byte:#04X} to be a quit byte");
@@ -80,7 +81,7 @@ impl Config {
         self
     }
 
-    /// Sets the most bytes that a cache of each DFA may account for. By default it is 2 MiB.
+    /// Sets how many bytes a cache of each DFA may account for at most. By default it is 2 MiB.
     pub fn cache_capacity(mut self, bytes: usize) -> Config {
         (self.settings.has_cache_capacity, self.settings.cache_capacity) = (1, bytes);
         self
@@ -100,8 +101,8 @@ impl Config {
         self
     }
 
-    /// Sets the number of bytes for each state of the cache which keeps a search from giving up, if so many
-    /// were searched since the last clear. By default, `None`, no number does.
+    /// Sets the number of bytes searched per state of the cache, since its last clear, from which on a search
+    /// does not give up. By default, `None`, this does not keep a search from giving up.
     pub fn minimum_bytes_per_state(mut self, min: Option<usize>) -> Config {
         self.settings.has_minimum_bytes_per_state = min.is_some().into();
         self.settings.minimum_bytes_per_state = min.unwrap_or(0);
@@ -118,7 +119,7 @@ pub struct Builder {
 }
 
 impl Builder {
-    /// A builder with the default settings.
+    /// Returns a builder with the default settings.
     pub fn new() -> Builder {
         Builder::default()
     }
@@ -129,24 +130,24 @@ impl Builder {
         self
     }
 
-    /// Sets how the texts of patterns are read.
+    /// Sets how the texts of patterns are parsed.
     pub fn syntax(&mut self, config: syntax::Config) -> &mut Builder {
         self.syntax = config;
         self
     }
 
-    /// Sets how the NFA is made of the texts of patterns.
+    /// Sets how the NFA is built from the texts of patterns.
     pub fn thompson(&mut self, config: thompson::Config) -> &mut Builder {
         self.thompson = config;
         self
     }
 
-    /// Builds the DFA of the text of a pattern.
+    /// Builds the DFA of a pattern.
     pub fn build(&self, pattern: &str) -> Result<DFA, BuildError> {
         self.build_many(&[pattern])
     }
 
-    /// Builds the DFA of the texts of patterns, each of which has its place in the list as its number.
+    /// Builds the DFA of several patterns, each numbered by its index in the list.
     pub fn build_many<P: AsRef<str>>(&self, patterns: &[P]) -> Result<DFA, BuildError> {
         let engine = Engine::of_texts(patterns, &self.syntax, &self.thompson, &self.config)?;
         Ok(DFA::new_of(engine, Direction::Forward))
@@ -158,7 +159,7 @@ impl Builder {
     }
 }
 
-/// The way in which a DFA reads a haystack.
+/// The direction in which a DFA reads a haystack.
 #[derive(Clone, Copy, Debug, PartialEq, Eq)]
 pub(super) enum Direction {
     Forward,
@@ -167,8 +168,8 @@ pub(super) enum Direction {
 
 /// A lazy DFA: it finds one end of a match, and which patterns match.
 ///
-/// A clone shares what the DFA has, and threads may share a DFA. The library makes lazy DFAs in pairs: one that
-/// is built alone has a reverse DFA beside it, of whose states a search forward builds none.
+/// A clone shares the DFA's data, and threads may share a DFA. The library creates lazy DFAs in pairs: a DFA
+/// that is built alone also has a reverse DFA, of which a forward search builds no states.
 ///
 /// ```
 /// use lazydfa::hybrid::dfa::DFA;
@@ -193,32 +194,32 @@ pub struct DFA {
 }
 
 impl DFA {
-    /// The DFA of the text of a pattern, with the default settings.
+    /// Builds the DFA of a pattern, with the default settings.
     pub fn new(pattern: &str) -> Result<DFA, BuildError> {
         Builder::new().build(pattern)
     }
 
-    /// The DFA of the texts of patterns, each of which has its place in the list as its number.
+    /// Builds the DFA of several patterns, each numbered by its index in the list.
     pub fn new_many<P: AsRef<str>>(patterns: &[P]) -> Result<DFA, BuildError> {
         Builder::new().build_many(patterns)
     }
 
-    /// The default settings of a DFA.
+    /// Returns the default settings of a DFA.
     pub fn config() -> Config {
         Config::new()
     }
 
-    /// A builder of DFAs, with the default settings.
+    /// Returns a builder of DFAs, with the default settings.
     pub fn builder() -> Builder {
         Builder::new()
     }
 
-    /// One of the two DFAs of an engine.
+    /// Returns one of the two DFAs of an engine.
     pub(super) fn new_of(engine: Arc<Engine>, direction: Direction) -> DFA {
         DFA { engine, direction }
     }
 
-    /// The engine that this DFA is of.
+    /// Returns the engine that this DFA belongs to.
     pub(super) fn engine(&self) -> &Arc<Engine> {
         &self.engine
     }
@@ -227,16 +228,16 @@ impl DFA {
     ///
     /// # Panics
     ///
-    /// If memory is out.
+    /// If an allocation fails.
     pub fn create_cache(&self) -> Cache {
         self.engine.create_cache().expect("a cache of a DFA")
     }
 
-    /// Makes a cache a fresh one of this DFA, of whatever regex it was.
+    /// Resets a cache, of any regex, to a fresh one of this DFA.
     ///
     /// # Panics
     ///
-    /// If memory is out.
+    /// If an allocation fails.
     pub fn reset_cache(&self, cache: &mut Cache) {
         if cache.is_of(&self.engine) {
             cache.try_reset().expect("a cache of a DFA");
@@ -245,20 +246,20 @@ impl DFA {
         }
     }
 
-    /// How many patterns the DFA has.
+    /// Returns the number of patterns of the DFA.
     pub fn pattern_len(&self) -> usize {
         self.engine.pattern_len()
     }
 
-    /// Where the first match ends.
+    /// Searches for the end of the first match.
     ///
     /// # Errors
     ///
-    /// If the search quits or gives up, if the anchored mode is not supported, or if memory is out.
+    /// If the search quits or gives up, if the anchored mode is not supported, or if an allocation fails.
     ///
     /// # Panics
     ///
-    /// If the cache is of another regex, or the DFA is the reverse one of a regex.
+    /// If the cache belongs to another regex, or the DFA is the reverse DFA of a regex.
     pub fn try_search_fwd(
         &self,
         cache: &mut Cache,
@@ -268,15 +269,16 @@ impl DFA {
         cache.find_end(input)
     }
 
-    /// Where the longest match starts that ends at the end of the span; of an earliest input the shortest one.
+    /// Searches for the start of the longest match that ends at the end of the span; for an earliest input,
+    /// of the shortest one.
     ///
     /// # Errors
     ///
-    /// As [`DFA::try_search_fwd`].
+    /// As for [`DFA::try_search_fwd`].
     ///
     /// # Panics
     ///
-    /// If the cache is of another regex, or the DFA is no reverse one of a regex.
+    /// If the cache belongs to another regex, or the DFA is not the reverse DFA of a regex.
     pub fn try_search_rev(
         &self,
         cache: &mut Cache,
@@ -286,19 +288,19 @@ impl DFA {
         cache.find_start(input)
     }
 
-    /// Begins a search for the end of the first match in a haystack that comes in pieces, with a cache or a `&mut`
-    /// to one. An earliest search may stop at the first match that it sees.
+    /// Begins a search for the end of the first match in a haystack that arrives in pieces, with a cache or a
+    /// `&mut` to one. An earliest search may stop at the first match that it sees.
     ///
     /// # Errors
     ///
-    /// If the regex matches the empty string, but not inside a character, which is
-    /// [`Skips`](crate::MatchErrorKind::Skips); if the byte before the first piece is a quit byte, which is an error
-    /// at offset 0; if the search gives up, if the anchored mode is not supported, or if memory is out. A cache that
-    /// was given, and not lent, is dropped then.
+    /// If the regex can match the empty string, but not inside a character, which is
+    /// [`Skips`](crate::MatchErrorKind::Skips); if the byte before the first piece is a quit byte, which is
+    /// an error at offset 0; if the search gives up, if the anchored mode is not supported, or if an
+    /// allocation fails. A cache that was passed by value is then dropped.
     ///
     /// # Panics
     ///
-    /// If the cache is of another regex, or the DFA is the reverse one of a regex.
+    /// If the cache belongs to another regex, or the DFA is the reverse DFA of a regex.
     pub fn begin_pieces<C: BorrowMut<Cache>>(
         &self,
         mut cache: C,
@@ -311,16 +313,16 @@ impl DFA {
         Pieces::begun(cache)
     }
 
-    /// Begins a walk over a haystack that comes in pieces, which reports the ends of all overlapping matches, with a
-    /// cache or a `&mut` to one. Build the DFA with `MatchKind::All`.
+    /// Begins a walk over a haystack that arrives in pieces, which reports the ends of all overlapping
+    /// matches, with a cache or a `&mut` to one. Build the DFA with `MatchKind::All`.
     ///
     /// # Errors
     ///
-    /// As [`DFA::begin_pieces`].
+    /// As for [`DFA::begin_pieces`].
     ///
     /// # Panics
     ///
-    /// If the cache is of another regex, or the DFA is the reverse one of a regex.
+    /// If the cache belongs to another regex, or the DFA is the reverse DFA of a regex.
     pub fn begin_walk<C: BorrowMut<Cache>>(
         &self,
         mut cache: C,
@@ -332,17 +334,17 @@ impl DFA {
         Ok(Walk::begun(cache))
     }
 
-    /// Inserts the patterns that match into a set, overlapping matches included; of an earliest input that of
-    /// the first match alone. Build the DFA with `MatchKind::All`. A pattern that is not below the set's
-    /// capacity is left out.
+    /// Inserts the patterns that match into a set, overlapping matches included; for an earliest input, only
+    /// the pattern of the first match. Build the DFA with `MatchKind::All`. A pattern that is not below the
+    /// set's capacity is left out.
     ///
     /// # Errors
     ///
-    /// As [`DFA::try_search_fwd`]. The set then has the patterns that were found before the error.
+    /// As for [`DFA::try_search_fwd`]. The set then has the patterns that were found before the error.
     ///
     /// # Panics
     ///
-    /// If the cache is of another regex, or the DFA is the reverse one of a regex.
+    /// If the cache belongs to another regex, or the DFA is the reverse DFA of a regex.
     pub fn try_which_overlapping_matches(
         &self,
         cache: &mut Cache,
@@ -357,11 +359,11 @@ impl DFA {
     ///
     /// # Errors
     ///
-    /// As [`DFA::try_search_fwd`]. The list then has the ends that were found before the error.
+    /// As for [`DFA::try_search_fwd`]. The list then has the ends that were found before the error.
     ///
     /// # Panics
     ///
-    /// If the cache is of another regex, or the DFA is the reverse one of a regex.
+    /// If the cache belongs to another regex, or the DFA is the reverse DFA of a regex.
     ///
     /// ```
     /// use lazydfa::hybrid::dfa::DFA;
@@ -389,11 +391,11 @@ impl DFA {
     ///
     /// # Errors
     ///
-    /// As [`DFA::try_search_fwd`]. The list then has the starts that were found before the error.
+    /// As for [`DFA::try_search_fwd`]. The list then has the starts that were found before the error.
     ///
     /// # Panics
     ///
-    /// If the cache is of another regex, or the DFA is no reverse one of a regex.
+    /// If the cache belongs to another regex, or the DFA is not the reverse DFA of a regex.
     pub fn try_all_starts(
         &self,
         cache: &mut Cache,
@@ -404,7 +406,7 @@ impl DFA {
         cache.all_starts(input, starts)
     }
 
-    /// Panics unless the cache is one of this DFA, and the DFA reads in this direction.
+    /// Panics unless the cache belongs to this DFA, and the DFA reads in this direction.
     fn check(&self, cache: &Cache, direction: Direction) {
         cache.check(&self.engine);
         assert!(self.direction == direction, "a {:?} DFA does not search {:?}", self.direction, direction,);

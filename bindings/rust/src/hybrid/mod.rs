@@ -1,4 +1,4 @@
-//! Lazy DFAs, and regexes of two of them.
+//! Lazy DFAs, and regexes built from two of them.
 pub mod dfa;
 mod pieces;
 pub mod regex;

@@ -1,16 +1,17 @@
-//! Searches in haystacks that come in pieces.
+//! Searches in haystacks that arrive in pieces.
 use crate::{BuildError, Cache, HalfMatch, MatchError};
 use std::borrow::BorrowMut;
 
-/// A search for the end of the first match in a haystack that comes in pieces, as from a file or a socket.
+/// A search for the end of the first match in a haystack that arrives in pieces, as from a file or a socket.
 ///
-/// [`DFA::begin_pieces`](crate::hybrid::dfa::DFA::begin_pieces) begins it, and it answers what
-/// [`DFA::try_search_fwd`](crate::hybrid::dfa::DFA::try_search_fwd) answers for the whole haystack. Offsets are
-/// counted in bytes from the first byte of the first piece. Between two pieces it keeps the state after the last
-/// byte, and no piece. To cancel it, drop it: the cache serves other searches.
+/// [`DFA::begin_pieces`](crate::hybrid::dfa::DFA::begin_pieces) begins it, and it returns what
+/// [`DFA::try_search_fwd`](crate::hybrid::dfa::DFA::try_search_fwd) returns for the whole haystack. Offsets
+/// are counted in bytes from the first byte of the first piece. Between two pieces it keeps no piece, only
+/// the state after the last byte. To cancel it, drop it: the cache can serve other searches.
 ///
-/// It has its cache for itself. Lend it one, `Pieces<&mut Cache>`, or give it one, `Pieces<Cache>`: that borrows
-/// nothing, so it may stand in a struct and go to another thread between two pieces.
+/// It has exclusive use of its cache. Pass a reference, `Pieces<&mut Cache>`, or the cache itself,
+/// `Pieces<Cache>`: that borrows nothing, so it may be stored in a struct and sent to another thread between
+/// two pieces.
 ///
 /// ```
 /// use lazydfa::hybrid::dfa::DFA;
@@ -36,48 +37,49 @@ pub struct Pieces<C> {
 }
 
 impl<C: BorrowMut<Cache>> Pieces<C> {
-    /// The search that was begun over the cache.
+    /// Returns the search that was begun over the cache.
     pub(super) fn begun(cache: C) -> Result<Pieces<C>, MatchError> {
         let mut pieces = Pieces { cache, is_done: false };
-        // The library reports with each piece whether the answer stands, and so with the empty one.
+        // The library reports after each piece, even an empty one, whether the result is final.
         pieces.read(&[])?;
         Ok(pieces)
     }
 
-    /// Reads the next piece, of any length. Once the answer stands it reads nothing.
+    /// Reads the next piece, of any length. Once the result is final, it reads nothing.
     ///
     /// # Errors
     ///
-    /// If the search meets a quit byte or gives up, or if memory is out. The search then stands where it stood
-    /// before the piece, which may be given again: after [`Pieces::try_reset_cache`], say, if it gave up. For the
-    /// rule by which a cache gives up, each piece is a search of its own.
+    /// If the search reads a quit byte or gives up, or if an allocation fails. The search is then unchanged,
+    /// and the piece may be read again: after [`Pieces::try_reset_cache`], for example, if it gave up. The
+    /// rule by which a search gives up counts each piece as a search of its own.
     pub fn read(&mut self, piece: &[u8]) -> Result<(), MatchError> {
         self.cache.borrow_mut().read_piece(piece, &mut self.is_done)
     }
 
-    /// Whether the answer stands, whatever follows: [`Pieces::end`] returns it. An earliest search is done at the
-    /// first match that it sees.
+    /// Whether the result is final, whatever follows: [`Pieces::end`] returns it. An earliest search is done
+    /// at the first match that it sees.
     pub fn is_done(&self) -> bool {
         self.is_done
     }
 
-    /// Where the first match ends in the pieces so far, if this byte follows them, or if the haystack ends there.
-    /// More pieces may follow all the same.
+    /// Returns where the first match in the pieces so far ends, if this byte follows them, or, with `None`,
+    /// if the haystack ends there. More pieces may be read afterwards.
     ///
     /// # Errors
     ///
-    /// If the byte is a quit byte, if the search gives up, or if memory is out. More pieces may follow then too.
+    /// If the byte is a quit byte, if the search gives up, or if an allocation fails. More pieces may be read
+    /// then too.
     pub fn end(&mut self, look_ahead: Option<u8>) -> Result<Option<HalfMatch>, MatchError> {
         self.cache.borrow_mut().end_pieces(look_ahead)
     }
 
-    /// Makes the cache a fresh one of the same regex; the search goes on where it stands. If memory is out it
-    /// fails, and the cache stays as it is.
+    /// Resets the cache to a fresh one of the same regex; the search continues where it was. If an allocation
+    /// fails, this returns an error, and the cache is unchanged.
     pub fn try_reset_cache(&mut self) -> Result<(), BuildError> {
         self.cache.borrow_mut().try_reset()
     }
 
-    /// Ends the search, and gives back the cache.
+    /// Ends the search, and returns the cache.
     pub fn into_cache(self) -> C {
         self.cache
     }

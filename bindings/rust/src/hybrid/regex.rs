@@ -1,4 +1,4 @@
-//! Regexes of two lazy DFAs.
+//! Regexes built from two lazy DFAs.
 use super::dfa::{self, Direction, DFA};
 use crate::engine::Engine;
 use crate::iter::Matches;
@@ -10,7 +10,7 @@ use std::sync::Arc;
 
 pub use crate::engine::Cache;
 
-/// A builder of regexes. It holds the settings of their DFAs, and how the texts of patterns are read.
+/// A builder of regexes. It holds the settings of their DFAs, and how the texts of patterns are parsed.
 ///
 /// ```
 /// use lazydfa::hybrid::{dfa, regex::Regex};
@@ -31,7 +31,7 @@ pub struct Builder {
 }
 
 impl Builder {
-    /// A builder with the default settings.
+    /// Returns a builder with the default settings.
     pub fn new() -> Builder {
         Builder::default()
     }
@@ -42,25 +42,25 @@ impl Builder {
         self
     }
 
-    /// Sets how the texts of patterns are read.
+    /// Sets how the texts of patterns are parsed.
     pub fn syntax(&mut self, config: syntax::Config) -> &mut Builder {
         self.syntax = config;
         self
     }
 
-    /// Sets how the NFA is made of the texts of patterns.
+    /// Sets how the NFA is built from the texts of patterns.
     pub fn thompson(&mut self, config: thompson::Config) -> &mut Builder {
         self.thompson = config;
         self
     }
 
-    /// Builds the regex of the text of a pattern.
+    /// Builds the regex of a pattern.
     pub fn build(&self, pattern: &str) -> Result<Regex, BuildError> {
         self.build_many(&[pattern])
     }
 
-    /// Builds the regex of the texts of patterns, each of which has its place in the list as its number. Where
-    /// several match at one offset, the first is preferred.
+    /// Builds the regex of several patterns, each numbered by its index in the list. If several match at one
+    /// offset, the first is preferred.
     pub fn build_many<P: AsRef<str>>(&self, patterns: &[P]) -> Result<Regex, BuildError> {
         let engine = Engine::of_texts(patterns, &self.syntax, &self.thompson, &self.config)?;
         Ok(Regex::new_of(engine))
@@ -71,8 +71,8 @@ impl Builder {
         Ok(Regex::new_of(Engine::of_nfa(nfa, &self.config)?))
     }
 
-    /// Builds the regex of two NFAs, of which the second reads backward what the first reads forward. Nothing
-    /// tests that it does: if it does not, a search may report a wrong start, or that there is none. One NFA
+    /// Builds the regex of two NFAs, the second of which reads backward what the first reads forward. This is
+    /// not checked: if it does not, a search may report a wrong start, or that there is no start. One NFA
     /// given twice is an error.
     pub fn build_from_nfas(&self, forward: &NFA, reverse: &NFA) -> Result<Regex, BuildError> {
         Ok(Regex::new_of(Engine::of_nfas(forward, reverse, &self.config)?))
@@ -81,8 +81,8 @@ impl Builder {
 
 /// A regex: two lazy DFAs, one that finds where matches end, and one that finds where they start.
 ///
-/// A search takes a cache, in which it builds the states that it meets. A clone shares what the regex has, and
-/// threads may share a regex, each with a cache of its own.
+/// A search is passed a cache, in which it builds the states that it needs. A clone shares the regex's data,
+/// and threads may share a regex, each with its own cache.
 ///
 /// ```
 /// use lazydfa::hybrid::regex::Regex;
@@ -102,22 +102,22 @@ pub struct Regex {
 }
 
 impl Regex {
-    /// The regex of the text of a pattern, with the default settings.
+    /// Builds the regex of a pattern, with the default settings.
     pub fn new(pattern: &str) -> Result<Regex, BuildError> {
         Builder::new().build(pattern)
     }
 
-    /// The regex of the texts of patterns, each of which has its place in the list as its number.
+    /// Builds the regex of several patterns, each numbered by its index in the list.
     pub fn new_many<P: AsRef<str>>(patterns: &[P]) -> Result<Regex, BuildError> {
         Builder::new().build_many(patterns)
     }
 
-    /// A builder of regexes, with the default settings.
+    /// Returns a builder of regexes, with the default settings.
     pub fn builder() -> Builder {
         Builder::new()
     }
 
-    /// The regex of an engine.
+    /// Returns the regex of an engine.
     fn new_of(engine: Arc<Engine>) -> Regex {
         let forward = DFA::new_of(Arc::clone(&engine), Direction::Forward);
         Regex { forward, reverse: DFA::new_of(engine, Direction::Reverse) }
@@ -127,36 +127,36 @@ impl Regex {
     ///
     /// # Panics
     ///
-    /// If memory is out.
+    /// If an allocation fails.
     pub fn create_cache(&self) -> Cache {
         self.forward.create_cache()
     }
 
-    /// Creates a fresh cache for searches with this regex. It fails if memory is out.
+    /// Creates a fresh cache for searches with this regex. It returns an error if an allocation fails.
     pub fn try_create_cache(&self) -> Result<Cache, BuildError> {
         self.forward.engine().create_cache()
     }
 
-    /// Makes a cache a fresh one of this regex, of whatever regex it was.
+    /// Resets a cache, of any regex, to a fresh one of this regex.
     ///
     /// # Panics
     ///
-    /// If memory is out.
+    /// If an allocation fails.
     pub fn reset_cache(&self, cache: &mut Cache) {
         self.forward.reset_cache(cache);
     }
 
-    /// The DFA that finds where matches end.
+    /// Returns the DFA that finds where matches end.
     pub fn forward(&self) -> &DFA {
         &self.forward
     }
 
-    /// The DFA that finds where matches start.
+    /// Returns the DFA that finds where matches start.
     pub fn reverse(&self) -> &DFA {
         &self.reverse
     }
 
-    /// How many patterns the regex has.
+    /// Returns the number of patterns of the regex.
     pub fn pattern_len(&self) -> usize {
         self.forward.pattern_len()
     }
@@ -165,7 +165,7 @@ impl Regex {
     ///
     /// # Panics
     ///
-    /// If the search fails, or the cache is of another regex.
+    /// If the search fails, or the cache belongs to another regex.
     pub fn is_match<'h, I: Into<Input<'h>>>(&self, cache: &mut Cache, input: I) -> bool {
         self.try_is_match(cache, &input.into()).expect("a search")
     }
@@ -174,16 +174,16 @@ impl Regex {
     ///
     /// # Panics
     ///
-    /// If the search fails, or the cache is of another regex.
+    /// If the search fails, or the cache belongs to another regex.
     pub fn find<'h, I: Into<Input<'h>>>(&self, cache: &mut Cache, input: I) -> Option<Match> {
         self.try_search(cache, &input.into()).expect("a search")
     }
 
-    /// The matches of an input, one after another, none of which overlaps another.
+    /// Returns an iterator over the matches of an input, none of which overlaps another.
     ///
     /// # Panics
     ///
-    /// If the cache is of another regex. The iterator panics if a search fails.
+    /// If the cache belongs to another regex. The iterator panics if a search fails.
     pub fn find_iter<'c, 'h, I: Into<Input<'h>>>(
         &self,
         cache: &'c mut Cache,
@@ -196,11 +196,11 @@ impl Regex {
     ///
     /// # Errors
     ///
-    /// If the search quits or gives up, if the anchored mode is not supported, or if memory is out.
+    /// If the search quits or gives up, if the anchored mode is not supported, or if an allocation fails.
     ///
     /// # Panics
     ///
-    /// If the cache is of another regex.
+    /// If the cache belongs to another regex.
     pub fn try_is_match(&self, cache: &mut Cache, input: &Input<'_>) -> Result<bool, MatchError> {
         cache.check(self.forward.engine());
         cache.is_match(input)
@@ -210,21 +210,22 @@ impl Regex {
     ///
     /// # Errors
     ///
-    /// As [`Regex::try_is_match`]. Of two NFAs that are no pair also if the second finds no start.
+    /// As for [`Regex::try_is_match`]; with two NFAs that do not belong together, also if the second finds no
+    /// start.
     ///
     /// # Panics
     ///
-    /// If the cache is of another regex.
+    /// If the cache belongs to another regex.
     pub fn try_search(&self, cache: &mut Cache, input: &Input<'_>) -> Result<Option<Match>, MatchError> {
         cache.check(self.forward.engine());
         cache.find(input)
     }
 
-    /// The matches of an input, one after another. The error of a search is the last item.
+    /// Returns an iterator over the matches of an input. The error of a search is the last item.
     ///
     /// # Panics
     ///
-    /// If the cache is of another regex.
+    /// If the cache belongs to another regex.
     pub fn try_find_iter<'c, 'h, I: Into<Input<'h>>>(
         &self,
         cache: &'c mut Cache,
@@ -234,13 +235,13 @@ impl Regex {
         TryFindMatches { cache, matches: Matches::new(input.into()) }
     }
 
-    /// The tokens of an input: each begins where the one before ended, and none is empty. The iteration ends at
-    /// the end of the span, or with an error, which says why or where there is no token. The anchored mode and
-    /// the earliest flag do not count.
+    /// Returns an iterator over the tokens of an input: each begins where the previous one ended, and none is
+    /// empty. The iteration ends at the end of the span, or with an error, which says why it ended or where
+    /// no token begins. The anchored mode and the earliest flag are ignored.
     ///
     /// # Panics
     ///
-    /// If the cache is of another regex.
+    /// If the cache belongs to another regex.
     ///
     /// ```
     /// use lazydfa::hybrid::regex::Regex;

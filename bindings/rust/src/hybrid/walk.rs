@@ -1,19 +1,20 @@
-//! Walks over haystacks that come in pieces.
+//! Walks over haystacks that arrive in pieces.
 use crate::raw::Stop;
 use crate::{BuildError, Cache, HalfMatch, MatchError};
 use std::borrow::BorrowMut;
 use std::iter::FusedIterator;
 
-/// A walk over a haystack that comes in pieces: it reports the ends of all overlapping matches, and so which patterns
-/// match.
+/// A walk over a haystack that arrives in pieces: it reports the ends of all overlapping matches, and so
+/// which patterns match.
 ///
-/// [`DFA::begin_walk`](crate::hybrid::dfa::DFA::begin_walk) begins it. What [`Walk::read`] reports of each piece, and
-/// after the last one [`Walk::end`], is what [`DFA::try_all_ends`](crate::hybrid::dfa::DFA::try_all_ends) lists for
-/// the whole haystack, in the same order. Offsets are counted in bytes from the first byte of the first piece. Between
-/// two pieces it keeps the state after the last byte, and no piece. To cancel it, drop it: the cache serves other
-/// searches.
+/// [`DFA::begin_walk`](crate::hybrid::dfa::DFA::begin_walk) begins it. What [`Walk::read`] reports for each
+/// piece, and [`Walk::end`] after the last one, is what
+/// [`DFA::try_all_ends`](crate::hybrid::dfa::DFA::try_all_ends) lists for the whole haystack, in the same
+/// order. Offsets are counted in bytes from the first byte of the first piece. Between two pieces it keeps no
+/// piece, only the state after the last byte. To cancel it, drop it: the cache can serve other searches.
 ///
-/// It has its cache for itself, lent or given, as [`Pieces`](crate::hybrid::dfa::Pieces) has.
+/// It has exclusive use of its cache, as a reference or by value, as [`Pieces`](crate::hybrid::dfa::Pieces)
+/// has.
 ///
 /// ```
 /// use lazydfa::hybrid::dfa::DFA;
@@ -45,23 +46,24 @@ pub struct Walk<C> {
 }
 
 impl<C: BorrowMut<Cache>> Walk<C> {
-    /// The walk that was begun over the cache.
+    /// Returns the walk that was begun over the cache.
     pub(super) fn begun(cache: C) -> Walk<C> {
         Walk { cache }
     }
 
-    /// Reads the next piece, of any length, while the iterator that it returns is advanced. A match is delayed by one
-    /// byte: one that ends with the piece is reported with the next piece, or by [`Walk::end`].
+    /// Reads the next piece, of any length, while the returned iterator is advanced. Matches are delayed by
+    /// one byte: a match that ends with the piece is reported with the next piece, or by [`Walk::end`].
     pub fn read<'h>(&mut self, piece: &'h [u8]) -> Ends<'_, 'h> {
         Ends { cache: self.cache.borrow_mut(), rest: piece, stop: Stop::default(), taken: 0, failed: false }
     }
 
-    /// The matches that end where the pieces so far end, if this byte follows them, or if the haystack ends there.
-    /// More pieces may follow all the same.
+    /// Returns the matches that end where the pieces so far end, if this byte follows them, or, with `None`,
+    /// if the haystack ends there. More pieces may be read afterwards.
     ///
     /// # Errors
     ///
-    /// If the byte is a quit byte, if the search gives up, or if memory is out. More pieces may follow then too.
+    /// If the byte is a quit byte, if the walk gives up, or if an allocation fails. More pieces may be read
+    /// then too.
     pub fn end(
         &mut self,
         look_ahead: Option<u8>,
@@ -71,30 +73,30 @@ impl<C: BorrowMut<Cache>> Walk<C> {
         Ok((0..stop.patterns).map(move |index| cache.walk_match(&stop, index)))
     }
 
-    /// Makes the cache a fresh one of the same regex; the walk goes on where it stands. If memory is out it fails, and
-    /// the cache stays as it is.
+    /// Resets the cache to a fresh one of the same regex; the walk continues where it was. If an allocation
+    /// fails, this returns an error, and the cache is unchanged.
     pub fn try_reset_cache(&mut self) -> Result<(), BuildError> {
         self.cache.borrow_mut().try_reset()
     }
 
-    /// Ends the walk, and gives back the cache.
+    /// Ends the walk, and returns the cache.
     pub fn into_cache(self) -> C {
         self.cache
     }
 }
 
-/// The ends of matches that a [`Walk`] meets in a piece, in increasing order of their offsets: of each offset the
-/// patterns that match up to it, each once.
+/// The ends of matches that a [`Walk`] finds in a piece, in increasing order of their offsets: at each offset
+/// the patterns that match up to it, each once.
 ///
-/// It reads the piece as far as it is advanced. If it is dropped before it has returned `None`, [`Ends::rest`] has to
-/// be given to the walk next; other patterns of the last offset are not reported then.
+/// The iterator reads the piece only as far as it is advanced. If it is dropped before it has returned
+/// `None`, pass [`Ends::rest`] to the walk next; other patterns at the last offset are then not reported.
 ///
 /// # Errors
 ///
-/// If the walk meets a quit byte or gives up, or if memory is out. The error is the last item, and no match is lost:
-/// the walk stands as after the last match, and [`Ends::rest`] may be given to it, after [`Walk::try_reset_cache`],
-/// say, if it gave up. For the rule by which a cache gives up, what is read from one offset where patterns match to
-/// the next is a search of its own.
+/// If the walk reads a quit byte or gives up, or if an allocation fails. The error is the last item, and no
+/// match is lost: the walk is where it was after the last match, and [`Ends::rest`] may be passed to it
+/// again, after [`Walk::try_reset_cache`], for example, if it gave up. The rule by which a search gives up
+/// counts what is read between two offsets where patterns match as a search of its own.
 ///
 /// ```
 /// use lazydfa::hybrid::dfa::DFA;
@@ -117,19 +119,19 @@ pub struct Ends<'c, 'h> {
     cache: &'c mut Cache,
     rest: &'h [u8],
     stop: Stop,
-    // How many of the matches where the walk stands were returned.
+    // How many of the matches at the walk's position were returned.
     taken: usize,
     failed: bool,
 }
 
 impl<'h> Ends<'_, 'h> {
-    /// What the walk has not read of the piece. It has read the byte after the last match that was returned, or all if
-    /// the iterator has returned `None`, and no error before.
+    /// Returns the part of the piece that the walk has not read. It has read the byte after the last match
+    /// that was returned, or the whole piece if the iterator has returned `None` without an error before.
     pub fn rest(&self) -> &'h [u8] {
         self.rest
     }
 
-    /// The next offset where patterns match, or none if the piece ends before.
+    /// Advances to the next offset where patterns match, or to the end of the piece.
     fn advance(&mut self) -> Result<(), MatchError> {
         self.stop = self.cache.read_walk(self.rest)?;
         (self.rest, self.taken) = (&self.rest[self.stop.read..], 0);

@@ -1,4 +1,4 @@
-//! NFAs that are built state by state, for an engine that has a parser of its own.
+//! NFAs that are built state by state, for an engine with its own parser.
 use crate::handle::Handle;
 use crate::raw::{self, Status};
 use crate::util::look::Look;
@@ -7,7 +7,7 @@ use crate::{BuildError, BuildErrorKind};
 use std::fmt;
 use std::sync::{Arc, Mutex, MutexGuard, PoisonError};
 
-/// How NFAs are made of the texts of patterns.
+/// How NFAs are built from the texts of patterns.
 #[derive(Clone, Copy, Debug, Default)]
 pub struct Config {
     pub(crate) size_limit: Option<Option<usize>>,
@@ -15,21 +15,21 @@ pub struct Config {
 }
 
 impl Config {
-    /// The default settings.
+    /// Returns the default settings.
     pub fn new() -> Config {
         Config::default()
     }
 
-    /// Sets how many bytes the tables of all patterns may take while they are compiled, or with `None` that
-    /// there is no limit. By default they are 10 MiB.
+    /// Sets how many bytes the tables of all patterns may take while they are compiled; `None` means that
+    /// there is no limit. By default it is 10 MiB.
     pub fn nfa_size_limit(mut self, bytes: Option<usize>) -> Config {
         self.size_limit = Some(bytes);
         self
     }
 
-    /// Sets whether text is searched, so that no match splits a character. By default it is. The library has one
-    /// setting for this and for [`syntax::Config::utf8`](crate::util::syntax::Config::utf8): bytes are searched if
-    /// either of the two is off.
+    /// Sets whether matches are UTF-8, so that none splits a character. By default they are. The library has
+    /// one setting for this and for [`syntax::Config::utf8`](crate::util::syntax::Config::utf8): matches may
+    /// be any bytes if either of the two is off.
     pub fn utf8(mut self, yes: bool) -> Config {
         self.bytes = !yes;
         self
@@ -39,9 +39,9 @@ impl Config {
 /// A range of bytes, both ends included, and the state that it leads to.
 #[derive(Clone, Copy, Debug, PartialEq, Eq, Hash)]
 pub struct Transition {
-    /// The least byte.
+    /// The first byte of the range.
     pub start: u8,
-    /// The greatest byte.
+    /// The last byte of the range.
     pub end: u8,
     /// The state that the range leads to.
     pub next: StateID,
@@ -79,11 +79,12 @@ pub struct Builder {
 }
 
 impl Builder {
-    /// A builder without states, whose NFA is neither in UTF-8 mode nor reversed, and whose lines end in `\n`.
+    /// Creates a builder without states, whose NFA is neither in UTF-8 mode nor reversed, and whose lines end
+    /// in `\n`.
     ///
     /// # Panics
     ///
-    /// If memory is out.
+    /// If an allocation fails.
     #[allow(clippy::new_without_default)] // as the crate: a builder is no value of its settings
     pub fn new() -> Builder {
         let mut handle = Handle::closed();
@@ -91,20 +92,20 @@ impl Builder {
         Builder { handle, states: 0, patterns: 0 }
     }
 
-    /// Removes all states and patterns. The settings stay.
+    /// Removes all states and patterns. The settings are kept.
     pub fn clear(&mut self) {
         raw::lazydfa_raw_builder_clear(&mut self.handle);
         (self.states, self.patterns) = (0, 0);
     }
 
-    /// Starts the next pattern: match states and groups belong to it until it is finished.
+    /// Starts the next pattern. The match states and groups that are added until it is finished belong to it.
     pub fn start_pattern(&mut self) -> Result<PatternID, BuildError> {
         let mut id = 0;
         raw::lazydfa_raw_start_pattern(&mut self.handle, &mut id).built()?;
         Ok(PatternID(id))
     }
 
-    /// Finishes the pattern that was started, whose own searches start at this state.
+    /// Finishes the pattern that was started, and sets the state in which searches for it alone start.
     pub fn finish_pattern(&mut self, start: StateID) -> Result<PatternID, BuildError> {
         let mut id = 0;
         raw::lazydfa_raw_finish_pattern(&mut self.handle, start.0, &mut id).built()?;
@@ -112,7 +113,7 @@ impl Builder {
         Ok(PatternID(id))
     }
 
-    /// Adds a state by a call of the library that writes its number.
+    /// Adds a state with a call of the library that writes its number.
     fn add(&mut self, add: impl FnOnce(&mut Handle, &mut u32) -> Status) -> Result<StateID, BuildError> {
         let mut id = 0;
         add(&mut self.handle, &mut id).built()?;
@@ -120,18 +121,18 @@ impl Builder {
         Ok(StateID(id))
     }
 
-    /// Adds a state that reads nothing and leads to state 0, until it is patched.
+    /// Adds a state that reads nothing, and leads to state 0 until it is patched.
     pub fn add_empty(&mut self) -> Result<StateID, BuildError> {
         self.add(|builder, id| raw::lazydfa_raw_add_empty(builder, id))
     }
 
-    /// Adds a state that reads a byte of a range.
+    /// Adds a state that reads a byte in a range.
     pub fn add_range(&mut self, range: Transition) -> Result<StateID, BuildError> {
         let Transition { start, end, next } = range;
         self.add(|builder, id| raw::lazydfa_raw_add_range(builder, start, end, next.0, id))
     }
 
-    /// Adds a state that reads a byte of several ranges, which are in order and do not overlap.
+    /// Adds a state that reads a byte in any of several ranges, which must be in order and must not overlap.
     pub fn add_sparse(&mut self, ranges: Vec<Transition>) -> Result<StateID, BuildError> {
         let edge = |it: &Transition| raw::Edge { lo: it.start, hi: it.end, reserved: 0, next: it.next.0 };
         let edges: Vec<raw::Edge> = ranges.iter().map(edge).collect();
@@ -155,7 +156,7 @@ impl Builder {
         self.add(|builder, id| raw::add_union_reverse(builder, &ids, id))
     }
 
-    /// Adds a state where a group of the pattern begins. Searches report no groups.
+    /// Adds a state where a group of the pattern begins. Searches do not report groups.
     pub fn add_capture_start(&mut self, next: StateID, group_index: u32) -> Result<StateID, BuildError> {
         self.add(|builder, id| raw::lazydfa_raw_add_capture_start(builder, next.0, group_index, id))
     }
@@ -175,14 +176,15 @@ impl Builder {
         self.add(|builder, id| raw::lazydfa_raw_add_match(builder, id))
     }
 
-    /// Adds states that skip as few bytes as can be before a start, and returns the unanchored start.
+    /// Adds states that skip as few bytes as possible before a start state, and returns the unanchored start.
     pub fn add_unanchored_prefix(&mut self, start: StateID) -> Result<StateID, BuildError> {
         let prefix = self.add(|builder, id| raw::lazydfa_raw_add_unanchored_prefix(builder, start.0, id))?;
         self.states += 1; // the prefix is two states
         Ok(prefix)
     }
 
-    /// Lets a state lead to another one: a union gets one more alternate, any other state is moved.
+    /// Makes a state lead to another one: a union gets one more alternate, and a state that leads to one
+    /// other state is redirected.
     pub fn patch(&mut self, from: StateID, to: StateID) -> Result<(), BuildError> {
         raw::lazydfa_raw_patch(&mut self.handle, from.0, to.0).built()
     }
@@ -192,19 +194,19 @@ impl Builder {
         raw::lazydfa_raw_set_utf8(&mut self.handle, yes.into());
     }
 
-    /// Says that the NFA reads its haystack backward.
+    /// Sets whether the NFA reads its haystack backward.
     pub fn set_reverse(&mut self, yes: bool) {
         raw::lazydfa_raw_set_reverse(&mut self.handle, yes.into());
     }
 
-    /// Sets the byte that ends lines.
+    /// Sets the byte that ends a line.
     pub fn set_line_terminator(&mut self, byte: u8) {
         raw::lazydfa_raw_set_line_terminator(&mut self.handle, byte);
     }
 
-    /// The NFA of the states that were added. If both starts are one state, every search is anchored.
+    /// Returns the NFA of the states that were added. If both starts are one state, every search is anchored.
     ///
-    /// Whether the states make an NFA is tested when a DFA or a regex is built from it.
+    /// Whether the states form a valid NFA is checked when a DFA or a regex is built from it.
     pub fn build(self, start_anchored: StateID, start_unanchored: StateID) -> NFA {
         let starts = raw::Starts { anchored: start_anchored.0, unanchored: start_unanchored.0 };
         let Builder { handle, states, patterns } = self;
@@ -219,7 +221,7 @@ impl fmt::Debug for Builder {
     }
 }
 
-/// An NFA, of which DFAs and regexes are built. A clone shares its states.
+/// An NFA, from which DFAs and regexes are built. A clone shares its states.
 #[derive(Clone)]
 pub struct NFA {
     states: Arc<Mutex<Handle>>,
@@ -229,7 +231,7 @@ pub struct NFA {
 }
 
 impl NFA {
-    /// How many patterns were finished.
+    /// Returns the number of finished patterns.
     pub fn pattern_len(&self) -> usize {
         self.pattern_len
     }
@@ -244,7 +246,7 @@ impl NFA {
         raw::regex_build(regex, &mut lock(self), &self.starts, settings, quits).built()
     }
 
-    /// Opens a handle on the regex of this NFA and of one that reads backward.
+    /// Opens a handle on the regex of this NFA and of an NFA that reads backward.
     pub(crate) fn open_pair(
         &self,
         reverse: &NFA,
@@ -255,7 +257,7 @@ impl NFA {
         if Arc::ptr_eq(&self.states, &reverse.states) {
             return Err(BuildErrorKind::Argument.into());
         }
-        // In one order on every thread, so that no two threads wait for each other.
+        // The locks are taken in the same order on every thread, to avoid a deadlock.
         let (mut front, mut back);
         if Arc::as_ptr(&self.states) < Arc::as_ptr(&reverse.states) {
             front = lock(self);
@@ -269,7 +271,8 @@ impl NFA {
     }
 }
 
-/// The handle of an NFA's states. No call panics while it has the lock, so a poisoned one is as good.
+/// Locks the handle of an NFA's states. No call panics while it holds the lock, so a poisoned lock can be
+/// used.
 fn lock(nfa: &NFA) -> MutexGuard<'_, Handle> {
     nfa.states.lock().unwrap_or_else(PoisonError::into_inner)
 }

@@ -1,6 +1,6 @@
 //! Look-around assertions.
 
-/// A look-around assertion: what has to hold at an offset of the haystack.
+/// A look-around assertion: what must hold at an offset of the haystack.
 #[derive(Clone, Copy, Debug, PartialEq, Eq, Hash)]
 #[repr(u32)]
 pub enum Look {

@@ -1,4 +1,4 @@
-//! Numbers of states and patterns, look-around assertions, inputs and what they find, and the syntax of patterns.
+//! IDs of states and patterns, look-around assertions, inputs and matches, and the syntax of patterns.
 pub mod look;
 pub mod primitives;
 pub mod search;

@@ -1,12 +1,12 @@
-//! Numbers of states and patterns.
+//! IDs of states and patterns.
 
 const MAX: usize = (i32::MAX - 1) as usize;
 
-/// The number of a pattern: its place, from 0, in the list of patterns that a regex was built from.
+/// The ID of a pattern: its index in the list of patterns from which a regex was built.
 #[derive(Clone, Copy, Debug, Default, PartialEq, Eq, Hash, PartialOrd, Ord)]
 pub struct PatternID(pub(crate) u32);
 
-/// The number of a state of an NFA.
+/// The ID of a state of an NFA.
 #[derive(Clone, Copy, Debug, Default, PartialEq, Eq, Hash, PartialOrd, Ord)]
 pub struct StateID(pub(crate) u32);
 
@@ -14,12 +14,12 @@ impl PatternID {
     /// The first pattern.
     pub const ZERO: PatternID = PatternID(0);
 
-    /// The pattern of a number, if it is below 2^31 - 1.
+    /// Returns the ID of this number, if it is below 2^31 - 1.
     pub fn new(id: usize) -> Option<PatternID> {
         (id <= MAX).then_some(PatternID(id as u32))
     }
 
-    /// The pattern of a number.
+    /// Returns the ID of this number.
     ///
     /// # Panics
     ///
@@ -28,7 +28,7 @@ impl PatternID {
         PatternID::new(id).expect("the number of a pattern is below 2^31 - 1")
     }
 
-    /// The number of the pattern, as an index.
+    /// Returns the ID as an index.
     pub fn as_usize(self) -> usize {
         self.0 as usize
     }
@@ -38,12 +38,12 @@ impl StateID {
     /// The first state.
     pub const ZERO: StateID = StateID(0);
 
-    /// The state of a number, if it is below 2^31 - 1.
+    /// Returns the ID of this number, if it is below 2^31 - 1.
     pub fn new(id: usize) -> Option<StateID> {
         (id <= MAX).then_some(StateID(id as u32))
     }
 
-    /// The state of a number.
+    /// Returns the ID of this number.
     ///
     /// # Panics
     ///
@@ -52,7 +52,7 @@ impl StateID {
         StateID::new(id).expect("the number of a state is below 2^31 - 1")
     }
 
-    /// The number of the state, as an index.
+    /// Returns the ID as an index.
     pub fn as_usize(self) -> usize {
         self.0 as usize
     }

@@ -1,4 +1,4 @@
-//! What is searched and what is found.
+//! Inputs of searches, and matches.
 use crate::raw;
 use crate::PatternID;
 use std::fmt;
@@ -11,13 +11,13 @@ pub enum Anchored {
     No,
     /// Where the span begins.
     Yes,
-    /// Where the span begins, and of this pattern alone. The regex has to be built with
+    /// Where the span begins, for this pattern alone. The regex must be built with
     /// [`starts_for_each_pattern`](crate::hybrid::dfa::Config::starts_for_each_pattern).
     Pattern(PatternID),
 }
 
 impl Anchored {
-    /// The mode and its pattern as the library takes them.
+    /// Returns the mode and its pattern, as the library takes them.
     pub(crate) fn raw(self) -> (u32, u32) {
         match self {
             Anchored::No => (0, 0),
@@ -31,7 +31,7 @@ impl Anchored {
 #[derive(Clone, Copy, Debug, Default, PartialEq, Eq)]
 #[non_exhaustive]
 pub enum MatchKind {
-    /// The match that is preferred, as a backtracking matcher finds it.
+    /// The preferred match, as a backtracking matcher finds it.
     #[default]
     LeftmostFirst,
     /// All matches: for overlapping searches and for sets of patterns.
@@ -48,17 +48,17 @@ pub struct Span {
 }
 
 impl Span {
-    /// The same offsets as a range, with which a haystack can be indexed.
+    /// Returns the same offsets as a range, with which a haystack can be indexed.
     pub fn range(&self) -> Range<usize> {
         self.start..self.end
     }
 
-    /// How many bytes it has.
+    /// Returns the length in bytes.
     pub fn len(&self) -> usize {
         self.end.saturating_sub(self.start)
     }
 
-    /// Whether it has no byte.
+    /// Whether the span is empty.
     pub fn is_empty(&self) -> bool {
         self.start >= self.end
     }
@@ -70,11 +70,11 @@ impl From<Range<usize>> for Span {
     }
 }
 
-/// What a search is given: a haystack, a span of it, an anchored mode, and whether the search may stop at the
+/// The input of a search: a haystack, a span of it, an anchored mode, and whether the search may stop at the
 /// first match that it sees.
 ///
-/// A `&str`, a `&[u8]` and a reference to all else that is bytes converts into an input of the whole haystack,
-/// neither anchored nor earliest:
+/// A `&str`, a `&[u8]` or a reference to anything else that is bytes converts to an input for the whole
+/// haystack, neither anchored nor earliest:
 ///
 /// ```
 /// use lazydfa::hybrid::regex::Regex;
@@ -96,14 +96,14 @@ pub struct Input<'h> {
 }
 
 impl<'h> Input<'h> {
-    /// The whole haystack, neither anchored nor earliest.
+    /// Returns an input for the whole haystack, neither anchored nor earliest.
     pub fn new<H: ?Sized + AsRef<[u8]>>(haystack: &'h H) -> Input<'h> {
         let haystack = haystack.as_ref();
         let span = Span { start: 0, end: haystack.len() };
         Input { haystack, span, anchored: Anchored::No, earliest: false }
     }
 
-    /// Sets the span. Look-around assertions see the bytes beside it.
+    /// Sets the span. Look-around assertions see the bytes before and after it.
     ///
     /// # Panics
     ///
@@ -113,7 +113,7 @@ impl<'h> Input<'h> {
         self
     }
 
-    /// Sets the span, as any range of offsets. It panics as [`Input::span`].
+    /// Sets the span to any range of offsets. It panics as [`Input::span`] does.
     pub fn range<R: RangeBounds<usize>>(mut self, range: R) -> Input<'h> {
         self.set_range(range);
         self
@@ -131,7 +131,7 @@ impl<'h> Input<'h> {
         self
     }
 
-    /// Sets the span, as [`Input::span`].
+    /// Sets the span, as [`Input::span`] does.
     pub fn set_span<S: Into<Span>>(&mut self, span: S) {
         let (span, length) = (span.into(), self.haystack.len());
         assert!(
@@ -142,7 +142,7 @@ impl<'h> Input<'h> {
         self.span = span;
     }
 
-    /// Sets the span, as [`Input::range`].
+    /// Sets the span, as [`Input::range`] does.
     pub fn set_range<R: RangeBounds<usize>>(&mut self, range: R) {
         let after = |offset: usize| offset.checked_add(1).expect("the bound of a range is too large");
         let start = match range.start_bound() {
@@ -168,32 +168,32 @@ impl<'h> Input<'h> {
         self.earliest = yes;
     }
 
-    /// The whole haystack, not the span alone.
+    /// Returns the whole haystack, not just the span.
     pub fn haystack(&self) -> &'h [u8] {
         self.haystack
     }
 
-    /// The offset, in bytes, where the span starts.
+    /// Returns the offset, in bytes, where the span starts.
     pub fn start(&self) -> usize {
         self.span.start
     }
 
-    /// The offset, in bytes, where the span ends.
+    /// Returns the offset, in bytes, where the span ends.
     pub fn end(&self) -> usize {
         self.span.end
     }
 
-    /// The span.
+    /// Returns the span.
     pub fn get_span(&self) -> Span {
         self.span
     }
 
-    /// The span, as a range.
+    /// Returns the span as a range.
     pub fn get_range(&self) -> Range<usize> {
         self.span.range()
     }
 
-    /// The anchored mode.
+    /// Returns the anchored mode.
     pub fn get_anchored(&self) -> Anchored {
         self.anchored
     }
@@ -203,12 +203,12 @@ impl<'h> Input<'h> {
         self.earliest
     }
 
-    /// Whether the span starts after its end, so that nothing is found in it, not even the empty string.
+    /// Whether the span starts after its end, so that nothing matches in it, not even the empty string.
     pub fn is_done(&self) -> bool {
         self.span.start > self.span.end
     }
 
-    /// The span, the anchored mode and the earliest flag as the library takes them.
+    /// Returns the span, the anchored mode and the earliest flag, as the library takes them.
     pub(crate) fn raw(&self) -> raw::Input {
         let (anchored, pattern) = self.anchored.raw();
         let (Span { start, end }, earliest) = (self.span, self.earliest.into());
@@ -241,7 +241,7 @@ pub struct Match {
 }
 
 impl Match {
-    /// The match of a pattern at a span.
+    /// Creates the match of a pattern at a span.
     ///
     /// # Panics
     ///
@@ -252,43 +252,43 @@ impl Match {
         Match { pattern, span }
     }
 
-    /// The match of the pattern with this number at a span. It panics as [`PatternID::must`] and
-    /// [`Match::new`].
+    /// Creates the match of the pattern with this number at a span. It panics as [`PatternID::must`] and
+    /// [`Match::new`] do.
     pub fn must<S: Into<Span>>(pattern: usize, span: S) -> Match {
         Match::new(PatternID::must(pattern), span)
     }
 
-    /// The pattern that matched.
+    /// Returns the pattern that matched.
     pub fn pattern(&self) -> PatternID {
         self.pattern
     }
 
-    /// The offset of the match's first byte in the haystack.
+    /// Returns the offset of the match's first byte in the haystack.
     pub fn start(&self) -> usize {
         self.span.start
     }
 
-    /// The offset after the match's last byte in the haystack.
+    /// Returns the offset after the match's last byte in the haystack.
     pub fn end(&self) -> usize {
         self.span.end
     }
 
-    /// The span of the match, in bytes, as a range with which the haystack can be indexed.
+    /// Returns the span of the match, in bytes, as a range with which the haystack can be indexed.
     pub fn range(&self) -> Range<usize> {
         self.span.range()
     }
 
-    /// The span of the match, in bytes.
+    /// Returns the span of the match, in bytes.
     pub fn span(&self) -> Span {
         self.span
     }
 
-    /// The number of bytes that the match has.
+    /// Returns the length of the match, in bytes.
     pub fn len(&self) -> usize {
         self.span.len()
     }
 
-    /// Whether the match has no byte.
+    /// Whether the match is empty.
     pub fn is_empty(&self) -> bool {
         self.span.is_empty()
     }
@@ -308,22 +308,24 @@ pub struct HalfMatch {
 }
 
 impl HalfMatch {
-    /// The half match of a pattern at an offset.
+    /// Creates the half match of a pattern at an offset.
     pub fn new(pattern: PatternID, offset: usize) -> HalfMatch {
         HalfMatch { pattern, offset }
     }
 
-    /// The half match of the pattern with this number at an offset. It panics as [`PatternID::must`].
+    /// Creates the half match of the pattern with this number at an offset. It panics as [`PatternID::must`]
+    /// does.
     pub fn must(pattern: usize, offset: usize) -> HalfMatch {
         HalfMatch::new(PatternID::must(pattern), offset)
     }
 
-    /// The pattern that matched.
+    /// Returns the pattern that matched.
     pub fn pattern(&self) -> PatternID {
         self.pattern
     }
 
-    /// The offset in the haystack, in bytes, where the match ends, or, for a reverse search, where it starts.
+    /// Returns the offset in the haystack, in bytes, where the match ends, or, for a reverse search, where it
+    /// starts.
     pub fn offset(&self) -> usize {
         self.offset
     }
@@ -342,17 +344,17 @@ pub struct PatternSet {
 }
 
 impl PatternSet {
-    /// An empty set with room for the patterns below this number.
+    /// Creates an empty set with room for the patterns below this number.
     pub fn new(capacity: usize) -> PatternSet {
         PatternSet { which: vec![false; capacity] }
     }
 
-    /// The number of patterns that the set has room for: those below it.
+    /// Returns the capacity: the set has room for the patterns below it.
     pub fn capacity(&self) -> usize {
         self.which.len()
     }
 
-    /// Inserts a pattern, and returns whether it is new.
+    /// Inserts a pattern, and returns whether it was not in the set before.
     ///
     /// # Panics
     ///
@@ -370,32 +372,32 @@ impl PatternSet {
         std::mem::replace(&mut self.which[pattern.as_usize()], false)
     }
 
-    /// Whether a pattern is in the set. A pattern that is not below the capacity is not.
+    /// Whether a pattern is in the set. A pattern that is not below the capacity never is.
     pub fn contains(&self, pattern: PatternID) -> bool {
         self.which.get(pattern.as_usize()).copied().unwrap_or(false)
     }
 
-    /// Removes all patterns. The capacity stays.
+    /// Removes all patterns. The capacity is unchanged.
     pub fn clear(&mut self) {
         self.which.fill(false);
     }
 
-    /// The number of patterns in the set.
+    /// Returns the number of patterns in the set.
     pub fn len(&self) -> usize {
         self.iter().count()
     }
 
-    /// Whether no pattern is in the set.
+    /// Whether the set is empty.
     pub fn is_empty(&self) -> bool {
         !self.which.contains(&true)
     }
 
-    /// Whether the set has all patterns below the capacity.
+    /// Whether the set contains all patterns below the capacity.
     pub fn is_full(&self) -> bool {
         !self.which.contains(&false)
     }
 
-    /// The members, in increasing order.
+    /// Returns an iterator over the members, in increasing order.
     pub fn iter(&self) -> impl Iterator<Item = PatternID> + '_ {
         let members = self.which.iter().enumerate().filter(|(_, is_in)| **is_in);
         members.map(|(pattern, _)| PatternID(pattern as u32))

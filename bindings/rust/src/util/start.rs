@@ -1,4 +1,4 @@
-//! What a search starts from, if there is no input.
+//! The start configuration of a search without an input.
 use crate::Anchored;
 
 /// The byte before the first piece of a haystack, if there is one, and the anchored mode.
@@ -15,12 +15,12 @@ impl Default for Config {
 }
 
 impl Config {
-    /// No byte before, and not anchored.
+    /// Returns a configuration without a byte before the first piece, and not anchored.
     pub fn new() -> Config {
         Config::default()
     }
 
-    /// Sets the byte before the first piece, which assertions as `^` and `\b` see.
+    /// Sets the byte before the first piece, which assertions such as `^` and `\b` see.
     pub fn look_behind(mut self, byte: Option<u8>) -> Config {
         self.look_behind = byte;
         self
@@ -32,12 +32,12 @@ impl Config {
         self
     }
 
-    /// The byte before the first piece, if there is one.
+    /// Returns the byte before the first piece, if there is one.
     pub fn get_look_behind(&self) -> Option<u8> {
         self.look_behind
     }
 
-    /// The anchored mode.
+    /// Returns the anchored mode.
     pub fn get_anchored(&self) -> Anchored {
         self.anchored
     }

@@ -1,8 +1,9 @@
-//! How the texts of patterns are read.
+//! How the texts of patterns are parsed.
 use crate::BuildError;
 use crate::raw::{self, TextOptions};
 
-/// How the texts of patterns are read. A pattern sets flags for a part of itself, as by `(?i:..)`.
+/// How the texts of patterns are parsed. A pattern sets flags for a part of itself with `(?i:..)` and the
+/// like.
 ///
 /// ```
 /// use lazydfa::hybrid::regex::Regex;
@@ -24,19 +25,19 @@ impl Default for Config {
 }
 
 impl Config {
-    /// The default options.
+    /// Returns the default options.
     pub fn new() -> Config {
         Config::default()
     }
 
-    /// Sets whether a letter stands for the same letter in both cases. By default it does not.
+    /// Sets whether a letter matches in both cases. By default it does not.
     pub fn case_insensitive(mut self, yes: bool) -> Config {
         self.options.case_insensitive = yes.into();
         self
     }
 
-    /// Sets whether `^` and `$` match at the ends of each line, and not of the haystack alone. By default they
-    /// do not.
+    /// Sets whether `^` and `$` match at the start and the end of each line, not only of the haystack. By
+    /// default they do not.
     pub fn multi_line(mut self, yes: bool) -> Config {
         self.options.multi_line = yes.into();
         self
@@ -60,43 +61,43 @@ impl Config {
         self
     }
 
-    /// Sets whether blanks in patterns, and comments after `#`, are skipped. By default they are not.
+    /// Sets whether whitespace in patterns, and comments after `#`, are skipped. By default they are not.
     pub fn ignore_whitespace(mut self, yes: bool) -> Config {
         self.options.ignore_whitespace = yes.into();
         self
     }
 
-    /// Sets whether classes and `.` are of characters, and letters have the cases of Unicode. By default they
-    /// are. Otherwise they are of bytes and of ASCII.
+    /// Sets whether classes and `.` match characters, and letters have the cases of Unicode. By default this
+    /// is so. Otherwise they match bytes, and letters have the cases of ASCII.
     pub fn unicode(mut self, yes: bool) -> Config {
         self.options.no_unicode = (!yes).into();
         self
     }
 
-    /// Sets whether text is searched, so that no match splits a character. By default it is. Otherwise bytes
-    /// are, and a pattern may match what is not UTF-8. The library has one setting for this and for
+    /// Sets whether matches are UTF-8, so that none splits a character. By default they are. Otherwise a
+    /// pattern may match bytes that are not UTF-8. The library has one setting for this and for
     /// [`thompson::Config::utf8`](crate::nfa::thompson::Config::utf8).
     pub fn utf8(mut self, yes: bool) -> Config {
         self.options.bytes = (!yes).into();
         self
     }
 
-    /// Sets how deep groups, repetitions and classes may nest, from 1 on (0 is taken for 1). By default it is
-    /// 250. The parser's calls nest as deep, and take 16 KiB of the stack and 1 KiB for each level.
+    /// Sets how deep groups, repetitions and classes may nest, from 1 on (0 is taken as 1). By default it is
+    /// 250. The parser is recursive, and takes 16 KiB of the stack and 1 KiB for each level.
     pub fn nest_limit(mut self, limit: u32) -> Config {
         self.options.nest_limit = limit.max(1);
         self
     }
 
-    /// Sets whether a backslash and digits are a character by its number in octal, as in `\141`. By default
+    /// Sets whether a backslash and digits are the character with that octal number, as in `\141`. By default
     /// they are not.
     pub fn octal(mut self, yes: bool) -> Config {
         self.options.octal = yes.into();
         self
     }
 
-    /// Returns what every match of a pattern has in common, by its text alone: nothing is compiled. The error
-    /// has no message; [`Regex::new`](crate::hybrid::regex::Regex::new) returns one with a message.
+    /// Returns what all matches of a pattern have in common, from its text alone: nothing is compiled. The
+    /// error has no message; [`Regex::new`](crate::hybrid::regex::Regex::new) returns one with a message.
     ///
     /// ```
     /// use lazydfa::util::syntax;
@@ -129,8 +130,8 @@ impl Config {
     }
 }
 
-/// What every match of a pattern has in common, for a search by an index over many haystacks. A haystack that has
-/// all of this need not have a match.
+/// What all matches of a pattern have in common, for a search by an index over many haystacks. A haystack
+/// that has all of this need not have a match.
 #[derive(Clone, Debug, PartialEq, Eq)]
 #[non_exhaustive]
 pub struct Facts {
@@ -138,10 +139,10 @@ pub struct Facts {
     pub anchored_start: bool,
     /// Whether every match ends at the end of the haystack.
     pub anchored_end: bool,
-    /// Whether every match is the prefix and nothing more.
+    /// Whether every match is exactly the prefix.
     pub exact: bool,
-    /// The bytes that every match begins with; none if nothing is known.
+    /// The bytes with which every match begins; empty if nothing is known.
     pub prefix: Vec<u8>,
-    /// Literals, each of which is in every match. Nothing is promised of their order.
+    /// Literals, each of which every match contains. Their order is not specified.
     pub literals: Vec<Vec<u8>>,
 }

@@ -1,4 +1,4 @@
-//! What the tests of searches and walks in pieces share.
+//! What the tests of searches and of walks in pieces share.
 use lazydfa::hybrid::dfa::{Config, DFA};
 use lazydfa::util::syntax;
 use lazydfa::BuildError;
@@ -6,17 +6,17 @@ use std::error::Error;
 
 pub type Tested = Result<(), Box<dyn Error>>;
 
-/// The DFA of patterns, where bytes are searched and empty matches are not skipped.
+/// Returns the DFA of patterns whose matches may be any bytes, so that empty matches are not skipped.
 pub fn bytes_dfa(patterns: &[&str], config: Config) -> Result<DFA, BuildError> {
     let syntax = syntax::Config::new().unicode(false).utf8(false);
     DFA::builder().syntax(syntax).configure(config).build_many(patterns)
 }
 
-/// Numbers that follow one another without a pattern that a regex sees (xorshift).
+/// Pseudo-random numbers (xorshift).
 pub struct Numbers(pub u32);
 
 impl Numbers {
-    /// A number below `n`.
+    /// Returns a number below `n`.
     pub fn below(&mut self, n: usize) -> usize {
         self.0 ^= self.0 << 13;
         self.0 ^= self.0 >> 17;

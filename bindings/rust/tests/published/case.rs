@@ -1,17 +1,17 @@
-//! A case: patterns, a haystack, and what is to be found.
+//! Test cases: patterns, a haystack, and the expected result.
 use lazydfa::hybrid::dfa::{self, DFA};
 use lazydfa::hybrid::regex::{Builder, Regex};
 use lazydfa::util::syntax;
 use lazydfa::{BuildError, BuildErrorKind, Input, MatchError, MatchErrorKind, MatchKind, PatternSet};
 use std::ops::Range;
 
-/// What a reader finds in a file.
+/// A row that a reader finds in a file.
 #[derive(Debug, PartialEq)]
 pub enum Row {
     Case(Case),
-    /// A case that the reader does not read, and why.
+    /// A case that the reader cannot read, with the reason.
     NotRead(String),
-    /// A test of something else than searches.
+    /// A test of something other than searches.
     Other(String),
 }
 
@@ -25,7 +25,7 @@ pub struct Case {
     pub wanted: Wanted,
 }
 
-/// How the patterns of a case are read.
+/// The options with which the patterns of a case are parsed.
 #[derive(Debug, PartialEq)]
 pub struct Options {
     pub case_insensitive: bool,
@@ -39,10 +39,10 @@ impl Default for Options {
     }
 }
 
-/// What is to be found.
+/// The expected result.
 #[derive(Debug, PartialEq)]
 pub enum Wanted {
-    /// The text is no pattern.
+    /// The text is not a valid pattern.
     NoPattern,
     /// Whether there is a match.
     IsMatch(bool),
@@ -50,20 +50,20 @@ pub enum Wanted {
     First(Option<Range<usize>>),
     /// The end of the match that ends first.
     Earliest(Option<usize>),
-    /// All matches, one after another.
+    /// All matches that do not overlap.
     All(Vec<Range<usize>>),
-    /// The numbers of the patterns that match.
+    /// The IDs of the patterns that match.
     Which(Vec<usize>),
 }
 
-/// What came of a case.
+/// The outcome of a case.
 pub enum Outcome {
     Equal,
     LeftOut(String),
     Different(String),
 }
 
-/// Why there is no answer to compare.
+/// The reason why there is no result to compare.
 enum Failure {
     Built(BuildError),
     Searched(MatchError),
@@ -82,7 +82,7 @@ impl From<MatchError> for Failure {
 }
 
 impl Case {
-    /// Runs the case, and compares.
+    /// Runs the case, and compares the result.
     pub fn run(&self) -> Outcome {
         match self.answer() {
             Ok(found) if found == self.wanted => Outcome::Equal,
@@ -110,7 +110,7 @@ impl Case {
         syntax::Config::new().case_insensitive(case_insensitive).unicode(unicode).utf8(utf8)
     }
 
-    /// What is found, of the kind that is wanted.
+    /// Returns the result, of the same kind as the expected one.
     fn answer(&self) -> Result<Wanted, Failure> {
         let config = dfa::Config::new().unicode_word_boundary(true);
         if let Wanted::Which(_) = self.wanted {
@@ -123,14 +123,14 @@ impl Case {
     }
 }
 
-/// The patterns that match.
+/// Returns the patterns that match.
 fn which(dfa: &DFA, haystack: &[u8]) -> Result<Wanted, MatchError> {
     let mut set = PatternSet::new(dfa.pattern_len());
     dfa.try_which_overlapping_matches(&mut dfa.create_cache(), &Input::new(haystack), &mut set)?;
     Ok(Wanted::Which(set.iter().map(|pattern| pattern.as_usize()).collect()))
 }
 
-/// What a search of this kind finds.
+/// Returns the result of a search of this kind.
 fn searched(regex: &Regex, haystack: &[u8], kind: &Wanted) -> Result<Wanted, MatchError> {
     let mut cache = regex.create_cache();
     let input = Input::new(haystack);

@@ -1,6 +1,6 @@
-//! What both readers do with texts: a place in one, and escapes.
+//! What both readers need for texts: a position in a text, and escapes.
 
-/// What is left of a text that is read from its start.
+/// The rest of a text that is read from its start.
 #[derive(Clone, Copy)]
 pub struct Reader<'t> {
     pub left: &'t str,
@@ -25,7 +25,7 @@ impl<'t> Reader<'t> {
         Some(before)
     }
 
-    /// Reads as many characters as are of this kind.
+    /// Reads as many characters of this kind as there are.
     pub fn run(&mut self, is_one: impl Fn(char) -> bool) -> &'t str {
         let end = self.left.find(|it| !is_one(it)).unwrap_or(self.left.len());
         let (run, rest) = self.left.split_at(end);
@@ -47,7 +47,7 @@ impl<'t> Reader<'t> {
         self.run(|it| it.is_ascii_digit()).parse().ok()
     }
 
-    /// Reads a text with escapes, whose first quote was read.
+    /// Reads a quoted text with escapes, after its opening quote.
     pub fn quoted(&mut self) -> Option<Vec<u8>> {
         let mut bytes = Vec::new();
         loop {
@@ -62,7 +62,7 @@ impl<'t> Reader<'t> {
         }
     }
 
-    /// Reads what comes after a backslash.
+    /// Reads the escape after a backslash.
     fn escape(&mut self, bytes: &mut Vec<u8>) -> Option<()> {
         let mark = self.left.chars().next()?;
         self.left = &self.left[mark.len_utf8()..];
@@ -87,7 +87,7 @@ impl<'t> Reader<'t> {
         Some(())
     }
 
-    /// Reads a number of so many hexadecimal digits.
+    /// Reads a number of this many hexadecimal digits.
     fn hex(&mut self, digits: usize) -> Option<u32> {
         let (number, rest) = self.left.split_at_checked(digits)?;
         self.left = rest;
@@ -99,7 +99,8 @@ fn push(bytes: &mut Vec<u8>, character: char) {
     bytes.extend(character.encode_utf8(&mut [0; 4]).as_bytes());
 }
 
-/// The bytes of a text in which `\\`, `\n`, `\r`, `\t` and `\xFF` are escapes, and every other backslash is one.
+/// Returns the bytes of a text in which `\\`, `\n`, `\r`, `\t` and `\xFF` are escapes, and every other
+/// backslash is itself.
 pub fn unescaped(text: &str) -> Vec<u8> {
     let (mut bytes, mut reader) = (Vec::new(), Reader::new(text));
     while !reader.left.is_empty() {

@@ -1,24 +1,24 @@
-//! The tables of the crate regex: calls of macros such as `mat!(name, r"a+", "baa", Some((1, 3)));`.
+//! Reads the tables of the crate regex: calls of macros such as `mat!(name, r"a+", "baa", Some((1, 3)));`.
 use super::case::{Case, Options, Row, Wanted};
 use super::literal::Reader;
 use std::ops::Range;
 
-/// An argument of a call.
+/// An argument of a macro call.
 #[derive(Clone, Debug, PartialEq)]
 enum Value {
-    /// A word, as the name of the case, `None` or `true`.
+    /// A word, such as the name of the case, `None` or `true`.
     Word(String),
     Text(Vec<u8>),
     Number(usize),
-    /// A list, a pair, or what a function such as `Some` is given.
+    /// A list, a pair, or the arguments of a function such as `Some`.
     List(Vec<Value>),
 }
 
-/// The macros that are tables of what a search finds. Those below are about the other calls of the crate.
+/// The macros whose calls are tables of search results. The others are about other functions of the crate.
 const TABLES: [&str; 7] = ["mat", "matiter", "ismatch", "matset", "nomatset", "noparse", "shortmat"];
 const OTHERS: [&str; 6] = ["replace", "split", "splitn", "expand", "searcher", "consistent"];
 
-/// The rows of a file.
+/// Returns the rows of a file.
 pub fn rows(file: &str, text: &str) -> Vec<Row> {
     let mut found = Vec::new();
     for (at, line) in lines(text) {
@@ -38,7 +38,7 @@ pub fn rows(file: &str, text: &str) -> Vec<Row> {
     found
 }
 
-/// The lines of a text, each with its offset.
+/// Returns the lines of a text, each with its offset.
 fn lines(text: &str) -> impl Iterator<Item = (usize, &str)> {
     text.split_inclusive('\n').scan(0, |at, line| {
         *at += line.len();
@@ -54,7 +54,7 @@ fn is_in_macro(before: &str) -> bool {
     !["\n}", "\n)"].iter().any(|end| before[start..].contains(end))
 }
 
-/// The case of a call, from its first argument on.
+/// Returns the case of a call, from its first argument on.
 fn case(file: &str, table: &str, arguments: &str) -> Result<Case, String> {
     let mut reader = Reader::new(arguments);
     let values = list(&mut reader, ')').ok_or("a row with an expression that is not read here")?;
@@ -70,7 +70,7 @@ fn case(file: &str, table: &str, arguments: &str) -> Result<Case, String> {
         Some(Value::Text(haystack)) => haystack.clone(),
         _ => Vec::new(),
     };
-    // These files are run over bytes alone, where a match may split a character.
+    // These files are only run over bytes, where a match may split a character.
     let utf8 = !file.contains("bytes") && file != "word_boundary_ascii";
     Ok(Case {
         name: format!("{file}/{name}"),
@@ -81,13 +81,13 @@ fn case(file: &str, table: &str, arguments: &str) -> Result<Case, String> {
     })
 }
 
-/// What a row wants, from its arguments.
+/// Returns the result that a row expects, from its arguments.
 fn wanted(table: &str, values: &[Value]) -> Option<Wanted> {
     let rest = values.get(3..).unwrap_or_default();
     Some(match table {
         "noparse" => Wanted::NoPattern,
         "ismatch" => Wanted::IsMatch(rest.first()? == &Value::Word("true".into())),
-        // What stands after the first span are those of groups.
+        // The spans after the first one are those of groups.
         "mat" => Wanted::First(optional(rest.first()?)?.map(pair).transpose_option()?),
         "matiter" => Wanted::All(rest.iter().map(pair).collect::<Option<_>>()?),
         "shortmat" => Wanted::Earliest(optional(rest.first()?)?.map(number).transpose_option()?),
@@ -95,7 +95,7 @@ fn wanted(table: &str, values: &[Value]) -> Option<Wanted> {
     })
 }
 
-/// What `Some` is given, or nothing of `None`. It is no option if it is something else.
+/// Returns the argument of `Some`, or `None` for the word `None`. Anything else is not an option.
 fn optional(value: &Value) -> Option<Option<&Value>> {
     match value {
         Value::Word(word) if word == "None" => Some(None),
@@ -104,7 +104,7 @@ fn optional(value: &Value) -> Option<Option<&Value>> {
     }
 }
 
-/// Turns `Some(None)`, a value that was not read, into `None`.
+/// Turns `Some(None)`, a value that could not be read, into `None`.
 trait TransposeOption<T> {
     fn transpose_option(self) -> Option<Option<T>>;
 }
@@ -119,7 +119,7 @@ impl<T> TransposeOption<T> for Option<Option<T>> {
     }
 }
 
-/// The span of two numbers.
+/// Returns the span given by two numbers.
 fn pair(value: &Value) -> Option<Range<usize>> {
     match value {
         Value::List(ends) => match ends[..] {
@@ -144,7 +144,7 @@ fn text(value: &Value) -> Option<String> {
     }
 }
 
-/// Reads values up to the bracket that ends them.
+/// Reads values up to the closing bracket.
 fn list(reader: &mut Reader<'_>, end: char) -> Option<Vec<Value>> {
     let mut values = Vec::new();
     loop {
@@ -183,7 +183,7 @@ fn value(reader: &mut Reader<'_>) -> Option<Value> {
     let word = reader.run(|it| it.is_alphanumeric() || it == '_');
     match word {
         "" => None,
-        // Bytes that are no text
+        // Bytes that are not text
         "R" if reader.take("(") => match list(reader, ')')?.pop()? {
             Value::Text(bytes) => Some(Value::Text(bytes)),
             _ => None,
@@ -193,7 +193,7 @@ fn value(reader: &mut Reader<'_>) -> Option<Value> {
     }
 }
 
-/// How many signs `#` stand before the quote of a raw text, if one begins here.
+/// Returns how many `#` precede the quote of a raw text, if one begins here.
 fn raw_hashes(text: &str) -> Option<usize> {
     let rest = text.strip_prefix('r')?;
     let quote = rest.trim_start_matches('#');

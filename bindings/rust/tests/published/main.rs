@@ -1,9 +1,9 @@
-//! The tests that Rust's crates regex and regex-automata publish, as Debian's packages librust-regex-dev and
-//! librust-regex-automata-dev install them, over this crate: what a text means is what they say.
+//! Runs the tests that Rust's crates regex and regex-automata publish, as Debian's packages librust-regex-dev
+//! and librust-regex-automata-dev install them, with this crate: a pattern's text has to mean the same.
 //!
-//! They are read below /usr/share/cargo/registry, or in the folder that REGEX_SOURCES names. Where there are none,
-//! the test says so and passes. `cargo test --test published -- --nocapture` prints what was compared, and how
-//! many cases were left out, by the reason.
+//! The tests are read from below /usr/share/cargo/registry, or from the folder that REGEX_SOURCES names. If
+//! there are none, the test says so and passes. `cargo test --test published -- --nocapture` prints what was
+//! compared, and how many cases were left out, by reason.
 mod case;
 mod literal;
 mod macros;
@@ -14,13 +14,13 @@ use std::collections::BTreeMap;
 use std::path::{Path, PathBuf};
 use std::{env, fs, io};
 
-/// Cases that are answered otherwise here, each with the reason.
+/// Cases with a different result here, each with the reason.
 const DIFFERENT: [(&str, &str); 1] = [(
     "multiline/match_multi_rep_3",
     "a repetition whose first round is empty, `(?m)(?:^|a)*`: here it ends as that of `(?m)(?:^|a)+`",
 )];
 
-/// What came of the rows of one crate.
+/// The outcomes of the rows of one crate.
 #[derive(Default)]
 struct Tally {
     equal: usize,
@@ -55,7 +55,7 @@ impl Tally {
     }
 }
 
-/// The folders of a crate's versions in a registry.
+/// Returns the folders of a crate's versions in a registry.
 fn versions(registry: &Path, name: &str) -> Vec<PathBuf> {
     let Ok(entries) = fs::read_dir(registry) else {
         return Vec::new();
@@ -70,7 +70,7 @@ fn versions(registry: &Path, name: &str) -> Vec<PathBuf> {
     found
 }
 
-/// The files below a folder whose names end so.
+/// Returns the files below a folder whose names have this ending.
 fn files(folder: &Path, ending: &str) -> io::Result<Vec<PathBuf>> {
     let mut found = Vec::new();
     for entry in fs::read_dir(folder)? {
@@ -85,10 +85,10 @@ fn files(folder: &Path, ending: &str) -> io::Result<Vec<PathBuf>> {
     Ok(found)
 }
 
-/// A reader of files: it is given the name and the text of each.
+/// A reader of files, to which the name and the text of each file are passed.
 type Read = fn(&str, &str) -> Vec<Row>;
 
-/// Runs the rows of a folder, which this reader finds in the files with this ending.
+/// Runs the rows that a reader finds in the files of a folder with this ending.
 fn run(folder: &Path, ending: &str, read: Read) -> Tally {
     let mut tally = Tally::default();
     for path in files(folder, ending).expect("the folder can be read") {
@@ -99,7 +99,7 @@ fn run(folder: &Path, ending: &str, read: Read) -> Tally {
     tally
 }
 
-/// Prints what came of the rows, and fails if a case differs or if one of ten was left out.
+/// Prints the outcomes of the rows, and fails if a case differs, or if a tenth of the cases or more are left out.
 fn judge(what: &str, tally: &Tally) {
     println!("{what}: {} cases are equal", tally.equal);
     for (reason, count) in &tally.left_out {
@@ -113,7 +113,7 @@ fn judge(what: &str, tally: &Tally) {
     assert!(tally.equal > 9 * left_out, "too many cases of {what} are left out");
 }
 
-/// Runs what is installed of a crate: the folders `inside` of each of its versions.
+/// Runs what is installed of a crate, in the folders `inside` of each of its versions.
 fn published(name: &str, inside: &str, ending: &str, read: Read) {
     let registry = env::var("REGEX_SOURCES").unwrap_or("/usr/share/cargo/registry".into());
     let folders = versions(Path::new(&registry), name).into_iter().map(|version| version.join(inside));

@@ -1,4 +1,4 @@
-//! The tables of regex-automata: `[[tests]]`, and then lines `key = value` with texts and lists.
+//! Reads the tables of regex-automata: `[[tests]]`, followed by lines `key = value` with texts and lists.
 use super::case::{Case, Options, Row, Wanted};
 use super::literal::{unescaped, Reader};
 use std::collections::HashMap;
@@ -12,13 +12,13 @@ enum Value {
     List(Vec<Value>),
 }
 
-/// The rows of a file.
+/// Returns the rows of a file.
 pub fn rows(file: &str, text: &str) -> Vec<Row> {
     let row = |table| case(file, table).map_or_else(Row::NotRead, Row::Case);
     text.split("[[tests]]").skip(1).map(row).collect()
 }
 
-/// The case of a table.
+/// Returns the case of a table.
 fn case(file: &str, table: &str) -> Result<Case, String> {
     let values = values(table).ok_or("a table that is not read here")?;
     let text = |key: &str| match values.get(key) {
@@ -35,7 +35,7 @@ fn case(file: &str, table: &str) -> Result<Case, String> {
     };
     let matches: Option<Vec<_>> = matches.iter().map(span).collect();
     let matches = matches.ok_or("a table whose matches are no spans")?;
-    // As its own reader does: one match is the first of several, unless the table is about iteration.
+    // As in the crate's own reader, one match is the first of several, unless the table is about iteration.
     let is_first = matches.len() == 1 && !name.contains("iter");
     Ok(Case {
         name: format!("{file}/{name}"),
@@ -51,7 +51,7 @@ fn case(file: &str, table: &str) -> Result<Case, String> {
     })
 }
 
-/// The span of a list of two numbers.
+/// Returns the span given by a list of two numbers.
 fn span(value: &Value) -> Option<Range<usize>> {
     match value {
         Value::List(ends) => match ends[..] {
@@ -62,7 +62,7 @@ fn span(value: &Value) -> Option<Range<usize>> {
     }
 }
 
-/// The values of a table, by their keys.
+/// Returns the values of a table, by their keys.
 fn values(table: &str) -> Option<HashMap<String, Value>> {
     let (mut reader, mut values) = (Reader::new(table), HashMap::new());
     loop {

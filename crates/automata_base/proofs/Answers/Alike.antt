@@ -1,4 +1,4 @@
--- A path of one tape is one of another that has the same bytes as far as the path goes.
+-- A path over one tape is also a path over any tape that agrees with it up to the path's end.
 use Rattle.std.proofs.Common.{ℕ, suc, ◌≡◌, ◌<◌, ◌≤◌, ◌+◌, ◌-◌, true, List, [], ◌∷◌, length, sym, ap, ◌∙◌}
 use Rattle.std.proofs.Common.{subst, arith}
 use Rattle.automata_base.specs.Haystacks.Looks.{holds}
@@ -13,7 +13,7 @@ use Rattle.automata_base.proofs.Answers.Bytes.{forward_next, forward_prev, forwa
 use Rattle.automata_base.proofs.Answers.Bytes.{reverse_byte}
 use Rattle.automata_base.proofs.Paths.Included.{Includes}
 
--- Place `i` of `t` and place `i'` of `t'` are one if `a + i ≡ b + i'`; up to place `m` of `t` the two show the same.
+-- Two tapes agree up to position `m` of `t`, where position `i` of `t` corresponds to `i'` of `t'` if `a + i ≡ b + i'`.
 abbrev pub AreAlike : Tape → Tape → (a b m : ℕ) → Type 0
 AreAlike t t' a b m =
     (i i' : ℕ) → a + i ≡ b + i' → i ≤ m
@@ -43,7 +43,7 @@ path_alike n t t' a b m f i i' seen q (e ∷ p) j j' z c d l (ReadsByte r edge m
     ReadsByte r edge (moves.0, sym (s.2 (omega (arith, l, g))) ∙ moves.1, moves.2)
     (path_alike n t t' a b m f (suc i) (suc i') [] r p j j' z (omega (arith, c)) d l on)
 
--- Two forward tapes of a haystack, up to the offset `m` to which both go.
+-- Two forward tapes of a haystack agree up to the offset `s + m` if both spans reach it.
 pub forward_alike :
     (h : List ℕ) (s e s' e' m : ℕ) → s + m ≤ e → s + m ≤ e' → e ≤ length h → e' ≤ length h
     → AreAlike (forward_tape h s e) (forward_tape h s' e') s s' m
@@ -56,7 +56,7 @@ forward_alike h s e s' e' m k k' l l' i i' c b = (
       ∙ (ap (λ v. slice_get h v) c ∙ sym (forward_byte h s' e' i' (omega (arith, k', c, d)))),
 )
 
--- Two reverse tapes from one end.
+-- Two reverse tapes from one end agree over the first `m` bytes if both spans have that many.
 pub reverse_alike :
     (h : List ℕ) (s s' e m : ℕ) → s + m ≤ e → s' + m ≤ e → e ≤ length h
     → AreAlike (reverse_tape h s e) (reverse_tape h s' e) 0 0 m

@@ -1,4 +1,4 @@
--- A rule that reports one thing over each span has one answer.
+-- If a rule determines what is reported over each span, a search has only one answer.
 use Rattle.std.proofs.Common.{ℕ, ◌≡◌, ◌∙◌, ◌<◌, ◌≤◌, ◌+◌, true, false, Option, Some, None, refl, sym, ap}
 use Rattle.std.proofs.Common.{ap₂, subst, arith, ⊎_elim, eq-or-lt_of_le}
 use Rattle.std.proofs.lemmas.Bool.{cases_lt, false≢true}
@@ -25,7 +25,7 @@ half_is a b x y z = ap₂ (λ v w. v w) (ap₂ half_by x y) z
 
 module _ (T : Input → Option Pair → Type 0) (S : Type 0) (way : Direction) (input : Input)
     (once : (i : Input) (a b : Option Pair) → T i a → T i b → a ≡ b) where
-  -- The span at which the search ends, with this answer.
+  -- The search ends with this answer at the span that begins `k` positions later.
   abbrev pub Ends : Option Half → ℕ → Type 0
   Ends None k = HasNoAnswerAt T S way input k
   Ends (Some half) k = HasAnswerAt T S way input k half

@@ -1,4 +1,4 @@
--- Over a true pair the reverse paths from the chosen path's end go back to its start, and none goes farther.
+-- For a true pair, a reverse path from the chosen path's end reaches its start, and none goes beyond it.
 use Rattle.std.proofs.Common.{ℕ, ◌≡◌, ◌<◌, ◌≤◌, ◌+◌, ◌-◌, List, [], length, Some, refl, sym, ◌∙◌, subst}
 use Rattle.std.proofs.Common.{arith, ⊎_elim}
 use Rattle.std.proofs.lemmas.Bool.{cases_lt}
@@ -29,7 +29,7 @@ forward_bytes h s e bytes l k o v g = ⊎_elim
     (λ (c : e ≤ s + o). absurd (omega (arith, nth_inside (between h s e) o v g, forward_length h s e l k, c)))
     (cases_lt (s + o) e)
 
--- An accepting path from the anchored start over a part of the span is one over the span.
+-- An accepting path from the anchored start over part of the span is also one over the whole span.
 pub widen :
     (d : Engine) (h : List ℕ) (b e s m pattern : ℕ) → b ≤ s → s + m ≤ e → e ≤ length h
     → Joins Forward d h s (s + m) pattern
@@ -45,7 +45,7 @@ widen d h b e s m pattern l k w j = (
   j.1.2,
 )
 
--- And the other way round.
+-- Conversely, an accepting path over the span is also one over the part that it reads.
 pub narrow :
     (d : Engine) (h : List ℕ) (b e i k pattern z : ℕ) (path : List ℕ) → k ≤ i → b + i ≤ e → e ≤ length h
     → IsPathFrom d.nfa (forward_tape h b e) k [] d.anchored path i z → accepts d.nfa z ≡ Some pattern
@@ -91,7 +91,7 @@ goes_back f r h b i k pattern z rest e pair bytes l u w p m = (
         (pair.joins h (b + k) (b + i) pattern bytes (omega (arith, l)) (omega (arith, u, w))).0
         (narrow f h b e i k pattern z rest l u w p m)
 
--- A reverse path is a forward path from the place at which it ends.
+-- A reverse path gives a forward path from the position at which it ends.
 pub comes_forth :
     (f r : Engine) (h : List ℕ) (b i e m pattern : ℕ) (path : List ℕ)
     → IsTruePair f r → IsHaystack h → b + i ≤ e → e ≤ length h

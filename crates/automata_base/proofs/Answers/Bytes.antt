@@ -65,7 +65,7 @@ nth_reverse (x ∷ xs) i (suc k) e =
     ∙ (nth_left (reverse xs) (x ∷ []) i (let l = reverse_length xs in omega (arith, e, l))
     ∙ nth_reverse xs i k (omega (arith, e)))
 
--- The byte after a place: of the span's bytes, or the one after them.
+-- The byte after a position: one of the span's bytes, or the byte after the span.
 pub next_inside : (xs : List ℕ) (after : Option ℕ) (i : ℕ) → i < length xs → next_in xs after i ≡ slice_get xs i
 next_inside [] after i l = absurd (omega (arith, l))
 next_inside (x ∷ xs) after zero l = refl
@@ -76,7 +76,7 @@ next_past [] after i l = refl
 next_past (x ∷ xs) after zero l = absurd (omega (arith, l))
 next_past (x ∷ xs) after (suc i) l = next_past xs after i (omega (arith, l))
 
--- Forward.
+-- Forward tapes: position `i` has the offset `s + i`.
 pub forward_next :
     (h : List ℕ) (s e i : ℕ) → s + i ≤ e → e ≤ length h → next (forward_tape h s e) i ≡ slice_get h (s + i)
 forward_next h s e i l k = ⊎_elim
@@ -105,7 +105,7 @@ forward_byte h s e i l = nth_between h s e i l
 pub forward_length : (h : List ℕ) (s e : ℕ) → s ≤ e → e ≤ length h → length (forward_tape h s e).bytes ≡ e - s
 forward_length h s e l k = between_length h s e l k
 
--- Backward; the offset `o` is that of the place `i`.
+-- Reverse tapes: the byte at position `i` has the offset `o`.
 pub reverse_byte :
     (h : List ℕ) (s e i o : ℕ) → suc (i + o) ≡ e → s ≤ o → e ≤ length h
     → slice_get (reverse_tape h s e).bytes i ≡ slice_get h o

@@ -1,4 +1,4 @@
--- Where the accepting paths of two engines correspond in their order, both answer the same.
+-- If the accepting paths of two engines correspond and keep their order, both engines give the same answers.
 use Rattle.std.proofs.Common.{ℕ, zero, suc, ◌≡◌, ◌<◌, ◌≤◌, ◌+◌, ◌-◌, Bool, List, [], ◌∷◌, ◌↔◌, Option, Some, None}
 use Rattle.std.proofs.Common.{sym, ◌∙◌, subst}
 use Rattle.std.proofs.Common.{take, drop, refl}
@@ -38,7 +38,7 @@ between_bytes : (h : List ℕ) (s e : ℕ) → IsHaystack h → IsHaystack (betw
 between_bytes h s e bytes =
     taken_bytes (e - s) (drop s h) (λ o u f. bytes (s + o) u (sym (nth_drop s h o) ∙ f))
 
--- The tapes of a haystack have its bytes.
+-- The tapes of a haystack contain only bytes.
 pub tape_bytes : (way : Direction) (h : List ℕ) (s e : ℕ) → IsHaystack h → IsHaystack (tape_of way h s e).bytes
 tape_bytes Forward h s e bytes = between_bytes h s e bytes
 tape_bytes Backward h s e bytes = reverse_bytes (between h s e) (between_bytes h s e bytes)
@@ -47,7 +47,8 @@ later_bytes :
     (way : Direction) (k : ℕ) (input : Input) → IsHaystack input.haystack → IsHaystack (later way k input).haystack
 later_bytes way k input bytes = subst (λ v. IsHaystack v) (sym (haystack_later way k input)) bytes
 
--- What is reported over each span is turned, and what says whether split places are skipped.
+-- Replaces what is reported over each span (`T` by `U`) and the condition for skipping offsets inside a character (`S`
+-- by `V`).
 module _ (T U : Input → Option Pair → Type 0) (S V : Type 0) (way : Direction) (skips : S ↔ V)
     (turn : (input : Input) (o : Option Pair) → IsHaystack input.haystack → T input o → U input o) where
   split_turned : (input : Input) → IsHaystack input.haystack → IsSplit T way input → IsSplit U way input
@@ -88,7 +89,7 @@ module _ (T U : Input → Option Pair → Type 0) (S V : Type 0) (way : Directio
     },
   )
 
--- What the second engine needs to answer as the first: `R` says which paths correspond on a tape from a state.
+-- What makes the second engine answer as the first does. `R` relates the corresponding paths on a tape from a state.
 pub record IsCarried (d e : Engine) (R : Tape → ℕ → List ℕ → List ℕ → Type 0) : Type 0 where
   pub kinds : d.kind ≡ e.kind
   pub starts : (mode : Anchored) → first_state d mode ≡ first_state e mode
@@ -151,7 +152,7 @@ module _ (d e : Engine) (R : Tape → ℕ → List ℕ → List ℕ → Type 0) 
       let f = c.there t mode q bytes is pair.place pair.pattern h.0.0 h.0.1 in
       ((f.0, f.2), λ j p b l acc. let g = c.back t mode q bytes is j p b acc in h.1 j p g.0 l g.2)
 
-  -- what a rule of ends says over a span
+  -- A rule about match ends carries over to the second engine, over each span.
   ends_over :
       (Rule : Nfa → Tape → ℕ → Option Pair → Type 0)
       → ((t : Tape) (mode : Anchored) (q : ℕ) (answer : Option Pair) → IsHaystack t.bytes → first_state d mode ≡ Some q

@@ -1,4 +1,4 @@
--- The chosen path's start is the least of all that lead to its end.
+-- The chosen path starts no later than any other accepting path to the same end.
 use Rattle.std.proofs.Common.{ℕ, ◌≡◌, ◌<◌, ◌≤◌, Bool, true, false, List, [], ◌∷◌, length, Option, Some, None}
 use Rattle.std.proofs.Common.{refl, ◌∙◌, subst, arith, ⊎_elim}
 use Rattle.std.proofs.lemmas.Bool.{cases_lt}
@@ -27,7 +27,7 @@ chosen_upto LeftmostFirst false i path other h = h
 chosen_upto All false i path other (ByPlace l) = absurd (omega (arith, l))
 chosen_upto All false i path other (ByEdges e h) = h
 
--- A chosen path of a lazy loop, taken apart.
+-- A path through a lazy loop: it skips `k` bytes and continues as `rest` from the anchored start to a match.
 abbrev pub StartsAt : Engine → Tape → (k i pattern : ℕ) → List ℕ → List ℕ → Type 0
 StartsAt d t k i pattern path rest =
     (path ≡ skips k (0 ∷ rest))
@@ -42,7 +42,7 @@ starts_at d x t i pattern path loop a =
     w : Lazily d.nfa t 0 d.anchored path i a.0
     w = lazily d.nfa t d.unanchored d.anchored x loop.0 loop.1 0 path i a.0 pattern a.2 a.1
 
--- That is the place at which the path first stands on the anchored start.
+-- The match of such a path starts at position `k`, where the path first reaches the anchored start.
 pub lazy_start :
     (d : Engine) (x : ℕ) (t : Tape) (k i pattern : ℕ) (path rest : List ℕ) → LoopsLazily d.nfa d.anchored d.unanchored x
     → HasBytes t → i ≤ length t.bytes
@@ -56,7 +56,7 @@ lazy_start d x t k i pattern path rest loop bytes l s = (
   λ shorter sooner b h. not_sooner d.nfa t d.unanchored d.anchored x loop.0 loop.1 loop.2 k 0 shorter sooner b h,
 )
 
--- If the two starts are one state, that is the first place.
+-- If both starts are the same state, the match starts at position 0.
 pub same_start : (d : Engine) (t : Tape) (path : List ℕ) → BeginsAnchored d → IsPathStart d No t path 0
 same_start d t path same = ([], path, refl, (refl, same), none)
   where
@@ -65,7 +65,7 @@ same_start d t path same = ([], path, refl, (refl, same), none)
     none [] sooner b h = nil_cons b.2
     none (y ∷ ys) sooner b h = nil_cons b.2
 
--- No path from the anchored start to the chosen path's end begins before it.
+-- No accepting path from the anchored start to the chosen path's end starts before position `k`.
 pub least_start :
     (d : Engine) (x : ℕ) (earliest : Bool) (t : Tape) (k i pattern : ℕ) (path rest : List ℕ)
     → LoopsLazily d.nfa d.anchored d.unanchored x → HasBytes t → Chooses d earliest t d.unanchored i pattern path
@@ -97,7 +97,7 @@ least_start d x earliest t k i pattern path rest loop bytes c s k' p z other h m
         (before_upto (skips k' (0 ∷ other)) (skips k (0 ∷ rest)) (skips k' (0 ∷ other)) (sooner_less k' k other rest l)
         upto)
 
--- The farthest end of a search under `MatchKind::All`.
+-- A search under `MatchKind::All` that is not earliest selects the farthest end.
 pub all_farthest :
     (n : Nfa) (t : Tape) (start : ℕ) (answer : Option Pair) → Selects All false n t start answer
     → IsFarthest n t start answer

@@ -1,4 +1,4 @@
--- Whether an NFA has the empty match, by computation.
+-- The computed test for the empty match is correct.
 use Rattle.std.proofs.Common.{ℕ, ◌≡◌, ◌<◌, Bool, true, false, ◌&&◌, ◌||◌, List, [], ◌∷◌, ◌⊎◌, length, Option, Some}
 use Rattle.std.proofs.Common.{None, inl, inr, refl, sym, ap, ◌∙◌, subst, arith, ⊎_elim, true≢false}
 use Rattle.std.proofs.lemmas.Bool.{cases_order}
@@ -28,7 +28,7 @@ has_empty d = any_match d.nfa (closure_of d.nfa all_true d.starts)
 abbrev pub is_skipping : Engine → Bool
 is_skipping d = d.utf8 && has_empty d
 
--- An edge and a walk, as a walk.
+-- An edge followed by a walk gives a walk.
 walk_on : (n : Nfa) (q e r z : ℕ) → hop n all_true q e ≡ Some r → HasWalk n all_true r z → HasWalk n all_true q z
 walk_on n q e r z h w = go (cases_order r q)
   where
@@ -103,7 +103,7 @@ empty_here d s e = go key.0 key.1
     go (k ∷ path) f =
         (f.0, q.0, q.1, nth_in d.starts k f.0 f.1, (path, walk_run d.nfa all_true [] f.0 path q.0 f.2), q.3)
 
--- The computed flag says whether split places are skipped.
+-- The computed flag is true exactly if offsets inside a character are skipped.
 pub skipping_tests :
     (d : Engine) → IsSound d → (is_skipping d ≡ true → IsSkipping d) × (is_skipping d ≡ false → IsSkipping d → ⊥)
 skipping_tests d s = (there d.utf8 refl, back)

@@ -1,4 +1,4 @@
--- The lazy loop of an unanchored start: its paths are a number of skipped bytes and a path from the anchored start.
+-- The lazy loop of an unanchored start: each of its paths skips some bytes and then continues from the anchored start.
 use Rattle.std.proofs.Common.{le-leb, ◌&&◌, ℕ, zero, suc, ◌≡◌, ◌<◌, ◌≤◌, ◌+◌, Bool, true, false, cond, List, [], ◌∷◌}
 use Rattle.std.proofs.Common.{◌++◌, ◌⊎◌, length, Some, None, inl, inr, refl, sym, ap, ap₂, ◌∙◌, subst, arith, ⊎_elim}
 use Rattle.automata_base.specs.Paths.Order.{Before, Begins, TakesLess, TakesSame}
@@ -12,7 +12,7 @@ use Rattle.automata_base.proofs.Paths.Orders.{some_inj, none_some, cons_head, co
 use Rattle.automata_base.proofs.Paths.Walks.{hop_more, in_left, in_either}
 use Rattle.automata_base.specs.Nfas.Engines.{ByteEdge, FreeEdge, HasEdge, Reaches, any_byte}
 
--- The edges of the loop, for `k` bytes.
+-- The path that skips `k` bytes in the loop and continues as `path`.
 abbrev pub skips : ℕ → List ℕ → List ℕ
 skips zero path = path
 skips (suc k) path = 1 ∷ 0 ∷ skips k path
@@ -25,7 +25,7 @@ path_forget n t i seen more q (e ∷ p) j z (StaysHere r hops new on) =
     StaysHere r hops (λ k. new (in_left r (q ∷ seen) more k)) (path_forget n t i (q ∷ seen) more r p j z on)
 path_forget n t i seen more q (e ∷ p) j z (ReadsByte r edge moves on) = ReadsByte r edge moves on
 
--- A state that is not reached is no obstacle.
+-- A path also avoids each state that its start does not reach.
 pub path_past :
     (n : Nfa) (t : Tape) (i : ℕ) (seen : List ℕ) (u q : ℕ) (p : List ℕ) (j z : ℕ)
     → (Reaches n q u → ⊥) → IsPathFrom n t i seen q p j z → IsPathFrom n t i (seen ++ (u ∷ [])) q p j z
@@ -75,7 +75,7 @@ byte_takes n x u b r c h = go (within 0 255 b) (subst (λ v. takes_at v b ≡ So
     go true h = sym (some_inj h)
     go false h = absurd (none_some h)
 
--- An accepting path from the union skips some bytes and goes on from the anchored start.
+-- The path from the union skips `k` bytes and continues from the anchored start.
 abbrev pub Lazily : Nfa → Tape → ℕ → ℕ → List ℕ → ℕ → ℕ → Type 0
 Lazily n t i a path j z =
     (k : ℕ) × (rest : List ℕ) × (path ≡ skips k (0 ∷ rest)) × IsPathFrom n t (i + k) [] a rest j z
@@ -148,7 +148,7 @@ pub skip_apart : (n : Nfa) (u a x : ℕ) → node n x ≡ any_byte u → (Reache
 skip_apart n u a x d f e =
     f (u ∷ [], (ByteEdge 0 (subst (λ v. takes n v 0 ≡ Some u) e (any_takes n x u 0 d (omega arith))), refl))
 
--- A path from the anchored start, after some skipped bytes, is one from the union.
+-- A path from the anchored start, preceded by skipped bytes, is a path from the union.
 pub skipping :
     (n : Nfa) (t : Tape) (u a x : ℕ) → node n u ≡ Split (a ∷ x ∷ []) → node n x ≡ any_byte u → (Reaches n a u → ⊥)
     → HasBytes t
@@ -168,7 +168,7 @@ skipping n t u a x c d f bytes (suc k) i rest j z l h =
     b : (v : ℕ) × (slice_get t.bytes i ≡ Some v)
     b = nth_some t.bytes i (omega (arith, l))
 
--- Before its last skipped byte no path of the loop stands on the anchored start.
+-- A path of the loop does not reach the anchored start before it has skipped its last byte.
 pub not_sooner :
     (n : Nfa) (t : Tape) (u a x : ℕ) → node n u ≡ Split (a ∷ x ∷ []) → node n x ≡ any_byte u → (Reaches n a u → ⊥)
     → (k i : ℕ) (shorter : List ℕ) (m : ℕ)
@@ -205,7 +205,7 @@ pub skips_join : (k : ℕ) (rest : List ℕ) → skips k (0 ∷ rest) ≡ skips 
 skips_join zero rest = refl
 skips_join (suc k) rest = ap (λ v. 1 ∷ 0 ∷ v) (skips_join k rest)
 
--- The earlier start is less.
+-- The path that skips fewer bytes is ordered first.
 pub sooner_less : (k k' : ℕ) (rest rest' : List ℕ) → k < k' → Before (skips k (0 ∷ rest)) (skips k' (0 ∷ rest'))
 sooner_less zero zero rest rest' l = absurd (omega (arith, l))
 sooner_less zero (suc k') rest rest' l = TakesLess (omega arith)

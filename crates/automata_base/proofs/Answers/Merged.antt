@@ -1,4 +1,4 @@
--- An NFA answers the same when its unions are merged.
+-- Merging unions does not change the answers of an NFA.
 use Rattle.std.proofs.Common.{ℕ, ◌≡◌, ◌<◌, ◌-◌, List, [], ◌∷◌, ◌++◌, ◌↔◌, length, Some, inl, inr, refl, sym, ap, ap₂}
 use Rattle.std.proofs.Common.{◌∙◌, subst}
 use Rattle.std.specs.Prelude.{slice_get}
@@ -42,13 +42,13 @@ use Rattle.automata_base.proofs.Paths.Orders.{some_inj}
 use Rattle.automata_base.proofs.Paths.Sets.{in_nth}
 use Rattle.automata_base.proofs.Powersets.ReportsAreRight.{start_below}
 
--- Where a path first stands on a state.
+-- The position at which a path first reaches the state `on`.
 abbrev IsFirstOn : Nfa → Tape → (start on : ℕ) → List ℕ → ℕ → Type 0
 IsFirstOn n t start on path place =
     (head rest : List ℕ) × (path ≡ head ++ rest) × IsPath n t start place on head
     × ((shorter : List ℕ) (sooner : ℕ) → Begins shorter head → IsPath n t start sooner on shorter → ⊥)
 
--- It is the same place for paths that correspond.
+-- Corresponding paths first reach the state at the same position.
 module _ (n m : Nfa) (t : Tape) (start on : ℕ) (R : List ℕ → List ℕ → Type 0)
     (there : (i : ℕ) (a : List ℕ) → IsPath n t start i on a → (b : List ℕ) × R a b × IsPath m t start i on b)
     (back : (i : ℕ) (b : List ℕ) → IsPath m t start i on b → (a : List ℕ) × R a b × IsPath n t start i on a)
@@ -290,7 +290,7 @@ module _ (a b : Automaton) (kind : MatchKind) (checked : IsChecked a) (into : Is
     skipping = skipping_alike;
   }
 
-  -- From the start of a mode both accept the same.
+  -- From each state of the first NFA, both accept the same patterns at the same positions.
   accepts_alike :
       (t : Tape) (q i p : ℕ) → IsHaystack t.bytes → q < length n.nodes
       → ((path : List ℕ) × Accepts n t q i p path) ↔ ((path : List ℕ) × Accepts m t q i p path)

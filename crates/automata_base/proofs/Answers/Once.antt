@@ -1,4 +1,4 @@
--- Searches have one answer, and spans have one start.
+-- Answers are unique: a search has at most one answer, and a path at most one start.
 use Rattle.std.proofs.Common.{ℕ, suc, ◌≡◌, ◌+◌, Bool, true, false, List, [], ◌∷◌, ◌++◌, ◌⊎◌, Option, Some, None}
 use Rattle.std.proofs.Common.{is_some, inl, inr, refl, sym, ap, ap₂, ◌∙◌, subst, arith}
 use Rattle.automata_base.specs.Paths.Order.{Begins}
@@ -39,7 +39,7 @@ chosen_once All false i j path other (ByPlace h) (ByEdges e k) = absurd (omega (
 chosen_once All false i j path other (ByEdges e h) (ByPlace k) = absurd (omega (arith, e, k))
 chosen_once All false i j path other (ByEdges e h) (ByEdges e' k) = upto_both path other h k
 
--- One path accepts one pattern at one place.
+-- A path determines the pattern that it accepts and the position at which it ends.
 pub accepting_once :
     (n : Nfa) (t : Tape) (q i j p p' : ℕ) (path path' : List ℕ)
     → Accepts n t q i p path → Accepts n t q j p' path' → path ≡ path' → (i ≡ j) × (p ≡ p')
@@ -78,13 +78,13 @@ sel_over_once way d input a b s s' =
     sel_from_once d input.earliest (tape_of way input.haystack input.start input.end) (first_state d input.anchored) a b
     s s'
 
--- A search has one answer.
+-- A search has at most one answer.
 pub answer_once :
     (way : Direction) (d : Engine) (input : Input) (o o' : Option Half) → IsAnswer way d input o
     → IsAnswer way d input o' → o ≡ o'
 answer_once way d input o o' = answers_once (SelectsOver way d) (IsSkipping d) way input (sel_over_once way d) o o'
 
--- Two beginnings of one list.
+-- Two prefixes of one list are equal, or one is a proper prefix of the other.
 prefixes : (a b c d : List ℕ) → a ++ c ≡ b ++ d → (a ≡ b) ⊎ (Begins a b ⊎ Begins b a)
 prefixes [] [] c d e = inl refl
 prefixes [] (y ∷ b) c d e = inr (inl (y, b, refl))
@@ -96,7 +96,7 @@ prefixes (x ∷ a) (y ∷ b) c d e = go (prefixes a b c d (cons_tail e))
     go (inr (inl g)) = inr (inl (g.0, g.1, ap₂ ◌∷◌ (sym (cons_head e)) g.2))
     go (inr (inr g)) = inr (inr (g.0, g.1, ap₂ ◌∷◌ (cons_head e) g.2))
 
--- A path has one start.
+-- A path has at most one start.
 pub start_once :
     (d : Engine) (m : Anchored) (t : Tape) (path : List ℕ) (k k' : ℕ) → IsPathStart d m t path k
     → IsPathStart d m t path k' → k ≡ k'
@@ -114,7 +114,7 @@ start_once d (Pattern p) t path k k' s s' = s ∙ sym s'
 pub match_is : (a b : Match) → a.pattern ≡ b.pattern → a.start ≡ b.start → a.end ≡ b.end → a ≡ b
 match_is a b pattern start end = λ i. record { pattern = pattern i; start = start i; end = end i }
 
--- The spans of one forward answer are one.
+-- Spans with the same forward answer are equal.
 span_of_once :
     (d : Engine) (input : Input) (m m' : Match) (s : IsSpanOfPath d input m) (s' : IsSpanOfPath d input m')
     → s.half ≡ s'.half
@@ -157,7 +157,7 @@ span_of_once d input m m' s s' same =
         start_once d input.anchored t s.path s.before s'.before s.begins
         (subst (λ v. IsPathStart d input.anchored t v s'.before) (sym path_same) begins)
 
--- An input has one span.
+-- The span of an input is unique.
 pub span_once : (d : Engine) (input : Input) (a b : Option Match) → IsSpan d input a → IsSpan d input b → a ≡ b
 span_once d input None None s s' = refl
 span_once d input None (Some b) s s' =
@@ -169,7 +169,7 @@ span_once d input (Some a) (Some b) s s' =
     (span_of_once d input a b s s'
     (some_inj (answer_once Forward d input (Some s.half) (Some s'.half) s.answer s'.answer)))
 
--- What finds one answer finds one list.
+-- `Finds` has at most one answer for each input, and so at most one list of matches.
 abbrev pub FindsOnce : (Input → Option Match → Type 0) → Type 0
 FindsOnce Finds = (input : Input) (a b : Option Match) → Finds input a → Finds input b → a ≡ b
 
@@ -214,13 +214,13 @@ matches_once Finds input start last (m ∷ ms) (m' ∷ ms') once s s' =
     e : m ≡ m'
     e = next_some Finds input start last m m' once s.0 s'.0
 
--- An input has one list of spans.
+-- The list of spans of an input is unique.
 pub spans_once :
     (d : Engine) (input : Input) (ms ms' : List Match) → AreSpans d input ms → AreSpans d input ms' → ms ≡ ms'
 spans_once d input ms ms' s s' =
     matches_once (IsSpan d) input input.start None ms ms' (λ input a b. span_once d input a b) s s'
 
--- A search that does not skip is made once.
+-- A search that skips nothing tries only its first span.
 plain : (way : Direction) (d : Engine) (input : Input) (k : ℕ) → (IsSkipping d → ⊥) → ComesTo way d input k → k ≡ 0
 plain way d input k f c =
     tries_once (IsSkipping d) input k (λ s free. f s) c.comes
@@ -255,8 +255,8 @@ clash d v w input half f a b = go a.2
         b.2.reported)
     go (StopsAtSplit skips anchored s) = f skips
 
--- If the input is not earliest or nothing is skipped, there is a match exactly if the search that is not earliest has
--- one.
+-- If the input is not earliest or nothing is skipped, the test for a match is true exactly if the search for the span
+-- has one.
 pub match_iff_find :
     (d : Engine) (input : Input) (truth : Bool) (answer : Option Match)
     → (input.earliest ≡ false) ⊎ (IsSkipping d → ⊥) → IsMatch d input truth → IsSpan d input answer

@@ -1,4 +1,4 @@
--- The start is the right one.
+-- The reverse search finds the start of the chosen path, so a search returns the right span.
 use Rattle.std.proofs.Common.{ℕ, ◌≡◌, ◌≤◌, ◌+◌, ◌-◌, false, List, [], ◌⊎◌, length, Option, Some, None, inl, inr, refl}
 use Rattle.std.proofs.Common.{sym, ap, ◌∙◌, subst, arith}
 use Rattle.automata_base.specs.Paths.Paths.{Tape}
@@ -22,13 +22,13 @@ use Rattle.automata_base.proofs.Answers.Starts.{start_unsplit, anchored_back}
 use Rattle.automata_base.proofs.Answers.Turning.{turn_answers, turn_outcome}
 use Rattle.automata_base.proofs.Paths.Orders.{none_some}
 
--- An anchored path starts at its first place.
+-- The match of an anchored path starts at position 0.
 pub anchored_start : (d : Engine) (m : Anchored) (t : Tape) (path : List ℕ) → (m ≡ No → ⊥) → IsPathStart d m t path 0
 anchored_start d No t path f = absurd (f refl)
 anchored_start d Yes t path f = refl
 anchored_start d (Pattern k) t path f = refl
 
--- A chosen path of an unanchored search over a lazy loop.
+-- The chosen path of an unanchored search over a lazy loop, with its start.
 abbrev pub Looped : Engine → Input → Half → (i : ℕ) → List ℕ → Type 0
 Looped d input half i path =
     (k : ℕ) × (rest : List ℕ) × StartsAt d (forward_tape input.haystack half.base input.end) k i half.pattern path rest
@@ -84,7 +84,7 @@ short_start d input half q i path lazy bytes w a short = go (mode_cases input.an
         let c = looped d x input half q i path loop bytes w m a in
         subst (λ v. IsPathStart d input.anchored t path v) (omega (arith, c.3, e, a.1)) c.4
 
--- The chosen path's start, and that the reverse search finds it.
+-- The chosen path has a start, and the reverse search finds it.
 abbrev pub StartFound : Engine → Engine → Input → Half → List ℕ → Type 0
 StartFound f r input half path =
     (place : ℕ) × IsPathStart f input.anchored (forward_tape input.haystack half.base input.end) path place
@@ -133,8 +133,8 @@ start_found f r input half q i path pair keeps bytes w a long = go (mode_cases i
             (subst (λ v. IsFarthestAnswer Backward r (anchored_back h half.base v) answer) a.1 b) in
             (o.0, o.1, o.2 ∙ omega (arith, c.3))
 
--- Over a true pair with the UTF-8 promise a search returns the span of the chosen path, and never that the two are no
--- pair, even if its search back finds the farthest place alone.
+-- For a true pair that keeps the UTF-8 promise, a search returns the span of the chosen path, and never the error that
+-- the DFAs do not belong together. It is enough that the reverse search finds the farthest position.
 pub far_right :
     (f r : Engine) (input : Input) (outcome : Outcome)
     → IsTruePair f r → KeepsUtf8 Forward f → IsHaystack input.haystack → input.end ≤ length input.haystack
@@ -186,7 +186,7 @@ far_right f r input (Found (Some m)) pair keeps bytes w s = (Some m, refl, go s.
         offset_of None = 0
         offset_of (Some v) = v.offset
 
--- Under `MatchKind::All` a search back that answers by the ordered paths finds the farthest place.
+-- Under `MatchKind::All`, a reverse search that answers by the ordered paths finds the farthest position.
 back_far :
     (r : Engine) (input : Input) (half : Half) (o : Option Half) → r.kind ≡ All
     → IsAnswer Backward r (back input half) o

@@ -1,4 +1,4 @@
--- Matches of an iteration lie in the span, and their ends rise.
+-- The matches of an iteration lie in the span, and their ends increase.
 use Rattle.std.proofs.Common.{ℕ, suc, ◌≡◌, ◌<◌, ◌≤◌, ◌+◌, ◌-◌, Bool, List, [], ◌∷◌, ◌++◌, ◌⊎◌, length, Option, Some}
 use Rattle.std.proofs.Common.{None, inl, inr, refl, sym, ap, ◌∙◌, subst, arith, eq-or-lt_of_le}
 use Rattle.automata_base.specs.Paths.Paths.{Tape, IsPathFrom, IsPath}
@@ -19,7 +19,7 @@ use Rattle.automata_base.proofs.Answers.Bytes.{tape_length}
 use Rattle.automata_base.proofs.Answers.Starts.{Answered, answered, anchored_back, only_once}
 use Rattle.automata_base.proofs.Answers.Right.{span_right}
 
--- A path starts at no later place than it ends.
+-- A path starts no later than it ends.
 start_inside :
     (d : Engine) (m : Anchored) (t : Tape) (q i pattern place : ℕ) (earliest : Bool) (path : List ℕ)
     → first_state d m ≡ Some q → Chooses d earliest t q i pattern path → IsPathStart d m t path place → place ≤ i
@@ -49,7 +49,7 @@ span_inside d input m w s =
     end_inside d input.haystack s.half.base input.end s.first s.length s.half.pattern s.path a.3.4 w s.chosen.0 in
     (omega (arith, a.3.3, s.start), omega (arith, l, s.ends, s.start, s.end), omega (arith, g, s.ends, s.end))
 
--- A reverse answer lies in its span.
+-- The answer of a reverse search lies in its span.
 back_inside :
     (r : Engine) (h : List ℕ) (b e : ℕ) (found : Half) → e ≤ length h
     → IsAnswer Backward r (anchored_back h b e) (Some found)
@@ -62,7 +62,7 @@ back_inside r h b e found w a =
     let n = tape_length h b (e - a.0) (omega (arith, z, a.2.within)) (omega (arith, w)) in
     (omega (arith, a.2.offset, z, g, n, a.2.within), omega (arith, a.2.offset))
 
--- Any two DFAs find matches that lie in the span.
+-- A search over any two DFAs finds only matches that lie in the span.
 pub try_inside :
     (f r : Engine) (input : Input) (m : Match) → input.end ≤ length input.haystack
     → IsTrySearch f r input (Found (Some m))
@@ -93,7 +93,7 @@ try_inside f r input m w s = go s.start
         let g = back_inside r input.haystack half.base half.offset found (omega (arith, high, w)) backs in
         (omega (arith, low, h, g.0), omega (arith, g.1, h, s.end), omega (arith, high, s.end))
 
--- What is found lies in the span.
+-- All matches of `Finds` lie in the span.
 abbrev pub StaysInside : (Input → Option Match → Type 0) → Type 0
 StaysInside Finds =
     (input : Input) (m : Match) → input.end ≤ length input.haystack → Finds input (Some m)
@@ -105,7 +105,7 @@ spans_inside d input m w s = span_inside d input m w s
 pub tries_inside : (f r : Engine) → StaysInside (TryFinds f r)
 tries_inside f r input m w s = try_inside f r input m w s
 
--- The next match ends in the span, and past the last end if the iteration stands there.
+-- The next match lies in the span. If the search for it starts at the end of the last match, it ends after that.
 pub next_inside :
     (Finds : Input → Option Match → Type 0) (input : Input) (start : ℕ) (last : Option ℕ) (m : Match)
     → StaysInside Finds → input.end ≤ length input.haystack → IsNextItem Finds input start last (Some m)
@@ -126,7 +126,7 @@ next_inside Finds input start last m stays w (FindsLater empty here at_last s) =
     let f = stays (from (suc start) input) m w s in
     (omega (arith, f.0), f.1, f.2, λ e. omega (arith, f.0, f.1))
 
--- All matches begin as the first ones do.
+-- The list of all matches is also a list of first matches.
 pub all_first :
     (Finds : Input → Option Match → Type 0) (input : Input) (start : ℕ) (last : Option ℕ) (ms : List Match)
     → AreMatches Finds input start last ms → AreFirst Finds input start last ms
@@ -151,7 +151,7 @@ module _ (Finds : Input → Option Match → Type 0) (input : Input) (stays : St
   count_from end start [] l r = omega (arith, l)
   count_from end start (m ∷ ms) l r = let g = count_from end m.end ms r.0.within r.1 in omega (arith, g, r.0.past)
 
-  -- At most one match more than the span has bytes.
+  -- An iteration has at most one match more than the span has bytes.
   pub first_few :
       (ms : List Match) → AreFirst Finds input input.start None ms → length ms ≤ suc (input.end - input.start)
   first_few [] s = omega arith
@@ -171,14 +171,14 @@ pub spans_rise :
     → Rise input.end None ms × (length ms ≤ suc (input.end - input.start))
 spans_rise d input ms w s = matches_rise (IsSpan d) input (spans_inside d) w ms s
 
--- So too for two DFAs that are no pair.
+-- The same bounds hold for two DFAs that do not belong together.
 pub found_rise :
     (f r : Engine) (input : Input) (ms : List Match)
     → input.end ≤ length input.haystack → AreFound f r input ms
     → Rise input.end None ms × (length ms ≤ suc (input.end - input.start))
 found_rise f r input ms w s = matches_rise (TryFinds f r) input (tries_inside f r) w ms s
 
--- If what one finds from each place is what another finds there, so are the matches.
+-- If each answer of `F` from each start is also one of `G`, the matches of `F` are matches of `G`.
 module _
     (F G : Input → Option Match → Type 0) (input : Input)
     (right : (start : ℕ) (o : Option Match) → F (from start input) o → G (from start input) o)
@@ -202,7 +202,7 @@ module _
     first_right start last [] s = tt
     first_right start last (m ∷ ms) s = (next_right start last (Some m) s.0, first_right m.end (Some m.end) ms s.1)
 
--- Over a true pair under the UTF-8 promise what is found is the spans.
+-- For a true pair that keeps the UTF-8 promise, the matches found are the spans of the paths.
 pub spans_right :
     (f r : Engine) (input : Input) (ms : List Match)
     → IsTruePair f r → KeepsUtf8 Forward f → IsHaystack input.haystack → input.end ≤ length input.haystack

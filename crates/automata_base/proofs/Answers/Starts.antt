@@ -1,4 +1,5 @@
--- Over a true pair that keeps UTF-8 the reverse search finds the start of the path that the forward search chose.
+-- For a true pair that keeps the UTF-8 promise, the reverse search finds the start of the path that the forward search
+-- chose.
 use Rattle.std.proofs.Common.{ℕ, ◌≡◌, ◌<◌, ◌≤◌, ◌+◌, ◌-◌, Bool, false, List, [], ◌⊎◌, length, Option, Some, None, inl}
 use Rattle.std.proofs.Common.{inr, refl, sym, ap, ap₂, ◌∙◌, subst, arith, eq-or-lt_of_le, true≢false}
 use Rattle.automata_base.specs.Nfas.Nfa.{Nfa, accepts}
@@ -31,7 +32,7 @@ mode_cases No = inl refl
 mode_cases Yes = inr yes_no
 mode_cases (Pattern k) = inr (pattern_no k)
 
--- What a forward answer says of its path.
+-- What a forward answer implies about its path.
 abbrev pub Answered : Engine → Input → Half → (q i : ℕ) → List ℕ → Type 0
 Answered d input half q i path =
     (first_state d input.anchored ≡ Some q) × (half.offset ≡ half.base + i)
@@ -66,7 +67,7 @@ answered d input half a = go (first_state d input.anchored) refl a.2.reported
       ),
     )
 
--- In an unanchored search the path is one from the unanchored start.
+-- In an unanchored search, the path begins at the unanchored start.
 pub unanchored :
     (d : Engine) (input : Input) (half : Half) (q i : ℕ) (path : List ℕ) → input.anchored ≡ No
     → Answered d input half q i path
@@ -75,7 +76,7 @@ unanchored d input half q i path m a =
     subst (λ v. Chooses d input.earliest (forward_tape input.haystack half.base input.end) v i half.pattern path)
     (some_inj (sym a.0 ∙ ap (λ v. first_state d v) m)) a.2
 
--- An anchored search is made once.
+-- The input of an anchored reverse search, which tries only one span.
 abbrev pub anchored_back : List ℕ → ℕ → ℕ → Input
 anchored_back h b e = record { haystack = h; start = b; end = e; anchored = Yes; earliest = false }
 
@@ -85,7 +86,7 @@ pub only_once :
     → k ≡ 0
 only_once T S h b e k c = tries_once S (anchored_back h b e) k (λ s free. yes_no free) c.comes
 
--- The greatest place at which a path accepts.
+-- The greatest position at which a path accepts.
 abbrev pub IsGreatest : Nfa → Tape → ℕ → ℕ → Type 0
 IsGreatest n t start m =
     ((pattern : ℕ) × (path : List ℕ) × Accepts n t start m pattern path)
@@ -102,7 +103,7 @@ farthest_greatest n t start m (Some pair) g f =
     place (inl e) = e
     place (inr l) = absurd (f.1 m g.0.0 g.0.1 l g.0.2)
 
--- If it finds the farthest place, it answers the greatest one.
+-- A reverse search that finds the farthest position returns the greatest position at which a path accepts.
 pub back_answer :
     (r : Engine) (h : List ℕ) (b e m : ℕ) (answer : Option Half) → b ≤ e
     → IsGreatest r.nfa (reverse_tape h b e) r.anchored m
@@ -154,8 +155,7 @@ back_answer r h b e m answer l g u = go answer
         let p = greatest k (Some a.pair) (once k tries) a.reported in
         (found, refl, a.offset ∙ (ap (λ w. e - k - w) (same_place p.1) ∙ p.2))
 
--- Over the span that the forward search left, the reverse paths from its end go back to the chosen path's start and no
--- farther, and that place splits no character if split places are skipped.
+-- Over the span up to the match end, a reverse path reaches the chosen path's start, and none goes beyond it.
 pub goes_to_start :
     (f r : Engine) (x : ℕ) (h : List ℕ) (b e : ℕ) (earliest : Bool) (i k pattern : ℕ) (path rest : List ℕ)
     → IsTruePair f r → IsHaystack h → b ≤ e → e ≤ length h → LoopsLazily f.nfa f.anchored f.unanchored x
@@ -182,7 +182,7 @@ goes_to_start f r x h b e earliest i k pattern path rest pair bytes l w loop c s
         (i - j) p o.1.1 o.1.0 o.1.2 o.1.3 in
         omega (arith, g, o.0, short)
 
--- With the UTF-8 promise, the start splits no character if split places are skipped.
+-- With the UTF-8 promise, the start is not inside a character if such offsets are skipped.
 pub start_unsplit :
     (f r : Engine) (h : List ℕ) (b e i k pattern z : ℕ) (rest : List ℕ)
     → IsTruePair f r → KeepsUtf8 Forward f → IsHaystack h → b + i ≤ e → e ≤ length h → k ≤ i

@@ -1,4 +1,4 @@
--- UTF-8 begins with no continuation byte.
+-- UTF-8 text does not begin with a continuation byte.
 use Rattle.std.proofs.Common.{ℕ, ◌≡◌, ◌<◌, ◌≤◌, Bool, true, false, ◌&&◌, leb, List, [], ◌∷◌, IsUtf8, refl, sym, ap, ap₂}
 use Rattle.std.proofs.Common.{◌∙◌, arith, leb-true}
 use Rattle.std.proofs.lemmas.Bool.{lt-leb}

@@ -1,4 +1,4 @@
--- Searches have an answer.
+-- Every search has an answer.
 use Rattle.std.proofs.Common.{ℕ, zero, suc, ◌≡◌, ◌<◌, ◌≤◌, ◌+◌, ◌-◌, Bool, true, false, List, [], ◌∷◌, ◌⊎◌, length}
 use Rattle.std.proofs.Common.{reverse, Option, Some, None, inl, inr, refl, sym, ap, ◌∙◌, subst, arith, ⊎_elim}
 use Rattle.std.proofs.Common.{eq-or-lt_of_le}
@@ -223,7 +223,7 @@ try_exists f r input sf sr b kf kr = go (answer_exists Forward f input sf b kf)
                     from_back None c = (NotAPair, (half, a, (s, c)))
                     from_back (Some found) c = found_at found.offset (StartIsFound s found c refl)
 
--- Over a true pair under the UTF-8 promise a search finds the span, so each input has one.
+-- For a true pair that keeps the UTF-8 promise, a search finds the span, so every input has one.
 pub span_found :
     (f r : Engine) (input : Input) → IsTruePair f r → KeepsUtf8 Forward f → IsSound f → IsSound r → IsInput input
     → (answer : Option Match) × IsTrySearch f r input (Found answer) × IsSpan f input answer

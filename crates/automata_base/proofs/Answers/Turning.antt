@@ -1,4 +1,4 @@
--- What searches are said by may be replaced by what it stands for.
+-- In statements about searches, what is reported may be replaced by anything that follows from it.
 use Rattle.std.proofs.Common.{ℕ, ◌<◌, ◌≤◌, ◌+◌, ◌⊎◌, inl, inr, Option, Some, None, arith}
 use Rattle.automata_base.specs.Answers.Answers.{Half, later, Tries, Answers, HasNoAnswerAt, SpanIsDone, SpanReportsNone}
 use Rattle.automata_base.specs.Answers.Answers.{StopsAtSplit}
@@ -9,7 +9,7 @@ use Rattle.automata_base.specs.Answers.Spans.{FindsStartBy, Found, NotAPair, Out
 use Rattle.automata_base.specs.Answers.Spans.{StartIsFound, back}
 use Rattle.automata_base.specs.Haystacks.Tapes.{Direction}
 
--- what is reported over the spans that a search tries
+-- Replaces what is reported over the spans that a search tries.
 module _ (T U : Input → Option Pair → Type 0) (S : Type 0) (way : Direction) (input : Input)
     (turn : (k : ℕ) (o : Option Pair) → input.start + k ≤ input.end → T (later way k input) o
     → U (later way k input) o) where
@@ -46,7 +46,7 @@ module _ (T U : Input → Option Pair → Type 0) (S : Type 0) (way : Direction)
     },
   )
 
--- what the search on finds, and the one back
+-- Replaces what the forward search and the reverse search find.
 module _ (Fronts Fronts' Backs Backs' : Input → Option Half → Type 0) (f : Engine) (input : Input)
     (front : (o : Option Half) → Fronts input o → Fronts' input o)
     (rear : (half : Half) (o : Option Half) → Fronts input (Some half) → Backs (back input half) o

@@ -1,4 +1,4 @@
--- The reverse search reads no unit that the forward search did not read up to its match.
+-- The reverse search reads only units that the forward search read up to its match.
 use Rattle.std.proofs.Common.{ℕ, suc, ◌≡◌, ◌<◌, ◌≤◌, ◌+◌, ◌-◌, Bool, List, length, Option, Some, sym, ap, ◌∙◌}
 use Rattle.std.proofs.Common.{arith, ⊎_elim, eq-or-lt_of_le}
 use Rattle.std.specs.Prelude.{slice_get}
@@ -30,7 +30,7 @@ back_reads h b e i m v l w k (ReadsUnitAt j few g) = ⊎_elim
     within : j ≤ m → j ≤ i
     within a = omega (arith, a, k)
 
--- So with one quit set the reverse search meets no quit byte if the forward search met none up to its match.
+-- So with the same quit bytes, the reverse search reads no quit byte if the forward search read none up to its match.
 pub back_meets_none :
     (quits : ℕ → Bool) (h : List ℕ) (b e i m : ℕ) → b + i ≤ e → e ≤ length h → m ≤ i
     → MeetsNone quits (forward_tape h b e) i → MeetsNone quits (reverse_tape h b (b + i)) m

@@ -1,4 +1,4 @@
--- Patterns that are reported are the automaton's, and answers lie in their span.
+-- Reported patterns are patterns of the automaton, and answers lie in their span.
 use Rattle.std.proofs.Common.{ℕ, zero, suc, ◌≡◌, ◌∙◌, ◌<◌, ◌≤◌, ◌⊎◌, inl, inr, Bool, true, false, List, [], ◌∷◌, length}
 use Rattle.std.proofs.Common.{Option, Some, None, refl, sym, ap, subst, arith}
 use Rattle.std.proofs.Common.{eq-or-lt_of_le}
@@ -28,7 +28,7 @@ use Rattle.automata_base.proofs.Powersets.ReportedPairs.{in_offsets, in_reported
 use Rattle.automata_base.proofs.Answers.Bytes.{forward_length, tape_length}
 use Rattle.automata_base.proofs.Paths.Orders.{none_some, some_inj}
 
--- what is picked is picked of something
+-- Each picked element is a value of `g`.
 picked : (g : ℕ → Option ℕ) (xs : List ℕ) (y : ℕ) → In y (pick g xs) → (x : ℕ) × (g x ≡ Some y)
 picked g [] y h = absurd h
 picked g (x ∷ xs) y h = go (g x) refl (λ i. picked g xs y i) h where
@@ -49,7 +49,7 @@ once_in seen (x ∷ xs) y h = go (is_in x seen) (λ i. once_in seen xs y i) (λ 
   go false old new (inl same) = inl same
   go false old new (inr i) = inr (new i)
 
--- a step reports patterns of match states
+-- A step reports only patterns of the automaton.
 pub step_own :
     (a : Automaton) → IsChecked a → (kind : MatchKind) (q : Powerset) (unit : Option ℕ)
     → ReportsOwn a (successor a kind q unit)
@@ -57,7 +57,7 @@ unfolding successor
 step_own a d kind q unit p h =
     let s = picked (accepts (nfa_of a)) _ p (once_in [] _ p h) in d.patterns s.0 p s.1
 
--- and a start none
+-- A start state reports no patterns.
 pub start_own : (a : Automaton) (mode : Anchored) (prev : Option ℕ) → ReportsOwn a (start_state_of a mode prev)
 unfolding start_state_of
 start_own a mode prev p h = go (mode_start a mode) h where
@@ -74,7 +74,7 @@ reported_own :
 unfolding state_after
 reported_own a d kind mode t i p h = step_own a d kind (state_after a kind mode t i) (next t i) p h
 
--- what the patterns of a state report at a place
+-- The pair reports one of the patterns at position `i`.
 record IsReportedAt (patterns : List ℕ) (i : ℕ) (pair : Pair) : Type 0 where
   place : pair.place ≡ i
   pattern : In pair.pattern patterns
@@ -94,7 +94,7 @@ earlier_reported :
 earlier_reported None other pair e = inr (refl, e)
 earlier_reported (Some first) other pair e = inl e
 
--- what is reported among the first `k` units is reported at one of their places
+-- The pair is reported at one of the first `k` positions.
 module _ (kind : MatchKind) (a : Automaton) (mode : Anchored) (t : Tape) (pair : Pair) where
   abbrev pub ReportedBelow : ℕ → Type 0
   ReportedBelow k = (pair.place < k) × In pair.pattern (reported_at a kind mode t pair.place)
@@ -141,7 +141,7 @@ module _ (kind : MatchKind) (a : Automaton) (mode : Anchored) (t : Tape) (pair :
   reported_below true k e = first_below k e
   reported_below false k e = last_below k e
 
--- the first of what is reported stays the first
+-- The first reported pair stays the first when more units are read.
 pub first_stays :
     (reported : ℕ → List ℕ) (pair : Pair) (k n : ℕ) → k ≤ n → first_among reported k ≡ Some pair
     → first_among reported n ≡ Some pair
@@ -154,7 +154,7 @@ first_stays reported pair k (suc n) l e = go (λ more. first_stays reported pair
   go before (inl same) = subst (λ i. first_among reported i ≡ Some pair) same e
   go before (inr less) = ap (λ o. earlier_or o (pair_at (reported n) n None)) (before (omega (arith, less)))
 
--- a place of the tape of a span is an offset in the span
+-- A position on the tape of a span is an offset in the span.
 place_in :
     (way : Direction) (input : Input) (place : ℕ) → input.start ≤ input.end → input.end ≤ length input.haystack
     → place < suc (length (tape_of way input.haystack input.start input.end).bytes)
@@ -164,7 +164,7 @@ place_in Forward input place s few l =
 place_in Backward input place s few l =
     let n = tape_length input.haystack input.start input.end s few in (omega (arith, n, l, s), omega arith)
 
--- what the pass over the span of an input reports is reported at a place of its tape
+-- What the pass over the span of an input reports is reported at a position of its tape.
 pub over_below :
     (way : Direction) (a : Automaton) (kind : MatchKind) (input : Input) (pair : Pair)
     → reported_over way a kind input ≡ Some pair
@@ -174,7 +174,7 @@ over_below way a kind input pair reported =
     reported_below kind a input.anchored (tape_of way input.haystack input.start input.end) pair input.earliest
     (suc (length (tape_of way input.haystack input.start input.end).bytes)) reported
 
--- an answer lies in the span, not before the start of the span that gave it
+-- An answer lies in the span, at or after the start of the span that gave it.
 pub reported_within :
     (way : Direction) (a : Automaton) (kind : MatchKind) (input : Input) (half : Half)
     → input.end ≤ length input.haystack → IsReported way a kind input (Some half)
@@ -198,7 +198,7 @@ reported_within Backward a kind input half few f =
           (arith, w.0, f.2.offset, f.2.base),
     )
 
--- and its pattern is the automaton's
+-- The pattern of an answer is a pattern of the automaton.
 pattern_reported :
     (way : Direction) (a : Automaton) (kind : MatchKind) (input : Input) (half : Half)
     → IsChecked a → IsReported way a kind input (Some half) → IsPatternOf a half.pattern
@@ -212,7 +212,7 @@ pub reported_lies : (a : Automaton) → IsChecked a → ReportedLiesWithin a
 reported_lies a d way kind input half few f =
     let w = reported_within way a kind input half few f in (pattern_reported way a kind input half d f, w.0, w.1, w.2)
 
--- so do the pairs of a walk
+-- The pairs of a walk have patterns of the automaton and lie in the span.
 offset_lies :
     (a : Automaton) → IsChecked a
     → (way : Direction) (kind : MatchKind) (input : Input) (pairs : List Pair) (pair : Pair)

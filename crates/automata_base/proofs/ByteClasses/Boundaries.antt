@@ -1,4 +1,4 @@
--- Boundaries between bytes, the classes that they make, and the stride that has room for the classes.
+-- Boundaries between bytes, the classes that they form, and the stride that has room for the classes.
 use Rattle.std.proofs.Common.{ℕ, zero, suc, ◌≡◌, ◌+◌, ◌-◌, ◌*◌, ◌^◌, ◌<◌, ◌≤◌, Bool, true, false, eqb, get_or-set_other}
 use Rattle.std.proofs.Common.{length-set, subst}
 use Rattle.std.proofs.Common.{cond, List, length, get_or, refl, sym, ap, ◌∙◌, arith, ◌⊎◌, inl, inr}
@@ -22,7 +22,7 @@ one_at_most : (b : Bool) → cond b 1 0 ≤ 1
 one_at_most true = omega arith
 one_at_most false = omega arith
 
--- Functions that say the same boundaries count the same.
+-- Functions with the same boundaries have the same counts.
 pub count-same : (f g : ℕ → Bool) (n : ℕ) → ((b : ℕ) → b ≤ n → f b ≡ g b) → boundary_count f n ≡ boundary_count g n
 count-same f g zero h = count_none f ∙ sym (count_none g)
 count-same f g (suc n) h =
@@ -58,7 +58,7 @@ count_grows f m (suc n) =
     move : (n m : ℕ) → suc n + m ≡ n + m + 1
     move n m = omega arith
 
--- What is counted up to a byte, from what is counted up to the byte before it.
+-- The count up to a byte, from the count up to the previous byte.
 pub count_next :
     (f : ℕ → Bool) (k c : ℕ) → 1 ≤ k → c ≡ boundary_count f (k - 1) → c + cond (f k) 1 0 ≡ boundary_count f k
 count_next f zero c h e = absurd (omega (arith, h))
@@ -76,7 +76,7 @@ pub from_bool-small : (b : Bool) → from_bool b ≤ 1
 from_bool-small true = omega arith
 from_bool-small false = omega arith
 
--- A table of the counts, begun and gone on with.
+-- The table of counts: its first entry, and one more entry.
 pub first_counted :
     (f : ℕ → Bool) (map : List ℕ) → get_or map 0 0 ≡ 0 → (k : ℕ) → k < 1 → get_or map k 0 ≡ boundary_count f k
 first_counted f map e zero h = e ∙ sym (count_none f)
@@ -95,7 +95,7 @@ next_counted f map n c within e h k l = go (eqb_tells k n)
         ∙ (get_or-set_same map n c 0 within ∙ (e ∙ ap (boundary_count f) (sym w.1)))
     go (inr w) = get_or-set_other map n k c 0 w.1 ∙ h k (omega (arith, l, w.1))
 
--- A table of the counts below a byte, and the last of them.
+-- The table holds the counts of the bytes below `byte`, and `class` is the last of them.
 pub record Counted (f : ℕ → Bool) (map : List ℕ) (class byte : ℕ) : Type 0 where
   pub whole : length map ≡ 256
   pub last : class ≡ boundary_count f (byte - 1)
@@ -149,7 +149,7 @@ are_classes f classes whole same = record {
     gap : (byte : ℕ) → byte < 256 → 255 - byte + byte ≡ 255
     gap byte h = omega (arith, h)
 
--- Strides.
+-- The stride has room for the classes.
 pub stride_for-enough : (len : ℕ) → len ≤ 257 → len ≤ stride_for len
 unfolding stride_for
 stride_for-enough len h = grind (arith, nat_tests)

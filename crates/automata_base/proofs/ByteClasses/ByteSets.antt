@@ -1,4 +1,4 @@
--- Sets of bytes, by their words and by what each byte is.
+-- Sets of bytes: their words, and the flag of each byte.
 use Rattle.std.proofs.Common.{ℕ, zero, suc, ◌≡◌, ◌≤◌, ◌+◌, ◌*◌, ◌/◌, ◌%◌, ◌^◌, ◌<◌, ◌⊎◌, inl, inr, Bool, true, false}
 use Rattle.std.proofs.Common.{eqb}
 use Rattle.std.proofs.Common.{true≢false, List, [], ◌∷◌, length, length-set, get_or, replicate, refl, sym, ap, ◌∙◌}
@@ -14,7 +14,7 @@ use Rattle.automata_base.specs.ByteClasses.Classes.{is_quit}
 use Rattle.automata_base.specs.ByteClasses.ByteSets.{IsByteSet, has_byte, truths_of, word_of}
 use Rattle.automata_base.specs.ByteClasses.WordsBack.{at_word, of_bits, truth_in, truths_by_bytes, whole}
 
--- No word has a bit.
+-- If no word has a bit set, the set is empty.
 pub no_bytes :
     (words : List ℕ) → ((k : ℕ) → k < 4 → get_or words k 0 ≡ 0) → (byte : ℕ) → byte < 256
     → is_quit (truths_of words) byte ≡ false
@@ -42,7 +42,7 @@ empty_truths =
         ap (λ w. eqb (bit_at w (k % 64)) 1) (zeros (k / 64) (omega (arith, l)))
         ∙ ap (λ z. eqb z 1) (bit_at-zero (k % 64))
 
--- Words that have no bit together have none each.
+-- If the union of all words is 0, no word has a bit set.
 pub or_none :
     (words : List ℕ)
     → eqb (bit_or (bit_or (bit_or (get_or words 0 0) (get_or words 1 0)) (get_or words 2 0)) (get_or words 3 0)) 0
@@ -76,7 +76,7 @@ or_none words h k l = go k l
     go (suc (suc (suc zero))) l = omega (arith, sum, le_or_r three (get_or words 3 0))
     go (suc (suc (suc (suc k)))) l = absurd (omega (arith, l))
 
--- A set without a byte has no bit in any word.
+-- If the set is empty, no word has a bit set.
 zero_word :
     (words : List ℕ) (k : ℕ) → k < 4 → get_or words k 0 < 2 ^ 64
     → ((byte : ℕ) → byte < 256 → is_quit (truths_of words) byte ≡ false) → get_or words k 0 ≡ 0
@@ -105,7 +105,7 @@ none_or words h nothing =
     zero : (k : ℕ) → k < 4 → get_or words k 0 ≡ 0
     zero k l = zero_word words k l (h.small k l) nothing
 
--- One bit changes.
+-- Changing one bit of a word changes the flag of one byte.
 pub with_byte :
     (words : List ℕ) (byte : ℕ) (put : Bool) (word : ℕ)
     → length words ≡ 4 → byte < 256 → eqb (bit_at word (byte % 64)) 1 ≡ put

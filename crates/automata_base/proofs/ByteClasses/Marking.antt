@@ -1,4 +1,4 @@
--- How marks before bytes add up.
+-- How marks before bytes accumulate.
 use Rattle.std.proofs.Common.{ℕ, ◌≡◌, ◌+◌, ◌-◌, ◌<◌, ◌⊎◌, ◌&&◌, ◌||◌, Bool, true, false, eqb, ltb, List, drop, refl}
 use Rattle.std.proofs.Common.{sym, ap, ◌∙◌, inl, inr, arith}
 use borrow.Author.Count.{below_more}
@@ -32,7 +32,7 @@ adds_both m n o f g h joined x y = record {
 pub adds_like : (m n : List Bool) (f g : ℕ → Bool) → ((b : ℕ) → g b ≡ f b) → Adds m n f → Adds m n g
 adds_like m n f g same x = record { marks = λ b l. x.marks b l ∙ ap (λ z. is_marked m b || z) (sym (same b)) }
 
--- A loop over the bytes from 1 on.
+-- The marks from a loop over the bytes from 1 up to `k`, exclusive.
 abbrev pub upto : ℕ → (ℕ → Bool) → ℕ → Bool
 upto k f b = ltb b k && f b
 
@@ -55,7 +55,7 @@ runs_next m n o f k is e x y =
         next : (b : ℕ) → (b ≡ k → ⊥) → ltb b (k + 1) ≡ ltb b k
         next b ne = grind (arith, common_steps)
 
--- A loop over a list whose items each have their bytes.
+-- The marks from a loop over a list whose items each mark some bytes. The items from index `i` on remain.
 abbrev pub Left : {X : Type 0} → (List X → ℕ → Bool) → List Bool → List Bool → List X → ℕ → Type 0
 Left G m n xs i = (b : ℕ) → b < 256 → (is_marked n b || G (drop i xs) b) ≡ (is_marked m b || G xs b)
 

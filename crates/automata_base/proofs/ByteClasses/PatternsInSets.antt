@@ -1,4 +1,4 @@
--- Sets of patterns as flags: how their members change, and how they are gone through.
+-- Sets of patterns as flags: how their members change, and how they are iterated.
 use Rattle.std.proofs.Common.{ℕ, zero, suc, ◌≡◌, ◌+◌, ◌<◌, ◌≤◌, ◌⊎◌, Bool, true, false, eqb, List, [], ◌∷◌, ◌++◌, drop}
 use Rattle.std.proofs.Common.{length, get_or, refl, sym, ap, ◌∙◌, inl, inr, subst, true≢false, arith, replicate}
 use Rattle.std.proofs.Common.{get_or-set_other, length-set}
@@ -22,7 +22,7 @@ empty_counted n = record {
   small = λ pattern e. absurd (true≢false (sym e ∙ has-replicate n pattern));
 }
 
--- The flags below `at` taken out, and the others as they were.
+-- Clears the flag at `at` after the flags below it were cleared; the flags after it are unchanged.
 pub taken_out :
     (xs : List Bool) (at : ℕ) → at < length xs
     → set (replicate at false ++ drop at xs) at false ≡ replicate (at + 1) false ++ drop (at + 1) xs

@@ -1,4 +1,4 @@
--- Bytes that ranges, and the states of a list, do not read.
+-- Bytes that the ranges or the states of a list do not read.
 use Rattle.std.proofs.Common.{ℕ, ◌≡◌, ◌<◌, ◌+◌, List, [], Some, None}
 use Rattle.std.proofs.Common.{length, get_or, drop, sym, ap, ◌∙◌}
 use Rattle.automata_base.specs.Lists.{cons_some}
@@ -8,11 +8,11 @@ use Rattle.automata_base.specs.Powersets.Cuts.{targets}
 use Rattle.automata_base.specs.declared.nfa.thompson.Transition.{Transition}
 use Rattle.automata_base.proofs.Powersets.Keeping.{pick_next}
 
--- Ranges do not read a byte if those from an index on do not.
+-- If the ranges from index `i` on do not take byte `u`, none of the ranges does.
 abbrev pub Skips : List Transition → (i u : ℕ) → Type 0
 Skips ts i u = takes_in (ranges_of (drop i ts)) u ≡ None → takes_in (ranges_of ts) u ≡ None
 
--- The states of a list lead nowhere on a byte if those from an index on do not.
+-- If the states from index `i` on lead nowhere on byte `u`, none of the list does.
 abbrev pub Ends : Nfa → List ℕ → (i u : ℕ) → Type 0
 Ends n xs i u = targets n (Some u) (drop i xs) ≡ [] → targets n (Some u) xs ≡ []
 
@@ -24,7 +24,7 @@ ends_next n xs i u x m l e at none ends rest =
     (pick_next (λ b. takes n b u) xs i x l e
     ∙ (ap (λ o. cons_some o (targets n (Some u) (drop (i + 1) xs))) (ap (λ z. takes_at z u) at ∙ none) ∙ rest))
 
--- What is expected of a list are its targets if what is left of it are those from an index on.
+-- If `rest` holds the targets of the states from index `i` on, `expected` holds the targets of the whole list.
 abbrev pub Expects : Nfa → (list expected : List ℕ) → (u i : ℕ) → (rest : List ℕ) → Type 0
 Expects n list expected u i rest = rest ≡ targets n (Some u) (drop i list) → expected ≡ targets n (Some u) list
 

@@ -1,4 +1,4 @@
--- States that stand for lists of those of another NFA, as the code tests them.
+-- States that stand for lists of states of another NFA, as the code tests them.
 use Rattle.std.proofs.Common.{ℕ, zero, suc, ◌≡◌, ◌<◌, ◌≤◌, ◌+◌, ◌-◌, inl, inr, false, ltb, cond, List, [], ◌∷◌}
 use Rattle.std.proofs.Common.{rules, Result, Ok, Err, ◌||◌, Option, Some, None, length, get_or, drop, Vec, refl}
 use Rattle.std.proofs.Common.{sym, ap, ◌∙◌, subst, arith}
@@ -30,12 +30,12 @@ same_id a b = unsigned_Decides a b
 pub same_range : (a b : Transition) → Decides (ranges.eq a b) (a ≡ b)
 same_range a b = search rules
 
--- What is known of the value of an option, if there is one.
+-- A fact about the value of an option, if it has one.
 pub some_of : {T : Type 0} (P : Type 0) (Q : T → Type 0) (o : Option T) → MatchOption o P Q → IfSome o Q
 some_of P Q None m = tt
 some_of P Q (Some x) m = m
 
--- What follows of the value of a result, if there is one.
+-- What follows for the value of a result, if it has one.
 pub ok_of :
     {T E : Type 0} (P Q : T → Type 0) (N : E → Type 0) (r : Result T E)
     → ((x : T) → P x → Q x) → MatchResult r P N → IfOk r Q
@@ -60,11 +60,11 @@ stood_further count vs k q v least is l e =
     not_old : ltb q count ≡ false
     not_old = grind (arith, nat_tests, least)
 
--- A list is what states stand for if its rest is what those from an index on stand for.
+-- If `rest` is what the states from index `i` on stand for, `list` is what all of them stand for.
 abbrev pub Stand : (count : ℕ) → List (List ℕ) → (ids list : List ℕ) → (i : ℕ) → (rest : List ℕ) → Type 0
 Stand count lists ids list i rest = all_stood_for count lists (drop i ids) ≡ rest → all_stood_for count lists ids ≡ list
 
--- The node of a state that was found at a number.
+-- The node of a state that was read at an index.
 pub node_found :
     (a : Automaton) (states : List State) (at q : ℕ) (s : State)
     → states ≡ a.states → at ≡ q → at < length states → s ≡ get_or states at s → node (nfa_of a) q ≡ node_of s
@@ -86,7 +86,7 @@ plain_unmatched a (x ∷ xs) p =
     ap (λ z. is_some (accepts_at z) || has_match (nfa_of a) xs) w.1.1.1
     ∙ plain_unmatched a xs (λ q i. p q (inr i))
 
--- A state that reads for a list leads on each byte to what stands for the targets.
+-- If ranges lead, on each byte, to what stands for the targets of a list, they read for the list.
 pub reads_each :
     (a : Automaton) (lists : List (List ℕ)) (m : Node) (list : List ℕ) (ranges : List Range)
     → ((q : ℕ) → In q list → (q ≡ a.start_anchored → ⊥) × ((own : List Range) × (node (nfa_of a) q ≡ Read own)))
@@ -99,7 +99,7 @@ reads_each a lists m list ranges plain leads reads = record {
       ∙ (ap (λ z. target_for (length a.states) lists (takes_at z u)) (sym reads) ∙ leads u small);
 }
 
--- A state that reads leads on each byte to what stands for the targets.
+-- The same, from tested rows of targets.
 pub reads_all :
     (a : Automaton) (lists rows : List (Vec ℕ Global)) (count : ℕ) (m : Node) (list : List ℕ) (ranges : List Range)
     → count ≡ length a.states
@@ -127,7 +127,7 @@ pub row_found :
 row_found lists rows count m u target row v l is e own leads =
     ap (target_for count (lists_of lists)) (sym is) ∙ (leads ∙ (own ∙ sym (list_item rows u v l e)))
 
--- A union stands for the parts of a list.
+-- A union whose alternates stand for the parts of a list stands for the list.
 pub shows_union :
     (a b : Automaton) (lists : List (List ℕ)) (count : ℕ) (m : Node) (alternates list : List ℕ)
     → count ≡ length a.states → m ≡ Split alternates → all_stood_for count lists alternates ≡ list
@@ -138,7 +138,7 @@ shows_union a b lists count m alternates list is split stand further =
     subst (λ z. Shows (nfa_of a) (nfa_of b) a.start_anchored lists z list) (sym split)
     (ap (λ z. all_stood_for z lists alternates) same ∙ stand, λ q i l. further q i (subst (λ z. z ≤ q) same l))
 
--- A state is as it was, or was a union, for whose alternates it stands.
+-- A state is unchanged, or was a union and now stands for the union's alternates.
 abbrev pub IsOld : (a b : Automaton) → List (List ℕ) → (now was : Node) → Type 0
 IsOld a b lists now was = IsMergedNode (nfa_of a) (nfa_of b) a.start_anchored lists was now
 
@@ -148,7 +148,7 @@ pub old_found :
 old_found a b lists now was now' was' e f old =
     subst (λ z. IsOld a b lists z was') (sym e) (subst (λ z. IsOld a b lists now z) (sym f) old)
 
--- The further state of a number stands for its list.
+-- Further state `k` stands for its list.
 abbrev pub IsFurther : (a b : Automaton) → List (List ℕ) → ℕ → Type 0
 IsFurther a b lists k =
     Shows (nfa_of a) (nfa_of b) a.start_anchored lists (node (nfa_of b) (length a.states + k))
@@ -165,7 +165,7 @@ further_found a b vs k m list v l e own at shows =
     (subst (Shows (nfa_of a) (nfa_of b) a.start_anchored (lists_of vs) m)
     (own ∙ sym (stood_further (length a.states) vs k (length a.states + k) v (omega arith) (omega arith) l e)) shows)
 
--- The NFA is merged if each of its states is tested.
+-- The NFA is merged if each of its states passes its test.
 pub merged_of :
     (a b : Automaton) (vs : List (Vec ℕ Global))
     → b.flags.line_terminator ≡ a.flags.line_terminator → b.flags.reverse ≡ a.flags.reverse
@@ -194,7 +194,7 @@ merged_of a b vs terminator reverse count old further = record {
       (sym x) (further (q - length a.states) few));
 }
 
--- An NFA is itself, of which nothing is merged.
+-- An NFA is its own merged form, in which nothing is merged.
 pub merged_self : (a : Automaton) → IsMergedNfa a a
 merged_self a = record {
   begins = record { anchored = refl; unanchored = refl; patterns = refl; flags = refl; unions = refl };

@@ -1,4 +1,4 @@
--- Where the accepting paths of two NFAs correspond in their order, both select and report the same.
+-- If the accepting paths of two NFAs correspond and keep their order, both NFAs select and report the same.
 use Rattle.std.proofs.Common.{ℕ, zero, suc, ◌≡◌, Bool, true, false, List, [], ◌∷◌, length, Option, Some, None}
 use Rattle.std.proofs.Common.{inl, inr}
 use Rattle.automata_base.specs.Lists.{Sorted}

@@ -1,4 +1,4 @@
--- Tests of an NFA and of a tape, which compute.
+-- Computable tests of an NFA and of a tape.
 use Rattle.std.specs.Prelude.{ℕ, Bool, true, ◌&&◌, ltb, List, [], ◌∷◌, length}
 use Rattle.automata_base.specs.Lists.{all_below}
 use Rattle.automata_base.specs.Nfas.Nfa.{Nfa, Node, Split, Assert, Read, Accept, Range}

@@ -1,6 +1,5 @@
--- Least keys of a list of states, followed by least paths from what the states lead to, are least keys, also if only
--- the
--- least of them can be joined.
+-- The least keys of a list of states, extended by least paths from the states that these lead to, are least keys, even
+-- if only the least of them can be extended.
 use Rattle.std.proofs.Common.{ℕ, zero, suc, ◌≡◌, ◌<◌, List, [], ◌∷◌, ◌++◌, ◌⊎◌, Option, Some, None, inl, inr, refl, sym}
 use Rattle.std.proofs.Common.{ap, ◌∙◌, subst, arith}
 use Rattle.automata_base.specs.Paths.Order.{Before, Upto, Begins, TakesLess, TakesSame}
@@ -133,8 +132,8 @@ abbrev pub Composes :
 Composes P g S P' glue =
     (x r q : ℕ) (p s : List ℕ) → P x p → g x ≡ Some r → S r s q → P' q (p ++ (glue ++ s))
 
--- A key of a picked state and a path from there make a key, if no less key of another picked state goes on to the same
--- state.
+-- A picked state's key followed by a path from there is a key, if no lesser key of another picked state continues to
+-- the same state.
 abbrev pub ComposesLeast :
     (ℕ → List ℕ → Type 0) → (ℕ → Option ℕ) → (ℕ → List ℕ → ℕ → Type 0) → (ℕ → List ℕ → Type 0) → List ℕ → Type 0
 ComposesLeast P g S P' glue =
@@ -142,7 +141,7 @@ ComposesLeast P g S P' glue =
     → ((y r' : ℕ) (p' s' : List ℕ) → P y p' → Before p' p → g y ≡ Some r' → S r' s' q → ⊥)
     → P' q (p ++ (glue ++ s))
 
--- A key is a key of a picked state, none of whose beginnings is another picked state's key, and then a path.
+-- A key splits into a key of a picked state, none of whose proper prefixes is another picked state's key, and a path.
 abbrev pub Divides :
     (ℕ → List ℕ → Type 0) → (ℕ → Option ℕ) → (ℕ → List ℕ → ℕ → Type 0) → (ℕ → List ℕ → Type 0) → List ℕ → Type 0
 Divides P g S P' glue =

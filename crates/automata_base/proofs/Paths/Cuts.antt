@@ -1,4 +1,4 @@
--- What leftmost-first cuts.
+-- What `MatchKind::LeftmostFirst` cuts.
 use Rattle.std.proofs.Common.{ℕ, ◌≡◌, List, [], ◌∷◌, ◌⊎◌, Option, Some, None, inl, inr, refl, sym, ap, ◌∙◌, subst}
 use Rattle.std.proofs.Common.{⊎_elim}
 use Rattle.automata_base.specs.Paths.Order.{Before, Upto}
@@ -10,7 +10,7 @@ abbrev pub stop_at : Option ℕ → ℕ → List ℕ → List ℕ
 stop_at None q rest = q ∷ rest
 stop_at (Some p) q rest = []
 
--- What stands before the first match state.
+-- The states before the first match state.
 abbrev pub front : Nfa → List ℕ → List ℕ
 front n [] = []
 front n (q ∷ xs) = stop_at (accepts n q) q (front n xs)
@@ -51,7 +51,7 @@ leader_accepts n (q ∷ xs) m h = go (accepts n q) refl h (leader_accepts n xs m
     go None e h ih = ih h
     go (Some p) e h ih = (p, ap (λ v. accepts n v) (sym (some_inj h)) ∙ e)
 
--- With no match state nothing is cut.
+-- Without a match state, nothing is cut.
 pub no_leader : (n : Nfa) (xs : List ℕ) → leader n xs ≡ None → front n xs ≡ xs
 no_leader n [] h = refl
 no_leader n (q ∷ xs) h = go (accepts n q) h (no_leader n xs)
@@ -73,8 +73,8 @@ no_leader_in n (q ∷ xs) y p h i a = go (accepts n q) refl h i (no_leader_in n 
     go None e h (inr i) ih = ih h i a
     go (Some p) e h i ih = none_some (sym h)
 
--- The first match state's least key is before the keys of all that comes after it, and the states before it have the
--- keys that are less.
+-- The first match state's least key comes before the keys of all states after it, and the states before it have the
+-- lesser keys.
 abbrev pub Leads_to : Nfa → (ℕ → List ℕ → Type 0) → List ℕ → ℕ → Type 0
 Leads_to n P xs m =
     (a : List ℕ) × P m a × ((p : ℕ) × (accepts n m ≡ Some p))

@@ -1,4 +1,4 @@
--- A decided list has the byte and match states of the closure under the looks that hold, in its order.
+-- A decided list has the byte and match states of the closure under the looks that hold, in the order of the closure.
 use Rattle.std.proofs.Common.{ℕ, zero, suc, ◌≡◌, Bool, true, false, cond, List, [], ◌∷◌, ◌↔◌, Option, Some, None}
 use Rattle.std.proofs.Common.{refl, sym, ap, ◌∙◌, subst}
 use Rattle.automata_base.specs.Lists.{In, IsListOf, pick, From}
@@ -20,7 +20,7 @@ use Rattle.automata_base.proofs.Paths.Truths.{truths}
 use Rattle.automata_base.specs.Haystacks.LookSets.{truth_of}
 use Rattle.automata_base.proofs.Paths.Included.{Includes}
 
--- The looks that `A` has true at a state are true in `B`.
+-- Each look at state `x` that is true in `A` is true in `B`.
 abbrev pub Agrees : Nfa → Truth → Truth → ℕ → Type 0
 Agrees n A B x = (look : Look) (next : ℕ) → node n x ≡ Assert look next → A look ≡ true → B look ≡ true
 
@@ -69,7 +69,7 @@ closure_agrees n A B roots xs f g l =
 abbrev pub truth_between : Nfa → Option ℕ → Option ℕ → Truth
 truth_between n prev u look = holds n.terminator n.reverse look prev u
 
--- With no news the list stands for the closure under the looks that hold, whatever the cycles.
+-- If no needed look becomes true, the list stands for the closure under the looks that hold, whatever the cycles.
 pub decides_known :
     (n : Nfa) (K : Truth) (patterns roots C : List ℕ) (prev u : Option ℕ) (Q : Powerset)
     → IsUnit u
@@ -91,7 +91,7 @@ decides_known n K patterns roots C prev u Q unit known c make quiet = subst Goal
     Goal : List ℕ → Type 0
     Goal L = IsListOf (Ending n (From (W T) roots)) (pick (ends n) L)
 
-    -- A true look at a state that was reached was known.
+    -- A look that is true at a reached state was known.
     reached : (x : ℕ) (key : List ℕ) → From (W K) roots x key → Agrees n T K x
     reached x key k look next e a = (known look).1 (((make.known look).0 was_known).1)
       where
@@ -140,7 +140,7 @@ decides_known n K patterns roots C prev u Q unit known c make quiet = subst Goal
         (sift (Sifted (keep n) (From (W K) roots)) (ends n) (pick (keep n) C) (ends_sieve n)
         (sift (From (W K) roots) (keep n) C (keep_sieve n) c))
 
--- With news the second closure is one under the looks that hold.
+-- If a needed look becomes true, the second closure is a closure under the looks that hold.
 pub news_closure :
     (n : Nfa) (patterns C : List ℕ) (prev u : Option ℕ) (Q : Powerset) (L : List ℕ)
     → IsUnit u → IsMake n patterns C prev Q → IsNews n Q u → IsClosure n (true_looks n Q u) Q.nfa L

@@ -1,4 +1,4 @@
--- The computed search answers what the paths define.
+-- The computed search returns what the paths define.
 use Rattle.std.proofs.Common.{ℕ, zero, suc, ◌≡◌, ◌<◌, ◌≤◌, Bool, true, false, List, [], ◌∷◌, ◌⊎◌, length, Option, Some}
 use Rattle.std.proofs.Common.{None, refl, sym, subst, arith, ⊎_elim, eq-or-lt_of_le, le_of_suc-le-suc}
 use Rattle.automata_base.specs.Lists.{IsSet}
@@ -16,7 +16,7 @@ use Rattle.automata_base.proofs.Paths.Sets.{nearest_right, farthest_right, pairs
 use Rattle.automata_base.proofs.Paths.Machines.{reported_right}
 use Rattle.automata_base.proofs.Paths.Selecting.{PassSelects}
 
--- The last place below `k` at which something is reported.
+-- The last position below `k` at which something is reported.
 abbrev pub IsLast : (ℕ → List ℕ → Type 0) → ℕ → Option Pair → Type 0
 IsLast At k None = (i : ℕ) → i < k → At i []
 IsLast At k (Some pair) =
@@ -42,7 +42,7 @@ last_right reported At (suc k) f = go (reported k) (f k) (last_among reported k)
     )
     go (p ∷ rest) a o h = (rest, omega arith, a, λ j b l. absurd (omega (arith, b, l)))
 
--- The first such place.
+-- The first such position.
 abbrev pub IsFirst : (ℕ → List ℕ → Type 0) → ℕ → Option Pair → Type 0
 IsFirst At k None = (i : ℕ) → i < k → At i []
 IsFirst At k (Some pair) =
@@ -88,7 +88,7 @@ pass_sel_right kind false n t start r l =
     go None h = λ i b. h i (omega (arith, b))
     go (Some pair) h = (h.0, le_of_suc-le-suc h.1, h.2, λ j b c. h.3 j b (omega (arith, c)))
 
--- Late is right, for searches.
+-- If cycles are kept, the computed search selects what the paths define.
 pub search_right :
     (kind : MatchKind) (earliest : Bool) (n : Nfa) (t : Tape) (start : ℕ)
     → IsInRange n → start < length n.nodes → KeepsCycles n → IsTape t
@@ -109,7 +109,7 @@ walk_pairs kind n t start (suc k) r l = record {
   joined = refl;
 }
 
--- Late is right, for walks.
+-- If cycles are kept, the computed walk reports what the paths define.
 pub walked_right :
     (kind : MatchKind) (n : Nfa) (t : Tape) (start : ℕ)
     → IsInRange n → start < length n.nodes → KeepsCycles n → IsTape t
@@ -118,7 +118,8 @@ walked_right kind n t start r l free tape_of =
     walk_right kind n t start (pairs_upto n kind start t (suc (length t.bytes))) free tape_of
     (walk_pairs kind n t start (suc (length t.bytes)) r l)
 
--- For every NFA: the nearest end, and under `MatchKind::All` the farthest.
+-- For every NFA, an earliest search finds the nearest end, and under `MatchKind::All` any other search finds the
+-- farthest.
 pub earliest_right :
     (kind : MatchKind) (n : Nfa) (t : Tape) (start : ℕ)
     → IsInRange n → start < length n.nodes → IsTape t → IsNearest n t start (search_of kind true n t start)
@@ -131,7 +132,7 @@ pub end_right :
 end_right n t start r l tape_of =
     farthest_right n t start (search_of All false n t start) tape_of (pass_sel_right All false n t start r l)
 
--- For every NFA, under `MatchKind::All`: the patterns reported at a place are those of the accepting paths that end
+-- For every NFA under `MatchKind::All`, the patterns reported at a position are those of the accepting paths that end
 -- there.
 pub set_right :
     (n : Nfa) (t : Tape) (start i : ℕ)

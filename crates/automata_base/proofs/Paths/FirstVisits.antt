@@ -40,7 +40,7 @@ pub in_right : (x : ℕ) (xs ys : List ℕ) → In x ys → In x (xs ++ ys)
 in_right x [] ys h = h
 in_right x (z ∷ xs) ys h = inr (in_right x xs ys h)
 
--- A walk past no more states.
+-- A walk stays a walk if it has to avoid fewer states.
 walk_fewer :
     (n : Nfa) (A : Truth) (seen less : List ℕ) (q : ℕ) (path : List ℕ) (z : ℕ)
     → ((y : ℕ) → In y less → In y seen) → IsPathAt n A seen q path z → IsPathAt n A less q path z
@@ -59,7 +59,7 @@ fresh_end :
 fresh_end n A seen q [] z f w i = f (subst (λ v. In v seen) (sym w) i)
 fresh_end n A seen q (e ∷ path) z f w i = fresh_end n A (q ∷ seen) w.0 path z w.2 w.3 (inr i)
 
--- A walk to another state than `x` goes past `x`, or goes on from it.
+-- A walk to a state other than `x` avoids `x` or continues from `x`.
 abbrev pub OnFrom : Nfa → Truth → List ℕ → ℕ → ℕ → Type 0
 OnFrom n A S x z =
     (e r : ℕ) × (path : List ℕ) × (hop n A x e ≡ Some r) × (In r (x ∷ S) → ⊥) × IsPathAt n A (x ∷ S) r path z
@@ -310,7 +310,7 @@ module _ (n : Nfa) (A : Truth) (x : ℕ) (S stack : List ℕ) (new : In x S → 
       has : (q : ℕ) (key : List ℕ) → P' q key → In q (x ∷ out)
       has q key h = ⊎_elim (λ (e : q ≡ x). inl e) (λ (d : q ≡ x → ⊥). inr (m.0 q key (d, h))) (cases_eq q x)
 
--- A state on top that was seen has no key.
+-- A state on top of the stack that was already seen has no key.
 skipped :
     (n : Nfa) (A : Truth) (x : ℕ) (S stack out : List ℕ) → In x S
     → IsListOf (From (Fresh n A S) stack) out → IsListOf (From (Fresh n A S) (x ∷ stack)) out
@@ -357,7 +357,7 @@ visits_list n A stack seen out (skip {x = x} {stack = rest} i v) =
 visits_list n A stack seen out (visit {x = x} {stack = rest} {out = more} new v) =
     visited n A x seen rest new more (visits_list n A (children n A x ++ rest) (x ∷ seen) more v)
 
--- The first visits from the roots are the closure.
+-- The first visits from the roots give the closure.
 pub visits_closure : (n : Nfa) (A : Truth) (roots out : List ℕ) → Visits n A roots [] out → IsClosure n A roots out
 visits_closure n A roots out v =
     same (From (Fresh n A []) roots) (From (λ root path q. IsPathAt n A [] root path q) roots) out there back

@@ -35,7 +35,7 @@ is_in_cases x xs = go (is_in x xs) refl
     go true e = inl (e, is_in_true x xs e)
     go false e = inr (e, is_in_false x xs e)
 
--- How many states below `N` are not in the list.
+-- The number of states below `N` that are not in the list.
 abbrev pub bit : Bool → ℕ
 bit true = 0
 bit false = 1

@@ -32,7 +32,7 @@ next_byte (u ∷ us) after (suc i) h = next_byte us after i (omega (arith, h))
 abbrev pub W_at : Nfa → Tape → ℕ → ℕ → List ℕ → ℕ → Type 0
 W_at n t i root path q = IsPathAt n (truth n t i) [] root path q
 
--- The bound is the least match's path to a place before `i`.
+-- The bound is the path of the least match that ends before position `i`.
 abbrev pub IsBest : Nfa → Tape → ℕ → Option (List ℕ) → ℕ → Type 0
 IsBest n t start None i =
     (j pattern : ℕ) (path : List ℕ) → j < i → Accepts n t start j pattern path → ⊥
@@ -44,8 +44,8 @@ abbrev pub IsBestFor : MatchKind → Nfa → Tape → ℕ → Option (List ℕ) 
 IsBestFor All n t start best i = best ≡ None
 IsBestFor LeftmostFirst n t start best i = IsBest n t start best i
 
--- The state was made of roots from which the walks at place `i`, by the looks that hold there, are the paths to place
--- `i` within the bound.
+-- The state was made from roots from which the walks at position `i`, under the looks that hold there, are the paths to
+-- position `i` within the bound.
 abbrev pub Means : MatchKind → Nfa → Tape → ℕ → ℕ → Powerset → Type 0
 Means kind n t start i Q =
     (best : Option (List ℕ)) × (patterns roots : List ℕ) × IsClosureOf n patterns roots (prev t i) Q
@@ -61,7 +61,7 @@ means_start kind n t start Q h = (None, [], start ∷ [], h, best kind, λ xs l.
     best All = refl
     best LeftmostFirst = λ j pattern path l a. omega (arith, l)
 
--- The decided list.
+-- The decided list has the byte and match states of the paths within the bound.
 pub means_decided :
     (kind : MatchKind) (n : Nfa) (t : Tape) (start i : ℕ) (Q : Powerset) (L : List ℕ)
     → KeepsCycles n → IsTape t → (m : Means kind n t start i Q) → IsDecided n Q (next t i) L
@@ -70,7 +70,7 @@ means_decided kind n t start i Q L free tape_of m d =
     m.5 (pick (ends n) L)
     (decides n m.3.truth m.1 m.2 m.3.list (prev t i) (next t i) Q L free (tape_of i) m.3.known m.3.closure m.3.made d)
 
--- What leftmost-first makes of a decided list whose first match state is `o`.
+-- What leftmost-first keeps of a decided list whose first match state is `o`, and the next bound.
 abbrev pub After : Nfa → Tape → ℕ → ℕ → List ℕ → Option ℕ → Type 0
 After n t start i N o =
     (best : Option (List ℕ)) × IsListOf (EndsWithin n t start best i) (front n N) × IsBest n t start best (suc i)
@@ -79,7 +79,7 @@ After n t start i N o =
 up_to_here : (j i : ℕ) → j < suc i → (j < i) ⊎ (j ≡ i)
 up_to_here j i l = ⊎_elim (λ (e : j ≡ i). inr e) (λ (k : j < i). inl k) (eq-or-lt_of_le (le_of_suc-le-suc l))
 
--- No accepting path to place `i` is within the bound, if the list has no match state.
+-- If the list has no match state, no accepting path to position `i` is within the bound.
 none_within :
     (n : Nfa) (t : Tape) (start i : ℕ) (best : Option (List ℕ)) (N : List ℕ) (pattern : ℕ) (path : List ℕ)
     → IsListOf (EndsWithin n t start best i) N → leader n N ≡ None
@@ -137,7 +137,7 @@ after_none n t start i (Some a) N l b e = (
         (λ (s : j ≡ i). here other path (subst (λ v. Accepts n t start v other path) s c))
         (up_to_here j i k)
 
--- What follows from the bound of the places before for a path within it.
+-- What the bound of the previous positions implies for a path within it.
 abbrev pub Beats : Nfa → Tape → ℕ → ℕ → Option (List ℕ) → List ℕ → Type 0
 Beats n t start i best a =
     ((j other : ℕ) (path : List ℕ) → j < i → Accepts n t start j other path → Before a path)
@@ -208,7 +208,7 @@ after n t start i best N l b = go (leader n N) refl
     go None e = after_none n t start i best N l b e
     go (Some m) e = after_some n t start i best N m l b e
 
--- The roots and the bound that the next place begins with.
+-- The roots and the bound with which the next position begins.
 abbrev pub Onward : MatchKind → Nfa → Tape → ℕ → ℕ → List ℕ → ℕ → Type 0
 Onward kind n t start i L u =
     (best : Option (List ℕ)) × IsBestFor kind n t start best (suc i)
@@ -302,7 +302,7 @@ pass_means kind n t start (suc k) Q free tape_of l p =
     means_succ kind n t start k p.0 Q free tape_of l
     (pass_means kind n t start k p.0 free tape_of (omega (arith, l)) p.1) p.2
 
--- What the pass reports at a place is what the paths define.
+-- What the pass reports at a position is what the paths define.
 pub pass_reports :
     (kind : MatchKind) (n : Nfa) (t : Tape) (start i : ℕ) (patterns : List ℕ)
     → KeepsCycles n → IsTape t → i ≤ length t.bytes → Reports kind n t start i patterns

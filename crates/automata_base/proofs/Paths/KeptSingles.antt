@@ -1,4 +1,4 @@
--- The same where states with one alternate, as captures, are dropped: they need not be kept on a cycle.
+-- Looks may also be decided late if states with one alternate, such as captures, are dropped on a cycle.
 use Rattle.std.proofs.Common.{ℕ, zero, suc, ◌≡◌, Bool, true, List, [], ◌∷◌, ◌++◌, ◌⊎◌, Some, inl, inr, refl}
 use Rattle.std.proofs.Common.{sym, ap, ◌∙◌, subst, true≢false, append_assoc}
 use Rattle.automata_base.specs.Lists.{In}
@@ -8,7 +8,7 @@ use Rattle.automata_base.specs.Paths.Paths.{IsPathAt, all_true, HasEpsilonPath, 
 use Rattle.automata_base.proofs.Paths.Orders.{some_inj, none_some}
 use Rattle.automata_base.proofs.Paths.Walks.{hop_more, walk_run, run_join}
 
--- A state on a cycle with a kept one is kept, or has one alternate.
+-- A state on a cycle with a kept state is kept or has one alternate.
 abbrev pub ClosedButSingles : Nfa → (ℕ → Bool) → Type 0
 ClosedButSingles n k = (x y : ℕ) → k x ≡ true → LeadsOn n x y → HasEpsilonPath n y x → (k y ≡ true) ⊎ IsSingle n y
 
@@ -19,7 +19,7 @@ single_at x r A e r' s h = go e (subst (λ v. hop_at v A e ≡ Some r') s h)
     go zero h = (refl, sym (some_inj h))
     go (suc e) h = absurd (none_some h)
 
--- A walk, cut in two.
+-- A walk cut in two.
 pub walk_cut :
     (n : Nfa) (A : Truth) (seen : List ℕ) (q : ℕ) (a b : List ℕ) (x : ℕ)
     → IsPathAt n A seen q (a ++ b) x
@@ -28,7 +28,7 @@ walk_cut n A seen q [] b x w = (q, seen, refl, w)
 walk_cut n A seen q (e ∷ a) b x w =
     let c = walk_cut n A (q ∷ seen) w.0 a b x w.3 in (c.0, c.1, (w.0, w.1, w.2, c.2), c.3)
 
--- A walk past no more states.
+-- A walk stays a walk if it has to avoid fewer states.
 pub fewer :
     (n : Nfa) (A : Truth) (seen less : List ℕ) (q : ℕ) (path : List ℕ) (z : ℕ)
     → ((y : ℕ) → In y less → In y seen) → IsPathAt n A seen q path z → IsPathAt n A less q path z
@@ -40,7 +40,7 @@ fewer n A seen less q (e ∷ path) z f w =
     also y (inl e) = inl e
     also y (inr i) = inr (f y i)
 
--- A kept state on the way to `x`, from which a path goes on past `x`.
+-- No kept state on the walk to `x`, before its end, has a walk to `q`.
 abbrev pub KeptAhead : Nfa → (ℕ → Bool) → Truth → Truth → ℕ → List ℕ → ℕ → ℕ → Type 0
 KeptAhead n k K T root p x q =
     (y : ℕ) (a b d : List ℕ) (e : ℕ) → p ≡ a ++ (e ∷ b) → k y ≡ true → IsPathAt n K [] root a y → IsPathAt n T [] y d q
@@ -55,14 +55,15 @@ hop_along n K e y z r h seen root (e0 ∷ a) u t =
     hop_along n K e y z r h (root ∷ seen) u.0 a u.3
     (subst (λ v. IsPathAt n K (root ∷ seen) v (a ++ (e ∷ [])) r) (some_inj (sym t.1 ∙ u.1)) t.3)
 
--- No state on the way to `x` goes on past `x`, from these edges on.
+-- The state on the walk to `x` with one edge more than `b` left does not continue to `q` while avoiding `x`, if `x`
+-- leads to it.
 abbrev pub NoneFrom : Nfa → Truth → Truth → ℕ → List ℕ → ℕ → ℕ → List ℕ → Type 0
 NoneFrom n K T root p x q b =
     (a : List ℕ) (e y : ℕ) (more d : List ℕ) → p ≡ a ++ (e ∷ b) → IsPathAt n K [] root a y
     → IsPathAt n K more y (e ∷ b) x
     → LeadsOn n x y → IsPathAt n T (x ∷ []) y d q → ⊥
 
--- Where no kept one is, no state at all is.
+-- If no kept state on the walk has a walk to `q`, no state on it continues to `q` while avoiding `x`.
 pub none_ahead :
     (n : Nfa) (k : ℕ → Bool) (K T : Truth) (root : ℕ) (p : List ℕ) (x q : ℕ)
     → ClosedButSingles n k → k x ≡ true → ends_at (node n q) ≡ true → IsPathAt n K [] root p x

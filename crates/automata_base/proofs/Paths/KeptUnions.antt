@@ -1,4 +1,4 @@
--- NFAs whose powerset states keep the cycles of what they keep.
+-- NFAs whose powerset states keep the cycles of the states that they keep.
 use Rattle.std.proofs.Common.{ℕ, ◌≡◌, ◌||◌, ◌&&◌, arith, Bool, true, false, cond, List, [], ◌∷◌, ◌⊎◌, Some, None, inl}
 use Rattle.std.proofs.Common.{inr, refl}
 use Rattle.std.proofs.Common.{sym, ap, ◌∙◌, subst, length}
@@ -10,7 +10,7 @@ use Rattle.automata_base.specs.Paths.Paths.{all_true, Run, IsLookAcyclic, KeepsC
 use Rattle.automata_base.proofs.Paths.Orders.{none_some}
 use Rattle.automata_base.proofs.Paths.Staying.{stays_no_loop}
 
--- All unions of two or more alternates.
+-- Cycles are kept if all unions of two or more alternates are.
 pub unions_keep : (n : Nfa) → n.keeps_unions ≡ true → KeepsCycles n
 unions_keep n on x y k leads back = go (node n y) refl
   where
@@ -37,7 +37,7 @@ without true c = refl
 without false true = refl
 without false false = refl
 
--- Without kept unions, byte, look and match states are kept alone.
+-- If unions are not kept, only byte, look and match states are kept.
 keeps_staying : (n : Nfa) (q : ℕ) → n.keeps_unions ≡ false → keeps n q ≡ stays_at (node n q)
 keeps_staying n q off =
     ap (λ w. stays_at (node n q) || (splits_at (node n q) && w)) off
@@ -51,7 +51,7 @@ unions_dropped n (x ∷ xs) off =
     ap (λ b. cons_some (cond b (Some x) None) (pick (keep n) xs)) (keeps_staying n x off)
     ∙ ap (λ l. cons_some (cond (stays_at (node n x)) (Some x) None) l) (unions_dropped n xs off)
 
--- No cycle passes a look.
+-- Cycles are kept if none of them passes a look.
 pub acyclic_keeps : (n : Nfa) → IsLookAcyclic n → KeepsCycles n
 acyclic_keeps n free = go n.keeps_unions refl
   where

@@ -1,4 +1,5 @@
--- Deciding looks afterwards leaves the order, whatever the looks' cycles, if the kept states are closed under cycles.
+-- Deciding looks late does not change the order, whatever the cycles of the looks, if the kept states are closed under
+-- cycles.
 use Rattle.std.proofs.Common.{ℕ, ◌≡◌, Bool, true, false, cond, List, [], ◌∷◌, ◌++◌, ◌⊎◌, Option, Some, None, inl, inr}
 use Rattle.std.proofs.Common.{refl}
 use Rattle.std.proofs.Common.{sym, ap, ◌∙◌, subst, true≢false, ⊎_elim}
@@ -17,7 +18,7 @@ use Rattle.automata_base.proofs.Paths.KeptSingles.{ClosedButSingles, KeptAhead, 
 use Rattle.automata_base.proofs.Paths.Staying.{ends_sieve, kept_at, keep_true, stay_cases, ends_stay, fork_hop, Ending}
 use Rattle.automata_base.proofs.Paths.Staying.{stays_kept}
 
--- What a powerset state keeps, by a choice of states.
+-- The state, if the choice `k` keeps it.
 abbrev pub keep_by : (ℕ → Bool) → ℕ → Option ℕ
 keep_by k q = cond (k q) (Some q) None
 
@@ -86,7 +87,8 @@ first_kept n k K T seen q (e ∷ t) z stays b w =
           f.7,
         )
 
--- A walk on from `x` to `z` meets none of `more`, if none of them that `x` leads to goes on to `z` past `first`.
+-- A walk from `x` to `z` avoids `more`, if none of those states that `x` leads to continues to `z` while avoiding
+-- `first`.
 walk_past_by :
     (n : Nfa) (A : Truth) (seen more : List ℕ) (x : ℕ) (path : List ℕ) (z first : ℕ)
     → In first (x ∷ seen)
@@ -114,7 +116,8 @@ walk_past_by n A seen more x (e ∷ path) z first i f w =
     on : (y : ℕ) (d : List ℕ) → LeadsOn n w.0 y → IsPathAt n A (first ∷ []) y d z → In y more → ⊥
     on y d l v j = f y d (e, w.0, edge, (l.0 ∷ l.3.0, (l.1, l.2, l.3.1))) v j
 
--- A walk to `x` and a walk on from it to `z` are one walk, if no state on the way to `x` goes on to `z` past `x`.
+-- A walk to `x` and a walk from there to `z` join to one walk, if no state on the way to `x` continues to `z` while
+-- avoiding `x`.
 walk_join_by :
     (n : Nfa) (K T : Truth) (seen : List ℕ) (q : ℕ) (p : List ℕ) (x : ℕ) (s : List ℕ) (z : ℕ) (G : ℕ → Type 0)
     → Includes K T
@@ -138,9 +141,8 @@ walk_join_by n K T seen q (e ∷ p) x s z G more f g h w v =
         → IsPathAt n K past y (e' ∷ b) x → G y
     inner y a b past e' c u t = h y (e ∷ a) b past e' (ap (λ (l : List ℕ). e ∷ l) c) (w.0, w.1, w.2, u) t
 
--- The closure of what a closure keeps under more looks has the byte and match states of the closure from the roots
--- under
--- those looks, in its order, if what is kept is closed under cycles.
+-- If the kept states are closed under cycles, closing what a closure keeps under more looks gives the byte and match
+-- states of the closure from the roots under those looks, in its order.
 pub late_by :
     (n : Nfa) (k : ℕ → Bool) (K T : Truth) (roots C L : List ℕ)
     → Includes K T → KeepsStaying n k → ClosedButSingles n k
@@ -233,7 +235,7 @@ late_by n k K T roots C L more stays cycles c l =
             (some_inj (sym p.1 ∙ (ap (λ v. slice_get roots v) (sym (cons_head b.2)) ∙ h.1.1))) p.2)
             (kept_at (k y) y r' g)
 
--- The same of what an NFA keeps.
+-- The same for the states that an NFA keeps.
 pub late :
     (n : Nfa) (K T : Truth) (roots C L : List ℕ)
     → Includes K T → KeepsCycles n

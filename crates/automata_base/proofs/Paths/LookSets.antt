@@ -19,7 +19,7 @@ low_of : (b : Bool) (m : ℕ) → (cond b 1 0 + 2 * m) % 2 ≡ cond b 1 0
 low_of true m = omega arith
 low_of false m = omega arith
 
--- the bit of a look of the list
+-- The bit of a look in the list.
 bit_from :
     (A : Truth) (looks : List Look) (k : ℕ) (look : Look) → slice_get looks k ≡ Some look
     → bit_at (bits_from A looks) k ≡ cond (A look) 1 0
@@ -55,7 +55,7 @@ is_one : (b : Bool) → eqb (cond b 1 0) 1 ≡ b
 is_one true = refl
 is_one false = refl
 
--- the set of what is so has what is so
+-- The set of the true looks contains exactly those looks.
 pub truth_of-set_of : (A : Truth) (look : Look) → truth_of (set_of A) look ≡ A look
 truth_of-set_of A look =
     ap (λ v. eqb v 1) (bit_from A all_looks (look_index look) look (nth_index look)) ∙ is_one (A look)
@@ -122,18 +122,18 @@ one_bit zero h = refl
 one_bit (suc zero) h = refl
 one_bit (suc (suc v)) h = omega (arith, h)
 
--- a set of looks is that of the looks that it has
+-- A look set is the set of the looks that it contains.
 pub set_of-truth_of : (a : ℕ) → IsLookSet a → a ≡ set_of (truth_of a)
 set_of-truth_of a s =
     bits_back (truth_of a) all_looks a s
     (λ k look e. ap (bit_at a) (index_of k look e)
     ∙ one_bit (bit_at a (look_index look)) (bit_at-lt a (look_index look)))
 
--- what a set of looks has determines it
+-- The looks that a look set contains determine it.
 pub same_looks : (a b : ℕ) → IsLookSet a → IsLookSet b → ((look : Look) → truth_of a look ≡ truth_of b look) → a ≡ b
 same_looks a b s t e =
     set_of-truth_of a s ∙ (ap set_of (λ i look. e look i) ∙ sym (set_of-truth_of b t))
 
--- the empty set has none
+-- The empty set contains no look.
 pub truth_of_none : (look : Look) → truth_of 0 look ≡ false
 truth_of_none look = ap (λ v. eqb v 1) (bit_at-zero (look_index look))

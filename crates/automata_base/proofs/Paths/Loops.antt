@@ -8,7 +8,7 @@ use Rattle.automata_base.specs.Powersets.Closure.{children, Visits, done, skip, 
 use Rattle.automata_base.proofs.Paths.Walks.{in_left, in_either}
 use Rattle.automata_base.proofs.Paths.FirstVisits.{visits_closure, in_right}
 
--- The order in which the visited states are listed is of no account.
+-- The order in which the visited states are listed does not matter.
 pub visits_same :
     (n : Nfa) (A : Truth) (stack seen other out : List ℕ)
     → ((y : ℕ) → In y seen ↔ In y other) → Visits n A stack seen out → Visits n A stack other out
@@ -51,8 +51,8 @@ swapped y xs ys = (there xs ys, there ys xs)
     there us vs i =
         ⊎_elim (λ (j : In y us). in_right y vs us j) (λ (j : In y vs). in_left y vs us j) (in_either y us vs i)
 
--- What is visited from a stack is the same after more states were visited that are apart from it, where its states have
--- the same edges. Then what is below the stack is visited.
+-- A stack's visits are the same after further states were visited, if they meet none of these and each visited state
+-- has the same edges. Then the states below the stack are visited.
 pub visits_apart :
     (n m : Nfa) (A B : Truth) (stack seen more out below rest : List ℕ)
     → ((x : ℕ) → In x out → In x more → ⊥) → ((x : ℕ) → In x out → children n A x ≡ children m B x)
@@ -101,7 +101,8 @@ under_way_visit n A roots x stack visited new u rest v =
         back (inl e) = in_right y visited (x ∷ []) (inl e)
         back (inr i) = in_left y visited (x ∷ []) i
 
--- A loop that is about to visit from `start` goes on behind what is visited from there, if it has visited none of that.
+-- A loop that is about to visit from `start` may continue after all visits from there, if none of those states was
+-- visited.
 pub under_way_apart :
     (n m : Nfa) (A B : Truth) (roots tail visited out : List ℕ) (start : ℕ)
     → ((x : ℕ) → In x out → In x visited → ⊥) → ((x : ℕ) → In x out → children n A x ≡ children m B x)
@@ -112,7 +113,7 @@ under_way_apart n m A B roots tail visited out start apart same w u rest v =
     (u (out ++ rest) (visits_apart n m A B (start ∷ []) [] visited out tail rest apart same w
     (visits_same m B tail (visited ++ out) (out ++ visited) rest (λ y. swapped y visited out) v)))
 
--- What is visited is the same where its states have the same edges.
+-- The visits are the same if each visited state has the same edges.
 pub visits_alike :
     (n m : Nfa) (A B : Truth) (roots out : List ℕ) → ((x : ℕ) → In x out → children n A x ≡ children m B x)
     → Visits n A roots [] out → Visits m B roots [] out
@@ -121,7 +122,7 @@ visits_alike n m A B roots out same w =
     (subst (λ z. Visits m B (roots ++ []) [] z) (append-nil out)
     (visits_apart n m A B roots [] [] out [] [] (λ x i j. j) same w done))
 
--- With nothing left on the stack, what was visited is the closure.
+-- When the stack is empty, the visited states are the closure.
 pub under_way_done :
     (n : Nfa) (A : Truth) (roots visited : List ℕ) → IsUnderWay n A roots [] visited → IsClosure n A roots visited
 under_way_done n A roots visited u =

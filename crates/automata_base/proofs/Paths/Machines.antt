@@ -1,4 +1,4 @@
--- The computed pass is the pass.
+-- The computed pass is the pass that the rules define.
 use Rattle.std.proofs.Common.{ℕ, zero, suc, ◌≡◌, ◌<◌, Bool, true, false, not, ◌&&◌, ◌||◌, eqb, List, [], ◌∷◌, ◌⊎◌, ◌↔◌}
 use Rattle.std.proofs.Common.{length, Option, Some, None, inl, inr, refl, sym, ap, ◌∙◌, subst, arith, ⊎_elim}
 use Rattle.std.proofs.Common.{true≢false}
@@ -41,7 +41,7 @@ use Rattle.automata_base.proofs.Paths.Truths.{or_left}
 use Rattle.automata_base.proofs.Paths.Truths.{or_right}
 use Rattle.automata_base.proofs.Paths.Sets.{nth_in}
 
--- Each once.
+-- Lists with each element once, as visits of an NFA without edges.
 abbrev pub no_nodes : Nfa
 no_nodes = record { nodes = []; terminator = 0; reverse = false; keeps_unions = false }
 
@@ -84,7 +84,7 @@ pub and_true : (a b : Bool) → a ≡ true → b ≡ true → a && b ≡ true
 and_true true b e f = f
 and_true false b e f = absurd (true≢false (sym e))
 
--- Looks by their numbers.
+-- The looks in the order of their numbers.
 abbrev pub looks : List Look
 looks =
     Start ∷ End ∷ StartLF ∷ EndLF ∷ StartCRLF ∷ EndCRLF ∷ WordAscii ∷ WordAsciiNegate ∷ WordUnicode ∷ WordUnicodeNegate
@@ -176,7 +176,7 @@ any_state_from f n (x ∷ xs) q look next (inl i) e t =
 any_state_from f n (x ∷ xs) q look next (inr i) e t =
     or_right (looks_at f (node n x)) (any_state f n xs) (any_state_from f n xs q look next i e t)
 
--- What holds whatever comes next.
+-- A truth cannot differ from both truths, nor agree with both.
 differ_both : (p : Bool) → differ p true ≡ true → differ p false ≡ true → ⊥
 differ_both true a b = true≢false (sym a)
 differ_both false a b = true≢false (sym b)
@@ -408,7 +408,7 @@ arrive_right n patterns roots prev r b = (
         subst (λ v. v < length n.nodes) (keep_sieve n w.0 y w.2)
         (closure_below n (known_looks n prev) roots C r b c w.0 w.1)
 
--- What is decided.
+-- Deciding the looks of a list.
 any_look_true : (f : Look → Bool) (looks : List Look) → any_look f looks ≡ true → (look : Look) × (f look ≡ true)
 any_look_true f [] e = absurd (true≢false (sym e))
 any_look_true f (x ∷ xs) e = go (f x) refl e (any_look_true f xs)

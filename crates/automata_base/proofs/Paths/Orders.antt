@@ -3,7 +3,7 @@ use Rattle.std.proofs.Common.{Option, Some, None, ◌≤◌, ℕ, ◌≡◌, ◌
 use Rattle.std.proofs.Common.{◌∙◌, subst, ⊎_elim, eq-or-lt_of_le, lt_trans, lt_irrefl}
 use Rattle.automata_base.specs.Paths.Order.{Before, Upto, Begins, EndsFirst, TakesLess, TakesSame}
 
--- Less by a difference, so whatever follows.
+-- The first list is less at a difference, and so less whatever follows.
 abbrev pub Under : List ℕ → List ℕ → Type 0
 Under [] ys = ⊥
 Under (x ∷ xs) [] = ⊥
@@ -65,7 +65,7 @@ none_some e = cc
 pub some_none : {A : Type 0} {x : A} → ◌≡◌ {A = Option A} (Some x) None → ⊥
 some_none e = cc
 
--- Two keys, one of which is no beginning of the other, compared with what follows.
+-- If one of two keys is less and not a prefix of the other, it stays less whatever follows both.
 pub before_then : (p q a b : List ℕ) → Before p q → (Begins p q → ⊥) → Before (p ++ a) (q ++ b)
 before_then p q a b h apart = go (before_cases p q h)
   where

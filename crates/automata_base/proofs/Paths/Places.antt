@@ -1,4 +1,4 @@
--- Paths from place to place.
+-- Paths from position to position.
 use Rattle.std.proofs.Common.{ℕ, suc, ◌≡◌, ◌<◌, ◌≤◌, cond, List, [], ◌∷◌, ◌++◌, ◌⊎◌, Option, Some, None, inl, inr, refl}
 use Rattle.std.proofs.Common.{sym, ap, ◌∙◌, subst, arith, eq-or-lt_of_le, append-nil}
 use Rattle.automata_base.specs.Nfas.Nfa.{Nfa, Node, Split, Assert, Read, Accept, Truth, node, hop, hop_at, takes}
@@ -7,7 +7,7 @@ use Rattle.automata_base.specs.Paths.Paths.{IsPathAt, Tape, IsPathFrom, IsPath, 
 use Rattle.automata_base.specs.Paths.Paths.{StaysHere, ReadsByte}
 use Rattle.automata_base.proofs.Paths.Orders.{some_inj, none_some}
 
--- A byte state has no edge that stays at its place, nor has a match.
+-- Neither byte states nor match states have epsilon edges.
 hop_takes_at : (x : Node) (A : Truth) (e u r r' : ℕ) → hop_at x A e ≡ Some r → takes_at x u ≡ Some r' → ⊥
 hop_takes_at (Split alternates) A e u r r' h k = none_some k
 hop_takes_at (Assert look next) A e u r r' h k = none_some k
@@ -64,7 +64,7 @@ path_walk n t i seen q (e' ∷ p) j z e (StaysHere r hops new on) =
 path_walk n t i seen q (e' ∷ p) j z e (ReadsByte r edge moves on) =
     let k = path_grows n t (suc i) [] r p j z on in absurd (omega (arith, k, e))
 
--- A path, a byte's edge, and a path on.
+-- A path, a byte edge and a path from there join to one path.
 pub path_extend :
     (n : Nfa) (t : Tape) (i : ℕ) (seen : List ℕ) (q : ℕ) (p : List ℕ) (j b r : ℕ) (s : List ℕ) (k z : ℕ)
     → IsPathFrom n t i seen q p j b → Moves n t j b r → IsPathFrom n t (suc j) [] r s k z
@@ -77,7 +77,7 @@ path_extend n t i seen q (e ∷ p) j b r s k z (StaysHere r' hops new on) m g =
 path_extend n t i seen q (e ∷ p) j b r s k z (ReadsByte r' edge moves on) m g =
     ReadsByte r' edge moves (path_extend n t (suc i) [] r' p j b r s k z on m g)
 
--- The last place of a path.
+-- The last position of a path.
 abbrev pub LastPlace : Nfa → Tape → ℕ → List ℕ → ℕ → List ℕ → ℕ → ℕ → Type 0
 LastPlace n t i seen q p j z =
     (b r : ℕ) × (head rest : List ℕ) × IsPathFrom n t i seen q head j b × Moves n t j b r
@@ -110,7 +110,7 @@ last_place n t i seen q (e ∷ p) j z l (ReadsByte r edge moves on) =
         let f = ih s on in
         (f.0, f.1, e ∷ f.2, f.3, ReadsByte r edge moves f.4, f.5, f.6, ap (λ v. e ∷ v) f.7)
 
--- A path that goes on from another.
+-- A path that extends another continues from where that one ends.
 pub resume :
     (n : Nfa) (t : Tape) (i : ℕ) (seen : List ℕ) (q : ℕ) (p : List ℕ) (j x : ℕ) (c : List ℕ) (k y : ℕ)
     → IsPathFrom n t i seen q p j x → IsPathFrom n t i seen q (p ++ c) k y → (seen' : List ℕ)
@@ -131,7 +131,7 @@ resume n t i seen q (e ∷ p) j x c k y (ReadsByte r edge moves on) (ReadsByte r
     agree : ◌≡◌ {A = Option ℕ} (Some r') (Some r)
     agree = sym moves'.2 ∙ (ap (λ v. takes n q v) (some_inj (sym moves'.1 ∙ moves.1)) ∙ moves.2)
 
--- From a byte state a path goes on to a later place.
+-- From a byte state, a path continues at a later position.
 pub reader_apart :
     (n : Nfa) (t : Tape) (start i x u r : ℕ) (p : List ℕ) (j y z : ℕ) (zs : List ℕ)
     → IsPath n t start i x p → takes n x u ≡ Some r → IsPath n t start j y (p ++ (z ∷ zs)) → i < j
@@ -141,7 +141,7 @@ reader_apart n t start i x u r p j y z zs h m g = go (resume n t 0 [] start p i 
     go (seen, StaysHere r' hops new on) = absurd (hop_takes n x (truth n t i) z u r' r hops m)
     go (seen, ReadsByte r' edge moves on) = path_grows n t (suc i) [] r' zs j y on
 
--- From a match no path goes on.
+-- No path continues from a match.
 pub match_last :
     (n : Nfa) (t : Tape) (start i x q : ℕ) (p : List ℕ) (j y z : ℕ) (zs : List ℕ)
     → IsPath n t start i x p → accepts n x ≡ Some q → IsPath n t start j y (p ++ (z ∷ zs)) → ⊥
@@ -151,7 +151,7 @@ match_last n t start i x q p j y z zs h m g = go (resume n t 0 [] start p i x (z
     go (seen, StaysHere r hops new on) = hop_accepts_at (node n x) (truth n t i) z r q hops m
     go (seen, ReadsByte r edge moves on) = takes_accepts n x moves.0 r q moves.2 m
 
--- One path has one end.
+-- A path has only one end.
 pub path_end :
     (n : Nfa) (t : Tape) (i : ℕ) (seen : List ℕ) (q : ℕ) (p : List ℕ) (j x k y : ℕ)
     → IsPathFrom n t i seen q p j x → IsPathFrom n t i seen q p k y → (j ≡ k) × (x ≡ y)

@@ -1,4 +1,4 @@
--- What is read off a decided list: its byte states' targets and its match states' patterns.
+-- What is read from a decided list: the targets of its byte states and the patterns of its match states.
 use Rattle.std.proofs.Common.{ℕ, zero, suc, ◌≡◌, cond, List, [], ◌∷◌, ◌++◌, ◌⊎◌, Option, Some, None, inl, inr, refl}
 use Rattle.std.proofs.Common.{sym, ap, ap₂, ◌∙◌, subst, ⊎_elim, append-nil}
 use Rattle.automata_base.specs.Paths.Order.{Upto, Begins}
@@ -131,7 +131,7 @@ patterns_cut n (q ∷ xs) = go (class_at (node n q) q 0) (patterns_cut n xs)
         ∙ (ih
         ∙ ap (λ o. reported n (leader n (cons_some o rest))) (sym h.1)))
 
--- One list alone has the states with keys in their order.
+-- There is only one list of the states in the order of their keys.
 pub sorted_one :
     (P : ℕ → List ℕ → Type 0) (xs ys : List ℕ)
     → Sorted P xs → Sorted P ys → ((q : ℕ) → In q xs → In q ys) → ((q : ℕ) → In q ys → In q xs) → xs ≡ ys
@@ -174,7 +174,7 @@ list_one P xs ys l m =
     sorted_one P xs ys l.1 m.1 (λ q i. let w = sorted_has P xs q l.1 i in m.0 q w.0 w.1)
     (λ q i. let w = sorted_has P ys q m.1 i in l.0 q w.0 w.1)
 
--- Each once of none, and of one.
+-- A list with each element once: of no elements, and of one element.
 abbrev pub Root : ℕ → List ℕ → ℕ → Type 0
 Root root path q = (root ≡ q) × (path ≡ [])
 
@@ -210,7 +210,7 @@ once_is_none xs ys e o = list_one (From Root []) ys [] (subst (λ v. IsOnce v ys
 pub once_is_one : (xs ys : List ℕ) (p : ℕ) → xs ≡ p ∷ [] → IsOnce xs ys → ys ≡ p ∷ []
 once_is_one xs ys p e o = list_one (From Root (p ∷ [])) ys (p ∷ []) (subst (λ v. IsOnce v ys) e o) (once_one p)
 
--- The patterns of the match states of all states that paths reach.
+-- The patterns of the match states that paths reach.
 pub patterns_of :
     (n : Nfa) (t : Tape) (start i : ℕ) (N pats : List ℕ)
     → IsListOf (EndsWithin n t start None i) N → IsOnce (pick (accepts n) N) pats

@@ -1,4 +1,4 @@
--- Searches and walks of the pass answer what the paths define.
+-- Searches and walks of the pass return what the paths define.
 use Rattle.std.proofs.Common.{ℕ, zero, suc, ◌≡◌, ◌<◌, ◌≤◌, Bool, true, false, List, [], ◌∷◌, ◌⊎◌, length, Option, Some}
 use Rattle.std.proofs.Common.{None, inl, inr, sym, subst, arith, ⊎_elim, eq-or-lt_of_le, le_of_suc-le-suc}
 use Rattle.std.proofs.lemmas.Bool.{cases_lt}
@@ -55,7 +55,7 @@ pub accepting_inside :
     (n : Nfa) (t : Tape) (start i pattern : ℕ) (path : List ℕ) → Accepts n t start i pattern path → i ≤ length t.bytes
 accepting_inside n t start i pattern path a = path_inside n t 0 [] start path i a.0 (omega arith) a.1
 
--- No accepting path ends before the first place at which something is reported.
+-- No accepting path ends before the first position at which something is reported.
 pub none_before :
     (kind : MatchKind) (n : Nfa) (t : Tape) (start k : ℕ)
     → ((j : ℕ) → j < k → ArePatternsAt kind n t start j [])
@@ -70,7 +70,7 @@ none_before LeftmostFirst n t start (suc k) f j pattern path l a =
         let w = h pattern path a in ih w.place w.pattern w.less (omega (arith, l, w.earlier)) w.accepted
     go (ReportsLeast p q one h) ih = nil_cons one
 
--- The first pattern reported at a place is that of the least path there.
+-- The first pattern reported at a position is the pattern of the least path there.
 pub head_least :
     (kind : MatchKind) (n : Nfa) (t : Tape) (start i p : ℕ) (rest : List ℕ)
     → ArePatternsAt kind n t start i (p ∷ rest)
@@ -145,7 +145,7 @@ sel_all n t start pair rest here f = (w.0, w.1, chosen)
         go (inr (inl e)) = ByEdges e (w.2 pattern other (subst (λ v. Accepts n t start v pattern other) (sym e) a))
         go (inr (inr l)) = ByPlace l
 
--- After the last place at which something is reported every accepting path has one before it.
+-- If nothing is reported after `place`, the least path there is not after any accepting path.
 upto :
     (n : Nfa) (t : Tape) (start place pattern : ℕ) (path : List ℕ)
     → ((j : ℕ) → place < j → j ≤ length t.bytes → ArePatternsAt LeftmostFirst n t start j [])
@@ -183,7 +183,7 @@ sel_first n t start pair rest (ReportsLeast p path one h) f = (
       (let k = accepting_inside n t start j pattern other a in omega (arith, k)) a,
 )
 
--- A plain search.
+-- A search selects what the paths define.
 pub sel_right :
     (kind : MatchKind) (earliest : Bool) (n : Nfa) (t : Tape) (start : ℕ) (answer : Option Pair)
     → KeepsCycles n → IsTape t → PassSelects kind earliest n t start answer → Selects kind earliest n t start answer

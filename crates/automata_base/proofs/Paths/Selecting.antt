@@ -1,4 +1,4 @@
--- What a pass reports of its span: to a walk, and to a search.
+-- What a pass over its span reports, to a walk and to a search.
 use Rattle.std.specs.Prelude.{ℕ, suc, ◌<◌, ◌≤◌, Bool, true, false, List, [], ◌∷◌, length, Option, Some, None}
 use Rattle.automata_base.specs.Powersets.Cuts.{MatchKind}
 use Rattle.automata_base.specs.Nfas.Nfa.{Nfa}
@@ -9,8 +9,8 @@ use Rattle.automata_base.specs.Paths.Selections.{Pair, Pairs, Reports}
 abbrev pub PassReports : MatchKind → Nfa → Tape → ℕ → List Pair → Type 0
 PassReports kind n t start pairs = Pairs (Reports kind n t start) (suc (length t.bytes)) pairs
 
--- What a search reports of its pass: of the first state with patterns, or otherwise of the last one, the first pattern
--- and the place whose unit led to it.
+-- What a search reports from its pass: of the first state with patterns if it is earliest, otherwise of the last one,
+-- the first pattern and the position whose unit led to it.
 abbrev pub PassSelects : MatchKind → Bool → Nfa → Tape → ℕ → Option Pair → Type 0
 PassSelects kind earliest n t start None =
     (i : ℕ) → i ≤ length t.bytes → Reports kind n t start i []

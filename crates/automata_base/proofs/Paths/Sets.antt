@@ -35,7 +35,7 @@ use Rattle.std.proofs.lemmas.Bool.{cases_eq}
 abbrev pub HasWalk : Nfa → Truth → ℕ → ℕ → Type 0
 HasWalk n A q z = (path : List ℕ) × IsPathAt n A [] q path z
 
--- A walk meets `q`, and then there is one from `q`, or it is one past `q`.
+-- A walk either passes `q`, and then there is a walk from `q`, or it avoids `q`.
 abbrev pub Split2 : Nfa → Truth → List ℕ → ℕ → ℕ → List ℕ → ℕ → Type 0
 Split2 n A seen q r path z = HasWalk n A q z ⊎ (IsPathAt n A (seen ++ (q ∷ [])) r path z × (r ≡ q → ⊥))
 
@@ -70,11 +70,11 @@ pub walk_then :
 walk_then n A seen q [] y z w h = subst (λ v. HasWalk n A v z) (sym w) h
 walk_then n A seen q (e ∷ p) y z w h = walk_cons n A q e w.0 z w.1 (walk_then n A (q ∷ seen) w.0 p y z w.3 h)
 
--- The states from some root.
+-- The state is reached from one of the roots.
 abbrev pub Reached : Nfa → Truth → List ℕ → ℕ → Type 0
 Reached n A roots q = (key : List ℕ) × From (λ root path z. IsPathAt n A [] root path z) roots q key
 
--- Whatever the cycles, a decided list has the byte and match states that are reached by the looks that hold.
+-- Whatever the cycles, a decided list has exactly the byte and match states that are reached under the looks that hold.
 pub decides_set :
     (n : Nfa) (K : Truth) (patterns roots C : List ℕ) (prev u : Option ℕ) (Q : Powerset) (L : List ℕ)
     → IsUnit u
@@ -143,7 +143,7 @@ decides_set n K patterns roots C prev u Q L unit known c make (HasNews news h) =
     to_list : (q : ℕ) → (ends n q ≡ Some q) × Reached n T roots q → In q (pick (ends n) L)
     to_list q r = picked_in (ends n) L q q (found q r.1.0 r.0 r.1.1) r.0
 
--- Some path leads to `q` at place `i`.
+-- Some path leads to `q` at position `i`.
 abbrev pub IsMet : Nfa → Tape → ℕ → ℕ → ℕ → Type 0
 IsMet n t start i q = (path : List ℕ) × IsPath n t start i q path
 
@@ -189,7 +189,7 @@ step_set n t start i u N byte s q = (λ r. there r.0 r.1, λ m. back m.0 m.1)
         let j = in_pick g N f.0 f.1 (s.1 f.0 (takes_ends n f.0 u f.1 moves, (f.2, f.4))) moves in
         (j.0 ∷ f.3, (f.1, j.1, f.6))
 
--- Under leftmost-first nothing was reported before.
+-- Under leftmost-first, nothing was reported before.
 abbrev pub IsQuiet : MatchKind → Nfa → Tape → ℕ → ℕ → Type 0
 IsQuiet All n t start k = Unit {0}
 IsQuiet LeftmostFirst n t start k = (j pattern : ℕ) (path : List ℕ) → j < k → Accepts n t start j pattern path → ⊥
@@ -220,7 +220,7 @@ start_set n t start q = (λ r. there r.0 r.1, λ m. (0 ∷ m.0, (start, refl, pa
         (p, walk_path n t 0 [] start p q (subst (λ v. IsPathAt n (truth n t 0) [] v p q) (sym (some_inj k.1)) k.2))
     there (suc j ∷ p) k = absurd (none_some k.1)
 
--- With nothing to report, the cut leaves the targets.
+-- If nothing is reported, the cut does not change the targets.
 quiet_targets :
     (kind : MatchKind) (n : Nfa) (t : Tape) (start i u : ℕ) (L : List ℕ)
     → IsQuiet kind n t start (suc i) → IsSet (EndsMet n t start i) (pick (ends n) L)
@@ -279,7 +279,7 @@ pass_sets kind n t start (suc k) Q tape_of l quiet p =
     means_set_succ kind n t start k p.0 Q tape_of l quiet
     (pass_sets kind n t start k p.0 tape_of (omega (arith, l)) (quiet_less kind n t start k quiet) p.1) p.2
 
--- Each once: the same elements.
+-- A list with each element once has the same elements.
 once_set : (xs ys : List ℕ) → IsOnce xs ys → (p : ℕ) → In p xs ↔ In p ys
 once_set xs ys o p = (there, λ i. let k = sorted_has (From Root xs) ys p o.1 i in back k.0 k.1)
   where
@@ -293,7 +293,7 @@ once_set xs ys o p = (there, λ i. let k = sorted_has (From Root xs) ys p o.1 i 
     back [] k = absurd k
     back (j ∷ s) k = nth_in xs j p (k.1 ∙ ap Some k.2.0)
 
--- The patterns reported are those of the accepting paths that end there.
+-- The reported patterns are those of the accepting paths that end there.
 pub all_reports_set :
     (n : Nfa) (t : Tape) (start i : ℕ) (P Q : Powerset)
     → IsTape t → MeansSet n t start i P → IsSuccessor n All P (next t i) Q
@@ -414,7 +414,7 @@ nearest_right kind n t start (Some pair) tape_of p = (
     quiet All = tt
     quiet LeftmostFirst = before
 
--- For every NFA, under `MatchKind::All` the pairs reported are those of the accepting paths.
+-- For every NFA under `MatchKind::All`, the reported pairs are those of the accepting paths.
 pub pairs_right :
     (n : Nfa) (t : Tape) (start i : ℕ) (patterns : List ℕ)
     → IsTape t → i ≤ length t.bytes → Reports All n t start i patterns

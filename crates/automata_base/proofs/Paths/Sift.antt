@@ -76,7 +76,7 @@ same_sorted P P' (x ∷ xs) f g s = (
   same_sorted P P' xs f g s.1,
 )
 
--- Keys said in another way.
+-- Equivalent keys have the same lists.
 pub same :
     (P P' : ℕ → List ℕ → Type 0) (xs : List ℕ)
     → ((q : ℕ) (key : List ℕ) → P q key → P' q key) → ((q : ℕ) (key : List ℕ) → P' q key → P q key)

@@ -1,4 +1,4 @@
--- What is kept, and what stays or ends.
+-- Which states are kept, and which stay or end.
 use Rattle.std.proofs.Common.{ℕ, ◌≡◌, ◌||◌, ◌&&◌, Bool, true, false, cond, List, ◌++◌, ◌⊎◌, Some, None, inl, inr, refl}
 use Rattle.std.proofs.Common.{sym, true≢false}
 use Rattle.automata_base.specs.Nfas.Nfa.{Nfa, Node, Split, Assert, Read, Accept, Truth, node, hop_at, keep, ends}
@@ -30,7 +30,7 @@ pub kept_at : (b : Bool) (q r : ℕ) → cond b (Some q) None ≡ Some r → b �
 kept_at true q r e = refl
 kept_at false q r e = absurd (none_some e)
 
--- A state that stays is a look or has no edge that stays at its place; any other has edges that no look decides.
+-- A node is a byte, look or match node, or no look decides its edges.
 pub stay_cases :
     (x : Node) → (stays_at x ≡ true) ⊎ ((ends_at x ≡ false) × ((A : Truth) (e : ℕ) → hop_at x A e ≡ fork_at x e))
 stay_cases (Split alternates) = inr (refl, λ A e. refl)
@@ -50,7 +50,7 @@ fork_hop (Assert look next) A e r f = absurd (none_some f)
 fork_hop (Read ranges) A e r f = absurd (none_some f)
 fork_hop (Accept p) A e r f = absurd (none_some f)
 
--- No path goes on from a state that stays and comes back to it.
+-- If no cycle passes a look, no path leads from a byte, look or match state back to it.
 pub stays_no_loop :
     (n : Nfa) (x y : ℕ) → IsLookAcyclic n → stays_at (node n x) ≡ true → LeadsOn n x y → HasEpsilonPath n y x → ⊥
 stays_no_loop n x y free s on back = go (node n x) refl s on.2

@@ -1,4 +1,4 @@
--- From the least paths to one place to the least paths to the next.
+-- From the least paths to one position to the least paths to the next.
 use Rattle.std.proofs.Common.{ℕ, suc, ◌≡◌, ◌<◌, ◌≤◌, cond, List, [], ◌∷◌, ◌++◌, ◌⊎◌, Option, Some, None, inl, inr, refl}
 use Rattle.std.proofs.Common.{sym, ap, ◌∙◌, subst, arith}
 use Rattle.automata_base.specs.Paths.Order.{Before, Begins}
@@ -14,16 +14,16 @@ use Rattle.automata_base.proofs.Paths.Compose.{Composes, Divides, compose}
 use Rattle.automata_base.proofs.Paths.Sift.{same}
 use Rattle.automata_base.proofs.Paths.Staying.{Ending}
 
--- A bound that a path has to be before.
+-- The path is before the bound, if there is one.
 abbrev pub Within : Option (List ℕ) → List ℕ → Type 0
 Within None p = Unit {0}
 Within (Some a) p = Before p a
 
--- Paths within a bound to byte and match states at place `i`.
+-- Paths within a bound to byte and match states at position `i`.
 abbrev pub EndsWithin : Nfa → Tape → ℕ → Option (List ℕ) → ℕ → ℕ → List ℕ → Type 0
 EndsWithin n t start best i q p = (ends n q ≡ Some q) × IsPath n t start i q p × Within best p
 
--- The bound is a match's path to a place up to `i`.
+-- The bound is the path of a match at a position up to `i`.
 abbrev pub IsPast : Nfa → Tape → ℕ → Option (List ℕ) → ℕ → Type 0
 IsPast n t start None i = Unit {0}
 IsPast n t start (Some a) i = (j q p : ℕ) × IsPath n t start j q a × (accepts n q ≡ Some p) × (j ≤ i)
@@ -55,7 +55,7 @@ within_less : (best : Option (List ℕ)) (p : List ℕ) (z : ℕ) (zs : List ℕ
 within_less None p z zs w = tt
 within_less (Some a) p z zs w = before_trans p (p ++ (z ∷ zs)) a (before_begin p z zs) w
 
--- One byte on.
+-- Reads one byte.
 pub step :
     (n : Nfa) (t : Tape) (start i u : ℕ) (best : Option (List ℕ)) (N xs : List ℕ)
     → slice_get t.bytes i ≡ Some u → IsPast n t start best i
@@ -125,7 +125,7 @@ step n t start i u best N xs byte past l m =
             (subst (λ v. IsPath n t start i f.0 v) b.2 f.4) in
             omega (arith, l)
 
--- The first place.
+-- The first position.
 pub first :
     (n : Nfa) (t : Tape) (start : ℕ) (xs : List ℕ)
     → IsListOf (Ending n (From (λ root path q. IsPathAt n (truth n t 0) [] root path q) (start ∷ []))) xs

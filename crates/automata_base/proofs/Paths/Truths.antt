@@ -1,4 +1,4 @@
--- What a powerset state and the next unit decide is what holds.
+-- A powerset state and the next unit decide each look as it holds.
 use Rattle.std.proofs.Common.{ℕ, ◌≡◌, Bool, true, false, not, ◌&&◌, ◌||◌, List, [], ◌⊎◌, Option, inl, inr, refl, sym}
 use Rattle.std.proofs.Common.{ap, ◌∙◌, subst, ⊎_elim, true≢false}
 use Rattle.automata_base.specs.Lists.{In}
@@ -14,7 +14,7 @@ use Rattle.automata_base.specs.Powersets.Powerset.{Powerset}
 use Rattle.automata_base.specs.Haystacks.LookSets.{truth_of}
 use Rattle.std.proofs.lemmas.Bool.{or_cases}
 
--- Two tests that follow from one another are equal.
+-- Tests that imply each other are equal.
 pub bool_iff : (a b : Bool) → (a ≡ true → b ≡ true) → (b ≡ true → a ≡ true) → a ≡ b
 bool_iff true true f g = refl
 bool_iff true false f g = absurd (true≢false (sym (f refl)))
@@ -39,7 +39,7 @@ known_or k x h f g b =
 abbrev pub Shows : Nfa → Powerset → Option ℕ → Option ℕ → Look → Type 0
 Shows n Q prev u look = true_looks n Q u look ≡ holds n.terminator n.reverse look prev u
 
--- With a look needed, the looks that occur are decided as they hold.
+-- If a look is needed, the looks that occur are decided as they hold.
 pub truths :
     (n : Nfa) (patterns C : List ℕ) (prev : Option ℕ) (Q : Powerset) (u : Option ℕ) (look : Look)
     → IsMake n patterns C prev Q → (other : Look) × IsNeeded n Q.nfa other → Occurs n look → IsUnit u

@@ -1,4 +1,4 @@
--- One list, one state.
+-- Lists and powerset states are unique.
 use Rattle.std.proofs.Common.{ℕ, zero, suc, ◌≡◌, true, List, [], ◌∷◌, ◌++◌, length, Option, inl, inr}
 use Rattle.std.proofs.Common.{sym, ap, ap₂, ◌∙◌, subst}
 use Rattle.automata_base.specs.Paths.Order.{Upto}
@@ -25,7 +25,7 @@ upto_both p q (inl e) k = e
 upto_both p q (inr b) (inl e) = sym e
 upto_both p q (inr b) (inr c) = absurd (before_irrefl p (before_trans p q p b c))
 
--- One path has one pattern and one place.
+-- A path has only one pattern and one end.
 accepting_one :
     (n : Nfa) (t : Tape) (start i a j b : ℕ) (path : List ℕ)
     → Accepts n t start i a path → Accepts n t start j b path → (i ≡ j) × (a ≡ b)
@@ -33,7 +33,7 @@ accepting_one n t start i a j b path h k =
     let e = path_end n t 0 [] start path i h.0 j k.0 h.1 k.1 in
     (e.0, some_inj (sym h.2 ∙ (ap (λ v. accepts n v) e.1 ∙ k.2)))
 
--- The least path is preceded by none.
+-- No path precedes the least path.
 none_least :
     (n : Nfa) (t : Tape) (start i pattern : ℕ) (path : List ℕ) → IsPreceded n t start i path
     → IsLeastAt n t start i pattern path

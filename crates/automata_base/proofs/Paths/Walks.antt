@@ -1,4 +1,4 @@
--- Paths at one place.
+-- Paths at one position.
 use Rattle.std.proofs.Common.{ℕ, zero, suc, ◌≡◌, Bool, true, false, cond, List, [], ◌∷◌, ◌++◌, ◌⊎◌, Option, Some, None}
 use Rattle.std.proofs.Common.{inl, inr, refl, sym, subst, ⊎_elim}
 use Rattle.automata_base.specs.Lists.{In}
@@ -50,7 +50,7 @@ walk_more n A B seen q [] z i w = w
 walk_more n A B seen q (e ∷ path) z i w =
     (w.0, hop_more n A B q e w.0 i w.1, w.2, walk_more n A B (q ∷ seen) w.0 path z i w.3)
 
--- A walk past fewer states.
+-- A walk stays a walk if it has to avoid fewer states.
 pub walk_forget :
     (n : Nfa) (A : Truth) (seen more : List ℕ) (q : ℕ) (path : List ℕ) (z : ℕ)
     → IsPathAt n A (seen ++ more) q path z → IsPathAt n A seen q path z

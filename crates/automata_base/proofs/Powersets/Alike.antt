@@ -1,5 +1,5 @@
--- On bytes that an automaton does not distinguish its steps are alike, and so are its starts after them; the dead state
--- stays dead.
+-- An automaton steps alike on bytes that it does not distinguish, and it starts alike after them. The dead state stays
+-- dead.
 use Rattle.std.proofs.Common.{ℕ, zero, suc, ◌≡◌, Bool, true, false, not, ◌&&◌, ◌||◌, eqb, if◌then◌else◌, List, [], ◌∷◌}
 use Rattle.std.proofs.Common.{length, Option, Some, None, refl, sym, ap, ◌∙◌, subst}
 use Rattle.std.proofs.lemmas.Bool.{eqb-true}
@@ -30,7 +30,7 @@ sees_bytes a u v s = record {
   word = s.word;
 }
 
--- The successor on a byte is that on any byte alike.
+-- The successor is the same on bytes that are alike.
 pub alike_step :
     (a : Automaton) (kind : MatchKind) (q : Powerset) (u v : ℕ)
     → IsAlike a u v → NeedsOwnLooks a q → successor a kind q (Some u) ≡ successor a kind q (Some v)
@@ -54,7 +54,7 @@ alike_step a kind q u v s own =
     reported : List ℕ
     reported = once_past [] (pick (accepts n) L')
 
--- What the kind of a look-behind byte says of the byte.
+-- What the look-behind kind of a byte says about the byte.
 Other : (t u : ℕ) (word : Bool) → Type 0
 Other t u word = (eqb u 10 ≡ false) × (eqb u 13 ≡ false) × (eqb u t ≡ false) × (is_word_byte u ≡ word)
 
@@ -130,7 +130,7 @@ sees_behind n (Some u) (Some v) e =
     sees_reported n u v (behind_of n.terminator (Some v))
     (subst (λ k. Reported n.terminator u k) e (reported_of n.terminator u)) (reported_of n.terminator v)
 
--- Behind what is of one kind an automaton starts alike.
+-- An automaton starts alike after units of the same look-behind kind.
 pub behind_alike :
     (a : Automaton) (mode : Anchored) (x y : Option ℕ)
     → behind_of a.flags.line_terminator x ≡ behind_of a.flags.line_terminator y

@@ -52,7 +52,7 @@ walk_up f g step u (suc d) e =
     over : (d u : ℕ) → suc d + u ≡ suc (d + u)
     over d u = omega arith
 
--- What changes at boundaries alone is one over each class.
+-- A function that changes only at boundaries is constant on each class.
 pub same_in_class :
     {X : Type 0} (f : ℕ → Bool) (g : ℕ → X) → ((b : ℕ) → f (suc b) ≡ false → g b ≡ g (suc b))
     → (u v : ℕ) → boundary_count f u ≡ boundary_count f v → g u ≡ g v
@@ -69,7 +69,7 @@ same_in_class f g step u v e = go (cases_lt u v)
         let d = gap v u h in
         sym (walk_up f g step v (u - v) (sym e ∙ ap (boundary_count f) d) ∙ ap g (sym d))
 
--- The next byte has no boundary of a range before it: both are in the range, or both are not.
+-- If no range has a boundary before the next byte, both bytes are in the range or neither is.
 within_next : (lo hi b : ℕ) → bounds lo hi (suc b) ≡ false → within lo hi b ≡ within lo hi (suc b)
 within_next lo hi b h =
     let p = or_parts (eqb (suc b) lo) (eqb (suc b) (hi + 1)) h in
@@ -173,7 +173,7 @@ word_next t StartCRLF b e h = absurd (true≢false (sym e))
 word_next t EndCRLF b e h = absurd (true≢false (sym e))
 word_next t look b e h = h
 
--- A look that passes is among the states: its boundaries are among theirs.
+-- If a look that passes the test is among the states, its boundaries are among those of the states.
 state_look :
     (test : Look → Bool) (bound : ℕ → ℕ → Bool) → LookNext test bound
     → (t : ℕ) (s : State) (b : ℕ) → looks_at test (node_of s) ≡ true → state_bounds t s b ≡ false → bound t b ≡ false
@@ -213,7 +213,7 @@ word_byte_next b h =
     ∙ ap (λ z. within 48 57 (suc b) || within 65 90 (suc b) || eqb (suc b) 95 || z)
     (within_next 97 122 b under_lower.1)))
 
--- What a byte without a boundary says.
+-- What it means for a byte to have no boundary before it.
 parts_of :
     (a : Automaton) (quits : List Bool) (on : Bool) (b : ℕ) → is_boundary a quits on b ≡ false
     → (on ≡ true) × (states_bound a.flags.line_terminator a.states b ≡ false) × (quits_bound quits b ≡ false)
@@ -270,14 +270,14 @@ class_alike a quits on u v e = record {
         or_parts (bounds 13 13 (suc b)) (bounds 10 10 (suc b))
         (states_look is_crlf_look _ crlf_next t a.states (suc b) has (states b h))
 
--- So they lead a powerset state alike.
+-- So they lead a powerset state to the same successor.
 pub class_step :
     (a : Automaton) (quits : List Bool) (on : Bool) (kind : MatchKind) (q : Powerset) (u v : ℕ)
     → class_of a quits on u ≡ class_of a quits on v → NeedsOwnLooks a q
     → successor a kind q (Some u) ≡ successor a kind q (Some v)
 class_step a quits on kind q u v e own = alike_step a kind q u v (class_alike a quits on u v e) own
 
--- Where a class has a quit byte all its bytes are quit bytes.
+-- If a class has a quit byte, all its bytes are quit bytes.
 pub class_quits :
     (a : Automaton) (quits : List Bool) (on : Bool) (u v : ℕ)
     → class_of a quits on u ≡ class_of a quits on v → is_quit quits u ≡ is_quit quits v
@@ -285,7 +285,7 @@ class_quits a quits on u v e =
     same_in_class (is_boundary a quits on) (is_quit quits) (λ b h. quit_next quits b (parts_of a quits on (suc b) h).2)
     u v e
 
--- With classes off a byte is its own class.
+-- If byte classes are off, each byte is its own class.
 each_bounds : (a : Automaton) (quits : List Bool) (b : ℕ) → is_boundary a quits false b ≡ true
 unfolding is_boundary
 each_bounds a quits b = refl

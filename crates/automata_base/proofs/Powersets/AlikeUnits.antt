@@ -1,4 +1,4 @@
--- Units in which an NFA's looks see the same make the same of a list of states.
+-- Units that are the same to an NFA's looks give the same powerset states.
 use Rattle.std.proofs.Common.{ℕ, zero, suc, ◌≡◌, Bool, true, false, not, ◌&&◌, ◌||◌, cond, eqb, List, [], ◌∷◌, ◌++◌}
 use Rattle.std.proofs.Common.{length, Option, refl, ap, ap₂, ◌∙◌}
 use Rattle.automata_base.specs.Retraced.Computed.{is_in, visits_with, first_visits, closure_of, any_state}
@@ -18,7 +18,7 @@ use Rattle.automata_base.proofs.Paths.Machines.{any_node_true, any_node_from, co
 use Rattle.automata_base.proofs.Paths.Unique.{powerset_path}
 use Rattle.automata_base.proofs.Powersets.AlikeBytes.{is_line_look}
 
--- Two truths that agree on the NFA's looks close alike.
+-- Truths that agree on the NFA's looks give the same closures.
 same_children :
     (n : Nfa) (A B : Truth) → ((look : Look) → Occurs n look → A look ≡ B look) → (q : ℕ)
     → children n A q ≡ children n B q
@@ -104,7 +104,7 @@ second_alike :
     → is_byte (second_half n.reverse) x ≡ is_byte (second_half n.reverse) y
 second_alike n x y s h = same_second n.reverse x y (s.carriage_return h) (s.line_feed h)
 
--- What is known after the one is known after the other.
+-- The same looks are known after both units.
 same_always :
     (n : Nfa) (x y : Option ℕ) (look : Look)
     → SeesAlike n x y → Occurs n look → always n.terminator n.reverse look x ≡ always n.terminator n.reverse look y
@@ -151,7 +151,7 @@ third_alike false b c d e = refl
 flag_alike : (a a' b c d : Bool) → a ≡ a' → (b ≡ true → c ≡ d) → a && b && c ≡ a' && b && d
 flag_alike a a' b c d e f = ap (λ v. v && b && c) e ∙ third_alike a' b c d f
 
--- So a list of roots makes the same powerset state after both.
+-- So a list of roots gives the same powerset state after both units.
 pub arrive_alike :
     (n : Nfa) (patterns roots : List ℕ) (x y : Option ℕ)
     → SeesAlike n x y → arrive n patterns roots x ≡ arrive n patterns roots y
@@ -173,7 +173,7 @@ arrive_alike n patterns roots x y s =
     k : ◌≡◌ {A = Truth} (known_looks n x) (known_looks n y)
     k = λ i look. same_known n x y s look i
 
--- What the one decides the other decides.
+-- Both units decide the same looks.
 same_decided :
     (n : Nfa) (w h : Bool) (x y : Option ℕ) (look : Look)
     → SeesAlike n x y → Occurs n look

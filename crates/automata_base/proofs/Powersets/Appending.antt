@@ -1,4 +1,4 @@
--- What a sparse set holds once a list was put behind its members.
+-- The members of a sparse set after a list was appended.
 use Rattle.std.proofs.Common.{◌≡◌, ◌<◌, ◌≤◌, ◌+◌, ℕ, zero, suc, List, [], ◌∷◌, ◌++◌, length, get_or, set, take, refl}
 use Rattle.std.proofs.Common.{sym, ap, ◌∙◌}
 use Rattle.std.proofs.Common.{subst, ⊎_elim, arith, length-append}
@@ -38,11 +38,11 @@ module _ (dense sparse : List ℕ) (len : ℕ) (within : len ≤ length dense)
   both : length (take len dense ++ list) ≡ len + length list
   both = length-append (take len dense) list ∙ ap (λ z. z + length list) (length-take-le len dense within)
 
-  -- there is room for the list
+  -- There is room for the list.
   pub list_fits : len + length list ≤ length dense
   list_fits = let most = distinct_below (length dense) (take len dense ++ list) all low in omega (arith, most, both)
 
-  -- the list stands behind the members, and its first members have their places
+  -- The list follows the members, and the previous members keep their indices.
   module _ (end : ℕ) (more : List ℕ) (at_end : end ≡ len + length list) (taken : take end more ≡ take len dense ++ list)
       (long : length more ≡ length dense) where
     here : (k : ℕ) → k < end → get_or more k 0 ≡ get_or (take len dense ++ list) k 0
@@ -92,7 +92,7 @@ module _ (dense sparse : List ℕ) (len : ℕ) (within : len ≤ length dense)
             distinct_at (take len dense ++ list) k i all first (omega (arith, l, at_end, both))
             (sym (here k (omega (arith, first, l))) ∙ (e ∙ here i l))
 
--- The same of a sparse set.
+-- The same for a sparse set.
 module _ (s : Inside) (v : Members) (list : List ℕ) (inv : IsSparse s) (view : members_of s ≡ v)
     (fits : (q : ℕ) → In q list → q < v.capacity)
     (distinct : Distinct list) (new : (q : ℕ) → In q list → In q v.items → ⊥) where

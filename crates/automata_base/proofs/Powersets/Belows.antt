@@ -1,4 +1,4 @@
--- Tests of lists of numbers, and what they say of each.
+-- Tests of lists of numbers, and what they say about each number.
 use Rattle.std.proofs.Common.{ℕ, ◌≡◌, ◌<◌, ◌&&◌, true, List, [], ◌∷◌, inl, inr, refl, ap, ◌∙◌}
 use Rattle.std.proofs.lemmas.Bool.{lt-ltb}
 use Rattle.automata_base.specs.Lists.{all_below, In}

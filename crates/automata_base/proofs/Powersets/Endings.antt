@@ -1,4 +1,4 @@
--- Lists in which what is kept of a closure stands: their bytes, and where they lead.
+-- Lists that contain the kept states of a closure: their bytes, and where they lead.
 use Rattle.std.proofs.Common.{ℕ, Bool, true, false, true≢false, ◌≡◌, ◌<◌, ◌≤◌, ◌+◌, ◌-◌, zero, suc, List, [], ◌∷◌, ◌++◌}
 use Rattle.std.proofs.Common.{length, get_or}
 use Rattle.std.proofs.Common.{take, drop, drop-drop, Option, Some, None, is_some, ◌||◌, refl, sym, ap, ◌∙◌, subst}
@@ -27,7 +27,7 @@ use Rattle.automata_base.proofs.Paths.Sift.{in_picked}
 use Rattle.automata_base.proofs.Powersets.Keeping.{any_kept, next_drop}
 use Rattle.automata_base.proofs.Powersets.Walking.{nodes_length}
 
--- A list is what stands before a part, the part, and what stands after it.
+-- A list is what precedes a part, the part, and what follows it.
 pub part_split :
     (list part : List ℕ) (start : ℕ) → IsPartAt list part start
     → list ≡ take start list ++ (part ++ take (length list - (start + length part)) (drop (start + length part) list))
@@ -38,12 +38,12 @@ part_split list part start at =
     ∙ (ap (λ z. z ++ drop (length part) (drop start list)) at.same
     ∙ ap (λ z. part ++ z) (drop-drop (length part) start list ∙ sym (take_rest list (start + length part)))))
 
--- The last of a list, or this number if the list is empty.
+-- The last element of a list, or `before` if the list is empty.
 abbrev last_of : ℕ → List ℕ → ℕ
 last_of before [] = before
 last_of before (x ∷ xs) = last_of x xs
 
--- The bytes of two lists in a row.
+-- The encoding of two joined lists.
 code_of_both :
     (before : ℕ) (xs ys : List ℕ) → ids_code before (xs ++ ys) ≡ ids_code before xs ++ ids_code (last_of before xs) ys
 unfolding ids_code
@@ -52,7 +52,7 @@ code_of_both before (id ∷ xs) ys =
     ap (λ z. varint (difference before id) ++ z) (code_of_both id xs ys)
     ∙ sym (append_assoc (varint (difference before id)) (ids_code id xs) (ids_code (last_of id xs) ys))
 
--- The bytes of NFA states behind the first of them.
+-- The encoding of NFA states after the first.
 pub rest_code :
     (kept rest code : List ℕ) (first : ℕ) → kept ≡ first ∷ rest → code ≡ ids_code first rest → All IsId rest
     → IsRestCode kept code
@@ -66,7 +66,7 @@ rest_code kept rest code first whole is ids =
       ids = ids;
     })
 
--- The last of two lists in a row, the second of which is not empty.
+-- The last element of two joined lists, the second of which is not empty.
 last_of_end :
     (before : ℕ) (xs ys : List ℕ) (d : ℕ) → 0 < length ys → last_of before (xs ++ ys) ≡ get_or ys (length ys - 1) d
 last_of_end before [] [] d l = absurd (omega (arith, l))
@@ -79,7 +79,7 @@ last_of_end before [] (y ∷ ys) d l =
     last_is y (z ∷ ys) d = last_is z ys d
 last_of_end before (x ∷ xs) ys d l = last_of_end x xs ys d l
 
--- The bytes of a front, of the first of a part, of the others of the part, and of what comes after its last.
+-- The encoding of a front, the first state of a part, the rest of the part, and what follows it.
 pub code_of_parts :
     (front part back code : List ℕ) (last : ℕ) → IsRestCode part code → 0 < length part
     → last ≡ get_or part (length part - 1) last
@@ -97,7 +97,7 @@ code_of_parts front part back code last is some at =
         ∙ (sym (append_assoc (ids_code 0 front) (ids_code (last_of 0 front) (take 1 part)) code)
         ∙ ap (λ z. z ++ code) (sym (code_of_both 0 front (take 1 part)))))
 
--- They have numbers that IDs may have, if those of the front, of the first of the part and of the back have.
+-- The states of the joined list are valid IDs if those of the front, of the first of the part and of the back are.
 pub ids_of_parts :
     (front part back code : List ℕ) → IsRestCode part code → All IsId (front ++ take 1 part) → All IsId back
     → All IsId (front ++ (part ++ back))
@@ -110,7 +110,7 @@ ids_of_parts front part back code is begin end =
     (All-append IsId ((front ++ take 1 part) ++ drop 1 part) back
     (All-append IsId (front ++ take 1 part) (drop 1 part) begin is.ids) end)
 
--- What stands before a part, and the first of the part after it.
+-- What precedes a part, and the first state of the part.
 pub begin_of :
     (list part : List ℕ) (start : ℕ) → IsPartAt list part start → 0 < length part
     → take (start + 1) list ≡ take start list ++ take 1 part
@@ -131,7 +131,7 @@ begin_of list part start at some =
     first (suc n) l [] = refl
     first (suc n) l (x ∷ xs) = refl
 
--- The last of a part.
+-- The last state of a part.
 pub last_at :
     (list part : List ℕ) (start d : ℕ) → IsPartAt list part start → 0 < length part
     → get_or list (start + length part - 1) d ≡ get_or part (length part - 1) d
@@ -143,9 +143,8 @@ last_at list part start d at some =
     ∙ (sym (get_or-drop start list (n - 1) d)
     ∙ (sym (get_or-take n (drop start list) (n - 1) d below) ∙ ap (λ z. get_or z (n - 1) d) at.same))
 
--- The bytes of a list in which a part stands, if they were appended so: those up to the first of the part, the others
--- of
--- the part, and those after its last.
+-- The encoding of a list that contains a part, if it was appended in pieces: up to the first state of the part, the
+-- rest of the part, and what follows it.
 pub pushed_parts :
     (ids part code out more next new : List ℕ) (start last here : ℕ) {X : Type 0} (r : Result X AllocError)
     → IsRestCode part code → IsPartAt ids part start → 0 < length part
@@ -271,7 +270,7 @@ matched_with a xs ys ps same m = record {
   few = m.few;
 }
 
--- The patterns of a list are those of its front, if the end has no match.
+-- The patterns of a list are those of its front if the end has no match.
 pub matched_front :
     (kind : MatchKind) (a : Automaton) (list front end ps : List ℕ) (b : Bool)
     → list ≡ front ++ end → is_cut kind (nfa_of a) front ≡ b → has_match (nfa_of a) end ≡ false
@@ -300,7 +299,7 @@ found_below a list found u checked are q i =
     let p = in_picked (λ b. takes (nfa_of a) b u) list q (subst (λ z. In q z) are.same i) in
     subst (λ z. q < z) (nodes_length a.states) (checked.range.1 p.0 u q p.2)
 
--- With nothing visited before, what was added is the closure.
+-- If nothing was visited before, the states that were added are the closure.
 pub way_closure :
     (n : Nfa) (A : Truth) (roots old new : List ℕ) → old ≡ []
     → ((all tail : List ℕ) → IsUnderWay n A all (roots ++ tail) old → IsUnderWay n A all tail new)
@@ -326,7 +325,7 @@ match_here n xs i x p w l e some h =
 pub match_done : (n : Nfa) (xs : List ℕ) (i : ℕ) (w : Bool) → length xs ≤ i → w ≡ has_match n (drop i xs) → false ≡ w
 match_done n xs i w l h = sym (h ∙ ap (has_match n) (drop_all i xs l))
 
--- As the two before, by a test of what is read.
+-- The two previous cases in one, by a test of what is read.
 pub match_next_test :
     (n : Nfa) (xs : List ℕ) (i x : ℕ) (o : Option ℕ) (w : Bool) → i < length xs → x ≡ get_or xs i x → accepts n x ≡ o
     → is_some o ≡ false → w ≡ has_match n (drop i xs) → w ≡ has_match n (drop (i + 1) xs)
@@ -390,7 +389,7 @@ looks_of_parts f n states front middle back first kept whole t r joined a b none
     plain : any_state f n middle ≡ false
     plain = sym (any_kept f n middle) ∙ (ap (any_state f n) (sym b) ∙ none)
 
--- A list was appended, where that did not fail.
+-- The list was appended if that did not fail.
 pub appended :
     {X : Type 0} (r : Result X AllocError) (x : X) (new out tail : List ℕ)
     → r ≡ Ok x → new ≡ (if is_ok r then out ++ tail else out) → new ≡ out ++ tail

@@ -1,4 +1,4 @@
--- What a sparse set holds, over its two lists.
+-- The members of a sparse set, by its two lists.
 use Rattle.std.proofs.Common.{◌≡◌, ◌<◌, ◌≤◌, ◌+◌, ◌⊎◌, ℕ, List, [], ◌∷◌, ◌++◌, length, get_or, set, take, sym, ap, ◌∙◌}
 use Rattle.std.proofs.Common.{subst, inl, inr, arith, length-append}
 use Rattle.std.specs.Prelude.{AllPairs, ◌≢◌}
@@ -37,7 +37,7 @@ module _ (dense sparse : List ℕ) (len : ℕ) (within : len ≤ length dense)
       let b : get_or dense k 0 < length dense = below k lk in
       omega arith
 
-  -- a number that is below the capacity and not a member leaves room for it
+  -- If a number below the capacity is not a member, there is room for it.
   pub has_room : (id : ℕ) → id < length dense → (In id (take len dense) → ⊥) → len < length dense
   has_room id l new =
       let most : length (take len dense ++ id ∷ []) ≤ length dense =

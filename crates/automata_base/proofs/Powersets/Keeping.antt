@@ -92,7 +92,7 @@ pub kept_done :
     → kept ≡ whole
 kept_done n xs kept whole i l h = sym (ap (λ z. kept ++ pick (keep n) z) (drop_all i xs l) ∙ append-nil kept) ∙ h
 
--- No more states are kept than there are.
+-- There are at most as many kept states as states.
 pub kept_few : (n : Nfa) (xs : List ℕ) → length (pick (keep n) xs) ≤ length xs
 kept_few n [] = omega arith
 kept_few n (x ∷ xs) = go (keeps n x) (kept_few n xs)
@@ -127,7 +127,8 @@ cut_done n xs i l h =
     take_all (length xs) xs (omega arith)
     ∙ sym (h ∙ (ap (λ z. take i xs ++ cut n z) (drop_all i xs l) ∙ (append-nil (take i xs) ∙ take_all i xs l)))
 
--- The patterns of what counts are those of the rest, as long as no match state came, then that of the first one.
+-- Before the first match state, the patterns that count are those of the remaining states; at it, only its pattern
+-- counts.
 pub cut_picks_next :
     (n : Nfa) (xs : List ℕ) (i x : ℕ) → i < length xs → x ≡ get_or xs i x → accepts n x ≡ None
     → pick (accepts n) (cut n xs) ≡ pick (accepts n) (cut n (drop i xs))
@@ -150,8 +151,8 @@ pub cut_picks_done :
     → pick (accepts n) (cut n xs) ≡ pick (accepts n) (cut n (drop i xs)) → pick (accepts n) (cut n xs) ≡ []
 cut_picks_done n xs i l h = h ∙ ap (λ z. pick (accepts n) (cut n z)) (drop_all i xs l)
 
--- The targets of what counts are, as long as no match state came, the next state's and those of the rest, and none
--- then.
+-- Before the first match state, the targets that count are those of the next state and of the remaining ones; at it,
+-- none counts.
 pub cut_targets_next :
     (n : Nfa) (xs : List ℕ) (u i x : ℕ) → i < length xs → x ≡ get_or xs i x → accepts n x ≡ None
     → targets n (Some u) (cut n (drop i xs)) ≡ cons_some (takes n x u) (targets n (Some u) (cut n (drop (i + 1) xs)))
@@ -177,7 +178,7 @@ pub cut_targets_done :
     (n : Nfa) (xs : List ℕ) (u i : ℕ) → length xs ≤ i → targets n (Some u) (cut n (drop i xs)) ≡ []
 cut_targets_done n xs u i l = ap (λ z. targets n (Some u) (cut n z)) (drop_all i xs l)
 
--- One pattern, or none, is a list in which no pattern stands twice.
+-- A list of one pattern, or of none, has no repeats.
 pub matched_one : (a : Automaton) (list : List ℕ) (p : ℕ) → p < length a.start_pattern
     → pick (accepts (nfa_of a)) list ≡ p ∷ [] → AreMatched a list (p ∷ [])
 matched_one a list p l e = record {
@@ -298,7 +299,7 @@ pattern_next g xs i x P (Some p) ys more l e s below some none h =
         split (inr (inl f)) = subst (λ z. z < P) (sym f) (below p refl)
         split (inr (inr j)) = elim j [ ]
 
--- A new pattern finds room.
+-- There is room for a new pattern.
 pub pattern_room :
     (ys : List ℕ) (p P : ℕ) → Distinct ys → ((q : ℕ) → In q ys → q < P) → p < P → is_in p ys ≡ false → length ys < P
 pattern_room ys p P d below l new =

@@ -1,4 +1,4 @@
--- What an NFA's data say of it does not depend on whether its powerset states keep unions.
+-- What holds for an NFA's data does not depend on whether its powerset states keep unions.
 use Rattle.std.proofs.Common.{ℕ, Bool, true, false, not, ◌≡◌, ◌↔◌, List, [], ◌∷◌, Some, refl, sym, subst}
 use Rattle.std.proofs.Common.{true≢false}
 use Rattle.std.specs.Prelude.{slice_get, IsTrue}
@@ -69,7 +69,7 @@ kept_with d v true h =
     (acyclic_with (nfa_of (automaton_of d v)) (nfa_of (automaton_of d false)) refl (h.0 refl))
 kept_with d v false h = unions_keep (nfa_of (automaton_of d true)) refl
 
--- What is kept is the negation of a test.
+-- The negation of a test decides the negation.
 pub asked : (r : Bool) (P : Type 0) → IsTrue r ↔ P → IsTrue (not r) ↔ (P → ⊥)
 asked true P h = ((λ e. absurd (true≢false (sym e))), λ no. absurd (no (h.0 refl)))
 asked false P h = ((λ e p. absurd (true≢false (sym (h.1 p)))), λ no. refl)

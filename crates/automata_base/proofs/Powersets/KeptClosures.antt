@@ -1,4 +1,4 @@
--- The closure of the unanchored start: how it is found and tested, and where what is kept of it leads.
+-- The closure of the unanchored start: how it is found and tested, and where its kept states lead.
 use Rattle.std.proofs.Common.{ℕ, Bool, ◌≡◌, ◌+◌, ◌<◌, ◌≤◌, List, [], ◌∷◌, ◌++◌, Option, Some, None, inl, inr}
 use Rattle.std.proofs.Common.{length, get_or, drop, refl, sym, ap, ◌∙◌, subst, ⊎_elim, append-nil, arith}
 use Rattle.std.proofs.Common.{true, false, true≢false, ◌||◌, eqb, option_to_list, Vec}
@@ -18,7 +18,7 @@ use Rattle.automata_base.proofs.Nfas.Mirrors.Lists.{lists_length, list_item, non
 use Rattle.automata_base.proofs.Powersets.Endings.{picks_next, picks_done}
 use Rattle.automata_base.proofs.Powersets.Keeping.{next_drop}
 
--- A loop over a list has tested those before the index: it is left to test the others.
+-- A loop has tested the elements before index `i`; the others remain.
 abbrev pub Tested : (ℕ → Type 0) → List ℕ → ℕ → Type 0
 Tested P xs i = ((q : ℕ) → In q (drop i xs) → P q) → (q : ℕ) → In q xs → P q
 
@@ -32,7 +32,7 @@ tested_next P xs i x l e p t f =
 pub tested_all : (P : ℕ → Type 0) (xs : List ℕ) (i : ℕ) → length xs ≤ i → Tested P xs i → (q : ℕ) → In q xs → P q
 tested_all P xs i l t = t (λ q j. absurd (subst (λ z. In q z) (drop_all i xs l) j))
 
--- With nothing left on the stack, what was visited is what is visited from the roots.
+-- When the stack is empty, the visited states are those visited from the roots.
 pub under_way_visits :
     (n : Nfa) (A : Truth) (roots visited : List ℕ) → IsUnderWay n A roots [] visited → Visits n A roots [] visited
 under_way_visits n A roots visited u = subst (λ w. Visits n A roots [] w) (append-nil visited) (u [] done)
@@ -78,7 +78,7 @@ pub row_read :
     → AreRows n list rows → u < length rows → row ≡ get_or rows u row → AreTargets n list u row.items
 row_read n list rows u row are l read = subst (AreTargets n list u) (list_item rows u row l read) (are u l)
 
--- To the rows of the bytes below this one was added where a node leads.
+-- The targets of a node were added to the rows of the bytes below `u`.
 pub record Added (m : Node) (old new : List (Vec ℕ Global)) (u : ℕ) : Type 0 where
   pub below :
       (v : ℕ) → v < 256 → v < u → list_at (lists_of new) v ≡ list_at (lists_of old) v ++ option_to_list (takes_at m v)
@@ -130,7 +130,7 @@ added_none m old rows u w o small same is_o none a =
     added_next m old rows rows u w o small same is_o
     (nothing (list_at (lists_of rows) u) (list_at (lists_of rows) u) o none refl) (λ v ne. refl) a
 
--- The rows of a list, of which those from an index on are left to read.
+-- The rows of a list, of which the states from index `i` on remain.
 pub record Filling (n : Nfa) (list : List ℕ) (rows : List (Vec ℕ Global)) (i : ℕ) : Type 0 where
   pub few : length rows ≡ 256
   pub same : (u : ℕ) → u < 256 → list_at (lists_of rows) u ++ targets n (Some u) (drop i list) ≡ targets n (Some u) list

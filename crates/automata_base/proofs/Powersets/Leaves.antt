@@ -1,4 +1,4 @@
--- States without epsilon edges at the front of a list: they are visited in a row, and never wait on the stack.
+-- States without epsilon edges at the front of a list: they are visited in a row and never pushed on the stack.
 use Rattle.std.proofs.Common.{◌≡◌, ◌<◌, ◌≤◌, ◌+◌, ◌⊎◌, Bool, true, false, cond, ℕ, zero, suc, List, [], ◌∷◌, ◌++◌}
 use Rattle.std.proofs.Common.{length}
 use Rattle.std.proofs.Common.{refl, sym, ap, ◌∙◌, subst, inl, inr, arith, length-append, drop, length-drop}
@@ -20,7 +20,7 @@ use Rattle.automata_base.proofs.Powersets.Distinct.{among, among-In, In-among, u
 use Rattle.automata_base.proofs.Powersets.Keeping.{next_drop}
 use Rattle.automata_base.proofs.Powersets.Walking.{Walking, work, extra_at, new_step}
 
--- a leaf on top is visited, or was
+-- A leaf on top of the stack is visited, or was visited before.
 pub leaf_on : (n : Nfa) (A : Truth) (roots rest order after : List ℕ) (q : ℕ) (added : Bool) → children n A q ≡ []
     → (added ≡ true → In q order → ⊥) → (added ≡ true → after ≡ order ++ q ∷ [])
     → (added ≡ false → In q order) → (added ≡ false → after ≡ order)
@@ -73,7 +73,7 @@ few_left : (n : ℕ) (children was : List ℕ) → length (drop n children ++ wa
 few_left n children was =
     omega (arith, length-append (drop n children) was, length-append children was, length-drop n children)
 
--- the children of a new state: some were visited, and the others wait
+-- The children of a new state: some were visited, and the others wait on the stack.
 waiting_on : (a : Automaton) (looks : ℕ) (old : List ℕ) (start : ℕ) (order after was waiting children : List ℕ)
     → IsExpanded (nfa_of a) (truth_of looks) children order after was waiting
     → Walking a looks old start order (children ++ was)
@@ -112,7 +112,7 @@ expanded_step a looks old start order seen after stack waiting q state checked i
     let two = waiting_on a looks old start seen after stack waiting kids x one.0 in
     (two.0, omega (arith, one.1, two.1))
 
--- a state on top from which nothing is left to visit
+-- A state on top of the stack, from which nothing remains to be visited.
 pub passed_step : (a : Automaton) (looks : ℕ) (old : List ℕ) (start : ℕ) (order after stack : List ℕ) (q : ℕ)
     → ((roots tail : List ℕ) → IsUnderWay (nfa_of a) (truth_of looks) roots (q ∷ tail) order
     → IsUnderWay (nfa_of a) (truth_of looks) roots tail after)
@@ -131,20 +131,20 @@ passed_step a looks old start order after stack q way grown w = (
       omega (arith, less)),
 )
 
--- what is visited from a state was added at once
+-- The states that are visited from a state were added at once.
 pub added_way : (n : Nfa) (A : Truth) (order after : List ℕ) (q : ℕ) → IsAddedApart n A q order after
     → (roots tail : List ℕ) → IsUnderWay n A roots (q ∷ tail) order → IsUnderWay n A roots tail after
 added_way n A order after q x roots tail u =
     subst (λ z. IsUnderWay n A roots tail z) (sym x.after_before)
     (under_way_apart n n A A roots tail order x.added q x.apart (λ y i. refl) x.visited u)
 
--- it was visited before
+-- The state was visited before.
 pub had_way : (n : Nfa) (A : Truth) (order after : List ℕ) (q : ℕ) → In q order → after ≡ order
     → (roots tail : List ℕ) → IsUnderWay n A roots (q ∷ tail) order → IsUnderWay n A roots tail after
 had_way n A order after q had same roots tail u =
     subst (λ z. IsUnderWay n A roots tail z) (sym same) (under_way_skip n A roots q tail order had u)
 
--- the children of a new state are states
+-- The children of a new state are states.
 pub children_below :
     (a : Automaton) (looks : ℕ) (old : List ℕ) (start : ℕ) (order seen stack : List ℕ) (q : ℕ) (state : State)
     → IsChecked a → state ≡ get_or a.states q state → (In q order → ⊥) → seen ≡ order ++ q ∷ []
@@ -155,7 +155,7 @@ children_below a looks old start order seen stack q state checked is new grown w
     (new_step a looks old start order seen stack (kids ++ stack) q state checked is new grown refl w).0.below p
     (in_left p kids stack i)
 
--- some were visited, and the others wait
+-- Some children were visited, and the others wait.
 pub visited_some : (n : Nfa) (A : Truth) (kids before after was waiting : List ℕ) (k : ℕ)
     → ((roots tail : List ℕ) → IsUnderWay n A roots (kids ++ tail) before
     → IsUnderWay n A roots (drop k kids ++ tail) after)

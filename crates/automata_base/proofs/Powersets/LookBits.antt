@@ -29,7 +29,7 @@ insert_bit n k j l = go (eqb_tells j k)
         ap (λ z. eqb z 1) (bit_at_set_other w32 n k (omega (arith, l)) j h.1)
         ∙ sym (ap (λ b. b || eqb (bit_at n j) 1) h.0)
 
--- the low eighteen bits are those of the number
+-- The low eighteen bits are those of the number.
 pub low_bits : (n k : ℕ) → k < 18 → bit_at (bit_and n 262143) k ≡ bit_at n k
 low_bits n k l =
     bit_at_and n 262143 k
@@ -86,7 +86,7 @@ code_below l.WordEndHalfUnicode = omega arith
 ltb_next : (a k : ℕ) → (a ≡ k → ⊥) → ltb a (k + 1) ≡ ltb a k
 ltb_next a k ne = grind (arith, common_steps)
 
--- What a loop over the looks has collected: what was there, and the looks before `k` that pass.
+-- What a loop over the looks has collected: the looks of `base`, and the looks before `k` that pass.
 abbrev pub Sofar : Truth → Truth → ℕ → ℕ → Type 0
 Sofar base f set k = (other : Look) → truth_of set other ≡ (base other || (ltb (look_index other) k && f other))
 
@@ -133,7 +133,7 @@ or_and true true false e f g h = true≢false e
 or_and true false c e f g h = true≢false (sym g)
 or_and false b c e f g h = true≢false (sym f)
 
--- No look before `k` is needed, true and new.
+-- No look before `k` is needed, true and not yet known.
 abbrev pub Unnews : Truth → Truth → Truth → ℕ → Type 0
 Unnews N T K k = (look : Look) → look_index look < k → N look ≡ true → T look ≡ true → K look ≡ false → ⊥
 

@@ -1,4 +1,4 @@
--- What a start and a step make, of their parts.
+-- Start states and successors, from the steps that make them.
 use Rattle.std.proofs.Common.{ℕ, ◌≡◌, ◌<◌, ◌≤◌, List, [], ◌∷◌, length, Option, Some, None, true, false, ◌↔◌, refl, sym}
 use Rattle.std.proofs.Common.{ap, ◌∙◌, subst, arith}
 use Rattle.automata_base.specs.declared.util.search.Anchored.{Anchored}
@@ -19,7 +19,7 @@ use Rattle.automata_base.proofs.Powersets.Stepping.{is_start, is_successor, star
 use Rattle.automata_base.proofs.Answers.Within.{start_own, step_own}
 use Rattle.automata_base.proofs.Paths.Machines.{known_right}
 
--- what is made of the closure under the looks known behind a unit
+-- The state made from the closure under the looks that are known after a unit.
 pub closure_made :
     (a : Automaton) (matched roots closed : List ℕ) (unit : Option ℕ) (known : ℕ) (made : Powerset)
     → ((look : Look) → truth_of known look ≡ known_looks (nfa_of a) unit look)
@@ -39,7 +39,7 @@ closure_made a matched roots closed unit known made same closure make is_of few 
   few = few;
 }
 
--- what is reached from the list with its looks decided is a step's state
+-- The state made from the targets of the decided list is the successor.
 pub step_made :
     (a : Automaton) (kind : MatchKind) (from : Powerset) (unit : Option ℕ) (list : List ℕ) (made : Powerset)
     → IsChecked a → IsOf a from → IsDecided (nfa_of a) from unit list
@@ -76,7 +76,7 @@ starts a mode prev made checked below start is_of bounded =
       bounded = bounded;
     }
 
--- what is reached from the state where a mode starts is its start
+-- The state made from the first state of a mode is the mode's start state.
 pub start_made :
     (a : Automaton) (mode : Anchored) (prev : Option ℕ) (start : ℕ) (made : Powerset)
     → IsChecked a → Some start ≡ mode_start a mode → start < length a.states
@@ -92,7 +92,7 @@ start_made a mode prev start made checked at below arrived =
     only : (q : ℕ) → Some start ≡ Some q → q < length a.states
     only q e = let same : start ≡ q = cc in subst (λ v. v < length a.states) same below
 
--- where a mode has no start, the state with nothing in it is its start
+-- If a mode has no first state, its start state is empty.
 pub start_dead :
     (a : Automaton) (mode : Anchored) (prev : Option ℕ) (states patterns : List ℕ)
     → IsChecked a → None ≡ mode_start a mode → states ≡ [] → patterns ≡ []

@@ -1,4 +1,4 @@
--- A powerset state made of a closure.
+-- A powerset state made from a closure.
 use Rattle.std.proofs.Common.{ℕ, ◌≡◌, ◌&&◌, Bool, true, false, eqb, List, refl, sym, ap, ◌∙◌, true≢false, subst, Option}
 use Rattle.std.proofs.lemmas.Bool.{eq-eqb}
 use Rattle.automata_base.specs.Haystacks.Looks as l
@@ -57,7 +57,7 @@ crlf_mask l.WordEndHalfAscii = refl
 crlf_mask l.WordStartHalfUnicode = refl
 crlf_mask l.WordEndHalfUnicode = refl
 
--- A mask's look among those that occur.
+-- A look of a mask occurs in the NFA.
 pub masked :
     (n : Nfa) (any mask empty : ℕ) (f : l.Look → Bool) (b : Bool)
     → ((look : Look) → truth_of any look ≡ any_node (λ other. eqb (look_index other) (look_index look)) n.nodes)

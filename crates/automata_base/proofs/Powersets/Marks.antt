@@ -16,7 +16,7 @@ found p ys i = decide (is_in p ys) refl
     decide true e = e
     decide false e = elim (is_in_false p ys e i) [ ]
 
--- One that is not in the list is not found there.
+-- A number that is not in the list is not found there.
 pub not_found : (p : ℕ) (ys : List ℕ) → (In p ys → ⊥) → is_in p ys ≡ false
 not_found p ys out = decide (is_in p ys) refl
   where
@@ -24,7 +24,7 @@ not_found p ys out = decide (is_in p ys) refl
     decide true e = elim (out (is_in_true p ys e)) [ ]
     decide false e = e
 
--- A marked number: nothing is added.
+-- If the number is marked, nothing is added.
 pub marks_had :
     (p : ℕ) (ys : List ℕ) (old new : Members) → AreMarks ys old → p < old.capacity → In p old.items
     → new.items ≡ old.items → new.capacity ≡ old.capacity
@@ -41,7 +41,7 @@ marks_had p ys old new marks below i same whole =
           ),
     )
 
--- A number that is not marked: it is added to both.
+-- If the number is not marked, it is added to both.
 pub marks_added :
     (p : ℕ) (ys : List ℕ) (old new : Members) → AreMarks ys old → p < old.capacity → (In p old.items → ⊥)
     → new.items ≡ old.items ++ p ∷ []
@@ -79,7 +79,7 @@ marks_past p ys m marks past q low =
     back false (inr (inl e)) = let wrong : ⊥ = omega (arith, e, low, past) in elim wrong [ ]
     back false (inr (inr i)) = elim i [ ]
 
--- What adding a number below the bound says of the list.
+-- A number below the bound is added exactly if the list does not contain it.
 pub marked :
     (p id : ℕ) (ys : List ℕ) (old new : Members) (r : Bool) → id ≡ p → AreMarks ys old → p < old.capacity
     → (r ≡ true → In id old.items → ⊥) → (r ≡ true → new.items ≡ old.items ++ id ∷ []) → (r ≡ false → In id old.items)
@@ -94,7 +94,7 @@ marked p id ys old new false e marks below out more had same whole =
     let h = marks_had p ys old new marks below (subst (λ z. In z old.items) e (had refl)) (same refl) whole in
     (sym (ap not h.0), h.1)
 
--- The list after a number came that it may have.
+-- The list after one more number, which it may already have.
 pub marks_next :
     (p : ℕ) (ys slice more : List ℕ) (m : Members) (r : Bool) → slice ≡ ys → r ≡ not (is_in p slice)
     → AreMarks (slice ++ cond (is_in p slice) [] (p ∷ [])) m → more ≡ ys ++ cond (not r) [] (p ∷ []) → AreMarks more m

@@ -16,21 +16,21 @@ use Rattle.automata_base.specs.Retraced.Passes.{state_after, reported_at, last_r
 use Rattle.automata_base.specs.Retraced.Passes.{pairs_reported, pairs_upto, reported_of, search_of}
 use Rattle.automata_base.proofs.Paths.Finals.{search_right, earliest_right, end_right}
 
--- the powerset state of a pass from the start of a mode, if it has one
+-- The powerset state of a pass from a start, if there is one.
 abbrev after_from : Automaton → MatchKind → Tape → Option ℕ → ℕ → Powerset
 after_from a kind t start k = after_units (start_or_dead (nfa_of a) start t.before) (successor_of (nfa_of a) kind) t k
 
 abbrev from_start : Automaton → MatchKind → Tape → Option ℕ → ℕ → List ℕ
 from_start a kind t start i = (after_from a kind t start (suc i)).patterns
 
--- from a mode that has a start the states report what those of the pass do
+-- If a mode has a start, its states report what the states of the pass report.
 pub reported_is :
     (a : Automaton) (kind : MatchKind) (mode : Anchored) (t : Tape) (start i : ℕ)
     → mode_start a mode ≡ Some start → reported_at a kind mode t i ≡ reported_of (nfa_of a) kind start t i
 unfolding state_after start_state_of successor
 reported_is a kind mode t start i e = ap (λ o. from_start a kind t o i) e
 
--- what a pass reports is what the computed search reports
+-- What a pass reports is what the computed search reports.
 pub reported_by_is :
     (kind : MatchKind) (earliest : Bool) (a : Automaton) (mode : Anchored) (t : Tape) (start : ℕ)
     → mode_start a mode ≡ Some start → reported_by kind earliest a mode t ≡ search_of kind earliest (nfa_of a) t start
@@ -38,14 +38,14 @@ unfolding state_after start_state_of successor last_reported first_reported
 reported_by_is kind true a mode t start e = ap (λ o. first_among (from_start a kind t o) (suc (length t.bytes))) e
 reported_by_is kind false a mode t start e = ap (λ o. last_among (from_start a kind t o) (suc (length t.bytes))) e
 
--- so do the pairs of a walk
+-- The pairs of a walk are the computed pairs.
 pub pairs_is :
     (a : Automaton) (kind : MatchKind) (mode : Anchored) (t : Tape) (start k : ℕ)
     → mode_start a mode ≡ Some start → pairs_reported a kind mode t k ≡ pairs_upto (nfa_of a) kind start t k
 unfolding state_after start_state_of successor pairs_reported
 pairs_is a kind mode t start k e = ap (λ o. pairs_among (from_start a kind t o) k) e
 
--- and so, for look-acyclic automata, what the ordered paths select
+-- If cycles are kept, a pass reports what the ordered paths select.
 pub reported_selects :
     (kind : MatchKind) (earliest : Bool) (a : Automaton) (mode : Anchored) (t : Tape) (start : ℕ)
     → mode_start a mode ≡ Some start → IsInRange (nfa_of a) → start < length (nodes_of a.states)
@@ -54,7 +54,7 @@ reported_selects kind earliest a mode t start e range below free tape =
     subst (Selects kind earliest (nfa_of a) t start) (sym (reported_by_is kind earliest a mode t start e))
     (search_right kind earliest (nfa_of a) t start range below free tape)
 
--- for every automaton the nearest end
+-- For every automaton, an earliest search reports the nearest end.
 pub reported_nearest :
     (kind : MatchKind) (a : Automaton) (mode : Anchored) (t : Tape) (start : ℕ)
     → mode_start a mode ≡ Some start → IsInRange (nfa_of a) → start < length (nodes_of a.states) → IsTape t
@@ -63,7 +63,7 @@ reported_nearest kind a mode t start e range below tape =
     subst (IsNearest (nfa_of a) t start) (sym (reported_by_is kind true a mode t start e))
     (earliest_right kind (nfa_of a) t start range below tape)
 
--- for every automaton, under kind all the farthest end
+-- For every automaton under `MatchKind::All`, a search that is not earliest reports the farthest end.
 pub reported_farthest :
     (a : Automaton) (mode : Anchored) (t : Tape) (start : ℕ)
     → mode_start a mode ≡ Some start → IsInRange (nfa_of a) → start < length (nodes_of a.states) → IsTape t

@@ -1,4 +1,4 @@
--- For every automaton a walk of `MatchKind::All` reports the pairs of all accepting paths.
+-- For every automaton, a walk under `MatchKind::All` reports the pairs of all accepting paths.
 use Rattle.std.proofs.Common.{ℕ, zero, suc, ◌≡◌, ◌<◌, ◌≤◌, ◌⊎◌, ◌↔◌, inl, inr, Bool, true, false, cond, List, [], ◌∷◌}
 use Rattle.std.proofs.Common.{◌++◌, length, Some, refl, sym, ap, ◌∙◌, subst, arith, true≢false, eq-or-lt_of_le}
 use Rattle.std.proofs.Common.{le_of_suc-le-suc}
@@ -38,7 +38,7 @@ in_either pair (x ∷ xs) ys (inr h) = go (in_either pair xs ys h) where
   go (inl k) = inl (inr k)
   go (inr k) = inr k
 
--- the pairs of a place
+-- The pairs of a position.
 place_in : (i : ℕ) (ps : List ℕ) (p : ℕ) → In p ps → InPairs (record { pattern = p; place = i }) (at_place i ps)
 place_in i [] p h = absurd h
 place_in i (q ∷ ps) p (inl e) = inl (λ j. record { pattern = e j; place = i })
@@ -49,7 +49,7 @@ in_place i [] pair h = absurd h
 in_place i (q ∷ ps) pair (inl e) = (inl (ap (λ (x : Pair). x.pattern) e), ap (λ (x : Pair). x.place) e)
 in_place i (q ∷ ps) pair (inr h) = let k = in_place i ps pair h in (inr k.0, k.1)
 
--- by offsets
+-- The pair with its position as an offset.
 abbrev offset_pair : Direction → Input → Pair → Pair
 offset_pair way input pair = record pair { place = offset_in way input pair.place }
 
@@ -81,7 +81,7 @@ in_offsets way input pair (x ∷ xs) (inr h) =
     let r = in_offsets way input pair xs h in
     record { raw = r.raw; inside = inr r.inside; pattern = r.pattern; place = r.place }
 
--- without the split ones
+-- Removing the pairs inside a character keeps the others.
 unsplit_in :
     (h : List ℕ) (pair : Pair) (ps : List Pair) → InPairs pair ps → is_split h pair.place ≡ false
     → InPairs pair (without_split h ps)
@@ -109,7 +109,7 @@ in_unsplit h pair (x ∷ xs) i = go (is_split h x.place) refl i (λ k. in_unspli
   go false s (inl same) again = (inl same, ap (λ (y : Pair). is_split h y.place) same ∙ s)
   go false s (inr k) again = (inr (again k).0, (again k).1)
 
--- what the first `k` units report
+-- The pairs that the first `k` units report.
 reported_in :
     (a : Automaton) (kind : MatchKind) (mode : Anchored) (t : Tape) (k i p : ℕ)
     → i < k → In p (reported_at a kind mode t i)

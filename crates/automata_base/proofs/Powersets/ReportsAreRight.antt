@@ -27,7 +27,7 @@ use Rattle.automata_base.proofs.Answers.Turning.{turn_answers}
 use Rattle.automata_base.proofs.Paths.Orders.{some_inj}
 use Rattle.std.proofs.lemmas.Option.{slice_get_within, get_or_from_slice_get}
 
--- a mode without a start is dead all along
+-- In a mode without a start, every state is dead.
 none_after :
     (a : Automaton) (kind : MatchKind) (mode : Anchored) (t : Tape) (k : ℕ)
     → mode_start a mode ≡ None → state_after a kind mode t k ≡ dead

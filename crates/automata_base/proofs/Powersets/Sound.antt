@@ -1,4 +1,4 @@
--- What `NFA::from_states` accepts is sound.
+-- An NFA that `NFA::from_states` accepts is sound.
 use Rattle.std.proofs.Common.{Bool, ◌≡◌, ◌↔◌, None, length}
 use Rattle.std.specs.Prelude.{IsTrue}
 use Rattle.automata_base.specs.declared.nfa.thompson.Data.{Data}

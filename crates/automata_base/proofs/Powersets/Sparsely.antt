@@ -1,4 +1,4 @@
--- Where a sparse set holds its members, and what an insertion leaves of it.
+-- Where a sparse set holds its members, and how an insertion changes it.
 use Rattle.std.proofs.Common.{◌≡◌, ◌<◌, ◌+◌, ◌⊎◌, ℕ, suc, true, false, cond, eqb, List, [], ◌∷◌, ◌++◌, length}
 use Rattle.std.proofs.Common.{get_or, set, take, sym, ap, ◌∙◌, subst, inl, inr, arith}
 use Rattle.std.proofs.lemmas.Bool.Decides.{eqb_tells}
@@ -11,7 +11,7 @@ use Rattle.automata_base.specs.declared.util.determinize.sparse_set.SparseSet.Th
 use Rattle.automata_base.proofs.Powersets.Distinct.{In-get_or}
 use Rattle.automata_base.proofs.Powersets.Holding.{has_room, below_set, back_set}
 
--- A member stands at its place.
+-- A member is found at its index.
 pub at_place :
     (items : List ℕ) (q : ℕ) → In q items → (place_in items q < length items) × (get_or items (place_in items q) 0 ≡ q)
 at_place [] q i = absurd i
@@ -57,7 +57,7 @@ module _ (s : Inside) (inv : IsSparse s) where
       inside : q < length s.sparse.items
       inside = let b = inv.below (place_in (take s.len s.dense.items) q) within in omega (arith, b, here, inv.same)
 
-  -- A number whose place was read is a member exactly if it stands there.
+  -- A number is a member exactly if it is found at the index that was read for it.
   module _ (id at i here : ℕ) (same : at ≡ id) (place : i ≡ get_or s.sparse.items at i) where
     pub is_member : i < s.len → here ≡ get_or s.dense.items i here → here ≡ id → In id (take s.len s.dense.items)
     is_member l read e =

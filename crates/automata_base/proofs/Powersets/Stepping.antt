@@ -1,4 +1,4 @@
--- What the construction answers is the start or the successor.
+-- The construction returns the start state or the successor.
 use Rattle.std.proofs.Common.{ℕ, ◌≡◌, ◌<◌, List, [], ◌∷◌, length, Option, Some, None, inl, inr, sym, subst, ap, ◌∙◌}
 use Rattle.std.proofs.Common.{refl, true, true≢false}
 use Rattle.automata_base.specs.declared.util.search.Anchored.{Anchored}
@@ -20,7 +20,7 @@ use Rattle.automata_base.proofs.Powersets.Walking.{nodes_length}
 use Rattle.automata_base.proofs.Paths.Machines.{arrive_right, succ_right}
 use Rattle.automata_base.proofs.Paths.Unique.{arrival_one, succ_one}
 
--- the answered state is the successor
+-- The returned state is the successor.
 pub is_successor :
     (a : Automaton) (kind : MatchKind) (q : Powerset) (u : Option ℕ) (r : Powerset)
     → IsInRange (nfa_of a) → IsOf a q → IsSuccessor (nfa_of a) kind q u r → r ≡ successor a kind q u
@@ -41,7 +41,7 @@ start_at n (Some s) prev r range below h =
     one y (inl e) = subst (λ v. v < length n.nodes) (sym e) (below s refl)
     one y (inr i) = absurd i
 
--- the answered state is the start
+-- The returned state is the start state.
 pub is_start :
     (a : Automaton) (mode : Anchored) (prev : Option ℕ) (r : Powerset)
     → IsInRange (nfa_of a) → ((s : ℕ) → mode_start a mode ≡ Some s → s < length a.states) → IsStartOf a mode prev r
@@ -81,7 +81,7 @@ starts_are_right a range below mode prev r = (
       (λ s f. subst (λ v. s < v) (sym (nodes_length a.states)) (below mode s f))),
 )
 
--- what is made of a closure needs looks of the automaton
+-- A state made from a closure needs only looks of the automaton.
 made_needs :
     (n : Nfa) (patterns C : List ℕ) (prev : Option ℕ) (Q : Powerset)
     → IsMake n patterns C prev Q → (look : Look) → truth_of Q.needed look ≡ true → Occurs n look

@@ -25,7 +25,7 @@ use Rattle.automata_base.proofs.Paths.Finals.{walked_right}
 use Rattle.automata_base.proofs.Paths.Unique.{walk_one}
 use Rattle.automata_base.proofs.Answers.Total.{tape_units}
 
--- a mode without a start reports nothing
+-- A mode without a start reports nothing.
 none_pairs :
     (a : Automaton) (kind : MatchKind) (mode : Anchored) (t : Tape) (k : ℕ)
     → mode_start a mode ≡ None → pairs_reported a kind mode t k ≡ []
@@ -62,7 +62,7 @@ overlaps_once :
 overlaps_once a kind t None x y h k = h ∙ sym k
 overlaps_once a kind t (Some q) x y h k = walk_one kind (nfa_of a) t q x y h k
 
--- what is reported over the span may be replaced by what it stands for
+-- What is reported over the span may be replaced by anything that follows from it.
 turn_walks :
     (T U : Input → List Pair → Type 0) (S : Type 0) (way : Direction) (input : Input) (found : List Pair)
     → ((pairs : List Pair) → input.start ≤ input.end → T input pairs → U input pairs)
@@ -112,7 +112,7 @@ overlapping_reported a d way kind input found free i h =
     (suc (length (tape_of way input.haystack input.start input.end).bytes))) o
     (overlaps_over a kind way input _ d free i l refl)) h
 
--- whether split places are skipped is decided by two flags
+-- Two flags decide whether offsets inside a character are skipped.
 pub skips_or_not :
     (a : Automaton) (kind : MatchKind) (utf8 empty : Bool)
     → utf8 ≡ a.flags.utf8 → (IsTrue empty ↔ HasEmpty a) → IsSkipping (engine_of a kind)

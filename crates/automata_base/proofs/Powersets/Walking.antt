@@ -25,7 +25,7 @@ pub nodes_length : (states : List State) → length (nodes_of states) ≡ length
 nodes_length [] = refl
 nodes_length (x ∷ xs) = ap suc (nodes_length xs)
 
--- A state that was found at a number.
+-- A state that was read at an index.
 pub state_read : (states : List State) (q : ℕ) (s : State) → slice_get states q ≡ Some s → s ≡ get_or states q s
 state_read states q s e = sym (get_or_from_slice_get states q s s e)
 
@@ -188,7 +188,7 @@ pub read_children :
     → children_at (node_of state) A ≡ children (nfa_of a) A q
 read_children a A q state l is = sym (ap (λ n. children_at n A) (node_at a.states q state state l is))
 
--- a state that is new: what stands on the stack then is its children, over what stood there
+-- A new state: its children are pushed on the stack.
 pub new_step :
     (a : Automaton) (looks : ℕ) (old : List ℕ) (start : ℕ) (order order' stack stack' : List ℕ) (q : ℕ) (state : State)
     →
@@ -204,7 +204,7 @@ new_step a looks old start order order' stack stack' q state checked is new grow
     subst (λ o. P o stack') (sym grown) (subst (P (order ++ q ∷ [])) (sym put')
     (walk_visits a looks old start order stack q checked new w, work_visits a looks order stack q below new))
 
--- a state that was there
+-- A state that was visited before.
 pub old_step : (a : Automaton) (looks : ℕ) (old : List ℕ) (start : ℕ) (order order' stack : List ℕ) (q : ℕ) →
     In q order → order' ≡ order → Walking a looks old start order (q ∷ stack) →
     Walking a looks old start order' stack × (work a order' stack < work a order (q ∷ stack))
@@ -212,7 +212,7 @@ old_step a looks old start order order' stack q had same w =
     let P : List ℕ → Type 0 = λ o. Walking a looks old start o stack × (work a o stack < work a order (q ∷ stack)) in
     subst P (sym same) (walk_skips a looks old start order stack q had w, work_skips a order stack q)
 
--- a state without epsilon edges: the set has it, and nothing is left
+-- A state without epsilon edges: the set contains it, and nothing remains.
 pub leaf_step : (a : Automaton) (looks : ℕ) (old : List ℕ) (start : ℕ) (after : List ℕ) (state : State) (added : Bool) →
     IsChecked a → state ≡ get_or a.states start state → children_at (node_of state) (truth_of looks) ≡ []
     → start < length a.states →
@@ -224,7 +224,7 @@ leaf_step a looks old start after state true checked is leaf below new grown had
 leaf_step a looks old start after state false checked is leaf below new grown had same =
     (old_step a looks old start old after [] start (had refl) (same refl) (walk_begins a looks old start below)).0
 
--- the children of a new state find room
+-- There is room for the children of a new state.
 pub step_room :
     (a : Automaton) (looks : ℕ) (old : List ℕ) (start : ℕ) (order items : List ℕ) (q : ℕ) (state : State)
     → state ≡ get_or a.states q state → (In q order → ⊥) →

@@ -26,7 +26,7 @@ pub record SearchAlike (d e : Engine) : Type 0 where
       (way : Direction) (input : Input) (answer : Option Half) → IsHaystack input.haystack
       → IsFarthestAnswer way d input answer ↔ IsFarthestAnswer way e input answer
 
--- The two have the same matches in every input: one alone, one after another, and all that overlap.
+-- The two have the same matches in every input: a single one, one after another, and all that overlap.
 pub record MatchAlike (d e : Engine) : Type 0 where
   -- the match, with its start
   pub span :
@@ -34,7 +34,7 @@ pub record MatchAlike (d e : Engine) : Type 0 where
       → IsSpan d input answer ↔ IsSpan e input answer
   -- the matches of an iteration
   pub list : (input : Input) (ms : List Match) → IsHaystack input.haystack → AreSpans d input ms ↔ AreSpans e input ms
-  -- those of an overlapping search, in order
+  -- the matches of an overlapping search, in order
   pub overlapping :
       (way : Direction) (input : Input) (found : List Pair) → IsHaystack input.haystack
       → IsOverlapping way d input found ↔ IsOverlapping way e input found
@@ -43,11 +43,11 @@ pub record MatchAlike (d e : Engine) : Type 0 where
       (input : Input) (capacity : ℕ) (given found : List ℕ) → IsHaystack input.haystack
       → ArePatternsFound d input capacity given found ↔ ArePatternsFound e input capacity given found
 
--- No caller can tell the two apart by what is found: their searches and their matches are the same.
+-- The two find the same: their searches have the same answers and the same matches.
 pub record AnswerAlike (d e : Engine) : Type 0 where
   -- searches have the same answers
   pub searches : SearchAlike d e
-  -- and the same matches
+  -- inputs have the same matches
   pub matches : MatchAlike d e
   -- offsets inside a character are skipped by both, or by neither
   pub skipping : IsSkipping d ↔ IsSkipping e

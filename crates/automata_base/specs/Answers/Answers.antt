@@ -1,4 +1,4 @@
--- The answers of searches and walks over a span of a haystack, split places skipped.
+-- The answers of searches and walks over a span of a haystack, with split places skipped.
 use Rattle.std.specs.Prelude.{ℕ, ◌≡◌, ◌<◌, ◌≤◌, ◌+◌, ◌-◌, Bool, true, false, cond, List, [], ◌∷◌, ◌⊎◌, ◌↔◌, length}
 use Rattle.std.specs.Prelude.{Option, Some, None}
 use Rattle.automata_base.specs.Lists.{In}
@@ -14,8 +14,7 @@ abbrev pub SelectsFrom : Engine → Bool → Tape → Option ℕ → Option Pair
 SelectsFrom d earliest t None answer = answer ≡ None
 SelectsFrom d earliest t (Some q) answer = Selects d.kind earliest d.nfa t q answer
 
--- What the paths over the span of an input answer, which is not done; the place is counted from where the search
--- begins.
+-- What the paths over the span of an input that is not done answer. The place is counted from where the search begins.
 abbrev pub SelectsOver : Direction → Engine → Input → Option Pair → Type 0
 SelectsOver way d input answer =
     SelectsFrom d input.earliest (tape_of way input.haystack input.start input.end) (first_state d input.anchored)
@@ -31,7 +30,7 @@ abbrev pub offset_in : Direction → Input → ℕ → ℕ
 offset_in way input i = offset way input.start input.end i
 
 -- What is reported over one span is at an offset inside a character. `Reports` says what is reported over the span of
--- an input, which is not done.
+-- an input that is not done.
 abbrev pub IsSplit : (Reports : Input → Option Pair → Type 0) → Direction → Input → Type 0
 IsSplit Reports way input =
     (pair : Pair) × Reports input (Some pair) × (is_split input.haystack (offset_in way input pair.place) ≡ true)
@@ -40,15 +39,15 @@ IsSplit Reports way input =
 pub data MayTry (skipping : Type 0) (input : Input) (k : ℕ) : Type 0 where
   -- it is the first span
   IsFirstSpan : k ≡ 0 → MayTry skipping input k
-  -- an unanchored search that skips split places goes on after them
+  -- an unanchored search that skips split places continues after them
   SkipsToIt : skipping → input.anchored ≡ No → MayTry skipping input k
 
--- The search comes to try the span that begins `k` places later.
+-- The search tries the span that begins `k` places later.
 pub record Tries (Reports : Input → Option Pair → Type 0) (skipping : Type 0) (way : Direction) (input : Input)
     (k : ℕ) : Type 0 where
   -- it may try that span
   pub comes : MayTry skipping input k
-  -- over all the spans before it a split place was reported
+  -- over each span before it, a split place was reported
   pub before : (j : ℕ) → j < k → (input.start + j ≤ input.end) × IsSplit Reports way (later way j input)
 
 -- A pattern, the offset where its path ends, and the start of the span that gave it.
@@ -57,10 +56,10 @@ pub record Half : Type 0 where
   pub pattern : ℕ
   -- the offset where the path ends; in a reverse search the match begins there
   pub offset : ℕ
-  -- where the span begins that gave it: after the input's start only if offsets inside a character were skipped
+  -- the start of the span that gave it: after the input's start only if offsets inside a character were skipped
   pub base : ℕ
 
--- Why a search has no answer that comes to try the span `k` places later.
+-- Why a search that tries the span `k` places later has no answer.
 pub data HasNoAnswerAt (Reports : Input → Option Pair → Type 0) (skipping : Type 0) (way : Direction) (input : Input)
     (k : ℕ) : Type 0 where
   -- the span is done
@@ -72,7 +71,7 @@ pub data HasNoAnswerAt (Reports : Input → Option Pair → Type 0) (skipping : 
       skipping → (input.anchored ≡ No → ⊥) → IsSplit Reports way (later way k input)
       → HasNoAnswerAt Reports skipping way input k
 
--- A search has this answer that comes to try the span `k` places later.
+-- A search that tries the span `k` places later has this answer.
 pub record HasAnswerAt (Reports : Input → Option Pair → Type 0) (skipping : Type 0) (way : Direction) (input : Input)
     (k : ℕ) (half : Half) : Type 0 where
   -- what is reported over the span
@@ -90,8 +89,8 @@ pub record HasAnswerAt (Reports : Input → Option Pair → Type 0) (skipping : 
   -- the answer has the start of the span
   pub base : half.base ≡ (later way k input).start
 
--- What is reported over the first span for which that is nothing or not split. If split places are skipped, an anchored
--- search has an answer over its first span alone.
+-- The answer is what is reported over the first span for which this is nothing or not split. If split places are
+-- skipped, an anchored search can have an answer only over its first span.
 abbrev pub Answers :
     (Reports : Input → Option Pair → Type 0) → (skipping : Type 0) → Direction → Input → Option Half → Type 0
 Answers Reports skipping way input None =
@@ -99,7 +98,7 @@ Answers Reports skipping way input None =
 Answers Reports skipping way input (Some half) =
     (k : ℕ) × Tries Reports skipping way input k × HasAnswerAt Reports skipping way input k half
 
--- What a search answers, by paths.
+-- The answer of a search, by paths.
 abbrev pub IsAnswer : Direction → Engine → Input → Option Half → Type 0
 IsAnswer way d input answer = Answers (SelectsOver way d) (IsSkipping d) way input answer
 
@@ -139,7 +138,7 @@ pub data Walks (Reports : Input → List Pair → Type 0) (skipping : Type 0) (w
       input.start ≤ input.end → (pairs : List Pair) → Reports input pairs → AreUnsplit skipping way input pairs found
       → Walks Reports skipping way input found
 
--- What the paths over the span of an input report to a walk, which is not done.
+-- What the paths over the span of an input that is not done report to a walk.
 abbrev pub OverlapsOver : Direction → Engine → Input → List Pair → Type 0
 OverlapsOver way d input pairs =
     IsOverlappingFrom d (tape_of way input.haystack input.start input.end) (first_state d input.anchored) pairs
@@ -148,7 +147,7 @@ OverlapsOver way d input pairs =
 abbrev pub IsOverlapping : Direction → Engine → Input → List Pair → Type 0
 IsOverlapping way d input found = Walks (OverlapsOver way d) (IsSkipping d) way input found
 
--- The first pair alone, if the walk is an earliest one.
+-- The first pair if the walk is an earliest one, and otherwise all pairs.
 abbrev pub first_alone : Bool → List Pair → List Pair
 first_alone earliest [] = []
 first_alone earliest (pair ∷ pairs) = pair ∷ cond earliest [] pairs
@@ -173,10 +172,10 @@ pub record ArePatterns (Reports : List Pair → Type 0) (input : Input) (capacit
   pub pairs : List Pair
   -- it reports them
   pub reports : Reports pairs
-  -- the set has these patterns; an earliest walk reports its first pair alone
+  -- the set has these patterns; an earliest walk reports only its first pair
   pub members : (p : ℕ) → In p found ↔ IsInSet capacity given (first_alone input.earliest pairs) p
 
--- The same by paths.
+-- The patterns of a set after a forward walk, by paths.
 abbrev pub ArePatternsFound : Engine → Input → ℕ → (given found : List ℕ) → Type 0
 ArePatternsFound d input capacity given found = ArePatterns (IsOverlapping Forward d input) input capacity given found
 

@@ -11,7 +11,7 @@ use Rattle.automata_base.specs.Haystacks.Input.{Input}
 use Rattle.automata_base.specs.Haystacks.Matches.{Match}
 use Rattle.automata_base.specs.Answers.OfPasses.{IsFarthestAnswer}
 
--- Where the match of a path begins: the place where it first stands on the anchored start; in an anchored mode its
+-- Where the match of a path begins: the place where the path first reaches the anchored start; in an anchored mode, its
 -- first place.
 abbrev pub IsPathStart : Engine → Anchored → Tape → List ℕ → ℕ → Type 0
 IsPathStart d No t path place =
@@ -27,7 +27,7 @@ Chooses d earliest t q i pattern path =
     Accepts d.nfa t q i pattern path
     × ((j p : ℕ) (other : List ℕ) → Accepts d.nfa t q j p other → IsChosen d.kind earliest i path j other)
 
--- The same input, of a search that is not earliest.
+-- The same input, for a search that is not earliest.
 abbrev pub in_full : Input → Input
 in_full input = record input { earliest = false }
 
@@ -65,7 +65,7 @@ pub record IsSpanOfPath (d : Engine) (input : Input) (m : Match) : Type 0 where
   -- it ends at the offset of the answer
   pub end : m.end ≡ half.offset
 
--- The match of an input: the pattern and end that the forward search answers, from the start of the path that it chose.
+-- The match of an input: the pattern and end of the forward search's answer, and the start of the path that it chose.
 abbrev pub IsSpan : Engine → Input → Option Match → Type 0
 IsSpan d input None = IsAnswer Forward d input None
 IsSpan d input (Some m) = IsSpanOfPath d input m
@@ -75,35 +75,37 @@ IsSpan d input (Some m) = IsSpanOfPath d input m
 abbrev pub IsShort : Engine → Input → Half → Type 0
 IsShort f input half = (half.base ≡ half.offset) ⊎ ((input.anchored ≡ No → ⊥) ⊎ BeginsAnchored f)
 
--- The input of the reverse search: the span that the forward search left, anchored and not earliest.
+-- The input of the reverse search: the span from the base of the forward answer to its offset, anchored and not
+-- earliest.
 abbrev pub back : Input → Half → Input
 back input half =
     record { haystack = input.haystack; start = half.base; end = half.offset; anchored = Yes; earliest = false }
 
--- The match that a forward answer ends has this start. `Backs` says what the search back finds.
+-- The match that ends at a forward answer has this start. `Backs` says what the reverse search finds.
 pub data HasStartBy (Backs : Input → Option Half → Type 0) (f : Engine) (input : Input) (half : Half) (start : ℕ) :
     Type 0 where
-  -- no search back is made, and it is where the span began
+  -- no reverse search is made, and the start is where the span began
   StartIsBase : IsShort f input half → start ≡ half.base → HasStartBy Backs f input half start
-  -- the search back finds it
+  -- the reverse search finds it
   StartIsFound :
       (IsShort f input half → ⊥) → (found : Half) → Backs (back input half) (Some found) → start ≡ found.offset
       → HasStartBy Backs f input half start
 
--- The start of the match that a forward answer ends; none if the search back finds nothing.
+-- The start of the match that ends at a forward answer; none if the reverse search finds nothing.
 abbrev pub FindsStartBy : (Backs : Input → Option Half → Type 0) → Engine → Input → Half → Option ℕ → Type 0
 FindsStartBy Backs f input half None = (IsShort f input half → ⊥) × Backs (back input half) None
 FindsStartBy Backs f input half (Some start) = HasStartBy Backs f input half start
 
--- A match or none; or the two are no pair, since the search back finds no start.
+-- The outcome of a search over two DFAs: a match or none, or that the two are not a pair, since the reverse search
+-- finds no start.
 pub data Outcome : Type 0 where
   Found : Option Match → Outcome
   NotAPair : Outcome
 
--- A match is what the search forward and the one back find.
+-- A match is what the forward search and the reverse search find.
 pub record IsMatchBy (Fronts Backs : Input → Option Half → Type 0) (f : Engine) (input : Input) (m : Match) :
     Type 0 where
-  -- what the search forward finds
+  -- what the forward search finds
   pub half : Half
   -- it finds that
   pub front : Fronts input (Some half)
@@ -114,14 +116,14 @@ pub record IsMatchBy (Fronts Backs : Input → Option Half → Type 0) (f : Engi
   -- it ends at the offset of what is found
   pub end : m.end ≡ half.offset
 
--- What a search over a forward and a reverse DFA returns, by what the search forward and the one back find.
+-- What a search over a forward and a reverse DFA returns, by what the forward search and the reverse search find.
 abbrev pub ReportsBy : (Fronts Backs : Input → Option Half → Type 0) → Engine → Input → Outcome → Type 0
 ReportsBy Fronts Backs f input (Found None) = Fronts input None
 ReportsBy Fronts Backs f input (Found (Some m)) = IsMatchBy Fronts Backs f input m
 ReportsBy Fronts Backs f input NotAPair =
     (half : Half) × Fronts input (Some half) × FindsStartBy Backs f input half None
 
--- The start of the match that a forward answer ends, if the search back answers by the ordered paths.
+-- The start of the match that ends at a forward answer, if the reverse search answers by the ordered paths.
 abbrev pub FindsStart : Engine → Engine → Input → Half → Option ℕ → Type 0
 FindsStart f r input half start = FindsStartBy (IsAnswer Backward r) f input half start
 
@@ -129,7 +131,8 @@ FindsStart f r input half start = FindsStartBy (IsAnswer Backward r) f input hal
 abbrev pub IsTrySearch : Engine → Engine → Input → Outcome → Type 0
 IsTrySearch f r input outcome = ReportsBy (IsAnswer Forward f) (IsAnswer Backward r) f input outcome
 
--- What it returns if the search back finds the farthest place alone, whatever the order of its paths.
+-- What a search over a forward and a reverse DFA returns, if the reverse search finds only the farthest place, whatever
+-- the order of its paths.
 abbrev pub IsFarSearch : Engine → Engine → Input → Outcome → Type 0
 IsFarSearch f r input outcome = ReportsBy (IsAnswer Forward f) (IsFarthestAnswer Backward r) f input outcome
 
@@ -137,12 +140,12 @@ IsFarSearch f r input outcome = ReportsBy (IsAnswer Forward f) (IsFarthestAnswer
 abbrev pub from : ℕ → Input → Input
 from start input = record input { start = start }
 
--- An empty match at the last end.
+-- The match is empty, and at the last end.
 abbrev pub IsEmptyAt : Option ℕ → Match → Type 0
 IsEmptyAt last m = (m.start ≡ m.end) × (last ≡ Some m.end)
 
--- The next match of an iteration that stands at `start`, after a match that ended at `last`. `Finds` says what a
--- search finds.
+-- The next match of an iteration that is at `start`, after a match that ended at `last`. `Finds` says what a search
+-- finds.
 pub data IsNextItem (Finds : Input → Option Match → Type 0) (input : Input) (start : ℕ) (last : Option ℕ)
     (item : Option Match) : Type 0 where
   -- the search finds it, and it is not empty at the last end
@@ -153,13 +156,13 @@ pub data IsNextItem (Finds : Input → Option Match → Type 0) (input : Input) 
       (m : Match) → Finds (from start input) (Some m) → IsEmptyAt last m → Finds (from (suc start) input) item
       → IsNextItem Finds input start last item
 
--- The matches of an iteration from there on.
+-- The matches of an iteration from `start` on.
 abbrev pub AreMatches : (Finds : Input → Option Match → Type 0) → Input → ℕ → Option ℕ → List Match → Type 0
 AreMatches Finds input start last [] = IsNextItem Finds input start last None
 AreMatches Finds input start last (m ∷ ms) =
     IsNextItem Finds input start last (Some m) × AreMatches Finds input m.end (Some m.end) ms
 
--- The first of them, whatever comes after.
+-- The first matches of an iteration from `start` on, whatever comes after them.
 abbrev pub AreFirst : (Finds : Input → Option Match → Type 0) → Input → ℕ → Option ℕ → List Match → Type 0
 AreFirst Finds input start last [] = Unit {0}
 AreFirst Finds input start last (m ∷ ms) =
@@ -173,15 +176,15 @@ AreSpans d input ms = AreMatches (IsSpan d) input input.start None ms
 abbrev pub TryFinds : Engine → Engine → Input → Option Match → Type 0
 TryFinds f r input answer = IsTrySearch f r input (Found answer)
 
--- The matches of an input, one after another, as searches over two such DFAs find them.
+-- The matches of an input, one after another, as searches over two DFAs that answer by the ordered paths find them.
 abbrev pub AreFound : Engine → Engine → Input → List Match → Type 0
 AreFound f r input ms = AreMatches (TryFinds f r) input input.start None ms
 
--- What a search over a true pair promises.
+-- What is promised of a search over a true pair: it finds the match of the paths, or that there is none.
 abbrev pub FindsSpan : Engine → Input → Outcome → Type 0
 FindsSpan f input outcome = (answer : Option Match) × (outcome ≡ Found answer) × IsSpan f input answer
 
--- A match comes after the last end, in a span that ends here.
+-- A match comes after the last end, in a span that ends at `end`.
 pub record ComesAfter (last end : ℕ) (m : Match) : Type 0 where
   -- it starts at the last end or after it
   pub from : last ≤ m.start

@@ -5,7 +5,7 @@ use Rattle.automata_base.specs.Paths.Selections.{Accepts}
 use Rattle.automata_base.specs.Haystacks.Tapes.{IsHaystack, between, Direction, Forward, Backward, tape_of}
 use Rattle.automata_base.specs.Nfas.Engines.{Engine, Anchored, No, first_state, HasEmptyMatch, BeginsLazily}
 
--- An accepting path of the pattern from the anchored start goes from `i` to `j`, backward from `j` to `i`.
+-- An accepting path of the pattern from the anchored start goes from `i` to `j`, or backward from `j` to `i`.
 abbrev pub Joins : Direction → Engine → List ℕ → (i j pattern : ℕ) → Type 0
 Joins way d h i j pattern = (path : List ℕ) × Accepts d.nfa (tape_of way h i j) d.anchored (j - i) pattern path
 
@@ -21,10 +21,10 @@ pub record IsTruePair (f r : Engine) : Type 0 where
   pub joins :
       (h : List ℕ) (i j pattern : ℕ) → IsHaystack h → i ≤ j → j ≤ length h
       → Joins Forward f h i j pattern ↔ Joins Backward r h i j pattern
-  -- unanchored searches of the forward one begin anchored, or after any bytes, the fewest first
+  -- unanchored searches of the forward one begin at the anchored start, or lazily skip bytes before it
   pub begins : BeginsLazily f.nfa f.anchored f.unanchored
 
--- In UTF-8 mode every accepting path of an anchored mode that is not empty reads UTF-8.
+-- In UTF-8 mode, every accepting path of an anchored mode that is not empty reads valid UTF-8.
 abbrev pub KeepsUtf8 : Direction → Engine → Type 0
 KeepsUtf8 way d =
     (h : List ℕ) (i j pattern : ℕ) (mode : Anchored) (start : ℕ) (path : List ℕ)

@@ -21,7 +21,7 @@ IsPatternOf a pattern = pattern < length a.start_pattern
 abbrev pub ReportsOwn : Automaton → Powerset → Type 0
 ReportsOwn a q = (pattern : ℕ) → In pattern q.patterns → IsPatternOf a pattern
 
--- so are those of each start, and of each state that a step leads to
+-- the patterns of each start state, and of each state that a step leads to, are the NFA's
 abbrev pub StatesReportOwn : Automaton → Type 0
 StatesReportOwn a =
     ((mode : Anchored) (prev : Option ℕ) → ReportsOwn a (start_state_of a mode prev))
@@ -31,14 +31,15 @@ StatesReportOwn a =
 abbrev pub IsInSpan : Input → ℕ → Type 0
 IsInSpan input offset = (input.start ≤ offset) × (offset ≤ input.end)
 
--- what passes answer lies in the span, not before the start of the span that gave it
+-- the answer that passes report lies in the span, not before the start of the span that gave it, and its pattern is the
+-- NFA's
 abbrev pub ReportedLiesWithin : Automaton → Type 0
 ReportedLiesWithin a =
     (way : Direction) (kind : MatchKind) (input : Input) (half : Half)
     → input.end ≤ length input.haystack → IsReported way a kind input (Some half)
     → IsPatternOf a half.pattern × IsInSpan input half.offset × (input.start ≤ half.base) × (half.base ≤ half.offset)
 
--- and so does each pair of a walk
+-- each pair of a walk lies in the span, and its pattern is the NFA's
 abbrev pub WalkLiesWithin : Automaton → Type 0
 WalkLiesWithin a =
     (way : Direction) (kind : MatchKind) (input : Input) (found : List Pair) (pair : Pair)

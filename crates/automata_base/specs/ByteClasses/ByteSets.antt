@@ -18,15 +18,15 @@ unfoldable pub word_of : (ℕ → Bool) → ℕ → ℕ
 word_of truth zero = 0
 word_of truth (suc count) = (if truth 0 then 1 else 0) + 2 * word_of (λ i. truth (suc i)) count
 
--- The word `k` of the set that these truths say.
+-- The word `k` of the set that these truths describe.
 abbrev pub word_at : List Bool → ℕ → ℕ
 word_at truths k = word_of (λ i. is_quit truths (64 * k + i)) 64
 
--- The four words of the set that these truths say.
+-- The four words of the set that these truths describe.
 unfoldable pub words_of : List Bool → List ℕ
 words_of truths = word_at truths 0 ∷ word_at truths 1 ∷ word_at truths 2 ∷ word_at truths 3 ∷ []
 
--- Four words.
+-- The list has four words of 64 bits.
 pub record IsByteSet (words : List ℕ) : Type 0 where
   -- there are four words
   pub whole : length words ≡ 4

@@ -11,24 +11,25 @@ use Rattle.automata_base.specs.Nfas.Nodes.{Automaton}
 abbrev pub is_quit : List Bool → ℕ → Bool
 is_quit quits byte = slice_index_or quits byte false
 
--- The bytes from `lo` to `hi` have a boundary before them and one after them.
+-- Whether the range from `lo` to `hi` has a boundary before the byte: it begins there, or ends at the previous byte.
 abbrev pub bounds : (lo hi : ℕ) → ℕ → Bool
 bounds lo hi byte = eqb byte lo || eqb byte (hi + 1)
 
--- One of these ranges has a boundary before the byte: it begins there, or ends at the byte before.
+-- Whether one of these ranges has a boundary before the byte: it begins there, or ends at the previous byte.
 abbrev pub transitions_bound : List Transition → ℕ → Bool
 transitions_bound [] byte = false
 transitions_bound (t ∷ ts) byte = bounds t.lo t.hi byte || transitions_bound ts byte
 
--- A run of bytes with one target begins or ends before the byte.
+-- Whether a run of bytes with the same target begins or ends before the byte.
 abbrev pub targets_bound : List ℕ → ℕ → Bool
 targets_bound targets byte = not (eqb (slice_index targets byte) (slice_index targets (byte - 1)))
 
--- A run of quit bytes begins or ends before the byte.
+-- Whether a run of quit bytes begins or ends before the byte.
 abbrev pub quits_bound : List Bool → ℕ → Bool
 quits_bound quits byte = differ (is_quit quits byte) (is_quit quits (byte - 1))
 
--- A line look tests for the terminator, a CRLF look for `\r` and `\n`, a word look for `0-9`, `A-Z`, `_` and `a-z`.
+-- Whether a look has a boundary before the byte. A line look tests for the terminator, a CRLF look for `\r` and `\n`, a
+-- word look for `0-9`, `A-Z`, `_` and `a-z`.
 unfoldable pub look_bounds : (terminator : ℕ) → Look → ℕ → Bool
 look_bounds terminator Start byte = false
 look_bounds terminator End byte = false
@@ -59,7 +60,7 @@ states_bound terminator (s ∷ ss) byte = state_bounds terminator s byte || stat
 unfoldable pub is_boundary : Automaton → (quits : List Bool) → (on : Bool) → ℕ → Bool
 is_boundary a quits on byte = not on || (states_bound a.flags.line_terminator a.states byte || quits_bound quits byte)
 
--- How many boundaries there are from byte 1 to this one.
+-- The number of boundaries from byte 1 up to and including this one.
 unfoldable pub boundary_count : (ℕ → Bool) → ℕ → ℕ
 boundary_count boundary zero = 0
 boundary_count boundary (suc byte) = boundary_count boundary byte + (if boundary (suc byte) then 1 else 0)
@@ -68,8 +69,8 @@ boundary_count boundary (suc byte) = boundary_count boundary byte + (if boundary
 abbrev pub class_of : Automaton → (quits : List Bool) → (on : Bool) → ℕ → ℕ
 class_of a quits on byte = boundary_count (is_boundary a quits on) byte
 
--- What contracts see of byte classes: the class of each of the 256 bytes. After the last class comes that of the end of
--- the input.
+-- The class of a byte. Contracts see byte classes as a list with the class of each of the 256 bytes. The class of the
+-- end of the input comes after the last class of these.
 abbrev pub class_in : List ℕ → ℕ → ℕ
 class_in classes byte = slice_index classes byte
 
@@ -77,7 +78,7 @@ class_in classes byte = slice_index classes byte
 abbrev pub eoi_class : List ℕ → ℕ
 eoi_class classes = class_in classes 255 + 1
 
--- How many classes there are, with that of the end of the input.
+-- The number of classes, including the one for the end of the input.
 abbrev pub alphabet_length : List ℕ → ℕ
 alphabet_length classes = class_in classes 255 + 2
 
@@ -88,7 +89,7 @@ stride_for length =
     else (if nat_le length 16 then 16 else (if nat_le length 32 then 32 else (if nat_le length 64 then 64
     else (if nat_le length 128 then 128 else (if nat_le length 256 then 256 else 512)))))))
 
--- The cells of a row of the table: how many classes there are, rounded up to a power of two.
+-- The number of cells of a row of the table: the number of classes, rounded up to a power of two.
 abbrev pub stride_of : List ℕ → ℕ
 stride_of classes = stride_for (alphabet_length classes)
 

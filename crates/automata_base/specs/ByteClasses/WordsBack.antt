@@ -1,4 +1,4 @@
--- The words of a set of bytes come back from what each byte is.
+-- The words of a set of bytes follow from which bytes are in it.
 use Rattle.std.proofs.Common.{ℕ, zero, suc, ◌≡◌, ◌+◌, ◌*◌, ◌/◌, ◌%◌, ◌^◌, ◌<◌, Bool, false, eqb, cond}
 use Rattle.std.proofs.Common.{List, [], ◌∷◌, length, get_or, refl, ap, ◌∙◌, arith}
 use Rattle.std.specs.Int.{bit_at}
@@ -7,7 +7,7 @@ use Rattle.std.proofs.lemmas.Nat.Bits.{bit_at_lowest, bit_at-suc}
 use Rattle.automata_base.specs.ByteClasses.Classes.{is_quit}
 use Rattle.automata_base.specs.ByteClasses.ByteSets.{has_byte, truths_of, word_of, word_at, words_of, IsByteSet}
 
--- What the list says of a byte.
+-- The list says of a byte what the words say.
 pub truth_in : (words : List ℕ) (byte : ℕ) → byte < 256 → is_quit (truths_of words) byte ≡ has_byte words byte
 unfolding truths_of
 truth_in words byte h = get_or-map-range_with_len (has_byte words) 0 256 byte byte false h (none_more byte)
@@ -15,19 +15,19 @@ truth_in words byte h = get_or-map-range_with_len (has_byte words) 0 256 byte by
     none_more : (byte : ℕ) → 0 + byte ≡ byte
     none_more byte = omega arith
 
--- The list says something of each of the 256 bytes.
+-- The list has an entry for each of the 256 bytes.
 pub whole : (words : List ℕ) → length (truths_of words) ≡ 256
 unfolding truths_of
 whole words = length-map-range_with_len (has_byte words) 0 256
 
--- A list that says the same of each byte is that of the words.
+-- A list that says the same of each byte is the list of the words.
 pub truths_by_bytes :
     (words : List ℕ) (truths : List Bool)
     → length truths ≡ 256 → ((k : ℕ) → k < 256 → is_quit truths k ≡ has_byte words k) → truths ≡ truths_of words
 unfolding truths_of
 truths_by_bytes words truths l same = fill_by_all (has_byte words) truths 256 false l same
 
--- A bit of a word.
+-- A byte is in the set exactly if its bit is set in its word.
 pub at_word :
     (words : List ℕ) (byte k i : ℕ) → byte ≡ 64 * k + i → i < 64
     → has_byte words byte ≡ eqb (bit_at (get_or words k 0) i) 1
@@ -41,7 +41,7 @@ at_word words byte k i e l =
     remainder : (byte k i : ℕ) → byte ≡ 64 * k + i → i < 64 → byte % 64 ≡ i
     remainder byte k i e l = omega (arith, e, l)
 
--- The number of the bits of a word is the word.
+-- The number with the bits of a word is the word.
 pub of_bits :
     (truth : ℕ → Bool) (n w : ℕ) → w < 2 ^ n → ((i : ℕ) → i < n → truth i ≡ eqb (bit_at w i) 1) → word_of truth n ≡ w
 unfolding word_of
@@ -62,7 +62,7 @@ of_bits truth (suc n) w h same =
     parity (suc zero) l = refl
     parity (suc (suc m)) l = absurd (omega (arith, l))
 
--- The words come back from what each byte is.
+-- The words that follow from which bytes are in a set are the words of the set.
 pub words_back : (words : List ℕ) → IsByteSet words → words_of (truths_of words) ≡ words
 unfolding words_of
 words_back [] h = absurd (omega (arith, h.whole))

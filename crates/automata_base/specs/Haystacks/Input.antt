@@ -1,12 +1,13 @@
--- What contracts see of an input.
+-- An input as contracts see it.
 use Rattle.std.specs.Prelude.{ℕ, ◌+◌, ◌≤◌, ◌++◌, Bool, List, length, codes}
 use Rattle.std.specs.Fmt.{decimal}
 use Rattle.automata_base.specs.declared.util.search.Anchored.{Anchored}
 use Rattle.automata_base.specs.declared.util.search.Anchored.TheVariants.{No, Yes, Pattern}
 
--- What is searched: the span `start..end` of a haystack. It is done if `start` is past `end`.
+-- The input of a search: the span `start..end` of a haystack, and how it is searched. It is done if `start` is past
+-- `end`.
 pub record Input : Type 0 where
-  -- the bytes that are searched; looks see those beside the span too
+  -- the bytes of the haystack; looks also see those beside the span
   pub haystack : List ℕ
   -- the offset where the span begins
   pub start : ℕ

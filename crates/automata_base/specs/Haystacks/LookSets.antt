@@ -1,4 +1,4 @@
--- Sets of looks: as numbers whose bit k stands for look k, and as what each look is.
+-- Sets of looks: as numbers whose bit k is set if look k is in the set, and as functions that are true of its looks.
 use Rattle.std.specs.Prelude.{ℕ, zero, suc, ◌+◌, ◌*◌, ◌^◌, ◌<◌, eqb, if◌then◌else◌, List, [], ◌∷◌}
 use Rattle.std.specs.Int.{bit_at}
 use Rattle.automata_base.specs.Haystacks.Looks.{Look, Start, End, StartLF, EndLF, StartCRLF, EndCRLF, WordAscii}
@@ -14,7 +14,7 @@ use Rattle.automata_base.specs.Nfas.Nfa.{Truth}
 abbrev pub truth_of : ℕ → Truth
 truth_of bits look = eqb (bit_at bits (look_index look)) 1
 
--- A set of the eighteen looks.
+-- The number is a set of the eighteen looks.
 abbrev pub IsLookSet : ℕ → Type 0
 IsLookSet bits = bits < 2 ^ 18
 
@@ -40,6 +40,6 @@ nth_of [] k = WordEndHalfUnicode
 nth_of (x ∷ xs) zero = x
 nth_of (x ∷ xs) (suc k) = nth_of xs k
 
--- The look of a number.
+-- The look with this number.
 abbrev pub nth_look : ℕ → Look
 nth_look k = nth_of all_looks k

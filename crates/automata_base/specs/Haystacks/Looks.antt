@@ -8,15 +8,15 @@ pub use Rattle.automata_base.specs.declared.util.look.Look.TheVariants.{WordStar
 pub use Rattle.automata_base.specs.declared.util.look.Look.TheVariants.{WordStartHalfAscii, WordEndHalfAscii}
 pub use Rattle.automata_base.specs.declared.util.look.Look.TheVariants.{WordStartHalfUnicode, WordEndHalfUnicode}
 
--- The byte is in the range from `lo` to `hi`, both included.
+-- Whether the byte is in the range from `lo` to `hi`, both included.
 abbrev pub within : ℕ → ℕ → ℕ → Bool
 within lo hi u = leb lo u && leb u hi
 
--- A digit, a letter or an underscore, of ASCII.
+-- Whether the byte is an ASCII digit, letter or underscore.
 abbrev pub is_word_byte : ℕ → Bool
 is_word_byte u = within 48 57 u || within 65 90 u || eqb u 95 || within 97 122 u
 
--- Whether there is no byte on one side of a place: so it is only outside the haystack.
+-- Whether there is no byte on one side of a place, which is so only at an end of the haystack.
 abbrev pub is_absent : Option ℕ → Bool
 is_absent None = true
 is_absent (Some u) = false
@@ -31,7 +31,7 @@ abbrev pub is_word : Option ℕ → Bool
 is_word None = false
 is_word (Some u) = is_word_byte u
 
--- One of the two, and not both.
+-- Whether exactly one of the two is true.
 abbrev pub differ : Bool → Bool → Bool
 differ true b = not b
 differ false b = b
@@ -46,7 +46,7 @@ abbrev pub second_half : Bool → ℕ
 second_half false = 10
 second_half true = 13
 
--- Where each look holds, by the byte before a place and the one after it.
+-- Whether a look holds at a place, by the byte before it and the byte after it.
 abbrev pub holds : (terminator : ℕ) (reverse : Bool) → Look → (prev next : Option ℕ) → Bool
 holds t r Start prev next = is_absent prev
 holds t r End prev next = is_absent next

@@ -1,4 +1,4 @@
--- What contracts see of matches.
+-- Matches as contracts see them.
 use Rattle.std.specs.Prelude.{ℕ}
 
 -- A pattern, and the offset where its match ends (for a reverse search, begins).

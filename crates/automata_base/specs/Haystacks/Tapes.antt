@@ -38,12 +38,12 @@ abbrev pub offset : Direction → (s e place : ℕ) → ℕ
 offset Forward s e i = s + i
 offset Backward s e i = e - i
 
--- A byte that continues a character of UTF-8.
+-- Whether there is a byte, and it is a UTF-8 continuation byte.
 abbrev pub is_continuation : Option ℕ → Bool
 is_continuation None = false
 is_continuation (Some u) = within 128 191 u
 
--- An offset is inside a character, a split place: it is inside the haystack and its byte is 0x80 to 0xBF.
+-- Whether an offset is inside a character (a split place): it is inside the haystack, and its byte is 0x80 to 0xBF.
 abbrev pub is_split : List ℕ → ℕ → Bool
 is_split h o = is_continuation (slice_get h o)
 

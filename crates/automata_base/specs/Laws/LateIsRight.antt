@@ -1,4 +1,4 @@
--- That what searches and walks by passes report is what the ordered paths define, as statements.
+-- The statements that searches and walks by passes report what the ordered paths define.
 use Rattle.std.specs.Prelude.{ℕ, suc, ◌<◌, ◌≤◌, Bool, true, false, List, length}
 use Rattle.automata_base.specs.Lists.{IsSet}
 use Rattle.automata_base.specs.Nfas.Nfa.{Nfa}
@@ -16,7 +16,7 @@ SearchesAreRight =
     → IsInRange n → start < length n.nodes → KeepsCycles n → IsTape t
     → Selects kind earliest n t start (search_of kind earliest n t start)
 
--- If it does, a walk by passes reports the pairs that the ordered paths have.
+-- If the NFA keeps its cycles, a walk by passes reports the pairs that the ordered paths have.
 abbrev pub WalksAreRight : Type 0
 WalksAreRight =
     (kind : MatchKind) (n : Nfa) (t : Tape) (start : ℕ)

@@ -1,4 +1,4 @@
--- That merged unions change no answer, as statements.
+-- The statements that merging unions changes no answer.
 use Rattle.std.specs.Prelude.{ℕ, ◌<◌, ◌↔◌, List, length}
 use Rattle.automata_base.specs.Answers.Alike.{AnswerAlike}
 use Rattle.automata_base.specs.Answers.TruePairs.{IsTruePair, KeepsUtf8}
@@ -15,13 +15,13 @@ use Rattle.automata_base.specs.Paths.Paths.{IsLookAcyclic, Tape}
 use Rattle.automata_base.specs.Paths.Selections.{Accepts, Pair}
 use Rattle.automata_base.specs.Powersets.Cuts.{All, MatchKind}
 
--- An NFA whose unions are merged answers as it did.
+-- An NFA whose unions are merged gives the same answers as before.
 abbrev pub MergedAnswerAlike : Type 0
 MergedAnswerAlike =
     (a b : Automaton) (kind : MatchKind) → IsChecked a → IsMergedNfa a b
     → AnswerAlike (engine_of a kind) (engine_of b kind)
 
--- From each state of an NFA whose unions are merged, paths accept what they did, by the same patterns.
+-- From each state of an NFA whose unions are merged, paths accept the same as before, by the same patterns.
 abbrev pub MergedAcceptAlike : Type 0
 MergedAcceptAlike =
     (a b : Automaton) (t : Tape) (start i pattern : ℕ)
@@ -29,7 +29,7 @@ MergedAcceptAlike =
     → ((path : List ℕ) × Accepts (nfa_of a) t start i pattern path)
     ↔ ((path : List ℕ) × Accepts (nfa_of b) t start i pattern path)
 
--- From each start, the accepting paths of an NFA whose unions are merged end at the offsets where they did, by the same
+-- From each start, the accepting paths of an NFA whose unions are merged end at the same offsets as before, by the same
 -- patterns.
 abbrev pub MergedPairsAlike : Type 0
 MergedPairsAlike =
@@ -37,28 +37,28 @@ MergedPairsAlike =
     → IsChecked a → IsMergedNfa a b → IsHaystack input.haystack → start < length (nfa_of a).nodes
     → IsAccepted way a input start pair ↔ IsAccepted way b input start pair
 
--- If no cycle of edges that read nothing passes a look, none does when unions are merged.
+-- If no cycle of epsilon edges passes a look, none does after unions are merged.
 abbrev pub MergedStayAcyclic : Type 0
 MergedStayAcyclic =
     (a b : Automaton) → IsChecked a → IsMergedNfa a b → IsLookAcyclic (nfa_of a) → IsLookAcyclic (nfa_of b)
 
--- An NFA whose unions are merged keeps the UTF-8 promise exactly if it did.
+-- An NFA whose unions are merged keeps the UTF-8 promise exactly if it did before.
 abbrev pub MergedKeepUtf8 : Type 0
 MergedKeepUtf8 =
     (a b : Automaton) (way : Direction) (kind : MatchKind) → IsChecked a → IsMergedNfa a b
     → KeepsUtf8 way (engine_of a kind) ↔ KeepsUtf8 way (engine_of b kind)
 
--- An NFA whose unions are merged reads UTF-8 alone, looks taken as true, exactly if it did.
+-- An NFA whose unions are merged reads only UTF-8, with every look taken as true, exactly if it did before.
 abbrev pub MergedReadUtf8 : Type 0
 MergedReadUtf8 =
     (a b : Automaton) (way : Direction) → IsChecked a → IsMergedNfa a b → ReadsUtf8 way a ↔ ReadsUtf8 way b
 
--- In an NFA whose unions are merged, the empty match begins at the anchored start and at those of the patterns alike
--- exactly if it did.
+-- In an NFA whose unions are merged, the empty match begins alike at the anchored start and at the starts of the
+-- patterns exactly if it did before.
 abbrev pub MergedBeginAlike : Type 0
 MergedBeginAlike = (a b : Automaton) → IsChecked a → IsMergedNfa a b → BeginsAlike a ↔ BeginsAlike b
 
--- A true pair stays one when the unions of its reverse NFA are merged.
+-- A true pair stays a true pair when the unions of its reverse NFA are merged.
 abbrev pub MergedStayPaired : Type 0
 MergedStayPaired =
     (f : Engine) (a b : Automaton) → IsChecked a → IsMergedNfa a b

@@ -1,4 +1,4 @@
--- That the search back finds where the chosen path began, and that answers are unique, as statements.
+-- The statements that the reverse search finds where the chosen path began, and that answers are unique.
 use Rattle.std.specs.Prelude.{ℕ, suc, ◌≡◌, ◌≤◌, ◌+◌, ◌-◌, Bool, false, List, length, ◌⊎◌, Option, None, is_some}
 use Rattle.automata_base.specs.Haystacks.Tapes.{Direction, Forward, forward_tape, reverse_tape, MeetsNone}
 use Rattle.automata_base.specs.Nfas.Engines.{Engine, IsSkipping}
@@ -9,19 +9,19 @@ use Rattle.automata_base.specs.Answers.Spans.{IsSpan, IsMatch, Outcome, Found, I
 use Rattle.automata_base.specs.Answers.Spans.{AreSpans, AreFound, Rise}
 use Rattle.automata_base.specs.Haystacks.Matches.{Match}
 
--- Over a true pair with the UTF-8 promise a search reports the match of the path that the forward search chose, and
--- never that the two are no pair.
+-- Over a true pair with the UTF-8 promise, a search reports the match of the path that the forward search chose, and
+-- never that the two are not a pair.
 abbrev pub ReportSpans : (Reports : Engine → Engine → Input → Outcome → Type 0) → Type 0
 ReportSpans Reports =
     (f r : Engine) (input : Input) (outcome : Outcome)
     → IsTruePair f r → KeepsUtf8 Forward f → IsInput input → Reports f r input outcome → FindsSpan f input outcome
 
--- This holds of one that answers both ways by the ordered paths, and of one whose search back finds the farthest place
--- alone, as a pass of any reverse NFA does.
+-- Over a true pair, a search reports the right match if it answers by the ordered paths in both directions, and also if
+-- its reverse search finds only the farthest place, as a pass of any reverse NFA does.
 pub record StartsAreRight : Type 0 where
-  -- it holds if the search back answers by the ordered paths
+  -- it does if the reverse search answers by the ordered paths
   pub paths : ReportSpans IsTrySearch
-  -- it holds if the search back finds the farthest place alone
+  -- it does if the reverse search finds only the farthest place
   pub farthest : ReportSpans IsFarSearch
 
 -- If both engines are sound, the search over them finds the match of the paths, or that there is none.
@@ -67,17 +67,17 @@ EndsRise =
     (d : Engine) (input : Input) (ms : List Match) → input.end ≤ length input.haystack → AreSpans d input ms
     → Rise input.end None ms × (length ms ≤ suc (input.end - input.start))
 
--- The same of the matches that searches over two DFAs find.
+-- The ends of the matches that searches over two DFAs find rise as well.
 abbrev pub FoundEndsRise : Type 0
 FoundEndsRise =
     (f r : Engine) (input : Input) (ms : List Match) → input.end ≤ length input.haystack → AreFound f r input ms
     → Rise input.end None ms × (length ms ≤ suc (input.end - input.start))
 
--- By paths, and over any two DFAs.
+-- The ends of the matches of an iteration rise, by paths and over any two DFAs.
 pub record AllEndsRise : Type 0 where
-  -- it is so of the matches of the paths
+  -- the ends of the matches of the paths rise
   pub spans : EndsRise
-  -- it is so of the matches that searches over two DFAs find
+  -- the ends of the matches that searches over two DFAs find rise
   pub found : FoundEndsRise
 
 -- If the input is not earliest or nothing is skipped, there is a match exactly if a search finds one.
@@ -87,7 +87,8 @@ MatchIffFound =
     → (input.earliest ≡ false) ⊎ (IsSkipping d → ⊥) → IsMatch d input truth → IsSpan d input answer
     → truth ≡ is_some answer
 
--- With one quit set the reverse search meets no quit byte if the forward search met none up to its match.
+-- If both DFAs have the same quit set, the reverse search meets no quit byte if the forward search met none up to its
+-- match.
 abbrev pub BackMeetsNone : Type 0
 BackMeetsNone =
     (quits : ℕ → Bool) (h : List ℕ) (b e i m : ℕ) → b + i ≤ e → e ≤ length h → m ≤ i

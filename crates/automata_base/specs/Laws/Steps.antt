@@ -1,4 +1,4 @@
--- Laws about every DFA: what it does alike, and what its passes report.
+-- Laws about every DFA: what its steps and starts do not distinguish, and what its passes report.
 use Rattle.std.specs.Prelude.{ℕ, ◌≡◌, ◌<◌, ◌↔◌, Bool, true, false, List, length, Option, Some}
 use Rattle.automata_base.specs.ByteClasses.LookBehind.{behind_of}
 use Rattle.automata_base.specs.ByteClasses.Classes.{class_of, is_quit}
@@ -27,7 +27,7 @@ ClassesQuitAlike =
     (a : Automaton) (quits : List Bool) (on : Bool) (u v : ℕ)
     → class_of a quits on u ≡ class_of a quits on v → is_quit quits u ≡ is_quit quits v
 
--- after look-behind bytes of one kind an anchored mode has one start state
+-- an anchored mode has the same start state after all look-behind bytes of one kind
 abbrev pub StartsAreAlike : Type 0
 StartsAreAlike =
     (a : Automaton) (mode : Anchored) (x y : Option ℕ)
@@ -60,13 +60,13 @@ PassesFindFarthest =
     → mode_start a mode ≡ Some start → IsInRange (nfa_of a) → start < length (nodes_of a.states) → IsTape t
     → IsFarthest (nfa_of a) t start (reported_by All false a mode t)
 
--- what `successor` returns of a state of the automaton is its successor, the only one
+-- `successor` returns the only successor of a state of the automaton
 abbrev pub SuccessorsAreRight : Automaton → Type 0
 SuccessorsAreRight a =
     (kind : MatchKind) (q r : Powerset) (unit : Option ℕ)
     → IsOf a q → IsSuccessor (nfa_of a) kind q unit r ↔ (r ≡ successor a kind q unit)
 
--- what `start_state_of` returns is the start, the only one
+-- `start_state_of` returns the only start state
 abbrev pub PowersetStartsAreRight : Automaton → Type 0
 PowersetStartsAreRight a =
     (mode : Anchored) (prev : Option ℕ) (r : Powerset) → IsStartOf a mode prev r ↔ (r ≡ start_state_of a mode prev)

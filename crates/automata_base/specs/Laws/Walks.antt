@@ -1,4 +1,5 @@
--- What an overlapping walk reports by its pass, for every NFA, and that this is what the ordered paths report.
+-- What the pass of an overlapping walk reports, for every NFA, and the statements that the ordered paths report the
+-- same.
 use Rattle.std.specs.Prelude.{ℕ, ◌≡◌, ◌≤◌, ◌⊎◌, ◌↔◌, suc, false, List, [], ◌∷◌, length, Some}
 use Rattle.automata_base.specs.Answers.Answers.{IsInput, IsOverlapping, Walks, offset_in}
 use Rattle.automata_base.specs.Powersets.Cuts.{MatchKind, All}
@@ -11,7 +12,7 @@ use Rattle.automata_base.specs.Paths.Starts.{mode_start}
 use Rattle.automata_base.specs.Haystacks.Tapes.{Direction, is_split, tape_of}
 use Rattle.automata_base.specs.Retraced.Passes.{pairs_reported}
 
--- what the pass over the span of an input reports, which is not done; places are counted from where the search begins
+-- what the pass over the span of an input that is not done reports; places are counted from where the search begins
 abbrev pub SpanReports : Direction → Automaton → MatchKind → Input → List Pair → Type 0
 SpanReports way a kind input pairs =
     pairs ≡ pairs_reported a kind input.anchored (tape_of way input.haystack input.start input.end)
@@ -26,20 +27,20 @@ abbrev pub WalksAreReported : Automaton → Type 0
 WalksAreReported a =
     (way : Direction) (kind : MatchKind) (input : Input) → (found : List Pair) × AreReported way a kind input found
 
--- a walk has no two such lists
+-- a walk has at most one such list
 abbrev pub WalksAreOne : Type 0
 WalksAreOne =
     (way : Direction) (a : Automaton) (kind : MatchKind) (input : Input) (first second : List Pair)
     → AreReported way a kind input first → AreReported way a kind input second → first ≡ second
 
--- if the NFA keeps its cycles it is the list of the ordered paths
+-- if the NFA keeps its cycles, the list of a walk is the list of the ordered paths
 abbrev pub WalkIsRight : Automaton → Type 0
 WalkIsRight a =
     (way : Direction) (kind : MatchKind) (input : Input) (found : List Pair)
     → KeepsCycles (nfa_of a) → IsInput input → AreReported way a kind input found
     → IsOverlapping way (engine_of a kind) input found
 
--- and each list of the ordered paths is this one
+-- if the NFA keeps its cycles, each list of the ordered paths is the list of a walk
 abbrev pub OverlappingIsReported : Automaton → Type 0
 OverlappingIsReported a =
     (way : Direction) (kind : MatchKind) (input : Input) (found : List Pair)
@@ -61,7 +62,7 @@ pub record IsAccepted (way : Direction) (a : Automaton) (input : Input) (start :
   pub inside : place ≤ length (tape_of way input.haystack input.start input.end).bytes
   -- the path ends there in a match of the pattern
   pub accepted : Accepts (nfa_of a) (tape_of way input.haystack input.start input.end) start place pair.pattern path
-  -- the offset is that of the place
+  -- the offset is the one of the place
   pub offset : pair.place ≡ offset_in way input place
   -- it is not split, if split places are skipped
   pub whole : IsSkipping (engine_of a All) → is_split input.haystack pair.place ≡ false

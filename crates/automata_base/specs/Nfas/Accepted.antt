@@ -15,7 +15,7 @@ IsInRange n =
     ((q c : ℕ) (A : Truth) → In c (children n A q) → c < length n.nodes)
     × ((q u r : ℕ) → takes n q u ≡ Some r → r < length n.nodes)
 
--- At most 2^27 states, and at most 2^27 patterns, each number in range, ranges in order.
+-- The NFA has at most 2^27 states and at most 2^27 patterns, each number is in range, and ranges are in order.
 pub record IsChecked (a : Automaton) : Type 0 where
   -- there are at most 2^27 states
   pub small : length a.states ≤ 2 ^ 27
@@ -33,10 +33,10 @@ pub record IsChecked (a : Automaton) : Type 0 where
   pub ordered : states_ordered a.states ≡ true
   -- the stack of a closure needs at most 2^31 + 1 entries
   pub room : stack_room a.states ≤ 2 ^ 31 + 1
-  -- each match state is of a pattern that the NFA has
+  -- each match state has a pattern of the NFA
   pub patterns : (q p : ℕ) → accepts (nfa_of a) q ≡ Some p → p < length a.start_pattern
 
--- The set of the looks that are states of the NFA.
+-- The set has exactly the looks that are states of the NFA.
 abbrev pub IsLooks : Automaton → ℕ → Type 0
 IsLooks a looks =
     (look : Look) → truth_of looks look ≡ any_node (λ other. eqb (look_index other) (look_index look)) (nfa_of a).nodes

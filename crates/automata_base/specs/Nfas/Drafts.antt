@@ -1,4 +1,4 @@
--- What contracts see of a builder of NFAs.
+-- A builder of NFAs, as contracts see it.
 use Rattle.std.specs.Prelude.{ℕ, ◌≡◌, ◌+◌, ◌≤◌, ◌<◌, List, [], ◌∷◌, ◌++◌, length, map, Option, Some, None, false}
 use Rattle.std.specs.Prelude.{Result, Err, IfOk, OnOk, OnErr, IsOkUnless}
 use Rattle.automata_base.specs.declared.nfa.thompson.Flags.{Flags}
@@ -15,8 +15,8 @@ use Rattle.automata_base.specs.Nfas.Getters.{SkipsLazily}
 use Rattle.automata_base.specs.Nfas.Nodes.{Automaton}
 use Rattle.automata_base.specs.Nfas.Shapes.{Shape, UnionShape, RangeShape, shape_of, shape_added, built_of}
 
--- Its states as they were added and patched, the pattern that was started and not finished, the starts of the
--- finished patterns, and the flags.
+-- A draft of an NFA: its states as they were added and patched, the pattern that was started and not finished, the
+-- starts of the finished patterns, and the flags.
 pub record Draft : Type 0 where
   -- the states, as they were added and patched
   pub states : List Shape
@@ -59,7 +59,7 @@ abbrev pub finished : Draft → ℕ → Draft
 finished draft start =
     record { states = draft.states; pattern = None; starts = draft.starts ++ start ∷ []; flags = draft.flags }
 
--- The same with these flags.
+-- The same draft with these flags.
 abbrev pub with_flags : Draft → Flags → Draft
 with_flags draft flags =
     record { states = draft.states; pattern = draft.pattern; starts = draft.starts; flags = flags }
@@ -69,10 +69,10 @@ abbrev pub prefix_of : Draft → (start : ℕ) → List Shape
 prefix_of draft start =
     UnionShape (start ∷ (length draft.states + 1) ∷ []) ∷ RangeShape 0 255 (length draft.states) ∷ []
 
--- A call that adds states returns the ID of the first of them, or an error, and then it changes nothing. It fails if
--- IDs run out, and otherwise only if the allocation fails.
+-- A call that adds states returns the ID of the first of them, or an error, after which nothing has changed. It fails
+-- if IDs run out, and otherwise only if the allocation fails.
 pub record IsAdding (old new : Draft) (result : Result ℕ BuildError) (shapes : List Shape) : Type 0 where
-  -- the ID that it returns is that of the first state added
+  -- the ID that it returns is the ID of the first state added
   pub id : IfOk result (λ id. id ≡ length old.states)
   -- if it returns an ID, these states come after those that were there
   pub added : OnOk result (new ≡ with_states old (old.states ++ shapes))
@@ -83,7 +83,7 @@ pub record IsAdding (old new : Draft) (result : Result ℕ BuildError) (shapes :
   -- otherwise it fails only if the allocation fails
   pub memory : length old.states + length shapes ≤ 2147483647 → IsOkUnless result OutOfMemory
 
--- The same of a call that needs a started pattern: without one it fails, and changes nothing.
+-- A call adds a state for the started pattern. Without a started pattern it fails, and changes nothing.
 pub record IsAddingOf
     (old new : Draft) (result : Result ℕ BuildError) (shape : ℕ → Shape)
     : Type 0 where
@@ -129,11 +129,11 @@ built draft anchored unanchored = record {
 abbrev pub AreBuilt : Draft → List State → Type 0
 AreBuilt draft states = map shape_of states ≡ map built_of draft.states
 
--- The error of the first test of `NFA::from_states` that the states which are built fail; none if they pass all.
+-- The error of the first test of `NFA::from_states` that the built states fail; none if they pass all.
 abbrev pub draft_error : Draft → (anchored unanchored : ℕ) → Option NfaError
 draft_error draft anchored unanchored = shapes_error (map built_of draft.states) anchored unanchored draft.starts
 
--- What a builder returns for an error of `NFA::from_states`: the one of memory is its own.
+-- The builder's error for an error of `NFA::from_states`: out of memory is an error of the builder itself.
 abbrev pub build_error : NfaError → BuildError
 build_error nfa_error.StateRange = NFA nfa_error.StateRange
 build_error nfa_error.StartRange = NFA nfa_error.StartRange
@@ -142,7 +142,7 @@ build_error nfa_error.Ranges = NFA nfa_error.Ranges
 build_error nfa_error.TooLarge = NFA nfa_error.TooLarge
 build_error nfa_error.OutOfMemory = OutOfMemory
 
--- If the states before it lead to no others, an NFA that starts at a lazy loop skips lazily.
+-- An NFA that starts at the lazy loop of a builder skips lazily, if the states before the loop lead only to each other.
 abbrev pub PrefixesSkipLazily : Type 0
 PrefixesSkipLazily =
     (draft : Draft) (start : ℕ) (before after : Automaton) → IsChecked before → AreBuilt draft before.states

@@ -1,4 +1,4 @@
--- What is searched with: an NFA, its starts, its UTF-8 flag and a match kind.
+-- The engine of a search: an NFA, its starts, its UTF-8 flag and a match kind.
 use Rattle.std.specs.Prelude.{ℕ, ◌≡◌, Bool, true, List, [], ◌∷◌, Option, Some, slice_get}
 use Rattle.automata_base.specs.Lists.{In}
 use Rattle.automata_base.specs.Nfas.Nfa.{Nfa, Node, Split, Read, node, hop, takes, accepts}
@@ -8,7 +8,7 @@ use Rattle.automata_base.specs.Nfas.Nodes.{Automaton, nfa_of}
 pub use Rattle.automata_base.specs.declared.util.search.Anchored.{Anchored}
 pub use Rattle.automata_base.specs.declared.util.search.Anchored.TheVariants.{No, Yes, Pattern}
 
--- The starts are those of an anchored search, of an unanchored one, and of each pattern.
+-- An engine, with the starts of anchored searches, of unanchored ones, and of those for each pattern.
 pub record Engine : Type 0 where
   -- the NFA, as paths see it
   pub nfa : Nfa
@@ -29,11 +29,12 @@ first_state d No = Some d.unanchored
 first_state d Yes = Some d.anchored
 first_state d (Pattern k) = slice_get d.starts k
 
--- A match is reached by epsilon edges from some pattern's start, looks taken as true.
+-- Epsilon edges lead from some pattern's start to a match, with every look taken as true.
 abbrev pub MatchesEmpty : Nfa → (starts : List ℕ) → Type 0
 MatchesEmpty n starts = (start q p : ℕ) × In start starts × HasEpsilonPath n start q × (accepts n q ≡ Some p)
 
--- A match is reached from some pattern's start without reading a byte, looks taken as true.
+-- The NFA of the engine has the empty match: epsilon edges lead from some pattern's start to a match, with every look
+-- taken as true.
 abbrev pub HasEmptyMatch : Engine → Type 0
 HasEmptyMatch d = MatchesEmpty d.nfa d.starts
 
@@ -41,27 +42,27 @@ HasEmptyMatch d = MatchesEmpty d.nfa d.starts
 abbrev pub IsSkipping : Engine → Type 0
 IsSkipping d = (d.utf8 ≡ true) × HasEmptyMatch d
 
--- `q` has an edge to `r`, looks taken as true.
+-- `q` has an edge to `r`, with every look taken as true.
 pub data HasEdge (n : Nfa) (q r : ℕ) : Type 0 where
-  -- one that reads nothing
+  -- an epsilon edge
   FreeEdge : (e : ℕ) → hop n all_true q e ≡ Some r → HasEdge n q r
-  -- one that reads a byte
+  -- an edge that reads a byte
   ByteEdge : (u : ℕ) → takes n q u ≡ Some r → HasEdge n q r
 
--- Such edges lead from `q` over these states to `z`.
+-- Edges lead from `q` over these states to `z`.
 abbrev pub Road : Nfa → ℕ → List ℕ → ℕ → Type 0
 Road n q [] z = q ≡ z
 Road n q (r ∷ rs) z = HasEdge n q r × Road n r rs z
 
--- Some states lie on the way.
+-- Edges lead from `q` to `z`, over any number of states.
 abbrev pub Reaches : Nfa → ℕ → ℕ → Type 0
 Reaches n q z = (rs : List ℕ) × Road n q rs z
 
--- Every search of it begins anchored: it has one start for anchored and unanchored searches.
+-- Every search begins anchored: anchored and unanchored searches have the same start.
 abbrev pub BeginsAnchored : Engine → Type 0
 BeginsAnchored d = d.unanchored ≡ d.anchored
 
--- Any byte leads to `next`.
+-- The node that leads to `next` on any byte.
 abbrev pub any_byte : ℕ → Node
 any_byte next = Read (record { lo = 0; hi = 255; next = next } ∷ [])
 
@@ -72,11 +73,11 @@ LoopsLazily n anchored unanchored skip =
     (node n unanchored ≡ Split (anchored ∷ skip ∷ [])) × (node n skip ≡ any_byte unanchored)
     × (Reaches n anchored unanchored → ⊥)
 
--- Where unanchored searches begin.
+-- Unanchored searches begin at the anchored start, or lazily skip bytes before it.
 pub data BeginsLazily (n : Nfa) (anchored unanchored : ℕ) : Type 0 where
-  -- where anchored ones do
+  -- they begin at the anchored start
   SharedStart : unanchored ≡ anchored → BeginsLazily n anchored unanchored
-  -- there, or after any bytes, the fewest first
+  -- they begin there, or after any bytes, the fewest first
   LazyLoop : (skip : ℕ) → LoopsLazily n anchored unanchored skip → BeginsLazily n anchored unanchored
 
 -- An NFA, searched under a match kind.

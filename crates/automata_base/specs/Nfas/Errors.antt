@@ -16,7 +16,7 @@ abbrev pub transitions_below : ℕ → List Transition → Bool
 transitions_below n [] = true
 transitions_below n (t ∷ ts) = ltb t.next n && transitions_below n ts
 
--- Each state number is in range.
+-- Each state number of a shape is in range.
 abbrev pub shape_below : ℕ → Shape → Bool
 shape_below n (EmptyShape next) = ltb next n
 shape_below n (RangeShape lo hi next) = ltb next n
@@ -39,7 +39,7 @@ abbrev pub states_below : ℕ → List State → Bool
 states_below n [] = true
 states_below n (x ∷ xs) = state_below n x && states_below n xs
 
--- Each pattern is in range.
+-- The pattern of a shape is in range, if it is the shape of a match state.
 abbrev pub shape_matches_below : ℕ → Shape → Bool
 shape_matches_below P (EmptyShape next) = true
 shape_matches_below P (RangeShape lo hi next) = true
@@ -90,7 +90,7 @@ abbrev pub states_ordered : List State → Bool
 states_ordered [] = true
 states_ordered (x ∷ xs) = state_ordered x && states_ordered xs
 
--- How many alternates a state has: only unions have any.
+-- The number of alternates of a shape: only unions have any.
 abbrev pub shape_alternates : Shape → ℕ
 shape_alternates (EmptyShape next) = 0
 shape_alternates (RangeShape lo hi next) = 0
@@ -104,15 +104,15 @@ shape_alternates (CaptureShape next pattern index slot) = 0
 shape_alternates FailShape = 0
 shape_alternates (MatchShape pattern) = 0
 
--- How many alternates a state of an NFA has.
+-- The number of alternates of a state of an NFA.
 abbrev pub alternates_of : State → ℕ
 alternates_of state = shape_alternates (shape_of state)
 
--- At most 2^27 states, and at most 2^27 patterns.
+-- There are at most 2^27 states, and at most 2^27 patterns.
 abbrev pub is_small : List State → List ℕ → Bool
 is_small states starts = leb (length states) (2 ^ 27) && leb (length starts) (2 ^ 27)
 
--- At most 2^31 alternates in all.
+-- There are at most 2^31 alternates in all.
 abbrev pub is_narrow : List State → Bool
 is_narrow states = leb (sum_by alternates_of states) (2 ^ 31)
 
@@ -120,7 +120,7 @@ is_narrow states = leb (sum_by alternates_of states) (2 ^ 31)
 abbrev pub starts_below : ℕ → (anchored unanchored : ℕ) → (starts : List ℕ) → Bool
 starts_below n anchored unanchored starts = ltb anchored n && ltb unanchored n && all_below n starts
 
--- The error if the test fails, and otherwise that of the later tests.
+-- The error if the test fails, and otherwise the error of the later tests.
 abbrev pub unless : Bool → NfaError → Option NfaError → Option NfaError
 unless passes error later = if passes then later else Some error
 

@@ -1,4 +1,4 @@
--- The closure of one of its states that an NFA may keep, and what powerset states have of it.
+-- The closure of one state, which an NFA may keep, and what powerset states keep of it.
 use Rattle.std.specs.Prelude.{ℕ, ◌≡◌, ◌+◌, ◌<◌, ◌≤◌, List, [], ◌∷◌, ◌++◌, All, false, Some, option_to_list}
 use Rattle.std.specs.Prelude.{length, take, drop, eqb}
 use Rattle.std.specs.declared.alloc.Global.{Global}
@@ -32,16 +32,16 @@ pub record IsKept (n : Nfa) (closure kept : List ℕ) : Type 0 where
   -- it has no look
   pub looks : (other : Look) → any_state (λ look. eqb (look_index look) (look_index other)) n kept ≡ false
 
--- A part stands in a list from an index on.
+-- The list contains the part from an index on.
 pub record IsPartAt (list part : List ℕ) (start : ℕ) : Type 0 where
-  -- the list is as long as the part asks for
+  -- the list is long enough for the part
   pub within : start + length part ≤ length list
   -- from the index on the list has the elements of the part
   pub same : take (length part) (drop start list) ≡ part
 
--- The bytes of NFA states after the first of them.
+-- These are the bytes that encode the NFA states after the first.
 pub record IsRestCode (kept code : List ℕ) : Type 0 where
-  -- whatever state comes before, the bytes of all are those of the first one, and then these
+  -- whatever state comes before, the bytes of all are the bytes of the first one, followed by these
   pub joined : (before : ℕ) → ids_code before kept ≡ ids_code before (take 1 kept) ++ code
   -- the states after the first one have numbers that IDs may have
   pub ids : All IsId (drop 1 kept)
@@ -57,7 +57,7 @@ pub record AreTargets (n : Nfa) (list : List ℕ) (u : ℕ) (row : List ℕ) : T
 abbrev pub AreRows : Nfa → List ℕ → List (Vec ℕ Global) → Type 0
 AreRows n list rows = (u : ℕ) → u < length rows → AreTargets n list u (list_at (lists_of rows) u)
 
--- To the row of each byte where a node leads on that is added.
+-- For each byte, the state that a node leads to on it is added to the byte's row.
 abbrev pub AddsEdges : Node → (old new : List (Vec ℕ Global)) → Type 0
 AddsEdges node old new =
     (u : ℕ) → u < 256 → list_at (lists_of new) u ≡ list_at (lists_of old) u ++ option_to_list (takes_at node u)
@@ -70,5 +70,5 @@ pub record IsKeptClosure (a : Automaton) (c : KeptClosure) : Type 0 where
   pub kept : IsKept (nfa_of a) c.set.items c.kept.items
   -- the bytes of those kept, without the first one
   pub code : IsRestCode c.kept.items c.code.items
-  -- where those kept lead on each byte
+  -- the states that those kept lead to on each byte
   pub rows : AreRows (nfa_of a) c.kept.items c.rows.items

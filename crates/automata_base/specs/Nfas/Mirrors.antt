@@ -1,4 +1,4 @@
--- A reversed NFA: which edges it has, so that it accepts backward what the other one accepts.
+-- A reversed NFA: the edges that it has, so that it accepts backward what the other NFA accepts.
 use Rattle.std.specs.Prelude.{ℕ, ◌≡◌, ◌<◌, ◌≤◌, ◌-◌, ◌↔◌, ◌⊎◌, not, List, [], ◌∷◌, length, Some, slice_get}
 use Rattle.automata_base.specs.declared.nfa.thompson.Flags.{Flags}
 use Rattle.automata_base.specs.Lists.{In, Distinct}
@@ -40,7 +40,7 @@ flip WordEndHalfAscii = WordStartHalfAscii
 flip WordStartHalfUnicode = WordEndHalfUnicode
 flip WordEndHalfUnicode = WordStartHalfUnicode
 
--- What an edge asks: nothing, that a look holds, or a byte from the first to the second.
+-- What an edge requires: nothing, that a look holds, or a byte from the first to the second.
 pub data Label : Type 0 where
   Free : Label
   Asks : Look → Label
@@ -69,7 +69,7 @@ HasArcAt (Accept p) (Reads lo hi) next = ⊥
 abbrev pub HasArc : Nfa → ℕ → Label → ℕ → Type 0
 HasArc n q l next = HasArcAt (node n q) l next
 
--- The state stands for an edge with that label that is turned and leads to `next`: a free edge is its target.
+-- The state stands for a reversed edge with that label, which leads to `next`. For a free edge, that is `next` itself.
 abbrev pub IsReversedArc : Nfa → ℕ → Label → ℕ → Type 0
 IsReversedArc m x Free next = x ≡ next
 IsReversedArc m x (Asks look) next = node m x ≡ Assert (flip look) next
@@ -125,7 +125,7 @@ pub data StandsForEdges (n m : Nfa) (first p : ℕ) (place : ℕ → ℕ) (t : �
 
 -- Among the states for the pattern `p`, where `place q` stands for `q`: the state that stands for `t` is the union of
 -- the reversed edges to `t`, and of a match where paths begin at `t`; or it is the only one of these itself. None of
--- them repeats, and no two of them read, test or match the same and go on to the same state.
+-- them repeats, and no two of them that read, test or match do the same and lead to the same state.
 pub record IsReversedAt (n m : Nfa) (first p : ℕ) (place : ℕ → ℕ) (t : ℕ) (xs : List ℕ) : Type 0 where
   -- the state for `t` is the union of these states, or is the only one of them
   pub stands : StandsForEdges n m first p place t xs
@@ -139,10 +139,10 @@ pub record IsReversedAt (n m : Nfa) (first p : ℕ) (place : ℕ → ℕ) (t : �
   pub reported : t ≡ first → (x : ℕ) × In x xs × (node m x ≡ Accept p)
   -- none of them repeats
   pub distinct : Distinct xs
-  -- no two of them that read, test or match do the same and go on to the same state
+  -- no two of them that read, test or match do the same and lead to the same state
   pub once : (x y : ℕ) → In x xs → In y xs → node m x ≡ node m y → IsUnion (node m x) ⊎ (x ≡ y)
 
--- The entry goes on to the states that stand for the matches of the pattern.
+-- The entry leads to the states that stand for the matches of the pattern.
 pub record IsEntry (n m : Nfa) (first p entry : ℕ) (place : ℕ → ℕ) (xs : List ℕ) : Type 0 where
   -- the entry is the union of these states
   pub union : node m entry ≡ Split xs
@@ -155,7 +155,7 @@ pub record IsEntry (n m : Nfa) (first p entry : ℕ) (place : ℕ → ℕ) (xs :
 
 -- The part for the pattern `p` has a state for each useful state of `n`. Its backward paths begin at `entry`.
 pub record IsPart (n m : Nfa) (first p entry : ℕ) (place : ℕ → ℕ) : Type 0 where
-  -- backward paths begin at the entry, which goes on to the states for the matches
+  -- backward paths begin at the entry, which leads to the states for the matches
   pub enters : (xs : List ℕ) × IsEntry n m first p entry place xs
   -- each useful state has its state, with the reversed edges
   pub turned : (t : ℕ) → IsUseful n first p t → (xs : List ℕ) × IsReversedAt n m first p place t xs
@@ -181,8 +181,9 @@ pub data IsOfMirror (n m : Nfa) (first : ℕ) (entries : List ℕ) (root : ℕ) 
       (p entry : ℕ) → slice_get entries p ≡ Some entry → IsOfPart n m first p entry (place p) x
       → IsOfMirror n m first entries root place x
 
--- `m` is `n` reversed: it has a part for each pattern, whose paths begin at its entry, and at the root those of all.
--- `place p q` is the state for `q` in the part for the pattern `p`. There are no other states.
+-- `m` is `n` reversed. It has a part for each pattern. The paths of a part begin at its entry, and the paths of all
+-- parts also begin at the root. `place p q` is the state for `q` in the part for the pattern `p`. There are no other
+-- states.
 pub record IsMirror (n m : Nfa) (first : ℕ) (entries : List ℕ) (root : ℕ) : Type 0 where
   -- lines end at the same byte
   pub terminator : m.terminator ≡ n.terminator
@@ -203,15 +204,15 @@ pub record IsMirror (n m : Nfa) (first : ℕ) (entries : List ℕ) (root : ℕ) 
 abbrev pub reversed_flags : Flags → Flags
 reversed_flags f = record { utf8 = f.utf8; reverse = not f.reverse; line_terminator = f.line_terminator }
 
--- The NFA `b` is `a` reversed. Anchored and unanchored searches of it begin at one state.
+-- The NFA `b` is `a` reversed. Anchored and unanchored searches of it begin at the same state.
 pub record IsReversed (a b : Automaton) : Type 0 where
   -- they have the same number of patterns
   pub patterns : length b.start_pattern ≡ length a.start_pattern
   -- both or neither are in UTF-8 mode
   pub utf8 : b.flags.utf8 ≡ a.flags.utf8
-  -- anchored and unanchored searches of it begin at one state
+  -- anchored and unanchored searches of it begin at the same state
   pub one_start : b.start_unanchored ≡ b.start_anchored
-  -- its states are those of the other NFA reversed, the edges of dense states taken as ranges
+  -- its states are the reversed states of the other NFA, with the edges of dense states as ranges
   pub mirror : IsMirror (ranged_nfa a) (nfa_of b) a.start_anchored b.start_pattern b.start_anchored
 
 -- Searches of the NFA begin at the state.
@@ -234,31 +235,32 @@ pub record ReadsAlike (a b : Automaton) : Type 0 where
   pub flags : b.flags ≡ a.flags
   -- anchored searches begin at the same state
   pub anchored : b.start_anchored ≡ a.start_anchored
-  -- and so do unanchored ones
+  -- unanchored searches begin at the same state
   pub unanchored : b.start_unanchored ≡ a.start_unanchored
-  -- and those for each pattern
+  -- searches for each pattern begin at the same state
   pub patterns : b.start_pattern ≡ a.start_pattern
-  -- from each start the one accepts what the other accepts
+  -- from each start, both accept the same
   pub accepts :
       (start : ℕ) → BeginsAt a start → (t : Tape) (i pattern : ℕ)
       → AcceptsFrom a t start i pattern ↔ AcceptsFrom b t start i pattern
-  -- both or neither have the empty match, looks taken as true
+  -- both or neither have the empty match, with every look taken as true
   pub empty : MatchesEmpty (nfa_of a) a.start_pattern ↔ MatchesEmpty (nfa_of b) b.start_pattern
 
 -- The NFA `b` reads like `a` reversed.
 pub record IsReversalOf (a b : Automaton) : Type 0 where
   -- `a` reversed, state by state
   pub mirror : Automaton
-  -- this is its reversed NFA
+  -- it is the reversed NFA of `a`
   pub reversed : IsReversed a mirror
-  -- `b` reads like it
+  -- `b` reads like the reversed NFA
   pub alike : ReadsAlike mirror b
 
 -- The empty match is reached from some pattern's start exactly if it is reached from the anchored start.
 abbrev pub BeginsAlike : Automaton → Type 0
 BeginsAlike a = MatchesEmpty (nfa_of a) a.start_pattern ↔ MatchesEmpty (nfa_of a) (a.start_anchored ∷ [])
 
--- From the start of a pattern, the reversed one accepts by that pattern what the other accepts from its anchored start.
+-- From the start of a pattern, the reversed NFA accepts what the other NFA accepts by that pattern from its anchored
+-- start.
 abbrev pub IsReversedByPattern : Automaton → Automaton → Type 0
 IsReversedByPattern a b =
     (k entry : ℕ) → slice_get b.start_pattern k ≡ Some entry
@@ -267,11 +269,11 @@ IsReversedByPattern a b =
     ↔ ((pattern ≡ k)
     × ((path : List ℕ) × Accepts (nfa_of a) (forward_tape h i j) a.start_anchored (j - i) pattern path))
 
--- This holds of every reversed NFA.
+-- From the start of each pattern, every reversed NFA accepts what the other NFA accepts by that pattern.
 abbrev pub PatternsAreReversed : Type 0
 PatternsAreReversed = (a b : Automaton) → IsChecked a → IsReversalOf a b → IsReversedByPattern a b
 
--- An NFA and its reversed one are a true pair.
+-- An NFA that begins alike and skips lazily is a true pair with its reversed NFA.
 abbrev pub ReversedIsTrue : Type 0
 ReversedIsTrue =
     (a b : Automaton) (kind : MatchKind) → IsChecked a → IsReversalOf a b → BeginsAlike a → SkipsLazily a

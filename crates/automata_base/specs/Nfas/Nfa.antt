@@ -12,7 +12,8 @@ pub record Range : Type 0 where
   -- the state that these bytes lead to
   pub next : ℕ
 
--- A union has its alternates in order, a capture its one target, fail none; a byte state has its ranges.
+-- A node: a union (`Split`) with its alternates in order, where a capture has one and a fail state has none; a look
+-- (`Assert`); a byte state (`Read`) with its ranges; or a match state (`Accept`).
 pub data Node : Type 0 where
   Split : List ℕ → Node
   Assert : Look → ℕ → Node
@@ -25,7 +26,7 @@ pub record Nfa : Type 0 where
   pub nodes : List Node
   -- the byte that ends a line, for the looks of lines
   pub terminator : ℕ
-  -- whether it reads the haystack backward, so that of `\r\n` it reads the line feed first
+  -- whether it reads the haystack backward, and so reads the line feed of `\r\n` first
   pub reverse : Bool
   -- whether powerset states keep its unions of two or more alternates
   pub keeps_unions : Bool
@@ -35,7 +36,7 @@ abbrev pub node_or_fail : Option Node → Node
 node_or_fail None = Split []
 node_or_fail (Some x) = x
 
--- The state of a number. Past the last one it is a fail state.
+-- The node of the state with this number. Past the last state it is a fail state.
 abbrev pub node : Nfa → ℕ → Node
 node n q = node_or_fail (slice_get n.nodes q)
 
@@ -43,7 +44,7 @@ node n q = node_or_fail (slice_get n.nodes q)
 abbrev pub Truth : Type 0
 Truth = Look → Bool
 
--- Where the edge `e` of a state leads that reads nothing; a look has one, the edge 0, where it holds.
+-- The target of the epsilon edge `e` of a node. A look has one, the edge 0, where it holds.
 abbrev pub hop_at : Node → Truth → ℕ → Option ℕ
 hop_at (Split alternates) A e = slice_get alternates e
 hop_at (Assert look next) A zero = cond (A look) (Some next) None
@@ -51,23 +52,23 @@ hop_at (Assert look next) A (suc e) = None
 hop_at (Read ranges) A e = None
 hop_at (Accept p) A e = None
 
--- Where the edge `e` of `q` leads that stays at its place, if `q` has it.
+-- The target of the epsilon edge `e` of `q`, if `q` has it.
 abbrev pub hop : Nfa → Truth → ℕ → ℕ → Option ℕ
 hop n A q e = hop_at (node n q) A e
 
--- Where the first range leads that contains the byte.
+-- The target of the first range that contains the byte.
 abbrev pub takes_in : List Range → ℕ → Option ℕ
 takes_in [] u = None
 takes_in (r ∷ rs) u = cond (within r.lo r.hi u) (Some r.next) (takes_in rs u)
 
--- Where a state leads on the byte `u`, if it reads it.
+-- The target of a state on the byte `u`, if it reads this byte.
 abbrev pub takes_at : Node → ℕ → Option ℕ
 takes_at (Split alternates) u = None
 takes_at (Assert look next) u = None
 takes_at (Read ranges) u = takes_in ranges u
 takes_at (Accept p) u = None
 
--- Where `q` leads on the byte `u`.
+-- The target of `q` on the byte `u`, if it reads this byte.
 abbrev pub takes : Nfa → ℕ → ℕ → Option ℕ
 takes n q u = takes_at (node n q) u
 
@@ -122,7 +123,7 @@ looks_at f (Assert look next) = f look
 looks_at f (Read ranges) = false
 looks_at f (Accept p) = false
 
--- Whether some node is one.
+-- Whether some node is a look that passes the test.
 abbrev pub any_node : (Look → Bool) → List Node → Bool
 any_node f [] = false
 any_node f (x ∷ xs) = looks_at f x || any_node f xs

@@ -15,7 +15,7 @@ abbrev pub ranges_of : List Transition → List Range
 ranges_of [] = []
 ranges_of (t ∷ ts) = range_of t ∷ ranges_of ts
 
--- The edges of a dense state: target 0 stands for no edge.
+-- The edges of a dense state: target 0 means that there is no edge.
 abbrev pub dense_from : ℕ → List ℕ → List Range
 dense_from u [] = []
 dense_from u (zero ∷ rest) = dense_from (suc u) rest
@@ -38,7 +38,7 @@ abbrev pub nodes_of : List State → List Node
 nodes_of [] = []
 nodes_of (x ∷ xs) = node_of x ∷ nodes_of xs
 
--- What contracts see of an NFA.
+-- An NFA as contracts see it.
 pub record Automaton : Type 0 where
   -- its states; the ID of a state is its index
   pub states : List State
@@ -53,7 +53,7 @@ pub record Automaton : Type 0 where
   -- whether powerset states keep its unions of two or more alternates
   pub keeps_unions : Bool
 
--- What paths see of an NFA.
+-- The NFA as paths see it.
 abbrev pub nfa_of : Automaton → Nfa
 nfa_of a = record {
   nodes = nodes_of a.states;
@@ -62,7 +62,7 @@ nfa_of a = record {
   keeps_unions = a.keeps_unions;
 }
 
--- How many alternates of a state may wait on the stack while the first is followed.
+-- The number of alternates of a state that may wait on the stack while the first is followed.
 abbrev pub extra_of : State → ℕ
 extra_of (is.ByteRange lo hi next) = 0
 extra_of (is.Sparse ts) = 0
@@ -74,6 +74,6 @@ extra_of (is.Capture next pattern index slot) = 0
 extra_of is.Fail = 0
 extra_of (is.Match pattern) = 0
 
--- The room that the stack of a closure needs: one, and the sum of these.
+-- The room that the stack of a closure needs: one, and the sum of the alternates that may wait.
 unfoldable pub stack_room : List State → ℕ
 stack_room states = 1 + sum_by extra_of states

@@ -1,11 +1,11 @@
--- How large a reversed NFA may be.
+-- Bounds on the size of a reversed NFA.
 use Rattle.std.specs.Prelude.{ℕ, ◌+◌, ◌*◌, ◌^◌, ◌<◌, ◌⊎◌, length, sum_by}
 use Rattle.automata_base.specs.declared.nfa.thompson.State.{State}
 use Rattle.automata_base.specs.declared.nfa.thompson.State.TheVariants as is
 use Rattle.automata_base.specs.Nfas.Nodes.{Automaton}
 use Rattle.automata_base.specs.Retraced.DenseRuns.{runs_from}
 
--- The edges of a state that read a byte or test a look.
+-- The number of edges of a state that read a byte or test a look.
 abbrev pub asking_edges : State → ℕ
 asking_edges (is.ByteRange lo hi next) = 1
 asking_edges (is.Sparse ts) = length ts.items
@@ -17,7 +17,7 @@ asking_edges (is.Capture next pattern index slot) = 0
 asking_edges is.Fail = 0
 asking_edges (is.Match pattern) = 0
 
--- The others.
+-- The number of edges of a state that read nothing and test nothing.
 abbrev pub free_edges : State → ℕ
 free_edges (is.ByteRange lo hi next) = 0
 free_edges (is.Sparse ts) = 0
@@ -40,6 +40,6 @@ most_alternates a =
     (length a.start_pattern + 1)
     * (length a.states + sum_by asking_edges a.states + sum_by free_edges a.states + 2)
 
--- The reversed NFA may be larger than an NFA can be.
+-- By these bounds, the reversed NFA may be larger than an NFA can be.
 abbrev pub MayBeTooLarge : Automaton → Type 0
 MayBeTooLarge a = (2 ^ 27 < most_states a) ⊎ (2 ^ 31 < most_alternates a)

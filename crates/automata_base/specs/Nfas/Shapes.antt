@@ -45,14 +45,14 @@ shape_added (was.Capture next pattern index slot) = CaptureShape next pattern in
 shape_added was.Fail = FailShape
 shape_added (was.Match pattern) = MatchShape pattern
 
--- What a union is built as: without alternates a fail state, with two a binary union.
+-- The shape that a union is built as: without alternates a fail state, and with two a binary union.
 abbrev pub union_of : List ℕ → Shape
 union_of [] = FailShape
 union_of (a ∷ []) = UnionShape (a ∷ [])
 union_of (a ∷ b ∷ []) = BinaryUnionShape a b
 union_of (a ∷ b ∷ c ∷ rest) = UnionShape (a ∷ b ∷ c ∷ rest)
 
--- What a state is built as: an empty one as a union of one alternate.
+-- The shape that a state of a builder is built as: an empty state becomes a union of one alternate.
 abbrev pub built_of : Shape → Shape
 built_of (EmptyShape next) = UnionShape (next ∷ [])
 built_of (RangeShape lo hi next) = RangeShape lo hi next
@@ -66,9 +66,9 @@ built_of (CaptureShape next pattern index slot) = CaptureShape next pattern inde
 built_of FailShape = FailShape
 built_of (MatchShape pattern) = MatchShape pattern
 
--- A state after it was patched: a union has one alternate more, and a state with one target leads to the new target
--- instead. A state without a target stays as it is; a sparse state has its targets at its ranges, and cannot be
--- patched.
+-- A state after it was patched: a union has one more alternate, and a state with one target leads to the new target
+-- instead. A state without a target is unchanged. A sparse state cannot be patched, since each of its ranges has its
+-- own target.
 abbrev pub patched : Shape → ℕ → Option Shape
 patched (EmptyShape next) to = Some (EmptyShape to)
 patched (RangeShape lo hi next) to = Some (RangeShape lo hi to)

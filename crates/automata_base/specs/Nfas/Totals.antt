@@ -1,4 +1,4 @@
--- What the states of an NFA come to.
+-- Totals over the states of an NFA.
 use Rattle.std.specs.Prelude.{◌≡◌, eqb, List}
 use Rattle.automata_base.specs.declared.nfa.thompson.State.{State}
 use Rattle.automata_base.specs.declared.nfa.thompson.checks.Totals.{Totals}
@@ -7,7 +7,7 @@ use Rattle.automata_base.specs.Haystacks.LookSets.{truth_of}
 use Rattle.automata_base.specs.Nfas.Nfa.{any_node}
 use Rattle.automata_base.specs.Nfas.Nodes.{nodes_of, stack_room}
 
--- what one pass over the states counts
+-- the totals that one pass over the states computes
 pub record AreTotals (states : List State) (totals : Totals) : Type 0 where
   -- the room that the stack of a closure needs
   pub room : totals.room ≡ stack_room states

@@ -1,4 +1,4 @@
--- What the paths of an NFA read, looks taken as true, and whether it is UTF-8.
+-- What the paths of an NFA read, with every look taken as true, and whether it is UTF-8.
 use Rattle.std.specs.Prelude.{ℕ, ◌≡◌, ◌<◌, List, [], ◌∷◌, Some, reverse, IsUtf8}
 use Rattle.automata_base.specs.Lists.{In}
 use Rattle.automata_base.specs.Haystacks.Looks.{Look}
@@ -8,7 +8,7 @@ use Rattle.automata_base.specs.Powersets.Passes.{Occurs}
 use Rattle.automata_base.specs.Paths.Paths.{all_true}
 use Rattle.automata_base.specs.Haystacks.Tapes.{Direction, Forward, Backward}
 
--- Edges lead from a state over these bytes to another, looks taken as true.
+-- Edges lead from one state over these bytes to another, with every look taken as true.
 pub data ReadsTo (n : Nfa) : ℕ → List ℕ → ℕ → Type 0 where
   ends : {q : ℕ} → ReadsTo n q [] q
   goes :
@@ -22,7 +22,7 @@ abbrev pub in_order : Direction → List ℕ → List ℕ
 in_order Forward bytes = bytes
 in_order Backward bytes = reverse bytes
 
--- What leads from the anchored start or a pattern's start to a match state is UTF-8.
+-- The bytes that lead from the anchored start or a pattern's start to a match state are UTF-8.
 abbrev pub ReadsUtf8 : Direction → Automaton → Type 0
 ReadsUtf8 way a =
     (start q p : ℕ) (bytes : List ℕ) → In start (a.start_anchored ∷ a.start_pattern)

@@ -9,12 +9,12 @@ use Rattle.automata_base.specs.Powersets.Cuts.{MatchKind, All, LeftmostFirst}
 use Rattle.automata_base.specs.Powersets.Passes.{IsPass}
 use Rattle.automata_base.specs.Powersets.Powerset.{Powerset}
 
--- A path that stands on a match of the pattern at place `i`.
+-- The path ends at place `i`, in a match state of the pattern.
 abbrev pub Accepts : Nfa → Tape → ℕ → ℕ → ℕ → List ℕ → Type 0
 Accepts n t start i pattern path = (q : ℕ) × IsPath n t start i q path × (accepts n q ≡ Some pattern)
 
--- The patterns that a walk under `MatchKind::All` reports at place `i`: those of the accepting paths that end there,
--- each once, in the order of their least paths.
+-- The patterns that a walk under `MatchKind::All` reports at place `i`: the patterns of the accepting paths that end
+-- there, each once, in the order of their least paths.
 abbrev pub IsAllAt : Nfa → Tape → ℕ → ℕ → List ℕ → Type 0
 IsAllAt n t start i patterns = IsListOf (λ pattern path. Accepts n t start i pattern path) patterns
 
@@ -42,14 +42,14 @@ pub record IsLeastAt (n : Nfa) (t : Tape) (start i pattern : ℕ) (path : List �
   -- it is less than every path that ends before
   pub first : (j other : ℕ) (more : List ℕ) → j < i → Accepts n t start j other more → Before path more
 
--- Under `MatchKind::LeftmostFirst`: that of the least accepting path that ends there, if it is less than every
--- accepting path that ends at an earlier place.
+-- The patterns that a walk under `MatchKind::LeftmostFirst` reports at place `i`: the pattern of the least accepting
+-- path that ends there, if this path is less than every accepting path that ends at an earlier place.
 pub data IsFirstAt (n : Nfa) (t : Tape) (start i : ℕ) (patterns : List ℕ) : Type 0 where
   -- none: each accepting path that ends there has a lesser one that ends before
   ReportsNoneAt :
       patterns ≡ [] → ((pattern : ℕ) (path : List ℕ) → Accepts n t start i pattern path → IsPreceded n t start i path)
       → IsFirstAt n t start i patterns
-  -- that of the least one
+  -- the pattern of the least one
   ReportsLeast :
       (pattern : ℕ) (path : List ℕ) → patterns ≡ pattern ∷ [] → IsLeastAt n t start i pattern path
       → IsFirstAt n t start i patterns
@@ -86,7 +86,7 @@ pub record AddsPlace (Earlier : List Pair → Type 0) (AtPlace : List ℕ → Ty
   -- the pairs are both, in this order
   pub joined : pairs ≡ earlier ++ at_place i patterns
 
--- The pairs at the first `k` places, by a rule for one place.
+-- The pairs at this many first places, by a rule for one place.
 abbrev pub Pairs : (ℕ → List ℕ → Type 0) → ℕ → List Pair → Type 0
 Pairs At zero pairs = pairs ≡ []
 Pairs At (suc i) pairs = AddsPlace (Pairs At i) (At i) i pairs
@@ -99,12 +99,12 @@ IsOverlappingOn kind n t start pairs = Pairs (ArePatternsAt kind n t start) (suc
 abbrev pub Reports : MatchKind → Nfa → Tape → ℕ → ℕ → List ℕ → Type 0
 Reports kind n t start i patterns = (Q : Powerset) × IsPass n kind start t (suc i) Q × (Q.patterns ≡ patterns)
 
--- A path is preferred to another by its place, or at one place by its edges. `better` says that its place is
+-- A path is preferred to another by its place, or at the same place by its edges. `better` says that its place is
 -- preferred.
 pub data IsPreferred (better : Type 0) (i : ℕ) (path : List ℕ) (j : ℕ) (other : List ℕ) : Type 0 where
   -- its place is preferred
   ByPlace : better → IsPreferred better i path j other
-  -- both end at one place, and the other one is not less
+  -- both end at the same place, and the other one is not less
   ByEdges : i ≡ j → Upto path other → IsPreferred better i path j other
 
 -- Whether the place `i` of a path with that edge list is preferred to `j` of another.
@@ -130,7 +130,8 @@ IsNearest n t start (Some pair) =
     ((path : List ℕ) × Accepts n t start pair.place pair.pattern path)
     × ((j pattern : ℕ) (path : List ℕ) → j < pair.place → Accepts n t start j pattern path → ⊥)
 
--- The same of the farthest end. A search under `MatchKind::All` that is not earliest finds it, for every NFA.
+-- The farthest end of an accepting path, and the pattern of one that ends there; none if there is no accepting path. A
+-- search under `MatchKind::All` that is not earliest finds it, for every NFA.
 abbrev pub IsFarthest : Nfa → Tape → ℕ → Option Pair → Type 0
 IsFarthest n t start None = (i pattern : ℕ) (path : List ℕ) → Accepts n t start i pattern path → ⊥
 IsFarthest n t start (Some pair) =

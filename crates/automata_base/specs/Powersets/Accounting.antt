@@ -11,11 +11,11 @@ cell_size = 4
 abbrev pub row_size : ℕ
 row_size = 16
 
--- And its size in the map.
+-- The size of each row's entry in the map.
 abbrev pub entry_size : ℕ
 entry_size = 20
 
--- The cost of the states of the three rows with which every table begins, each without lists.
+-- The cost of the states of the three rows that every table begins with, each without lists.
 abbrev pub fixed_rows_cost : ℕ
 fixed_rows_cost = 3 * head_cost
 
@@ -23,11 +23,11 @@ fixed_rows_cost = 3 * head_cost
 abbrev pub max_cost : Automaton → ℕ
 max_cost a = head_cost + pattern_cost * length a.start_pattern + id_cost * length a.states
 
--- For each NFA state: two sets of NFA states, each with two numbers of four bytes.
+-- The cost, for each NFA state, of two sets of NFA states, each with two numbers of four bytes.
 abbrev pub sets_cost : ℕ
 sets_cost = 16
 
--- An entry on the stack of a closure.
+-- The cost of an entry on the stack of a closure.
 abbrev pub place_cost : ℕ
 place_cost = 4
 
@@ -36,12 +36,12 @@ abbrev pub fixed_cost : Automaton → ℕ
 fixed_cost a = sets_cost * length a.states + place_cost * stack_room a.states + max_cost a
 
 -- The start slots: one for each of the six kinds of look-behind byte, for unanchored and for anchored searches, and for
--- each pattern if patterns have starts of their own.
+-- each pattern if patterns have their own starts.
 abbrev pub start_slots : Automaton → (each : Bool) → ℕ
 start_slots a each = 12 + (if each then 6 * length a.start_pattern else 0)
 
--- Room for the three first rows, for a state in each start slot, and for two states more. Of the three rows two, the
--- unknown and the quit one, are not in the map.
+-- The minimum capacity: room for determinization, for the three first rows, for a state in each start slot, and for two
+-- more states. Two of the three rows, the unknown and the quit row, are not in the map.
 abbrev pub minimum_capacity : (stride slots greatest fixed : ℕ) → ℕ
 minimum_capacity stride slots greatest fixed =
     cell_size * ((5 + slots) * stride) + cell_size * slots + row_size * (5 + slots) + entry_size * (3 + slots)

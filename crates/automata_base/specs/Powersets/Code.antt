@@ -1,4 +1,4 @@
--- How a powerset state is coded in bytes, and what its bytes stand for.
+-- The encoding of powerset states in bytes, and its inverse.
 use Rattle.std.specs.Prelude.{◌≡◌, ℕ, zero, suc, List, [], ◌∷◌, ◌++◌, Bool, true, false, ◌+◌, ◌*◌, ◌-◌, ◌/◌, ◌%◌, ◌==◌}
 use Rattle.std.specs.Prelude.{nat_lt, nat_le, length, drop, slice_index, ◌<◌, ◌^◌, if◌then◌else◌}
 use Rattle.std.specs.List.{flat_map}
@@ -8,7 +8,7 @@ use Rattle.automata_base.specs.Powersets.Powerset.{Powerset, IsPowerset, IsId}
 
 -- ---- the bytes of a state
 
--- 1 if it is so, and 0 if not
+-- 1 for true, and 0 for false
 abbrev pub bit : Bool → ℕ
 bit b = if b then 1 else 0
 
@@ -17,7 +17,7 @@ abbrev pub has_any : List ℕ → Bool
 has_any [] = false
 has_any (p ∷ ps) = true
 
--- there are some, and they are not the list of pattern 0 alone
+-- whether the encoding lists the patterns: it does unless there are none, or only pattern 0
 abbrev pub is_listed : List ℕ → Bool
 is_listed [] = false
 is_listed (p ∷ []) = nat_lt 0 p
@@ -27,29 +27,29 @@ is_listed (p ∷ q ∷ ps) = true
 abbrev pub flag_byte : Bool → Bool → Bool → Bool → ℕ
 flag_byte has listed word half = bit has + 2 * bit listed + 4 * bit word + 8 * bit half
 
--- a number in four bytes, the least first
+-- a number in four bytes, the least significant first
 abbrev pub four_bytes : ℕ → List ℕ
 four_bytes n = to_le_bytes w32 n
 
--- their number, then each
+-- the patterns, if they are listed: their number, then each of them
 abbrev pub patterns_code : List ℕ → List ℕ
 patterns_code ps = if is_listed ps then four_bytes (length ps) ++ flat_map four_bytes ps else []
 
--- the difference d to the one before, as 2d for d from 0 on and -2d-1 else
+-- the difference d from the previous number, as 2d if d is at least 0, and as -2d-1 otherwise
 abbrev pub difference : ℕ → ℕ → ℕ
 difference before id = if nat_le before id then 2 * (id - before) else 2 * (before - id) - 1
 
--- groups of 7 bits, the least first, bit 7 set on all but the last: as few as possible, and at most one and these many
--- more
+-- a number in groups of 7 bits, the least significant first, with bit 7 set on all but the last: as few groups as
+-- possible, and at most one and this many more
 unfoldable pub groups : ℕ → ℕ → List ℕ
 groups zero n = n ∷ []
 groups (suc more) n = if nat_lt n 128 then n ∷ [] else (128 + n % 128) ∷ groups more (n / 128)
 
--- five groups have room for each number below 2 ^ 35
+-- a number as a varint: five groups have room for each number below 2 ^ 35
 abbrev pub varint : ℕ → List ℕ
 varint n = groups 4 n
 
--- each NFA state by its difference to the one before
+-- the NFA states, each as its difference from the previous one
 unfoldable pub ids_code : ℕ → List ℕ → List ℕ
 ids_code before [] = []
 ids_code before (id ∷ ids) = varint (difference before id) ++ ids_code id ids
@@ -62,34 +62,34 @@ code q =
 
 -- ---- the state of some bytes
 
--- the bit of this worth in the first byte
+-- whether the bit of this value is set in the first byte
 abbrev pub is_set : ℕ → List ℕ → Bool
 is_set worth bytes = slice_index bytes 0 / worth % 2 == 1
 
--- the number in the four bytes at a place
+-- the number in the four bytes at an index
 abbrev pub number_at : List ℕ → ℕ → ℕ
 number_at bytes place = from_le_bytes w32 (drop place bytes)
 
--- so many numbers, each in four bytes
+-- this many numbers, each in four bytes
 unfoldable pub numbers_at : ℕ → List ℕ → List ℕ
 numbers_at zero bytes = []
 numbers_at (suc count) bytes = from_le_bytes w32 bytes ∷ numbers_at count (drop 4 bytes)
 
--- the number whose low seven bits these are and whose rest comes first
+-- the numbers, with these low seven bits added to the first
 abbrev pub with_low : ℕ → List ℕ → List ℕ
 with_low low [] = []
 with_low low (n ∷ ns) = (low + 128 * n) ∷ ns
 
--- the numbers that the groups stand for
+-- the numbers that the groups encode
 unfoldable pub numbers : List ℕ → List ℕ
 numbers [] = []
 numbers (b ∷ bytes) = if nat_lt b 128 then b ∷ numbers bytes else with_low (b - 128) (numbers bytes)
 
--- the NFA state at a difference from the one before
+-- the NFA state with this difference from the previous one
 abbrev pub id_at : ℕ → ℕ → ℕ
 id_at before z = if z % 2 == 0 then before + z / 2 else before - (z + 1) / 2
 
--- the NFA states at these differences, each from the one before
+-- the NFA states with these differences, each from the previous one
 unfoldable pub ids_of : ℕ → List ℕ → List ℕ
 ids_of before [] = []
 ids_of before (z ∷ zs) = id_at before z ∷ ids_of (id_at before z) zs
@@ -99,11 +99,11 @@ abbrev pub patterns_of : List ℕ → List ℕ
 patterns_of bytes =
     if is_set 1 bytes then (if is_set 2 bytes then numbers_at (number_at bytes 9) (drop 13 bytes) else 0 ∷ []) else []
 
--- what comes after the patterns
+-- the bytes after the patterns
 abbrev pub ids_bytes : List ℕ → List ℕ
 ids_bytes bytes = if is_set 2 bytes then drop (4 * number_at bytes 9) (drop 13 bytes) else drop 9 bytes
 
--- the powerset state that the bytes stand for
+-- the powerset state that the bytes encode
 abbrev pub decoded : List ℕ → Powerset
 decoded bytes = record {
   nfa = ids_of 0 (numbers (ids_bytes bytes));
@@ -114,16 +114,16 @@ decoded bytes = record {
   half = is_set 8 bytes;
 }
 
--- the bytes are those of a powerset state
+-- the bytes encode a powerset state
 pub record IsCode (bytes : List ℕ) : Type 0 where
-  -- what the bytes stand for is a powerset state
+  -- what the bytes encode is a powerset state
   pub state : IsPowerset (decoded bytes)
-  -- its bytes are these
+  -- its encoding is these bytes
   pub same : code (decoded bytes) ≡ bytes
 
 -- ---- reading
 
--- one group and these many more have room for the number
+-- one group and this many more have room for the number
 abbrev pub FitsGroups : ℕ → ℕ → Type 0
 FitsGroups zero n = n < 128
 FitsGroups (suc more) n = FitsGroups more (n / 128)
@@ -132,11 +132,11 @@ FitsGroups (suc more) n = FitsGroups more (n / 128)
 abbrev pub IsFront : List ℕ → ℕ → List ℕ → Type 0
 IsFront bytes n tail = (more : ℕ) × (n < 2 ^ 35) × FitsGroups more n × (bytes ≡ groups more n ++ tail)
 
--- the bytes are those of NFA states after this one
+-- the bytes encode NFA states that come after this one
 pub record AreIds (before : ℕ) (bytes : List ℕ) : Type 0 where
   -- the NFA state before has a number that an ID may have
   pub first : IsId before
-  -- so has each NFA state that the bytes stand for
+  -- each NFA state that the bytes encode has such a number
   pub ids : AllByRecursion IsId (ids_of before (numbers bytes))
-  -- the bytes are those of these states
+  -- the encoding of these states is the bytes
   pub same : ids_code before (ids_of before (numbers bytes)) ≡ bytes

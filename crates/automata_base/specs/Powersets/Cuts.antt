@@ -10,13 +10,13 @@ abbrev pub cut_after : Option ℕ → ℕ → List ℕ → List ℕ
 cut_after None q rest = q ∷ rest
 cut_after (Some p) q rest = q ∷ []
 
--- The part of a list up to the first match state.
+-- The part of a list up to and including the first match state.
 abbrev pub cut : Nfa → List ℕ → List ℕ
 cut n [] = []
 cut n (q ∷ xs) = cut_after (accepts n q) q (cut n xs)
 
--- What counts of a list of states: all of it under `MatchKind::All`, and the part up to the first match state under
--- `MatchKind::LeftmostFirst`.
+-- The part of a list of states that counts: all of it under `MatchKind::All`, and the part up to the first match state
+-- under `MatchKind::LeftmostFirst`.
 abbrev pub cut_for : MatchKind → Nfa → List ℕ → List ℕ
 cut_for All n xs = xs
 cut_for LeftmostFirst n xs = cut n xs

@@ -1,4 +1,4 @@
--- When two powerset states are equal, and what is hashed of one.
+-- The test whether two powerset states are equal, and the bytes that are hashed for one.
 use Rattle.std.specs.Prelude.{◌≡◌, [], ◌∷◌, Bool, ◌==◌, ◌&&◌, nat_eq}
 use Rattle.std.specs.Bool.{Decides}
 use Rattle.std.specs.Cmp.{unsigned_Decides, booleans_Decides}
@@ -11,7 +11,7 @@ use mathlib.Core.Bool.{beq}
 use Rattle.automata_base.specs.Powersets.Powerset.{Powerset}
 use Rattle.automata_base.specs.Powersets.Code.{code}
 
--- equal in all six parts
+-- whether two powerset states are equal in all six parts
 abbrev pub powerset_eq : Powerset → Powerset → Bool
 powerset_eq a b =
     pointwise nat_eq a.nfa b.nfa
@@ -49,6 +49,6 @@ powerset_eq-Decides a b =
       ),
     )
 
--- a state is hashed as its bytes
+-- a state is hashed as its encoding
 abbrev pub powerset_hash : Powerset → fed.HashWrites
 powerset_hash a = code a ∷ []

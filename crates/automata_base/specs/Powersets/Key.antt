@@ -1,4 +1,4 @@
--- What a key of the map holds: bytes that are shared, or a state that was made, with a list of its NFA states.
+-- What a map key holds: shared bytes, or a state that was made, with a list of its NFA states.
 use Rattle.std.specs.Prelude.{ℕ, List, ◌≡◌}
 use Rattle.automata_base.specs.Powersets.Code.{decoded, IsCode}
 use Rattle.automata_base.specs.declared.util.determinize.key.Bytes.{Bytes}
@@ -10,18 +10,18 @@ abbrev pub bytes_of : Bytes → List ℕ
 bytes_of (Shared b) = b
 bytes_of (Own made) = made.value.bytes.items
 
--- the list is that of the NFA states of the powerset state that the bytes stand for
+-- the list has the NFA states of the powerset state that the bytes encode
 abbrev pub ListsItsStates : MadeState → Type 0
 ListsItsStates made = (decoded made.bytes.items).nfa ≡ made.nfa.items
 
--- the list of a key, if it has one, is that
+-- the list of a key, if it has one, has the NFA states of the powerset state that the key's bytes encode
 abbrev pub IsListed : Bytes → Type 0
 IsListed (Shared b) = Unit {0}
 IsListed (Own made) = ListsItsStates made.value
 
 -- what holds for the bytes of every key
 pub record IsKey (b : Bytes) : Type 0 where
-  -- they are the bytes of a powerset state
+  -- they encode a powerset state
   pub code : IsCode (bytes_of b)
-  -- if there is a list with them, it is that of the state's NFA states
+  -- if there is a list with them, it has the NFA states of that state
   pub listed : IsListed b

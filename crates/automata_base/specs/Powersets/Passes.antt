@@ -18,7 +18,7 @@ use Rattle.automata_base.specs.Powersets.Cuts.{MatchKind, cut_for, IsOnce, targe
 use Rattle.automata_base.specs.Powersets.Powerset.{Powerset}
 use Rattle.automata_base.specs.Haystacks.LookSets.{truth_of, IsLookSet}
 
--- A byte, or none.
+-- The unit is a byte, or none.
 abbrev pub IsUnit : Option ℕ → Type 0
 IsUnit None = Unit {0}
 IsUnit (Some u) = u < 256
@@ -36,7 +36,7 @@ abbrev pub IsKnownLook : Nfa → Option ℕ → Look → Type 0
 IsKnownLook n prev look =
     Occurs n look × ((next : Option ℕ) → IsUnit next → holds n.terminator n.reverse look prev next ≡ true)
 
--- Whether a look asks for word bytes.
+-- Whether a look tests for word bytes.
 abbrev pub is_word_look : Look → Bool
 is_word_look Start = false
 is_word_look End = false
@@ -46,17 +46,17 @@ is_word_look StartCRLF = false
 is_word_look EndCRLF = false
 is_word_look look = true
 
--- Whether a look asks for `\r` and `\n`.
+-- Whether a look tests for `\r` and `\n`.
 abbrev pub is_crlf_look : Look → Bool
 is_crlf_look StartCRLF = true
 is_crlf_look EndCRLF = true
 is_crlf_look look = false
 
--- A look of the list.
+-- Some state of the list is this look.
 abbrev pub IsNeeded : Nfa → List ℕ → Look → Type 0
 IsNeeded n xs look = (q next : ℕ) × In q xs × (node n q ≡ Assert look next)
 
--- The powerset state that is made of a closure after a unit.
+-- The powerset state is made of a closure after a unit.
 pub record IsMake (n : Nfa) (matched C : List ℕ) (prev : Option ℕ) (Q : Powerset) : Type 0 where
   -- its NFA states are what the NFA keeps of the closure, in order
   pub nfa : Q.nfa ≡ pick (keep n) C
@@ -68,12 +68,12 @@ pub record IsMake (n : Nfa) (matched C : List ℕ) (prev : Option ℕ) (Q : Powe
   pub known :
       (look : Look)
       → (truth_of Q.known look ≡ true) ↔ (((other : Look) × IsNeeded n Q.nfa other) × IsKnownLook n prev look)
-  -- it has the flag for a word byte exactly if it has states, the NFA has a look at words, and the unit is such a byte
+  -- it has the flag for a word byte exactly if it has states, the NFA has a word look, and the unit is a word byte
   pub word :
       (Q.word ≡ true)
       ↔ ((Q.nfa ≡ [] → ⊥) × ((look : Look) × Occurs n look × (is_word_look look ≡ true)) × (is_word prev ≡ true))
-  -- it has the flag for half a line end exactly if it has states, the NFA has a look at `\r` and `\n`, and the unit is
-  -- the first of them that is read
+  -- it has the flag for half a CRLF exactly if it has states, the NFA has a CRLF look, and the unit is the byte of
+  -- `\r\n` that is read first
   pub half :
       (Q.half ≡ true)
       ↔ ((Q.nfa ≡ [] → ⊥) × ((look : Look) × Occurs n look × (is_crlf_look look ≡ true))
@@ -83,7 +83,7 @@ pub record IsMake (n : Nfa) (matched C : List ℕ) (prev : Option ℕ) (Q : Powe
   -- what it needs is a set of looks
   pub needed_set : IsLookSet Q.needed
 
--- What the next unit decides, with the flags for the byte before.
+-- Whether the next unit decides that a look is true, with the flags for the previous byte.
 abbrev pub decided : (terminator : ℕ) (reverse word half : Bool) → Look → (unit : Option ℕ) → Bool
 decided t r w h Start u = false
 decided t r w h End u = is_absent u
@@ -113,14 +113,14 @@ abbrev pub IsNews : Nfa → Powerset → Option ℕ → Type 0
 IsNews n Q u =
     (look : Look) × (truth_of Q.needed look ≡ true) × (true_looks n Q u look ≡ true) × (truth_of Q.known look ≡ false)
 
--- The list once its looks are decided.
+-- The list of NFA states once the looks of the powerset state are decided.
 pub data IsDecided (n : Nfa) (Q : Powerset) (u : Option ℕ) (L : List ℕ) : Type 0 where
   -- a needed look has become true: the closure of the states under the looks that are true
   HasNews : IsNews n Q u → IsClosure n (true_looks n Q u) Q.nfa L → IsDecided n Q u L
   -- none has: the states themselves
   HasNoNews : (IsNews n Q u → ⊥) → L ≡ Q.nfa → IsDecided n Q u L
 
--- The closure of the roots under the looks known after `prev`, made a powerset state.
+-- The powerset state is made of the closure of the roots under the looks known after `prev`.
 pub record IsClosureOf (n : Nfa) (patterns roots : List ℕ) (prev : Option ℕ) (Q : Powerset) : Type 0 where
   -- which looks are taken as true
   pub truth : Truth
@@ -128,7 +128,7 @@ pub record IsClosureOf (n : Nfa) (patterns roots : List ℕ) (prev : Option ℕ)
   pub known : (look : Look) → (truth look ≡ true) ↔ IsKnownLook n prev look
   -- the closure
   pub list : List ℕ
-  -- it is that of the roots
+  -- it is the closure of the roots
   pub closure : IsClosure n truth roots list
   -- the powerset state is made of it
   pub made : IsMake n patterns list prev Q
@@ -137,9 +137,9 @@ pub record IsClosureOf (n : Nfa) (patterns roots : List ℕ) (prev : Option ℕ)
 abbrev pub IsStart : Nfa → ℕ → Option ℕ → Powerset → Type 0
 IsStart n start prev Q = IsClosureOf n [] (start ∷ []) prev Q
 
--- The powerset state that another leads to on a unit: its looks are decided by the unit, the patterns are those of the
--- match states of the list, which under `MatchKind::LeftmostFirst` is cut after the first of these, and the new list is
--- the closure of where its byte states lead.
+-- The powerset state that another leads to on a unit: its looks are decided by the unit; its patterns are the patterns
+-- of the list's match states, where the list is cut after the first match state under `MatchKind::LeftmostFirst`; and
+-- the new list is the closure of the targets of the byte states.
 abbrev pub IsSuccessor : Nfa → MatchKind → Powerset → Option ℕ → Powerset → Type 0
 IsSuccessor n kind Q u Q' =
     (L patterns : List ℕ) × IsDecided n Q u L × IsOnce (pick (accepts n) (cut_for kind n L)) patterns

@@ -4,22 +4,22 @@ use Rattle.std.specs.List.{AllByRecursion}
 use Rattle.automata_base.specs.Lists.{Distinct}
 
 -- a powerset state: NFA states in order, patterns, the looks known and needed, whether it is after a word byte, and
--- half way through a CRLF
+-- whether it is halfway through a CRLF
 pub record Powerset : Type 0 where
   -- its NFA states, the preferred first
   pub nfa : List ℕ
   -- the patterns that match at the place before the unit that led to it
   pub patterns : List ℕ
-  -- the looks that hold whatever unit comes next, if it needs any: bit k stands for look k
+  -- the looks that hold whatever unit comes next, if it needs any: bit k is set for look k
   pub known : ℕ
-  -- the looks among its NFA states: bit k stands for look k
+  -- the looks among its NFA states: bit k is set for look k
   pub needed : ℕ
-  -- whether the byte just read is a word byte, if the NFA has a look that asks for word bytes
+  -- whether the byte just read is a word byte, if the NFA has a look that tests for word bytes
   pub word : Bool
-  -- whether the byte just read is the first of `\r\n` in reading order, if the NFA has a look that asks for it
+  -- whether the byte just read is the first of `\r\n` in reading order, if the NFA has a look that tests for it
   pub half : Bool
 
--- a number of an NFA state or a pattern
+-- the number is one that an NFA state or a pattern may have
 abbrev pub IsId : ℕ → Type 0
 IsId id = id < 2147483647
 
@@ -27,7 +27,7 @@ IsId id = id < 2147483647
 pub record IsPowerset (q : Powerset) : Type 0 where
   -- its NFA states have numbers that IDs may have
   pub nfa : AllByRecursion IsId q.nfa
-  -- so have its patterns
+  -- its patterns have such numbers too
   pub patterns : AllByRecursion IsId q.patterns
   -- no pattern repeats
   pub distinct : Distinct q.patterns
@@ -40,11 +40,11 @@ pub record IsPowerset (q : Powerset) : Type 0 where
 abbrev pub head_cost : ℕ
 head_cost = 13
 
--- of each of its patterns
+-- the cost of each pattern of a state
 abbrev pub pattern_cost : ℕ
 pattern_cost = 4
 
--- of each of its NFA states
+-- the cost of each NFA state of a state
 abbrev pub id_cost : ℕ
 id_cost = 5
 
@@ -52,6 +52,6 @@ id_cost = 5
 abbrev pub cost : Powerset → ℕ
 cost q = head_cost + pattern_cost * length q.patterns + id_cost * length q.nfa
 
--- the state with nothing in it
+-- the dead state, which has nothing in it
 abbrev pub dead : Powerset
 dead = record { nfa = []; patterns = []; known = 0; needed = 0; word = false; half = false }

@@ -7,14 +7,14 @@ use Rattle.automata_base.specs.declared.util.determinize.state.Parts.{Parts}
 
 -- room for the closures of an automaton
 pub record IsClosureRoom (a : Automaton) (stack : Vec ℕ Global) (set : Members) : Type 0 where
-  -- the set is for just its states
+  -- the set has room for exactly its states
   pub whole : set.capacity ≡ length a.states
   -- the stack is empty
   pub empty : stack.items ≡ []
-  -- it takes as many states as may wait on it
+  -- it has room for all states that may wait on it
   pub places : stack_room a.states ≤ vec_capacity stack
 
--- room for a powerset state of an automaton: the lists take each of its NFA states and each of its patterns
+-- room for a powerset state of an automaton: the lists have room for each of its NFA states and each of its patterns
 pub record IsPartsRoom (a : Automaton) (parts : Parts) : Type 0 where
   -- the list of NFA states has room for each of them
   pub list : length a.states ≤ vec_capacity parts.nfa

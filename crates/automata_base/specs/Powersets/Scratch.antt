@@ -1,4 +1,4 @@
--- What contracts see of the room to determinize.
+-- The buffers of determinization as contracts see them.
 use Rattle.std.specs.Prelude.{ℕ, IfSome}
 use Rattle.automata_base.specs.Nfas.Accepted.{IsChecked}
 use Rattle.automata_base.specs.Nfas.Nodes.{Automaton}
@@ -6,22 +6,22 @@ use Rattle.automata_base.specs.Powersets.Key.{ListsItsStates}
 use Rattle.automata_base.specs.Powersets.Rooms.{IsStepRoom}
 use Rattle.automata_base.specs.declared.util.determinize.scratch.Scratch.TheInside.{Inside}
 
--- What contracts see: the NFA that it was made for, and how often it was used.
+-- The buffers of determinization as contracts see them: the NFA that they were made for, and how often they were used.
 pub record ScratchView : Type 0 where
-  -- the NFA that it was made for
+  -- the NFA that they were made for
   pub of : Automaton
-  -- the count of determinizations in it
+  -- the count of determinizations in them
   pub count : ℕ
 
--- What contracts see of the room to determinize.
+-- The buffers of determinization as contracts see them.
 abbrev pub view_of : Inside → ScratchView
 view_of s = record { of = s.of.value; count = s.count.number }
 
--- What holds for all room to determinize.
+-- What holds for all buffers of determinization.
 pub record IsScratch (s : Inside) : Type 0 where
-  -- its NFA passed the tests of `NFA::from_states`
+  -- their NFA passed the tests of `NFA::from_states`
   pub checked : IsChecked s.of.value
-  -- it is room for the steps of that NFA
+  -- they have room for the steps of that NFA
   pub room : IsStepRoom s.of.value s.stack s.one s.two s.parts
-  -- the state that was made last, if it is there, has the list of its NFA states
+  -- the last state that was made, if there is one, has the list of its NFA states
   pub made : IfSome s.made (λ made. ListsItsStates made.value)

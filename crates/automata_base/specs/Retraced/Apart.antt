@@ -1,24 +1,24 @@
--- Which states lead to neither of two.
+-- The states that lead to neither of two states.
 use Rattle.std.specs.Prelude.{ℕ, ◌||◌, ◌&&◌, Bool, true, false, not, eqb, List, [], ◌∷◌}
 use Rattle.automata_base.specs.declared.nfa.thompson.State.{State}
 use Rattle.automata_base.specs.declared.nfa.thompson.State.TheVariants as is
 use Rattle.automata_base.specs.declared.nfa.thompson.Transition.{Transition}
 
--- It is one of the two.
+-- Whether the state is one of the two.
 abbrev pub is_either : (one two q : ℕ) → Bool
 is_either one two q = eqb q one || eqb q two
 
--- None of them is.
+-- Whether none of these states is one of the two.
 abbrev pub are_others : (one two : ℕ) → List ℕ → Bool
 are_others one two [] = true
 are_others one two (q ∷ qs) = not (is_either one two q) && are_others one two qs
 
--- None of these edges leads to one of the two.
+-- Whether none of these edges leads to one of the two.
 abbrev pub lead_elsewhere : (one two : ℕ) → List Transition → Bool
 lead_elsewhere one two [] = true
 lead_elsewhere one two (t ∷ ts) = not (is_either one two t.next) && lead_elsewhere one two ts
 
--- No edge of the state leads to one of the two. The edges of a dense state are not read.
+-- Whether no edge of the state leads to one of the two. It is false for a dense state, whose edges are not read.
 abbrev pub leads_elsewhere : (one two : ℕ) → State → Bool
 leads_elsewhere one two (is.ByteRange lo hi next) = not (is_either one two next)
 leads_elsewhere one two (is.Sparse ts) = lead_elsewhere one two ts.items

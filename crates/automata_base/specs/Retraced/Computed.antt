@@ -1,4 +1,4 @@
--- Closures, powerset states and steps as a computation: what the relations of Powersets define, by functions.
+-- Closures, powerset states and steps as functions, which compute what the relations of Powersets define.
 use Rattle.std.specs.Prelude.{ℕ, zero, suc, Bool, true, false, not, ◌&&◌, ◌||◌, eqb, List, [], ◌∷◌, ◌++◌}
 use Rattle.std.specs.Prelude.{length, Option}
 use Rattle.automata_base.specs.Haystacks.Looks.{Look, Start, End, StartLF, EndLF, StartCRLF, EndCRLF, WordAscii}

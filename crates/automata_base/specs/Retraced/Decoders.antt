@@ -1,4 +1,4 @@
--- The product of an NFA with a decoder of UTF-8, an automaton over classes of bytes.
+-- The product of an NFA with a UTF-8 decoder, an automaton over classes of bytes.
 use Rattle.std.specs.Prelude.{ℕ, ◌≡◌, ◌+◌, ◌*◌, ◌/◌, ◌%◌, ◌&&◌, Bool, true, cond, leb, List, [], ◌∷◌, ◌++◌, map}
 use Rattle.std.specs.Prelude.{slice_index}
 use Rattle.automata_base.specs.declared.nfa.thompson.utf8.Class.{Class}
@@ -22,21 +22,21 @@ pair q s = q * 11 + s
 abbrev pub meets : Class → Range → Bool
 meets c r = leb c.first r.hi && leb r.lo c.last
 
--- Where a range leads by one class: to its target, with the decoder's state after the class from `s`.
+-- The pair that a range leads to by one class: its target, with the decoder's state after the class from `s`.
 abbrev pub pairs_in : ℕ → Range → Class → List ℕ
 pairs_in s r c = cond (meets c r) (pair r.next (slice_index c.to s) ∷ []) []
 
--- Where a range leads by all classes.
+-- The pairs that a range leads to by all classes.
 abbrev pub range_pairs : List Class → ℕ → Range → List ℕ
 range_pairs [] s r = []
 range_pairs (c ∷ cs) s r = pairs_in s r c ++ range_pairs cs s r
 
--- Where several ranges lead by all classes.
+-- The pairs that several ranges lead to by all classes.
 abbrev pub ranges_pairs : List Class → ℕ → List Range → List ℕ
 ranges_pairs classes s [] = []
 ranges_pairs classes s (r ∷ rs) = range_pairs classes s r ++ ranges_pairs classes s rs
 
--- Where a state of the NFA leads by reading a byte, with this state of the decoder.
+-- The pairs that a state of the NFA leads to by reading a byte, with this state of the decoder.
 abbrev pub byte_pairs : List Class → ℕ → Node → List ℕ
 byte_pairs classes s (Split alternates) = []
 byte_pairs classes s (Assert look next) = []
@@ -47,11 +47,11 @@ byte_pairs classes s (Accept p) = []
 abbrev pub pairs_at : ℕ → List ℕ → List ℕ
 pairs_at s ids = map (λ q. pair q s) ids
 
--- Where a pair leads, looks taken as true.
+-- The pairs that a pair leads to, with every look taken as true.
 abbrev pub node_pairs : List Class → ℕ → Node → List ℕ
 node_pairs classes s x = pairs_at s (children_at x all_true) ++ byte_pairs classes s x
 
--- Where the pair of a number leads, looks taken as true.
+-- The pairs that the pair with this number leads to, with every look taken as true.
 abbrev pub pairs_of : List Class → List State → ℕ → List ℕ
 pairs_of classes states x = node_pairs classes (x % 11) (node_in states (x / 11))
 

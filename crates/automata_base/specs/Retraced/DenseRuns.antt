@@ -1,4 +1,4 @@
--- The edges of a dense state as ranges: neighbouring bytes that lead to one state are one range.
+-- The edges of a dense state as ranges: adjacent bytes that lead to the same state are one range.
 use Rattle.std.specs.Prelude.{ℕ, zero, suc, Bool, false, cond, eqb, List, [], ◌∷◌, ◌++◌}
 use Rattle.automata_base.specs.declared.nfa.thompson.State.{State}
 use Rattle.automata_base.specs.declared.nfa.thompson.State.TheVariants as is
@@ -11,7 +11,7 @@ abbrev pub starts_with : ℕ → List ℕ → Bool
 starts_with x [] = false
 starts_with x (y ∷ ys) = eqb y x
 
--- The bytes from `lo` to `hi` lead to the target: target 0 stands for no edge.
+-- The bytes from `lo` to `hi` lead to the target: target 0 means that there is no edge.
 abbrev pub run_of : (lo hi target : ℕ) → List Transition
 run_of lo hi zero = []
 run_of lo hi (suc k) = record { lo = lo; hi = hi; next = suc k } ∷ []
@@ -39,7 +39,7 @@ abbrev pub ranged_nodes : List State → List Node
 ranged_nodes [] = []
 ranged_nodes (x ∷ xs) = ranged x ∷ ranged_nodes xs
 
--- What paths see of an NFA, each dense state with its edges as ranges.
+-- The NFA as paths see it, with the edges of each dense state as ranges.
 abbrev pub ranged_nfa : Automaton → Nfa
 ranged_nfa a = record {
   nodes = ranged_nodes a.states;

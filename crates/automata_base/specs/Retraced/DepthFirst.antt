@@ -8,7 +8,7 @@ use Rattle.automata_base.specs.Retraced.Reach.{Route}
 abbrev pub LeadsBy : (ℕ → List ℕ) → ℕ → ℕ → Type 0
 LeadsBy targets p z = (r : ℕ) × (way : List ℕ) × In r (targets p) × Route targets r way z
 
--- A state that stands before another one and leads to it is on a cycle.
+-- No state repeats, and a state that leads to a later one is on a cycle.
 abbrev pub IsFinishingOrder : (ℕ → List ℕ) → List ℕ → Type 0
 IsFinishingOrder targets xs =
     (i q p : ℕ) → slice_get xs i ≡ Some q → In p (take i xs) → (p ≡ q → ⊥) × (LeadsBy targets p q → LeadsBy targets p p)
@@ -44,10 +44,10 @@ pub record IsUnderSearch
   pub closed : (p r : ℕ) → In p finished → In r (targets p) → In r finished ⊎ In r (states_in frames)
   -- a finished state that leads to one that is not finished is on a cycle
   pub cyclic : (p q : ℕ) → In p finished → (In q finished → ⊥) → LeadsBy targets p q → LeadsBy targets p p
-  -- the states finished so far stand in a finishing order
+  -- the states finished so far are in a finishing order
   pub order : IsFinishingOrder targets finished
 
--- Each state is in the order, and they stand in a finishing order.
+-- The list has each state, in a finishing order.
 pub record IsWholeOrder (n : ℕ) (targets : ℕ → List ℕ) (xs : List ℕ) : Type 0 where
   -- the list is in a finishing order
   pub order : IsFinishingOrder targets xs

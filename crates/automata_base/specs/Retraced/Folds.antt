@@ -14,15 +14,15 @@ use Rattle.automata_base.specs.Retraced.Segments.{IsOnWay, head_or_none}
 use Rattle.automata_base.specs.Nfas.Nfa.{Nfa, Node, Range, Split, Assert, Read, Accept, Truth}
 use Rattle.automata_base.specs.Nfas.Nfa.{hop_at, node, takes, takes_in}
 
--- The state is none of the free ones, which are made anew.
+-- The state is not one of the free ones, which are replaced.
 abbrev pub IsNotFree : (free : List ℕ) → (state : ℕ) → Type 0
 IsNotFree free state = In state free → ⊥
 
--- The state is a free one, and this is made of it.
+-- The state is a free one, and this node replaces it.
 abbrev pub IsMade : (free : List ℕ) → (made : List Node) → (state : ℕ) → Node → Type 0
 IsMade free made state x = (k : ℕ) × (slice_get free k ≡ Some state) × (slice_get made k ≡ Some x)
 
--- The list is the targets of the states one after another, where the relation gives those of one.
+-- The list is the targets of the states, one after another. `Stands` says which are the targets of one state.
 abbrev pub AreTargetsOf : (ℕ → List ℕ → Type 0) → (states targets : List ℕ) → Type 0
 AreTargetsOf Stands [] targets = targets ≡ []
 AreTargetsOf Stands (x ∷ xs) targets =
@@ -31,7 +31,7 @@ AreTargetsOf Stands (x ∷ xs) targets =
 -- How a state stands for the targets, where `Stand` says which states stand for them together.
 pub data IsStandIn (free : List ℕ) (made : List Node) (Stand : List ℕ → Type 0) (state : ℕ) (targets : List ℕ) :
     Type 0 where
-  -- it is none of the free ones, and the only target
+  -- it is not one of the free ones, and it is the only target
   IsTheTarget : IsNotFree free state → targets ≡ state ∷ [] → IsStandIn free made Stand state targets
   -- it is a union that was made, and its alternates stand for them
   JoinsStandIns :
@@ -43,7 +43,7 @@ StandsFor free made zero state targets = IsStandIn free made (λ xs. ⊥) state 
 StandsFor free made (suc depth) state targets =
     IsStandIn free made (λ xs. AreTargetsOf (StandsFor free made depth) xs targets) state targets
 
--- No state stands for no targets, and a state for those that it leads to in some number of steps.
+-- If there is no state, there are no targets; a state stands for those that it leads to in some number of steps.
 abbrev pub StandsIfAny : (free : List ℕ) → (made : List Node) → Option ℕ → (targets : List ℕ) → Type 0
 StandsIfAny free made None targets = targets ≡ []
 StandsIfAny free made (Some state) targets = (depth : ℕ) × StandsFor free made depth state targets
@@ -69,7 +69,7 @@ pub record IsFoldedUnion (n : Nfa) (free : List ℕ) (made : List Node) (xs : Li
   pub reader : ℕ
   -- its ranges
   pub ranges : List Range
-  -- the folded union goes on to both
+  -- the folded union leads to both
   pub union : folded ≡ Split (stay ++ reader ∷ [])
   -- the state that reads was made, with these ranges
   pub reads : IsMade free made reader (Read ranges)
@@ -86,18 +86,18 @@ pub record IsFoldedUnion (n : Nfa) (free : List ℕ) (made : List Node) (xs : Li
 
 -- What becomes of a node.
 pub data IsFoldedNode (n : Nfa) (free : List ℕ) (made : List Node) (old new : Node) : Type 0 where
-  -- it is as it was, and leads to none of the free states without reading
+  -- it is unchanged, and no epsilon edge of it leads to a free state
   StaysNode :
       new ≡ old → ((A : Truth) (e y : ℕ) → hop_at old A e ≡ Some y → IsNotFree free y)
       → IsFoldedNode n free made old new
   -- it was a union and is folded
   FoldsNode : (xs : List ℕ) → old ≡ Split xs → IsFoldedUnion n free made xs new → IsFoldedNode n free made old new
 
--- The states of `m` are those of `n`, of which some unions are folded, and the free ones are made anew.
+-- The states of `m` are those of `n`, with some unions folded and the free states replaced.
 pub record IsFolded (n m : Nfa) (free : List ℕ) (made : List Node) : Type 0 where
-  -- each state that is kept is as it was, or it was a union and is folded
+  -- each state that is kept is unchanged, or it was a union and is folded
   pub each : (x : ℕ) → IsNotFree free x → IsFoldedNode n free made (node n x) (node m x)
-  -- the free states are what is made of them
+  -- the free states are replaced by what was made
   pub more : (x : ℕ) (new : Node) → IsMade free made x new → node m x ≡ new
   -- no byte leads to a free state
   pub moves : (x u y : ℕ) → takes n x u ≡ Some y → IsNotFree free y
@@ -132,7 +132,7 @@ pub record SomeReads (states : List State) (xs : List ℕ) (u target : ℕ) : Ty
   pub leads : range.next ≡ target
   -- the range begins no later than the byte
   pub begins : range.lo ≤ u
-  -- and ends no sooner
+  -- the range ends no earlier than the byte
   pub ends : u ≤ range.hi
 
 -- Whether a state is a union that may be folded: it has many alternates.
@@ -157,7 +157,8 @@ pub data StaysOrReads (states : List State) (stay : List ℕ) (x : ℕ) : Type 0
   -- it reads a range
   ReadsARange : (range : Transition) → ReadsRange states x range → StaysOrReads states stay x
 
--- A union of the states `xs` becomes a union of those that read no range and of one that reads what the others read.
+-- A union of the states `xs` becomes a union of those that do not read a range and of one that reads what the others
+-- read.
 pub record IsFoldOf
     (states : List State) (free : List ℕ) (made : List Node) (xs : List ℕ) (folded : Node) : Type 0 where
   -- the alternates that stay
@@ -166,7 +167,7 @@ pub record IsFoldOf
   pub reader : ℕ
   -- its ranges
   pub ranges : List Range
-  -- the folded union goes on to both
+  -- the folded union leads to both
   pub union : folded ≡ Split (stay ++ reader ∷ [])
   -- the state that reads was made, with these ranges
   pub reads : IsMade free made reader (Read ranges)
@@ -174,7 +175,7 @@ pub record IsFoldOf
   pub sound : (x : ℕ) → In x stay → In x xs × ((range : Transition) → ReadsRange states x range → ⊥)
   -- each alternate of the union stays, or it reads a range
   pub alternates : (x : ℕ) → In x xs → StaysOrReads states stay x
-  -- on each byte the state that reads leads to one that stands for the targets of these ranges
+  -- on each byte, the state that reads leads to a state that stands for the targets of these ranges
   pub stands :
       (u : ℕ)
       → (targets : List ℕ) × StandsIfAny free made (takes_in ranges u) targets
@@ -187,7 +188,7 @@ is_large_state (Some state) = is_large (node_of state)
 
 -- What becomes of a state.
 pub data IsFoldedState (states : List State) (free : List ℕ) (made : List Node) (old new : Option State) : Type 0 where
-  -- it is as it was, and no union that may be folded
+  -- it is unchanged, and it is not a union that may be folded
   StaysState : new ≡ old → is_large_state old ≡ false → IsFoldedState states free made old new
   -- it was a union and is folded, to a state that reads no range
   FoldsState :
@@ -199,11 +200,11 @@ pub data IsFoldedState (states : List State) (free : List ℕ) (made : List Node
 abbrev pub IsUnionOf : State → (list : List ℕ) → Type 0
 IsUnionOf state list = (alternates : Vec ℕ Global) × (state ≡ is.Union alternates) × (list ≡ alternates.items)
 
--- Some unions of the old states are folded, and the free ones are made anew.
+-- Some unions of the old states are folded, and the free states are replaced.
 pub record AreFolded (old new : List State) (free : List ℕ) (made : List Node) : Type 0 where
-  -- each state that is kept is as it was, or it was a union and is folded
+  -- each state that is kept is unchanged, or it was a union and is folded
   pub each : (x : ℕ) → IsNotFree free x → IsFoldedState old free made (slice_get old x) (slice_get new x)
-  -- the free states are what is made of them
+  -- the free states are replaced by what was made
   pub more : (x : ℕ) (node : Node) → IsMade free made x node → node_in new x ≡ node
   -- no state but a large union leads to a free one
   pub led : (q t : ℕ) → is_large (node_in old q) ≡ false → In t (targets_of Every old q) → IsNotFree free t
@@ -212,15 +213,15 @@ pub record AreFolded (old new : List State) (free : List ℕ) (made : List Node)
 
 -- The new states are the old ones with unions folded, and the root and the entries are kept.
 pub record IsFoldedFrom (old new : List State) (root : ℕ) (entries : List ℕ) : Type 0 where
-  -- the states that are made anew
+  -- the states that are replaced
   pub free : List ℕ
-  -- what is made of them
+  -- the nodes that replace them
   pub made : List Node
-  -- unions are folded over these
+  -- unions are folded with these
   pub folded : AreFolded old new free made
   -- the root is kept
   pub rooted : IsNotFree free root
-  -- and so is each entry
+  -- each entry is kept
   pub entered : (e : ℕ) → In e entries → IsNotFree free e
 
 -- If the state of this number is a union, its alternates are states.

@@ -30,7 +30,7 @@ abbrev pub last_among : (ℕ → List ℕ) → ℕ → Option Pair
 last_among reported zero = None
 last_among reported (suc i) = pair_at (reported i) i (last_among reported i)
 
--- the same of the first of these places
+-- the first pattern of the first of `k` places that have patterns, with that place
 abbrev pub first_among : (ℕ → List ℕ) → ℕ → Option Pair
 first_among reported zero = None
 first_among reported (suc i) = earlier_or (first_among reported i) (pair_at (reported i) i None)
@@ -61,7 +61,7 @@ abbrev pub reported_upto : MatchKind → (earliest : Bool) → Automaton → Anc
 reported_upto kind true a mode t k = first_reported a kind mode t k
 reported_upto kind false a mode t k = last_reported a kind mode t k
 
--- what a search reports of its pass, which reads each byte of the tape and the unit after it
+-- what the pass of a search reports, which reads each byte of the tape and the unit after it
 abbrev pub reported_by : MatchKind → (earliest : Bool) → Automaton → Anchored → Tape → Option Pair
 reported_by kind earliest a mode t = reported_upto kind earliest a mode t (suc (length t.bytes))
 
@@ -77,7 +77,7 @@ pass_of n kind start t k = after_units (start_behind n start t.before) (successo
 abbrev pub reported_of : Nfa → MatchKind → ℕ → Tape → ℕ → List ℕ
 reported_of n kind start t i = (pass_of n kind start t (suc i)).patterns
 
--- what a search reports of this pass: an earliest one the first match, any other the last one
+-- what a search reports by this pass: an earliest search the first match, any other the last one
 abbrev pub search_of : MatchKind → (earliest : Bool) → Nfa → Tape → ℕ → Option Pair
 search_of kind true n t start = first_among (reported_of n kind start t) (suc (length t.bytes))
 search_of kind false n t start = last_among (reported_of n kind start t) (suc (length t.bytes))

@@ -1,4 +1,4 @@
--- Which states of an NFA edges reach from some of them.
+-- The states of an NFA that edges reach from some of its states.
 use Rattle.std.specs.Prelude.{ℕ, ◌≡◌, cond, eqb, List, [], ◌∷◌, ◌++◌, map, Option, Some, None}
 use Rattle.std.specs.Prelude.{slice_get}
 use Rattle.automata_base.specs.declared.nfa.thompson.State.{State}
@@ -14,23 +14,23 @@ use Rattle.automata_base.specs.Powersets.Closure.{children_at}
 abbrev pub node_in : List State → ℕ → Node
 node_in states q = node_or_fail (slice_get (nodes_of states) q)
 
--- Where these ranges lead.
+-- The targets of these ranges.
 abbrev pub nexts : List Range → List ℕ
 nexts ranges = map (λ range. range.next) ranges
 
--- Where the edges of a state lead that read a byte.
+-- The targets of the edges of a node that read a byte.
 abbrev pub byte_targets : Node → List ℕ
 byte_targets (Split alternates) = []
 byte_targets (Assert look next) = []
 byte_targets (Read ranges) = nexts ranges
 byte_targets (Accept p) = []
 
--- Where the edges of a state lead, looks taken as true.
+-- The targets of the edges of a node, with every look taken as true.
 abbrev pub targets_at : Edges → Node → List ℕ
 targets_at Epsilon x = children_at x all_true
 targets_at Every x = children_at x all_true ++ byte_targets x
 
--- Where the edges of the state of a number lead, looks taken as true.
+-- The targets of the edges of the state with this number, with every look taken as true.
 abbrev pub targets_of : Edges → List State → ℕ → List ℕ
 targets_of edges states q = targets_at edges (node_in states q)
 
@@ -51,12 +51,12 @@ IsReached edges states roots z = IsReachedBy (targets_of edges states) roots z
 abbrev pub IsMatchAt : Node → Type 0
 IsMatchAt x = (p : ℕ) × (accepts_at x ≡ Some p)
 
--- A match is reached.
+-- Epsilon edges lead from some root to a match.
 abbrev pub ReachesMatch : List State → List ℕ → Type 0
 ReachesMatch states roots =
     (q : ℕ) × IsReached Epsilon states roots q × IsMatchAt (node_in states q)
 
--- Where a look leads.
+-- The target of a look.
 abbrev pub look_target : Node → Option ℕ
 look_target (Split alternates) = None
 look_target (Assert look next) = Some next

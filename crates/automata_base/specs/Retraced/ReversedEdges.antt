@@ -1,4 +1,4 @@
--- How the code reverses edges: for each state what leads to it, and the states that stand for edges.
+-- How the code reverses edges: for each state, what leads to it, and the states that stand for edges.
 use Rattle.std.specs.Prelude.{ℕ, zero, suc, ◌+◌, ◌≡◌, List, [], ◌∷◌, ◌++◌, length, slice_index_or, cond, eqb, Some}
 use Rattle.std.specs.Prelude.{Option, None, map, ◌↔◌, Bool, false, slice_get, ◌-◌, ◌<◌, ◌≤◌}
 use Rattle.automata_base.specs.declared.nfa.thompson.State.{State}
@@ -20,9 +20,10 @@ abbrev pub lists_of : List (Vec ℕ Global) → List (List ℕ)
 lists_of [] = []
 lists_of (v ∷ vs) = v.items ∷ lists_of vs
 
--- For each state its alternates. The helpers come after the states, so helper k has the number of states plus k.
+-- The alternates of each state, and the helpers. The helpers come after the states, so the number of helper k is the
+-- number of states plus k.
 pub record Turns : Type 0 where
-  -- for each state the states that it goes on to, once edges are reversed
+  -- for each state, the states that it leads to once edges are reversed
   pub lists : List (List ℕ)
   -- the states that stand for reversed edges that read a byte or test a look, and for the match
   pub helpers : List State
@@ -52,38 +53,38 @@ is_of (Some y) x = eqb y x
 abbrev pub ends_in : List ℕ → (x : ℕ) → Bool
 ends_in xs x = is_of (slice_get xs (length xs - 1)) x
 
--- These alternates and `x` after them, unless it is the last of them.
+-- These alternates with `x` after them, unless it is already the last of them.
 abbrev pub put : List ℕ → (x : ℕ) → List ℕ
 put xs x = cond (ends_in xs x) xs (xs ++ x ∷ [])
 
--- Adds `x` after the alternates of the state `k`, unless it is the last of them.
+-- Adds `x` after the alternates of the state `k`, unless it is already the last of them.
 abbrev pub put_at : List (List ℕ) → ℕ → (x : ℕ) → List (List ℕ)
 put_at [] k x = []
 put_at (xs ∷ rest) zero x = put xs x ∷ rest
 put_at (xs ∷ rest) (suc k) x = xs ∷ put_at rest k x
 
--- The state `to` goes on to `x`. The edges from `x` are turned one after another, so that none repeats.
+-- Makes the state `to` lead to `x`. The edges from `x` are reversed one after another, so that `x` does not repeat.
 abbrev pub turn_free : Turns → (x to : ℕ) → Turns
 turn_free t x to = record t { lists = put_at t.lists to x }
 
--- The state `to` goes on to a helper.
+-- Adds a helper, and makes the state `to` lead to it.
 abbrev pub turn_by : Turns → State → (to : ℕ) → Turns
 turn_by t helper to = record {
   lists = push_at t.lists to (length t.lists + length t.helpers);
   helpers = t.helpers ++ helper ∷ [];
 }
 
--- The edges from one state to these, which read nothing, are turned one after another.
+-- Reverses the edges from one state to these, which read nothing, one after another.
 abbrev pub turn_all : Turns → (from : ℕ) → List ℕ → Turns
 turn_all t from [] = t
 turn_all t from (x ∷ xs) = turn_all (turn_free t from x) from xs
 
--- The edges of one state that read a byte, one for each range, are turned one after another.
+-- Reverses the edges of one state that read a byte, one for each range, one after another.
 abbrev pub turn_ranges : Turns → (from : ℕ) → List Transition → Turns
 turn_ranges t from [] = t
 turn_ranges t from (r ∷ rs) = turn_ranges (turn_by t (is.ByteRange r.lo r.hi from) r.next) from rs
 
--- Each edge of the state `from` is turned.
+-- Reverses each edge of the state `from`.
 abbrev pub turn_state : Turns → (from : ℕ) → State → Turns
 turn_state t from (is.ByteRange lo hi next) = turn_by t (is.ByteRange lo hi from) next
 turn_state t from (is.Sparse ts) = turn_ranges t from ts.items
@@ -95,21 +96,21 @@ turn_state t from (is.Capture next pattern index slot) = turn_free t from next
 turn_state t from is.Fail = t
 turn_state t from (is.Match pattern) = t
 
--- Each edge of these states is turned.
+-- Reverses each edge of these states.
 abbrev pub turn_states : Turns → List State → List ℕ → Turns
 turn_states t states [] = t
 turn_states t states (q ∷ qs) = turn_states (turn_state t q (slice_index_or states q is.Fail)) states qs
 
--- How many states these are.
+-- The number of states and helpers.
 abbrev pub size : Turns → ℕ
 size t = length t.lists + length t.helpers
 
--- No edge of any of so many states.
+-- This many empty lists.
 abbrev pub no_lists : ℕ → List (List ℕ)
 no_lists zero = []
 no_lists (suc n) = [] ∷ no_lists n
 
--- What is made of a state's alternates. Helpers have the numbers from `n` on.
+-- The state is made of these alternates. Helpers have the numbers from `n` on.
 pub data IsHead (n : ℕ) (helpers : List State) (alternates : List ℕ) (s : State) : Type 0 where
   -- their union
   IsUnionOfAll : (v : Vec ℕ Global) → s ≡ is.Union v → v.items ≡ alternates → IsHead n helpers alternates s
@@ -117,7 +118,7 @@ pub data IsHead (n : ℕ) (helpers : List State) (alternates : List ℕ) (s : St
   IsOnlyHelper :
       (j : ℕ) → alternates ≡ (n + j) ∷ [] → slice_get helpers j ≡ Some s → IsHead n helpers alternates s
 
--- What is made of each state's alternates, in order.
+-- The states are made of these lists of alternates, in order.
 abbrev pub AreHeads : (n : ℕ) → List State → List (List ℕ) → List State → Type 0
 AreHeads n helpers [] [] = Unit {0}
 AreHeads n helpers [] (s ∷ ss) = ⊥
@@ -129,12 +130,12 @@ abbrev pub AreMade : Turns → List State → Type 0
 AreMade t states =
     (heads : List State) × (states ≡ heads ++ t.helpers) × AreHeads (length t.lists) t.helpers t.lists heads
 
--- Where a number first stands in a list.
+-- The index where a number first occurs in a list.
 abbrev pub place_in : List ℕ → ℕ → ℕ
 place_in [] q = 0
 place_in (x ∷ xs) q = cond (eqb x q) 0 (suc (place_in xs q))
 
--- The copy of a state, each of its targets being `f` of the old one, and each match one of the pattern `p`.
+-- The copy of a state: each of its targets is `f` of the old one, and a match state matches the pattern `p`.
 abbrev pub copied : (ℕ → ℕ) → (p : ℕ) → State → Node
 copied f p (is.ByteRange lo hi next) = Read (record { lo = lo; hi = hi; next = f next } ∷ [])
 copied f p (is.Sparse ts) = Split []
@@ -146,7 +147,7 @@ copied f p (is.Capture next pattern index slot) = Split []
 copied f p is.Fail = Split []
 copied f p (is.Match pattern) = Accept p
 
--- The lists with a match state more, after those of its pattern.
+-- The lists with one more match state, after those of its pattern.
 abbrev pub list_match : List (List ℕ) → Option ℕ → (x : ℕ) → List (List ℕ)
 list_match lists None x = lists
 list_match lists (Some p) x = push_at lists p x
@@ -156,7 +157,7 @@ abbrev pub copies : (ℕ → ℕ) → (p : ℕ) → List State → List ℕ → 
 copies f p states [] = []
 copies f p states (q ∷ qs) = copied f p (slice_index_or states q is.Fail) ∷ copies f p states qs
 
--- The copy of a number: the members' copies come one after another, from a base on.
+-- The number of the copy of a state: the copies of the members come one after another, from a base on.
 abbrev pub copy_of : (base : ℕ) → List ℕ → ℕ → ℕ
 copy_of base items q = base + place_in items q
 
@@ -167,7 +168,7 @@ matches_in states p (q ∷ qs) =
     cond (is_of (accepts_at (node_of (slice_index_or states q is.Fail))) p) (q ∷ matches_in states p qs)
     (matches_in states p qs)
 
--- The reversed edges of these states, the first of which goes on to a match, make this list.
+-- The list is made of the reversed edges of these states, where the state `first` also leads to a match.
 abbrev pub AreTurned : List State → (reached : List ℕ) → (first : ℕ) → List State → Type 0
 AreTurned states reached first turned =
     (t : Turns) × AreMade t turned
@@ -175,24 +176,24 @@ AreTurned states reached first turned =
     ≡ turn_by (turn_states (record { lists = no_lists (length states); helpers = [] }) states reached) (is.Match 0)
     first)
 
--- Of these nodes, those from `base` up to the entry are copies, for the pattern `p`, of the turned states that are
--- reached from the roots; and the entry goes on to the copies of the roots.
+-- The nodes from `base` up to the entry are copies, for the pattern `p`, of the turned states that are reached from the
+-- roots; and the entry leads to the copies of the roots.
 pub record IsCopied (nodes : List Node) (turned : List State) (roots : List ℕ) (p entry base : ℕ) (items : List ℕ) :
     Type 0 where
   -- the states that are copied are those that edges reach from the roots
   pub reached : (q : ℕ) → In q items ↔ IsReached Every turned roots q
   -- each is copied once
   pub distinct : Distinct items
-  -- their copies stand one after another, from `base` on
+  -- their copies come one after another, from `base` on
   pub each :
       (k q : ℕ) → slice_get items k ≡ Some q
       → slice_get nodes (base + k) ≡ Some (copied (copy_of base items) p (slice_index_or turned q is.Fail))
-  -- the entry goes on to the copies of the roots
+  -- the entry leads to the copies of the roots
   pub enters : slice_get nodes entry ≡ Some (Split (map (copy_of base items) roots))
   -- the entry comes after the copies
   pub ends : entry ≡ base + length items
 
--- Where copies begin, and of which states they are.
+-- Where the copies for a pattern begin, and of which states they are.
 pub record Copied : Type 0 where
   -- the number of the first copy
   pub base : ℕ
@@ -205,7 +206,7 @@ part_at [] p = record { base = 0; items = [] }
 part_at (x ∷ xs) zero = x
 part_at (x ∷ xs) (suc p) = part_at xs p
 
--- The nodes are copies for each pattern, and each entry after them.
+-- The nodes are copies for each pattern, each followed by its entry.
 pub record HaveCopies (nodes : List Node) (states turned : List State) (reached entries : List ℕ) : Type 0 where
   -- where the copies for each pattern begin, and of which states they are
   pub parts : List Copied
@@ -224,8 +225,8 @@ pub record HaveCopies (nodes : List Node) (states turned : List State) (reached 
   -- no entry repeats
   pub distinct : Distinct entries
 
--- These states are what a reversed NFA is made of: the copies for each pattern, and after them the root, which goes on
--- to each pattern's entry.
+-- These are the states of a reversed NFA: the copies for each pattern, and after them the root, which leads to each
+-- pattern's entry.
 pub record AreReversed (states : List State) (first patterns : ℕ) (made : List State) (entries : List ℕ) (root : ℕ) :
     Type 0 where
   -- the states with their edges reversed, for all patterns
@@ -242,7 +243,7 @@ pub record AreReversed (states : List State) (first patterns : ℕ) (made : List
   pub below : (q : ℕ) → In q reached → q < length states
   -- the turned states are made of their reversed edges
   pub turns : AreTurned states reached first turned
-  -- the states that are made are the copies and entries, and the root, which goes on to each entry
+  -- the states that are made are the copies and entries, and the root, which leads to each entry
   pub whole : nodes_of made ≡ nodes ++ Split entries ∷ []
   -- the root is the last one
   pub starts : root ≡ length nodes

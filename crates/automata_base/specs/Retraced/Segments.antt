@@ -3,7 +3,7 @@ use Rattle.std.specs.Prelude.{ℕ, zero, suc, ◌≡◌, ◌+◌, ◌/◌, ◌%�
 use Rattle.automata_base.specs.Lists.{In}
 use Rattle.automata_base.specs.Retraced.ReversedEdges.{list_at, push_at}
 
--- The node that is so many steps above this one.
+-- The node that is this many steps above a node.
 abbrev pub above : (steps node : ℕ) → ℕ
 above zero node = node
 above (suc steps) node = above steps node / 2
@@ -17,7 +17,7 @@ abbrev pub head_or_none : Option (Option ℕ) → Option ℕ
 head_or_none None = None
 head_or_none (Some head) = head
 
--- The head of the leaf of a byte, whose node is 256 after it.
+-- The head of the leaf of a byte, which is the node 256 plus the byte.
 abbrev pub leaf_head : List (Option ℕ) → (u : ℕ) → Option ℕ
 leaf_head heads u = head_or_none (slice_get heads (u + 256))
 

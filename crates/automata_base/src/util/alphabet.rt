@@ -15,7 +15,7 @@ use std::marker::Model;
 /// The classes of the bytes that an NFA and a quit set do not distinguish: each byte has a class, and bytes of one
 /// class lead to the same states.
 ///
-/// One more class, after the last one, is that of the end of the input.
+/// The end of the input has a class of its own, after the classes of the bytes.
 #[derive(Clone, Copy, Debug, PartialEq, Eq)]
 pub struct ByteClasses {
     map: [u8; 256],
@@ -40,7 +40,7 @@ impl ByteClasses {
     ghost use Rattle.automata_base.specs.ByteClasses.Classes.{alphabet_length};
     ghost use Rattle.automata_base.specs.ByteClasses.Classes.{stride_of, is_quit};
 
-    /// The classes of the NFA's bytes, with these quit bytes. If `on` is false, each byte is a class of its own.
+    /// Returns the byte classes of the NFA with these quit bytes. If `on` is false, each byte is a class of its own.
     pub fn of(nfa: &NFA, quits: &ByteSet, on: bool) -> ByteClasses
         ensures quits { (u v : ℕ)
             → u < 256 → v < 256 → class_in result u ≡ class_in result v
@@ -53,7 +53,7 @@ impl ByteClasses {
         }
     }
 
-    /// The class of a byte.
+    /// Returns the class of a byte.
     pub fn get(&self, byte: u8) -> u8
         ensures class { result ≡ class_in self.now byte }
         ensures below { result < eoi_class self.now }
@@ -61,8 +61,8 @@ impl ByteClasses {
         self.map[usize::from(byte)]
     }
 
-    /// The number of classes, the one of the end of the input included: 2 to 257. Classes rise by at most one from byte
-    /// to byte.
+    /// Returns the number of classes, including the one for the end of the input: 2 to 257. From one byte to the next,
+    /// the class stays the same or rises by one.
     pub fn alphabet_len(&self) -> usize
         ensures number { result ≡ alphabet_length self.now }
         ensures many { 2 ≤ result }
@@ -73,7 +73,7 @@ impl ByteClasses {
         usize::from(self.map[255]) + 2
     }
 
-    /// The class of the end of the input.
+    /// Returns the class of the end of the input.
     pub fn eoi(&self) -> usize
         ensures class { result ≡ eoi_class self.now }
         ensures below { result < stride_of self.now }
@@ -82,7 +82,7 @@ impl ByteClasses {
         self.alphabet_len() - 1
     }
 
-    /// The binary logarithm of the stride.
+    /// Returns the binary logarithm of the stride.
     pub fn stride2(&self) -> usize
         ensures power { 2 ^ result ≡ stride_of self.now }
         ensures few { result ≤ 9 }
@@ -90,7 +90,7 @@ impl ByteClasses {
         (self.alphabet_len() - 1).ilog2() as usize + 1
     }
 
-    /// The least power of two that is at least the number of classes: 2 to 512.
+    /// Returns the stride: the least power of two that is at least the number of classes, 2 to 512.
     pub fn stride(&self) -> usize
         ensures number { result ≡ stride_of self.now }
         ensures few { result ≤ 512 }
@@ -99,8 +99,8 @@ impl ByteClasses {
     }
 }
 
-/// The boundaries of the classes: a byte is marked if the NFA or the quit set distinguishes it from the byte before it.
-/// If `on` is false, each byte is marked.
+/// Returns the boundaries of the classes: a byte is marked if the NFA or the quit set distinguishes it from the byte
+/// before it. If `on` is false, each byte is marked.
 fn boundaries(nfa: &NFA, quits: &ByteSet, on: bool) -> [bool; 257]
     ensures { (byte : ℕ) → byte < 256 → is_marked result byte ≡ is_boundary nfa.now quits.now on byte }
 {
@@ -113,7 +113,7 @@ fn boundaries(nfa: &NFA, quits: &ByteSet, on: bool) -> [bool; 257]
     marks
 }
 
-/// The class of each byte: how many marks there are from byte 1 to it.
+/// Returns the class of each byte: the number of marks from byte 1 up to and including it.
 fn counts(marks: &[bool; 257]) -> [u8; 256]
     ensures whole { length result ≡ 256 }
     ensures same { (byte : ℕ) → byte < 256 → class_in result byte ≡ boundary_count (is_marked marks.now) byte }
@@ -140,8 +140,8 @@ fn counts(marks: &[bool; 257]) -> [u8; 256]
     map
 }
 
-/// Whether one of the sixteen bytes from `at` on is marked. It does not stop at the first mark, so that all can be read
-/// at once.
+/// Whether one of the sixteen bytes from `at` on is marked. It does not stop at the first mark, so that all sixteen can
+/// be read at once.
 fn has_mark(marks: &[bool; 257], at: usize) -> bool
     requires { at ≤ 240 }
     ensures { IsFalse result → (i : ℕ) → i < 16 → is_marked marks.now (at + i) ≡ false }
@@ -153,7 +153,7 @@ fn has_mark(marks: &[bool; 257], at: usize) -> bool
     any
 }
 
-/// Marks the byte if `yes` is true. Marks that are there stay.
+/// Marks the byte if `yes` is true. Existing marks stay.
 fn mark_if(marks: &mut [bool; 257], byte: usize, yes: bool)
     requires { byte < 257 }
     ensures { Adds marks.old marks.new (λ b. eqb b byte && yes) }
@@ -180,7 +180,7 @@ fn mark_transitions(marks: &mut [bool; 257], transitions: &[Transition])
     }
 }
 
-/// Whether a dense state leads to another state on this byte than on the one before it.
+/// Whether a dense state has different targets for this byte and the previous one.
 fn are_targets_apart(targets: &[StateID; 256], byte: usize) -> bool
     requires first { 1 ≤ byte }
     requires within { byte < 256 }
@@ -189,7 +189,7 @@ fn are_targets_apart(targets: &[StateID; 256], byte: usize) -> bool
     targets[byte].as_usize() != targets[byte - 1].as_usize()
 }
 
-/// Marks each byte on which a dense state leads to another state than on the byte before it.
+/// Marks each byte for which a dense state has a different target than for the previous byte.
 fn mark_targets(marks: &mut [bool; 257], targets: &[StateID; 256])
     ensures { Adds marks.old marks.new (targets_bound targets.now) }
 {
@@ -198,7 +198,7 @@ fn mark_targets(marks: &mut [bool; 257], targets: &[StateID; 256])
     }
 }
 
-/// Whether this byte is a quit byte and the byte before it is not, or the other way round.
+/// Whether exactly one of this byte and the previous one is a quit byte.
 fn are_quits_apart(quits: &ByteSet, byte: usize) -> bool
     requires first { 1 ≤ byte }
     requires within { byte < 256 }
@@ -207,14 +207,14 @@ fn are_quits_apart(quits: &ByteSet, byte: usize) -> bool
     quits.contains(byte as u8) != quits.contains((byte - 1) as u8)
 }
 
-/// Whether one of the two is true, or both.
+/// Whether at least one of the two is true.
 fn either(a: bool, b: bool) -> bool
     ensures { result ≡ (a || b) }
 {
     a || b
 }
 
-/// Marks each byte that is a quit byte while the byte before it is not, or the other way round.
+/// Marks the first byte of each run of quit bytes, and the byte after each run.
 fn mark_quits(marks: &mut [bool; 257], quits: &ByteSet)
     ensures { Adds marks.old marks.new (quits_bound quits.now) }
 {

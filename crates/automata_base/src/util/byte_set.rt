@@ -5,7 +5,7 @@ ghost use Rattle.automata_base.specs.ByteClasses.Classes.{is_quit};
 use std::fmt;
 use std::marker::Model;
 
-/// A set of bytes, in 256 bits. Contracts see for each byte whether it is in the set.
+/// A set of bytes, in 256 bits. In contracts it is the list that says for each byte whether it is in the set.
 #[derive(Clone, Copy)]
 pub struct ByteSet {
     words: [u64; 4],
@@ -28,14 +28,14 @@ impl Model for ByteSet {
 }
 
 impl ByteSet {
-    /// The set without a byte.
+    /// Returns the empty set.
     pub fn empty() -> ByteSet
         ensures { result ≡ replicate 256 false }
     {
         ByteSet { words: [0; 4] }
     }
 
-    /// The set, or the one without a byte if there is none.
+    /// Returns the set, or the empty one if there is none.
     pub fn or_empty(set: Option<ByteSet>) -> ByteSet
         ensures same { result ≡ unwrap_or set (replicate 256 false) }
         ensures whole { length result ≡ 256 }
@@ -49,7 +49,7 @@ impl ByteSet {
         }
     }
 
-    /// Whether the set has no byte.
+    /// Whether the set is empty.
     pub fn is_empty(&self) -> bool
         ensures yes { IsTrue result → (byte : ℕ) → byte < 256 → is_quit self.now byte ≡ false }
         ensures no { ((byte : ℕ) → byte < 256 → is_quit self.now byte ≡ false) → IsTrue result }
@@ -65,7 +65,7 @@ impl ByteSet {
         self.words[usize::from(byte / 64)] >> (byte % 64) & 1 == 1
     }
 
-    /// The set with a byte put in, or taken out.
+    /// Returns the set with the byte added if `yes` is true, and removed otherwise.
     pub fn with(self, byte: u8, yes: bool) -> ByteSet
         ensures { result ≡ slice_set self byte yes }
     {
@@ -76,7 +76,7 @@ impl ByteSet {
     }
 }
 
-/// Its bytes, as a set.
+/// Prints the bytes as a set.
 impl fmt::Debug for ByteSet {
     fn fmt<W: fmt::Write>(&self, f: &mut fmt::Formatter<W>) -> fmt::Result {
         let mut set = f.debug_set();
@@ -89,7 +89,7 @@ impl fmt::Debug for ByteSet {
     }
 }
 
-/// The word with a bit set, or cleared.
+/// Returns the word with the bit set if `yes` is true, and cleared otherwise.
 fn with_bit(word: u64, bit: u8, yes: bool) -> u64
     requires { bit < 64 }
     ensures same { eqb (bit_at result bit) 1 ≡ yes }

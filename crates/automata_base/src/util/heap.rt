@@ -1,7 +1,8 @@
-//! What allocations take of the allocator, by one rule for all that reports it.
+//! The memory that allocations take from the allocator, by one rule for all reports of it.
 
-/// The bytes that an allocation of so many takes: these and eight of the allocator's own, rounded up to a multiple of
-/// sixteen, and 32 at least. So much does `malloc` of glibc take. For no bytes nothing is allocated.
+/// Returns the memory, in bytes, that an allocation of `bytes` bytes takes: these and eight of the allocator's own,
+/// rounded up to a multiple of 16, and at least 32. This is what `malloc` of glibc takes. For zero bytes nothing is
+/// allocated.
 pub fn block(bytes: usize) -> usize {
     if bytes == 0 {
         return 0;
@@ -9,7 +10,7 @@ pub fn block(bytes: usize) -> usize {
     (bytes.saturating_add(23) & !15).max(32)
 }
 
-/// The bytes that an allocation of so many elements takes, each of this size.
+/// Returns the memory, in bytes, that an allocation of `count` elements of `size` bytes each takes.
 pub fn array(count: usize, size: usize) -> usize {
     block(count.saturating_mul(size))
 }

@@ -7,8 +7,8 @@ ghost use Rattle.automata_base.specs.Powersets.Passes.{is_crlf_look, is_word_loo
 
 use std::marker::Model;
 
-/// A look-around assertion: a question about the bytes beside an offset. Before and after are meant in the direction of
-/// the search. Word bytes are `0-9`, `A-Z`, `_` and `a-z`.
+/// A look-around assertion: a test of the bytes beside an offset. Before and after are in the direction of the search.
+/// Word bytes are `0-9`, `A-Z`, `_` and `a-z`.
 #[derive(Clone, Copy, Debug, PartialEq, Eq)]
 pub enum Look {
     /// No byte is before the offset.
@@ -19,15 +19,15 @@ pub enum Look {
     StartLF,
     /// No byte or a line terminator is after the offset.
     EndLF,
-    /// No byte, or `\r`, `\n` or `\r\n`, is before the offset: so never between the two bytes of `\r\n`.
+    /// No byte or a `\r`, `\n` or `\r\n` is before the offset. It never holds between the two bytes of `\r\n`.
     StartCRLF,
-    /// No byte, or `\r`, `\n` or `\r\n`, is after the offset: so never between the two bytes of `\r\n`.
+    /// No byte or a `\r`, `\n` or `\r\n` is after the offset. It never holds between the two bytes of `\r\n`.
     EndCRLF,
-    /// A word boundary: a word byte is on one side alone.
+    /// A word boundary: a word byte is on exactly one side.
     WordAscii,
-    /// No word boundary.
+    /// Not a word boundary.
     WordAsciiNegate,
-    /// As `WordAscii`. A DFA needs each byte from 0x80 on to be a quit byte, here and for the other Unicode looks.
+    /// As `WordAscii`. For this and the other Unicode looks, a DFA needs every byte from 0x80 on to be a quit byte.
     WordUnicode,
     /// As `WordAsciiNegate`.
     WordUnicodeNegate,
@@ -49,7 +49,7 @@ pub enum Look {
     WordEndHalfUnicode,
 }
 
-/// A set of looks. Bit k stands for look k.
+/// A set of looks. Bit k is set if look k is in it.
 #[derive(Clone, Copy, Debug, PartialEq, Eq)]
 pub struct LookSet {
     bits: u32,
@@ -69,7 +69,7 @@ impl Model for LookSet {
 }
 
 impl Look {
-    /// The number of the look, from 0 to 17.
+    /// Returns the number of the look, from 0 to 17.
     pub fn index(self) -> u32
         ensures number { result ≡ look_index self }
         ensures below { result < 18 }
@@ -96,7 +96,7 @@ impl Look {
         }
     }
 
-    /// The look of this number, which is below 18.
+    /// Returns the look with this number, which must be below 18.
     pub fn from_index(index: u32) -> Look
         requires { index < 18 }
         ensures { result ≡ nth_look index }
@@ -125,28 +125,28 @@ impl Look {
 }
 
 impl LookSet {
-    /// The set without a look.
+    /// Returns the empty set.
     pub fn empty() -> LookSet
         ensures { result ≡ 0 }
     {
         LookSet { bits: 0 }
     }
 
-    /// The word looks.
+    /// Returns the set of all word looks.
     pub fn word() -> LookSet
         ensures { (look : Look) → truth_of result look ≡ is_word_look look }
     {
         LookSet { bits: 262080 }
     }
 
-    /// The CRLF looks.
+    /// Returns the set of both CRLF looks.
     pub fn crlf() -> LookSet
         ensures { (look : Look) → truth_of result look ≡ is_crlf_look look }
     {
         LookSet { bits: 48 }
     }
 
-    /// The set of these bits. Bits above bit 17 are ignored.
+    /// Returns the set with these bits. Bits above bit 17 are ignored.
     pub fn from_bits(bits: u32) -> LookSet
         ensures { (look : Look) → truth_of result look ≡ truth_of bits look }
     {
@@ -155,7 +155,7 @@ impl LookSet {
         }
     }
 
-    /// The bits of the set. Bit k stands for look k.
+    /// Returns the bits of the set. Bit k is set if look k is in it.
     pub fn bits(self) -> u32
         ensures value { result ≡ self }
         ensures small { IsLookSet result }
@@ -163,7 +163,7 @@ impl LookSet {
         self.bits
     }
 
-    /// Whether the set has no look.
+    /// Whether the set is empty.
     pub fn is_empty(self) -> bool
         ensures { result ≡ eqb self 0 }
     {
@@ -177,7 +177,7 @@ impl LookSet {
         self.bits >> look.index() & 1 == 1
     }
 
-    /// The set with a look added.
+    /// Returns the set with a look added.
     pub fn insert(self, look: Look) -> LookSet
         ensures { (other : Look) → truth_of result other
             ≡ (eqb (look_index other) (look_index look) || truth_of self other) }

@@ -4,7 +4,7 @@ use std::alloc::{AllocError, Global};
 use std::marker::Model;
 use thiserror::Error;
 
-/// A pattern that is not below the capacity of a set.
+/// The error of inserting a pattern that is not below the capacity of the set.
 #[derive(Clone, Copy, Debug, PartialEq, Eq, Error)]
 #[error("failed to insert pattern {} into a set of capacity {capacity}", attempted.as_usize())]
 pub struct PatternSetInsertError {
@@ -29,7 +29,7 @@ pub struct PatternSet {
     which: Vec<bool>,
 }
 
-// One call for an owner, whose proof then has no step for each part.
+// An owner drops this with one call, so that its proof has no step for each field.
 impl Drop for PatternSet {
     fn drop(self) {
         let Self {
@@ -55,7 +55,7 @@ impl PatternSet {
     ghost use Rattle.std.specs.Prelude.{IsTrue, replicate, slice_set};
     ghost use Rattle.automata_base.specs.Haystacks.PatternSet.{has, members, AreSmall};
 
-    /// The empty set, with room for the patterns below a capacity.
+    /// Returns an empty set with room for the patterns below `capacity`.
     pub fn new(alloc: Global, capacity: usize) -> Result<PatternSet, AllocError>
         ensures capacity { IfOk result (λ set. set ≡ replicate capacity false) }
         ensures empty { IfOk result (λ set. members set ≡ []) }
@@ -64,8 +64,8 @@ impl PatternSet {
         Ok(PatternSet { len: 0, which })
     }
 
-    /// Inserts a pattern, and returns whether it is new. A pattern that is not below the capacity is an error, and the
-    /// set is unchanged.
+    /// Inserts a pattern, and returns whether it is new. If the pattern is not below the capacity, the call fails and
+    /// the set is unchanged.
     pub fn try_insert(&mut self, pattern: PatternID) -> Result<bool, PatternSetInsertError>
         ensures refused { IsErr result ↔ (length self.old ≤ pattern) }
         ensures error { IfErr result (λ e. e ≡ record { attempted = pattern; capacity = length self.old }) }
@@ -99,7 +99,7 @@ impl PatternSet {
         self.len = 0;
     }
 
-    /// Whether a pattern is in the set. A pattern that is not below the capacity is not.
+    /// Whether a pattern is in the set. It is false for a pattern that is not below the capacity.
     pub fn contains(&self, pattern: PatternID) -> bool
         ensures { result ≡ has self.now pattern }
     {
@@ -120,21 +120,21 @@ impl PatternSet {
         self.len == self.capacity()
     }
 
-    /// How many patterns are in the set.
+    /// Returns the number of patterns in the set.
     pub fn len(&self) -> usize
         ensures { result ≡ length (members self.now) }
     {
         self.len
     }
 
-    /// How many patterns the set can hold: those with smaller numbers.
+    /// Returns the capacity of the set: it can hold the patterns below this number.
     pub fn capacity(&self) -> usize
         ensures { result ≡ length self.now }
     {
         self.which.len()
     }
 
-    /// Iterates over the members in increasing order.
+    /// Returns an iterator over the members, in increasing order.
     pub fn iter(&self) -> PatternSetIter<'_>
         ensures { result ≡ members self.now }
     {
@@ -145,7 +145,7 @@ impl PatternSet {
     }
 }
 
-/// The members of a set, in increasing order.
+/// An iterator over the members of a set, in increasing order.
 #[derive(Debug, Drop)]
 pub struct PatternSetIter<'a> {
     which: &'a [bool],

@@ -1,11 +1,11 @@
-//! What is searched, how, and what a search returns: inputs, modes, matches and errors.
+//! The inputs, anchored modes, matches and errors of searches.
 use crate::util::primitives::PatternID;
 use std::fmt;
 use std::marker::Model;
 use std::ops::Range;
 use thiserror::Error;
 
-/// A part of a haystack, between two offsets, which count bytes.
+/// A part of a haystack, between two byte offsets.
 #[derive(Clone, Copy, Debug, PartialEq, Eq)]
 pub struct Span {
     /// The offset where the part starts.
@@ -17,7 +17,7 @@ pub struct Span {
 impl Span {
     ghost use Rattle.std.specs.Prelude.{◌≡◌, ◌<◌, ◌≤◌, ◌+◌, ◌-◌, ◌^◌, ◌↔◌, IsTrue};
 
-    /// The number of bytes of the span. It is 0 if the span starts after its end.
+    /// Returns the number of bytes of the span. It is 0 if the span starts after its end.
     pub fn len(&self) -> usize
         ensures { result ≡ self.now.end - self.now.start }
     {
@@ -31,7 +31,7 @@ impl Span {
         self.start >= self.end
     }
 
-    /// The span as a range, with which a slice can be indexed.
+    /// Returns the span as a range, for indexing a slice.
     pub fn range(&self) -> Range<usize>
         ensures start { result.start ≡ self.now.start }
         ensures end { result.end ≡ self.now.end }
@@ -47,7 +47,7 @@ impl Span {
         !self.is_empty() && self.start <= offset && offset <= self.end
     }
 
-    /// The span, moved right by so many bytes.
+    /// Returns the span moved right by `offset` bytes.
     pub fn offset(&self, offset: usize) -> Span
         requires start { self.now.start + offset < 2 ^ 64 }
         requires end { self.now.end + offset < 2 ^ 64 }
@@ -80,21 +80,21 @@ impl Model for HalfMatch {
 impl HalfMatch {
     ghost use Rattle.std.specs.Prelude.{◌≡◌};
 
-    /// A match of a pattern with this offset.
+    /// Returns a match of a pattern with this offset.
     pub fn new(pattern: PatternID, offset: usize) -> HalfMatch
         ensures { result ≡ record { pattern = pattern; offset = offset } }
     {
         HalfMatch { pattern, offset }
     }
 
-    /// The pattern that matched.
+    /// Returns the pattern that matched.
     pub fn pattern(&self) -> PatternID
         ensures { result ≡ self.now.pattern }
     {
         self.pattern
     }
 
-    /// The offset in the haystack, in bytes, where the match ends; for a reverse search, where it starts.
+    /// Returns the offset in the haystack, in bytes, where the match ends; for a reverse search, where it starts.
     pub fn offset(&self) -> usize
         ensures { result ≡ self.now.offset }
     {
@@ -125,7 +125,7 @@ impl Model for Match {
 impl Match {
     ghost use Rattle.std.specs.Prelude.{◌≡◌, ◌≤◌};
 
-    /// A match of a pattern. The span's start is at most its end.
+    /// Returns a match of a pattern. The span's start must be at most its end.
     pub fn new(pattern: PatternID, span: Span) -> Match
         requires { span.start ≤ span.end }
         ensures { result ≡ record { pattern = pattern; start = span.start; end = span.end } }
@@ -133,14 +133,14 @@ impl Match {
         Match { pattern, span }
     }
 
-    /// The pattern that matched.
+    /// Returns the pattern that matched.
     pub fn pattern(&self) -> PatternID
         ensures { result ≡ self.now.pattern }
     {
         self.pattern
     }
 
-    /// The span of the match.
+    /// Returns the span of the match.
     pub fn span(&self) -> Span
         ensures start { result.start ≡ self.now.start }
         ensures end { result.end ≡ self.now.end }
@@ -149,7 +149,7 @@ impl Match {
         self.span
     }
 
-    /// The offset of its first byte in the haystack.
+    /// Returns the offset in the haystack, in bytes, where the match starts.
     pub fn start(&self) -> usize
         ensures start { result ≡ self.now.start }
         ensures ordered { self.now.start ≤ self.now.end }
@@ -157,7 +157,7 @@ impl Match {
         self.span.start
     }
 
-    /// The offset after its last byte in the haystack.
+    /// Returns the offset in the haystack, in bytes, where the match ends.
     pub fn end(&self) -> usize
         ensures end { result ≡ self.now.end }
         ensures ordered { self.now.start ≤ self.now.end }
@@ -169,9 +169,10 @@ impl Match {
 /// The kind of matches that a search reports: all of them, or those that a backtracking matcher would find first.
 #[derive(Clone, Copy, Debug, PartialEq, Eq)]
 pub enum MatchKind {
-    /// Each accepting path counts. A search reports the match that ends last, an overlapping search all of them.
+    /// Every accepting path counts. A search reports the match that ends last, and an overlapping search reports all of
+    /// them.
     All,
-    /// The path that is preferred counts, as a backtracking matcher would find it.
+    /// The preferred path counts: the one that a backtracking matcher would find first.
     LeftmostFirst,
 }
 
@@ -184,21 +185,22 @@ pub enum Direction {
     Backward,
 }
 
-/// Where a match may begin: anywhere, at the search's start, or at the search's start and of one pattern alone.
+/// Where a match may begin, and of which pattern: anywhere in the span, only where the search starts, or only there and
+/// only of one pattern.
 #[derive(Clone, Copy, Debug, PartialEq, Eq)]
 pub enum Anchored {
     /// A match may begin anywhere in the span.
     No,
-    /// A match may begin at the search's start alone.
+    /// A match may begin only where the search starts.
     Yes,
-    /// A match may begin at the search's start alone, and has to be one of this pattern.
+    /// A match may begin only where the search starts, and must be of this pattern.
     Pattern(PatternID),
 }
 
 impl Anchored {
     ghost use Rattle.std.specs.Prelude.{◌≡◌, true, false};
 
-    /// Whether a match may begin at the search's start alone.
+    /// Whether a match may begin only where the search starts.
     pub fn is_anchored(&self) -> bool
         ensures no { result ≡ false → self.now ≡ Anchored.No }
         ensures yes { result ≡ true → self.now ≡ Anchored.No → ⊥ }
@@ -262,7 +264,7 @@ impl Model for MatchError {
 impl MatchError {
     ghost use Rattle.std.specs.Prelude.{◌≡◌};
 
-    /// The error of a search that met a quit byte at this offset of the haystack.
+    /// Returns the error of a search that met a quit byte at this offset of the haystack.
     pub fn quit(byte: u8, offset: usize) -> MatchError
         ensures { result ≡ MatchErrorKind.Quit byte offset }
     {
@@ -271,7 +273,7 @@ impl MatchError {
         }
     }
 
-    /// The error of a search that gave up at this offset of the haystack.
+    /// Returns the error of a search that gave up at this offset of the haystack.
     pub fn gave_up(offset: usize) -> MatchError
         ensures { result ≡ MatchErrorKind.GaveUp offset }
     {
@@ -280,7 +282,7 @@ impl MatchError {
         }
     }
 
-    /// The error of a search in an anchored mode that is not supported.
+    /// Returns the error of a search in an anchored mode that is not supported.
     pub fn unsupported_anchored(mode: Anchored) -> MatchError
         ensures { result ≡ MatchErrorKind.UnsupportedAnchored mode }
     {
@@ -289,7 +291,7 @@ impl MatchError {
         }
     }
 
-    /// Why the search failed.
+    /// Returns why the search failed.
     pub fn kind(&self) -> &MatchErrorKind
         ensures { result.now ≡ self.now }
     {
@@ -297,8 +299,8 @@ impl MatchError {
     }
 }
 
-/// What is searched: a haystack, a span of it, an anchored mode, and whether the search may stop at the first match
-/// that it sees.
+/// The parameters of a search: a haystack, a span of it, an anchored mode, and whether the search may stop at the first
+/// match that it sees.
 #[derive(Clone, Debug, Drop)]
 pub struct Input<'h> {
     haystack: &'h [u8],
@@ -329,7 +331,7 @@ impl<'h> Input<'h> {
     ghost use Rattle.automata_base.specs.Haystacks.Input.{Allows, IsAllowed};
     ghost use Rattle.automata_base.specs.Haystacks.Tapes.{IsHaystack, is_split};
 
-    /// An input whose span is the whole haystack, neither anchored nor earliest.
+    /// Returns an input whose span is the whole haystack, neither anchored nor earliest.
     pub fn new(haystack: &'h [u8]) -> Input<'h>
         ensures { result ≡ record {
           haystack = haystack.now;
@@ -350,7 +352,7 @@ impl<'h> Input<'h> {
         }
     }
 
-    /// Whether the setters of spans accept this span.
+    /// Whether the setters accept this span: it must end in the haystack, and start at most one byte after its end.
     pub fn allows(&self, start: usize, end: usize) -> bool
         ensures { IsTrue result ↔ Allows self.now.haystack start end }
     {
@@ -381,7 +383,7 @@ impl<'h> Input<'h> {
         })
     }
 
-    /// A copy of the input. Unlike `clone`, it cannot fail.
+    /// Returns a copy of the input. Unlike `clone`, it cannot fail.
     pub fn copied(&self) -> Input<'h>
         ensures { result ≡ self.now }
     {
@@ -406,7 +408,8 @@ impl<'h> Input<'h> {
     }
 
     /// Sets whether a search may stop at the first match that it sees. By default it may not. If offsets inside
-    /// characters are skipped, an earliest search may miss that there is a match: call `Regex::is_match`.
+    /// characters are skipped, an earliest search may report no match although there is one: call `Regex::is_match`
+    /// instead.
     pub fn earliest(self, yes: bool) -> Input<'h>
         ensures { result ≡ record self.entry { earliest = yes } }
     {
@@ -437,7 +440,7 @@ impl<'h> Input<'h> {
         };
     }
 
-    /// Moves the span's start, at most to one after its end; `allows` tests that.
+    /// Sets the span's start in place. It may be at most one byte after the span's end; `allows` tests this.
     pub fn set_start(&mut self, start: usize)
         requires { Allows self.old.haystack start self.old.end }
         ensures { self.new ≡ record self.old { start = start } }
@@ -445,7 +448,8 @@ impl<'h> Input<'h> {
         self.span.start = start;
     }
 
-    /// Moves the span's end, at least to one before its start, and within the haystack; `allows` tests that.
+    /// Sets the span's end in place. It must lie in the haystack, and may be at most one byte before the span's start;
+    /// `allows` tests this.
     pub fn set_end(&mut self, end: usize)
         requires { Allows self.old.haystack self.old.start end }
         ensures { self.new ≡ record self.old { end = end } }
@@ -467,7 +471,7 @@ impl<'h> Input<'h> {
         self.earliest = yes;
     }
 
-    /// The whole haystack, not the span alone: looks see the bytes beside the span.
+    /// Returns the whole haystack, not only the span: looks see the bytes beside the span.
     pub fn haystack(&self) -> &'h [u8]
         ensures same { result.now ≡ self.now.haystack }
         ensures bytes { IsHaystack self.now.haystack }
@@ -477,7 +481,7 @@ impl<'h> Input<'h> {
         self.haystack
     }
 
-    /// The offset in the haystack, in bytes, where the span starts.
+    /// Returns the offset in the haystack, in bytes, where the span starts.
     pub fn start(&self) -> usize
         ensures start { result ≡ self.now.start }
         ensures within { IsAllowed self.now }
@@ -485,7 +489,7 @@ impl<'h> Input<'h> {
         self.span.start
     }
 
-    /// The offset in the haystack, in bytes, where the span ends.
+    /// Returns the offset in the haystack, in bytes, where the span ends.
     pub fn end(&self) -> usize
         ensures end { result ≡ self.now.end }
         ensures within { IsAllowed self.now }
@@ -493,7 +497,7 @@ impl<'h> Input<'h> {
         self.span.end
     }
 
-    /// The span that is searched.
+    /// Returns the span that is searched.
     pub fn get_span(&self) -> Span
         ensures start { result.start ≡ self.now.start }
         ensures end { result.end ≡ self.now.end }
@@ -502,7 +506,7 @@ impl<'h> Input<'h> {
         self.span
     }
 
-    /// The span as a range.
+    /// Returns the span as a range.
     pub fn get_range(&self) -> Range<usize>
         ensures start { result.start ≡ self.now.start }
         ensures end { result.end ≡ self.now.end }
@@ -511,7 +515,7 @@ impl<'h> Input<'h> {
         self.span.start..self.span.end
     }
 
-    /// The anchored mode: where a match may begin, and of which pattern.
+    /// Returns the anchored mode: where a match may begin, and of which pattern.
     pub fn get_anchored(&self) -> Anchored
         ensures { result ≡ self.now.anchored }
     {
@@ -533,7 +537,8 @@ impl<'h> Input<'h> {
         self.span.start > self.span.end
     }
 
-    /// Whether the offset is not inside a character, in a haystack that is UTF-8.
+    /// Whether the offset lies in the haystack or at its end, and is not inside a UTF-8 encoded character: the byte
+    /// there is not a continuation byte, 0x80 to 0xBF.
     pub fn is_char_boundary(&self, offset: usize) -> bool
         ensures { IsTrue result ↔ (offset ≤ length self.now.haystack) × (is_split self.now.haystack offset ≡ false) }
     {

@@ -4,7 +4,7 @@ ghost use Rattle.std.specs.Prelude.{◌≡◌, slice_get};
 use crate::util::search::{Anchored, Input};
 use std::marker::Model;
 
-/// What a start state depends on: the look-behind byte and the anchored mode.
+/// The configuration that determines a start state: the look-behind byte and the anchored mode.
 #[derive(Clone, Copy, Debug)]
 pub struct Config {
     look_behind: Option<u8>,
@@ -25,7 +25,7 @@ impl Config {
     ghost use Rattle.std.specs.Prelude.{◌≡◌, None};
     ghost use Rattle.automata_base.specs.Haystacks.Tapes.{byte_before};
 
-    /// The configuration of an unanchored search that has no look-behind byte.
+    /// Returns the configuration of an unanchored search that has no look-behind byte.
     pub fn new() -> Config
         ensures { result ≡ record { look_behind = None; anchored = Anchored.No } }
     {
@@ -35,7 +35,7 @@ impl Config {
         }
     }
 
-    /// The configuration of a forward search. The look-behind byte is the one before the span, in the haystack.
+    /// Returns the configuration of a forward search. The look-behind byte is the one before the span, in the haystack.
     pub fn from_input_forward(input: &Input<'_>) -> Config
         ensures { result ≡ record {
           look_behind = byte_before input.now.haystack input.now.start;
@@ -54,7 +54,8 @@ impl Config {
         }
     }
 
-    /// The configuration of a reverse search. The look-behind byte is the one at the span's end, in the haystack.
+    /// Returns the configuration of a reverse search. The look-behind byte is the one at the span's end, in the
+    /// haystack.
     pub fn from_input_reverse(input: &Input<'_>) -> Config
         ensures { result ≡ record {
           look_behind = slice_get input.now.haystack input.now.end;
@@ -87,15 +88,15 @@ impl Config {
         }
     }
 
-    /// The look-behind byte: the one before the span's start in a forward search, the one at the span's end in a
-    /// reverse search.
+    /// Returns the look-behind byte: the one before the span's start in a forward search, the one at the span's end in
+    /// a reverse search.
     pub fn get_look_behind(&self) -> Option<u8>
         ensures { result ≡ self.now.look_behind }
     {
         self.look_behind
     }
 
-    /// The anchored mode.
+    /// Returns the anchored mode.
     pub fn get_anchored(&self) -> Anchored
         ensures { result ≡ self.now.anchored }
     {
@@ -103,7 +104,7 @@ impl Config {
     }
 }
 
-/// The byte of the haystack at an offset, or none if the offset is at the haystack's end or after it.
+/// Returns the byte of the haystack at an offset, or none if the offset is at the haystack's end or after it.
 fn byte_at(haystack: &[u8], offset: usize) -> Option<u8>
     ensures { result ≡ slice_get haystack.now offset }
 {

@@ -1,11 +1,11 @@
-//! What a value was made for, which only contracts see.
+//! A record of what a value was made for, which only contracts see.
 
 ghost use Rattle.std.specs.Prelude.{◌≡◌};
 
 use std::marker::{Model, PhantomData};
 
-/// What a value was made for; clauses read it as `value`. It takes no bytes, and its functions do nothing at run time.
-/// Unlike a `Snapshot`, it can be made again from a reference to it.
+/// A record of what a value was made for; clauses read it as `value`. It takes no bytes, and its functions do nothing
+/// at run time. Unlike a `Snapshot`, it can be copied from a reference, by `again`.
 #[derive(Drop)]
 pub struct Subject<T> {
     marker: PhantomData<T>,
@@ -19,7 +19,7 @@ impl<T> Model for Subject<T> {
 }
 
 impl<T> Subject<T> {
-    /// The subject of a value that is made for this one.
+    /// Returns the subject of a value that is made for `made_for`.
     pub fn of(made_for: &T) -> Subject<T>
         ensures { result.value ≡ made_for.now }
     {
@@ -29,7 +29,7 @@ impl<T> Subject<T> {
         }
     }
 
-    /// The subject of another value that is made for the same one.
+    /// Returns the subject of another value that is made for the same one.
     pub fn again(&self) -> Subject<T>
         ensures { result.value ≡ self.now.value }
     {

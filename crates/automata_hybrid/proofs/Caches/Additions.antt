@@ -1,4 +1,4 @@
--- What a look-up of a state finds, and what adding one gives, where it fits and where the cache was cleared first.
+-- What a lookup of a state finds, and what adding a state does, whether it fits or the cache is cleared first.
 use Rattle.std.proofs.Common.{◌≡◌, ◌∙◌, ◌≤◌, ◌⊎◌, ℕ, length, None, false, ap, subst, sym}
 use Rattle.automata_hybrid.proofs.Words.{AddsNext, AddsRow, CacheView, cleared_in_store, cost, Fits, grown, id_of}
 use Rattle.automata_hybrid.proofs.Words.{IsNewState, IsStateOf, KeepsStarts, Lacks, Machine, Powerset, put_found, Row}
@@ -11,7 +11,7 @@ use Rattle.automata_hybrid.specs.Private.Cache.Table.{IsKnownState}
 use Rattle.automata_hybrid.specs.Private.Cache.Usage.{refuses_in_store, IsCleared}
 use Rattle.automata_hybrid.proofs.Steps.Effects.{only-grown}
 
--- a state to be added, by the machine that a table is of
+-- a state that can be added to a table of the machine
 pub new_state :
     (m : Machine) (t : Rows) (q : Powerset) → t.of ≡ m → Lacks t q → cost q ≤ m.greatest → IsStateOf m q
     → IsNewState t q
@@ -21,11 +21,11 @@ new_state m t q of lacks cheap own = record {
   own = subst (λ (n : Machine). IsStateOf n q) (sym of) own;
 }
 
--- and to be added to another table of that machine
+-- a new state can also be added to another table of the same machine that lacks it
 pub new_there : (t u : Rows) (q : Powerset) → u.of ≡ t.of → id_of u q ≡ None → IsNewState t q → IsNewState u q
 new_there t u q of none n = new_state t.of u q of (none, n.lacks.1) n.cheap n.own
 
--- what the look-up found, of the cache as it is after it
+-- the result of a lookup also holds of the cache after it, which is unchanged
 pub looked_up :
     (before after : CacheView) (key : Powerset) (found at : Found)
     → after ≡ before → found ≡ at → IsLookedUp before.store.table key found → IsLookedUp after.store.table key at
@@ -33,7 +33,7 @@ looked_up before after key found at same is h =
     subst (λ (v : CacheView). IsLookedUp v.store.table key at) (sym same)
     (subst (λ (f : Found). IsLookedUp before.store.table key f) is h)
 
--- a key's state costs no more than a state may
+-- the cost of a key's state is at most the greatest cost
 cheap :
     (m n : Machine) (key target : Powerset)
     → n ≡ m → key ≡ target → cost key ≤ m.greatest → cost target ≤ n.greatest
@@ -53,7 +53,7 @@ still_starts :
     → KeepsStarts old.starts new.starts
 still_starts old between new r keeps e = subst (λ (s : Stored). KeepsStarts old.starts s.starts) (sym e) keeps
 
--- a state that fits
+-- a state that fits is added without a clear
 adds_fits :
     (old emptied new : Stored) (r : Row) (id : ℕ)
     → Fits old (cost r.state) → HasGrown old r new id → AddsRow old emptied new r id
@@ -66,7 +66,7 @@ adds_fits old emptied new r id fits g = record {
   of = ap (λ (s : Stored). s.table.of) g.grown;
 }
 
--- a state that does not fit: the cache was cleared
+-- a state that does not fit is added after a clear
 adds_clears :
     (old emptied new : Stored) (r : Row) (id : ℕ)
     → (Fits old (cost r.state) → ⊥) → refuses_in_store old ≡ false
@@ -82,7 +82,7 @@ adds_clears old emptied new r id full may absent keeps slots of g = record {
   of = ap (λ (s : Stored). s.table.of) g.grown ∙ of;
 }
 
--- a state stepped to that fits
+-- a successor that fits is added without a clear
 pub next_fits :
     (old new : Stored) (from next : ℕ) (q : Powerset)
     → Fits old (cost q) → HasGrown old (record { state = q; started = false }) new next
@@ -93,7 +93,7 @@ next_fits old new from next q fits g =
       saved = g.row.kept from;
     }
 
--- a state stepped to that does not fit: the row stepped from was put back
+-- a successor that does not fit is added after a clear that saves the source row
 pub next_clears :
     (old fresh between new : Stored) (from now next : ℕ) (q : Powerset)
     → (Fits old (cost q) → ⊥) → IsCleared old fresh
@@ -116,13 +116,13 @@ next_clears old fresh between new from now next q full clear put of g = record {
   slots : between.starts ≡ fresh.starts
   slots = ap (λ (s : Stored). s.starts) put.put
 
--- a start state that fits
+-- a start state that fits is added without a clear
 pub start_fits :
     (old new : Stored) (r : Row) (id : ℕ)
     → Fits old (cost r.state) → HasGrown old r new id → AddsRow old (cleared_in_store old) new r id
 start_fits old new r id fits g = adds_fits old (cleared_in_store old) new r id fits g
 
--- a start state that does not fit
+-- a start state that does not fit is added after a clear
 pub start_clears :
     (old fresh new : Stored) (r : Row) (id : ℕ)
     → (Fits old (cost r.state) → ⊥) → IsCleared old fresh → HasGrown fresh r new id

@@ -37,7 +37,7 @@ pub slot_row : (t : Rows) (slot id : ℕ) → IsSlot t slot id → id < 2 ^ 29 �
 slot_row t slot id (inl e) l = absurd (omega (arith, e, l))
 slot_row t slot id (inr (q, leads, first)) l = (q, Leads-Names t id q leads l)
 
--- one more slot
+-- slots stay valid when a valid slot is appended
 AllStarts-push :
     (t : Rows) (xs : List ℕ) (y : ℕ) → AllStarts t xs → IsSlot t (length xs) y → AllStarts t (xs ++ y ∷ [])
 AllStarts-push t xs y all h slot id e = go (at_push xs y slot id e) where
@@ -65,7 +65,7 @@ put_id before after starts r n e named =
     let f : id_of (with_row_once before r) r.state ≡ Some n = subst (λ (u : Rows). id_of u r.state ≡ Some n) e named in
     λ i. record { table = sym e i; starts = starts ++ unwrap_or (f i) (2 ^ 31) ∷ [] }
 
--- a slot that names a row
+-- a slot that names a row is kept by putting that row into the new table
 kept_row :
     (old before after : Rows) (starts : List ℕ) (id n : ℕ) → IsPut old before after id n → id < 2 ^ 29
     → keep_slot old (record { table = before; starts = starts }) id
@@ -92,7 +92,7 @@ IsPut-AllStarts old before after starts id n p all named =
     AllStarts-push after starts n
     (subst (λ (u : Rows). AllStarts u starts) (sym p.put_there) (AllStarts-put before p.row starts all)) (inr named)
 
--- a step of the loop over the slots
+-- one iteration of the loop over the slots
 pub kept_step :
     (old : Rows) (k : Kept) (xs : List ℕ) (i id : ℕ) (table : Rows) (starts : List ℕ) → i < length xs
     → id ≡ get_or xs i id → table ≡ (keep_slots old k (take i xs)).table
@@ -111,7 +111,7 @@ AllStarts-none t xs e = subst (λ ys. AllStarts t ys) (sym e) none where
   none : AllStarts t []
   none slot id h = cc
 
--- a state that another table lacks is not brought by one of its rows
+-- a state that the old table lacks is not added by a row of the old table
 pub absent-more :
     (old t : Rows) (r : Row) (q : Powerset) → (id_of old r.state ≡ None → ⊥) → id_of old q ≡ None → id_of t q ≡ None
     → id_of (with_row_in_store t r) q ≡ None
@@ -121,7 +121,7 @@ absent-more old t r q had o n = ⊎_elim
     (λ (e : powerset_eq q r.state ≡ false). find_id-push_other t.of.stride (3 * t.of.stride) q t.rows r e ∙ n)
     (cases_Bool (powerset_eq q r.state))
 
--- a slot that names no row is kept as it is
+-- a slot that does not name a row is kept unchanged
 pub keeps_fixed :
     (old t : Rows) (starts after : List ℕ) (id : ℕ)
     → ((n : ℕ) (q : Powerset) → Names old n q → n < 2 ^ 29) → 2 ^ 29 ≤ id → after ≡ starts ++ id ∷ []

@@ -1,4 +1,4 @@
--- How leaps are made of a table: steps on one class, levels of them, and the cells of the last level.
+-- How leaps are built from a table: steps on one class, levels of them, and the cells of the last level.
 use Rattle.std.proofs.Common.{ℕ, zero, suc, ◌≡◌, ◌∙◌, ◌+◌, ◌-◌, ◌*◌, ◌/◌, ◌%◌, ◌^◌, ◌<◌, ◌≤◌, ◌⊎◌, inl, inr, Bool, true}
 use Rattle.std.proofs.Common.{false, List, [], ◌∷◌, ◌++◌, length, refl, slice_index, sym, ap, subst, arith, Option}
 use Rattle.std.proofs.Common.{None, Some, drop, slice_get, slice_set, sum_by, take}
@@ -19,7 +19,7 @@ use Rattle.automata_hybrid.specs.Private.Cache.Leaps.{IsLeapStep, LeadsToRow, Le
 use Rattle.automata_base.proofs.Paths.Orders.{some_inj}
 use Rattle.automata_hybrid.specs.declared.cache.leaps.Leaps.{Leaps}
 
--- classes are few, and so are sequences of few of them
+-- at most 32 classes have at most `2 ^ 20` sequences of up to four
 pub power_small : (n count : ℕ) → n ≤ 32 → count ≤ 4 → n ^ count ≤ 2 ^ 20
 power_small n zero few short = omega (arith, pow-le-pow_left few 0)
 power_small n (suc zero) few short = omega (arith, pow-le-pow_left few 1)
@@ -28,7 +28,7 @@ power_small n (suc (suc (suc zero))) few short = omega (arith, pow-le-pow_left f
 power_small n (suc (suc (suc (suc zero)))) few short = omega (arith, pow-le-pow_left few 4)
 power_small n (suc (suc (suc (suc (suc count))))) few short = absurd (omega (arith, short))
 
--- so many numbers of a list from a place on
+-- the length of a slice of `n` numbers
 pub slice_long :
     (steps : List ℕ) (from n : ℕ) → from + n ≤ length steps → length (take (from + n - from) (drop from steps)) ≡ n
 slice_long steps from n within =
@@ -42,7 +42,7 @@ pub slice_at :
 slice_at steps from n class low =
     get_or-take (from + n - from) (drop from steps) class 0 (omega (arith, low)) ∙ get_or-drop from steps class 0
 
--- the places of a level fit
+-- a level with few classes has at most `2 ^ 43` cells
 pub level_fits : (rows n count : ℕ) → rows ≤ 2 ^ 18 → n ≤ 32 → count ≤ 4 → rows * n ^ count * n ≤ 2 ^ 43
 level_fits rows n count many few short =
     let a : n ^ count ≤ 2 ^ 20 = power_small n count few short in
@@ -51,7 +51,7 @@ level_fits rows n count many few short =
     let d : rows * 2 ^ 20 * n ≤ rows * 2 ^ 20 * 32 = mul-le-mul_left (rows * 2 ^ 20) few in
     omega (arith, c, d, many)
 
--- rows have offsets below the limit
+-- the offsets of rows are below the limit
 pub row_low : (t : Rows) (k : ℕ) → RowsFitCells t → k < length t.rows → (k + 3) * t.of.stride < 2 ^ 27
 row_low t k rows known =
     let l : (k + 4) * t.of.stride ≤ (length t.rows + 3) * t.of.stride =
@@ -60,7 +60,7 @@ row_low t k rows known =
     omega (arith, l, e, rows.whole, rows.small)
 
 module _ (t : Rows) (n : ℕ) where
-  -- a step on a class of a row
+  -- a step from a row on a class
   step_at :
       (row class to : ℕ) → class < n → row < length t.rows → to ≤ length t.rows
       → (to < length t.rows → LeadsToRow t row class to)
@@ -72,7 +72,7 @@ module _ (t : Rows) (n : ℕ) where
         (subst (λ c. LeadsToRow t row c to) (sym (mod-mul-add row n class below)) (leads l));
   }
 
-  -- one step more
+  -- one more step
   pub steps_more :
       (steps : List ℕ) (row class to : ℕ) → length steps ≡ row * n + class → class < n → row < length t.rows
       → to ≤ length t.rows
@@ -85,7 +85,7 @@ module _ (t : Rows) (n : ℕ) where
         subst (λ v. IsLeapStep t n place v) (sym (get_or_push steps to 0 place here))
         (subst (λ p. IsLeapStep t n p to) (sym long ∙ here) (step_at row class to below known upto leads))
 
-  -- steps from none lead to none
+  -- all steps from the missing row lead to the missing row
   pub steps_none :
       (steps all : List ℕ) → ((k : ℕ) → k < length steps → slice_index all k ≡ slice_index steps k)
       → ((k : ℕ) → length steps ≤ k → k < length all → slice_index all k ≡ length t.rows)
@@ -99,7 +99,7 @@ module _ (t : Rows) (n : ℕ) where
       leads = λ none. absurd (omega (arith, none));
     })
 
-  -- the steps from each row are the level of one class
+  -- the steps from each row form the level of one class
   pub level_one :
       (steps level : List ℕ) → length level ≤ length steps
       → ((k : ℕ) → k < length level → slice_index level k ≡ slice_index steps k) → AreLeapSteps t n steps
@@ -109,7 +109,7 @@ module _ (t : Rows) (n : ℕ) where
       subst (IsLeapStep t n place) (sym (same place l)) (are place (omega (arith, l, within))) in
       record { upto = step.upto; reaches = λ known. (place / n, refl, step.leads known) }
 
-  -- a level of one class more, after so many places of the one before
+  -- one more cell of a level, with its steps, extends the next level
   level_more :
       (count : ℕ) (level steps next more : List ℕ) (i : ℕ) → length steps ≡ (length t.rows + 1) * n → i < length level
       → length next ≡ i * n → length more ≡ length next + n
@@ -170,7 +170,7 @@ module _ (t : Rows) (n : ℕ) where
             );
           }
 
-  -- the same where a slice of the steps is appended
+  -- the same, where a slice of the steps is appended
   pub level_append :
       (count : ℕ) (level steps next more piece : List ℕ) (i : ℕ) → length steps ≡ (length t.rows + 1) * n
       → i < length level
@@ -184,7 +184,7 @@ module _ (t : Rows) (n : ℕ) where
       (λ k l. get_or_append_left next piece 0 k l) (λ class l. get_or-append-add next piece class 0 ∙ same class l) are
       before now)
 
--- leaps stay those of the table, if a cell is written that was unknown
+-- leaps stay those of the table when an unknown cell is written
 module _ (t : Rows) (id class next : ℕ) (unknown : unknown_id ≤ slice_index t.cells (cell_at id class)) where
   leads_kept : (row c to : ℕ) → LeadsToRow t row c to → LeadsToRow (with_cell t id class next) row c to
   leads_kept row c to leads = record {
@@ -222,7 +222,7 @@ module _ (t : Rows) (id class next : ℕ) (unknown : unknown_id ≤ slice_index 
       reaches = reaches_kept l.shape.classes l.shape.reach place leads.to leads.reaches;
     })
 
--- the parts of a cache without leaps, and with those of before
+-- the parts of a cache without leaps, and with the previous leaps
 parts_none : (c : Stored) (nfa : Automaton) → nfa ≡ c.table.of.nfa → AreCacheParts c nfa None
 parts_none c nfa same = record { scratch = same; leaps = _; within = _ }
 
@@ -240,7 +240,7 @@ parts_kept c new nfa (Some l) of stay same parts = record {
       (subst (λ k. k + leaps_bytes (length l.value.cells.items) ≤ c.table.of.capacity) (sym same) parts.within);
 }
 
--- a transition takes no room
+-- writing a transition does not change the accounted bytes
 used_next : (c : Stored) (id class next : ℕ) → usage_in_store (with_next c id class next) ≡ usage_in_store c
 used_next c id class next =
     ap (λ k. cell_size * k + cell_size * length c.starts + row_size * (length c.table.rows + 3)
@@ -261,7 +261,7 @@ cache_next c s id class next held = record {
   stays (inl e) = inl e
   stays (inr (q, leads, first)) = inr (q, leads_on c.table id class next leads, first)
 
--- with a transition that was not known
+-- the parts of a cache after a transition is written into an unknown cell
 parts_next :
     (c : Stored) (nfa : Automaton) (held : Option (Box Leaps)) (id class next : ℕ)
     → unknown_id ≤ slice_index c.table.cells (cell_at id class)
@@ -270,7 +270,7 @@ parts_next c nfa held id class next unknown =
     parts_kept c (with_next c id class next) nfa held refl (leaps_kept c.table id class next unknown)
     (used_next c id class next)
 
--- with a transition, where leaps stay only if it was not known
+-- the parts of a cache after a transition is written; leaps are kept only if the cell was unknown
 pub parts_written :
     (c : Stored) (nfa : Automaton) (old new : Option (Box Leaps)) (id class next : ℕ) (unknown : Bool)
     → (unknown ≡ true → unknown_id ≤ slice_index c.table.cells (cell_at id class))
@@ -285,7 +285,7 @@ parts_written c nfa old new id class next unknown free kept dropped parts = go u
       subst (λ (l : Option (Box Leaps)). AreCacheParts (with_next c id class next) nfa l) (sym (dropped e))
       (parts_none (with_next c id class next) nfa parts.scratch)
 
--- with a start slot written
+-- a cache after a start slot is written
 slice_get_set :
     (xs : List ℕ) (i x k y : ℕ) → slice_get (slice_set xs i x) k ≡ Some y → ((k ≡ i) × (y ≡ x))
     ⊎ (slice_get xs k ≡ Some y)

@@ -15,7 +15,7 @@ marked-more :
 unfolding marked
 marked-more classes quits stride byte = rw add-one refl
 
--- a step of the loop over the bytes
+-- one iteration of the loop over the bytes
 pub marked-step :
     (classes : List ℕ) (quits : List Bool) (stride byte : ℕ) (before after : List ℕ) (class quit : ℕ) (quits_at : Bool)
     → before ≡ marked classes quits stride byte → quits_at ≡ is_quit quits byte → class ≡ class_in classes byte
@@ -29,7 +29,7 @@ pub length-cond :
 length-cond xs ys class quit true e = ap length e ∙ length-set xs class quit
 length-cond xs ys class quit false e = ap length e
 
--- where no byte is a quit byte
+-- if no byte is a quit byte, all cells of a new row are empty
 pub marked-none :
     (classes : List ℕ) (quits : List Bool) (stride bytes : ℕ) → ((b : ℕ) → b < bytes → is_quit quits b ≡ false)
     → marked classes quits stride bytes ≡ replicate stride (2 ^ 31)

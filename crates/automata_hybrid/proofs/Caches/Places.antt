@@ -18,7 +18,7 @@ use Rattle.automata_hybrid.specs.Private.Cache.Table.{IsStepped, HasState}
 use Rattle.automata_hybrid.proofs.Caches.Rows.{inside, leads_on}
 use Rattle.automata_base.proofs.Paths.Orders.{some_inj}
 
--- the row that a look-up met
+-- the row that a lookup found
 pub record Found (s at : ℕ) (q : Powerset) (rs : List Row) (id : ℕ) : Type 0 where
   pub place : ℕ
   pub row : Row
@@ -72,7 +72,7 @@ tags_low x true false h = omega arith
 tags_low x false true h = omega arith
 tags_low x false false h = omega arith
 
--- where the row of an ID stands
+-- the row of an ID, and its position
 pub record Placed (t : Rows) (id : ℕ) (q : Powerset) : Type 0 where
   pub place : ℕ
   pub row : Row
@@ -129,7 +129,7 @@ Placed-IsCell t id class q i p l =
     (subst (λ w. IsCell t w class (get_or t.cells ((p.place + 3) * t.of.stride + class) 0)) p.state
     (i.stepped p.place class p.row p.has l))
 
--- what stands in a cell, whatever was written in another
+-- the value of a cell stays valid, whatever is written into a cell
 IsCell-written :
     (t : Rows) (at column next : ℕ) (q : Powerset) (class id : ℕ) → IsCell t q class id
     → IsCell (with_cell t at column next) q class id
@@ -138,7 +138,7 @@ IsCell-written t at column next q class id (CellUnknown h e) = CellUnknown h e
 IsCell-written t at column next q class id (CellLeads h l) =
     CellLeads h (λ unit is here. leads_on t at column next (l unit is here))
 
--- a cell that is written with what names the next state
+-- rows still fit their cells after an ID of the next state is written into a cell
 pub RowsFitCells-with_cell :
     (t : Rows) (id class next : ℕ) (q : Powerset) → RowsFitCells t → Names t id q → class < t.of.stride
     → get_or t.of.template class 0 ≡ 2 ^ 31 → LeadsByClass t next q class → RowsFitCells (with_cell t id class next)
@@ -196,7 +196,7 @@ costs_le (r ∷ rs) m all =
 pub RowsFitCells-costs : (t : Rows) → RowsFitCells t → sum_by row_cost t.rows ≤ length t.rows * t.of.greatest
 RowsFitCells-costs t i = costs_le t.rows t.of.greatest (λ k r h. (i.states k r h).cheap)
 
--- an ID at a row's offset, with that row's tags, is the row's
+-- an ID at a row's offset with that row's tags is the ID of that row
 pub placed_valid :
     (t : Rows) (id index : ℕ) (r : Row)
     → RowsFitCells t → 3 ≤ index → slice_get t.rows (index - 3) ≡ Some r → index * t.of.stride ≡ id % 2 ^ 27
@@ -208,7 +208,7 @@ placed_valid t id index r i three has at same =
     same ∙ ap (λ n. row_id n r) (sym at ∙ ap (λ n. n * t.of.stride) (sym place)) in
     (r.state, (i.ids (index - 3) r has).0 ∙ ap Some (sym e))
 
--- and a valid ID is at its row's offset, with its tags
+-- a valid ID is at its row's offset, with that row's tags
 pub record IsAtRow (t : Rows) (id index : ℕ) : Type 0 where
   pub row : Row
   pub behind : 3 ≤ index
@@ -232,7 +232,7 @@ valid_at t id i positive v =
       same = p.same;
     }
 
--- a bit, by the number above it
+-- a bit is the lowest bit of the part of the number above it
 pub bit_of : (k x c n : ℕ) → x < 2 ^ k → n ≡ c * 2 ^ k + x → IsBitSet n k ↔ (bit_and c 1 ≡ 1)
 bit_of k x c n h e =
     let d : n / 2 ^ k ≡ c = ap (λ v. v / 2 ^ k) e ∙ div-mul-add c (2 ^ k) x h in (
@@ -244,7 +244,7 @@ bit_of k x c n h e =
 pub zero_one : ◌≡◌ {A = ℕ} 0 1 → ⊥
 zero_one e = cc
 
--- the match tag of an ID at a row's offset
+-- the match tag is set exactly if it was added to the row's offset
 tags_bit : (x : ℕ) (a b : Bool) → x < 2 ^ 27 → IsBitSet (x + tags a b) 27 ↔ (b ≡ true)
 tags_bit x true true h = let i = bit_of 27 x 3 (x + tags true true) h (omega arith) in (λ s. refl, λ e. i.1 refl)
 tags_bit x true false h =
@@ -256,7 +256,7 @@ tags_bit x false false h =
 has_some : (q : Powerset) → has_patterns q ≡ true ↔ (0 < length q.patterns)
 has_some q = (λ e. ltb-true 0 (length q.patterns) e, λ l. lt-ltb 0 (length q.patterns) l)
 
--- an ID with the match tag alone has it
+-- an ID whose only tag is the match tag has that bit set
 pub match_tagged : (id : ℕ) → HasOnly (2 ^ 27) id → IsBitSet id 27
 match_tagged id only =
     let i = bit_of 27 (id - 2 ^ 27) 1 id (omega (arith, only.from, only.below)) (omega (arith, only.from)) in
@@ -297,7 +297,7 @@ pub Names-alive : (t : Rows) (id : ℕ) (q : Powerset) → RowsFitCells t → Na
 Names-alive t id q i h d =
     let p = Names-Placed t id q i h in (i.states p.place p.row p.has).alive (p.state ∙ d)
 
--- the states of rows are the DFA's
+-- the states of rows are states of the DFA
 pub Names-own : (t : Rows) (id : ℕ) (q : Powerset) → RowsFitCells t → Names t id q → IsStateOf t.of q
 Names-own t id q i h =
     let p = Names-Placed t id q i h in

@@ -14,7 +14,7 @@ use Rattle.automata_hybrid.proofs.Words.{Powerset, powerset_eq, powerset_eq-Deci
 use Rattle.automata_hybrid.proofs.Words.{Rows, RowsFitCells, with_cell, with_row_in_store}
 use Rattle.automata_hybrid.specs.Private.Cache.Table.{IsStepped, IsHeld, StateMap}
 
--- a state that rows have keeps its ID when more come
+-- a state that has a row keeps its ID when more rows are added
 find_id-more :
     (s at : ℕ) (q : Powerset) (rs ys : List Row) (id : ℕ) → find_id s at q rs ≡ Some id
     → find_id s at q (rs ++ ys) ≡ Some id
@@ -27,18 +27,18 @@ find_id-more s at q (r ∷ rs) ys id h = go (powerset_eq q r.state) h (find_id-m
   go true h again = h
   go false h again = again h
 
--- an ID without a high tag that leads to a state is that of a row
+-- an ID without a high tag that leads to a state names that state's row
 pub Leads-Names : (t : Rows) (id : ℕ) (q : Powerset) → Leads t id q → id < 2 ^ 29 → Names t id q
 Leads-Names t id q (LeadsToDead e d) l = absurd (omega (arith, e, l))
 Leads-Names t id q (LeadsToNamed h) l = h
 
--- whatever a cell has, an ID leads where it led
+-- writing a cell does not change where an ID leads
 pub leads_on :
     (t : Rows) (at class next : ℕ) {id : ℕ} {q : Powerset} → Leads t id q → Leads (with_cell t at class next) id q
 leads_on t at class next (LeadsToDead e d) = LeadsToDead e d
 leads_on t at class next (LeadsToNamed h) = LeadsToNamed h
 
--- a state that is new stands last
+-- a new state gets the ID of the last row
 find_id-push_new :
     (s at : ℕ) (rs : List Row) (r : Row) → find_id s at r.state rs ≡ None
     → find_id s at r.state (rs ++ r ∷ []) ≡ Some (row_id (at + length rs * s) r)
@@ -56,7 +56,7 @@ find_id-push_new s at (x ∷ rs) r h = go (powerset_eq r.state x.state) h (find_
   go false h again =
       let e : at + s + length rs * s ≡ at + suc (length rs) * s = omega arith in again h ∙ ap (λ n. Some (row_id n r)) e
 
--- another keeps its answer
+-- the ID of any other state is unchanged
 pub find_id-push_other :
     (s at : ℕ) (p : Powerset) (rs : List Row) (r : Row) → powerset_eq p r.state ≡ false
     → find_id s at p (rs ++ r ∷ []) ≡ find_id s at p rs
@@ -79,7 +79,7 @@ IsCell-more t r q class id (CellQuits h e) = CellQuits h e
 IsCell-more t r q class id (CellUnknown h e) = CellUnknown h e
 IsCell-more t r q class id (CellLeads h l) = CellLeads h (λ unit is at. Leads-more t r id _ (l unit is at))
 
--- a new row is named at once
+-- a new row's ID names its state
 pub Names-new :
     (t : Rows) (r : Row) → length t.cells ≡ (length t.rows + 3) * t.of.stride → id_of t r.state ≡ None
     → Names (with_row_in_store t r) (row_id (length t.cells) r) r.state
@@ -87,7 +87,7 @@ Names-new t r whole none =
     let e : 3 * t.of.stride + length t.rows * t.of.stride ≡ length t.cells = omega (arith, whole) in
     find_id-push_new t.of.stride (3 * t.of.stride) t.rows r none ∙ ap (λ n. Some (row_id n r)) e
 
--- an element of a list with one more
+-- an element of a list with one more is an old element or the last
 pub at_push :
     {A : Type 0} (xs : List A) (y : A) (k : ℕ) (x : A) → slice_get (xs ++ y ∷ []) k ≡ Some x → (slice_get xs k ≡ Some x)
     ⊎ ((k ≡ length xs) × (y ≡ x))
@@ -131,7 +131,7 @@ stepped-with_row t r template whole old k class x h l = go (at_push t.rows r k x
         new (inl q) = CellQuits q q
         new (inr u) = CellUnknown u u
 
--- a new row, after which the rows still fit together
+-- the rows still fit their cells after a row is added
 RowsFitCells-with_row :
     (t : Rows) (r : Row) → RowsFitCells t → IsTemplate t.of.stride t.of.template → id_of t r.state ≡ None
     → (r.state ≡ dead → ⊥) → cost r.state ≤ t.of.greatest → IsStateOf t.of r.state → length t.cells < 2 ^ 27
@@ -166,7 +166,7 @@ RowsFitCells-with_row t r i template none live cheap of fits =
       states k x (inr (e, f)) =
           subst (λ (y : Row). IsRowState t.of y.state) f (record { own = of; cheap = cheap; alive = live })
 
--- and the map that has cached it
+-- the map from states to rows still holds the table after a row is added to both
 pub IsHeld-with_row :
     (t : Rows) (r : Row) (s : ℕ) (row : List ℕ) (m n : StateMap) (costs : ℕ) → IsHeld t s row m costs
     → id_of t r.state ≡ None → (r.state ≡ dead → ⊥) → cost r.state ≤ t.of.greatest → IsStateOf t.of r.state
@@ -195,7 +195,7 @@ IsHeld-with_row t r s row m n costs i none live cheap of fits new = record {
       new p ∙ rw e
       (i.mapped p ∙ sym (find_id-push_other t.of.stride (3 * t.of.stride) p t.rows r (flipped r.state p e)))
 
--- a map that finds the same
+-- the map can be replaced by one with the same lookups
 pub IsHeld-map :
     (t : Rows) (s : ℕ) (row : List ℕ) (m n : StateMap) (costs : ℕ) → IsHeld t s row m costs
     → ((p : Powerset) → get powerset_eq n p ≡ get powerset_eq m p) → IsHeld t s row n costs

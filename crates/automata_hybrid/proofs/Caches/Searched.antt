@@ -1,7 +1,7 @@
--- A cache of a DFA is one wherever its search has come to.
+-- A cache belongs to its DFA whatever the progress of its searches.
 use Rattle.automata_hybrid.proofs.Words.{IsStoreOf, Machine, Searched, Stored, with_searched}
 
--- it is one of the DFA with whatever progress of searches
+-- a cache still belongs to its DFA when the progress of searches changes
 pub searched_sound : (m : Machine) (c : Stored) (s : Searched) → IsStoreOf c m → IsStoreOf (with_searched c s) m
 searched_sound m c s sound = record {
   of = sound.of;

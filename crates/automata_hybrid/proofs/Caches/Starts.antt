@@ -5,7 +5,7 @@ use Rattle.automata_hybrid.proofs.Words.{AllStarts, Anchored, IsSlot, Leads, slo
 use Rattle.automata_hybrid.specs.Cache.States.{LeadsAsStart}
 use Rattle.automata_hybrid.specs.Steps.Starts.{known_start}
 
--- the ID in a slot leads to its start state
+-- the ID in a slot leads to the start state of that slot
 pub leads_as_start :
     (c : Stored) → AllStarts c.table c.starts → (mode : Anchored) (behind : Option ℕ) → LeadsAsStart c mode behind
 leads_as_start c starts mode behind within low =

@@ -16,7 +16,7 @@ use Rattle.automata_hybrid.proofs.Caches.Places.{tags_mod}
 abbrev pub held : (stride at : ℕ) (cells : List ℕ) → Row → HeldState
 held s at cells r = record { id = row_id at r; state = r.state; transitions = take s cells }
 
--- of rows that are left, the first one, and what is left then
+-- the first of the remaining rows, and the rows after it
 pub record IsFirstRow (s at : ℕ) (cells : List ℕ) (rows : List Row) (r : Row) : Type 0 where
   pub states : states_from s at cells rows ≡ held s at cells r ∷ states_from s (at + s) (drop s cells) (drop 1 rows)
   pub enough : s ≤ length cells
@@ -44,7 +44,7 @@ first_row s at cells (r ∷ rows) d l i =
       fits = omega (arith, whole, i.small, i.narrow);
     }
 
--- the state of a row that a cache has
+-- the state of a row of a cache is one that the cache holds
 held_one :
     (c : Stored) (k at : ℕ) (cells : List ℕ) (r : Row) → RowsFitCells c.table → HasOwnStates c.table
     → at ≡ (k + 3) * c.table.of.stride → slice_get c.table.rows k ≡ Some r
@@ -108,7 +108,7 @@ held_from c k at cells (r ∷ rows) fits own same has read =
           get_or-drop s cells n 0 ∙ read (s + n) ∙ ap (λ i. get_or c.table.cells i 0) e)),
     )
 
--- a cache holds each of its states so
+-- a cache holds every state listed for its table
 pub all_held :
     (c : Stored) → RowsFitCells c.table → HasOwnStates c.table → AllByRecursion (IsHeldState c) (held_states c.table)
 all_held c fits own =

@@ -12,7 +12,7 @@ use Rattle.automata_hybrid.specs.Cache.Table.{fixed_rows}
 use Rattle.automata_hybrid.specs.Cache.Stores.{fresh_store}
 use Rattle.automata_hybrid.specs.Private.Cache.Stores.{cache_settings}
 
--- in a cache with so few rows a new state fits
+-- a new state fits in a cache that has at most one row more than start slots
 pub few_fits :
     (n cells most stride slots sum fixed capacity extra : ℕ) → n ≤ slots + 1 → cells ≡ (n + 3) * stride → sum ≤ n * most
     → minimum_capacity stride slots most fixed ≤ capacity → extra ≤ most
@@ -25,7 +25,7 @@ few_fits n cells most stride slots sum fixed capacity extra few whole cheap enou
     let f : (5 + slots) * stride ≡ (slots + 4) * stride + stride = omega arith in
     omega (arith, few, whole, cheap, enough, le, le2, e, f, little)
 
--- so it is within its capacity
+-- such a cache is within its capacity
 few_within :
     (n cells most stride slots sum fixed capacity : ℕ) → n ≤ slots + 1 → cells ≡ (n + 3) * stride → sum ≤ n * most
     → minimum_capacity stride slots most fixed ≤ capacity
@@ -51,7 +51,7 @@ Fits-few c settings i few whole cheap extra little =
           (arith, le, whole, i.offsets),
     )
 
--- the most that a state costs is a number of 64 bits
+-- the greatest cost of a state is at most the capacity
 most_fits :
     (stride slots most fixed capacity : ℕ) → minimum_capacity stride slots most fixed ≤ capacity → most ≤ capacity
 most_fits stride slots most fixed capacity enough =
@@ -64,7 +64,7 @@ IsCache-most c settings i =
     most_fits c.table.of.stride (length c.starts) c.table.of.greatest c.table.of.fixed c.table.of.capacity i.enough in
     omega (arith, le, i.bounded)
 
--- one more row that fits
+-- the cache after a row that fits was added
 pub IsCache-grown :
     (c : Stored) (settings : Settings) (t : Rows) (r : Row) → IsCache c settings
     → length c.table.of.template ≡ c.table.of.stride → AllStarts t c.starts → t ≡ with_row_in_store c.table r
@@ -87,7 +87,7 @@ IsCache-grown c settings t r i wide named e fits =
       bounded = rw e i.bounded;
     }
 
--- another table with few rows, which has what the slots name
+-- the cache with another table of few rows that still has the rows named by the slots
 pub IsCache-few :
     (c : Stored) (settings : Settings) (t : Rows) → IsCache c settings → AllStarts t c.starts → t.of ≡ c.table.of
     → length t.rows ≤ length c.starts + 1 → length t.cells ≡ (length t.rows + 3) * t.of.stride
@@ -147,7 +147,7 @@ IsCache-fresh m settings same enough offsets bounded =
       bounded = bounded;
     }
 
--- the start states alone
+-- the cache after a clear that keeps only the start states
 pub IsCache-cleared :
     (c : Stored) (settings : Settings) (t : Rows) (starts : List ℕ) (clears : ℕ) (searched : Searched)
     → IsCache c settings → AllStarts t starts → t.of ≡ c.table.of → length starts ≡ length c.starts
@@ -169,7 +169,7 @@ IsCache-cleared c settings t starts clears searched i named s n few whole cheap 
       bounded = rw s i.bounded;
     }
 
--- what leads to a state is cached
+-- an ID that leads to a state is not the unknown ID
 pub Leads-known :
     (t : Rows) (id : ℕ) (q : Powerset) → ((n : ℕ) (p : Powerset) → Names t n p → n < 2 ^ 29) → t.of.stride ≤ 512
     → Leads t id q → id < 2 ^ 31

@@ -1,4 +1,4 @@
--- What the mask of 32 lanes reports of the bytes under them.
+-- What the mask of 32 lanes says about the bytes in them.
 use Rattle.std.proofs.Common.{◌≡◌, ◌∙◌, ℕ, zero, suc, ◌*◌, ◌+◌, ◌-◌, ◌%◌, ◌^◌, ◌<◌, ◌≤◌, List, [], ◌∷◌, Bool, true}
 use Rattle.std.proofs.Common.{false, cond, leb, length, get_or, map, replicate, refl, sym, ap, subst, arith, w8, w64}
 use Rattle.std.proofs.Common.{slice_index, min, ◌⊎◌, inl, inr, ⊎_elim}
@@ -14,7 +14,7 @@ use Rattle.std.proofs.Math.Nat.{two-pow-succ}
 use Rattle.std.proofs.lemmas.List.{length-map, get_or-map}
 use Rattle.automata_hybrid.specs.Private.Fast.SelfLoops.{steps_above, byte_in, lane_of}
 
--- a byte is outside a range
+-- whether a byte is outside a range
 abbrev pub is_outside : ℕ → ℕ → ℕ → Bool
 is_outside low size byte = leb size (steps_above low byte)
 
@@ -22,7 +22,7 @@ splat_zip2 : {Z : Type 0} (f : ℕ → ℕ → Z) (x : ℕ) (ys : List ℕ) → 
 splat_zip2 f x [] = refl
 splat_zip2 f x (y ∷ ys) = ap (λ rest. f x y ∷ rest) (splat_zip2 f x ys)
 
--- the mask that is computed of 32 bytes
+-- the mask computed from 32 bytes
 abbrev pub mask_of : ℕ → ℕ → List ℕ → ℕ
 mask_of low size v =
     mask_l (map (top 7)
@@ -54,7 +54,7 @@ module _ (low size : ℕ) (xs : List ℕ) (i : ℕ) (room : i + 32 ≤ length xs
       (subst (λ n. mask_l (map (is_outside low size) (chunk i 32 xs)) < 2 ^ n) lanes
       (mask_l-lt (map (is_outside low size) (chunk i 32 xs))))
 
-  -- a lane whose bit is not set is in the range
+  -- the byte of a lane whose bit is clear is in the range
   pub mask_near :
       (k : ℕ) → k < 32 → bit_at (mask_of low size (chunk i 32 xs)) k ≡ 0
       → steps_above low (slice_index xs (i + k)) < size
@@ -76,7 +76,7 @@ module _ (low size : ℕ) (xs : List ℕ) (i : ℕ) (room : i + 32 ≤ length xs
       unset true e = absurd (omega (arith, e))
       unset false e = refl
 
--- the bits of the mask below the lowest that is set
+-- the bits of the mask below the lowest set bit are clear
 pub trailing_clear :
     (mask : ℕ) → (mask ≡ 0 → ⊥) → mask < 2 ^ 32 → (k : ℕ) → k < count_trailing_zeros 64 mask → bit_at mask k ≡ 0
 trailing_clear mask some small = (bit_at-trailing_zeros w64 mask (omega (arith, some)) (omega (arith, small))).2
@@ -92,12 +92,12 @@ trailing_few mask some small = ⊎_elim
     absurd (omega (arith, unset, set)))
     (cases_lt (count_trailing_zeros 64 mask) 32)
 
--- and above the highest
+-- the bits of the mask above the highest set bit are clear
 pub leading_clear : (mask top n : ℕ) → mask < 2 * 2 ^ top → n ≡ 31 - top → (k : ℕ) → k < n → bit_at mask (31 - k) ≡ 0
 leading_clear mask top n high e k l =
     bit_at_above mask (suc top) (31 - k) (omega (arith, two-pow-succ top, high)) (omega (arith, e, l))
 
--- a bit that is not set in both is not set in one
+-- a bit that is clear in the conjunction of two masks is clear in one of them
 pub both_clear : (a b k : ℕ) → bit_at (bit_and a b) k ≡ 0 → (bit_at a k ≡ 0) ⊎ (bit_at b k ≡ 0)
 both_clear a b k clear = least (bit_at a k) (bit_at b k) (sym (bit_at_and a b k) ∙ clear) where
   least : (x y : ℕ) → min x y ≡ 0 → (x ≡ 0) ⊎ (y ≡ 0)
@@ -109,7 +109,7 @@ module _
     (way : Direction) (P : ℕ → Type 0) (at mask : ℕ) (xs : List ℕ)
     (near : (k : ℕ) → k < 32 → bit_at mask (lane_of way k) ≡ 0 → P (byte_in way xs (at + k)))
   where
-    -- the bytes of the lanes whose bits are not set
+    -- what holds of each lane whose bit is clear holds of the first bytes, if all their bits are clear
     pub near_upto :
         (n : ℕ) → n ≤ 32 → ((k : ℕ) → k < n → bit_at mask (lane_of way k) ≡ 0)
         → (k : ℕ) → at ≤ k → k < at + n → P (byte_in way xs k)

@@ -1,4 +1,4 @@
--- Where leaps lead is where the transitions on the bytes lead, one by one.
+-- Leaps lead where the transitions on their bytes lead one by one.
 use Rattle.std.proofs.Common.{ℕ, zero, suc, ◌≡◌, ◌∙◌, ◌+◌, ◌-◌, ◌*◌, ◌/◌, ◌%◌, ◌^◌, ◌<◌, ◌≤◌, ◌⊎◌, Bool, true, false}
 use Rattle.std.proofs.Common.{List, Some, length, slice_index, sym, ap, subst, arith, inl, inr}
 use Rattle.std.proofs.Math.Nat.{mod-eq_of_lt, mul-le-mul_right, one-le-pow, pow-suc, pow-zero}
@@ -22,7 +22,7 @@ use Rattle.automata_hybrid.proofs.Searches.PassState.{false_true}
 use Rattle.automata_hybrid.proofs.Fast.Runs.{followed_one, run_at, run_id, run_none, run_on, run_to}
 use Rattle.automata_hybrid.proofs.Steps.Steps.{byte_leads}
 
--- one digit more
+-- a column with one more digit is below the number of columns
 pub column_below :
     (column n count class : ℕ) → column < n ^ count → class < n → column * n + class < n ^ suc count
 column_below column n count class low below =
@@ -30,9 +30,9 @@ column_below column n count class low below =
     let e : suc column * n ≡ column * n + n = omega arith in
     omega (arith, l, e, below, pow-suc n count)
 
--- the digits of a column, after the index of a row
+-- the index of a row followed by the digits of a column
 module _ (t : Rows) (way : Direction) (bytes : List ℕ) (n from row : ℕ) where
-  -- one byte more
+  -- one more byte appends its class as a digit
   place_more :
       (count : ℕ) → row * n ^ suc count + column_of t.of.classes n way bytes from (suc count)
       ≡ (row * n ^ count + column_of t.of.classes n way bytes from count) * n
@@ -45,7 +45,7 @@ module _ (t : Rows) (way : Direction) (bytes : List ℕ) (n from row : ℕ) wher
       moved : (p column class : ℕ) → row * (p * n) + (column * n + class) ≡ (row * p + column) * n + class
       moved p column class = grind arith
 
-  -- where these digits lead is where the bytes lead
+  -- these digits lead where the bytes lead
   reaches_over :
       ((k : ℕ) → class_in t.of.classes (byte_in way bytes k) < n)
       → (count to : ℕ) → ReachesRow t n count (row * n ^ count + column_of t.of.classes n way bytes from count) to
@@ -67,7 +67,7 @@ module _ (t : Rows) (way : Direction) (bytes : List ℕ) (n from row : ℕ) wher
             (λ k. LeadsToRow t at k to) rest leads,
       )
 
--- over some bytes and then over more
+-- some bytes, and then more bytes
 over_on :
     (t : Rows) (way : Direction) (bytes : List ℕ) (row at first count to : ℕ) → LeadsOver t way bytes 0 first row at
     → LeadsOver t way bytes first count at to → LeadsOver t way bytes 0 (first + count) row to
@@ -85,7 +85,7 @@ over_on t way bytes row at first (suc count) to before (mid, more, leads) =
 
 module _ {s : Trace} {way : Direction} {m : Machine} {c : Stored} {input : Input} {place : ℕ} (machine : IsMachine m)
     (are : AreClasses m.classes) (of : c.table.of ≡ m) (rows : RowsFitCells c.table) where
-  -- one byte, by the cell of a row
+  -- a run over one byte, by the cell of a row
   run_one :
       (row byte to : ℕ) → byte < 256 → next (tape_in way input) place ≡ Some byte
       → IsTagAt s way m c.table input 0 place ((row + 3) * c.table.of.stride)
@@ -159,14 +159,14 @@ module _ {s : Trace} {way : Direction} {m : Machine} {c : Stored} {input : Input
       run_id (sym ids.ends)
       (run_rows len ids.row ids.to ids.within (subst (IsTagAt s way m c.table input 0 place) ids.begins at) ids.over)
 
--- a column with a digit more fits
+-- a column with one more digit is at most `2 ^ 25`
 pub column_fits : (column n count : ℕ) → n ≤ 32 → count ≤ 4 → column < n ^ count → column * n ≤ 2 ^ 25
 column_fits column n count few short low =
     let a : n ^ count ≤ 2 ^ 20 = power_small n count few short in
     let b : column * n ≤ 2 ^ 20 * n = mul-le-mul_right n (omega (arith, low, a)) in
     omega (arith, b, few)
 
--- bytes have classes of the leaps
+-- the classes of bytes are classes of the leaps
 classes_small :
     {t : Rows} {l : Leaps} (way : Direction) (bytes : List ℕ) → AreLeaps t l → AreClasses t.of.classes
     → ((k : ℕ) → byte_in way bytes k < 256)
@@ -177,7 +177,7 @@ classes_small {t} {l} way bytes are classes small k =
 module _ {t : Rows} {l : Leaps} (way : Direction) (bytes : List ℕ) {row at first : ℕ} (are : AreLeaps t l)
     (small : (k : ℕ) → class_in t.of.classes (byte_in way bytes k) < l.shape.classes)
     (leapt : IsLeapt t l.shape way bytes row at first) where
-  -- the place of a column of the row that leaps have come to
+  -- the cell in a column of the row that the leaps have reached
   leap_within : (column : ℕ) → column < l.shape.classes ^ l.shape.reach → first + column < length l.cells.items
   leap_within column low =
       subst (λ k. first + column < k) (sym are.cells)
@@ -213,7 +213,7 @@ module _ {t : Rows} {l : Leaps} (way : Direction) (bytes : List ℕ) {row at fir
           (subst (λ k. ReachesRow t l.shape.classes l.shape.reach k leads.to) place leads.reaches));
     }
 
--- what the column of the bytes at a place gives
+-- the cell in the column of the bytes at a place
 module _ {m : Machine} {t : Rows} {l : Leaps} (way : Direction) (bytes : List ℕ) {row at first reach column : ℕ}
     (of : t.of ≡ m) (rising : AreClasses m.classes)
     (fits : (k : ℕ) → byte_in way bytes k < 256) (are : AreLeaps t l) (far : reach ≡ l.shape.reach)
@@ -254,7 +254,7 @@ row_of_id t id k q rows named low (r, has, state) =
     plain false true e = absurd (omega (arith, e, low))
     plain false false e = omega (arith, e)
 
--- the row whose first cell has a place
+-- the row whose cells begin at a place
 pub row_of_place :
     {t : Rows} {l : Leaps} {way : Direction} {bytes : List ℕ} {row len place : ℕ} → AreLeaps t l
     → (leapt : IsLeapt t l.shape way bytes row len place)

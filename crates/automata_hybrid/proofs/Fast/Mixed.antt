@@ -1,4 +1,4 @@
--- Cached transitions that are followed from a match, one by one, into states that report or do not.
+-- Cached transitions followed one by one from a match, into states with or without patterns.
 use Rattle.std.proofs.Common.{ℕ, suc, ◌≡◌, ◌∙◌, ◌+◌, ◌-◌, ◌<◌, ◌≤◌, ◌^◌, ◌⊎◌, inl, inr, true, Option, sym, ap}
 use Rattle.std.proofs.Common.{subst, arith}
 use Rattle.automata_hybrid.proofs.Words.{Direction, half_at, half_of, HalfMatch, HasOnly, HasReadNoQuit, Input}
@@ -11,7 +11,7 @@ use Rattle.automata_hybrid.proofs.Fast.Runs.{followed_clean, followed_known, rep
 use Rattle.automata_hybrid.proofs.Searches.Traces.{found_along}
 use Rattle.std.proofs.lemmas.Bool.{cases_lt}
 
--- the state of an ID, read at place `mark`, is the last one that reported before place `at`
+-- the state of an ID, read at place `mark`, is the last one before place `at` that reported a match
 pub record ReportedLast (s : Trace) (way : Direction) (c : Stored) (input : Input) (at id mark : ℕ) : Type 0 where
   pub state : Powerset
   pub named : Names c.table id state
@@ -19,8 +19,8 @@ pub record ReportedLast (s : Trace) (way : Direction) (c : Stored) (input : Inpu
   pub before : Option HalfMatch
   pub last : half_at state.patterns (offset_in way input mark) before ≡ half_of way input (s.reported at)
 
--- cached transitions led a run from one place on to another, where it has an ID: what was found last is what was found
--- before, while there is no ID of a report, and else what that one reported
+-- cached transitions led a run from one place to another, where it is at an ID: the last match found is the one from
+-- before if no ID on the way has reported a match, and otherwise the match of the last ID that has
 pub record HasRunOn (s : Trace) (way : Direction) (m : Machine) (c : Stored) (input : Input) (from at id : ℕ)
     (found : Option HalfMatch) (reported mark : ℕ) : Type 0 where
   pub run : HasRun s way m c input from at
@@ -30,7 +30,7 @@ pub record HasRunOn (s : Trace) (way : Direction) (m : Machine) (c : Stored) (in
   pub some : reported < unknown_id → ReportedLast s way c input at reported mark
 
 module _ {s : Trace} {way : Direction} {m : Machine} {c : Stored} {input : Input} where
-  -- from where a run is, it has come nowhere yet
+  -- a run that has not moved yet
   pub run_on_none :
       {at id : ℕ} {found : Option HalfMatch} {reported mark : ℕ}
       → unknown_id ≤ reported → at < input.end - input.start → IsAtAlong s way m c.table input at id found
@@ -50,7 +50,7 @@ module _ {s : Trace} {way : Direction} {m : Machine} {c : Stored} {input : Input
         some = λ l. absurd (omega (arith, l, none));
       }
 
-  -- one cached transition more was followed
+  -- one more cached transition was followed
   run_one :
       {from at : ℕ} {tag id : ℕ} → at < input.end - input.start → HasRun s way m c input from at
       → IsFollowedAlong s way m c input tag at (at + 1) id → HasRun s way m c input from (at + 1)
@@ -67,7 +67,7 @@ module _ {s : Trace} {way : Direction} {m : Machine} {c : Stored} {input : Input
   module _ {from at id next : ℕ} {found : Option HalfMatch} {reported mark : ℕ} (trace : IsTrace way m input s)
       (inside : at < input.end - input.start) (met : IsMetAlong s way m c input at id next)
       (here : HasRunOn s way m c input from at id found reported mark) where
-    -- into a state that reports nothing
+    -- it leads to a state without patterns
     pub run_on_quiet : next < 2 ^ 27 → HasRunOn s way m c input from (at + 1) next found reported mark
     run_on_quiet low =
         let one = ((met (omega (arith, low))).run 0 no_tag (record { from = omega arith; below = low })).followed in
@@ -91,7 +91,7 @@ module _ {s : Trace} {way : Direction} {m : Machine} {c : Stored} {input : Input
           reported_none : IsFollowedAlong s way m c input 0 at (at + 1) next → s.reported at ≡ s.reported (at + 1)
           reported_none one = sym (reported_upto one trace (at + 1) (omega arith) (omega arith))
 
-    -- into a state that reports, where the search is no earliest one
+    -- it leads to a state with patterns, and the search is not earliest
     pub run_on_match :
         (input.earliest ≡ true → ⊥) → HasOnly (2 ^ 27) next → HasRunOn s way m c input from (at + 1) next found next at
     run_on_match late only =
@@ -116,7 +116,7 @@ module _ {s : Trace} {way : Direction} {m : Machine} {c : Stored} {input : Input
               };
         }
 
-  -- where it has come, it has found what was found last
+  -- at its current place the run has found the last match reported
   pub run_on_at :
       {from at id : ℕ} {found found' : Option HalfMatch} {reported mark : ℕ}
       → (input.earliest ≡ true → ⊥) → HasRunOn s way m c input from at id found reported mark

@@ -1,4 +1,4 @@
--- Cached transitions that are followed, between IDs that have a tag and no other.
+-- Runs of cached transitions whose IDs all have exactly one tag, or all have none.
 use Rattle.std.proofs.Common.{ℕ, zero, suc, ◌≡◌, ◌∙◌, ◌+◌, ◌-◌, ◌<◌, ◌≤◌, ◌^◌, ◌⊎◌, inl, inr, Bool, true, false, List}
 use Rattle.std.proofs.Common.{[], ◌∷◌, length, Option, Some, refl, slice_index, sym, ap, subst, arith, eq-or-lt_of_le}
 use Rattle.automata_hybrid.proofs.Words.{cell_of, class_in, Direction, half_at, half_of, HalfMatch, HasOnly}
@@ -21,14 +21,14 @@ use Rattle.automata_hybrid.proofs.Caches.Rows.{Leads-Names}
 use Rattle.automata_hybrid.proofs.Walks.Reports.{silent_none, silent_same, silent_trans}
 use Rattle.std.proofs.lemmas.Bool.{cases_lt}
 
--- nothing was followed yet
+-- an empty run
 pub followed_none :
     {s : Trace} (way : Direction) (m : Machine) (c : Stored) (input : Input) (tag from id : ℕ)
     → Names c.table id (s.state from) → IsFollowedAlong s way m c input tag from from id
 followed_none way m c input tag from id n =
     record { more = omega arith; named = n; taken = λ k l h. absurd (omega (arith, l, h)) }
 
--- what was followed is followed on
+-- two runs joined
 pub followed_on :
     {s : Trace} {way : Direction} {m : Machine} {c : Stored} {input : Input} {tag from k to id id' : ℕ}
     → IsFollowedAlong s way m c input tag from k id → IsFollowedAlong s way m c input tag k to id'
@@ -42,7 +42,7 @@ followed_on {s} {way} {m} {c} {input} {tag} {from} {k} {to} f g = record {
   each j l h (inl less) = f.taken j l less
   each j l h (inr more) = g.taken j more h
 
--- one cached transition, to an ID that has the tag alone
+-- one cached transition, to an ID with only the tag
 pub followed_one :
     {s : Trace} (way : Direction) (m : Machine) (c : Stored) (input : Input) (tag k id to byte : ℕ)
     → IsRunTag tag → HasOnly tag to → next (tape_in way input) k ≡ Some byte
@@ -78,7 +78,7 @@ followed_one {s} way m c input tag k id to byte kind only unit known below quit 
             taken = λ j l h. (let same : k ≡ j = omega (arith, l, h) in subst (IsTaken s way m c input tag) same here);
           }
 
--- the ID that stands in the cell of the byte at a place is the one that comes next there
+-- the ID in the cell of the byte at a place is the next ID there
 pub met_at :
     {s : Trace} (way : Direction) (m : Machine) (c : Stored) (input : Input) (k id to byte : ℕ)
     → k < input.end - input.start → next (tape_in way input) k ≡ Some byte → to ≡ cell_of c id (class_in m.classes byte)
@@ -101,7 +101,7 @@ met_at {s} way m c input k id to byte within unit value below quit named on = λ
       });
 }
 
--- what stands in the cell of a byte that was read
+-- the contents of the cell of the byte that was read
 pub next_cell :
     (way : Direction) (m : Machine) (c : Stored) (input : Input) (k id to byte : ℕ)
     → next (tape_in way input) k ≡ Some byte → to ≡ cell_of c id (class_in m.classes byte)
@@ -109,14 +109,14 @@ pub next_cell :
 next_cell way m c input k id to byte unit value =
     cell_read m c id (next (tape_in way input) k) to (value ∙ ap (known_step m c id) (sym unit))
 
--- a run between IDs with a tag: nothing yet, and on
+-- runs between IDs with a tag, beginning with the empty run
 pub run_none :
     {s : Trace} {way : Direction} {m : Machine} {c : Stored} {input : Input} {tag from id : ℕ}
     → IsTagAt s way m c.table input tag from id → IsRun s way m c input tag from from id
 run_none {s} {way} {m} {c} {input} {tag} {from} {id} at =
     record { followed = followed_none way m c input tag from id at.on.named; only = at.only }
 
--- from where a run has come to another one can go on
+-- another run can continue where a run has ended
 pub run_at :
     {s : Trace} {way : Direction} {m : Machine} {c : Stored} {input : Input} {tag from to id : ℕ}
     → IsRunTag tag → IsTrace way m input s → IsRun s way m c input tag from to id
@@ -128,13 +128,13 @@ pub run_on :
     → IsRun s way m c input tag from k id → IsRun s way m c input tag k to id' → IsRun s way m c input tag from to id'
 run_on f g = record { followed = followed_on f.followed g.followed; only = g.only }
 
--- the same after as many units, counted otherwise
+-- the same run, with its end counted differently
 pub run_to :
     {s : Trace} {way : Direction} {m : Machine} {c : Stored} {input : Input} {tag from id k to : ℕ}
     → k ≡ to → IsRun s way m c input tag from k id → IsRun s way m c input tag from to id
 run_to {s} {way} {m} {c} {input} {tag} {from} {id} same f = subst (λ n. IsRun s way m c input tag from n id) same f
 
--- the same to an ID that is named otherwise
+-- the same run, with its last ID given differently
 pub run_id :
     {s : Trace} {way : Direction} {m : Machine} {c : Stored} {input : Input} {tag from to id id' : ℕ}
     → id ≡ id' → IsRun s way m c input tag from to id → IsRun s way m c input tag from to id'
@@ -151,7 +151,7 @@ half_any : (ps : List ℕ) (at : ℕ) (a b : Option HalfMatch) → 0 < length ps
 half_any [] at a b l = absurd (omega (arith, l))
 half_any (p ∷ ps) at a b l = refl
 
--- the first pattern of a state that has some is what it reports
+-- a state with patterns reports the first of them
 pub first_half :
     (ps : List ℕ) (pattern at : ℕ) (before : Option HalfMatch) → 0 < length ps → pattern ≡ slice_index ps 0
     → Some (record { pattern = pattern; offset = at }) ≡ half_at ps at before
@@ -160,19 +160,19 @@ first_half (p ∷ ps) pattern at before some e = ap (λ n. Some (record { patter
 
 module _ {s : Trace} {way : Direction} {m : Machine} {c : Stored} {input : Input} {tag from to id : ℕ}
     (f : IsFollowedAlong s way m c input tag from to id) where
-  -- a pass that met no quit byte before has met none
+  -- a pass that had met no quit byte before the run has met none after it
   pub followed_clean : HasReadNoQuit way m input from → HasReadNoQuit way m input to
   followed_clean clean j byte l e = go (cases_lt j from) where
     go : (j < from) ⊎ (from ≤ j) → is_quit m.quits byte ≡ false
     go (inl less) = clean j byte less e
     go (inr more) = (f.taken j more l).clean byte e
 
-  -- and all that it took is cached
+  -- all transitions of the run are cached
   pub followed_known : (k : ℕ) → from ≤ k → k < to → HasLearnedAlong s way m c input k
   followed_known k more less = (f.taken k more less).known
 
-  -- a run that was there is here, and has found what the state here reports, if that has patterns and the search is not
-  -- an earliest one
+  -- the pass is at the end of the run, and has found what the state there reports, if that state has patterns and the
+  -- search is not earliest
   pub matched_at :
       {start : ℕ} (j o : ℕ) {found found' : Option HalfMatch} → IsTrace way m input s → input.earliest ≡ false
       → to ≡ suc j → o ≡ offset_in way input j
@@ -195,7 +195,7 @@ module _ {s : Trace} {way : Direction} {m : Machine} {c : Stored} {input : Input
           ∙ (sym (found_along trace j (λ e. absurd (false_true (sym late ∙ e))))
           ∙ ap (λ n. half_of way input (s.reported n)) (sym here)))))
 
--- without a tag nothing is reported on the way
+-- a run without a tag reports nothing
 module _ {s : Trace} {way : Direction} {m : Machine} {c : Stored} {input : Input} {from to id : ℕ}
     (f : IsFollowedAlong s way m c input 0 from to id) where
   quiet : (k : ℕ) → from ≤ k → k < to → (s.state (suc k)).patterns ≡ []
@@ -214,7 +214,7 @@ module _ {s : Trace} {way : Direction} {m : Machine} {c : Stored} {input : Input
         let more : from ≤ n = omega (arith, less) in
         quiet_along trace n (quiet n more (omega (arith, h))) ∙ again more
 
-  -- a run that was there is here, and has found what it had
+  -- the pass is at the end of the run, with what it had found before
   pub followed_at :
       {start : ℕ} {found : Option HalfMatch} → IsTrace way m input s → IsAtAlong s way m c.table input from start found
       → IsAtAlong s way m c.table input to id found
@@ -226,7 +226,7 @@ module _ {s : Trace} {way : Direction} {m : Machine} {c : Stored} {input : Input
         clean = followed_clean f at.clean;
       }
 
--- and a walk is reported nothing
+-- such a run reports nothing to a walk
 module _ {way : Direction} {m : Machine} {c : Stored} {input : Input} {from to id : ℕ}
     (f : IsFollowed way m c input 0 from to id) where
   silent_upto : (n : ℕ) → from ≤ n → n ≤ to → IsSilent way m input from n
@@ -243,7 +243,7 @@ module _ {way : Direction} {m : Machine} {c : Stored} {input : Input} {from to i
   pub followed_silent : {start : ℕ} → IsSilent way m input start from → IsSilent way m input start to
   followed_silent {start} silent = silent_trans way m input start from to silent (silent_upto to f.more (omega arith))
 
--- each unit that was followed, and then each that was followed with another tag, is cached
+-- all transitions of a run, and of one with another tag after it, are cached
 pub known_after :
     {s : Trace} {way : Direction} {m : Machine} {c : Stored} {input : Input} {tag tag' from mid to id id' : ℕ}
     → IsFollowedAlong s way m c input tag from mid id → IsFollowedAlong s way m c input tag' mid to id'
@@ -253,7 +253,7 @@ known_after {s} {way} {m} {c} {input} {tag} {tag'} {from} {mid} f g k more less 
   go (inl before) = followed_known f k more before
   go (inr behind) = followed_known g k behind less
 
--- what was followed without a tag takes a run on from where it was
+-- a run without a tag continues a pass from its place
 pub runs_on :
     {s : Trace} {way : Direction} {m : Machine} {c : Stored} {input : Input} {from : ℕ} {place : Place} {to : Stop}
     → IsTrace way m input s → RunsAlong s way m c input from place → FollowsAlong s way m c input 0 place.at to
@@ -272,7 +272,7 @@ runs_on {s} {way} {m} {c} {input} {from} {place} {to} trace near far =
       each k more less (inl before) = near.run.known k more before
       each k more less (inr behind) = followed_known far.followed k behind less
 
--- a stop, from which nothing was followed
+-- a stop at which nothing has been followed yet
 pub follows_none :
     {s : Trace} {way : Direction} {m : Machine} {c : Stored} {input : Input} (stop : Stop)
     → stop.at ≤ input.end - input.start → Names c.table stop.id (s.state stop.at)
@@ -280,7 +280,7 @@ pub follows_none :
 follows_none {s} {way} {m} {c} {input} stop within named met =
     record { within = within; followed = followed_none way m c input 0 stop.at stop.id named; met = met }
 
--- what was followed to a stop is followed on
+-- two runs joined at a stop
 pub follows_on :
     {s : Trace} {way : Direction} {m : Machine} {c : Stored} {input : Input} {from : ℕ} {stop to : Stop}
     → FollowsAlong s way m c input 0 from stop → FollowsAlong s way m c input 0 stop.at to

@@ -1,4 +1,4 @@
--- What is learned of the bytes on which a row leads back to itself, and what follows for a pass that stands at it.
+-- What is learned about the bytes on which a row is a self-loop, and what follows for a pass at that row.
 use Rattle.std.proofs.Common.{ℕ, zero, suc, ◌≡◌, ◌∙◌, ◌+◌, ◌-◌, ◌<◌, ◌≤◌, ◌^◌, List, Some, sym}
 use Rattle.std.proofs.Common.{subst, arith, get_or, length, slice_index, ⊎_elim}
 use Rattle.std.proofs.lemmas.Bool.{cases_lt}
@@ -15,11 +15,11 @@ use Rattle.automata_hybrid.proofs.Fast.Runs.{followed_none, followed_on, followe
 use Rattle.automata_hybrid.proofs.Searches.PassState.{false_true}
 use Rattle.automata_hybrid.proofs.Steps.Steps.{byte_leads}
 
--- a range of no byte
+-- an empty range
 pub range_none : (m : Machine) (c : Stored) (id : ℕ) (r : LoopRange) → r.size ≡ 0 → IsLoopRange m c id r
 range_none m c id r none = record { loops = λ byte l has. absurd (omega (arith, has, none)) }
 
--- classes rise from byte to byte
+-- classes do not decrease from byte to byte
 rising :
     (classes : List ℕ) → AreClasses classes → (from n : ℕ) → from + n < 256
     → class_in classes from ≤ class_in classes (from + n)
@@ -41,11 +41,11 @@ rises classes are from to ahead l =
     subst (λ k. class_in classes from ≤ class_in classes k) e
     (rising classes are from (to - from) (omega (arith, e, l)))
 
--- the cell of a row at a class is the row's own ID
+-- the cell of a row at a class holds the row's own ID
 abbrev pub LoopsIn : Stored → ℕ → ℕ → Type 0
 LoopsIn c id class = (cell_of c id class ≡ id) × ((q : Powerset) → Names c.table id q → IsCell c.table q class id)
 
--- then it leads back to itself on each byte of the class
+-- then the row is a self-loop on every byte of the class
 loops_in :
     (m : Machine) (c : Stored) (id byte : ℕ)
     → IsMachine m → AreClasses m.classes → c.table.of ≡ m
@@ -59,7 +59,7 @@ loops_in m c id byte machine are of valid plain few loops = record {
   back = λ q n. (byte_leads m c q id byte machine of plain few (loops.1 q n)).1;
 }
 
--- and on bytes between those of two classes
+-- a row is a self-loop on a range of bytes if it is one at every class from the first byte's to the last byte's
 pub loops_among :
     (m : Machine) (c : Stored) (id from to first last : ℕ)
     → IsMachine m → AreClasses m.classes → c.table.of ≡ m
@@ -75,7 +75,7 @@ loops_among m c id from to first last machine are of valid plain some within low
     loops_in m c id byte machine are of valid plain few
     (each (class_in m.classes byte) (omega (arith, low, above)) (omega (arith, high, under)))
 
--- a range that ends before byte 256, and one that goes on at 0
+-- a range that ends at or before byte 256, and one that wraps around to 0
 pub range_within :
     (m : Machine) (c : Stored) (id : ℕ) (r : LoopRange) → r.low + r.size ≤ 256
     → ((byte : ℕ) → r.low ≤ byte → byte < r.low + r.size → LoopsOn m c id byte) → IsLoopRange m c id r
@@ -94,13 +94,13 @@ range_past m c id r past high low = record {
       (cases_lt byte r.low);
 }
 
--- a byte is small in whichever direction it is read
+-- a byte is less than 256 in either direction
 pub byte_small :
     (way : Direction) (bytes : List ℕ) → ((k : ℕ) → slice_index bytes k < 256) → (k : ℕ) → byte_in way bytes k < 256
 byte_small Forward bytes small k = small k
 byte_small Backward bytes small k = small (length bytes - 1 - k)
 
--- over one byte more
+-- one more byte
 pub over_more :
     (m : Machine) (c : Stored) (id : ℕ) (way : Direction) (bytes : List ℕ) (from at : ℕ)
     → LoopsOn m c id (byte_in way bytes at) → LoopsOver m c id way bytes from at
@@ -112,12 +112,12 @@ over_more m c id way bytes from at loops over k l below = ⊎_elim
     (cases_lt k at)
 
 module _ {m : Machine} {c : Stored} {id : ℕ} {way : Direction} {bytes : List ℕ} where
-  -- a run of no byte
+  -- an empty run
   pub run_none : (from : ℕ) → from ≤ length bytes → IsLoopRun m c id way bytes from from
   run_none from within =
       record { more = omega arith; within = within; loops = λ k l below. absurd (omega (arith, l, below)) }
 
-  -- one run and another
+  -- two runs joined
   pub run_on :
       {from at to : ℕ} → IsLoopRun m c id way bytes from at → IsLoopRun m c id way bytes at to
       → IsLoopRun m c id way bytes from to
@@ -130,7 +130,7 @@ module _ {m : Machine} {c : Stored} {id : ℕ} {way : Direction} {bytes : List �
         (cases_lt k at);
   }
 
-  -- a run and some bytes more
+  -- a run and some more bytes
   pub run_over :
       {from at : ℕ} (n : ℕ) → at + n ≤ length bytes → LoopsOver m c id way bytes at (at + n)
       → IsLoopRun m c id way bytes from at → IsLoopRun m c id way bytes from (at + n)
@@ -181,7 +181,7 @@ module _ {s : Trace} {way : Direction} {m : Machine} {c : Stored} {input : Input
             followed_one way m c input tag (from + n) id id there.0 kind only there.1 loops.known loops.below
             (λ quits. absurd (false_true (sym loops.clean ∙ quits))) (λ _ _ q n. loops.back q n) at
 
-  -- a run stays at a row as long as that leads back to itself
+  -- a run stays at a row as long as the row is a self-loop
   pub run_loop :
       {tag to : ℕ} → IsTagAt s way m c.table input tag from id → IsSelfLoop way m c input id from to
       → IsRun s way m c input tag from to id
@@ -195,7 +195,7 @@ module _ {s : Trace} {way : Direction} {m : Machine} {c : Stored} {input : Input
         only = at.only;
       }
 
--- a run over the bytes from a place on is one of a pass from there
+-- a run over the bytes from a place on is a self-loop of a pass at that place
 pub loop_along :
     {way : Direction} {m : Machine} {c : Stored} {input : Input} {id place n : ℕ} {bytes : List ℕ}
     → ((k : ℕ) → k < length bytes → next (tape_in way input) (place + k) ≡ Some (byte_in way bytes k))

@@ -1,4 +1,4 @@
--- What is true of what each cache of a DFA knows stays true.
+-- The bounds on what a cache of a DFA knows are kept.
 use Rattle.std.proofs.Common.{◌≡◌, ◌∙◌, ℕ, zero, suc, ◌+◌, ◌*◌, ◌≤◌, ◌⊎◌, inl, inr, List, [], ◌∷◌, ◌++◌, length, Bool}
 use Rattle.std.proofs.Common.{true, false, cond, Option, None, Some, refl, sym, subst, arith, length-append}
 use Rattle.automata_hybrid.proofs.Words.{CacheView, cost, counted, Event, is_some, IsStoreOf, keep_row, Known, known_of}
@@ -23,18 +23,18 @@ pub record HasBounds (m : Machine) : Type 0 where
   -- the capacity is at least the minimum
   pub enough : minimum_capacity m.stride m.slots m.greatest m.fixed ≤ m.capacity
 
--- the progress of searches, and the count of determinizations, may be any
+-- the bounds do not depend on the progress of searches or on the count of determinizations
 pub known_moved : (m : Machine) (c : Known) (s : Searched) → IsKnown m c → IsKnown m (record c { searched = s })
 known_moved m c s k = record { alive = k.alive; cheap = k.cheap; slots = k.slots; within = k.within; clears = k.clears }
 
 pub known_counted : (m : Machine) (c : Known) → IsKnown m c → IsKnown m (counted c)
 known_counted m c k = record { alive = k.alive; cheap = k.cheap; slots = k.slots; within = k.within; clears = k.clears }
 
--- a row is in a list
+-- a list has this row
 abbrev pub IsIn : List Row → Row → Type 0
 IsIn rows r = (place : ℕ) × (slice_get rows place ≡ Some r)
 
--- a row of a longer list is there, or the last one
+-- a row of a list with one row appended is in the list or is that row
 pub in_more : (rows : List Row) (x r : Row) → IsIn (rows ++ x ∷ []) r → IsIn rows r ⊎ (r ≡ x)
 in_more [] x r (zero, has) = inr (sym (some_inj has))
 in_more [] x r (suc k, has) = absurd (none_some has)
@@ -44,7 +44,7 @@ in_more (y ∷ rows) x r (suc k, has) = go (in_more rows x r (k, has)) where
   go (inl had) = inl (suc had.0, had.1)
   go (inr same) = inr same
 
--- the row that is found is in the list
+-- the row found for a state is in the list
 pub found_in : (rows : List Row) (q : Powerset) (r : Row) → row_in rows q ≡ Some r → IsIn rows r
 found_in [] q r found = absurd (none_some found)
 found_in (x ∷ rows) q r found = go (powerset_eq q x.state) found (found_in rows q r) where
@@ -53,11 +53,11 @@ found_in (x ∷ rows) q r found = go (powerset_eq q x.state) found (found_in row
   go true found again = (0, found)
   go false found again = let rest = again found in (suc rest.0, rest.1)
 
--- rows of a list
+-- all rows of one list are in another
 abbrev pub AreOf : (old rows : List Row) → Type 0
 AreOf old rows = (r : Row) → IsIn rows r → IsIn old r
 
--- with one more of it
+-- this holds with one more row of that list
 pub kept_of :
     (old rows : List Row) (o : Option Row) → ((r : Row) → o ≡ Some r → IsIn old r) → AreOf old rows
     → AreOf old (keep_row rows o)
@@ -71,7 +71,7 @@ kept_of old rows (Some x) has all = go (is_some (row_in rows x.state)) where
   go true = all
   go false = λ r is. pick r (in_more rows x r is)
 
--- at most one more
+-- keeping a row adds at most one row
 pub kept_few : (rows : List Row) (o : Option Row) → length (keep_row rows o) ≤ length rows + 1
 kept_few rows None = omega arith
 kept_few rows (Some x) = go (is_some (row_in rows x.state)) where
@@ -79,7 +79,7 @@ kept_few rows (Some x) = go (is_some (row_in rows x.state)) where
   go true = omega arith
   go false = omega (arith, length-append rows (x ∷ []))
 
--- those that a clear keeps
+-- the rows that a clear keeps were there before
 start_kept : (old rows : List Row) (start : Option Powerset) → AreOf old rows → AreOf old (keep_start old rows start)
 start_kept old rows None all = all
 start_kept old rows (Some q) all = kept_of old rows (row_in old q) (λ r found. found_in old q r found) all
@@ -94,7 +94,7 @@ starts_kept old rows (start ∷ starts) all =
 pub starts_of : (old : List Row) (starts : List (Option Powerset)) → AreOf old (rows_of_starts old starts)
 starts_of old starts = starts_kept old [] starts (λ r is. absurd (none_some is.1))
 
--- at most one for each slot
+-- a clear keeps at most one row for each slot
 start_few : (old rows : List Row) (start : Option Powerset) → length (keep_start old rows start) ≤ length rows + 1
 start_few old rows None = omega arith
 start_few old rows (Some q) = kept_few rows (row_in old q)
@@ -111,7 +111,7 @@ starts_kept_few old rows (start ∷ starts) =
 pub starts_few : (old : List Row) (starts : List (Option Powerset)) → length (rows_of_starts old starts) ≤ length starts
 starts_few old starts = let few = starts_kept_few old [] starts in omega (arith, few)
 
--- the costs of states none of which costs more than the greatest
+-- the sum of the costs of states, none of which exceeds the greatest cost
 sum_cheap :
     (most : ℕ) (rows : List Row) → ((r : Row) → IsIn rows r → cost r.state ≤ most)
     → sum_by row_cost rows ≤ length rows * most
@@ -123,7 +123,7 @@ sum_cheap most (x ∷ rows) cheap =
     let one : suc (length rows) * most ≡ length rows * most + most = omega arith in
     omega (arith, rest, first, sum, one)
 
--- what a clear leaves has room for one state more
+-- after a clear there is room for one more state
 pub emptied_within :
     (m : Machine) (emptied : Known) (r : Row) → HasBounds m → length emptied.rows ≤ m.slots + 1
     → ((x : Row) → IsIn emptied.rows x → cost x.state ≤ m.greatest) → cost r.state ≤ m.greatest
@@ -134,7 +134,7 @@ emptied_within m emptied r bounds few cheap little =
     (sum_by row_cost emptied.rows) m.fixed m.capacity (cost r.state) few refl
     (sum_cheap m.greatest emptied.rows cheap) bounds.enough little)
 
--- what a cache of the DFA knows
+-- what a cache of the DFA knows is within the bounds
 stored_known : (c : CacheView) → IsStoreOf c.store c.store.table.of → IsKnown c.store.table.of (known_of c)
 stored_known c s = record {
   alive = λ r has. (s.rows.states has.0 r has.1).alive;

@@ -1,4 +1,4 @@
--- What steps and calls for a start state make of what a cache knows.
+-- The effect of steps and of calls for a start state on what a cache knows.
 use Rattle.std.proofs.Common.{ℕ, ◌≡◌, ◌∙◌, ◌*◌, ◌<◌, ◌≤◌, Option, Some, true, false, cond, refl, sym, ap}
 use Rattle.std.proofs.Common.{subst, arith}
 use Rattle.automata_hybrid.proofs.Words.{after_event, Anchored, CacheView, counted_in_store, Event, EventFails, find_id}
@@ -18,18 +18,18 @@ use Rattle.automata_hybrid.proofs.Known.Events.{cached_known, gives_up_known, ma
 use Rattle.automata_hybrid.proofs.Searches.PassState.{false_true}
 use Rattle.automata_hybrid.proofs.Steps.Steps.{step_unknown}
 
--- an event over what is cached changes nothing
+-- an event that asks for something cached changes nothing
 pub after_cached :
     (m : Machine) (e : Event) (come c : Known) → is_cached m e c ≡ true → after_event m e come c ≡ Some c
 after_cached m e come c known = ap (λ b. cond b (Some c) (made m e come)) known
 
--- and else makes what it asks for
+-- any other event makes what it asks for
 after_made :
     (m : Machine) (e : Event) (come c new : Known) → is_cached m e c ≡ false → made m e come ≡ Some new
     → after_event m e come c ≡ Some new
 after_made m e come c new unknown makes = ap (λ b. cond b (Some c) (made m e come)) unknown ∙ makes
 
--- the IDs of what a cache knows are those of its rows
+-- the IDs in what a cache knows are the IDs of its rows
 named_in :
     (m : Machine) (c : CacheView) (q : Powerset) (id : ℕ) → IsStoreOf c.store m → id_in m (known_of c) q ≡ Some id
     → Names c.store.table id q
@@ -61,7 +61,7 @@ pub cached_step :
 cached_step m id unit c machine is sound below knows clean q named =
     (cached_known m (Step q unit) c machine (clean, below) is sound).0 (id, named, knows)
 
--- a step by a transition that is cached
+-- a step on a cached transition
 pub cached_run :
     (m : Machine) (id : ℕ) (unit : Option ℕ) (c : CacheView) → IsMachine m → IsUnit unit → IsStoreOf c.store m
     → unit_class m unit < m.stride → KnowsStep m c.store id unit → IsStepRun m id unit (known_of c) (known_of c)
@@ -72,7 +72,7 @@ cached_run m id unit c machine is sound below knows = record {
       (cached_step m id unit c machine is sound below knows clean q (named_in m c q id sound named));
 }
 
--- a step by one that is not
+-- a step on a transition that is not cached
 module _ (m : Machine) (id : ℕ) (unit : Option ℕ) (old new : CacheView) (machine : IsMachine m) (is : IsUnit unit)
     (sound : IsStoreOf old.store m) (low : id < fixed_from) (clean : quits_on m unit ≡ false)
     (below : unit_class m unit < m.stride) (unknown : KnowsStep m old.store id unit → ⊥) where
@@ -108,7 +108,7 @@ module _ (m : Machine) (id : ℕ) (unit : Option ℕ) (old new : CacheView) (mac
     });
   }
 
--- a step that a search has come to, by a transition that is not cached
+-- a step on a transition that is not cached, once a search has reached it
 pub stepped :
     (m : Machine) (id : ℕ) (q : Powerset) (unit : Option ℕ) (at : ℕ) (old new : CacheView) → IsMachine m → IsUnit unit
     → IsStoreOf old.store m → quits_on m unit ≡ false → unit_class m unit < m.stride
@@ -121,7 +121,7 @@ stepped m id q unit at old new machine is sound clean below unknown named run =
     (ap (λ b. cond b (Some (moved at (known_of old))) (made m (Step q unit) (moved at (known_of old)))) (sym none)
     ∙ run.does clean q (names_in m old q id sound named))
 
--- a step that fails, as a search reports it
+-- a failed step, as a search reports it
 pub reported_failure :
     (m : Machine) (q : Powerset) (unit : Option ℕ) (at : ℕ) (come new : Known) (e : StepError)
     → FailsFrom m q unit come new e → EventFails m (Step q unit) at come new (step_error e at)
@@ -130,7 +130,7 @@ reported_failure m q unit at come new (step.Cache err) f =
 reported_failure m q unit at come new step.OutOfMemory f =
     record { unknown = f.unknown; unchanged = f.unchanged; why = LacksMemory refl }
 
--- a start state whose slot is known
+-- a start state whose slot is filled
 pub cached_start_run :
     (m : Machine) (mode : Anchored) (behind : Option ℕ) (slot : ℕ) (c : CacheView) → IsMachine m → IsStoreOf c.store m
     → IsStartSlot m mode behind slot → IsKnownStart c.store slot → IsStartRun m mode behind (known_of c) (known_of c)
@@ -141,7 +141,7 @@ cached_start_run m mode behind slot c machine sound at known = record {
       (λ _. subst (IsKnownStart c.store) at.at known));
 }
 
--- that of a pattern past the last is asked for nowhere
+-- the start state of a pattern that is out of range has no slot, and nothing changes
 pub past_start_run :
     (m : Machine) (mode : Anchored) (behind : Option ℕ) (c : CacheView) → IsMachine m → IsStoreOf c.store m
     → MayStart m mode behind → m.slots ≤ slot_behind m mode behind
@@ -152,7 +152,7 @@ past_start_run m mode behind c machine sound may past = record {
       ((cached_known m (Start mode behind) c machine may tt sound).0 (λ within. absurd (omega (arith, past, within))));
 }
 
--- one whose slot is not known
+-- a start state whose slot is empty
 pub unknown_start :
     (m : Machine) (mode : Anchored) (behind : Option ℕ) (slot : ℕ) (c : CacheView) → IsMachine m → IsStoreOf c.store m
     → IsStartSlot m mode behind slot → (IsKnownStart c.store slot → ⊥)
@@ -162,7 +162,7 @@ unknown_start m mode behind slot c machine sound at unknown =
     (λ cached. unknown (subst (IsKnownStart c.store) (sym at.at)
     (cached (omega (arith, at.at, at.within)))))
 
--- one that is not
+-- a start state that is not cached
 module _ (m : Machine) (mode : Anchored) (behind : Option ℕ) (old new : CacheView) (machine : IsMachine m)
     (sound : IsStoreOf old.store m) (may : MayStart m mode behind)
     (unknown : is_cached m (Start mode behind) (known_of old) ≡ false) where

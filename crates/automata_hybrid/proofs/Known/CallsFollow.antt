@@ -1,4 +1,4 @@
--- What follows of a call of a walk, by what a cache knows.
+-- What follows from a call of a walk, by what a cache knows.
 use Rattle.std.proofs.Common.{ℕ, zero, suc, ◌≡◌, ◌∙◌, ◌+◌, ◌-◌, ◌<◌, ◌≤◌, ◌⊎◌, inl, inr, List, [], ◌∷◌, ◌++◌, length}
 use Rattle.std.proofs.Common.{Bool, true, false, cond, Option, None, Some, refl, sym, ap, subst, arith}
 use Rattle.automata_hybrid.proofs.Words.{after_many, after_unit, begun, behind_offset, counted, Direction, ended}
@@ -39,7 +39,7 @@ use Rattle.automata_hybrid.proofs.Walks.Calls.{clean_here, fresh_at, reported_he
 use Rattle.automata_hybrid.proofs.Walks.Follows.{at_state, next_stops, to_read}
 use Rattle.automata_hybrid.proofs.Walks.Progress.{reads_some, silent_before, walk_reads_before}
 
--- a walk that knows its state has its row
+-- a cache that knows a walk's state has that state's row
 has_row :
     (way : Direction) (m : Machine) (c : Known) (input : Input) (s : Stage) → KnowsItsState way m c input s
     → has_its_row c s ≡ true
@@ -47,7 +47,7 @@ has_row way m c input Fresh knows = refl
 has_row way m c input (At q) knows = knows
 has_row way m c input Ended knows = refl
 
--- a row stays among more rows
+-- a state that has a row still has one among more rows
 row_in_more :
     (rows more : List Row) (q : Powerset) → is_some (row_in rows q) ≡ true → is_some (row_in (rows ++ more) q) ≡ true
 row_in_more [] more q has = absurd (false_true has)
@@ -59,7 +59,7 @@ row_in_more (x ∷ rows) more q has = go (powerset_eq q x.state) has (row_in_mor
   go true has rest = refl
   go false has rest = rest has
 
--- what a walk goes on from stays where nothing is cleared
+-- what a walk continues from stays cached until a clear
 state_still :
     (way : Direction) (m : Machine) (input : Input) (s : Stage) (old new : Known) → IsGrown m old new
     → ClearedNothing old new
@@ -72,7 +72,7 @@ state_still way m input (At q) old new grown nothing knows =
     (row_in_more old.rows kept.added q knows)
 state_still way m input Ended old new grown nothing knows = tt
 
--- nothing is cleared where there is room, also for the state where a walk stands
+-- nothing is cleared if there is room, including room for the walk's current state
 call_clears_none :
     (m : Machine) (old new : Known) (s : Stage) (n : ℕ) → IsGrown m old (counted new)
     → (has_its_row old s ≡ true → IsGrown m old new) → new.count ≤ old.count + n + start_count s → HasRoom m old (n + 1)
@@ -84,7 +84,7 @@ call_clears_none m old new (At q) n whole there few room =
 call_clears_none m old new Ended n whole there few room =
     clears_none m old new (n + 1) (there refl) (omega (arith, few)) room
 
--- one unit more
+-- one more unit
 units_more :
     (way : Direction) (m : Machine) (input : Input) (from n : ℕ) (c mid new : Known)
     → after_many (pass_trace way m input) way m input from n c ≡ Some mid
@@ -94,7 +94,7 @@ unfolding after_many
 units_more way m input from n c mid new run here =
     ap (option_and_then (after_unit (pass_trace way m input) way m input (from + n))) run ∙ here
 
--- a walk has what it goes on from
+-- a walk was resumed
 record Resumed (way : Direction) (m : Machine) (input : Input) (s : Stage) (old base : Known) : Type 0 where
   pub may : MayStart m input.anchored (tape_in way input).before
   pub sound : IsKnown m base
@@ -105,7 +105,7 @@ record Resumed (way : Direction) (m : Machine) (input : Input) (s : Stage) (old 
   pub back : (q : Powerset) → s ≡ At q → with_row_back m q old ≡ Some base
   pub learned : KnowsItsState way m base input s
 
--- it has it not
+-- a walk could not be resumed
 record Unresumed (way : Direction) (m : Machine) (input : Input) (s : Stage) (old new : Known)
     (e : SearchError) : Type 0 where
   pub cost : new.count ≤ old.count + start_count s
@@ -149,7 +149,7 @@ module _ (way : Direction) (m : Machine) (input : Input) (bounds : HasBounds m) 
       }
   has_resumed old base sound Ended at may is = absurd (none_some is)
 
-  -- a call has begun, from what it goes on from
+  -- a call has resumed its walk and begun its search
   record Began (old first : Known) : Type 0 where
     pub base : Known
     pub has : Resumed way m input w.stage old base
@@ -185,7 +185,7 @@ module _ (way : Direction) (m : Machine) (input : Input) (bounds : HasBounds m) 
       (its.0 (w.units + i) (omega arith) (omega (arith, is, count))).0.0 in
       omega (arith, is, one, tape_few way input)
 
-  -- nothing changes then
+  -- it could not be resumed, and nothing has changed
   unmoved :
       (old new : Known) (e : SearchError) (s : Stage) → IsKnown m old → new ≡ old
       → ((MayStart m input.anchored (tape_in way input).before → KnowsItsState way m old input s) → IsOfInput e)
@@ -242,7 +242,7 @@ module _ (way : Direction) (m : Machine) (input : Input) (bounds : HasBounds m) 
         still same (λ has. false_true (ap (λ (o : Option Row). is_some o) (sym lacks) ∙ has))
   not_resumed old new e sound Ended at fails = absurd fails
 
-  -- a call that went on from there, and stepped over so many units at most
+  -- a call that resumed its walk and read at most `n` units
   module _ (old base new : Known) (r : Resumed way m input w.stage old base)
       (reads : IsToRead input w.stage w.units w.reported)
       (grown : IsGrown m base new) (sound : IsKnown m new) (n : ℕ) (few : new.count ≤ base.count + n)
@@ -333,14 +333,14 @@ module _ (way : Direction) (m : Machine) (input : Input) (bounds : HasBounds m) 
         grown_trans m base (begun (given_up_offset way input w.units) base) mid
         (grown_still m base (begun (given_up_offset way input w.units) base) refl) grown
 
-    -- each unit that is read is cached
+    -- the transition on each unit that is read is cached
     uses :
         (n : ℕ) → ((j : ℕ) → w.units ≤ j → j < w.units + n → WalkReads way m input j × IsSilent way m input w.units j)
         → ((j : ℕ) → j < w.units + n → HasReadNoQuit way m input (suc j)) → KnowsUnits way m base input w.units k
         → (j : ℕ) → w.units ≤ j → j < w.units + n → KnowsUnit way m base input j
     uses n each clean knows j more less = knows j more (each j more less).0 (clean j less) ((each j more less).1 k here)
 
-    -- the units were read, and then no more were
+    -- the units were read, and the call ended after the last of them
     call_reads :
         (keeping : Keeping) (next : Walk) (new mid : Known) (n : ℕ) → ReportsNext way m input w next
         → next.units ≡ w.units + n → ReadsItsUnits way m input w next → ReadsNoQuit way m input w.units n
@@ -397,7 +397,7 @@ module _ (way : Direction) (m : Machine) (input : Input) (bounds : HasBounds m) 
         known j t i more walks by nothing (inr past) =
             absurd (next_stops way m input skips w k reported next j (reports j t).0 its.1 i past walks by)
 
-    -- it failed after so many units
+    -- the call failed after `n` units
     module _ (keeping : Keeping) (next : Walk) (new mid : Known) (e : SearchError) (n : ℕ)
         (walks : WalkReads way m input (w.units + n)) (clean : HasReadNoQuit way m input (w.units + n))
         (silent : IsSilent way m input w.units (w.units + n))
@@ -416,7 +416,7 @@ module _ (way : Direction) (m : Machine) (input : Input) (bounds : HasBounds m) 
       clean_before : (j : ℕ) → j < w.units + n → HasReadNoQuit way m input (suc j)
       clean_before j less i byte before unit = clean i byte (omega (arith, before, less)) unit
 
-      -- at the next one
+      -- reading the next unit fails
       call_stops :
           UnitFails way m input (w.units + n) mid new e → CallFollows keeping way m input w next old new (Some e)
       call_stops fails =
@@ -441,7 +441,7 @@ module _ (way : Direction) (m : Machine) (input : Input) (bounds : HasBounds m) 
           l : Leaves way m input (w.units + n) mid new e
           l = unit_leaves way m input (w.units + n) mid new e clean g.sound fails
 
-      -- or after it, since the state cannot be held
+      -- the next unit is read, but the state after it cannot be held
       call_unheld :
           IsUnheld way m input (w.units + n) e
           → after_unit (pass_trace way m input) way m input (w.units + n) mid ≡ Some new
@@ -470,7 +470,7 @@ module _ (way : Direction) (m : Machine) (input : Input) (bounds : HasBounds m) 
                 no_quit_unit m (unit_at (tape_in way input) (w.units + n)) unheld.clean byte
                 (ap (unit_at (tape_in way input)) place ∙ unit)
 
-  -- what a call that answered leaves: the units read lie in the span, and their transitions are cached
+  -- what a call that returns Ok leaves: the units read lie in the span, and their transitions are cached
   pub record Reads (next : Walk) (old new : Known) : Type 0 where
     pub few : w.units ≤ input.end - input.start + 1 → next.units ≤ input.end - input.start + 1
     pub learned :
@@ -517,7 +517,7 @@ module _ (way : Direction) (m : Machine) (input : Input) (bounds : HasBounds m) 
         grown_trans m b.base parts.0 new
         (grows old b.base b.has (to_read way m input skips w k reported c.some) parts.0 g.grown) last
 
-  -- a call that answered
+  -- a call that returns Ok
   pub call_ended :
       (keeping : Keeping) (next : Walk) (old new : Known) → IsKnown m old → ReportsNext way m input w next
       → CallEnds way m input w next old new → CallFollows keeping way m input w next old new None
@@ -545,7 +545,7 @@ module _ (way : Direction) (m : Machine) (input : Input) (bounds : HasBounds m) 
       call_reads old b.base b.has (to_read way m input skips w k reported c.some) keeping next new parts.0 c.units
       reports c.counted c.its c.clean (from_base old c.begun b c.units parts.0 parts.1) parts.2
 
-  -- a call that failed
+  -- a call that returns an error
   pub call_left :
       (keeping : Keeping) (next : Walk) (old new : Known) (e : SearchError) → IsKnown m old
       → CallFails keeping way m input w old new e → CallFollows keeping way m input w next old new (Some e)
@@ -594,7 +594,7 @@ module _ (way : Direction) (m : Machine) (input : Input) (bounds : HasBounds m) 
         call_unheld old b.base b.has r States next new s.mid e s.units s.reads s.clean s.silent run unheld read
         (IsHoldError refl (w.units + s.units) (omega arith) unheld)
 
--- each call
+-- what follows from every call
 pub calls_follow : (m : Machine) → HasBounds m → Skips m ⊎ (Skips m → ⊥) → CallsFollow m
 calls_follow m bounds skips keeping way input walk next old new None sound (k, reported) reports run =
     call_ended way m input bounds skips walk k reported keeping next old new sound reports run

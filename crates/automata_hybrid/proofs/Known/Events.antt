@@ -1,4 +1,4 @@
--- The laws of an event: what is cached, what is made, and when a call gives up.
+-- The laws of events: what is cached, what is made, and when a call gives up.
 use Rattle.std.proofs.Common.{◌≡◌, ◌∙◌, ℕ, ◌^◌, ◌<◌, ◌≤◌, ◌⊎◌, inl, inr, length, Bool, true, false, cond, Option, None}
 use Rattle.std.proofs.Common.{Some, get_or, slice_get, refl, sym, ap, subst, arith}
 use Rattle.automata_hybrid.proofs.Words.{Anchored, CacheView, cell_at, Event, GivesUpInStore, has_state, id_of, is_some}
@@ -21,7 +21,7 @@ use Rattle.automata_hybrid.proofs.Known.Rows.{HasPlaces, NamedRow, named_row, pl
 use Rattle.automata_hybrid.proofs.Known.Starts.{IsNamed, NamesDead, NamesNone, NamesRow, slot_named}
 use Rattle.automata_hybrid.proofs.Known.Steps.{HasSteps, is_known_at, steps_there}
 
--- rows have a transition at the class of each unit that is no quit byte
+-- rows have a transition at the class of each unit that is not a quit byte
 unit_steps :
     (m : Machine) (unit : Option ℕ) → IsMachine m → IsUnit unit → quits_on m unit ≡ false → unit_class m unit < m.stride
     → HasSteps m (unit_class m unit)
@@ -33,7 +33,7 @@ pub store_places : (m : Machine) (c : Stored) → IsMachine m → IsStoreOf c m 
 store_places m c machine s =
     places_of c.table (subst (λ (d : Machine). 0 < d.stride) (sym s.of) machine.template.positive) s.small s.wide s.rows
 
--- an ID is known exactly if it names a start
+-- an ID is below the unknown ID exactly if it names a start state
 named_known :
     (t : Rows) (id : ℕ) (start : Option Powerset) → HasPlaces t → IsNamed t id start
     → (id < unknown_id) ↔ (is_some start ≡ true)
@@ -47,7 +47,7 @@ named_known t id start p (NamesRow q n f) =
     let low : id < 2 ^ 29 = r.low in
     (λ l. ap is_some f, λ h. omega (arith, low))
 
--- a start state that is cached
+-- a start state is cached exactly if the cache knows it
 cached_start :
     (m : Machine) (mode : Anchored) (behind : Option ℕ) (c : CacheView) → IsMachine m → IsStoreOf c.store m
     → IsCached m c.store (Start mode behind) ↔ (events.is_cached m (Start mode behind) (known_of c) ≡ true)
@@ -91,7 +91,7 @@ cached_start m mode behind c machine s = go (slice_get c.store.starts (slot_behi
         named_known c.store.table id (start_named c.store.table id) places
         (slot_named c.store.table (slot_behind m mode behind) id places (s.starts (slot_behind m mode behind) id e))
 
--- a transition that is cached
+-- a transition is cached exactly if the cache knows it
 cached_step :
     (m : Machine) (q : Powerset) (unit : Option ℕ) (c : CacheView) → HasSteps m (unit_class m unit)
     → IsStoreOf c.store m
@@ -123,14 +123,14 @@ cached_step m q unit c has s = (there, back) where
   back : events.is_cached m (Step q unit) (known_of c) ≡ true → IsCached m c.store (Step q unit)
   back h = at (id_of c.store.table q) refl (sym read ∙ h)
 
--- what may be asked for is cached exactly if the cache knows it
+-- what an event may ask for is cached exactly if the cache knows it
 pub cached_known :
     (m : Machine) (e : Event) (c : CacheView) → IsMachine m → MayAsk m e → AsksForUnit e → IsStoreOf c.store m
     → IsCached m c.store e ↔ (events.is_cached m e (known_of c) ≡ true)
 cached_known m (Start mode behind) c machine may is s = cached_start m mode behind c machine s
 cached_known m (Step q unit) c machine may is s = cached_step m q unit c (unit_steps m unit machine is may.0 may.1) s
 
--- and is not, if it does not
+-- the cache does not know what is not cached
 pub uncached_known :
     (m : Machine) (e : Event) (c : CacheView) → IsMachine m → MayAsk m e → AsksForUnit e → IsStoreOf c.store m
     → (IsCached m c.store e → ⊥) → events.is_cached m e (known_of c) ≡ false
@@ -141,7 +141,7 @@ uncached_known m e c machine may is s not = go (cases_Bool (events.is_cached m e
   go (inl h) = absurd (not ((cached_known m e c machine may is s).1 h))
   go (inr h) = h
 
--- what is made of a cache, by the machine that its table is of
+-- the effect of an event on a cache, by the machine of its table
 made_here :
     (e : Event) (come new : CacheView) → IsMachine come.store.table.of → IsStoreOf come.store come.store.table.of
     → IsStoreOf new.store come.store.table.of → MayAsk come.store.table.of e → AsksForUnit e

@@ -1,4 +1,4 @@
--- How what a cache knows grows: steps and searches one after another, and room for more states.
+-- How what a cache knows grows: over steps and searches one after another, and while there is room for more states.
 use Rattle.std.proofs.Common.{◌≡◌, ◌∙◌, ℕ, ◌+◌, ◌-◌, ◌*◌, ◌<◌, ◌≤◌, ◌⊎◌, inl, inr, List, [], ◌∷◌, ◌++◌, length, Bool}
 use Rattle.std.proofs.Common.{true, Some, refl, sym, ap, subst, arith, append_assoc, append-nil, length-append}
 use Rattle.automata_hybrid.proofs.Words.{cell_size, cost, counted, entry_size, fits, fixed_rows_cost, is_cached, Known}
@@ -10,13 +10,13 @@ use Rattle.std.proofs.lemmas.List.Sums.{sum_by_push}
 use Rattle.automata_hybrid.specs.Cache.Usage.{row_usage}
 use Rattle.automata_hybrid.specs.Known.Growth.{ClearedNothing, HasRoom, HasRow, IsGrown, IsStartRow, IsStill, Keeps}
 
--- the accounted bytes, by the rows
+-- the accounted bytes, computed from the rows
 abbrev usage_of : Machine → List Row → ℕ
 usage_of m rows =
     cell_size * ((length rows + 3) * m.stride) + cell_size * m.slots + row_size * (length rows + 3)
     + entry_size * (length rows + 1) + fixed_rows_cost + sum_by row_cost rows + m.fixed
 
--- room is by the rows alone
+-- whether there is room depends only on the rows
 pub room_by : (m : Machine) (old new : Known) (n : ℕ) → new.rows ≡ old.rows → HasRoom m old n → HasRoom m new n
 room_by m old new n same room = record {
   capacity =
@@ -52,7 +52,7 @@ used_more m c r =
 pub used_by : (m : Machine) (old new : Known) → new.rows ≡ old.rows → usage m new ≡ usage m old
 used_by m old new same = ap (usage_of m) same
 
--- two tests of which both hold, as those of what fits
+-- both tests of whether a state fits succeed
 pub both_fit : (a b x y : ℕ) → a ≤ b → x < y → (nat_le a b && nat_lt x y) ≡ true
 both_fit a b x y le lt = grind (arith, nat_tests)
 
@@ -65,7 +65,7 @@ pub fits_within :
 fits_within m c q fit =
     (fit_both (usage m c + row_usage m + cost q) m.capacity ((length c.rows + 3) * m.stride) offset_limit fit).0
 
--- a state of the greatest cost takes the room of one
+-- a state that costs at most the greatest cost takes at most the room for one
 one_room :
     (used n row most extra capacity : ℕ) → extra ≤ most → used + (n + 1) * (row + most) ≤ capacity
     → used + row + extra + n * (row + most) ≤ capacity
@@ -75,7 +75,7 @@ one_room used n row most extra capacity little room =
 
 module _ (m : Machine) (c : Known) (r : Row) (n : ℕ) (cheap : cost r.state ≤ m.greatest) (room : HasRoom m c (n + 1))
   where
-    -- it leaves room for the others
+    -- adding it leaves room for the others
     pub room_left : HasRoom m (with_row r c) n
     room_left = record {
       capacity =
@@ -88,7 +88,7 @@ module _ (m : Machine) (c : Known) (r : Row) (n : ℕ) (cheap : cost r.state ≤
           omega (arith, last, room.offsets));
     }
 
-    -- and fits
+    -- it fits
     pub room_fits : fits m c r.state ≡ true
     room_fits =
         let one = one_room (usage m c) n (row_usage m) m.greatest (cost r.state) m.capacity cheap room.capacity in
@@ -101,7 +101,7 @@ module _ (m : Machine) (c : Known) (r : Row) (n : ℕ) (cheap : cost r.state ≤
         first : (a b most : ℕ) → a + b ≤ most → a ≤ most
         first a b most l = omega (arith, l)
 
--- nothing lost, and again nothing
+-- losing nothing is transitive
 keeps_trans : (a b c : Known) → Keeps a b → Keeps b c → Keeps a c
 keeps_trans a b c f g = record {
   added = f.added ++ g.added;
@@ -109,7 +109,7 @@ keeps_trans a b c f g = record {
   steps = λ q class known. g.steps q class (f.steps q class known);
 }
 
--- a row of a start state that is cached is one still
+-- the row of a cached start state remains one
 start_still :
     (m : Machine) (old new : Known) (r : Row) → IsGrown m old new
     → IsStartRow m old r → IsStartRow m new r
@@ -160,7 +160,7 @@ pub grown_same : (m : Machine) (old new : Known) → new ≡ old → IsGrown m o
 grown_same m old new same =
     grown_still m old new (subst (λ (c : Known). IsStill old c) (sym same) refl)
 
--- what cleared nothing in all cleared nothing in each part
+-- if nothing was cleared overall, nothing was cleared in either part
 pub nothing_first :
     (m : Machine) (a b c : Known) → IsGrown m a b → IsGrown m b c → ClearedNothing a c → ClearedNothing a b
 nothing_first m a b c f g e = (omega (arith, e.0, f.clears, g.clears), e.1)
@@ -169,7 +169,7 @@ pub nothing_second :
     (m : Machine) (a b c : Known) → IsGrown m a b → IsGrown m b c → ClearedNothing a c → ClearedNothing b c
 nothing_second m a b c f g e = (omega (arith, e.0, f.clears, g.clears), omega (arith, e.0, e.1, f.clears, g.clears))
 
--- one after another
+-- growth is transitive
 pub grown_trans : (m : Machine) (a b c : Known) → IsGrown m a b → IsGrown m b c → IsGrown m a c
 grown_trans m a b c f g = record {
   counted = omega (arith, f.counted, g.counted);
@@ -198,14 +198,14 @@ grown_trans m a b c f g = record {
   late r started (inl mid) = early r (f.tagged r mid started)
   late r started (inr start) = inr start
 
--- nothing is cleared if there is room for all that is determinized
+-- nothing is cleared if there is room for everything that is determinized
 pub clears_none :
     (m : Machine) (old new : Known) (n : ℕ) → IsGrown m old new → new.count ≤ old.count + n → HasRoom m old n
     → new.clears ≡ old.clears
 clears_none m old new n grown few room =
     (grown.roomy 0 (room_less m old n (0 + (new.count - old.count)) (omega (arith, few)) room)).1
 
--- the same of two caches with one count more
+-- the same for two caches with one more count
 grown_both : (m : Machine) (old new : Known) → IsGrown m old new → IsGrown m (counted old) (counted new)
 grown_both m old new g = record {
   counted = omega (arith, g.counted);
@@ -224,7 +224,7 @@ grown_both m old new g = record {
   again r (inl had) = inl had
   again r (inr s) = inr (record { mode = s.mode; behind = s.behind; row = s.row; known = s.known })
 
--- a state put back counts as one determinization would
+-- putting back a state counts as one determinization
 pub grown_after :
     (m : Machine) (old between new : Known) → IsGrown m old (counted between) → IsGrown m between new
     → IsGrown m old (counted new)
@@ -234,7 +234,7 @@ grown_after m old between new f g =
 pub grown_less : (m : Machine) (old new : Known) → IsGrown m old new → IsGrown m old (counted new)
 grown_less m old new g = grown_trans m old new (counted new) g (grown_counted m new (counted new) refl)
 
--- what cleared nothing, though a state was put back before, cleared nothing after that
+-- if nothing was cleared overall, nothing was cleared after the state was put back
 pub nothing_after :
     (m : Machine) (old between new : Known) → IsGrown m old (counted between) → IsGrown m between new
     → ClearedNothing old new → ClearedNothing between new

@@ -1,4 +1,4 @@
--- What an event makes of a cache is what it makes of what the cache knows.
+-- The effect of an event on a cache agrees with its effect on what the cache knows.
 use Rattle.std.proofs.Common.{◌≡◌, ◌∙◌, ℕ, ◌+◌, ◌^◌, ◌<◌, List, [], ◌∷◌, ◌++◌, false, cond, Option, None}
 use Rattle.std.proofs.Common.{Some, refl, sym, ap, subst}
 use Rattle.automata_hybrid.proofs.Words.{cleared_in_store, grown, id_of, IsComputed, IsStarted, IsStoreOf, keep_row}
@@ -24,7 +24,7 @@ use Rattle.automata_hybrid.proofs.Known.Steps.{HasSteps, added_step, unwritten_s
 abbrev pub starts_in : Stored → List (Option Powerset)
 starts_in c = map (start_named c.table) c.starts
 
--- a cache that a clear has left with this table and these slots
+-- the cache after a clear that leaves this table and these slots
 abbrev pub emptied_with : Stored → Rows → List ℕ → Stored
 emptied_with old t ids = record {
   table = t;
@@ -33,7 +33,7 @@ emptied_with old t ids = record {
   searched = progress_cleared old.searched;
 }
 
--- with one more row it knows that row
+-- a cache with one more row knows that row
 grown_known :
     (c : Stored) (n : ℕ) (r : Row) → IsStoreOf c c.table.of → HasPlaces (with_row_in_store c.table r)
     → id_of c.table r.state ≡ None
@@ -52,7 +52,7 @@ grown_known c n r s p none = λ i. record {
       (AreNamed-more c.table r c.starts (starts_in c)
       (AllStarts-named c.table c.starts (places_before c.table r p) s.starts))
 
--- a cache that was cleared knows what was kept
+-- a cleared cache knows what was kept
 emptied_known :
     (old : Stored) (t : Rows) (ids : List ℕ) (n : ℕ) (r : Row) (rows : List Row)
     → IsKept old.table (starts_in old) rows (record { table = t; starts = ids }) → HasPlaces (with_row_in_store t r)
@@ -111,7 +111,7 @@ written_known c n from class next q p named has low = λ i. record {
   count = n + 1;
 }
 
--- and a start
+-- a start state is written
 begun_known :
     (c : Stored) (n slot id : ℕ) (q : Powerset) → HasPlaces c.table → Leads c.table id q
     → events.with_start slot q (known_with c n) ≡ known_with (with_start_in_store c slot id) (n + 1)
@@ -204,7 +204,7 @@ module _ (old new : Stored) (n : ℕ) (s : IsStoreOf old old.table.of) (was : Ha
       steps : HasSteps between.table.of class
       steps = subst (λ (m : Machine). HasSteps m class) (sym of ∙ ap (λ (c : Stored). c.table.of) e) has
 
-  -- a start is computed
+  -- a start state is computed
   pub started_known :
       (slot id : ℕ) (r : Row) → IsStarted old slot r new id
       → option_map (events.with_start slot r.state) (events.with_state old.table.of (known.cleared before) r before)

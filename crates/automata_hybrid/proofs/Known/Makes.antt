@@ -1,4 +1,4 @@
--- What follows of an event, by what a cache knows: how the cache grows, and what is cached then.
+-- What follows from an event, by what a cache knows: how the cache grows, and what is cached afterwards.
 use Rattle.std.proofs.Common.{◌≡◌, ◌∙◌, ℕ, zero, suc, ◌+◌, ◌-◌, ◌^◌, ◌<◌, ◌≤◌, ◌⊎◌, inl, inr, List, [], ◌∷◌, ◌++◌}
 use Rattle.std.proofs.Common.{length, Bool, true, false, cond, Option, None, Some, refl, sym, ap, subst, arith, ⊎_elim}
 use Rattle.std.proofs.Common.{append-nil, length-set}
@@ -30,14 +30,14 @@ use Rattle.automata_hybrid.proofs.Known.Growth.{fits_within, used_by, used_more,
 use Rattle.automata_hybrid.proofs.Known.Growth.{grown_trans, room_by, room_fits, room_left, room_less}
 use Rattle.automata_hybrid.proofs.Searches.PassState.{false_true}
 
--- an element that was written is there
+-- reading a written element gives the new value
 set_same :
     {X : Type 0} (xs : List X) (k : ℕ) (x v : X) → slice_get xs k ≡ Some x → slice_get (slice_set xs k v) k ≡ Some v
 set_same [] k x v has = absurd (none_some has)
 set_same (y ∷ xs) zero x v has = refl
 set_same (y ∷ xs) (suc k) x v has = set_same xs k x v has
 
--- and another is as it was
+-- any other element is unchanged
 set_other :
     {X : Type 0} (xs : List X) (k j : ℕ) (v : X) → (j ≡ k → ⊥) → slice_get (slice_set xs k v) j ≡ slice_get xs j
 set_other [] k j v other = refl
@@ -46,7 +46,7 @@ set_other (y ∷ xs) zero (suc j) v other = refl
 set_other (y ∷ xs) (suc k) zero v other = refl
 set_other (y ∷ xs) (suc k) (suc j) v other = set_other xs k j v (λ e. other (ap suc e))
 
--- what a clear leaves, with or without a state that it saves
+-- what a clear leaves, with or without a saved state
 record Empties (old emptied : Known) : Type 0 where
   pub clears : emptied.clears ≡ saturated (old.clears + 1)
   pub starts : emptied.starts ≡ old.starts
@@ -86,7 +86,7 @@ absent_alive c q free dies =
     let same : powerset_eq q dead ≡ true = (powerset_eq-Decides q dead).1 dies in
     false_true (sym free ∙ ap (λ b. b || is_some (row_in c.rows q)) same)
 
--- how a row is there
+-- how a row comes to be there
 data IsAdded (m : Machine) (emptied : Known) (r : Row) (old new : Known) : Type 0 where
   WasThere : has_state old r.state ≡ true → new ≡ old → IsAdded m emptied r old new
   DidFit :
@@ -123,7 +123,7 @@ added m emptied r old new is = there (has_state old r.state) refl is where
   there true has is = WasThere has (sym (some_inj is))
   there false free is = absent (fits m old r.state) free refl is
 
--- the start states stay then
+-- adding the row does not change the start states
 starts_between :
     (m : Machine) (emptied : Known) (r : Row) (old between : Known) → emptied.starts ≡ old.starts
     → IsAdded m emptied r old between → between.starts ≡ old.starts
@@ -131,7 +131,7 @@ starts_between m emptied r old between same (WasThere there e) = ap (λ (c : Kno
 starts_between m emptied r old between same (DidFit free fit e) = ap (λ (c : Known). c.starts) e
 starts_between m emptied r old between same (WasCleared free full allows e) = ap (λ (c : Known). c.starts) e ∙ same
 
--- what is written then
+-- what writing a transition or a start state changes
 record Writes (m : Machine) (old new : Known) : Type 0 where
   pub rows : new.rows ≡ old.rows
   pub clears : new.clears ≡ old.clears
@@ -143,7 +143,7 @@ record Writes (m : Machine) (old new : Known) : Type 0 where
   pub steps : (q : Powerset) (class : ℕ) → old.steps q class ≡ true → new.steps q class ≡ true
   pub searched : new.searched ≡ old.searched
 
--- what follows of an event whose state is determinized
+-- what follows from an event whose state is determinized
 record Determinizes (m : Machine) (e : Event) (old new : Known) : Type 0 where
   pub grown : IsGrown m old new
   pub counted : new.count ≡ old.count + 1
@@ -152,7 +152,7 @@ record Determinizes (m : Machine) (e : Event) (old new : Known) : Type 0 where
   pub rows : (r : Row) → HasRow new r → HasRow old r ⊎ ((r ≡ asked_row m e) × (has_state old r.state ≡ false))
   pub clears : ClearsFor m (asked_row m e) old new
 
--- a state is added, and then something written
+-- a state is added, and then a transition or a start state is written
 module _ (m : Machine) (emptied : Known) (r : Row) (old between new : Known) (sound : IsKnown m old)
     (bounds : HasBounds m) (cheap : cost r.state ≤ m.greatest) (empties : Empties old emptied)
     (adds : IsAdded m emptied r old between)
@@ -175,7 +175,7 @@ module _ (m : Machine) (emptied : Known) (r : Row) (old between new : Known) (so
       (subst (λ (s : List (Option Powerset)). is_cached m (Start mode behind) (record between { starts = s }) ≡ true)
       (sym (starts_between m emptied r old between empties.starts adds)) has)
 
-  -- the count of clears stays or rises by one
+  -- the count of clears is unchanged or rises by one
   clears_after : (new.clears ≡ old.clears) ⊎ (new.clears ≡ saturated (old.clears + 1))
   clears_after = go adds where
     go : IsAdded m emptied r old between → (new.clears ≡ old.clears) ⊎ (new.clears ≡ saturated (old.clears + 1))
@@ -247,7 +247,7 @@ module _ (m : Machine) (emptied : Known) (r : Row) (old between new : Known) (so
     go (WasCleared free full allows e) is =
         last free (from (in_more emptied.rows r x (subst (λ (c : Known). HasRow c x) e is)))
 
-  -- it is still what a cache of the DFA knows
+  -- what is known then still satisfies `IsKnown`
   sound_made : IsKnown m new
   sound_made = record {
     alive = λ x has. alive x (rows_made x has);
@@ -280,7 +280,7 @@ module _ (m : Machine) (emptied : Known) (r : Row) (old between new : Known) (so
         (emptied_within m emptied r bounds (few empties.few sound.slots)
         (λ x has. sound.cheap x (empties.rows x has)) cheap)
 
-  -- and the cache is cleared for it alone
+  -- the cache is cleared only for this row
   clears_made : ClearsFor m r old new
   clears_made = go adds where
     go : IsAdded m emptied r old between → ClearsFor m r old new
@@ -323,14 +323,14 @@ module _ (m : Machine) (emptied : Known) (r : Row) (old between new : Known) (so
     clears = subst (λ (y : Row). ClearsFor m y old new) asked clears_made;
   }
 
--- a state that is put back counts as one that is determinized
+-- what follows from putting back a state: the cache grows as by one determinization
 pub record BackFollows (m : Machine) (q : Powerset) (old new : Known) : Type 0 where
   pub grown : IsGrown m old (counted new)
   pub sound : IsKnown m new
   pub counted_same : new.count ≡ old.count
   -- if it was there, nothing changes
   pub there : is_some (row_in old.rows q) ≡ true → new ≡ old
-  -- it is there then
+  -- it is there afterwards
   pub has : (q ≡ dead → ⊥) → is_some (row_in new.rows q) ≡ true
 
 -- the state of the last row has a row
@@ -403,17 +403,17 @@ back_there m q c has =
     (with_new_row m (cleared c) (record { state = q; started = false }) c))
     (or_right (powerset_eq q dead) (is_some (row_in c.rows q)) has)
 
--- what follows of an event to which a search has come
+-- what follows from an event, once the search has reached it
 pub record Follows (m : Machine) (e : Event) (old new : Known) : Type 0 where
   pub grown : IsGrown m old new
   pub counted : new.count ≤ old.count + 1
   -- if what it asks for was cached, nothing was determinized
   pub known : is_cached m e old ≡ true → new.count ≡ old.count
-  -- it is cached then
+  -- it is cached afterwards
   pub learned : is_cached m e new ≡ true
   pub sound : IsKnown m new
 
--- a slot whose start state is not cached is there
+-- a slot that exists and whose start state is not cached is empty
 slot_free : (o : Option (Option Powerset)) → unwrap_or (option_map is_some o) true ≡ false → o ≡ Some None
 slot_free None free = absurd (false_true (sym free))
 slot_free (Some None) free = refl
@@ -429,11 +429,11 @@ same_step q class b =
     or_left (powerset_eq q q && nat_eq class class) b
     (and_from (powerset_eq q q) (nat_eq class class) ((powerset_eq-Decides q q).1 refl) (grind (arith, nat_tests)))
 
--- a slot has a start state, or is past the last
+-- a slot holds a start state, or is out of range
 abbrev IsFull : List (Option Powerset) → (at : ℕ) → Type 0
 IsFull starts at = unwrap_or (option_map is_some (slice_get starts at)) true ≡ true
 
--- what is not cached is made
+-- what an event asks for is made if it is not cached
 module _ (m : Machine) (old : Known) (sound : IsKnown m old) (bounds : HasBounds m) where
   step_follows :
       (q : Powerset) (unit : Option ℕ) (new : Known)
@@ -530,7 +530,7 @@ module _ (m : Machine) (old : Known) (sound : IsKnown m old) (bounds : HasBounds
           let cached = ap (λ o. unwrap_or (option_map is_some o) true) there in
           record { mode = mode; behind = behind; row = refl; known = cached }
 
--- what is not cached is made, whatever the progress of searches is
+-- the same, whatever the progress of searches
 makes :
     (m : Machine) (old : Known) (s : Searched) (new : Known) → IsKnown m old → HasBounds m → (e : Event)
     → is_cached m e old ≡ false → made m e (record old { searched = s }) ≡ Some new
@@ -542,7 +542,7 @@ makes m old s new sound bounds (Step q unit) free is =
     step_follows m (record old { searched = s }) (known_moved m old s sound) bounds q unit new
     (bounds.cheap (Step q unit)) is
 
--- one event, to which a search has come
+-- one event, once the search has reached it
 module _ (m : Machine) (old : Known) (s : Searched) (new : Known) (sound : IsKnown m old) (bounds : HasBounds m) where
   pub event_follows : (e : Event) → after_event m e (record old { searched = s }) old ≡ Some new → Follows m e old new
   event_follows e is = go (is_cached m e old) refl is where
@@ -570,7 +570,7 @@ module _ (m : Machine) (old : Known) (s : Searched) (new : Known) (sound : IsKno
       d : Determinizes m e (record old { searched = s }) new
       d = makes m old s new sound bounds e free is
 
--- all that follows of an event
+-- what follows from every event
 pub events_follow : (m : Machine) → HasBounds m → EventsFollow m
 events_follow m bounds e old new sound is = go (is_cached m e old) refl is where
   go : (b : Bool) → is_cached m e old ≡ b → cond b (Some old) (made m e old) ≡ Some new → EventFollows m e old new
@@ -597,14 +597,14 @@ events_follow m bounds e old new sound is = go (is_cached m e old) refl is where
     d : Determinizes m e old new
     d = makes m old old.searched new sound bounds e free is
 
--- it determinizes at most once
+-- an event determinizes at most once
 pub event_once : (m : Machine) (e : Event) (old new : Known) → EventFollows m e old new → new.count ≤ old.count + 1
 event_once m e old new f = go (is_cached m e old) refl where
   go : (b : Bool) → is_cached m e old ≡ b → new.count ≤ old.count + 1
   go true cached = omega (arith, ap (λ (c : Known). c.count) (f.known cached))
   go false free = omega (arith, f.computed free)
 
--- a call that fails changes nothing but the count of determinizations
+-- a call that fails changes at most the count of determinizations
 failed :
     (m : Machine) (old new : Known) → IsKnown m old → (new ≡ old) ⊎ (new ≡ counted old) → FailureFollows m old new
 failed m old new sound (inl same) = record {

@@ -1,4 +1,4 @@
--- Where nothing else can prevent it, a call fails with out of memory alone, by what a cache knows.
+-- If nothing else can prevent an answer, the only error of a call is out of memory, by what a cache knows.
 use Rattle.std.proofs.Common.{ℕ, ◌≡◌, ◌∙◌, ◌+◌, ◌≤◌, Bool, true, false, cond, length, Option, None, Some, refl, sym, ap}
 use Rattle.std.proofs.Common.{arith}
 use Rattle.automata_hybrid.proofs.Words.{Backward, CannotStart, CannotStep, cleared, Direction, Err, Event, EventFails}
@@ -20,12 +20,12 @@ use Rattle.automata_hybrid.proofs.Searches.Directions.{later_anchored}
 use Rattle.automata_hybrid.proofs.Searches.PassState.{false_true}
 use Rattle.automata_hybrid.proofs.Searches.Reach.{InReach, behind_reach, is_behind, later_reach, unit_reach}
 
--- with no limit on clears no call gives up
+-- without a limit on clears, a clear is always allowed
 never_refuses :
     (m : Machine) (c : Known) → minimum_cache_clear_count_of m.config ≡ None → refuses_to_clear m c ≡ false
 never_refuses m c free = ap (refuses_past m c) free
 
--- so a state is there then
+-- so a state can always be added
 pub state_made :
     (m : Machine) (emptied : Known) (r : Row) (c : Known) → minimum_cache_clear_count_of m.config ≡ None
     → with_state m emptied r c ≡ None → ⊥
@@ -66,7 +66,7 @@ event_made m (Step q unit) c free none =
     (none_mapped (with_step q (unit_class m unit))
     (with_state m (cleared_saving q c) (asked_row m (Step q unit)) c) none)
 
--- and an event fails with out of memory alone
+-- then the only error of an event is out of memory
 pub event_memory :
     (m : Machine) (e : Event) (at : ℕ) (old new : Known) (error : SearchError)
     → minimum_cache_clear_count_of m.config ≡ None → EventFails m e at old new error → IsMemory error
@@ -75,7 +75,7 @@ event_memory m e at old new error free fails = go fails.why where
   go (GivesUp none is) = absurd (event_made m e old free none)
   go (LacksMemory is) = is
 
--- a pass over a span in whose reach no quit byte is
+-- a pass over a span with no quit byte in reach
 module _ (way : Direction) (m : Machine) (input : Input) (undone : input.start ≤ input.end)
     (few : input.end ≤ length input.haystack) (clean : (byte : ℕ) → InReach input byte → is_quit m.quits byte ≡ false)
     (mode : supports m input.anchored ≡ true) (free : minimum_cache_clear_count_of m.config ≡ None) where
@@ -97,7 +97,7 @@ module _ (way : Direction) (m : Machine) (input : Input) (undone : input.start �
       event_memory m (start_event way input) (offset_in way input 0) old new error free fails
   pass_memory old new error (FailsLater may first starts f) = unit_memory f.place f.mid new error f.reads.0 f.fails
 
--- a search that nothing else can prevent
+-- the only error of a search that nothing else can prevent is out of memory
 pub search_memory :
     (way : Direction) (m : Machine) (input : Input) (old new : Known) (error : SearchError)
     → input.end ≤ length input.haystack → IsUnhindered m input → SearchFails way m input old new error → IsMemory error
@@ -120,7 +120,7 @@ search_memory way m input old new error few free e =
     clean byte r =
         let o : InReach input byte = later_reach way e.passes input byte within r in free.reach o.0 byte o.1 o.2 o.3
 
--- a call of one
+-- the same for the result of a search
 pub call_memory :
     {A : Type 0} (way : Direction) (m : Machine) (input : Input) (old new : Known) (r : Result A SearchError)
     → input.end ≤ length input.haystack → IsUnhindered m input → IsSearchRun way m input old new (result_err r)

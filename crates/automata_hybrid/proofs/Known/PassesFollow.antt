@@ -1,4 +1,4 @@
--- What follows of a pass, by what a cache knows: what it costs, how the cache grows, and what is cached.
+-- What follows from a pass, by what a cache knows: what it costs, how the cache grows, and what is cached afterwards.
 use Rattle.std.proofs.Common.{ℕ, zero, suc, ◌≡◌, ◌∙◌, ◌+◌, ◌-◌, ◌<◌, ◌≤◌, ◌⊎◌, inl, inr, length, true, false, Option}
 use Rattle.std.proofs.Common.{None, Some, refl, sym, ap, subst, arith}
 use Rattle.automata_hybrid.proofs.Words.{after_event, after_many, after_unit, begun, CannotStart, CannotStep, Direction}
@@ -24,14 +24,14 @@ use Rattle.automata_hybrid.proofs.Searches.Follows.{tape_few}
 use Rattle.automata_hybrid.proofs.Searches.PassState.{false_true, reads_before}
 use Rattle.automata_hybrid.proofs.Steps.Steps.{no_quit_unit}
 
--- what is cached stays so where nothing is cleared
+-- what is cached stays cached until a clear
 pub event_still :
     (m : Machine) (e : Event) (old new : Known) → IsGrown m old new → ClearedNothing old new → is_cached m e old ≡ true
     → is_cached m e new ≡ true
 event_still m (Start mode behind) old new grown nothing known = grown.starts mode behind known
 event_still m (Step q unit) old new grown nothing known = (grown.kept nothing).steps q _ known
 
--- and where nothing is determinized
+-- what is cached stays cached if nothing is determinized
 pub event_idle :
     (m : Machine) (e : Event) (old new : Known) → IsGrown m old new → new.count ≡ old.count → is_cached m e old ≡ true
     → is_cached m e new ≡ true
@@ -41,14 +41,14 @@ event_idle m e old new grown same known =
       cached (Start mode behind) is = is
       cached (Step q unit) is = is
 
--- one thing after another
+-- if a chain of two calls has a value, the first call has one
 pub then_some :
     {A B : Type 0} (f : A → Option B) (o : Option A) (y : B) → option_and_then f o ≡ Some y
     → (x : A) × (o ≡ Some x) × (f x ≡ Some y)
 then_some f None y is = absurd (none_some is)
 then_some f (Some x) y is = (x, refl, is)
 
--- what follows of so many units that a run along a trace reads from a place on
+-- what follows from `n` units that a run along a trace reads from a place on
 pub record UnitsFollow (s : Trace) (way : Direction) (m : Machine) (input : Input) (from n : ℕ) (old new : Known) :
     Type 0 where
   pub grown : IsGrown m old new
@@ -56,13 +56,13 @@ pub record UnitsFollow (s : Trace) (way : Direction) (m : Machine) (input : Inpu
   -- if the transition on each unit was cached, nothing was determinized
   pub known :
       ((j : ℕ) → from ≤ j → j < from + n → is_cached m (unit_event s way input j) old ≡ true) → new.count ≡ old.count
-  -- with nothing cleared each is cached then
+  -- if nothing was cleared, each of these transitions is cached then
   pub learned :
       ClearedNothing old new → (j : ℕ) → from ≤ j → j < from + n → is_cached m (unit_event s way input j) new ≡ true
   pub sound : IsKnown m new
 
 module _ (s : Trace) (way : Direction) (m : Machine) (input : Input) (from : ℕ) (bounds : HasBounds m) where
-  -- one more
+  -- one more unit
   one_more :
       (n : ℕ) (old mid new : Known) → UnitsFollow s way m input from n old mid
       → Follows m (unit_event s way input (from + n)) mid new → UnitsFollow s way m input from (suc n) old new
@@ -108,18 +108,18 @@ module _ (s : Trace) (way : Direction) (m : Machine) (input : Input) (from : ℕ
       (event_follows m parts.0 (moved (given_up_offset way input (from + n)) parts.0).searched new f.sound
       bounds (unit_event s way input (from + n)) parts.2)
 
--- what follows of the beginning of a pass, its start state and its first so many units
+-- what follows from the beginning of a pass: its start state and its first `units` units
 record BeginFollows (way : Direction) (m : Machine) (input : Input) (units : ℕ) (old new : Known) : Type 0 where
   pub grown : IsGrown m old new
   pub counted : new.count ≤ old.count + units + 1
   -- a start state that is cached is not determinized again
   pub started : KnowsItsStart way m old input → new.count ≤ old.count + units
-  -- if all that it uses was cached, nothing was determinized
+  -- if everything that it uses was cached, nothing was determinized
   pub known :
       KnowsItsStart way m old input → ((j : ℕ) → j < units → KnowsUnit way m old input j) → new.count ≡ old.count
-  -- its start state is cached then
+  -- its start state is cached afterwards
   pub start : KnowsItsStart way m new input
-  -- and with nothing cleared each of the transitions
+  -- if nothing was cleared, so is each of its transitions
   pub learned : ClearedNothing old new → (j : ℕ) → j < units → KnowsUnit way m new input j
   pub sound : IsKnown m new
 
@@ -165,7 +165,7 @@ module _ (way : Direction) (m : Machine) (input : Input) (bounds : HasBounds m) 
           grown_trans m mid (begun (given_up_offset way input 0) mid) new
           (grown_still m mid (begun (given_up_offset way input 0) mid) refl) g.grown
 
--- what follows of a pass that fails for this, or for nothing
+-- what follows from a pass that returns this error, or none
 pub record PassFollows (way : Direction) (m : Machine) (input : Input) (old new : Known) (error : Option SearchError) :
     Type 0 where
   -- it determinized at most once for each byte of the span, once for its start state, and once at its end
@@ -173,24 +173,24 @@ pub record PassFollows (way : Direction) (m : Machine) (input : Input) (old new 
   -- a start state that is cached is not determinized again
   pub started : KnowsItsStart way m old input → new.count ≤ old.count + (input.end - input.start + 1)
   pub grown : IsGrown m old new
-  -- if all that it uses is cached, it fails because of its input alone, and only the progress of searches changes
+  -- if everything that it uses is cached, it fails only because of its input, and only the progress of searches changes
   pub known : KnowsPass way m old input → IsStill old new × IfSome error IsOfInput
-  -- if it ended and nothing was cleared, all that it used is cached then
+  -- if it ended and nothing was cleared, everything that it used is cached then
   pub learned : ClearedNothing old new → error ≡ None → KnowsPass way m new input
   pub sound : IsKnown m new
 
--- units before a place at which a pass reads one
+-- a pass without a quit byte among its first units has none among fewer units
 clean_before :
     (way : Direction) (m : Machine) (input : Input) (units j : ℕ) → j < units → HasReadNoQuit way m input units
     → HasReadNoQuit way m input (suc j)
 clean_before way m input units j less clean i byte before unit = clean i byte (omega (arith, less, before)) unit
 
--- how a pass leaves the cache that fails at a unit
+-- what follows when a pass fails at a unit
 pub record Leaves (way : Direction) (m : Machine) (input : Input) (place : ℕ) (mid new : Known) (error : SearchError) :
     Type 0 where
   pub grown : IsGrown m mid new
   pub counted : new.count ≤ mid.count + 1
-  -- if the transition there is cached, unless it is a quit byte, it is one
+  -- if the unit is a quit byte or its transition is cached, nothing is determinized, and the input causes the error
   pub known :
       (HasReadNoQuit way m input (suc place) → KnowsUnit way m mid input place)
       → (new.count ≡ mid.count) × IsOfInput error
@@ -229,7 +229,7 @@ module _ (way : Direction) (m : Machine) (input : Input) (place : ℕ) (mid new 
 
 module _ (way : Direction) (m : Machine) (input : Input) (bounds : HasBounds m) (old new : Known)
     (sound : IsKnown m old) where
-  -- a pass has ended
+  -- a pass that ends
   pub pass_ended : PassEnds way m input old new → PassFollows way m input old new None
   pass_ended e = record {
     counted = omega (arith, f.counted, same, few);
@@ -284,7 +284,7 @@ module _ (way : Direction) (m : Machine) (input : Input) (bounds : HasBounds m) 
     before k reads (inl less) = less
     before k reads (inr more) = absurd (u.reads.1 (reads_before way m input u.units k more reads))
 
-  -- nothing has changed
+  -- a pass that fails and changes nothing
   barred : (error : SearchError) → IsOfInput error → new ≡ old → PassFollows way m input old new (Some error)
   barred error of same = record {
     counted = omega (arith, count);
@@ -297,7 +297,7 @@ module _ (way : Direction) (m : Machine) (input : Input) (bounds : HasBounds m) 
     count : new.count ≡ old.count
     count = ap (λ (c : Known). c.count) same
 
-  -- it failed at a unit
+  -- a pass that fails at a unit
   module _ (error : SearchError) (first : Known) (starts : after_start way m input old ≡ Some first)
       (f : FailsAtUnit way m input first new error) where
     b : BeginFollows way m input f.place old f.mid

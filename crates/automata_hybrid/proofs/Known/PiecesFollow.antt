@@ -1,4 +1,4 @@
--- What follows of the calls of a search in pieces, by what a cache knows.
+-- What follows from the calls of a search in pieces, by what a cache knows.
 use Rattle.std.proofs.Common.{ℕ, suc, ◌≡◌, ◌∙◌, ◌+◌, ◌-◌, ◌<◌, ◌≤◌, false, List, length, Option, None, Some, refl, sym}
 use Rattle.std.proofs.Common.{ap, subst, arith}
 use Rattle.automata_hybrid.proofs.Words.{after_event, after_many, begun, CannotStep, cleared, counted, ended, Event}
@@ -25,13 +25,13 @@ use Rattle.automata_hybrid.proofs.Known.PassesFollow.{units_follow}
 use Rattle.automata_hybrid.proofs.Pieces.Follows.{piece_unit}
 use Rattle.automata_hybrid.proofs.Searches.PassState.{false_true}
 
--- what reading at most so many units made of a cache that had the state
+-- what follows from reading at most `units` units with a cache that has the row of the current state
 pub record RowFollows (m : Machine) (units : ℕ) (row new : Known) : Type 0 where
   pub grown : IsGrown m row new
   pub cost : new.count ≤ row.count + units
   pub sound : IsKnown m new
 
--- a call that goes on from a state, which was there or is put back
+-- a call that continues from a state, which was there or was put back
 from_row :
     (m : Machine) (p : PiecesView) (q : Powerset) (units : ℕ) (old row new : Known) → p.state ≡ Some q
     → BackFollows m q old row → RowFollows m units row new → IsCostOfUnits m units p old new
@@ -48,7 +48,7 @@ from_row m p q units old row new stood b f = record {
   whole : IsGrown m old (counted new)
   whole = grown_after m old row new b.grown f.grown
 
--- one that changed nothing
+-- a call that changed nothing
 unchanged :
     (m : Machine) (p : PiecesView) (units : ℕ) (old new : Known) → IsKnown m old → new ≡ old
     → IsCostOfUnits m units p old new
@@ -73,7 +73,7 @@ back_memory m q at old new e free (GivesUpOnIt none is same) =
     absurd (state_made m (cleared old) (record { state = q; started = false }) old free none)
 back_memory m q at old new e free (RunsOutOnIt lacks room is same) = is
 
--- a step that fails, to which the search has come
+-- a step that fails, once the search has reached it
 failed_row :
     (m : Machine) (e : Event) (at : ℕ) (place : ℕ) (row new : Known) (error : SearchError) → IsKnown m row
     → EventFails m e at (moved place row) new error → RowFollows m 1 row new
@@ -87,7 +87,7 @@ failed_row m e at place row new error sound fails = record {
       (known_counted m (moved place row) (known_moved m row (moved place row).searched sound));
 }
 
--- or one at which it ends
+-- a search that ends there
 ended_row :
     (m : Machine) (units place : ℕ) (row new : Known) → IsKnown m row → new ≡ ended place row
     → RowFollows m units row new
@@ -110,7 +110,7 @@ row_then m j k row mid new f g = record {
 row_more : (m : Machine) (j k : ℕ) (row new : Known) → j ≤ k → RowFollows m j row new → RowFollows m k row new
 row_more m j k row new less f = record { grown = f.grown; cost = omega (arith, f.cost, less); sound = f.sound }
 
--- a search has gone on: the state is there, and the search has begun
+-- a search was resumed: its state is there, and the search has begun
 record Begins (m : Machine) (q : Powerset) (old opened : Known) : Type 0 where
   pub row : Known
   pub back : BackFollows m q old row
@@ -134,7 +134,7 @@ begins m p q at old opened bounds sound of on =
 
 module _ (m : Machine) (bounds : HasBounds m) (piece : List ℕ) (p : PiecesView) (old : Known) (sound : IsKnown m old)
     (of : IsPiecesOf p m) where
-  -- so many bytes are read
+  -- `bytes` bytes are read
   bytes_read :
       (q : Powerset) (bytes : ℕ) (opened new : Known) → IsKnown m opened
       → after_many (piece_trace m piece p.earliest q) Forward m (piece_input piece p.earliest) 0 bytes opened
@@ -146,7 +146,7 @@ module _ (m : Machine) (bounds : HasBounds m) (piece : List ℕ) (p : PiecesView
       there run in
       record { grown = f.grown; cost = f.counted; sound = f.sound }
 
-  -- and then the search ends
+  -- the search ends after these bytes
   read_costs :
       (q : Powerset) (bytes k : ℕ) (opened new : Known) → bytes ≤ length piece → GoesOn m p q 0 old opened
       → option_map (ended (given_up_offset Forward (piece_input piece p.earliest) k))

@@ -17,7 +17,7 @@ use Rattle.automata_hybrid.proofs.Known.Growth.{both_fit, fit_both}
 abbrev pub known_with : Stored → ℕ → Known
 known_with c n = known_of (record { store = c; count = n })
 
--- the accounted bytes
+-- the accounted bytes, by a cache and by what it knows, are the same
 pub usage_is :
     (c : Stored) (n : ℕ) → IsStoreOf c c.table.of → known.usage c.table.of (known_with c n) ≡ usage_in_store c
 usage_is c n s =
@@ -55,7 +55,7 @@ module _ (c : Stored) (n : ℕ) (s : IsStoreOf c c.table.of) (q : Powerset) wher
     go (inl e) = absurd (full (fits_so e))
     go (inr e) = e
 
--- the clear rule
+-- the clear rule, by a cache and by what it knows, is the same
 pub refuses_is : (c : Stored) (n : ℕ) → known.refuses_to_clear c.table.of (known_with c n) ≡ refuses_in_store c
 refuses_is c n = go (minimum_cache_clear_count_of c.table.of.config) where
   go : (o : Option ℕ) → known.refuses_past c.table.of (known_with c n) o ≡ refuses_at o c
@@ -70,14 +70,14 @@ state_there c n id q (LeadsToNamed named) =
     or_right (powerset_eq q dead) (is_some (row_in c.table.rows q))
     (sym (row_in-is c.table.of.stride (3 * c.table.of.stride) q c.table.rows) ∙ ap is_some named)
 
--- one that a cache lacks is not
+-- a state that a cache lacks is not there
 pub state_lacks : (c : Stored) (n : ℕ) (q : Powerset) → Lacks c.table q → has_state (known_with c n) q ≡ false
 state_lacks c n q lacks = go (powerset_eq q dead) refl where
   go : (b : Bool) → powerset_eq q dead ≡ b → (b || is_some (row_in c.table.rows q)) ≡ false
   go true e = absurd (lacks.1 ((powerset_eq-Decides q dead).0 e))
   go false e = sym (row_in-is c.table.of.stride (3 * c.table.of.stride) q c.table.rows) ∙ ap is_some lacks.0
 
--- and what is not there, it lacks
+-- a cache lacks a state that is not there
 pub lacks_state : (c : Stored) (n : ℕ) (q : Powerset) → has_state (known_with c n) q ≡ false → Lacks c.table q
 lacks_state c n q h = go (powerset_eq q dead) refl h where
   none : (o : Option ℕ) → id_of c.table q ≡ o → is_some o ≡ false → id_of c.table q ≡ None

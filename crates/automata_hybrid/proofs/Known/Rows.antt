@@ -1,4 +1,4 @@
--- The row of a state, and where it stands.
+-- The row of a state and its position.
 use Rattle.std.proofs.Common.{◌≡◌, ◌∙◌, ℕ, ◌+◌, ◌-◌, ◌*◌, ◌/◌, ◌%◌, ◌^◌, ◌<◌, ◌≤◌, List, [], ◌∷◌, ◌++◌, length, Bool}
 use Rattle.std.proofs.Common.{true, false, cond, Option, None, Some, slice_get, refl, sym, ap, subst, arith}
 use Rattle.std.proofs.Common.{length-append, length-set, zero, suc}
@@ -22,7 +22,7 @@ row_in-is s at q (r ∷ rs) = go (powerset_eq q r.state) (row_in-is s (at + s) q
   go true e = refl
   go false e = e
 
--- a row that is there is found by its state
+-- a row of the table is found by its state
 found_at :
     (s at : ℕ) (rs : List Row) (k : ℕ) (r : Row) → slice_get rs k ≡ Some r
     → (id : ℕ) × (find_id s at r.state rs ≡ Some id)
@@ -39,7 +39,7 @@ found_at s at (x ∷ rs) (suc k) r h = go (powerset_eq r.state x.state) (found_a
   go true e = (row_id at x, refl)
   go false e = e
 
--- the row that is met first has the state
+-- the row that is found first has the state
 pub record Met (rs : List Row) (q : Powerset) (x : Row) : Type 0 where
   pub place : ℕ
   pub has : slice_get rs place ≡ Some x
@@ -58,7 +58,7 @@ row_in-Met (r ∷ rs) q x h = go (powerset_eq q r.state) refl h (λ e. row_in-Me
   }
   go false e h again = let f = again h in record { place = suc f.place; has = f.has; state = f.state }
 
--- what a table needs for its rows to be found where they stand
+-- what a table needs so that its rows are found at their offsets
 pub record HasPlaces (t : Rows) : Type 0 where
   pub positive : 0 < t.of.stride
   pub small : t.of.stride ≤ 512
@@ -71,7 +71,7 @@ pub places_of :
 places_of t positive small wide rows =
     record { positive = positive; small = small; wide = wide; whole = rows.whole; ids = rows.ids }
 
--- two offsets of one row
+-- rows with the same offset are the same row
 one_place : (s j k : ℕ) → 0 < s → (j + 3) * s ≡ (k + 3) * s → j ≡ k
 one_place s j k positive e =
     let a : (j + 3) * s + 0 ≡ (k + 3) * s + 0 = omega (arith, e) in
@@ -79,7 +79,7 @@ one_place s j k positive e =
     sym (div-mul-add (j + 3) s 0 positive) ∙ ap (λ n. n / s) a ∙ div-mul-add (k + 3) s 0 positive in
     omega (arith, f)
 
--- a row is the one that is met by its state
+-- looking up the state of a row finds that row
 row_in-at :
     (t : Rows) → HasPlaces t → (k : ℕ) (r : Row) → slice_get t.rows k ≡ Some r → row_in t.rows r.state ≡ Some r
 row_in-at t p k r has = go (row_in t.rows r.state) refl where
@@ -143,7 +143,7 @@ named_row t id q p h =
       met = ap (row_in t.rows) (sym f.state) ∙ row_in-at t p f.place f.row f.has;
     }
 
--- its cell at a class is there
+-- the cell of that row at a class is in the table
 pub cell_inside :
     (t : Rows) (id class : ℕ) (q : Powerset) → HasPlaces t → NamedRow t id q → class < t.of.stride
     → cell_at id class < length t.cells
@@ -156,7 +156,7 @@ slice_get-more [] ys k x h = cc
 slice_get-more (y ∷ xs) ys zero x h = h
 slice_get-more (y ∷ xs) ys (suc k) x h = slice_get-more xs ys k x h
 
--- rows that have places have them without the last one
+-- a table has places if it has them with one more row
 pub places_before : (t : Rows) (r : Row) → HasPlaces (with_row_in_store t r) → HasPlaces t
 places_before t r p =
     let cells : length (t.cells ++ t.of.template) ≡ length t.cells + length t.of.template =
@@ -181,7 +181,7 @@ places_before t r p =
         some_inj (sym (Names-more t r here.0 x.state here.1) ∙ more.0) in
         (here.1 ∙ ap Some same, more.1)
 
--- and before a cell was written
+-- and if it has them after a cell is written
 pub places_unwritten : (t : Rows) (id class next : ℕ) → HasPlaces (with_cell t id class next) → HasPlaces t
 places_unwritten t id class next p = record {
   positive = p.positive;

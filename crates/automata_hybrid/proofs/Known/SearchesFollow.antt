@@ -1,4 +1,4 @@
--- What follows of a search, by what a cache knows: what it costs, how the cache grows, and what is cached.
+-- What follows from a search, by what a cache knows: what it costs, how the cache grows, and what is cached afterwards.
 use Rattle.std.proofs.Common.{ℕ, zero, suc, ◌≡◌, ◌∙◌, ◌+◌, ◌-◌, ◌*◌, ◌<◌, ◌≤◌, ◌⊎◌, inl, inr, Option, None, Some, refl}
 use Rattle.std.proofs.Common.{sym, ap, subst, arith}
 use Rattle.std.proofs.lemmas.Bool.{cases_lt}
@@ -21,7 +21,7 @@ use Rattle.automata_hybrid.proofs.Searches.Follows.{later_few}
 use Rattle.automata_base.proofs.Answers.Tried.{tries_on}
 use Rattle.automata_hybrid.proofs.Searches.Directions.{later_none}
 
--- what a pass uses stays cached where nothing is cleared
+-- what a pass uses stays cached until a clear
 pass_still :
     (way : Direction) (m : Machine) (input : Input) (old new : Known) → IsGrown m old new → ClearedNothing old new
     → KnowsPass way m old input → KnowsPass way m new input
@@ -36,7 +36,7 @@ pub known_stays : (m : Machine) → KnownStays m
 known_stays m way input old new grown nothing knows k tried =
     pass_still way m (later way k input) old new grown nothing (knows k tried)
 
--- or where nothing is determinized
+-- what a pass uses stays cached if nothing is determinized
 pass_idle :
     (way : Direction) (m : Machine) (input : Input) (old new : Known) → IsGrown m old new → new.count ≡ old.count
     → KnowsPass way m old input → KnowsPass way m new input
@@ -58,7 +58,7 @@ cost_of_pass way m input old new grown counted started = record {
   room = λ room. clears_none m old new (input.end - input.start + 2) grown counted room;
 }
 
--- how often so many passes of a search determinized, and how often where their starts were cached
+-- how often `passes` passes of a search determinized, and how often if their start states were cached
 record AreCounted (way : Direction) (m : Machine) (input : Input) (passes : ℕ) (old new : Known) : Type 0 where
   pub each : AreCostsInTurn way m input passes old new
   pub most : new.count ≤ old.count + passes_most passes (input.end - input.start)
@@ -66,7 +66,7 @@ record AreCounted (way : Direction) (m : Machine) (input : Input) (passes : ℕ)
       ((k : ℕ) → k < passes → KnowsItsStart way m old (later way k input))
       → new.count + passes ≤ old.count + passes_most passes (input.end - input.start)
 
--- what follows of so many passes that ended
+-- what follows from `passes` passes that ended
 record SpansFollow (way : Direction) (m : Machine) (input : Input) (passes : ℕ) (old new : Known) : Type 0 where
   pub grown : IsGrown m old new
   pub known : Knows way m old input → new.count ≡ old.count
@@ -75,7 +75,7 @@ record SpansFollow (way : Direction) (m : Machine) (input : Input) (passes : ℕ
   pub sound : IsKnown m new
 
 module _ (way : Direction) (m : Machine) (input : Input) where
-  -- one pass more
+  -- one more pass
   module _ (k : ℕ) (old between new : Known) (error : Option SearchError)
       (before : SpansFollow way m input k old between)
       (pass : PassFollows way m (later way k input) between new error) where
@@ -148,7 +148,7 @@ module _ (way : Direction) (m : Machine) (input : Input) where
       one_more passes old mid new (tried passes (omega arith)) first
       (pass_ended way m (later way passes input) bounds mid new first.sound pass)
 
-  -- what they cost
+  -- what the passes cost
   cost_of :
       (passes : ℕ) (old new : Known) → TriesSpans way m input passes → IsGrown m old new
       → AreCounted way m input passes old new → IsCostOfPasses way m input passes old new
@@ -160,20 +160,20 @@ module _ (way : Direction) (m : Machine) (input : Input) where
     room = λ room. clears_none m old new (passes_most passes (input.end - input.start)) grown counted.most room;
   }
 
-  -- a pass over each span at most, and a span that is done has none
+  -- there is at most one pass for each place of the span, and none if the span is done
   passes_few : (passes : ℕ) → TriesSpans way m input passes → passes ≤ input.end + 1 - input.start
   passes_few zero tried = omega arith
   passes_few (suc k) tried =
       let within : input.start + k ≤ input.end = (tried k (omega arith)).1 in omega (arith, within)
 
-  -- where no place is skipped, or the search is anchored, there is no second pass
+  -- if no place is skipped or the search is anchored, there is no second pass
   no_second : (k : ℕ) → TriesSpans way m input (suc (suc k)) → (Skips m × (input.anchored ≡ No) → ⊥) → ⊥
   no_second k tried whole =
       whole (tries_on (Skips m) input k (suc k) (omega arith) (tried (suc k) (omega arith)).0.comes)
 
   module _ (old new : Known) (passes : ℕ) (cost : IsCostOfPasses way m input passes old new) (grown : IsGrown m old new)
     where
-      -- so it costs what one may
+      -- so it costs at most what one pass may
       once : (Skips m × (input.anchored ≡ No) → ⊥) → IsCostOfPass way m input old new
       once whole = cost_of_pass way m input old new grown (counted passes cost) (started passes cost) where
         counted :
@@ -201,7 +201,7 @@ module _ (way : Direction) (m : Machine) (input : Input) where
             omega (arith, most)
         started (suc (suc k)) cost begins = absurd (no_second k cost.tried whole)
 
-      -- and never more than one for each place, times as many as one pass may make
+      -- it determinizes at most as often as a pass over the whole span for each place
       most : new.count ≤ old.count + (input.end - input.start + 1) * (input.end - input.start + 2)
       most =
           let few : passes ≤ input.end - input.start + 1 = omega (arith, passes_few passes cost.tried) in
@@ -215,7 +215,7 @@ module _ (way : Direction) (m : Machine) (input : Input) where
           upto n c a b d f g h = omega (arith, f, g, h)
 
   module _ (bounds : HasBounds m) (old new : Known) (sound : IsKnown m old) where
-    -- a search that answers
+    -- a search that returns Ok
     search_ends : SearchEnds way m input old new → SearchFollows way m input old new None
     search_ends e = record {
       passes = e.passes;
@@ -252,7 +252,7 @@ module _ (way : Direction) (m : Machine) (input : Input) where
       still over zero ends few = ends
       still over (suc n) ends few = absurd (omega (arith, over, few))
 
-    -- and one that fails
+    -- a search that returns an error
     search_fails :
         (error : SearchError) → SearchFails way m input old new error → SearchFollows way m input old new (Some error)
     search_fails error e = record {

@@ -1,4 +1,4 @@
--- What follows of the search for a set of patterns, by what a cache knows.
+-- What follows from the search for a set of patterns, by what a cache knows.
 use Rattle.std.proofs.Common.{ℕ, zero, suc, ◌≡◌, ◌∙◌, ◌+◌, ◌-◌, ◌<◌, ◌≤◌, ◌⊎◌, Bool, true, List, Some, None, length}
 use Rattle.std.proofs.Common.{inl, inr, refl, sym, ap, ap₂, subst, arith, take}
 use Rattle.std.proofs.lemmas.Bool.{cases_lt}
@@ -31,13 +31,13 @@ use Rattle.automata_hybrid.proofs.Walks.Progress.{left_reads, of_input, walk_rea
 use Rattle.automata_hybrid.proofs.Walks.Reports.{Begins, walked_begin}
 use Rattle.automata_hybrid.proofs.Walks.Sets.{reported_one}
 
--- a walk has not begun, or its start and all transitions that it took are cached
+-- a walk has not begun, or its start state and all transitions that it took are cached
 abbrev HasLearnedWalk : Machine → Known → Input → Walk → Type 0
 HasLearnedWalk m c input w =
     ((w.stage ≡ Fresh) × (w.units ≡ 0))
     ⊎ (KnowsItsStart Forward m c input × ((j : ℕ) → j < w.units → KnowsUnit Forward m c input j))
 
--- and so after one call more
+-- this holds after one more call
 learned_call :
     (m : Machine) (input : Input) (old new : Known) (w v : Walk) (k : ℕ) → IsGrown m old new → ClearedNothing old new
     → HasReported Forward m input w k → input.start ≤ input.end
@@ -63,7 +63,7 @@ learned_call m input old new w v k g nothing reported s may (inr (begins, had)) 
         event_still m (unit_event (pass_trace Forward m input) Forward input j) old new g nothing (had j less)
     go j h (inr more) = units j more h
 
--- where nothing is determinized a search for a set still has cached what it uses
+-- everything that a search for a set uses stays cached if nothing is determinized
 which_idle :
     (m : Machine) (input : Input) (set : List Bool) (old new : Known) → IsGrown m old new → new.count ≡ old.count
     → KnowsWhich m old input set → KnowsWhich m new input set
@@ -74,7 +74,7 @@ which_idle m input set old new g same knows undone may = (
       ((knows undone may).1 j pairs reads clean unsplit is_open),
 )
 
--- a set whose walk has cached all that it uses goes on by calls that know what they use
+-- if everything that a search for a set uses is cached, so is everything that each call of its walk uses
 module _ (m : Machine) (c : Known) (input : Input) (walk : Walk) (set : List Bool) (k : ℕ)
     (reported : HasReported Forward m input walk k) (is_open : IsOpenAfter m input set k)
     (list : (pairs : List Pair) × AreWalked Forward m input pairs) where
@@ -104,7 +104,7 @@ module _ (m : Machine) (c : Known) (input : Input) (walk : Walk) (set : List Boo
       state (At q) holds begins = holds
       state Ended holds begins = tt
 
--- what its walk goes on from is cached, where its start was
+-- what a walk continues from is cached if its start state was
 begun_state :
     (m : Machine) (input : Input) (stage : Stage) (old mid : Known) → IsGrown m old mid → has_its_row mid stage ≡ true
     → KnowsItsStart Forward m old input → KnowsItsState Forward m mid input stage
@@ -115,7 +115,7 @@ begun_state m input Ended old mid grown holds begins = tt
 
 module _ (m : Machine) (bounds : HasBounds m) (skips : Skips m ⊎ (Skips m → ⊥)) (input : Input) (set : List Bool)
     (list : (pairs : List Pair) × AreWalked Forward m input pairs) (old : Known) (sound : IsKnown m old) where
-  -- what follows of so many calls of the walk of a set
+  -- what follows from `calls` calls of the walk of a set
   record CallsMade (calls : ℕ) (walk : Walk) (new : Known) : Type 0 where
     pub reported : HasReported Forward m input walk calls
     pub known_then : IsKnown m new
@@ -131,7 +131,7 @@ module _ (m : Machine) (bounds : HasBounds m) (skips : Skips m ⊎ (Skips m → 
         walk.stage ≡ Ended → input.start ≤ input.end → (j : ℕ) → walk.units ≤ j → WalkReads Forward m input j → ⊥
     pub done : input.end < input.start → new ≡ old
 
-  -- a walk that stands at a state has begun
+  -- a walk that has reported a match has begun
   begun : (walk : Walk) (k : ℕ) → HasReported Forward m input walk (suc k) → start_count walk.stage ≡ 0
   begun walk k reported = go walk.stage reported where
     go : (s : Stage) → HasReportedAt Forward m input s walk.units walk.reported (suc k) → start_count s ≡ 0
@@ -139,7 +139,7 @@ module _ (m : Machine) (bounds : HasBounds m) (skips : Skips m ⊎ (Skips m → 
     go (At q) at = refl
     go Ended at = refl
 
-  -- one call more
+  -- one more call
   module _ (k : ℕ) (before walk : Walk) (mid new : Known) (made : CallsMade k before mid)
       (is_open : IsOpenAfter m input set k)
       (there : has_its_row mid before.stage ≡ true) (reports : ReportsNext Forward m input before walk)
@@ -153,7 +153,7 @@ module _ (m : Machine) (bounds : HasBounds m) (skips : Skips m ⊎ (Skips m → 
     stepped : IsGrown m mid new
     stepped = c.there there
 
-    -- a walk that ends has read all
+    -- a walk that has ended has read everything
     stops_more :
         walk.stage ≡ Ended → input.start ≤ input.end → (j : ℕ) → walk.units ≤ j → WalkReads Forward m input j → ⊥
     stops_more over undone j more reads = go ended where
@@ -229,7 +229,7 @@ module _ (m : Machine) (bounds : HasBounds m) (skips : Skips m ⊎ (Skips m → 
   calls_made (suc calls) walk new (OneMore calls1 before walk1 mid new1 called is_open there reports ended) =
       calls_more calls before walk mid new (calls_made calls before mid called) is_open there reports ended
 
-  -- a set that answered, by the calls of its walk
+  -- a search for a set that returns Ok, by the calls of its walk
   set_called :
       (new : Known) (calls : ℕ) (walk : Walk) → HaveCalled m input set old calls walk new
       → (walk.stage ≡ Ended) ⊎ IsClosedAfter m input set calls → SetFollows m input set old new None
@@ -264,7 +264,7 @@ module _ (m : Machine) (bounds : HasBounds m) (skips : Skips m ⊎ (Skips m → 
           closed_stops m input walk calls set list.0 made.reported (λ over. ended_at q (sym over ∙ is)) undone list.1
           (closed list.0 list.1) j pairs more reads unsplit is_open
 
-    -- one that has not begun has not closed
+    -- a walk that has not begun has neither ended nor closed its set
     fresh : walk.stage ≡ Fresh → (walk.stage ≡ Ended) ⊎ IsClosedAfter m input set calls → ⊥
     fresh is (inl over) = (let e : Fresh ≡ Ended = sym is ∙ over in cc)
     fresh is (inr closed) =
@@ -289,7 +289,7 @@ module _ (m : Machine) (bounds : HasBounds m) (skips : Skips m ⊎ (Skips m → 
           go j pairs reads unsplit is_open (inl less) = known.1 j less
           go j pairs reads unsplit is_open (inr more) = absurd (stops undone j pairs more reads unsplit is_open)
 
-  -- a set that failed
+  -- a search for a set that returns an error
   set_left :
       (joined : List Bool) (new : Known) (e : SearchError) → SetFails m input set joined old new e
       → SetFollows m input set old new (Some e)
@@ -324,7 +324,7 @@ module _ (m : Machine) (bounds : HasBounds m) (skips : Skips m ⊎ (Skips m → 
     cost : new.count ≤ old.count + (input.end - input.start + 2)
     cost = omega (arith, c.most, made.counted, made.few)
 
--- each search for a set
+-- what follows from every search for a set
 pub sets_follow : (m : Machine) → HasBounds m → Skips m ⊎ (Skips m → ⊥) → WalksAreReported m.nfa → SetsFollow m
 sets_follow m bounds skips reported input set joined old new None sound s =
     set_called m bounds skips input set

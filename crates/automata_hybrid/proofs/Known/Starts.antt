@@ -1,4 +1,4 @@
--- What the slots name, and what a clear keeps of it.
+-- What the start slots name, and what a clear keeps of it.
 use Rattle.std.proofs.Common.{◌≡◌, ◌∙◌, ℕ, ◌+◌, ◌*◌, ◌^◌, ◌<◌, ◌≤◌, ◌⊎◌, inl, inr, List, [], ◌∷◌, ◌++◌, length, Bool}
 use Rattle.std.proofs.Common.{true, false, cond, Option, None, Some, get_or, replicate, slice_get, refl, sym, ap, subst}
 use Rattle.std.proofs.Common.{arith, length-append, suc, append_assoc, append-nil}
@@ -24,7 +24,7 @@ pub data IsNamed (t : Rows) (id : ℕ) (start : Option Powerset) : Type 0 where
   NamesDead : id ≡ dead_id t.of.stride → start ≡ Some dead → IsNamed t id start
   NamesRow : (q : Powerset) → Names t id q → start ≡ Some q → IsNamed t id start
 
--- what those of all slots name
+-- what the IDs in all slots name
 abbrev pub AreNamed : Rows → List ℕ → List (Option Powerset) → Type 0
 AreNamed t [] [] = Unit {0}
 AreNamed t [] (start ∷ starts) = ⊥
@@ -38,7 +38,7 @@ named_more t r id start (NamesNone e f) = NamesNone e f
 named_more t r id start (NamesDead e f) = NamesDead e f
 named_more t r id start (NamesRow q n f) = NamesRow q (Names-more t r id q n) f
 
--- more rows
+-- they name the same with one more row
 pub AreNamed-more :
     (t : Rows) (r : Row) (ids : List ℕ) (starts : List (Option Powerset)) → AreNamed t ids starts
     → AreNamed (with_row_in_store t r) ids starts
@@ -67,7 +67,7 @@ AreNamed-push t (x ∷ ids) [] id start all one = absurd all
 AreNamed-push t (x ∷ ids) (other ∷ starts) id start (first, all) one =
     (first, AreNamed-push t ids starts id start all one)
 
--- what an ID names is what is read of it
+-- reading an ID gives what it names
 pub named_read :
     (t : Rows) (id : ℕ) (start : Option Powerset) → HasPlaces t → IsNamed t id start → start_named t id ≡ start
 named_read t id start p (NamesNone e f) =
@@ -98,7 +98,7 @@ AreNamed-read t (id ∷ ids) [] p all = absurd all
 AreNamed-read t (id ∷ ids) (start ∷ starts) p (one, all) =
     λ i. named_read t id start p one i ∷ AreNamed-read t ids starts p all i
 
--- each slot of a cache names what is read of it
+-- the ID in each slot of a cache names what reading it gives
 pub slot_named : (t : Rows) (slot id : ℕ) → HasPlaces t → IsSlot t slot id → IsNamed t id (start_named t id)
 slot_named t slot id p (inl e) = NamesNone e (named_read t id None p (NamesNone e refl))
 slot_named t slot id p (inr (q, LeadsToDead e dies, first)) =
@@ -178,7 +178,7 @@ unwritten_once t r wide u = go (is_some (id_of t r.state)) where
   go true = u
   go false = unwritten_more t r wide u
 
--- the rows with one that was found
+-- the rows with one row that was found
 rows_once : (t : Rows) (r : Row) → (with_row_once t r).rows ≡ keep_row t.rows (Some r)
 rows_once t r =
     go (is_some (id_of t r.state))
@@ -188,7 +188,7 @@ rows_once t r =
     go true = refl
     go false = refl
 
--- its state has an ID then
+-- that row's state has an ID afterwards
 named_once :
     (t : Rows) (r : Row) → length t.cells ≡ (length t.rows + 3) * t.of.stride
     → (id : ℕ) × Names (with_row_once t r) id r.state
@@ -197,7 +197,7 @@ named_once t r whole = go (id_of t r.state) refl where
   go None e = (row_id (length t.cells) r, Names-new t r whole e)
   go (Some id) e = (id, e)
 
--- what is kept of an old table, where these start states were cached
+-- what is kept of an old table, of which these are the start states
 pub record IsKept (old : Rows) (starts : List (Option Powerset)) (rows : List Row) (k : Kept) : Type 0 where
   pub of : k.table.of ≡ old.of
   pub rows_are : k.table.rows ≡ rows
@@ -212,7 +212,7 @@ none_dead t rows = go (row_in t.rows dead) refl where
   go (Some r) e =
       let m : Met t.rows dead r = row_in-Met t.rows dead r e in absurd ((rows.states m.place r m.has).alive m.state)
 
--- one more slot, which names no row
+-- one more slot, which does not name a row
 keeps_fixed :
     (old : Rows) (starts : List (Option Powerset)) (rows : List Row) (k : Kept) (id : ℕ) (start : Option Powerset)
     → IsKept old starts rows k → 2 ^ 29 ≤ id → option_and_then (row_in old.rows) start ≡ None → IsNamed k.table id start
@@ -230,7 +230,7 @@ keeps_fixed old starts rows k id start i high none one =
       named = AreNamed-push k.table k.starts starts id start i.named one;
     })
 
--- one that names a row
+-- one more slot, which names a row
 keeps_row :
     (old : Rows) (starts : List (Option Powerset)) (rows : List Row) (k : Kept) (id : ℕ) (start : Option Powerset)
     (q : Powerset)
@@ -278,7 +278,7 @@ keeps_one old starts rows k id start p none i (NamesDead e f) =
 keeps_one old starts rows k id start p none i (NamesRow q n f) =
     keeps_row old starts rows k id start q p.wide i (named_row old id q p n) f
 
--- all that are left
+-- all remaining slots
 keeps_all :
     (old : Rows) (starts : List (Option Powerset)) (rows : List Row) (k : Kept) (ids : List ℕ)
     (more : List (Option Powerset))
@@ -304,7 +304,7 @@ clear_keeps old ids starts p none all =
     keeps_all old [] [] (record { table = fresh old.of; starts = [] }) ids starts p none
     (record { of = refl; rows_are = refl; unwritten = unwritten_fresh old.of; named = tt }) all
 
--- and the row of one more state
+-- with the row of one more state
 pub saving_keeps :
     (old : Rows) (starts : List (Option Powerset)) (rows : List Row) (k : Kept) (r : Row)
     → length old.of.template ≡ old.of.stride → IsKept old starts rows k

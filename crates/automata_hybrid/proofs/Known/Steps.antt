@@ -1,5 +1,5 @@
--- Which transitions are cached: a row that is added has none, a table whose cells were not written has none, and a cell
--- that is written is one more.
+-- Which transitions are cached: none of a new row, none in a table whose cells were not written, and one more once a
+-- cell is written.
 use Rattle.std.proofs.Common.{◌≡◌, ◌∙◌, ℕ, ◌+◌, ◌*◌, ◌%◌, ◌^◌, ◌<◌, ◌⊎◌, inl, inr, List, [], ◌∷◌, ◌++◌, length, Bool}
 use Rattle.std.proofs.Common.{true, false, Option, None, Some, get_or, set, slice_get, refl, sym, ap, subst, ⊎_elim}
 use Rattle.std.proofs.Common.{arith}
@@ -18,11 +18,11 @@ use Rattle.automata_hybrid.proofs.Caches.Rows.{Names-new, find_id-push_other}
 use Rattle.automata_hybrid.proofs.Known.Rows.{HasPlaces, NamedRow, cell_inside, named_row, places_before}
 use Rattle.automata_hybrid.proofs.Known.Starts.{IsUnwritten}
 
--- a cell of a row that an ID names, or of none
+-- whether the transition in the cell of an ID's row is cached; false if there is no ID
 abbrev pub is_known_at : Rows → (class : ℕ) → Option ℕ → Bool
 is_known_at t class o = unwrap_or (option_map (λ id. nat_lt (get_or t.cells (cell_at id class) 0) unknown_id) o) false
 
--- a transition of a table is cached
+-- whether a transition of a table is cached
 abbrev pub is_cached_in : Rows → Powerset → (class : ℕ) → Bool
 is_cached_in t q class = has_steps_at t.of class && is_known_at t class (id_of t q)
 
@@ -40,7 +40,7 @@ steps_there m class h =
     let e : get_or m.template class 0 ≡ unknown_id = h.free in
     grind (arith, nat_tests)
 
--- transitions are the same if they are so at these classes
+-- transitions agree if they agree at classes at which rows have transitions
 same_at :
     (b x y : Bool) → (b ≡ true → x ≡ y) → (b && x) ≡ (b && y)
 same_at true x y h = h refl
@@ -53,7 +53,7 @@ last_of : {A : Type 0} (xs : List A) (y : A) → slice_get (xs ++ y ∷ []) (len
 last_of [] y = refl
 last_of (x ∷ xs) y = last_of xs y
 
--- a new row has none
+-- no transition of a new row is cached
 new_row :
     (t : Rows) (r : Row) (class : ℕ) → HasPlaces (with_row_in_store t r)
     → length t.cells ≡ (length t.rows + 3) * t.of.stride
@@ -69,7 +69,7 @@ new_row t r class p whole none has =
     ∙ unknown_cell (get_or (t.cells ++ t.of.template) (length t.cells + class) 0)
     (get_or-append-add t.cells t.of.template class 0 ∙ has.free)
 
--- and the others have what they had
+-- the transitions of other rows are unchanged
 other_row :
     (t : Rows) (r : Row) (q : Powerset) (class : ℕ) → HasPlaces t → class < t.of.stride → (o : Option ℕ) → id_of t q ≡ o
     → is_known_at (with_row_in_store t r) class o ≡ is_known_at t class o
@@ -79,7 +79,7 @@ other_row t r q class p below (Some id) named =
     (get_or_append_left t.cells t.of.template 0 (cell_at id class)
     (cell_inside t id class q p (named_row t id q p named) below))
 
--- with one more row the same transitions are cached
+-- adding a row does not change which transitions are cached
 pub added_step :
     (t : Rows) (r : Row) → HasPlaces (with_row_in_store t r) → id_of t r.state ≡ None → (q : Powerset) (class : ℕ)
     → is_cached_in (with_row_in_store t r) q class ≡ is_cached_in t q class
@@ -103,7 +103,7 @@ added_step t r p none q class =
         ap (is_known_at (with_row_in_store t r) class) (find_id-push_other t.of.stride (3 * t.of.stride) q t.rows r e)
         ∙ other_row t r q class old has.below (id_of t q) refl
 
--- where no cell was written, none is cached
+-- if no cell was written, no transition is cached
 pub unwritten_step :
     (t : Rows) → HasPlaces t → IsUnwritten t → (q : Powerset) (class : ℕ) → is_cached_in t q class ≡ false
 unwritten_step t p u q class = go (has_steps_at t.of class) refl where
@@ -119,12 +119,12 @@ unwritten_step t p u q class = go (has_steps_at t.of class) refl where
   go false e = refl
   go true e = none (steps_at t.of class e) (id_of t q) refl
 
--- the transition that was written
+-- this is the transition that was written
 both : (q p : Powerset) (other class : ℕ) → q ≡ p → other ≡ class → (powerset_eq q p && nat_eq other class) ≡ true
 both q p other class e f =
     and_from (powerset_eq q p) (nat_eq other class) ((powerset_eq-Decides q p).1 e) (grind (arith, nat_tests))
 
--- is another one
+-- this is another transition
 apart :
     (q p : Powerset) (other class : ℕ) → (q ≡ p → other ≡ class → ⊥) → (powerset_eq q p && nat_eq other class) ≡ false
 apart q p other class h = go (powerset_eq q p) refl where
@@ -143,7 +143,7 @@ module _ (t : Rows) (id class next : ℕ) (p : Powerset) (places : HasPlaces t) 
   next_known : nat_lt next unknown_id ≡ true
   next_known = grind (arith, nat_tests)
 
-  -- at another class, or from another state
+  -- in any other cell
   elsewhere :
       (q : Powerset) (other i : ℕ) → Names t i q → (cell_at i other ≡ cell_at id class → ⊥)
       → is_known_at (with_cell t id class next) other (Some i)
@@ -157,7 +157,7 @@ module _ (t : Rows) (id class next : ℕ) (p : Powerset) (places : HasPlaces t) 
         ids : i ≡ id
         ids = some_inj (sym «is» ∙ ap (id_of t) e ∙ named)
 
-  -- there
+  -- in the cell that was written
   here :
       (q : Powerset) (other i : ℕ) → NamedRow t i q → other < t.of.stride → cell_at i other ≡ cell_at id class
       → is_known_at (with_cell t id class next) other (Some i)
@@ -186,7 +186,7 @@ module _ (t : Rows) (id class next : ℕ) (p : Powerset) (places : HasPlaces t) 
       let n : NamedRow t i q = named_row t i q places is in
       ⊎_elim (here q other i n below) (elsewhere q other i is) (cases_eq (cell_at i other) (cell_at id class))
 
-  -- with a cell that is written, one more transition is cached
+  -- once a cell is written, one more transition is cached
   pub written_step :
       (q : Powerset) (other : ℕ)
       → is_cached_in (with_cell t id class next) q other

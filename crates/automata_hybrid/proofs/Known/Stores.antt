@@ -1,4 +1,4 @@
--- The IDs of a cache are those of what it knows.
+-- The IDs of a cache's rows are IDs of what it knows.
 use Rattle.std.proofs.Common.{ℕ, ◌∙◌, ◌*◌, inl, inr, sym, ap, arith}
 use Rattle.automata_hybrid.proofs.Words.{CacheView, find_id, HoldsRow, IsCacheOf, known_of, Machine}
 use Rattle.automata_hybrid.specs.Known.Effects.{KnowsId, KnowsFixed, KnowsRow}

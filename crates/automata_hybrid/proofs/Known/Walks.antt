@@ -1,4 +1,4 @@
--- The state where a walk stands: whether a cache has its row, and what putting it back makes of what the cache knows.
+-- The current state of a walk: whether a cache has its row, and the effect of putting it back on what the cache knows.
 use Rattle.std.proofs.Common.{◌≡◌, ◌∙◌, ℕ, ◌*◌, true, false, Option, None, Some, cond, refl, sym, ap, subst}
 use Rattle.automata_hybrid.proofs.Words.{CacheView, cleared, id_of, is_some, IsMachine, IsStoreOf, Known, known_of}
 use Rattle.automata_hybrid.proofs.Words.{LeadsToNamed, Machine, Names, option_map, Powerset, Row, row_in, StepError}
@@ -19,7 +19,7 @@ pub row_named :
 row_named c q id named =
     sym (row_in-is c.table.of.stride (3 * c.table.of.stride) q c.table.rows) ∙ ap is_some named
 
--- one that no ID names has none
+-- a state that no ID names has no row
 no_row : (c : Stored) (q : Powerset) → id_of c.table q ≡ None → row_in c.table.rows q ≡ None
 no_row c q none = go (row_in c.table.rows q) refl where
   go : (o : Option Row) → row_in c.table.rows q ≡ o → row_in c.table.rows q ≡ None
@@ -39,7 +39,7 @@ row_there m q id c named =
     (with_new_row m (cleared (known_of c)) (record { state = q; started = false }) (known_of c)))
     (state_there c.store c.count id q (LeadsToNamed named))
 
--- one that was not there is
+-- a state that was not there is put back
 row_back_here :
     (q : Powerset) (old new : CacheView) → IsMachine old.store.table.of → IsStoreOf old.store old.store.table.of
     → IsStoreOf new.store old.store.table.of → id_of old.store.table q ≡ None → (id : ℕ)
@@ -61,7 +61,7 @@ row_back m q old new machine sound after none id adds =
     → with_row_back d q (known_of old) ≡ Some (known_of new))
     sound.of (λ d s a. row_back_here q old new d s a none id adds) machine sound after
 
--- or it could not be added
+-- a state that was not there could not be added
 none_of : (o : Option Known) → option_map (λ c. c) o ≡ None → o ≡ None
 none_of None e = refl
 none_of (Some c) e = cc

@@ -21,7 +21,7 @@ count_up_to f n m h =
     let k : ℕ = m - n in
     let e : k + n ≡ m = omega arith in subst (λ x. boundary_count f n ≤ boundary_count f x) e (count_grows f n k)
 
--- the cells of a new row
+-- the length of a new row
 marked-length : (cs : List ℕ) (qs : List Bool) (s n : ℕ) → length (marked cs qs s n) ≡ s
 unfolding marked
 marked-length cs qs s zero = length-replicate s (2 ^ 31)
@@ -94,7 +94,7 @@ marked-quit cs qs s (suc n) byte h l q =
           (cases_eq (class_in cs byte) (class_in cs n))
       go true e (inr k) again = let same : byte ≡ n = omega (arith, k, h) in here (ap (class_in cs) same)
 
--- what a DFA is built of
+-- what a DFA is built from
 pub record IsBuilt (s : Settled) (m : Machine) : Type 0 where
   pub settled : IsSettled m.config m.nfa s
   pub sizes : IsSized m
@@ -124,7 +124,7 @@ class_within s m i b h =
     let e : eoi_class m.classes < m.stride = rw (stride_is s m i, i.classes) i.end_below in
     omega (arith, e, class_below s m i b h)
 
--- what is built is a machine
+-- a DFA that is built satisfies `IsMachine`
 pub IsBuilt-IsMachine : (s : Settled) (m : Machine) → IsBuilt s m → IsMachine m
 unfolding IsOwn settled_minimum greatest_offset
 IsBuilt-IsMachine s m i =

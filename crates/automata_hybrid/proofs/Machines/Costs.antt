@@ -17,7 +17,7 @@ use Rattle.automata_base.specs.Retraced.Computed.{visits_with}
 use Rattle.automata_base.specs.Retraced.Steps.{start_or_dead}
 use Rattle.automata_hybrid.proofs.Searches.PassState.{false_true}
 
--- a closure has at most as many states as were to be visited
+-- a closure has at most as many states as its fuel
 with_few :
     (go : List ℕ → List ℕ → List ℕ) (n : Nfa) (A : Truth) (most : ℕ)
     → ((stack seen : List ℕ) → length (go stack seen) ≤ most) → (stack seen : List ℕ)
@@ -39,7 +39,7 @@ visits_few :
 visits_few zero n A stack seen = omega arith
 visits_few (suc fuel) n A stack seen = with_few (first_visits fuel n A) n A fuel (visits_few fuel n A) stack seen
 
--- what is picked of a list is no longer
+-- the elements picked from a list are at most as many as the list has
 pick_few : (g : ℕ → Option ℕ) (xs : List ℕ) → length (pick g xs) ≤ length xs
 pick_few g [] = omega arith
 pick_few g (x ∷ xs) = by (g x) (pick_few g xs) where
@@ -47,7 +47,7 @@ pick_few g (x ∷ xs) = by (g x) (pick_few g xs) where
   by None rest = omega (arith, rest)
   by (Some y) rest = omega (arith, rest)
 
--- what was seen is not met again
+-- an element that was seen is not found again
 once_apart : (seen xs : List ℕ) (y : ℕ) → In y (once_past seen xs) → is_in y seen ≡ false
 once_apart seen [] y is = absurd is
 once_apart seen (x ∷ xs) y is =

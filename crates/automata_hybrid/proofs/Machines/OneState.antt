@@ -1,4 +1,4 @@
--- An automaton of one state that asks for no look and unites no others is settled by the default settings.
+-- The default settings settle an automaton of a single match or fail state.
 use Rattle.std.proofs.Common.{ℕ, ◌≡◌, ◌≤◌, ◌&&◌, ◌||◌, not, Bool, true, false, cond, ltb, List, [], ◌∷◌, length, Some}
 use Rattle.std.proofs.Common.{None, refl, sym, ap, subst, arith}
 use Rattle.std.proofs.lemmas.Bool.{le-ltb}

@@ -32,7 +32,7 @@ mode_group No = refl
 mode_group Yes = refl
 mode_group (Pattern p) = refl
 
--- modes that have one slot after their look-behind bytes have one start state
+-- modes and look-behind bytes with the same slot have the same start state
 pub starts_alike :
     (m : Machine) (mode other : Anchored) (x y : Option ℕ) → slot_behind m mode x ≡ slot_behind m other y
     → start_state_of m.nfa mode x ≡ start_state_of m.nfa other y
@@ -49,13 +49,13 @@ starts_alike m mode other x y e =
     let same : mode ≡ other = sym (mode_group mode) ∙ (ap mode_of group ∙ mode_group other) in
     ap (λ v. start_state_of m.nfa v x) same ∙ behind_alike m.nfa other x y kind
 
--- past the last pattern the start is dead
+-- the start state of a pattern that is out of range is dead
 pub past_patterns :
     (a : Automaton) (p : ℕ) (x : Option ℕ) → length a.start_pattern ≤ p → start_state_of a (Pattern p) x ≡ dead
 unfolding start_state_of
 past_patterns a p x l = rw (slice_get_past a.start_pattern p l) refl
 
--- there are no more slots than with starts for each pattern
+-- there are at most as many slots as with start states for each pattern
 pub few_slots :
     (a : Automaton) (each : Bool) (slots : ℕ) → slots ≡ start_slots a each → slots ≤ 12 + 6 * length a.start_pattern
 few_slots a true slots e = omega (arith, e)

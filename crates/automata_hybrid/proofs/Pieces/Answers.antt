@@ -1,4 +1,4 @@
--- What a search in pieces answers over an input, by what a pass over it does.
+-- What a search in pieces answers for an input, by what a pass over the input does.
 use Rattle.std.proofs.Common.{ℕ, suc, ◌≡◌, ◌<◌, ◌≤◌, ◌+◌, ◌-◌, ◌^◌, true, false, List, [], ◌∷◌, length, Bool, Option}
 use Rattle.std.proofs.Common.{Some, None, refl, sym, ap, ◌∙◌, subst, arith}
 use Rattle.automata_hybrid.proofs.Words.{Anchored, CacheView, dead, Forward, half_at, half_of, HalfMatch, HasDeadTag}
@@ -28,7 +28,7 @@ use Rattle.automata_hybrid.proofs.Steps.BySteps.{run_found}
 use Rattle.automata_hybrid.proofs.Steps.Ids.{dead_tagged}
 use Rattle.automata_hybrid.proofs.Steps.Steps.{no_quit_unit}
 
--- a start that is not dead is named
+-- the ID of a start state that is not dead names it
 pub start_named :
     (m : Machine) (mode : Anchored) (behind : Option ℕ) (old new : CacheView) (id : ℕ)
     → IsStartAnswer m mode behind old new id
@@ -38,7 +38,7 @@ pub start_named :
 start_named m mode behind old new id answer low small =
     (dead_tagged new.store.table id low small (start_state_of m.nfa mode behind) answer.named).1
 
--- what a search that begins in a mode after a byte is to one over an input
+-- a search in pieces begins in an anchored mode, after a given byte
 module _ (m : Machine) (mode : Anchored) (behind : Option ℕ) (earliest : Bool) (old new : CacheView) (id : ℕ)
     (plain : Skips m → ⊥)
     (answer : IsStartAnswer m mode behind old new id) (low : (q : Powerset) → Names new.store.table id q → id < 2 ^ 29)
@@ -57,7 +57,7 @@ module _ (m : Machine) (mode : Anchored) (behind : Option ℕ) (earliest : Bool)
       subst (λ v. Leads new.store.table id (start_state_of m.nfa input.anchored v)) (sym b.follows)
       (subst (λ v. Leads new.store.table id (start_state_of m.nfa v behind)) (sym b.moded) answer.named)
 
-  -- it is dead from its start on
+  -- its start state is dead
   pub begun_dead :
       HasDeadTag id → HasBegun m mode behind earliest
       (record { state = None; read = 0; earliest = earliest; found = None })
@@ -83,7 +83,7 @@ module _ (m : Machine) (mode : Anchored) (behind : Option ℕ) (earliest : Bool)
         };
   }
 
-  -- or it stands at its start
+  -- its start state is not dead
   pub begun_alive :
       (held : Powerset) → (HasDeadTag id → ⊥) → ((q : Powerset) → Names new.store.table id q → held ≡ q)
       → HasBegun m mode behind earliest (record { state = Some held; read = 0; earliest = earliest; found = None })
@@ -118,7 +118,7 @@ found_none :
 found_none start base None before e = refl
 found_none start base (Some half) before e = absurd (some_none e)
 
--- a search that stood at a state has read a piece
+-- a search with a current state has read a piece
 module _ (m : Machine) (q : Powerset) (piece : List ℕ) (old new : PiecesView) (was : old.state ≡ Some q)
     (early : new.earliest ≡ old.earliest) (found : Option HalfMatch)
     (result : new.found ≡ found_in found old.read old.found) where
@@ -135,7 +135,7 @@ module _ (m : Machine) (q : Powerset) (piece : List ℕ) (old new : PiecesView) 
       given.early)))
       ∙ pass_found m input n q piece given.inside here before.state k old.found l before.found before.nothing
 
-  -- it stands after it
+  -- it has read the whole piece, and has a current state after it
   pub reads_through :
       (t : Rows) (id : ℕ) (held : Powerset)
       → new.state ≡ Some held → held ≡ piece_state m piece q (length piece) → new.read ≡ old.read + length piece
@@ -177,7 +177,7 @@ module _ (m : Machine) (q : Powerset) (piece : List ℕ) (old new : PiecesView) 
           (subst (λ k. HasReadNoQuit Forward m (piece_input piece old.earliest) k) all at.clean);
     }
 
-  -- or its answer stands
+  -- its answer is final after a byte of the piece
   module _ (k : ℕ) (begun end : Known) (over : ReadsPieceUpto m piece old q k begun end)
       (reported : found ≡ half_of Forward (piece_input piece old.earliest)
       ((piece_trace m piece old.earliest q).reported (suc k)))
@@ -264,7 +264,7 @@ module _ (m : Machine) (q : Powerset) (piece : List ℕ) (old new : PiecesView) 
   reads_over k begun end none over reported input n given here =
       over_given k begun end over reported input n given here none
 
--- what one pass answers is what a search returns for the whole span, where no offset is skipped
+-- if no offset is skipped, what one pass answers is what a search over the whole span returns
 whole :
     (m : Machine) (input : Input) (half : Option HalfMatch) (law : ReportedIsRight m.nfa)
     (ends : ReportedEndsAreRight m.nfa)
@@ -292,7 +292,7 @@ whole m input half law ends lies ahead p all pass =
       };
     }
 
--- a search whose answer stands returns it
+-- a search whose answer is final returns it
 pub ends_none :
     (m : Machine) (law : ReportedIsRight m.nfa) (ends : ReportedEndsAreRight m.nfa) (lies : ReportedLiesWithin m.nfa)
     (ahead : Option ℕ) (p : PiecesView) → p.state ≡ None → EndsHere m p ahead p.found
@@ -305,7 +305,7 @@ first_given :
 first_given start at [] found = refl
 first_given start at (p ∷ ps) found = refl
 
--- one that stands at a state reads the unit that follows
+-- a search with a current state reads the unit that follows
 module _ (m : Machine) (ahead : Option ℕ) (p : PiecesView) (q : Powerset) (old new : CacheView) (id to : ℕ)
     (half : Option HalfMatch)
     (stood : p.state ≡ Some q) (named : Names old.store.table id q) (answer : IsReadAnswer m id ahead old new to)

@@ -1,10 +1,10 @@
--- What follows of what the calls of a search in pieces make of their cache.
+-- What follows from the effect of the calls of a search in pieces on their cache.
 use Rattle.std.proofs.Common.{ℕ, ◌≡◌, ◌<◌, ◌+◌, Bool, false, List, length, Option, Some, None, refl, ap, ◌∙◌, arith}
 use Rattle.automata_hybrid.proofs.Words.{Forward, is_quit, Machine, next, quits_on, slice_get, tape_in}
 use Rattle.automata_base.proofs.Answers.Bytes.{forward_next}
 use Rattle.automata_hybrid.specs.Searches.PieceRuns.{piece_input}
 
--- the units of a piece are its bytes
+-- no unit of a piece is a quit byte if none of its bytes is
 pub piece_unit :
     (m : Machine) (piece : List ℕ) (e : Bool) (k : ℕ) → k < length piece
     → ((j byte : ℕ) → slice_get piece j ≡ Some byte → is_quit m.quits byte ≡ false)

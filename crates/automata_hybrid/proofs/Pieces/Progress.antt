@@ -1,4 +1,4 @@
--- What the calls of a search in pieces make of what their cache knows, from what their parts do.
+-- The effect of the calls of a search in pieces on what their cache knows, by the effect of their parts.
 use Rattle.std.proofs.Common.{ℕ, ◌≡◌, ◌∙◌, sym, ap, subst, Bool, List, Option, Some}
 use Rattle.automata_hybrid.proofs.Words.{after_event, begun, CacheView, ended, HalfMatch, known_of, Machine, moved}
 use Rattle.automata_hybrid.proofs.Words.{Names, option_map, progress_finished, progress_started, ReadFails, SearchError}
@@ -13,7 +13,7 @@ use Rattle.automata_hybrid.specs.Private.Searches.Units.{FailsToRead, HasRead}
 use Rattle.automata_hybrid.specs.declared.search.pieces.PieceEnd.{PieceEnd}
 use Rattle.automata_hybrid.specs.declared.search.pieces.PieceEnd.TheVariants.{Over, At}
 
--- a search goes on
+-- a search continues from its current state
 module _ {m : Machine} {p : PiecesView} {old row : CacheView} {id : ℕ} (on : HasResumed m p old row id) where
   pub goes_on : (at : ℕ) → GoesOn m p on.state at (known_of old) (begun at (known_of row))
   goes_on at = record { from = on.stood; begins = ap (option_map (begun at)) on.back }
@@ -29,7 +29,7 @@ module _ {m : Machine} {p : PiecesView} {old row : CacheView} {id : ℕ} (on : H
         subst (λ a. GoesOn m p on.state a (known_of old) (known_of begins)) reads
         (subst (GoesOn m p on.state at (known_of old)) (sym (ap known_of begin)) (goes_on at))
 
-    -- which is read
+    -- that unit is read
     pub answer_ends :
         {ahead : Option ℕ} {next : ℕ} {mid new : CacheView} → HasRead m id ahead at begins mid next
         → new ≡ with_store mid (with_searched mid.store (progress_finished mid.store.searched at))
@@ -43,7 +43,7 @@ module _ {m : Machine} {p : PiecesView} {old row : CacheView} {id : ℕ} (on : H
         (ap (option_map (ended at)) (read.taken on.state named_there)
         ∙ ap (λ (v : CacheView). Some (known_of v)) (sym end)))
 
-    -- or not
+    -- reading that unit fails
     pub answer_left :
         {ahead : Option ℕ} {e : SearchError} {new : CacheView} → FailsToRead m id ahead at at begins new e
         → AnswerFails m ahead p (known_of old) (known_of new) e
@@ -52,7 +52,7 @@ module _ {m : Machine} {p : PiecesView} {old row : CacheView} {id : ℕ} (on : H
         (subst (λ a. ReadFails m on.state ahead a a a (known_of begins) (known_of new) e) reads
         (fails.fails on.state named_there))
 
-  -- it reads a piece, or not
+  -- it reads a piece, or fails to
   module _ (piece : List ℕ) (new : CacheView) {earliest : Bool} (first : earliest ≡ p.earliest) where
     run_ends :
         (end : PieceEnd) → IsPieceEnd m piece earliest id row new end

@@ -1,4 +1,4 @@
--- A pass over an input whose span goes on with a piece: where it is after the bytes of the piece, by a run over these.
+-- A pass over an input whose span continues with a piece: where it is after the bytes of the piece, by a run over them.
 use Rattle.std.proofs.Common.{ℕ, zero, suc, ◌≡◌, ◌<◌, ◌≤◌, ◌+◌, ◌-◌, ◌^◌, ◌⊎◌, inl, inr, Bool, true, false, List, []}
 use Rattle.std.proofs.Common.{◌∷◌, length, Option, Some, None, refl, sym, ap, ap₂, ◌∙◌, subst, arith}
 use Rattle.std.proofs.lemmas.Bool.{cases_lt}
@@ -16,12 +16,12 @@ use Rattle.automata_hybrid.specs.Searches.Traces.{reported_along}
 use Rattle.automata_hybrid.proofs.Searches.PassState.{state_more}
 use Rattle.automata_hybrid.proofs.Searches.Traces.{half_of_none, earlier_none}
 
--- a pair whose place is counted from another one
+-- a pair with `n` added to its place
 abbrev pub shifted : ℕ → Option Pair → Option Pair
 shifted n None = None
 shifted n (Some pair) = Some (record { pattern = pair.pattern; place = n + pair.place })
 
--- the last of the pairs of both
+-- the last pair reported, by two parts of the units
 last_split :
     (R S : ℕ → List ℕ) (n k : ℕ) → ((i : ℕ) → i < k → R (n + i) ≡ S i)
     → last_among R (n + k) ≡ earlier_or (shifted n (last_among S k)) (last_among R n)
@@ -38,7 +38,7 @@ last_split R S n (suc k) same =
     go [] = refl
     go (p ∷ ps) = refl
 
--- the first of them
+-- the first pair reported, by two parts of the units
 first_split :
     (R S : ℕ → List ℕ) (n k : ℕ) → ((i : ℕ) → i < k → R (n + i) ≡ S i)
     → first_among R (n + k) ≡ earlier_or (first_among R n) (shifted n (first_among S k))
@@ -59,7 +59,7 @@ first_split R S n (suc k) same =
     go None None [] = refl
     go None None (p ∷ ps) = refl
 
--- what was found before, or in the piece
+-- the pair found before the piece or in it: the first one for an earliest search, otherwise the last one
 abbrev joined : Bool → (piece before : Option Pair) → Option Pair
 joined true piece before = earlier_or before piece
 joined false piece before = earlier_or piece before
@@ -76,7 +76,7 @@ half_shifted input own n pair found at_0 =
     let same : input.start + (n + pair.place) ≡ input.start + (n + (own.start + pair.place)) = omega (arith, at_0) in
     ap (λ (o : ℕ). Some (half_with pair.pattern o)) same
 
--- as a half match: places of the piece are offsets in it
+-- that pair as a half match: places in the piece are offsets in it
 half_joined :
     (input own : Input) (n : ℕ) (e : Bool) (piece before : Option Pair) (found : Option HalfMatch) → own.start ≡ 0
     → from_first input.start found ≡ half_of Forward input before → (e ≡ true → found ≡ None)
@@ -95,7 +95,7 @@ half_joined input own n true piece before found at_0 same first =
     go None = sym (ap (from_first input.start) (first refl))
     go (Some pair) = half_shifted input own n pair found at_0
 
--- the span goes on with a piece from a place on, where the pass is in a state
+-- the span continues with a piece at place `n`, where the pass is in state `q`
 module _ (m : Machine) (input : Input) (n : ℕ) (q : Powerset) (piece : List ℕ)
     (inside : input.end ≤ length input.haystack)
     (here : IsPieceAt input n piece) (at : q ≡ state_in Forward m input n) where
@@ -114,7 +114,7 @@ module _ (m : Machine) (input : Input) (n : ℕ) (q : Powerset) (piece : List �
       let same : 0 + k ≡ k = omega arith in
       forward_next piece 0 (length piece) k (omega (arith, l)) (omega arith) ∙ ap (slice_get piece) same
 
-  -- the state after its first bytes
+  -- the state after the first `k` bytes of the piece
   pub pass_state : (k : ℕ) → k ≤ length piece → state_in Forward m input (n + k) ≡ piece_state m piece q k
   pass_state zero l = let none : n + 0 ≡ n = omega arith in ap (state_in Forward m input) none ∙ sym at
   pass_state (suc k) l =
@@ -145,7 +145,7 @@ module _ (m : Machine) (input : Input) (n : ℕ) (q : Powerset) (piece : List �
       (λ i. (piece_state m piece q (suc i)).patterns) n k
       (λ i low. ap (λ (p : Powerset). p.patterns) (pass_next i (omega (arith, low, l))))
 
-  -- what its first bytes report
+  -- what the first `k` bytes of the piece report
   pub pass_found :
       (k : ℕ) (found : Option HalfMatch) → k ≤ length piece
       → from_first input.start found ≡ half_of Forward input (reported_in Forward m input n)
@@ -160,7 +160,7 @@ module _ (m : Machine) (input : Input) (n : ℕ) (q : Powerset) (piece : List �
       first)
       ∙ sym (ap (half_of Forward input) (reported_by input.earliest k l))
 
-  -- none of its first bytes is a quit byte
+  -- none of the first `k` bytes of the piece is a quit byte
   pub pass_clean :
       (e : Bool) (k : ℕ) → k ≤ length piece → HasReadNoQuit Forward m input n
       → HasReadNoQuit Forward m (piece_input piece e) k
@@ -175,7 +175,7 @@ module _ (m : Machine) (input : Input) (n : ℕ) (q : Powerset) (piece : List �
         (unit_own (j - n) (omega (arith, few, l))
         ∙ (sym (unit_on (j - n) (omega (arith, few, l))) ∙ (ap (next (tape_in Forward input)) same ∙ is)))
 
--- places of pairs among the first ones are below their number
+-- the pairs of the first `k` units have places below `k`
 last_below : (R : ℕ → List ℕ) (k : ℕ) → IfSome (last_among R k) (λ pair. pair.place < k)
 last_below R zero = tt
 last_below R (suc k) = go (R k) (last_among R k) (last_below R k) where
@@ -196,7 +196,7 @@ first_below R (suc k) = go (first_among R k) (R k) (first_below R k) where
   go None [] low = tt
   go None (p ∷ ps) low = omega arith
 
--- so what is found in a piece has an offset, counted from the first piece
+-- so the offset of a match in a piece, counted from the first piece, fits in 64 bits
 pub found_fits :
     (e : Bool) (state : ℕ → Powerset) (k : ℕ) (piece : List ℕ) (base : ℕ) (found : Option HalfMatch)
     → found ≡ half_of Forward (piece_input piece e) (reported_along e state k) → k ≤ length piece

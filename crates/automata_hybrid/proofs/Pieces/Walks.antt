@@ -23,12 +23,12 @@ use Rattle.automata_hybrid.proofs.Searches.PassState.{dead_more, starts_at, stat
 use Rattle.automata_hybrid.proofs.Searches.Traces.{half_of_none, pair_half}
 use Rattle.automata_hybrid.proofs.Searches.Units.{forward_unit}
 
--- what a walk that begins in a mode after a byte is to one over an input
+-- a walk begins in an anchored mode, after a given byte
 module _ (m : Machine) (mode : Anchored) (behind : Option ℕ) (earliest : Bool) (old new : CacheView) (id : ℕ)
     (plain : Skips m → ⊥)
     (answer : IsStartAnswer m mode behind old new id) (low : (q : Powerset) → Names new.store.table id q → id < 2 ^ 29)
     (small : new.store.table.of.stride ≤ 512) where
-  -- it is dead from its start on
+  -- its start state is dead
   pub walk_begun_dead :
       HasDeadTag id → HasBegunWalk m mode behind (record { state = None; read = 0; earliest = earliest; found = None })
   walk_begun_dead tag = record {
@@ -46,7 +46,7 @@ module _ (m : Machine) (mode : Anchored) (behind : Option ℕ) (earliest : Bool)
     };
   }
 
-  -- or it stands at its start
+  -- its start state is not dead
   pub walk_begun_alive :
       (held : Powerset) → (HasDeadTag id → ⊥) → ((q : Powerset) → Names new.store.table id q → held ≡ q)
       → HasBegunWalk m mode behind (record { state = Some held; read = 0; earliest = earliest; found = None })
@@ -79,7 +79,7 @@ none_pair : (ps : List ℕ) (k : ℕ) → pair_at ps k None ≡ None → ps ≡ 
 none_pair [] k e = refl
 none_pair (p ∷ ps) k e = absurd (some_none e)
 
--- where there is no first pair, nothing is reported
+-- if there is no first pair, nothing is reported
 silent_first : (R : ℕ → List ℕ) (k : ℕ) → first_among R k ≡ None → (j : ℕ) → j < k → R j ≡ []
 silent_first R zero e j l = absurd (omega (arith, l))
 silent_first R (suc k) e j l =
@@ -91,7 +91,7 @@ silent_first R (suc k) e j l =
     go last before (inr more) =
         let same : k ≡ j = omega (arith, more, l) in subst (λ i. R i ≡ []) same (none_pair (R k) k last)
 
--- what the last of them reports is the first pair
+-- if the units before the last report nothing, the first pair is the first that the last unit reports
 first_last :
     (input : Input) (R : ℕ → List ℕ) (k : ℕ) → first_among R k ≡ None
     → half_of Forward input (first_among R (suc k)) ≡ half_at (R k) (input.start + k) None
@@ -102,7 +102,7 @@ half_empty : (ps : List ℕ) (at : ℕ) → ps ≡ [] → half_at ps at None ≡
 half_empty [] at e = refl
 half_empty (p ∷ ps) at e = cc
 
--- what is found at a place of a piece, by offsets of a haystack
+-- a match in a piece, with its offset in the haystack
 half_on :
     (ps : List ℕ) (start base k : ℕ)
     → from_first start (found_in (half_at ps (0 + k) None) base None) ≡ half_at ps (start + (base + k)) None
@@ -115,14 +115,14 @@ some_found : (found : Option HalfMatch) (base : ℕ) → (found ≡ None → ⊥
 some_found None base some e = some refl
 some_found (Some half) base some e = absurd (some_none e)
 
--- at a state where a match was found it stands at the state's patterns
+-- if a match was found, the patterns here are those of the current state
 at_state : (w : PiecesView) (q : Powerset) → w.state ≡ Some q → (w.found ≡ None → ⊥) → patterns_here w ≡ q.patterns
 at_state w q stood some = ap (λ s. patterns_at s w.found) stood ∙ go w.found some where
   go : (found : Option HalfMatch) → (found ≡ None → ⊥) → patterns_at (Some q) found ≡ q.patterns
   go None some = absurd (some refl)
   go (Some half) some = refl
 
--- at no match it stands at none
+-- if no match was found, there are no patterns here
 at_none : (w : PiecesView) → w.found ≡ None → patterns_here w ≡ []
 at_none w none = ap (patterns_at w.state) none ∙ go w.state where
   go : (state : Option Powerset) → patterns_at state None ≡ []
@@ -135,7 +135,7 @@ pub stands_as :
 stands_as t id count count' half half' old new stands same is =
     subst (λ c. StandsInRow t id c half' old new) same (subst (λ h. StandsInRow t id count h old new) is stands)
 
--- a walk that stands at no state passes over a piece
+-- a walk without a current state passes over a whole piece
 pub walks_none :
     (m : Machine) (piece : List ℕ) (w : PiecesView) → w.state ≡ None → w.found ≡ None
     → IsWalked m piece w w (length piece)
@@ -160,18 +160,18 @@ walks_none m piece w none found = record {
       );
 }
 
--- a walk that stood at a state goes on over a piece
+-- a walk with a current state reads a piece
 module _ (m : Machine) (q : Powerset) (piece : List ℕ) (old new : PiecesView) (was : old.state ≡ Some q)
     (early : old.earliest ≡ true) where
   abbrev states : ℕ → List ℕ
   states i = (piece_state m piece q (suc i)).patterns
 
-  -- what the bytes report, as an earliest search finds it
+  -- what the bytes report in an earliest search
   reported_is :
       (k : ℕ) → (piece_trace m piece old.earliest q).reported k ≡ first_among states k
   reported_is k = ap (λ e. (piece_trace m piece e q).reported k) early
 
-  -- those that report nothing are silent in the span
+  -- bytes that report nothing have no match in the span
   silent_on :
       (input : Input) (n k : ℕ) → HasWalked m input n old → IsPieceAt input n piece → k ≤ length piece
       → first_among states k ≡ None → HasNoMatch m input n (n + k)
@@ -183,7 +183,7 @@ module _ (m : Machine) (q : Powerset) (piece : List ℕ) (old new : PiecesView) 
       (pass_next m input n q piece given.inside here (given.stands q was).state (j - n) (omega (arith, few, l)))
       ∙ silent_first states k none (j - n) few)
 
-  -- through the piece it has met no match
+  -- it reads the whole piece without a match
   pub walks_through :
       (t : Rows) (id : ℕ) (found : Option HalfMatch)
       → StandsInRow t id (old.read + length piece) None old new
@@ -224,7 +224,7 @@ module _ (m : Machine) (q : Powerset) (piece : List ℕ) (old new : PiecesView) 
         );
   }
 
-  -- up to a byte
+  -- it reads the piece up to a byte
   module _ (i : ℕ) (found : Option HalfMatch) (begun end : Known) (upto : ReadsPieceUpto m piece old q i begun end)
       (reported : found ≡ half_of Forward (piece_input piece old.earliest)
       ((piece_trace m piece old.earliest q).reported (suc i)))
@@ -241,7 +241,7 @@ module _ (m : Machine) (q : Powerset) (piece : List ℕ) (old new : PiecesView) 
           ∙ (ap (half_of Forward (piece_input piece old.earliest)) (reported_is (suc i))
           ∙ first_last (piece_input piece old.earliest) states i before)
 
-      -- what it finds is why it stops: if nothing, the state is dead
+      -- if nothing is found there, the state after that byte is dead
       dead_upto : found ≡ None → piece_state m piece q (suc i) ≡ dead
       dead_upto none = go upto.over where
         go :
@@ -251,7 +251,7 @@ module _ (m : Machine) (q : Powerset) (piece : List ℕ) (old new : PiecesView) 
         go (FindsThere early some) =
             absurd (some (half_of_none Forward (piece_input piece old.earliest) _ (sym reported ∙ none)))
 
-      -- else the state has a row
+      -- if a match is found there, the state after that byte has a row
       pub named_upto :
           (t : Rows) (id : ℕ) → (found ≡ None → ⊥) → Leads t id (piece_state m piece q (suc i))
           → Names t id (piece_state m piece q (suc i))
@@ -259,7 +259,7 @@ module _ (m : Machine) (q : Powerset) (piece : List ℕ) (old new : PiecesView) 
           absurd (some (found_is ∙ half_empty (states i) (0 + i) (ap (λ (p : Powerset). p.patterns) dies)))
       named_upto t id some (LeadsToNamed named) = named
 
-      -- after it nothing matches
+      -- nothing can match after that byte
       pub walks_dead :
           found ≡ None → new.state ≡ None → new.found ≡ None → IsWalked m piece old new (length piece)
       walks_dead nothing none here_none = record {
@@ -292,7 +292,7 @@ module _ (m : Machine) (q : Powerset) (piece : List ℕ) (old new : PiecesView) 
             ap (λ (p : Powerset). p.patterns)
             (dead_more Forward m input (suc (n + i)) (suc j) (omega (arith, more)) dies)
 
-      -- at it patterns match
+      -- patterns match after that byte
       pub walks_match :
           (t : Rows) (id : ℕ) → (found ≡ None → ⊥)
           → StandsInRow t id (old.read + suc i) (found_in found old.read None) old new
@@ -347,7 +347,7 @@ module _ (m : Machine) (q : Powerset) (piece : List ℕ) (old new : PiecesView) 
                   ∙ sym (ap (λ (p : Powerset). half_at p.patterns (input.start + (n + i)) None) same));
             }
 
--- the state after the unit that follows the span reports what matches at its end
+-- the state after the unit that follows the span reports what matches at the end of the span
 pub walk_ends :
     (m : Machine) (ahead : Option ℕ) (w : PiecesView) (q : Powerset) (old new : CacheView) (id to : ℕ)
     (patterns : List ℕ)
@@ -363,7 +363,7 @@ walk_ends m ahead w q old new id to patterns stood named answer reports input al
     unit in
     reports (state_in Forward m input (suc n)) (subst (Leads new.store.table to) (sym same) (answer.named q named))
 
--- at no state nothing matches there
+-- without a current state nothing matches there
 pub walk_ends_none : (m : Machine) (ahead : Option ℕ) (w : PiecesView) → w.state ≡ None → EndsWith m w ahead []
 walk_ends_none m ahead w none input all =
     sym (ap (λ (p : Powerset). p.patterns)

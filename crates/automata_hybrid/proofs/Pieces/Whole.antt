@@ -1,4 +1,4 @@
--- Searches whose pieces are the whole haystack.
+-- Searches whose pieces make up the whole haystack.
 use Rattle.std.proofs.Common.{ℕ, ◌≡◌, ◌+◌, ◌-◌, Bool, List, [], ◌∷◌, ◌++◌, length, take, drop, Option, Some, None, refl}
 use Rattle.std.proofs.Common.{sym, ap, ap₂, ◌∙◌, subst, arith, append-nil}
 use Rattle.std.proofs.lemmas.List.{append_assoc, length-append}
@@ -9,7 +9,7 @@ use Rattle.automata_hybrid.specs.Pieces.Answers.{IsPieceAt, IsWhole, WasGiven, f
 use Rattle.automata_hybrid.specs.Pieces.State.{PiecesView}
 use Rattle.automata_hybrid.specs.Pieces.Whole.{HasReadAll, PiecesAreWhole, bytes_of_pieces, whole_input}
 
--- a piece stands where it was put together
+-- a piece lies in the joined haystack after the bytes before it
 piece_at : (mode : Anchored) (earliest : Bool) (xs piece rest : List ℕ)
     → IsPieceAt (whole_input (xs ++ (piece ++ rest)) mode earliest) (length xs) piece
 piece_at mode earliest xs piece rest = record {
@@ -29,7 +29,7 @@ piece_at mode earliest xs piece rest = record {
   width : 0 + length xs + length piece - (0 + length xs) ≡ length piece
   width = omega arith
 
--- a search that has read pieces was given the bytes of each haystack that begins with them
+-- a search that has read pieces was given the first bytes of each haystack that begins with them
 given_all :
     (m : Machine) (mode : Anchored) (earliest : Bool) (pieces : List (List ℕ)) (p : PiecesView) (rest : List ℕ)
     → HasReadAll m mode earliest pieces p

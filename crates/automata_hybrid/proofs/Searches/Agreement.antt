@@ -1,4 +1,4 @@
--- A search finds one answer, and walks report one list.
+-- A search has one answer, and walks over an input report one list.
 use Rattle.std.proofs.Common.{◌∙◌, List, sym, subst}
 use Rattle.automata_hybrid.proofs.Words.{Automaton, Machine, match_kind_of, MatchKind, Pair, WalksAreReported}
 use Rattle.automata_base.specs.Answers.OfPasses.{IsReported, ReportedIsOne}

@@ -10,7 +10,7 @@ use Rattle.automata_base.proofs.Paths.Orders.{some_inj, some_none}
 use Rattle.automata_base.proofs.Answers.Within.{reported_within}
 use Rattle.automata_base.specs.Answers.Within.{IsInSpan}
 
--- what is found lies in the span, not before the start of the span that gave it
+-- what is found lies in the span, at or after the start of the span that the pass was made over
 pub found_within :
     (way : Direction) (m : Machine) (input : Input) (half : Half)
     → input.end ≤ length input.haystack → IsFound way m input (Some half)
@@ -27,7 +27,7 @@ module _ (m : Machine) (input : Input) (law : ReportedLiesWithin m.nfa) (few : i
       let l = law way (match_kind_of m.config) input half few (found_reported way m input (Some half) f) in
       (record { pattern = l.0; from = l.1.0; upto = l.1.1 }, l.2, l.3)
 
-  -- with the start of the span that gave them
+  -- results with the start of the span that the pass was made over
   pub lies_past :
       (r : Result (Option (HalfMatch × ℕ)) SearchError)
       → IfOk r (λ o. IsFound Forward m input (option_map (λ (p : HalfMatch × ℕ). with_base p.0 p.1) o))
@@ -43,7 +43,7 @@ module _ (m : Machine) (input : Input) (law : ReportedLiesWithin m.nfa) (few : i
   half_lies way half None f e = absurd (some_none e)
   half_lies way half (Some reported) f e = subst (LiesIn m input) (sym (some_inj e)) (found_lies way reported f).0
 
-  -- and without it
+  -- results without it
   pub lies_in :
       (way : Direction) (r : Result (Option HalfMatch) SearchError)
       → IfOk r (WithoutBase (IsFound way m input)) → IfOk r (λ o. IfSome o (LiesIn m input))

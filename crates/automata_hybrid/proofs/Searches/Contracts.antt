@@ -1,4 +1,4 @@
--- What searches return whatever the cache.
+-- What searches return, whatever is cached.
 use Rattle.std.proofs.Common.{ℕ, zero, suc, ◌≡◌, ◌∙◌, ◌+◌, ◌<◌, Option, Some, None, refl, sym, ap, subst, arith}
 use Rattle.automata_hybrid.proofs.Words.{CannotStart, Direction, Err, FailsLater, Forward, Half, HalfMatch, HaveTried}
 use Rattle.automata_hybrid.proofs.Words.{IfErr, IfOk, IfSome, Input, IsFound, IsSearchRun, IsStoreOf, Known, LacksMode}
@@ -12,7 +12,7 @@ use Rattle.automata_hybrid.proofs.Searches.Directions.{later_anchored, later_non
 use Rattle.automata_hybrid.proofs.Searches.PassState.{false_true}
 use Rattle.automata_hybrid.proofs.Searches.Progress.{tries_first}
 
--- a cache that is of its DFA and keeps its bounds is one of it, within its settings
+-- a cache whose machine is the DFA's, and which satisfies `IsStoreOf` for that machine, is a cache of the DFA
 pub is_store : (c : Stored) (m : Machine) → c.table.of ≡ m → IsStoreOf c c.table.of → IsStoreOf c m
 is_store c m of bounds = subst (λ (n : Machine). IsStoreOf c n) of bounds
 
@@ -47,7 +47,7 @@ module _ (way : Direction) (m : Machine) (input : Input) (old new : Known) where
   search_run (Ok o) h = h.effect
   search_run (Err e) h = h
 
-  -- the same without where its span began
+  -- the same without the start of the span
   pub half_found :
       (r : Result (Option (HalfMatch × ℕ)) SearchError) (v : Result (Option HalfMatch) SearchError) → v ≡ halves r
       → IsSearchResult way m input old new r → IfOk v (WithoutBase (IsFound way m input))
@@ -61,7 +61,7 @@ module _ (way : Direction) (m : Machine) (input : Input) (old new : Known) where
   half_run r v same h =
       subst (IsSearchRun way m input old new) (sym (ap result_err same ∙ halves_error r)) (search_run r h)
 
-  -- in a span that is done it finds nothing
+  -- if the span is done, it finds nothing
   pub search_done :
       (r : Result (Option (HalfMatch × ℕ)) SearchError) → IsSearchResult way m input old new r
       → input.end < input.start → r ≡ Ok None
@@ -69,7 +69,7 @@ module _ (way : Direction) (m : Machine) (input : Input) (old new : Known) where
   search_done (Ok (Some p)) h past = absurd (omega (arith, past, h.found.2.within))
   search_done (Err e) h past = absurd (omega (arith, past, (h.tried 0 (omega arith)).1))
 
--- how many passes a forward search makes for its answer
+-- the number of passes that a forward search makes, by its answer
 pub search_upto :
     (m : Machine) (input : Input) (old new : Known) (r : Result (Option (HalfMatch × ℕ)) SearchError)
     → IsSearchResult Forward m input old new r
@@ -79,7 +79,7 @@ search_upto m input old new (Err e) h = tt
 
 -- a search whose anchored mode is not supported
 module _ (way : Direction) (m : Machine) (input : Input) (u : IsUnsupported way m input) where
-  -- no pass of it ends
+  -- no pass ends
   no_pass : (passes : ℕ) (old new : Known) → PassesEnd way m input (suc passes) old new → ⊥
   no_pass passes old new ends =
       false_true (sym u.mode ∙ (ap (supports m) (sym (later_anchored way passes input)) ∙ ends.2.may.1))
@@ -89,7 +89,7 @@ module _ (way : Direction) (m : Machine) (input : Input) (u : IsUnsupported way 
   none_ends zero old new last ends = last (tries_first way m input, omega (arith, u.undone))
   none_ends (suc passes) old new last ends = no_pass passes old new ends
 
-  -- its first one fails for the mode
+  -- the first pass fails with that error
   first_fails : (old new : Known) (e : SearchError) → PassFails way m input old new e → e ≡ unsupported_error input
   first_fails old new e (QuitsBehind byte behind is same) = cc (u.behind)
   first_fails old new e (LacksMode behind mode is same) = is

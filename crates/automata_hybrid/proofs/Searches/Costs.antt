@@ -5,7 +5,7 @@ use Rattle.automata_hybrid.proofs.Words.{Direction, Input, IsFirstSpan, Pair, Tr
 use Rattle.automata_base.specs.Answers.Answers.{MayTry, SkipsToIt}
 use Rattle.automata_hybrid.specs.Known.Follows.{passes_most}
 
--- one pass more
+-- one more pass
 pub most_more :
     (passes bytes units old between new : ℕ)
     → between ≤ old + passes_most passes bytes → new ≤ between + (units + 2) → units ≤ bytes - passes
@@ -38,7 +38,7 @@ most_times (suc passes) bytes =
     let one : suc passes * (bytes + 2) ≡ passes * (bytes + 2) + (bytes + 2) = grind arith in
     omega (arith, before, most, one)
 
--- where the spans tried come to one, they came to each before it
+-- a search that tries a span tries every span before it
 pub tries_before :
     (T : Input → Option Pair → Type 0) (S : Type 0) (way : Direction) (input : Input) (j k : ℕ)
     → j ≤ k → Tries T S way input k → Tries T S way input j

@@ -1,4 +1,4 @@
--- The directions of a search: the units at its places and their offsets, and where it begins.
+-- The directions of a search: the unit at each place and its offset, and where the search begins.
 use Rattle.automata_hybrid.proofs.Words.{Backward, byte_before, dead, Direction, Forward, given_up_offset, Input}
 use Rattle.automata_hybrid.proofs.Words.{is_quit, IsBitSet, later, Leads, Machine, Names, next, offset_in, Powerset}
 use Rattle.automata_hybrid.proofs.Words.{Rows, slice_get, start_state_of, state_in, tape_in, unit_offset}
@@ -18,7 +18,7 @@ pub units_in :
 units_in Forward input s l = forward_units input s l
 units_in Backward input s l = backward_units input s l
 
--- forward the unit at a place is the byte at its offset, backward the one before it
+-- forward, the unit at a place is the byte at its offset; backward, the byte before it
 pub unit_forward :
     (w : Direction) (input : Input) (place at : ℕ)
     → w ≡ Forward → input.start ≤ input.end → place ≤ input.end - input.start → input.end ≤ length input.haystack
@@ -58,7 +58,7 @@ backward_within w input place at e o =
     backward : at ≡ input.end - place → at ≤ input.end
     backward f = omega (arith, f)
 
--- the byte at a place of the span stands at its own offset
+-- the unit at a place of the span is the byte at that unit's offset
 pub unit_read :
     (way : Direction) (input : Input) (xs : List ℕ) (place i : ℕ)
     → place < input.end - input.start → input.end ≤ length input.haystack → xs ≡ input.haystack
@@ -74,7 +74,7 @@ unit_read Backward input xs place i p l same here =
     ap (next (tape_in Backward input)) k
     ∙ backward_read input xs at i (omega (arith, p)) (omega arith) l same (omega (arith, here, p))
 
--- and so do the bytes from a place on
+-- so are the units from a place on
 pub units_forward :
     (w : Direction) (input : Input) (hay : List ℕ) (place first end : ℕ)
     → w ≡ Forward → input.start ≤ input.end → place ≤ input.end - input.start → input.end ≤ length input.haystack
@@ -124,14 +124,14 @@ units_backward w input hay place first end e s p l same here there =
         (omega (arith, low, long, here, there))
         ∙ ap Some (sym (get_or-chunk first (end - place - first) hay i 0 (omega (arith, low, long))))
 
--- in the span the step on a byte is given up at its own offset
+-- in the span, the offset of the "gave up" error on a byte is the byte's own offset
 pub span_unit :
     (way : Direction) (input : Input) (k : ℕ) → k < input.end - input.start
     → given_up_offset way input k ≡ unit_offset way input k
 span_unit Forward input k l = refl
 span_unit Backward input k l = omega (arith, l)
 
--- the input of which a search begins later
+-- the input of a search that begins later
 pub later_none : (way : Direction) (input : Input) → input ≡ later way 0 input
 later_none Forward input =
     let e : input.start ≡ input.start + 0 = omega arith in ap (λ (n : ℕ). record input { start = n }) e
@@ -154,7 +154,7 @@ pub later_start :
 later_start way k input now same forward =
     ap (λ (i : Input). i.start) same ∙ ap (λ (d : Direction). (later d k input).start) forward
 
--- how many spans a search has left behind it is seen by how much shorter the next one is
+-- the number of spans tried before, by how much shorter the current one is
 abbrev pub skipped : Input → Input → ℕ
 skipped input now = input.end + 1 - input.start - (now.end + 1 - now.start)
 
@@ -171,13 +171,13 @@ module _ (input now : Input) (few : now.end + 1 - now.start ≤ input.end + 1 - 
       → suc (skipped input now) ≡ skipped input next
   skipped_more next shorter = omega (arith, few, ahead, shorter)
 
--- a byte read that is no quit byte
+-- a byte that is read and is not a quit byte
 pub quit_free :
     (m : Machine) (read : ℕ) → is_quit m.quits read ≡ false
     → (byte : ℕ) → ◌≡◌ {A = Option ℕ} (Some read) (Some byte) → is_quit m.quits byte ≡ false
 quit_free m read clean byte e = subst (λ v. is_quit m.quits v ≡ false) (some_inj e) clean
 
--- a pass begins dead, or in the state that its start names
+-- a pass begins dead, or in the state that its start ID names
 module _ (way : Direction) (m : Machine) (t : Rows) (input : Input) (id : ℕ)
     (named : Leads t id (start_state_of m.nfa input.anchored (tape_in way input).before))
     (low : (q : Powerset) → Names t id q → id < 2 ^ 29) (small : t.of.stride ≤ 512) where

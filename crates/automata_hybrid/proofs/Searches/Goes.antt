@@ -22,7 +22,7 @@ use Rattle.automata_hybrid.proofs.Known.Events.{cached_known}
 use Rattle.automata_hybrid.proofs.Searches.PassState.{reads_before, stops_last}
 use Rattle.automata_hybrid.proofs.Steps.Steps.{unit_no_quit}
 
--- what the units from one place to another make of what a cache knows
+-- the effect of the units from one place to another on what a cache knows
 pub record GoesToAlong (s : Trace) (way : Direction) (m : Machine) (input : Input) (from to : ℕ) (old new : Known) :
     Type 0 where
   pub units : ℕ
@@ -48,7 +48,7 @@ module _ {s : Trace} (way : Direction) (m : Machine) (input : Input) (from : ℕ
   unfolding after_many
   goes_none = record { units = 0; upto = omega arith; run = refl }
 
-  -- one more
+  -- one more unit
   pub goes_more :
       (k : ℕ) (mid new : Known) → GoesToAlong s way m input from k old mid → after_unit s way m input k mid ≡ Some new
       → GoesToAlong s way m input from (suc k) old new
@@ -94,7 +94,7 @@ module _ {s : Trace} (way : Direction) (m : Machine) (input : Input) (from : ℕ
             goes_more to (known_of c) (known_of c) (upto (omega (arith, less)))
             (here (learned to (omega (arith, less)) (omega arith)))
 
--- at least one was read
+-- at least one unit was read
 pub goes_some :
     (way : Direction) (m : Machine) (input : Input) (from k : ℕ) (old new : Known) → from ≤ k
     → GoesTo way m input from (suc k) old new
@@ -107,7 +107,7 @@ goes_some way m input from k old new more all =
       subst (λ n. after_many (pass_trace way m input) way m input from n old ≡ Some new) one all.run,
     )
 
--- all units from the first one on, before a place
+-- all units before a place, from the first one on
 pub goes_all :
     {s : Trace} {way : Direction} {m : Machine} {input : Input} {k : ℕ} {old new : Known}
     → GoesToAlong s way m input 0 k old new → after_many s way m input 0 k old ≡ Some new
@@ -116,7 +116,7 @@ goes_all {s} {way} {m} {input} {k} {old} {new} all =
     let same : all.units ≡ k = omega (arith, upto) in
     subst (λ n. after_many s way m input 0 n old ≡ Some new) same all.run
 
--- a pass has ended where the unit that it read was its last one
+-- a pass has ended after the unit that it read, which was its last
 pub pass_last :
     (way : Direction) (m : Machine) (input : Input) (k : ℕ) (begun mid new : Known) → Reads way m input k
     → (Reads way m input (suc k) → ⊥) → HasReadNoQuit way m input (suc k) → GoesTo way m input 0 (suc k) begun mid
@@ -138,7 +138,7 @@ pass_last way m input k begun mid new reads stops clean all last =
           ∙ ap Some (sym last);
     }
 
--- or it failed at the next one
+-- a pass failed at the next unit
 pub pass_stopped :
     (way : Direction) (m : Machine) (input : Input) (k : ℕ) (begun mid new : Known) (e : SearchError)
     → Reads way m input k → HasReadNoQuit way m input k → GoesTo way m input 0 k begun mid
@@ -146,7 +146,7 @@ pub pass_stopped :
 pass_stopped way m input k begun mid new e reads clean all fails =
     record { place = k; reads = reads; clean = clean; mid = mid; run = goes_all all; fails = fails }
 
--- where the units before are read, reading the last one is the rest of a pass
+-- once the units before it are read, reading the last unit is the rest of a pass
 pub last_rest :
     (way : Direction) (m : Machine) (input : Input) (begun mid new : Known)
     (r : Result (Option HalfMatch) SearchError) → input.end - input.start ≡ length (tape_in way input).bytes
@@ -165,7 +165,7 @@ last_rest way m input begun mid new (Ok half) units reads clean before last = re
 last_rest way m input begun mid new (Err e) units reads clean before last =
     pass_stopped way m input (input.end - input.start) begun mid new e reads clean before last
 
--- where a pass has its start state, and its search begins, what its rest returns is what it returns
+-- once a pass has its start state and its search has begun, the pass returns what its rest returns
 pub rest_passes :
     (way : Direction) (m : Machine) (input : Input) (old mid begun new : Known)
     (r : Result (Option HalfMatch) SearchError) → IsStartRun m input.anchored (tape_in way input).before old mid
@@ -184,7 +184,7 @@ rest_passes way m input old mid begun new (Err e) starts begins rest =
     FailsLater starts.may begun
     (ap (option_map (known.begun (given_up_offset way input 0))) starts.does ∙ ap Some (sym begins)) rest
 
--- a pass whose start is dead reads nothing
+-- a pass whose start state is dead reads nothing
 pub pass_dies :
     (way : Direction) (m : Machine) (input : Input) (begun new : Known) → (Reads way m input 0 → ⊥)
     → new ≡ ended (given_up_offset way input 0) begun → UnitsEnd way m input begun new
@@ -227,11 +227,11 @@ start_fails_pass way m input old new e f = go f.error f.fails f.reported where
             (reported ∙ ap (λ x. start_search_error x (behind_offset way input) (offset_in way input 0)) is);
       })
 
--- the unit at a place was come to at its offset, from an ID that names the state there
+-- the search has reached the unit at a place at its offset, from an ID that names the state there
 module _ (s : Trace) (way : Direction) (m : Machine) (input : Input) (k id at : ℕ) (unit : Option ℕ) (c new : CacheView)
     (is : next (tape_in way input) k ≡ unit) (place : given_up_offset way input k ≡ at)
     (named : Names c.store.table id (s.state k)) where
-  -- and read
+  -- the unit is read
   pub taken_along :
       ((q : Powerset) → Names c.store.table id q → StepMakes m q unit at c new)
       → after_unit s way m input k (known_of c) ≡ Some (known_of new)
@@ -240,7 +240,7 @@ module _ (s : Trace) (way : Direction) (m : Machine) (input : Input) (k id at : 
       ∙ ap (λ u. after_event m (Step (s.state k) u) (moved at (known_of c)) (known_of c)) is
       ∙ taken (s.state k) named
 
-  -- or not
+  -- reading the unit fails
   pub left_along :
       (quit_at : ℕ) (e : SearchError)
       → ((q : Powerset) → Names c.store.table id q → ReadFails m q unit quit_at at at (known_of c) (known_of new) e)
@@ -271,7 +271,7 @@ module _ (way : Direction) (m : Machine) (input : Input) (k id at : ℕ) (unit :
       (sym quits)
       (left_along (pass_trace way m input) way m input k id at unit c new is place named quit_at e fails)
 
--- a search was begun at the offset of its first unit
+-- a search begins at the offset of its first unit
 pub begun_here :
     (way : Direction) (input : Input) (at : ℕ) (old new : CacheView) → given_up_offset way input 0 ≡ at
     → new ≡ with_store old (with_searched old.store (progress_started old.store.searched at))
@@ -279,7 +279,7 @@ pub begun_here :
 begun_here way input at old new place begins =
     ap known_of begins ∙ ap (λ a. known.begun a (known_of old)) (sym place)
 
--- a search was ended at the offset of a unit
+-- a search ends at the offset of a unit
 pub ended_here :
     (way : Direction) (input : Input) (k at : ℕ) (mid new : CacheView) → given_up_offset way input k ≡ at
     → new ≡ with_store mid (with_searched mid.store (progress_finished mid.store.searched at))

@@ -1,4 +1,4 @@
--- Passes over cached transitions alone: how they end, and what they make of what the cache knows.
+-- Passes over cached transitions only: how they end, and their effect on what the cache knows.
 use Rattle.std.proofs.Common.{ℕ, suc, ◌≡◌, ◌+◌, ◌-◌, ◌<◌, ◌≤◌, ◌⊎◌, inl, inr, length, Option, None, Some, true, false}
 use Rattle.std.proofs.Common.{refl, sym, ap, subst, arith}
 use Rattle.std.proofs.lemmas.Bool.{cases_lt}
@@ -25,7 +25,7 @@ use Rattle.automata_hybrid.proofs.Caches.Searched.{searched_sound}
 use Rattle.automata_hybrid.proofs.Steps.Ids.{dead_tagged, unquit}
 use Rattle.automata_hybrid.proofs.Searches.Goes.{goes_known, goes_none, pass_last}
 
--- a pass over cached transitions that has not ended was led to its place by them
+-- a pass over cached transitions that has not ended reached its place by them
 pub known_upto :
     (way : Direction) (m : Machine) (c : CacheView) (input : Input) (s : KnownStop) (k id : ℕ)
     (found : Option HalfMatch)
@@ -34,7 +34,7 @@ known_upto way m c input Ended k id found on h = absurd (on refl)
 known_upto way m c input Missing k id found on h = h.0
 known_upto way m c input Left k id found on h = h
 
--- a unit on which a step leads to an ID without the quit tag is no quit byte
+-- a unit whose step leads to an ID without the quit tag is not a quit byte
 pub clean_unit :
     (m : Machine) (t : Rows) (to : ℕ) (unit : Option ℕ) → t.of ≡ m → t.of.stride ≤ 512 → (HasQuitTag to → ⊥)
     → (quits_on m unit ≡ true → to ≡ quit_id m.stride) → quits_on m unit ≡ false
@@ -42,7 +42,7 @@ clean_unit m t to None of small clear quit = refl
 clean_unit m t to (Some byte) of small clear quit = unquit m t to byte of small clear quit
 
 module _ (way : Direction) (m : Machine) (input : Input) (k id : ℕ) (c : CacheView) where
-  -- what such a pass makes of its cache, once its bytes are counted
+  -- the effect of such a pass on its cache, once its bytes are counted
   module _ (half : Option HalfMatch) (new : CacheView) (machine : IsMachine m)
       (units_are : (j : ℕ) → IsUnit (next (tape_in way input) j)) (end : IsKnownEnd way m c input k id half)
       (sound : IsStoreOf c.store m)
@@ -77,8 +77,8 @@ module _ (way : Direction) (m : Machine) (input : Input) (k id : ℕ) (c : Cache
             let same : k ≡ j = omega (arith, less, more) in
             subst (HasLearnedUnit way m c.store input) same end.known
 
--- a pass stands at a place up to which all was cached, and so is the transition on its unit there, which is no quit
--- byte
+-- everything before the current place of a pass is cached, and so is the transition on the unit there, which is not a
+-- quit byte
 module _ (way : Direction) (m : Machine) (input : Input) (k id : ℕ) (c : CacheView) (before : Option HalfMatch) (to : ℕ)
     (of : IsCacheOf c m) (sound : IsSoundTable c.store.table) (upto : IsKnownUpto way m c.store input k id before)
     (few : k ≤ length (tape_in way input).bytes) (knows : KnowsStep m c.store id (next (tape_in way input) k))
@@ -116,7 +116,7 @@ module _ (way : Direction) (m : Machine) (input : Input) (k id : ℕ) (c : Cache
     known = here;
   }
 
-  -- it ends where the state after the unit is dead
+  -- it ends if the state after the unit is dead
   pub known_dead : HasDeadTag to → IsKnownEnd way m c input k id before
   known_dead dead_to =
       ends_known before
@@ -129,14 +129,14 @@ module _ (way : Direction) (m : Machine) (input : Input) (k id : ℕ) (c : Cache
 
   module _ (half : Option HalfMatch) (at : ℕ) (place : at ≡ offset_in way input k)
       (reports : (q : Powerset) → Leads c.store.table to q → half ≡ half_at q.patterns at before) where
-    -- and with the last unit
+    -- it ends if this is the last unit
     pub known_last : k ≡ length (tape_in way input).bytes → IsKnownEnd way m c input k id half
     known_last last =
         ends_known half (stops_last way m input k last)
         (last_answer way m input k id (next (tape_in way input) k) before c c upto.at refl to half answer at place
         reports last)
 
-    -- and where it is earliest, and found something
+    -- it ends if it is earliest and has found something
     pub known_first : input.earliest ≡ true → (half ≡ None → ⊥) → IsKnownEnd way m c input k id half
     known_first early some =
         ends_known half
@@ -145,7 +145,7 @@ module _ (way : Direction) (m : Machine) (input : Input) (k id : ℕ) (c : Cache
         (first_answer way m input k id (next (tape_in way input) k) before c c upto.at refl to half answer at place
         reports early some few)
 
-    -- and else it goes on
+    -- otherwise it continues
     pub known_more :
         (HasDeadTag to → ⊥) → (input.earliest ≡ true → half ≡ None) → k < input.end - input.start
         → IsKnownUpto way m c.store input (suc k) to half

@@ -1,4 +1,4 @@
--- What a pass answers, from what its parts answer.
+-- What a pass answers, by what its parts answer.
 use Rattle.std.proofs.Common.{ℕ, suc, ◌≡◌, ◌≤◌, length, Option, Some, None, true, false, List, Bool}
 use Rattle.automata_hybrid.proofs.Words.{Anchored, CacheView, dead, Direction, half_at, HalfMatch, Input, is_quit}
 use Rattle.automata_hybrid.proofs.Words.{Leads, Machine, next, offset_in, Powerset, Reads, state_in, tape_in}
@@ -10,7 +10,7 @@ use Rattle.automata_hybrid.proofs.Searches.PassState.{clean_dead, clean_ends, cl
 use Rattle.automata_hybrid.proofs.Searches.PassState.{more_last, stops_dead, stops_ends}
 use Rattle.automata_hybrid.proofs.Steps.Steps.{no_quit_unit}
 
--- the parts of an input make it again
+-- rebuilding an input from its parts gives the input
 pub same_input :
     (input : Input) (haystack : List ℕ) (span : Span) (anchored : Anchored) (earliest : Bool)
     → haystack ≡ input.haystack → span.start ≡ input.start → span.end ≡ input.end → anchored ≡ input.anchored
@@ -24,16 +24,16 @@ same_input input haystack span anchored earliest h s e a f = λ i. record {
   earliest = f i;
 }
 
--- a pass stands at a place, and reads a unit there
+-- a pass reads the unit at its current place
 module _ (way : Direction) (m : Machine) (input : Input) (k id : ℕ) (u : Option ℕ) (found : Option HalfMatch)
     (old after : CacheView) (underway : IsUnderway way m old.store.table input k id found)
     (unit : next (tape_in way input) k ≡ u) where
-  -- what it answers
+  -- what the pass answers
   module _ (n : ℕ) (half : Option HalfMatch) (a : IsReadAnswer m id u old after n) where
     free : (byte : ℕ) → u ≡ Some byte → is_quit m.quits byte ≡ false
     free = no_quit_unit m u a.clean
 
-    -- where it was the last unit
+    -- the unit was the last one
     pub last_answer :
         (at : ℕ) → at ≡ offset_in way input k
         → ((q : Powerset) → Leads after.store.table n q → half ≡ half_at q.patterns at found)
@@ -48,7 +48,7 @@ module _ (way : Direction) (m : Machine) (input : Input) (k id : ℕ) (u : Optio
       supported = underway.may.1;
     }
 
-    -- where the state after it is dead
+    -- the state after the unit is dead
     module _
         (dies : Leads after.store.table n (state_in way m input (suc k)) → state_in way m input (suc k) ≡ dead) where
       pub dead_answer : k ≤ length (tape_in way input).bytes → IsPassAnswer way m input found
@@ -67,7 +67,7 @@ module _ (way : Direction) (m : Machine) (input : Input) (k id : ℕ) (u : Optio
           stops_dead way m old.store.table after.store.table input k id n u found half underway.at unit a.named free
           dies
 
-    -- where an earliest pass found something
+    -- an earliest pass has found something
     module _ (at : ℕ) (place : at ≡ offset_in way input k)
         (reports : (q : Powerset) → Leads after.store.table n q → half ≡ half_at q.patterns at found)
         (early : input.earliest ≡ true) (some : half ≡ None → ⊥) where

@@ -18,14 +18,14 @@ use Rattle.automata_hybrid.proofs.Searches.Traces.{more_along, none_along, pass_
 use Rattle.automata_base.proofs.Paths.Orders.{some_none}
 pub use Rattle.std.proofs.lemmas.Bool.{false≢true as false_true}
 
--- one unit more
+-- one more unit
 pub state_more :
     (way : Direction) (m : Machine) (input : Input) (k : ℕ)
     → state_in way m input (suc k)
     ≡ successor m.nfa (match_kind_of m.config) (state_in way m input k) (next (tape_in way input) k)
 state_more way m input k = (pass_is_trace way m input).steps k
 
--- the dead state stays, and reports nothing
+-- a state after the dead state is dead, and reports nothing
 pub dead_more :
     (way : Direction) (m : Machine) (input : Input) (k n : ℕ)
     → k ≤ n → state_in way m input k ≡ dead → state_in way m input n ≡ dead
@@ -65,7 +65,7 @@ dead_reports way m input k (suc n) l e = go (λ more. dead_reports way m input k
   go before (inl same) = quiet way m input k (suc n) l e ∙ ap (reported_in way m input) (sym same)
   go before (inr less) = quiet way m input k (suc n) l e ∙ before (omega (arith, less))
 
--- a pass that dies has found what it had
+-- once the state of a pass is dead, the pass has found what it answers
 pub found_dead :
     (way : Direction) (m : Machine) (input : Input) (k : ℕ)
     → k ≤ length (tape_in way input).bytes → state_in way m input (suc k) ≡ dead
@@ -96,7 +96,7 @@ reported_stays kind false a mode t k n o l f e some = absurd (false_true f)
 reported_stays kind true a mode t k n None l f e some = absurd (some refl)
 reported_stays kind true a mode t k n (Some pair) l f e some = first_stays kind a mode t k n pair l e ∙ sym e
 
--- an earliest pass that has found something has found all
+-- an earliest pass that has found something has found what it answers
 pub found_first :
     (way : Direction) (m : Machine) (input : Input) (k : ℕ)
     → k ≤ suc (length (tape_in way input).bytes) → input.earliest ≡ true
@@ -108,7 +108,7 @@ found_first way m input k l e some =
     (suc (length (tape_in way input).bytes)) (reported_in way m input k) l e refl
     (λ f. some (ap (half_of way input) f))))
 
--- a pass has met no quit byte if it does not have up to a place, and reads nothing from there on
+-- a pass meets no quit byte if it has met none up to a place, and reads nothing from there on
 pub clean_all :
     (way : Direction) (m : Machine) (input : Input) (k : ℕ)
     → quit_behind m (tape_in way input).before ≡ None
@@ -121,7 +121,7 @@ clean_all way m input k behind clean stops = (behind, λ j byte reads e. go j by
   go j byte reads e (inl l) = clean j byte l e
   go j byte reads e (inr l) = absurd (stops j l reads)
 
--- what a pass that stands at a place reads
+-- a pass whose current state is not dead reads the unit at its place
 pub at_reads :
     (way : Direction) (m : Machine) (t : Rows) (input : Input) (k id : ℕ) (found : Option HalfMatch)
     → IsAt way m t input k id found → k ≤ length (tape_in way input).bytes
@@ -133,7 +133,7 @@ at_reads way m t input k id found at l alive = (
       (sym at.reported ∙ at.nothing e),
 )
 
--- it reads the units before one that it reads
+-- a pass that reads a unit reads every unit before it
 pub reads_before :
     (way : Direction) (m : Machine) (input : Input) (j k : ℕ) → j ≤ k → Reads way m input k → Reads way m input j
 reads_before way m input j k l reads = (
@@ -156,12 +156,12 @@ pub stops_last :
 stops_last way m input k l j less r =
     let f : j ≤ length (tape_in way input).bytes = r.0 in absurd (omega (arith, l, less, f))
 
--- a pass that stands at a place reads one unit more, which is no quit byte
+-- a pass reads one more unit at its current place, which is not a quit byte
 module _ (way : Direction) (m : Machine) (t t' : Rows) (input : Input) (k id id' : ℕ) (u : Option ℕ)
     (found found' : Option HalfMatch) (at : IsAt way m t input k id found) (unit : next (tape_in way input) k ≡ u)
     (reads : (q : Powerset) → Names t id q → Leads t' id' (successor m.nfa (match_kind_of m.config) q u))
     (free : (byte : ℕ) → u ≡ Some byte → is_quit m.quits byte ≡ false) where
-  -- the ID found reports its patterns at the offset of the place
+  -- the next ID reports its patterns at the offset of the place
   abbrev pub Reports : Type 0
   Reports =
       (o : ℕ) × (o ≡ offset_in way input k) × ((q : Powerset) → Leads t' id' q → found' ≡ half_at q.patterns o found)
@@ -177,7 +177,7 @@ module _ (way : Direction) (m : Machine) (t t' : Rows) (input : Input) (k id id'
       → found' ≡ half_of way input (reported_in way m input (suc k))
   more_found reports = more_along (pass_is_trace way m input) t t' k id id' u found found' at unit reads reports
 
-  -- and stands after it
+  -- the pass continues at the next place
   pub more_at :
       Reports
       → (input.earliest ≡ true → found' ≡ None)
@@ -186,7 +186,7 @@ module _ (way : Direction) (m : Machine) (t t' : Rows) (input : Input) (k id id'
   more_at reports first alive =
       at_along (pass_is_trace way m input) t t' k id id' u found found' at unit reads free reports first alive
 
-  -- or dies
+  -- the next state is dead, and the pass ends
   pub more_dead :
       (Leads t' id' (state_in way m input (suc k)) → state_in way m input (suc k) ≡ dead)
       → k ≤ length (tape_in way input).bytes
@@ -203,7 +203,7 @@ module _ (way : Direction) (m : Machine) (t t' : Rows) (input : Input) (k id id'
       → quit_behind m (tape_in way input).before ≡ None → MeetsNoQuit way m input
   clean_dead dies behind = clean_all way m input (suc k) behind more_clean (stops_dead dies)
 
-  -- or an earliest pass ends
+  -- an earliest pass has found something, and ends
   pub more_ends :
       Reports
       → k ≤ length (tape_in way input).bytes → input.earliest ≡ true → (found' ≡ None → ⊥)
@@ -226,7 +226,7 @@ module _ (way : Direction) (m : Machine) (t t' : Rows) (input : Input) (k id id'
       → MeetsNoQuit way m input
   clean_ends reports e some behind = clean_all way m input (suc k) behind more_clean (stops_ends reports e some)
 
-  -- or it was the last unit
+  -- the unit was the last one, and the pass ends
   pub more_last :
       Reports
       → k ≡ length (tape_in way input).bytes → found' ≡ found_over way m input
@@ -236,13 +236,13 @@ module _ (way : Direction) (m : Machine) (t t' : Rows) (input : Input) (k id id'
       k ≡ length (tape_in way input).bytes → quit_behind m (tape_in way input).before ≡ None → MeetsNoQuit way m input
   clean_last l behind = clean_all way m input (suc k) behind more_clean (stops_last way m input k l)
 
--- a pass begins at its start
+-- a pass begins at its start state, and has found nothing
 pub starts_at :
     (way : Direction) (m : Machine) (t : Rows) (input : Input) (id : ℕ)
     → Names t id (state_in way m input 0) → IsAt way m t input 0 id None
 starts_at way m t input id n = begins_along (pass_is_trace way m input) n
 
--- a pass that is dead from its start on finds nothing, and meets no quit byte
+-- a pass whose start state is dead finds nothing, and meets no quit byte
 pub starts_dead :
     (way : Direction) (m : Machine) (input : Input)
     → state_in way m input 0 ≡ dead → None ≡ found_over way m input
@@ -274,7 +274,7 @@ pub none_is : {T : Type 0} (o : Option T) → is_some o ≡ false → o ≡ None
 none_is None h = refl
 none_is (Some half) h = absurd (false_true (sym h))
 
--- a pass begins in its start state
+-- the first state of a pass is its start state
 pub state_first :
     (way : Direction) (m : Machine) (input : Input)
     → start_state_of m.nfa input.anchored (tape_in way input).before ≡ state_in way m input 0

@@ -1,4 +1,4 @@
--- A run along a trace that is over with a byte, or fails at one; and that of a piece, whose errors are counted from a
+-- A run along a trace that ends with a byte or fails at one, and the run over a piece, whose errors are counted from a
 -- place before it.
 use Rattle.std.proofs.Common.{ℕ, suc, ◌≡◌, ◌∙◌, ◌+◌, ◌-◌, ◌/◌, ◌%◌, ◌^◌, ◌<◌, Bool, true, List, Option, Some, None}
 use Rattle.std.proofs.Common.{refl, sym, ap, arith, slice_get, subst}
@@ -19,7 +19,7 @@ use Rattle.automata_hybrid.proofs.Searches.Goes.{GoesToAlong, ended_here, goes_a
 use Rattle.automata_hybrid.proofs.Searches.Traces.{at_along, clean_along, half_of_none, leads_along, more_along}
 use Rattle.automata_hybrid.proofs.Searches.Traces.{quiet_along}
 
--- a run that has come to a byte, from an ID that names its state there
+-- a run has reached a byte, from an ID that names its state there
 module _ {s : Trace} {m : Machine} {input : Input} (trace : IsTrace Forward m input s) {k id byte offset : ℕ}
     {found : Option HalfMatch} {begun : Known} (c : CacheView)
     (at : IsAtAlong s Forward m c.store.table input k id found)
@@ -32,7 +32,7 @@ module _ {s : Trace} {m : Machine} {input : Input} (trace : IsTrace Forward m in
     λ e. half_of_none Forward input (s.reported k) (sym at.reported ∙ at.nothing e),
   )
 
-  -- the byte was not read
+  -- reading the byte fails
   pub stopped_along :
       {new : CacheView} {e : SearchError} → FailsToRead m id (Some byte) offset offset c new e
       → FailsAlong s m input input.start begun (known_of new) e
@@ -50,7 +50,7 @@ module _ {s : Trace} {m : Machine} {input : Input} (trace : IsTrace Forward m in
         (left_along s Forward m input k id offset (Some byte) c new unit (sym place) at.named offset e fails.fails);
   }
 
-  -- it was read
+  -- the byte is read
   module _ {id' : ℕ} {c' : CacheView} (read : HasRead m id (Some byte) offset c c' id') where
     pub goes_on : GoesToAlong s Forward m input 0 (suc k) begun (known_of c')
     goes_on =
@@ -60,7 +60,7 @@ module _ {s : Trace} {m : Machine} {input : Input} (trace : IsTrace Forward m in
     pub leads_on : Leads c'.store.table id' (s.state (suc k))
     leads_on = leads_along trace c.store.table c'.store.table k id id' (Some byte) found None at unit read.answer.named
 
-    -- the run goes on after it
+    -- the run continues after it
     pub at_next :
         {found' : Option HalfMatch}
         → (o : ℕ) × (o ≡ offset_in Forward input k)
@@ -72,7 +72,7 @@ module _ {s : Trace} {m : Machine} {input : Input} (trace : IsTrace Forward m in
         at_along trace c.store.table c'.store.table k id id' (Some byte) found found' at unit read.answer.named
         (quit_free m byte read.answer.clean)
 
-    -- or its search ends there
+    -- the search ends there
     module _ {new : CacheView}
         (last : new ≡ with_store c' (with_searched c'.store (progress_finished c'.store.searched offset))) where
       upto_here : AnswerStands s input k → ReadsUptoAlong s m input k begun (known_of new)
@@ -90,7 +90,7 @@ module _ {s : Trace} {m : Machine} {input : Input} (trace : IsTrace Forward m in
       leads_then : Leads new.store.table id' (s.state (suc k))
       leads_then = subst (λ (v : CacheView). Leads v.store.table id' (s.state (suc k))) (sym last) leads_on
 
-      -- since the state after it is dead
+      -- the state after the byte is dead
       pub over_dead : s.state (suc k) ≡ dead → IsOverAlong s m input k id' found begun new
       over_dead dies = record {
         upto = upto_here (DiesThere dies);
@@ -100,7 +100,7 @@ module _ {s : Trace} {m : Machine} {input : Input} (trace : IsTrace Forward m in
         leads = leads_then;
       }
 
-      -- or since an earliest search has found a match
+      -- an earliest search has found a match
       pub over_first :
           {found' : Option HalfMatch}
           → (o : ℕ) × (o ≡ offset_in Forward input k)
@@ -116,7 +116,7 @@ module _ {s : Trace} {m : Machine} {input : Input} (trace : IsTrace Forward m in
             leads = leads_then;
           }
 
--- the bytes of a piece lead along its trace
+-- the trace of a piece is a trace over its bytes
 pub piece_is_trace :
     (m : Machine) (piece : List ℕ) (earliest : Bool) (q : Powerset)
     → IsTrace Forward m (piece_input piece earliest) (piece_trace m piece earliest q)
@@ -124,7 +124,7 @@ piece_is_trace m piece earliest q = record { steps = λ k. refl; reports = λ k.
 
 -- an error at an offset
 module _ (m : Machine) (q : Powerset) (unit : Option ℕ) (at come : ℕ) (old new : Known) (e : SearchError) where
-  -- has this offset, if it has one
+  -- it has this offset, if it has an offset
   pub fails_offset : (P : ℕ → Type 0) → P at → ReadFails m q unit at at come old new e → HasOffset P e
   fails_offset P p (MeetsQuit byte is quits same last) = subst (HasOffset P) (sym same) p
   fails_offset P p (CannotStep clean fails) = go fails.why where
@@ -132,7 +132,7 @@ module _ (m : Machine) (q : Powerset) (unit : Option ℕ) (at come : ℕ) (old n
     go (GivesUp none same) = subst (HasOffset P) (sym same) p
     go (LacksMemory same) = subst (HasOffset P) (sym same) tt
 
-  -- and is counted from a place before
+  -- it can be counted from an earlier place
   fails_from :
       (base : ℕ) → ReadFails m q unit at at come old new e
       → ReadFails m q unit (base + at) (base + at) come old new (error_from base e)
@@ -146,7 +146,7 @@ module _ (m : Machine) (q : Powerset) (unit : Option ℕ) (at come : ℕ) (old n
       go (GivesUp none same) = GivesUp none (ap (error_from base) same)
       go (LacksMemory same) = LacksMemory (ap (error_from base) same)
 
--- a run that fails, with an error counted from a place before
+-- a run that fails, with the offset of its error counted from an earlier place
 pub failed_from :
     (s : Trace) (m : Machine) (input : Input) (base : ℕ) (begun new : Known) (e : SearchError)
     → FailsAlong s m input 0 begun new e → FailsAlong s m input base begun new (error_from base e)
@@ -167,7 +167,7 @@ failed_from s m input base begun new e f =
           (given_up_offset Forward input f.place) f.mid new e base f.fails);
     }
 
--- the state of a row, if there is one
+-- the state of a row, or dead if there is no row
 abbrev state_of_row : Option Row → Powerset
 state_of_row None = dead
 state_of_row (Some r) = r.state

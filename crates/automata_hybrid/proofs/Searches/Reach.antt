@@ -23,7 +23,7 @@ pub behind_reach :
 behind_reach Forward input byte l h = before_reach input input.start byte (omega arith) l h
 behind_reach Backward input byte l h = (input.end, omega (arith, l), omega arith, h)
 
--- and each unit that it reads
+-- each unit that a pass reads is in reach
 pub unit_reach :
     (way : Direction) (input : Input) (k byte : ℕ)
     → input.start ≤ input.end → input.end ≤ length input.haystack → k ≤ length (tape_in way input).bytes

@@ -1,4 +1,4 @@
--- Spans tried one after another.
+-- Spans that are tried one after another.
 use Rattle.std.proofs.Common.{ℕ, suc, ◌≡◌, ◌<◌, ◌≤◌, ◌+◌, ◌⊎◌, inl, inr, Bool, true, Option, Some, None, false, refl}
 use Rattle.std.proofs.Common.{sym, ap, ap₂, ◌∙◌, subst, arith}
 use Rattle.automata_hybrid.proofs.Words.{Direction, Finds, Half, half_of, HalfMatch, Input, is_split, IsFound, later}
@@ -21,7 +21,7 @@ pub skips_or_not : {A : Type 0} (b : Bool) → (b ≡ true → A) → (b ≡ fal
 skips_or_not true does not = inl (does refl)
 skips_or_not false does not = inr (not refl)
 
--- the pair that a half match stands for
+-- the pair that a half match represents
 pub record Stands (way : Direction) (input : Input) (o : Option Pair) (half : HalfMatch) : Type 0 where
   pub pair : Pair
   pub reported : o ≡ Some pair
@@ -86,7 +86,7 @@ module _ (way : Direction) (m : Machine) (input now : Input) (k : ℕ) (same : n
   split_at half s =
       ap₂ is_split (ap (λ (i : Input). i.haystack) same ∙ haystack_later way k input) s.offset
 
-  -- it found what is not left out
+  -- it found a match that is not skipped
   pub finds_some :
       (half : HalfMatch) → Some half ≡ found_over way m now → MeetsNoQuit way m now
       → (Skips m → is_split now.haystack half.offset ≡ false) → IsFound way m input (Some (with_base half now.start))
@@ -118,20 +118,20 @@ module _ (way : Direction) (m : Machine) (input now : Input) (k : ℕ) (same : n
             ∙ (sym (split_at half s) ∙ split),
       )
 
-  -- it found what is left out: an anchored search ends
+  -- it found a match that is skipped, and the search is anchored and ends
   pub finds_split :
       (half : HalfMatch) → Some half ≡ found_over way m now → MeetsNoQuit way m now → Skips m
       → is_split now.haystack half.offset ≡ true → (input.anchored ≡ No → ⊥) → IsFound way m input None
   finds_split half e c skips split anchored = (k, tries, StopsAtSplit skips anchored (split_there half e c split))
 
-  -- and another one goes on
+  -- it found a match that is skipped, and the search tries the next span
   pub tries_on :
       (half : HalfMatch) → Some half ≡ found_over way m now → MeetsNoQuit way m now → Skips m
       → is_split now.haystack half.offset ≡ true → input.anchored ≡ No → Tries (Finds way m) (Skips m) way input (suc k)
   tries_on half e c skips split free =
       tries_more (Finds way m) (Skips m) way input k tries skips free within (split_there half e c split)
 
-  -- after it no other span is tried, where it found nothing
+  -- if it found nothing, no later span is tried
   pub none_stops : None ≡ found_over way m now → (j : ℕ) → k < j → Tries (Finds way m) (Skips m) way input j → ⊥
   none_stops e j less tried =
       let split : IsSplit (Finds way m) way (later way k input) = (tried.before k less).1 in
@@ -139,7 +139,7 @@ module _ (way : Direction) (m : Machine) (input now : Input) (k : ℕ) (same : n
       half_of_none way (later way k input) _ (sym (there None e)) in
       some_none (split.1.0 ∙ none)
 
-  -- or what is not left out
+  -- if it found a match that is not skipped, no later span is tried
   pub some_stops :
       (half : HalfMatch) → Some half ≡ found_over way m now → (Skips m → is_split now.haystack half.offset ≡ false)
       → (j : ℕ) → k < j → Tries (Finds way m) (Skips m) way input j → ⊥
@@ -159,7 +159,7 @@ module _ (way : Direction) (m : Machine) (input now : Input) (k : ℕ) (same : n
         ∙ (ap (λ h. is_split h (offset_in way (later way k input) s.pair.place)) (sym (haystack_later way k input))
         ∙ place)))
 
-  -- or where the search is anchored
+  -- if the search is anchored, no later span is tried
   pub anchored_stops : (input.anchored ≡ No → ⊥) → (j : ℕ) → k < j → Tries (Finds way m) (Skips m) way input j → ⊥
   anchored_stops anchored j less tried = anchored (tried_on (Skips m) input k j less tried.comes).1
 

@@ -1,4 +1,4 @@
--- What a search makes of what its cache knows, span after span.
+-- The effect of a search on what its cache knows, span by span.
 use Rattle.std.proofs.Common.{ℕ, suc, ◌≡◌, ◌+◌, ◌<◌, ◌≤◌, None, Some, subst, arith}
 use Rattle.automata_hybrid.proofs.Words.{Direction, Finds, HaveTried, Input, IsSearchRun, Known, later, Machine}
 use Rattle.automata_hybrid.proofs.Words.{PassesEnd, PassFails, SearchError, Skips, Tries}
@@ -8,7 +8,7 @@ use Rattle.automata_hybrid.proofs.Searches.Progress.{spans_before, spans_tried}
 -- a search has made the passes over the spans before the one that begins `k` places later
 module _ (way : Direction) (m : Machine) (input : Input) (k : ℕ) (tries : Tries (Finds way m) (Skips m) way input k)
     (old between : Known) (ended : PassesEnd way m input k old between) where
-  -- and tries no other one
+  -- it tries no other span
   pub run_before : input.end < input.start + k → IsSearchRun way m input old between None
   run_before past = record {
     passes = k;
@@ -17,7 +17,7 @@ module _ (way : Direction) (m : Machine) (input : Input) (k : ℕ) (tries : Trie
     ends = ended;
   }
 
-  -- and the pass over it
+  -- it makes the pass over that span
   module _ (now : Input) (same : now ≡ later way k input) (within : input.start + k ≤ input.end) (new : Known) where
     pub spans_ended : PassEnds way m now between new → PassesEnd way m input (suc k) old new
     spans_ended pass = (between, ended, subst (λ (i : Input). PassEnds way m i between new) same pass)
@@ -25,7 +25,7 @@ module _ (way : Direction) (m : Machine) (input : Input) (k : ℕ) (tries : Trie
     pub spans_run : PassEnds way m now between new → HaveTried way m input (suc k) old new
     spans_run pass = record { tried = spans_tried way m input k tries within; ends = spans_ended pass }
 
-    -- which is the last one
+    -- that pass is the last one
     pub run_after :
         PassEnds way m now between new
         → ((j : ℕ) → suc k ≤ j → Tries (Finds way m) (Skips m) way input j → input.start + j ≤ input.end → ⊥)
@@ -37,7 +37,7 @@ module _ (way : Direction) (m : Machine) (input : Input) (k : ℕ) (tries : Trie
       ends = spans_ended pass;
     }
 
-    -- which failed
+    -- that pass fails
     pub run_refused : (e : SearchError) → PassFails way m now between new e → IsSearchRun way m input old new (Some e)
     run_refused e left = record {
       passes = k;

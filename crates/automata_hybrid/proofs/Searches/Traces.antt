@@ -1,4 +1,4 @@
--- What a run along a trace has found so far, unit by unit, and where it stands after one unit more.
+-- What a run along a trace has found so far, unit by unit, and its state after one more unit.
 use Rattle.std.proofs.Common.{ℕ, suc, ◌≡◌, ◌<◌, ◌≤◌, ◌⊎◌, inl, inr, Bool, true, false, List, [], ◌∷◌, Option, Some}
 use Rattle.std.proofs.Common.{None, refl, sym, ap, ◌∙◌, subst, arith}
 use Rattle.std.proofs.lemmas.Bool.{cases_lt}
@@ -67,7 +67,7 @@ none_by false state = refl
 none_by true state = refl
 
 module _ {s : Trace} {way : Direction} {m : Machine} {input : Input} (trace : IsTrace way m input s) where
-  -- after one unit more it has found what the state there reports, or what it had
+  -- after one more unit it has found what the state there reports, or what it had found before
   pub found_along :
       (k : ℕ) → (input.earliest ≡ true → half_of way input (s.reported k) ≡ None)
       → half_of way input (s.reported (suc k))
@@ -88,12 +88,12 @@ module _ {s : Trace} {way : Direction} {m : Machine} {input : Input} (trace : Is
   pub none_along : None ≡ half_of way input (s.reported 0)
   none_along = sym (ap (half_of way input) (trace.reports 0 ∙ none_by input.earliest s.state))
 
-  -- it stands at its first state
+  -- it begins at its first state
   pub begins_along : {t : Rows} {id : ℕ} → Names t id (s.state 0) → IsAtAlong s way m t input 0 id None
   begins_along n =
       record { named = n; reported = none_along; nothing = λ e. refl; clean = λ j byte l e. absurd (omega (arith, l)) }
 
-  -- it stands at a place, and reads one unit more
+  -- it reads one more unit at its current place
   module _ (t t' : Rows) (k id id' : ℕ) (u : Option ℕ) (found found' : Option HalfMatch)
       (at : IsAtAlong s way m t input k id found) (unit : next (tape_in way input) k ≡ u)
       (reads : (q : Powerset) → Names t id q → Leads t' id' (successor m.nfa (match_kind_of m.config) q u)) where
@@ -103,7 +103,7 @@ module _ {s : Trace} {way : Direction} {m : Machine} {input : Input} (trace : Is
         (sym (trace.steps k ∙ ap (successor m.nfa (match_kind_of m.config) (s.state k)) unit))
         (reads (s.state k) at.named)
 
-    -- the ID found reports its patterns at the offset of the place
+    -- the next ID reports its patterns at the offset of the place
     abbrev pub ReportsAlong : Type 0
     ReportsAlong =
         (o : ℕ) × (o ≡ offset_in way input k) × ((q : Powerset) → Leads t' id' q → found' ≡ half_at q.patterns o found)
@@ -119,7 +119,7 @@ module _ {s : Trace} {way : Direction} {m : Machine} {input : Input} (trace : Is
         ∙ (ap (half_at (s.state (suc k)).patterns (offset_in way input k)) at.reported
         ∙ sym (found_along k first_along)))
 
-    -- a unit that is no quit byte
+    -- the unit is not a quit byte
     module _ (free : (byte : ℕ) → u ≡ Some byte → is_quit m.quits byte ≡ false) where
       pub clean_along : (j byte : ℕ) → j < suc k → next (tape_in way input) j ≡ Some byte → is_quit m.quits byte ≡ false
       clean_along j byte l e = go (cases_lt j k) where
@@ -129,7 +129,7 @@ module _ {s : Trace} {way : Direction} {m : Machine} {input : Input} (trace : Is
             let same : k ≡ j = omega (arith, l, more) in
             free byte (sym unit ∙ (ap (next (tape_in way input)) same ∙ e))
 
-      -- it stands after it, if the state there is not dead
+      -- it continues at the next place, if the state there is not dead
       pub at_along :
           ReportsAlong → (input.earliest ≡ true → found' ≡ None)
           → (Leads t' id' (s.state (suc k)) → Names t' id' (s.state (suc k)))

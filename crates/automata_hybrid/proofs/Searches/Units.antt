@@ -7,7 +7,7 @@ use Rattle.automata_hybrid.proofs.Words.{slice_get, tape_in}
 use Rattle.automata_base.proofs.Answers.Total.{tape_units}
 use Rattle.automata_base.proofs.Answers.Bytes.{forward_next, forward_length, reverse_next, tape_length}
 
--- forward the unit at an offset is the byte there
+-- forward, the unit at an offset is the byte there
 pub forward_unit :
     (input : Input) (at : ℕ) → input.start ≤ at → at ≤ input.end → input.end ≤ length input.haystack
     → next (tape_in Forward input) (at - input.start) ≡ slice_get input.haystack at
@@ -21,7 +21,7 @@ pub forward_units :
     → input.end - input.start ≡ length (tape_in Forward input).bytes
 forward_units input s l = sym (forward_length input.haystack input.start input.end s l)
 
--- backward the unit at an offset is the byte before it
+-- backward, the unit at an offset is the byte before it
 pub backward_unit :
     (input : Input) (at : ℕ) → input.start ≤ at → at ≤ input.end → input.end ≤ length input.haystack
     → next (tape_in Backward input) (input.end - at) ≡ byte_before input.haystack at
@@ -36,7 +36,7 @@ backward_units input s l = sym (tape_length input.haystack input.start input.end
 pub nth_read : (xs : List ℕ) (k x d : ℕ) → k < length xs → x ≡ get_or xs k d → slice_get xs k ≡ Some x
 nth_read xs k x d l e = slice_get-get_or xs k d l ∙ ap Some (sym e)
 
--- what is read of the haystack at an offset is the unit there
+-- forward, the byte read from the haystack at an offset is the unit there
 pub forward_read :
     (input : Input) (xs : List ℕ) (at i : ℕ)
     → input.start ≤ at → at ≤ input.end → input.end ≤ length input.haystack → at < length input.haystack
@@ -47,7 +47,7 @@ forward_read input xs at i s e l inside same here =
     ∙ (nth_read input.haystack at (get_or input.haystack at 0) 0 inside refl
     ∙ ap₂ (λ (h : List ℕ) (n : ℕ). Some (get_or h n 0)) (sym same) (sym here))
 
--- backward what is read of the haystack is the unit at the offset after it
+-- backward, the byte read from the haystack is the unit at the offset after it
 pub backward_read :
     (input : Input) (xs : List ℕ) (at i : ℕ)
     → input.start ≤ at → at ≤ input.end → input.end ≤ length input.haystack → xs ≡ input.haystack → suc i ≡ at

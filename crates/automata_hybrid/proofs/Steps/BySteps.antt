@@ -1,4 +1,4 @@
--- Searches by steps stand where their steps led.
+-- A search by steps is where its steps led.
 use Rattle.std.proofs.Common.{ℕ, suc, ◌≡◌, ◌∙◌, ◌+◌, ◌*◌, ◌-◌, ◌<◌, ◌≤◌, Bool, true, false, length, Option}
 use Rattle.std.proofs.Common.{Some, None, refl, sym, ap, subst, arith, get_or}
 use Rattle.std.proofs.lemmas.Option.{slice_get_past}
@@ -22,13 +22,13 @@ use Rattle.automata_hybrid.proofs.Steps.Steps.{no_quit_unit}
 use Rattle.automata_hybrid.proofs.Fast.Runs.{first_half}
 use Rattle.automata_hybrid.proofs.Searches.Directions.{later_none}
 
--- what the rows of a cache are cached by
+-- what reading the tags of a table's IDs requires: its machine, the limit on IDs, and a small stride
 pub record Tagged (m : Machine) (t : Rows) : Type 0 where
   pub of : t.of ≡ m
   pub low : (id : ℕ) (q : Powerset) → Names t id q → id < fixed_from
   pub small : t.of.stride ≤ 512
 
--- a search stands at its start
+-- a search is at its start state
 pub stands_first :
     (m : Machine) (input : Input) (old new : CacheView) (id : ℕ)
     → Tagged m new.store.table → input.earliest ≡ true → input.start ≤ input.end → input.end ≤ length input.haystack
@@ -87,7 +87,7 @@ unit_in input at None from upto inside past =
 unit_in input at (Some byte) from upto inside (less, e) =
     forward_unit input at from upto inside ∙ nth_read input.haystack at byte 0 less e
 
--- a search that stands at an offset takes a step from there
+-- a search at an offset takes a step from there
 module _ (m : Machine) (input : Input) (old new : CacheView) (at id to : ℕ) (u : Option ℕ)
     (before : Tagged m old.store.table)
     (after : Tagged m new.store.table) (stands : StandsAt m old input at id) (unit : IsUnitAt input at u)
@@ -123,7 +123,7 @@ module _ (m : Machine) (input : Input) (old new : CacheView) (at id to : ℕ) (u
       last = λ silent unquit end. none;
     }
 
-  -- from that of a state
+  -- from the ID of a state
   module _ (under : IsUnderway Forward m old.store.table input (at - input.start) id None) where
     abbrev k : ℕ
     k = at - input.start
@@ -143,7 +143,7 @@ module _ (m : Machine) (input : Input) (old new : CacheView) (at id to : ℕ) (u
     plain : id < fixed_from
     plain = before.low id (state_in Forward m input k) under.at.named
 
-    -- the unit is no quit byte
+    -- the unit is not a quit byte
     module _ (clean : quits_on m u ≡ false) where
       free : (byte : ℕ) → u ≡ Some byte → is_quit m.quits byte ≡ false
       free = no_quit_unit m u clean
@@ -285,7 +285,7 @@ module _ (m : Machine) (input : Input) (old new : CacheView) (at id to : ℕ) (u
   pub stands_step : IsStepAt m new input at to
   stands_step = go stands.state
 
--- what one run answers is what a search finds, where no place is skipped
+-- what one run answers is what a search finds, if no place is skipped
 pub run_found :
     (m : Machine) (input : Input) (half : Option HalfMatch)
     → (Skips m → ⊥) → input.start ≤ input.end → IsFirstMatch m input half → WithoutBase (IsFound Forward m input) half

@@ -1,4 +1,4 @@
--- What a step or a start does to a cache, from its whole effect.
+-- The effect of a step or a start on a cache, by everything that it changes.
 use Rattle.std.proofs.Common.{◌≡◌, ℕ, ◌*◌, ◌<◌, None, length, Option, Some, false, refl, sym, ap, ◌∙◌, subst, inl}
 use Rattle.std.proofs.Common.{inr, arith, length-set, true, ⊎_elim, ◌⊎◌}
 use Rattle.std.proofs.lemmas.List.{get_or-set_same}
@@ -14,7 +14,7 @@ use Rattle.automata_base.proofs.Powersets.ListTests.{some_same}
 pub one_id : (t : Rows) (a b : ℕ) (q : Powerset) → Names t a q → Names t b q → a ≡ b
 one_id t a b q f g = some_same a b (sym f ∙ g)
 
--- the transition that was computed is cached at the row of its state, also after a clear
+-- a transition that was computed is cached in the row of its state, even after a clear
 pub cached-computed :
     (old new : Stored) (id class next : ℕ) (q target : Powerset) → Names old.table id q
     → IsComputed old id class q target new next
@@ -39,7 +39,7 @@ cached-computed old new id class next q target named done has below = go done wh
   go (WritesKnown leads e) = at old id e named
   go (WritesAdded lacks from between added n to e) = at between from e n
 
--- the rows of a table that another has, and one more
+-- a table with rows that another table has, and one more row, has no other states
 pub only-grown :
     (old t : Rows) (r : Row) → ((q : Powerset) → id_of old q ≡ None → id_of t q ≡ None)
     → (p : Powerset) → IsKnownState (with_row_in_store t r) p → IsKnownState old p ⊎ (p ≡ r.state)

@@ -5,7 +5,7 @@ use Rattle.automata_hybrid.proofs.Words.{LeadsToNamed, Machine, match_kind_of, N
 use Rattle.automata_hybrid.proofs.Words.{successor, ◌↔◌}
 use Rattle.automata_hybrid.proofs.Caches.Places.{no_patterns, bit_of, zero_one}
 
--- an ID that is not fixed is that of a row
+-- an ID that is not one of the fixed IDs is the ID of a row
 pub HoldsRow-valid : (c : CacheView) (id : ℕ) → HoldsRow c id → id < 2 ^ 29 → IsRowId c.store.table id
 HoldsRow-valid c id (inl e) l = absurd (omega (arith, e, l))
 HoldsRow-valid c id (inr (inl e)) l = absurd (omega (arith, e, l))
@@ -20,7 +20,7 @@ HoldsRow-matched c id small (inr (inl e)) b =
     absurd (zero_one ((bit_of 27 (2 * c.store.table.of.stride) 4 id (omega (arith, small)) (omega (arith, e))).0 b))
 HoldsRow-matched c id small (inr (inr v)) b = v
 
--- an ID without the match bit reports nothing
+-- an ID without the match tag reports nothing
 pub Leads-untagged :
     (t : Rows) (id : ℕ) (q : Powerset) → Leads t id q → (Names t id q → IsBitSet id 27 ↔ (0 < length q.patterns))
     → (IsBitSet id 27 → ⊥)
@@ -31,7 +31,7 @@ Leads-untagged t id q (LeadsToNamed h) tagged clear = no_patterns q.patterns (λ
 pub low_bit : (k n : ℕ) → n < 2 ^ k → IsBitSet n k → ⊥
 low_bit k n l b = let z : n ≡ 0 * 2 ^ k + n = omega arith in zero_one ((bit_of k n 0 n l z).0 b)
 
--- the bit of quit IDs
+-- an ID that leads to a state does not have the quit tag
 Leads-quit :
     (t : Rows) (id : ℕ) (q : Powerset) → Leads t id q → (Names t id q → id < 2 ^ 29) → t.of.stride ≤ 512
     → IsBitSet id 29 → ⊥
@@ -50,7 +50,7 @@ dead_tagged t id low small q (LeadsToDead e d) =
 dead_tagged t id low small q (LeadsToNamed h) =
     (λ b. absurd (let l : id < 2 ^ 29 = low q h in low_bit 30 id (omega (arith, l)) b), λ clear. h)
 
--- a dead ID is none of the quit state
+-- an ID with the dead tag does not have the quit tag
 pub dead_clear :
     (c : CacheView) (id : ℕ) → HoldsRow c id → ((q : Powerset) → Names c.store.table id q → id < 2 ^ 29)
     → c.store.table.of.stride ≤ 512 → IsBitSet id 30
@@ -66,7 +66,7 @@ quit_bit s l =
     let n : quit_id s ≡ 1 * 2 ^ 29 + 2 * s = omega arith in
     (bit_of 29 (2 * s) 1 (quit_id s) (omega (arith, l)) n).1 refl
 
--- a step that led to no quit state read no quit byte
+-- a step that did not lead to quit did not read a quit byte
 pub unquit :
     (m : Machine) (t : Rows) (id' byte : ℕ)
     → t.of ≡ m → t.of.stride ≤ 512 → (IsBitSet id' 29 → ⊥)
@@ -78,7 +78,7 @@ unquit m t id' byte of small clear quit = go (is_quit m.quits byte) refl where
       let s : t.of.stride ≡ m.stride = ap (λ (n : Machine). n.stride) of in
       absurd (clear (subst (λ v. IsBitSet v 29) (sym (quit e)) (quit_bit m.stride (omega (arith, s, small)))))
 
--- and one that led there read one
+-- a step that led to quit read a quit byte
 pub quits :
     (m : Machine) (t t' : Rows) (id id' byte : ℕ) (q : Powerset)
     → t'.of.stride ≤ 512 → ((p : Powerset) → Names t' id' p → id' < 2 ^ 29) → IsBitSet id' 29
@@ -92,7 +92,7 @@ quits m t t' id id' byte q small low bit named h = go (is_quit m.quits byte) ref
       absurd (Leads-quit t' id' (successor m.nfa (match_kind_of m.config) q (Some byte)) (named e q h)
       (low (successor m.nfa (match_kind_of m.config) q (Some byte))) small bit)
 
--- of one pattern the first that a list reports is that one
+-- if there is only one pattern, it is the first one that a list reports
 pub only_pattern : (ps : List ℕ) → 0 < length ps → ((p : ℕ) → In p ps → p < 1) → 0 ≡ get_or ps 0 0
 only_pattern [] some own = absurd (omega (arith, some))
 only_pattern (p ∷ ps) some own = let low : p < 1 = own p (inl refl) in omega (arith, low)

@@ -1,4 +1,4 @@
--- Starts: what a call answers and changes, from what its parts do.
+-- Start states: what a call answers and changes, by what its parts do.
 use Rattle.automata_hybrid.proofs.Words.{AddsRow, Anchored, CacheView, cleared_in_store, counted_in_store, HoldsRow}
 use Rattle.automata_hybrid.proofs.Words.{IsCacheOf, IsKnownStart, IsSlot, IsStartAnswer, IsStarted, KeepsStarts, Lacks}
 use Rattle.automata_hybrid.proofs.Words.{Leads, LeadsToDead, LeadsToNamed, LeadsToStart, Machine, Names, Powerset, Row}
@@ -16,7 +16,7 @@ use Rattle.automata_hybrid.proofs.Machines.StartSlots.{starts_alike}
 use Rattle.automata_config.specs.Options.{specialize_start_states_of}
 use Rattle.std.proofs.lemmas.Bool.{cases_lt}
 
--- what leads to the start of a mode leads to the starts of its slot
+-- an ID that leads to the start state of a mode leads to all start states of that mode's slot
 pub slot_leads :
     (m : Machine) (mode : Anchored) (behind : Option ℕ) (slot : ℕ) (t : Rows) (id : ℕ) (q : Powerset)
     → IsStartSlot m mode behind slot → t.of ≡ m → q ≡ start_state_of m.nfa mode behind → Leads t id q
@@ -31,12 +31,12 @@ slot_leads m mode behind slot t id q at of same leads = (
       ∙ ap (λ (d : Machine). start_state_of d.nfa other look) (sym of)),
 )
 
--- an ID that names a state or the dead one has a row
+-- an ID that leads to a state has a row
 pub leads_row : (c : CacheView) (id : ℕ) (q : Powerset) → Leads c.store.table id q → HoldsRow c id
 leads_row c id q (LeadsToDead is dies) = inl is
 leads_row c id q (LeadsToNamed names) = inr (inr (q, names))
 
--- a start state that is cached is answered as it stands
+-- a cached start state is returned, and nothing changes
 pub known_answer :
     (m : Machine) (mode : Anchored) (behind : Option ℕ) (c : CacheView) (slot id : ℕ)
     → IsCacheOf c m → IsStartSlot m mode behind slot → id ≡ slice_index c.store.starts slot → id < unknown_id
@@ -60,7 +60,7 @@ known_answer m mode behind c slot id of at value low may tag = record {
       (first mode behind (ap (λ (d : Machine). slot_behind d mode behind) of ∙ sym at.at)
       ∙ ap (λ (d : Machine). start_state_of d.nfa mode behind) of) leads
 
--- a start was computed and written
+-- a start state was computed and written
 pub record ComputesStart (m : Machine) (mode : Anchored) (behind : Option ℕ) (old new : CacheView) (slot id : ℕ) : Type
     0 where
   pub done : IsStarted old.store slot (start_row m mode behind) new.store id
@@ -70,7 +70,7 @@ pub record ComputesStart (m : Machine) (mode : Anchored) (behind : Option ℕ) (
   pub found : IsKnownStart new.store slot
   pub counted : new.count ≡ old.count + 1
 
--- a cached start state is written among the others
+-- writing a cached start state into its slot keeps the others
 keeps_written :
     (old xs : List ℕ) (slot id : ℕ) → KeepsStarts old xs → get_or (set xs slot id) slot 0 < 2 ^ 31
     → KeepsStarts old (set xs slot id)
@@ -84,7 +84,7 @@ keeps_written old xs slot id keeps found other k = go (cases_lt other slot) (cas
   go (inr a) (inr b) =
       let same : slot ≡ other = omega (arith, a, b) in subst (λ n. get_or (set xs slot id) n 0 < 2 ^ 31) same found
 
--- the start state was there
+-- the start state was already there
 pub computes_known :
     (m : Machine) (mode : Anchored) (behind : Option ℕ) (old mid new : CacheView) (slot id : ℕ) (key : Powerset)
     → mid ≡ counted_in_store old → new ≡ with_store mid (with_start_in_store mid.store slot id)
@@ -160,7 +160,7 @@ computes_new m mode behind old mid between new slot id state key started was add
           (record { state = state; started = started })
           id) before adds)
 
--- what a computed start answers, and what it makes of the cache
+-- what computing a start state answers, and its effect on the cache
 module _ (m : Machine) (mode : Anchored) (behind : Option ℕ) (old new : CacheView) (slot id : ℕ)
     (made : ComputesStart m mode behind old new slot id)
     (at : IsStartSlot m mode behind slot) where

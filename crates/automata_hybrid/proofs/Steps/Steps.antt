@@ -1,4 +1,4 @@
--- Steps: what a call answers and changes, from what its parts do.
+-- Steps: what a call answers and changes, by what its parts do.
 use Rattle.std.proofs.Common.{ℕ, ◌≡◌, ◌+◌, ◌<◌, ◌≤◌, Bool, true, false, Option, None, Some, refl, sym, ap, ◌∙◌, subst}
 use Rattle.std.proofs.Common.{arith, inl, inr, ◌^◌}
 use Rattle.automata_hybrid.proofs.Words.{AddsNext, CacheView, cell_of, CellLeads, CellQuits, CellUnknown, class_in}
@@ -20,7 +20,7 @@ use Rattle.automata_hybrid.proofs.Searches.PassState.{false_true}
 use Rattle.automata_hybrid.proofs.Steps.Starts.{leads_row}
 use Rattle.automata_hybrid.proofs.Caches.Rows.{leads_on}
 
--- a step that is not cached from an ID is not cached from its state
+-- a step that is not cached from an ID is not cached from that ID's state
 pub step_unknown :
     (m : Machine) (id : ℕ) (unit : Option ℕ) (c : CacheView) → (KnowsStep m c.store id unit → ⊥)
     → (q : Powerset) → Names c.store.table id q → IsCached m c.store (Step q unit) → ⊥
@@ -28,7 +28,7 @@ step_unknown m id unit c unknown q named (other, names, known) =
     let one : other ≡ id = one_id c.store.table other id q names named in
     unknown (subst (λ k. KnowsStep m c.store k unit) one known)
 
--- of a search that moved before it made a step
+-- a search that moved before it took a step
 module _ (m : Machine) (id : ℕ) (unit : Option ℕ) (s : Searched) (old new : CacheView) where
   pub moved_answer :
       (next : ℕ) → IsStepAnswer m id unit (with_store old (with_searched old.store s)) new next
@@ -42,13 +42,13 @@ module _ (m : Machine) (id : ℕ) (unit : Option ℕ) (s : Searched) (old new : 
     cached = a.cached;
   }
 
--- what stands in a cell was read there
+-- reading a cell returns its value
 pub cell_read :
     (m : Machine) (c : Stored) (id : ℕ) (unit : Option ℕ) (cell : ℕ) → cell ≡ known_step m c id unit
     → IsCellRead m c id unit cell
 cell_read m c id unit cell same = (λ _. same, λ free known. absurd (omega (arith, free, known, same)))
 
--- a step from dead or quit answers its own ID
+-- a step from dead or quit returns the same ID
 pub fixed_answer :
     (m : Machine) (id : ℕ) (unit : Option ℕ) (c : CacheView)
     → fixed_from ≤ id → ((q : Powerset) → Names c.store.table id q → id < fixed_from) → HoldsRow c id
@@ -64,7 +64,7 @@ fixed_answer m id unit c high below row = record {
   apart : (q : Powerset) → Names c.store.table id q → ⊥
   apart q n = let low : id < fixed_from = below q n in absurd (omega (arith, low, high))
 
--- what a cell reports at the class of a unit
+-- what the cell at the class of a unit says
 module _ (m : Machine) (id : ℕ) (unit : Option ℕ) (c : CacheView) (class next : ℕ) (of : IsCacheOf c m)
     (valid : IsRowId c.store.table id)
     (at : class ≡ unit_class m unit) (small : m.stride ≤ 512)
@@ -72,7 +72,7 @@ module _ (m : Machine) (id : ℕ) (unit : Option ℕ) (c : CacheView) (class nex
     (free : quits_on m unit ≡ false → slice_index m.template class ≡ unknown_id)
     (value : next ≡ cell_of c.store id class)
     (cell : (q : Powerset) → Names c.store.table id q → IsCell c.store.table q class next) where
-  -- the class is not both
+  -- a class is not both marked for quit bytes and free
   clash : slice_index m.template class ≡ quit_id m.stride → slice_index m.template class ≡ unknown_id → ⊥
   clash a b = absurd (omega (arith, a, b, small))
 
@@ -84,7 +84,7 @@ module _ (m : Machine) (id : ℕ) (unit : Option ℕ) (c : CacheView) (class nex
   stands_free : slice_index c.store.table.of.template class ≡ unknown_id → slice_index m.template class ≡ unknown_id
   stands_free a = subst (λ (d : Machine). slice_index d.template class ≡ unknown_id) of a
 
-  -- an unknown cell stands at no quit byte
+  -- a unit whose cell is empty is not a quit byte
   pub unknown_clean : unknown_id ≤ next → quits_on m unit ≡ false
   unknown_clean l = go (quits_on m unit) refl (cell valid.0 valid.1) where
     go : (b : Bool) → quits_on m unit ≡ b → IsCell c.store.table valid.0 class next → quits_on m unit ≡ false
@@ -116,7 +116,7 @@ module _ (m : Machine) (id : ℕ) (unit : Option ℕ) (c : CacheView) (class nex
     go (CellUnknown a h) = absurd (clash (quit q) (stands_free a))
     go (CellLeads a h) = absurd (clash (quit q) (stands_free a))
 
-  -- and any other unit, if that is cached, to the successor
+  -- any other unit leads to the successor, if the transition is cached
   pub cell_leads :
       IsUnit unit → quits_on m unit ≡ false → next < unknown_id → (q : Powerset) → Names c.store.table id q
       → Leads c.store.table next (successor m.nfa (match_kind_of m.config) q unit)
@@ -146,7 +146,7 @@ module _ (m : Machine) (id : ℕ) (unit : Option ℕ) (c : CacheView) (class nex
     rowed (CellUnknown a is) = absurd (omega (arith, is, low))
     rowed (CellLeads a h) = leads_row c next _ (here is valid.0 h)
 
--- a cell that is cached has the ID of a row
+-- a cached cell holds the ID of a row
 pub cell_row :
     (c : CacheView) (q : Powerset) (class id : ℕ) (unit : Option ℕ) → IsUnit unit
     → unit_class c.store.table.of unit ≡ class
@@ -155,7 +155,7 @@ cell_row c q class id unit is at (CellQuits a e) low = inr (inl e)
 cell_row c q class id unit is at (CellUnknown a e) low = absurd (omega (arith, e, low))
 cell_row c q class id unit is at (CellLeads a leads) low = leads_row c id _ (leads unit is at)
 
--- the cell of a byte's class, if it is no fixed ID, is where the byte leads, and the byte is no quit byte
+-- if the cell of a byte's class does not hold a fixed ID, the byte leads to the ID in it and is not a quit byte
 pub byte_leads :
     (m : Machine) (c : Stored) (q : Powerset) (to byte : ℕ)
     → IsMachine m → c.table.of ≡ m → to < 2 ^ 29 → byte < 256 → IsCell c.table q (class_in m.classes byte) to
@@ -164,7 +164,7 @@ byte_leads m c q to byte machine of plain few cell = (go (is_quit m.quits byte) 
   class : ℕ
   class = class_in m.classes byte
 
-  -- a class that is not one of quit bytes has no quit byte
+  -- a class that is not marked has no quit byte
   marked_not : is_quit m.quits byte ≡ true → slice_index c.table.of.template class ≡ unknown_id → ⊥
   marked_not e unmarked =
       let quit : slice_index m.template class ≡ quit_id m.stride = machine.quit byte few e in
@@ -185,7 +185,7 @@ byte_leads m c q to byte machine of plain few cell = (go (is_quit m.quits byte) 
       subst (λ (k : Machine). Leads c.table to (successor k.nfa (match_kind_of k.config) q (Some byte))) of
       (leads (Some byte) few (ap (λ (k : Machine). class_in k.classes byte) of))
 
--- where the key of a step is cached, a cell leads where each unit of the class does
+-- an ID that leads to the key of a step leads where each unit of the class does
 pub key_leads :
     (m : Machine) (t : Rows) (q key : Powerset) (unit : Option ℕ) (class to : ℕ) → t.of ≡ m → class ≡ unit_class m unit
     → ((other : Option ℕ) → IsUnit other → unit_class m other ≡ unit_class m unit
@@ -208,7 +208,7 @@ pub record ComputesStep (m : Machine) (id : ℕ) (unit : Option ℕ) (old new : 
   pub starts : KeepsStarts old.store.starts new.store.starts
   pub counted : new.count ≡ old.count + 1
 
--- the next state was there
+-- the next state was already there
 pub computes_known :
     (m : Machine) (id : ℕ) (unit : Option ℕ) (old mid new : CacheView) (class next : ℕ) (key : Powerset)
     → mid ≡ counted_in_store old → new ≡ with_store mid (with_next mid.store id class next)
@@ -266,7 +266,7 @@ computes_new m id unit old mid between new class from next state key was adds co
     added : AddsNext old.store between.store id state from next
     added = subst (λ (s : Stored). AddsNext s between.store id state from next) before adds
 
--- what a computed step answers, and what it makes of the cache
+-- what computing a step answers, and its effect on the cache
 module _ (m : Machine) (id : ℕ) (unit : Option ℕ) (old new : CacheView) (class next : ℕ)
     (step : ComputesStep m id unit old new class next)
     (valid : IsRowId old.store.table id) (low : id < fixed_from)
@@ -300,7 +300,7 @@ module _ (m : Machine) (id : ℕ) (unit : Option ℕ) (old new : CacheView) (cla
     counted = step.counted;
   }
 
--- a unit that is not a quit byte, either way it is said
+-- a unit that is not a quit byte, stated in two ways
 pub unit_no_quit :
     (m : Machine) (unit : Option ℕ) → ((byte : ℕ) → unit ≡ Some byte → is_quit m.quits byte ≡ false)
     → quits_on m unit ≡ false

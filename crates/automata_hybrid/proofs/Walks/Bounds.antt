@@ -37,7 +37,7 @@ module _ (way : Direction) (m : Machine) (input : Input) (reported : WalksAreRep
   none_lies None e = tt
   none_lies (Some half) e = absurd (none_some (sym e))
 
-  -- the match of a call, and there is none after an error
+  -- the match of a call lies in the span; after an error there is no match
   pub reported_lies :
       {T E : Type 0} (r : Result T E) → IsWalkOf way m input old → OnOk r (ReportsNext way m input old new)
       → OnErr r (new ≡ without_match old) → IfSome new.found (LiesIn m input)

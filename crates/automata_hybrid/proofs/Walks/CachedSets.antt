@@ -1,4 +1,4 @@
--- What a set of patterns took to be found is cached.
+-- Everything that was used to find a set of patterns is cached.
 use Rattle.std.proofs.Common.{ℕ, zero, suc, ◌≡◌, ◌≤◌, inl, inr, Bool, List, [], ◌∷◌, ◌++◌, length, take, None, refl, ap}
 use Rattle.std.proofs.Common.{subst, arith}
 use Rattle.automata_hybrid.proofs.Words.{AreUnsplit, Forward, HasPattern, Input, Machine, Pair, Skips, tape_in}
@@ -14,7 +14,7 @@ taken_front [] ys (suc n) p l h = absurd (omega (arith, l))
 taken_front (x ∷ xs) ys (suc n) p l (inl e) = inl e
 taken_front (x ∷ xs) ys (suc n) p l (inr h) = inr (taken_front xs ys n p (omega (arith, l)) h)
 
--- a set that is closed after the pairs that its walk has reported is closed after more
+-- a set that is closed after the pairs that its walk has reported is closed after more pairs
 pub closed_stops :
     (m : Machine) (input : Input) (v : Walk) (k : ℕ) (set : List Bool) (list : List Pair)
     → HasReported Forward m input v k

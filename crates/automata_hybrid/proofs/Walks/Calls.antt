@@ -1,4 +1,4 @@
--- What a call makes of a walk.
+-- The effect of a call on a walk.
 use Rattle.std.proofs.Common.{ℕ, suc, ◌≡◌, ◌<◌, ◌≤◌, ◌+◌, ◌-◌, ◌⊎◌, ◌↔◌, inl, inr, Bool, false, List, [], ◌++◌, ⊎_elim}
 use Rattle.std.proofs.Common.{length, Some, None, refl, sym, ap, ap₂, ◌∙◌, subst, arith, length-append, get_or}
 use Rattle.std.proofs.Common.{append_assoc}
@@ -31,13 +31,13 @@ pub undone : (b : Bool) (s e : ℕ) → (IsTrue b ↔ (e < s)) → b ≡ false �
 undone b s e done «is» = ⊎_elim (λ l. absurd (false_true (sym «is» ∙ done.1 l))) (λ l. l) (cases_lt e s)
 
 module _ (way : Direction) (m : Machine) (input : Input) where
-  -- nothing is reported by no unit
+  -- zero units report nothing
   reported_none : Skips m ⊎ (Skips m → ⊥) → HasReportedBy way m input 0 0
   unfolding pairs_reported
   reported_none (inl s) = record { pairs = []; unsplit = SkipsSplit s refl; count = refl }
   reported_none (inr n) = record { pairs = []; unsplit = KeepsSplit n refl; count = refl }
 
-  -- all that a place reports
+  -- everything that a place reports
   reported_place :
       (place e : ℕ)
       → (Skips m → is_split input.haystack (offset_in way input place) ≡ false) → HasReportedBy way m input place e
@@ -55,7 +55,7 @@ module _ (way : Direction) (m : Machine) (input : Input) where
         count = omega (arith, one, both, t.count);
       }
 
-  -- a walk that has reported all of where it stands
+  -- a walk that has reported everything at its current place
   pub reported_here :
       (w : Walk) (k : ℕ)
       → Skips m ⊎ (Skips m → ⊥) → HasReported way m input w k → (w.stage ≡ Ended → ⊥)
@@ -78,7 +78,7 @@ module _ (way : Direction) (m : Machine) (input : Input) where
         (subst (HasReportedBy way m input (suc s.place)) sum (reported_place s.place s.earlier s.unskipped s.before))
     go Ended t on all = absurd (on refl)
 
-  -- none of its units was a quit byte
+  -- none of its units is a quit byte
   pub clean_here :
       (w : Walk) (k : ℕ) → HasReported way m input w k → (w.stage ≡ Ended → ⊥) → HasReadNoQuit way m input w.units
   clean_here w k t on = go w.stage t on where
@@ -89,7 +89,7 @@ module _ (way : Direction) (m : Machine) (input : Input) where
     go (At q) s on = s.clean
     go Ended t on = absurd (on refl)
 
-  -- the pair that a pattern of a place is
+  -- the pair of a pattern at a place
   pub place_pair :
       (place e t : ℕ) (pairs : List Pair)
       → input.start ≤ input.end → place ≤ length (tape_in way input).bytes
@@ -117,7 +117,7 @@ module _ (way : Direction) (m : Machine) (input : Input) where
         omega (arith, long, more, one, less, reported.count),
       )
 
-  -- a walk that has reported all
+  -- a walk that has reported everything has no further match
   all_none :
       (k : ℕ) (pairs : List Pair) → HasReportedAll way m input k → AreWalked way m input pairs → half_nth pairs k ≡ None
   all_none k pairs t walked =
@@ -135,7 +135,7 @@ module _ (way : Direction) (m : Machine) (input : Input) where
         λ pairs walked. (sym (all_none k pairs all walked), λ l. e),
       )
 
-  -- the walk ends where all is reported
+  -- the walk ends when everything is reported
   ends :
       (w : Walk) (units k : ℕ) → HasReportedAll way m input k → HasReported way m input (ended_walk w units) (suc k)
       × ((pairs : List Pair) → AreWalked way m input pairs → ((ended_walk w units).found ≡ half_nth pairs k)
@@ -157,7 +157,7 @@ module _ (way : Direction) (m : Machine) (input : Input) where
     go (At q) s on = absurd (omega (arith, done, s.undone))
     go Ended t on = absurd (on refl)
 
-  -- all units have reported these pairs
+  -- once all units are read, everything is reported
   all_reported :
       (k : ℕ) → input.start ≤ input.end → MayStart m input.anchored (tape_in way input).before
       → WalkMeetsNoQuit way m input
@@ -170,7 +170,7 @@ module _ (way : Direction) (m : Machine) (input : Input) where
         none_left = omega (arith, t.count);
       }
 
-  -- after the last unit nothing is left
+  -- after the last unit nothing is left to report
   pub next_read :
       (w v : Walk) (units : ℕ)
       → (w.stage ≡ Ended → ⊥) → ((q : Powerset) → w.stage ≡ At q → length q.patterns ≤ w.reported)
@@ -198,7 +198,7 @@ module _ (way : Direction) (m : Machine) (input : Input) where
         (subst (λ n. HasReportedBy way m input n k) last reported))
     go Ended e t on = absurd (on refl)
 
-  -- the next pattern of the same place
+  -- the next pattern at the same place
   pub next_same :
       (w : Walk) (q : Powerset) (half : HalfMatch)
       → w.stage ≡ At q → w.reported < length q.patterns → half.pattern ≡ get_or q.patterns w.reported 0
@@ -245,7 +245,7 @@ module _ (way : Direction) (m : Machine) (input : Input) where
             )),
       )
 
-  -- a walk that goes on comes to its end
+  -- a walk that continues reaches its end
   pub next_finishes :
       (w v : Walk) (units : ℕ)
       → input.start ≤ input.end → MayStart m input.anchored (tape_in way input).before
@@ -253,7 +253,7 @@ module _ (way : Direction) (m : Machine) (input : Input) where
       → Finishes way m input w.units units → ReportsNext way m input w (ended_walk v units)
   next_finishes w v units s may here f k t = ends v units k (all_reported k s may f.clean (f.silent k (here k t)))
 
-  -- or to a state that reports patterns, and reports the first one
+  -- or a state with patterns, of which it reports the first
   pub next_arrives :
       (w : Walk) (t : Rows) (id units : ℕ) (q : Powerset) (half : HalfMatch)
       → input.start ≤ input.end → MayStart m input.anchored (tape_in way input).before
@@ -302,7 +302,7 @@ module _ (way : Direction) (m : Machine) (input : Input) where
             (ap Some here ∙ (sym p.0 ∙ ap (half_nth pairs) first), λ l. absurd (omega (arith, p.1, l)))),
       )
 
--- what is reported after where a walk stands is at least what it has reported
+-- the units of a walk, and any units after them, report at least as many pairs as the walk has reported
 pub reported_least :
     (way : Direction) (m : Machine) (input : Input) (v : Walk) (k : ℕ) → HasReported way m input v (suc k)
     → (v.stage ≡ Ended → ⊥)
@@ -320,7 +320,7 @@ reported_least way m input v k reported on j n l t = go v.stage reported on wher
       omega (arith, rises, s.few, all, s.count)
   go Ended t on = absurd (on refl)
 
--- it stays a walk over its input
+-- after a call it is still a walk over its input
 pub still_walk :
     (way : Direction) (m : Machine) (input : Input) (w : Walk) (R : Type 0) (r : Result (Unit {0}) R) (next : Walk)
     → ((k : ℕ) × HasReported way m input w k) → OnOk r (ReportsNext way m input w next)

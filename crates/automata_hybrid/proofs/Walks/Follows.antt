@@ -1,4 +1,4 @@
--- What follows of what a call of a walk makes of its cache.
+-- What follows from the effect of a call of a walk on its cache.
 use Rattle.std.proofs.Common.{ℕ, suc, ◌≡◌, ◌∙◌, ◌+◌, ◌<◌, ◌≤◌, ◌⊎◌, length, inl, inr, refl, sym, arith}
 use Rattle.std.proofs.lemmas.Bool.{cases_lt}
 use Rattle.automata_hybrid.proofs.Words.{Direction, Input, Machine, Powerset, Skips}
@@ -16,7 +16,7 @@ at_state q Ended = q
 
 module _ (way : Direction) (m : Machine) (input : Input) (skips : Skips m ⊎ (Skips m → ⊥)) (w : Walk) (k : ℕ)
     (reported : HasReported way m input w k) where
-  -- a call that is to read units
+  -- a call that has units to read
   pub to_read : (ReadsNoUnit input w → ⊥) → IsToRead input w.stage w.units w.reported
   to_read reads = record {
     undone = omega (arith, within (cases_lt input.end (input.start + w.units)));
@@ -35,7 +35,7 @@ module _ (way : Direction) (m : Machine) (input : Input) (skips : Skips m ⊎ (S
     few q at (inl less) = absurd (reads (HasMore q at less))
     few q at (inr all) = all
 
-  -- after where it stands then a walk reads no unit, or has reported a pair more
+  -- after the call the walk has no unit to read, or has reported one more pair
   pub next_stops :
       (next : Walk) (j : ℕ) → HasReported way m input next (suc j)
       → (next.stage ≡ Ended → WalkReads way m input next.units → ⊥)

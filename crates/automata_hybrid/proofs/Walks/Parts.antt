@@ -1,4 +1,4 @@
--- Going on with a walk: what the functions under its calls answer, and what they make of their cache.
+-- Resuming a walk: what the functions below its calls answer, and their effect on the cache.
 use Rattle.std.proofs.Common.{ℕ, suc, ◌≡◌, ◌∙◌, true, false, Option, None, Some, refl, sym, ap, subst, arith}
 use Rattle.automata_hybrid.proofs.Words.{Anchored, behind_offset, CacheView, Direction, Err, given_up_offset, Input}
 use Rattle.automata_hybrid.proofs.Words.{Known, known_of, Leads, Machine, offset_in, Ok, option_map, Powerset}
@@ -28,7 +28,7 @@ use Rattle.automata_hybrid.specs.Walks.State.{At, Ended, Fresh, Ids, Keeping, St
 use Rattle.automata_hybrid.proofs.Known.Walks.{row_named, row_there}
 use Rattle.automata_hybrid.proofs.Searches.PassState.{false_true, state_first}
 
--- a start in a mode that is not supported fails for that, after no quit byte
+-- a start in a mode that is not supported, with no quit byte before it, fails for that reason
 unsupported_start :
     (m : Machine) (mode : Anchored) (behind : Option ℕ) (behind_at start_at : ℕ) (old new : Known) (e : SearchError)
     → StartFailsAt m mode behind behind_at start_at old new e → quit_behind m behind ≡ None → supports m mode ≡ false
@@ -42,7 +42,7 @@ unsupported_start m mode behind behind_at start_at old new e f clear off = f.rep
   go error (GivesUpOnStart may unknown gives err is same) = absurd (false_true (sym off ∙ may.1))
   go error (RunsOutOnStart may unknown is same) = absurd (false_true (sym off ∙ may.1))
 
--- so is the call that was to begin the walk
+-- so does the call that was to begin the walk
 pub unsupported_call :
     (keeping : Keeping) (way : Direction) (m : Machine) (input : Input) (w : Walk) (old new : Known) (e : SearchError)
     → w.stage ≡ Fresh → IsUnsupported way m input → CallFails keeping way m input w old new e
@@ -54,7 +54,7 @@ unsupported_call keeping way m input w old new e fresh u (FailsToGoOn reads fail
 unsupported_call keeping way m input w old new e fresh u (FailsOnItsWay reads may begun goes_on stopped) =
     absurd (false_true (sym u.mode ∙ (may fresh).1))
 
--- and it is not answered
+-- such a call does not return Ok
 pub supported_call :
     (way : Direction) (m : Machine) (input : Input) (walk next : Walk)
     → IsWalkOf way m input walk → ReportsNext way m input walk next → IsUnsupported way m input → ⊥
@@ -67,7 +67,7 @@ supported_call way m input walk next (k, reported) reports u = go next.stage (re
     | MetNoQuit may clean ↦ false_true (sym u.mode ∙ may.1)
   ]
 
--- whether the walk had a match before changes nothing
+-- whether the walk had a match before makes no difference
 module _ (way : Direction) (m : Machine) (input : Input) (w next : Walk) where
   on_matched : CallGoesOn (without_match w) next → CallGoesOn w next
   on_matched (FindsNone none) = FindsNone none
@@ -119,7 +119,7 @@ module _ (way : Direction) (m : Machine) (input : Input) (w next : Walk) where
       record { answer = answer_matched called.answer; effect = ends_matched old new called.effect }
   called_matched keeping old new (Err e) called = leaves_matched keeping old new e called
 
--- what is held by itself is held whatever the cache
+-- a state that is held by itself is held whatever is cached
 pub held_itself : (t : Rows) (s : Stage) (h : Held) → IsHeldItself s h → IsHeldAt t s h × (keeping_of h ≡ States)
 held_itself t s (held.Row id) none = absurd none
 held_itself t Fresh (held.State handle) none = (none, refl)
@@ -132,7 +132,7 @@ itself_held t Fresh (held.State handle) none e = none
 itself_held t (At q) (held.State handle) holds e = holds
 itself_held t Ended (held.State handle) _ e = tt
 
--- what is held in the same way is the state itself too
+-- if what is held is a state by itself, so is what is held in the same way
 pub shared_itself :
     (s : Stage) (h held : Held)
     → keeping_of held ≡ keeping_of h → (HoldsNone h → HoldsNone held)
@@ -144,7 +144,7 @@ shared_itself (At q) (held.State a) h keeping none itself i = itself q i
 shared_itself Ended (held.State a) (held.State b) keeping none itself i = tt
 shared_itself Ended (held.State a) (held.Row b) keeping none itself i = absurd (cc)
 
--- what is held by an ID has a row
+-- a state that is held by its ID has a row
 pub held_there :
     (c : CacheView) (s : Stage) (h : Held) → IsHeldAt c.store.table s h → keeping_of h ≡ Ids
     → has_its_row (known_of c) s ≡ true
@@ -154,7 +154,7 @@ held_there c (At q) (held.State handle) at ids = absurd (cc)
 held_there c (At q) (held.Row (Some id)) at ids = row_named c.store q id at
 held_there c (At q) (held.Row None) at ids = absurd at
 
--- a walk that has not begun goes on from its start
+-- a walk that has not begun continues from its start state
 module _ (way : Direction) (m : Machine) (input : Input) (w : Walk) (old new : CacheView) (fresh : w.stage ≡ Fresh)
   where
     pub start_resumes :
@@ -175,11 +175,11 @@ module _ (way : Direction) (m : Machine) (input : Input) (w : Walk) (old new : C
       first : w.units ≡ 0
       first = (subst (λ (s : Stage). HasReportedAt way m input s w.units w.reported k) fresh reported).1
 
--- a walk that has begun goes on from the state that it holds
+-- a walk that has begun continues from the state that it holds
 module _ (way : Direction) (m : Machine) (input : Input) (t : Rows) (w : Walk) (h : Held) (handle : Handle)
     (old new : Known) (fresh : w.stage ≡ Fresh → ⊥) (on : w.stage ≡ Ended → ⊥) (at : IsHeldAt t w.stage h)
     (holds : h ≡ held.State (Some handle)) where
-  -- which is in the cache then
+  -- that state is in the cache then
   pub back_resumed :
       with_row_back m handle.state old ≡ Some new → after_resume way m input w.stage old ≡ Some new
   back_resumed row = go w.stage fresh on at where
@@ -190,7 +190,7 @@ module _ (way : Direction) (m : Machine) (input : Input) (t : Rows) (w : Walk) (
     go (At q) fresh on at =
         subst (λ (p : Powerset). with_row_back m p old ≡ Some new) (subst (λ (x : Held). Holds t x q) holds at).0 row
 
-  -- or was not put back
+  -- that state was not put back
   pub back_refusal :
       (e : StepError) (r : SearchError)
       → ((place : ℕ) → IsNotBack m handle.state place old new (step_error e place))
@@ -207,7 +207,7 @@ module _ (way : Direction) (m : Machine) (input : Input) (t : Rows) (w : Walk) (
         (subst (IsNotBack m handle.state (given_up_offset way input w.units) old new) (sym reported)
         (refused (given_up_offset way input w.units)))
 
--- one of a set goes on from the ID of its row
+-- a walk of a set continues from the ID of its row
 pub row_resumed :
     (way : Direction) (m : Machine) (input : Input) (c : CacheView) (w : Walk) (h : Held) (id : ℕ)
     → (w.stage ≡ Fresh → ⊥) → (w.stage ≡ Ended → ⊥) → IsHeldAt c.store.table w.stage h → h ≡ held.Row (Some id)
@@ -221,7 +221,7 @@ row_resumed way m input c w h id fresh on holds row = go w.stage fresh on holds 
   go (At q) fresh on holds =
       row_there m q id c (subst (λ (x : Held). Holds c.store.table x q) row holds)
 
--- it goes on from there, where its search begins
+-- the walk continues from there, where its search begins
 pub going_on :
     (way : Direction) (m : Machine) (input : Input) (w : Walk) (old : Known) (between begun : CacheView) (at : ℕ)
     → after_resume way m input w.stage old ≡ Some (known_of between) → at ≡ given_up_offset way input w.units

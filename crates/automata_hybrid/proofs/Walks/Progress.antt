@@ -1,4 +1,4 @@
--- What the calls of a walk make of what its cache knows, unit by unit.
+-- The effect of the calls of a walk on what its cache knows, unit by unit.
 use Rattle.std.proofs.Common.{ℕ, suc, ◌≡◌, ◌+◌, ◌≤◌, length, refl, sym, subst, arith}
 use Rattle.automata_hybrid.proofs.Words.{AreUnsplit, CacheView, Direction, HasReadNoQuit, Input, IsInput, IsMachine}
 use Rattle.automata_hybrid.proofs.Words.{IsStoreOf, KeepsSplit, Known, known_of, Machine, SearchError, Skips}
@@ -23,14 +23,14 @@ use Rattle.automata_hybrid.proofs.Fast.Runs.{followed_clean}
 use Rattle.automata_hybrid.proofs.Searches.Units.{units_in}
 use Rattle.automata_hybrid.proofs.Walks.Reports.{reported_rises}
 
--- a walk reads the units before one that it reads
+-- a walk that reads a unit reads every unit before it
 pub walk_reads_before :
     (way : Direction) (m : Machine) (input : Input) (j k : ℕ) → j ≤ k → WalkReads way m input k
     → WalkReads way m input j
 walk_reads_before way m input j k l reads =
     (omega (arith, l, reads.0), λ dies. reads.1 (dead_more way m input j k l dies))
 
--- units that report nothing report nothing up to each place between
+-- units that report nothing report nothing up to any place among them
 pub silent_before :
     (way : Direction) (m : Machine) (input : Input) (from j to : ℕ) → from ≤ j → j ≤ to → IsSilent way m input from to
     → IsSilent way m input from j
@@ -64,7 +64,7 @@ silent_before way m input from j to more less silent k t = subst (HasReportedBy 
       let down : here.0 ≤ k = reported_rises way m input j to here.0 k less here.1 (silent k t) in
       omega (arith, up, down)
 
--- units that a walk follows by cached transitions change nothing
+-- units that a walk follows on cached transitions change nothing
 pub goes_followed :
     (way : Direction) (m : Machine) (input : Input) (from : ℕ) (begun : Known) (k to id : ℕ) (mid new : CacheView)
     → IsMachine m → IsInput input → input.start ≤ input.end → IsStoreOf mid.store m → new ≡ mid
@@ -76,7 +76,7 @@ goes_followed way m input from begun k to id mid new machine given undone sound 
     (subst (λ (c : CacheView). GoesTo way m input from k begun (known_of c)) (sym same) before) f.more
     (followed_clean f clean) (λ j more less. (f.taken j more less).known)
 
--- a walk has read units up to where it is
+-- a walk has read the units up to its current place
 pub has_advanced :
     (way : Direction) (m : Machine) (input : Input) (from k : ℕ) (a : Arrival) (old new : CacheView) → from ≤ k
     → suc k ≡ a.units → WalkReads way m input k → GoesTo way m input from (suc k) (known_of old) (known_of new)
@@ -107,14 +107,14 @@ call_stopped way m input from k begun mid new e reads clean silent all fails = r
   left = subst (λ j. CallFailsAt Ids way m input j mid new e) (sym all.upto) (FailsAtIt fails);
 }
 
--- a call that is to read units reads some
+-- a call that has units to read reads some
 pub reads_some : (input : Input) (w : Walk) → IsToRead input w.stage w.units w.reported → ReadsNoUnit input w → ⊥
 reads_some input w r (HasEnded ended) = r.on ended
 reads_some input w r (HasMore q at few) =
     (let all : length q.patterns ≤ w.reported = r.all_reported q at in omega (arith, all, few))
 reads_some input w r (HasNoneLeft past) = omega (arith, r.undone, r.left, past)
 
--- a call that fails is to read units
+-- a call that fails had units to read
 pub left_reads :
     (keeping : Keeping) (way : Direction) (m : Machine) (input : Input) (w : Walk) (old new : Known)
     (e : SearchError) → CallFails keeping way m input w old new e → ReadsNoUnit input w → ⊥
@@ -142,7 +142,7 @@ call_leaves keeping way m input from begun new e stopped = record {
   left = step_leaves keeping way m input (from + stopped.units) stopped.mid new e stopped.left;
 }
 
--- where IDs are kept, a call that has cached all fails because of its input alone
+-- a call that keeps IDs and has everything cached fails only because of its input
 pub of_input :
     (way : Direction) (m : Machine) (input : Input) (w : Walk) (e : SearchError)
     → IsKnownError Ids way m input w e → IsOfInput e

@@ -1,4 +1,5 @@
--- Where no quit byte is in reach, no clear limit is set and the mode is supported, a walk call fails by memory alone.
+-- If no quit byte is in reach, no clear limit is set and the mode is supported, the only error of a walk is out of
+-- memory.
 use Rattle.std.proofs.Common.{ℕ, ◌≡◌, ◌≤◌, ◌+◌, ◌<◌, ◌⊎◌, inl, inr, Bool, List, false, true, length, None, arith}
 use Rattle.std.proofs.lemmas.Bool.{cases_lt}
 use Rattle.automata_hybrid.proofs.Words.{cleared, Direction, Err, Forward, IfErr, Input, is_quit, Known, Machine}
@@ -14,7 +15,7 @@ use Rattle.automata_hybrid.proofs.Known.Memory.{pass_memory, state_made, unit_me
 use Rattle.automata_hybrid.proofs.Searches.Goes.{start_fails_pass}
 use Rattle.automata_hybrid.proofs.Searches.Reach.{InReach}
 
--- a call that is to read units has a span that is not done
+-- if a call has units to read, its span is not done
 reads_undone : (input : Input) (w : Walk) → (ReadsNoUnit input w → ⊥) → input.start ≤ input.end
 reads_undone input w reads = go (cases_lt input.end input.start) where
   go : (input.end < input.start) ⊎ (input.start ≤ input.end) → input.start ≤ input.end
@@ -52,7 +53,7 @@ module _ (way : Direction) (m : Machine) (input : Input) (few : input.end ≤ le
   call_memory keeping w old new e (FailsOnItsWay reads may begun goes_on s) =
       at_memory keeping (w.units + s.units) s.mid new e (reads_undone input w reads) s.reads.0 s.left
 
--- so does the search for a set
+-- the same for the search for a set
 pub set_memory :
     {T : Type 0} (m : Machine) (input : Input) (set joined : List Bool) (old new : Known) (r : Result T SearchError)
     → input.end ≤ length input.haystack → IsUnhindered m input → IsSetRun m input set joined old new (result_err r)

@@ -15,7 +15,7 @@ use Rattle.automata_hybrid.specs.Private.Walks.Answers.{Finishes}
 use Rattle.automata_hybrid.proofs.Searches.PassState.{dead_more}
 use Rattle.std.proofs.lemmas.Bool.{cases_lt}
 
--- lists joined
+-- the pairs of joined lists
 offsets_join :
     (way : Direction) (input : Input) (xs ys : List Pair)
     → with_offsets way input (xs ++ ys) ≡ with_offsets way input xs ++ with_offsets way input ys
@@ -68,7 +68,7 @@ module _ (way : Direction) (m : Machine) (input : Input) where
   unfolding pairs_reported
   pairs_more i = refl
 
-  -- one unit more, at a place that is not skipped
+  -- one more unit, at a place that is not skipped
   pub reported_more :
       (i : ℕ) (pairs : List Pair)
       → (Skips m → is_split input.haystack (offset_in way input i) ≡ false)
@@ -89,7 +89,7 @@ module _ (way : Direction) (m : Machine) (input : Input) where
       ∙ (offsets_join way input (pairs_reported_in way m input i) (at_place i (at i))
       ∙ ap₂ (λ (xs ys : List Pair). xs ++ ys) (sym e) (place_offsets way input i (at i)))))
 
-  -- at a place that is skipped
+  -- one more unit, at a place that is skipped
   reported_skipped :
       (i : ℕ) (pairs : List Pair)
       → Skips m → is_split input.haystack (offset_in way input i) ≡ true
@@ -107,7 +107,7 @@ module _ (way : Direction) (m : Machine) (input : Input) where
       ∙ place_split input.haystack (offset_in way input i) (at i) split)
       ∙ append-nil pairs)))))
 
-  -- a state without patterns
+  -- a state without patterns adds no pairs
   pairs_none : (i : ℕ) → at i ≡ [] → pairs_reported_in way m input (suc i) ≡ pairs_reported_in way m input i
   pairs_none i e =
       pairs_more i
@@ -133,7 +133,7 @@ module _ (way : Direction) (m : Machine) (input : Input) where
   pub silent_trans : (a b c : ℕ) → IsSilent way m input a b → IsSilent way m input b c → IsSilent way m input a c
   silent_trans a b c f g k t = g k (f k t)
 
-  -- the dead state reports nothing from there on
+  -- the dead state and all states after it report nothing
   silent_dead : (k n : ℕ) → k ≤ n → state_in way m input k ≡ dead → IsSilent way m input k n
   silent_dead k zero l e = let z : k ≡ 0 = omega (arith, l) in subst (λ i. IsSilent way m input k i) z (silent_same k)
   silent_dead k (suc n) l e = go (λ more. silent_dead k n more e) (eq-or-lt_of_le l) where
@@ -143,7 +143,7 @@ module _ (way : Direction) (m : Machine) (input : Input) where
         silent_trans k n (suc n) (again (omega (arith, less)))
         (silent_none n (ap (λ (q : Powerset). q.patterns) (dead_more way m input k (suc n) l e)))
 
-  -- no quit byte up to one unit more
+  -- no quit byte up to one more unit
   pub clean_more :
       (k : ℕ) → HasReadNoQuit way m input k
       → ((byte : ℕ) → next (tape_in way input) k ≡ Some byte → is_quit m.quits byte ≡ false)
@@ -155,14 +155,14 @@ module _ (way : Direction) (m : Machine) (input : Input) where
         let same : j ≡ k = omega (arith, l, more) in
         here byte (ap (next (tape_in way input)) (sym same) ∙ e)
 
-  -- a walk that dies has met no quit byte, if it met none before
+  -- a walk that dies meets no quit byte, if it met none before
   dead_clean : (n : ℕ) → HasReadNoQuit way m input n → state_in way m input n ≡ dead → WalkMeetsNoQuit way m input
   dead_clean n clean e j byte r h = go (cases_lt j n) where
     go : (j < n) ⊎ (n ≤ j) → is_quit m.quits byte ≡ false
     go (inl less) = clean j byte less h
     go (inr more) = absurd (r.1 (dead_more way m input n j more e))
 
-  -- a walk that dies, or whose units are all read, has ended
+  -- a walk that dies, or has read all its units, has ended
   pub finish_dead :
       (from k units : ℕ)
       → from ≤ k → k ≤ length (tape_in way input).bytes → units ≡ suc k → HasReadNoQuit way m input (suc k)
@@ -209,7 +209,7 @@ module _ (way : Direction) (m : Machine) (input : Input) where
             λ j more r. absurd (let few : j ≤ length (tape_in way input).bytes = r.0 in omega (arith, few, more, e));
       }
 
-  -- one step of a walk that reports nothing
+  -- one more unit of a walk that reports nothing
   pub silent_step :
       (from k : ℕ)
       → IsSilent way m input from k
@@ -218,7 +218,7 @@ module _ (way : Direction) (m : Machine) (input : Input) where
   silent_step from k silent (inl (s, split)) = silent_trans from k (suc k) silent (silent_skipped k s split)
   silent_step from k silent (inr none) = silent_trans from k (suc k) silent (silent_none k none)
 
-  -- what is reported by fewer units is a beginning
+  -- the second list begins with the first
   pub record Begins (xs ys : List Pair) : Type 0 where
     pub rest : List Pair
     pub joined : ys ≡ xs ++ rest
@@ -275,7 +275,7 @@ module _ (way : Direction) (m : Machine) (input : Input) where
             ∙ ap (λ (zs : List Pair). zs ++ with_offsets way input j.rest) (sym e)));
       }
 
-  -- the whole list begins with what fewer units report
+  -- the whole list begins with what its first units report
   pub walked_begin :
       (i : ℕ) (a b : List Pair)
       → input.start ≤ input.end → i ≤ suc (length (tape_in way input).bytes)
@@ -293,7 +293,7 @@ module _ (way : Direction) (m : Machine) (input : Input) where
       → AreWalked way m input a
   walked_all a s u = WalksSpan s (pairs_reported_in way m input (suc (length (tape_in way input).bytes))) refl u
 
-  -- more units report no fewer pairs
+  -- more units report at least as many pairs
   pub reported_rises : (i n a b : ℕ) → i ≤ n → HasReportedBy way m input i a → HasReportedBy way m input n b → a ≤ b
   reported_rises i n a b l t u =
       let more : Begins t.pairs u.pairs =
@@ -303,7 +303,7 @@ module _ (way : Direction) (m : Machine) (input : Input) where
       ap (λ (zs : List Pair). length zs) more.joined ∙ length-append t.pairs more.rest in
       omega (arith, long, t.count, u.count)
 
--- the pair at an index
+-- the pair at an index of a list
 pub half_past : (xs : List Pair) (k : ℕ) → length xs ≤ k → half_nth xs k ≡ None
 half_past [] k l = refl
 half_past (x ∷ xs) zero l = absurd (omega (arith, l))

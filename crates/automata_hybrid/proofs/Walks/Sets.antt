@@ -24,7 +24,7 @@ use Rattle.automata_hybrid.proofs.Walks.Reports.{reported_rises}
 use Rattle.automata_hybrid.proofs.Searches.Directions.{units_in}
 use Rattle.std.proofs.Math.Nat.{mul-le-mul_right}
 
--- members by their flags
+-- the members of a set, by their flags
 has_in : (xs : List Bool) (j i : ℕ) → has xs i ≡ true → In (j + i) (members_from j xs)
 has_in [] j i e = absurd (false_true e)
 has_in (true ∷ xs) j zero e = inl (omega arith)
@@ -66,7 +66,7 @@ full_at (true ∷ xs) j zero e l = refl
 full_at (true ∷ xs) j (suc p) e l = full_at xs (suc j) p (omega (arith, e)) (omega (arith, l))
 full_at (false ∷ xs) j p e l = let few = members-few xs (suc j) in absurd (omega (arith, e, few))
 
--- one pattern more
+-- one more pattern
 insert_in :
     (xs : List Bool) (i p : ℕ) → In p (members (set xs i true)) ↔ (In p (members xs) ⊎ ((p < length xs) × (p ≡ i)))
 insert_in xs i p = (λ h. there (in_flag (set xs i true) p h) (cases_eq p i), λ h. back h (cases_eq p i))
@@ -90,7 +90,7 @@ insert_in xs i p = (λ h. there (in_flag (set xs i true) p h) (cases_eq p i), λ
         flag_in (set xs i true) p
         (ap (λ n. has (set xs i true) n) e ∙ get_or-set_same xs i true false (omega (arith, l, e)))
 
--- the patterns of one pair more
+-- the patterns of one more pair
 more_pattern :
     (pairs : List Pair) (k p : ℕ) (half : HalfMatch)
     → half_nth pairs k ≡ Some half
@@ -150,7 +150,7 @@ one_of : (pairs : List Pair) → first_alone true pairs ≡ take 1 pairs
 one_of [] = refl
 one_of (x ∷ xs) = refl
 
--- some pattern below its capacity is not in a set
+-- a set lacks some pattern below its capacity
 pub record IsLacking (xs : List Bool) : Type 0 where
   pub pattern : ℕ
   pub below : pattern < length xs
@@ -163,8 +163,7 @@ lacking (true ∷ xs) j full =
     let rest : IsLacking xs = lacking xs (suc j) (λ e. full (ap suc e)) in
     record { pattern = suc rest.pattern; below = omega (arith, rest.below); absent = rest.absent }
 
--- a set with the patterns of the first pairs of a walk, as many as the walk has reported; an earliest search goes on
--- with none
+-- a set with the patterns of the pairs that its walk has reported; an earliest search continues only if there are none
 pub record Joins (m : Machine) (input : Input) (walk : Walk) (old new : List Bool) : Type 0 where
   pub k : ℕ
   pub reported : HasReported Forward m input walk k
@@ -232,7 +231,7 @@ module _ (m : Machine) (input : Input) (old : List Bool) where
             let none : pairs ≡ [] = sym whole ∙ ap (λ n. take n pairs) (j.first s) in
             whole ∙ none ∙ ap (first_alone true) (sym none)
 
-    -- one is, and its pattern is put in
+    -- a match is left, and its pattern is added
     module _ (half : HalfMatch) (is_found : next.found ≡ Some half) where
       here : half_nth pairs j.k ≡ Some half
       here = sym found ∙ is_found
@@ -240,7 +239,7 @@ module _ (m : Machine) (input : Input) (old : List Bool) where
       pub joined_more : IsJoined (take (suc j.k) pairs) old (set new half.pattern true)
       joined_more = one_more half pairs here (j.joined pairs list.1)
 
-      -- a full set has nothing to gain
+      -- a full set cannot gain a pattern
       pub joins_full :
           length (members (set new half.pattern true)) ≡ length (set new half.pattern true)
           → ArePatterns (AreWalked Forward m input) input (length old) (members old)
@@ -271,7 +270,7 @@ module _ (m : Machine) (input : Input) (old : List Bool) where
               (full_at (set new half.pattern true) 0 p full
               (omega (arith, l, j.capacity, length-set new half.pattern true)))
 
-      -- an earliest search takes the first pair alone
+      -- an earliest search takes only the first pair
       pub joins_first :
           input.earliest ≡ true
           → ArePatterns (AreWalked Forward m input) input (length old) (members old)
@@ -285,7 +284,7 @@ module _ (m : Machine) (input : Input) (old : List Bool) where
             members = subst (λ (ps : List Pair). IsJoined ps old (set new half.pattern true)) one joined_more;
           }
 
-      -- and any other goes on
+      -- any other search continues
       pub joins_more :
           input.earliest ≡ false → IsLacking (set new half.pattern true)
           → Joins m input next old (set new half.pattern true)
@@ -301,7 +300,7 @@ module _ (m : Machine) (input : Input) (old : List Bool) where
             open_at = inr lacks;
           }
 
-      -- by one call more
+      -- it continues with one more call
       pub calls_more :
           (e : input.earliest ≡ false) (lacks : IsLacking (set new half.pattern true)) (first last : Known)
           → HaveCalled m input old first (suc j.k) next last
@@ -325,12 +324,12 @@ joins_begin m input walk set c fresh = (
   NoCall walk c fresh refl,
 )
 
--- how many steps a walk has left, at most: for each unit as many as a state has patterns, and one more
+-- an upper bound on the steps that a walk has left: for each unit as many as a state has patterns, and one more
 abbrev pub steps_left : Machine → Input → Walk → ℕ
 steps_left m input w = (input.end - input.start + 2 - w.units) * (m.greatest + 1) + (m.greatest - w.reported)
 
 module _ (m : Machine) (input : Input) (inside : input.end ≤ length input.haystack) where
-  -- a walk that reports a pair stands where it may, with no more patterns reported than states may have
+  -- a walk that has reported a match is in its span, and has reported at most as many patterns as a state can have
   pub record StandsWell (w : Walk) : Type 0 where
     pub units : w.units ≤ input.end - input.start + 1
     pub reported : w.reported ≤ m.greatest
@@ -371,7 +370,7 @@ module _ (m : Machine) (input : Input) (inside : input.end ≤ length input.hays
       ≡ (input.end - input.start + 2 - old.units) * (m.greatest + 1) = ap (λ n. n * (m.greatest + 1)) units in
       omega (arith, times, more, s.reported)
 
--- what the walk reports is what the ordered paths do, where the NFA keeps its cycles
+-- what the walk reports is what the ordered paths report, if the NFA keeps its cycles
 pub patterns_of :
     (m : Machine) (input : Input) → WalkIsRight m.nfa → IsInput input → (old new : List Bool)
     → KeepsCycles (nfa_of m.nfa)
@@ -395,7 +394,7 @@ on_found old new half (FindsNone none) e = absurd (none_half half (sym none ∙ 
 on_found old new half (ReadsMore on more) e = (on, inl more)
 on_found old new half (ReportsOneMore on same more) e = (on, inr (same, more))
 
--- two counts of the pairs that a walk has reported are one
+-- two counts of the pairs that a walk has reported are equal
 pub reported_one :
     (m : Machine) (input : Input) (w : Walk) (a b : ℕ)
     → (w.stage ≡ Ended → ⊥) → HasReported Forward m input w a → HasReported Forward m input w b → a ≡ b
@@ -414,7 +413,7 @@ reported_one m input w a b on t u = go w.stage on t u where
       omega (arith, up, down, t.count, u.count)
   go Ended on t u = absurd (on refl)
 
--- a walk that has reported a pair has a span that is not done
+-- a walk that has reported a match has a span that is not done
 pub reported_undone :
     (m : Machine) (input : Input) (w : Walk) (k : ℕ)
     → HasReported Forward m input w (suc k) → (w.stage ≡ Ended → ⊥) → input.start ≤ input.end
@@ -426,7 +425,7 @@ reported_undone m input w k t on = go w.stage t on where
   go (At q) s on = s.undone
   go Ended t on = absurd (on refl)
 
--- a set that is gone on with is open after the pairs that its walk has reported
+-- a set whose search continues is open after the pairs that its walk has reported
 pub open_after :
     (m : Machine) (input : Input) (walk : Walk) (old new : List Bool) (j : Joins m input walk old new)
     (pairs : List Pair) → AreWalked Forward m input pairs → IsOpen input old (take j.k pairs)
@@ -445,7 +444,7 @@ open_after m input walk old new j pairs walked = go j.open_at input.earliest ref
       (λ i. absent ((j.joined pairs walked lacks.pattern).1 (IsGivenPattern i)))
       (λ h. absent ((j.joined pairs walked lacks.pattern).1 (IsReportedPattern below h)))
 
--- an earliest set or a full one is not gone on with
+-- the search for a set does not continue if it is earliest or the set is full
 pub closes :
     (input : Input) (old new : List Bool) (pairs : List Pair) (k : ℕ) (half : HalfMatch)
     → half_nth pairs k ≡ Some half → length new ≡ length old → IsJoined (take (suc k) pairs) old new

@@ -1,4 +1,4 @@
--- One call of a walk that reads units: what it makes of what its cache knows.
+-- One call of a walk that reads units: its effect on what its cache knows.
 use Rattle.std.proofs.Common.{ℕ, suc, ◌≡◌, ◌∙◌, ◌+◌, ◌-◌, ◌≤◌, ◌<◌, false, length, Option, None, Some, refl, sym, ap}
 use Rattle.std.proofs.Common.{subst, arith}
 use Rattle.automata_hybrid.proofs.Words.{after_many, after_unit, CacheView, dead, Direction, ended, Err}
@@ -25,7 +25,7 @@ use Rattle.automata_hybrid.proofs.Searches.PassState.{state_more}
 use Rattle.automata_hybrid.proofs.Steps.Steps.{no_quit_unit, unit_no_quit}
 use Rattle.automata_hybrid.proofs.Walks.Progress.{reads_some, silent_before, walk_reads_before}
 
--- a unit that was read is no quit byte, and led to the state after it; or the step on it failed
+-- a unit that was read is not a quit byte, and led to the state after it; otherwise the step on it failed
 pub unit_result :
     (way : Direction) (m : Machine) (input : Input) (place id quit_at at : ℕ) (unit : Option ℕ) (old new : CacheView)
     (r : Result ℕ SearchError) → unit_at (tape_in way input) place ≡ unit → unit_offset way input place ≡ quit_at
@@ -42,14 +42,14 @@ unit_result way m input place id quit_at at unit old new (Ok n) is first second 
 unit_result way m input place id quit_at at unit old new (Err e) is first second named h =
     left_here way m input place id at unit old new is second named quit_at e first h.fails
 
--- the state from which a unit was to be read is not dead
+-- the state from which a unit is read is not dead
 pub read_alive :
     (m : Machine) (id : ℕ) (unit : Option ℕ) (quit_at at : ℕ) (old new : CacheView) (r : Result ℕ SearchError)
     → IsRead m id unit quit_at at old new r → (q : Powerset) → Names old.store.table id q → q ≡ dead → ⊥
 read_alive m id unit quit_at at old new (Ok n) h = h.alive
 read_alive m id unit quit_at at old new (Err e) h = h.alive
 
--- units before the last one that a walk came to report nothing
+-- the units before the last one that a walk has read report nothing
 arrival_silent :
     (way : Direction) (m : Machine) (t : Rows) (input : Input) (from : ℕ) (id : Option ℕ) (units k : ℕ)
     → IsArrival way m t input from id units → from ≤ k → k < units → k ≤ length (tape_in way input).bytes
@@ -59,7 +59,7 @@ arrival_silent way m t input from None units k a more less few =
 arrival_silent way m t input from (Some id) units k a more less few =
     silent_before way m input from k a.place more (omega (arith, less, a.one_after)) a.silent
 
--- units of which a walk that met no quit byte, or came to where it reports patterns, has read the last one
+-- none of the units that a walk has read is a quit byte
 arrival_clean :
     (way : Direction) (m : Machine) (t : Rows) (input : Input) (from : ℕ) (id : Option ℕ) (units k : ℕ)
     → IsArrival way m t input from id units → k < units → WalkReads way m input k
@@ -69,7 +69,7 @@ arrival_clean way m t input from None units k a less reads =
 arrival_clean way m t input from (Some id) units k a less reads =
     unit_no_quit m (unit_at (tape_in way input) k) (λ byte unit. a.clean k byte less unit)
 
--- a walk was gone on with from a dead state: its search ended where it began
+-- a walk was resumed at a dead state: its search ended where it began
 pub run_dead :
     (way : Direction) (m : Machine) (input : Input) (w : Walk) (old : Known) (begun : CacheView)
     → IsToRead input w.stage w.units w.reported → MayGoOn way m input w.stage
@@ -96,7 +96,7 @@ run_dead way m input w old begun r may goes_on dies new at place ends =
           ends));
     })
 
--- a walk was gone on with, a search began at its first unit, and it came to where it reports patterns, or to its end
+-- a walk was resumed, its search began at its first unit, and it reached a state that reports patterns, or its end
 module _ (way : Direction) (m : Machine) (input : Input) (w : Walk) (old : Known) (begun mid : CacheView)
     (r : IsToRead input w.stage w.units w.reported) (may : MayGoOn way m input w.stage)
     (goes_on : after_going_on way m input w.stage w.units old ≡ Some (known_of begun)) (arrival : Arrival)
@@ -104,7 +104,7 @@ module _ (way : Direction) (m : Machine) (input : Input) (w : Walk) (old : Known
   reads_before : (k : ℕ) → k < arrival.units → WalkReads way m input k
   reads_before k less = walk_reads_before way m input k (w.units + a.before) (omega (arith, less, a.counted)) a.reads
 
-  -- and the search ended at the last unit that was read
+  -- the search ended at the last unit that was read
   pub run_on :
       (next : Walk) (new : CacheView) (at : ℕ) → next.units ≡ arrival.units
       → at ≡ given_up_offset way input (arrival.units - 1)
@@ -140,7 +140,7 @@ module _ (way : Direction) (m : Machine) (input : Input) (w : Walk) (old : Known
             (ap (given_up_offset way input) last ∙ sym place) ends));
       })
 
-  -- or the state there cannot be held
+  -- the state there cannot be held
   module _ (id : ℕ) (arrived : Arrives way m mid.store.table input w.units id arrival.units) where
     same_place : arrived.place ≡ w.units + a.before
     same_place = omega (arith, arrived.one_after, a.counted)

@@ -20,7 +20,7 @@ dfa_of c = c.store.table.of
 abbrev pub IsCacheOf : CacheView → Machine → Type 0
 IsCacheOf c m = dfa_of c ≡ m
 
--- a cache that nothing was done to
+-- a new cache
 abbrev pub fresh_cache : Machine → CacheView
 fresh_cache m = record { store = fresh_store m; count = 0 }
 
@@ -28,7 +28,8 @@ fresh_cache m = record { store = fresh_store m; count = 0 }
 abbrev pub with_store : CacheView → Stored → CacheView
 with_store c s = record { store = s; count = c.count }
 
--- the cache has a row of exactly this ID, so that a step may be taken from it: that of dead, of quit, or of a state
+-- the cache has a row of exactly this ID, so that a step may be taken from it: the dead row, the quit row, or the row
+-- of a state
 abbrev pub HoldsRow : CacheView → (id : ℕ) → Type 0
 HoldsRow c id =
     (id ≡ dead_id c.store.table.of.stride)

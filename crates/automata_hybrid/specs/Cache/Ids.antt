@@ -1,11 +1,11 @@
--- Identifiers of states: an offset of a row and tags, or one of the three fixed ones.
+-- IDs of states: the offset of a row with tags, or one of the three fixed IDs.
 use Rattle.std.specs.Prelude.{ℕ, ◌+◌, ◌*◌, ◌^◌, Bool, IsBitSet, if◌then◌else◌}
 
--- the tags of a row: started, and with patterns
+-- the tags of a row's ID: whether it is a start state, and whether it has patterns
 abbrev pub tags : Bool → Bool → ℕ
 tags started matches = (if started then 2 ^ 28 else 0) + (if matches then 2 ^ 27 else 0)
 
--- offsets of rows are below this
+-- all offsets of rows are less than this
 abbrev pub offset_limit : ℕ
 offset_limit = 2 ^ 27
 
@@ -25,11 +25,11 @@ HasQuitTag id = IsBitSet id 29
 abbrev pub HasDeadTag : ℕ → Type 0
 HasDeadTag id = IsBitSet id 30
 
--- IDs of rows are below this, and the three fixed ones not
+-- IDs of rows are less than this, and the three fixed IDs are not
 abbrev pub fixed_from : ℕ
 fixed_from = 2 ^ 29
 
--- what stands where nothing is cached
+-- the value of an empty cell or start slot
 abbrev pub unknown_id : ℕ
 unknown_id = 2 ^ 31
 

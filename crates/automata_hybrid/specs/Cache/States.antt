@@ -1,4 +1,4 @@
--- The states that a cache holds, one by one: what a picture of it is made of.
+-- The states that a cache holds, one by one, as a picture of the cache needs them.
 use Rattle.std.specs.Prelude.{ℕ, ◌≡◌, ◌+◌, ◌*◌, ◌<◌, ◌⊎◌, List, [], ◌∷◌, take, drop, length, slice_index, Option}
 use Rattle.automata_base.specs.Powersets.Passes.{IsUnit}
 use Rattle.automata_base.specs.Retraced.Steps.{start_state_of, successor}
@@ -20,20 +20,20 @@ pub record HeldState : Type 0 where
   pub id : ℕ
   -- its powerset state
   pub state : Powerset
-  -- what stands in its cell at each class: the ID that its transition leads to, or the unknown one
+  -- its cell at each class: the ID that the transition leads to, or the unknown ID
   pub transitions : List ℕ
 
--- the states of rows of so many cells each, the first of them at an offset
+-- the states of rows of `stride` cells each, the first of them at an offset
 abbrev pub states_from : (stride at : ℕ) → (cells : List ℕ) → List Row → List HeldState
 states_from s at cells [] = []
 states_from s at cells (r ∷ rs) =
     record { id = row_id at r; state = r.state; transitions = take s cells } ∷ states_from s (at + s) (drop s cells) rs
 
--- the states of a table, in the order of its rows, which is that in which they were added
+-- the states of a table, in the order of its rows, which is the order in which they were added
 abbrev pub held_states : Rows → List HeldState
 held_states t = states_from t.of.stride (3 * t.of.stride) (drop (3 * t.of.stride) t.cells) t.rows
 
--- the ID in the transition of a held state on a unit
+-- the ID that a held state has for its transition on a unit
 abbrev pub transition_on : Stored → HeldState → (unit : Option ℕ) → ℕ
 transition_on c s unit = slice_index s.transitions (unit_class c.table.of unit)
 
@@ -44,11 +44,11 @@ IsTransition c s unit =
     → (transition_on c s unit ≡ quit_id c.table.of.stride)
     ⊎ Leads c.table (transition_on c s unit) (successor c.table.of.nfa (match_kind_of c.table.of.config) s.state unit)
 
--- a cache holds a state so: its row has this ID, and its transitions are those of the row
+-- a cache holds this state: its row has this ID, and its transitions are those of the row
 pub record IsHeldState (c : Stored) (s : HeldState) : Type 0 where
-  -- the ID is that of the row of the state
+  -- the ID names the state
   pub named : Names c.table s.id s.state
-  -- what stands at a class is what stands in the row's cell
+  -- the transition at each class is the row's cell
   pub cells : (class : ℕ) → class < c.table.of.stride → slice_index s.transitions class ≡ cell_of c s.id class
   -- if a transition is cached, it is the ID of quit, or leads to the next state on each unit of its class
   pub leads : (unit : Option ℕ) → IsUnit unit → unit_class c.table.of unit < c.table.of.stride → IsTransition c s unit

@@ -11,19 +11,19 @@ use Rattle.automata_hybrid.specs.Cache.Table.{Rows, cell_at, fresh}
 pub record Stored : Type 0 where
   -- the rows of states, and their transitions
   pub table : Rows
-  -- the ID in each start slot, or the unknown one
+  -- the ID in each start slot, or the unknown ID
   pub starts : List ℕ
-  -- how often it was cleared, up to the greatest number of 64 bits
+  -- how often it was cleared, up to the largest 64-bit number
   pub clears : ℕ
   -- the progress of searches
   pub searched : Searched
 
--- a step failed for lack of room, and not of memory
+-- a step failed because the cache is full, not because memory ran out
 abbrev pub IsCacheError : StepError → Type 0
 IsCacheError (Cache e) = Unit {0}
 IsCacheError OutOfMemory = ⊥
 
--- the cell of a row at a class: the ID that its transition leads to, or the unknown one
+-- the cell of a row at a class: the ID that its transition leads to, or the unknown ID
 abbrev pub cell_of : Stored → ℕ → ℕ → ℕ
 cell_of c id class = slice_index c.table.cells (cell_at id class)
 

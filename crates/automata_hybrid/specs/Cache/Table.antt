@@ -1,4 +1,4 @@
--- What contracts see of the table: the rows of the states, and what their identifiers name.
+-- What contracts see of the table: the rows of the states, and what their IDs name.
 use Rattle.std.specs.Prelude.{◌≡◌, ℕ, ◌+◌, ◌*◌, ◌%◌, ◌<◌, ◌≤◌, ◌↔◌, List, [], ◌∷◌, ◌++◌, length, Bool, cond}
 use Rattle.std.specs.Prelude.{nat_lt, Option, None, Some, replicate, ◌-◌, ◌/◌, slice_get}
 use Rattle.automata_base.specs.Powersets.Powerset.{Powerset, cost, dead}
@@ -24,12 +24,12 @@ row_cost r = cost r.state
 pub record Rows : Type 0 where
   -- the DFA that the table belongs to
   pub of : Machine
-  -- the cells of all rows, those of the three fixed ones first
+  -- the cells of all rows, beginning with the three fixed ones
   pub cells : List ℕ
   -- the rows after the fixed ones, each with its state
   pub rows : List Row
 
--- the ID that rows give a state, the first of them standing at an offset
+-- the ID of a state among rows, the first of them at an offset
 abbrev pub find_id : ℕ → ℕ → Powerset → List Row → Option ℕ
 find_id s at q [] = None
 find_id s at q (r ∷ rs) = cond (powerset_eq q r.state) (Some (row_id at r)) (find_id s (at + s) q rs)
@@ -42,7 +42,7 @@ id_of t q = find_id t.of.stride (3 * t.of.stride) q t.rows
 abbrev pub row_of : Rows → ℕ → Option Row
 row_of t id = slice_get t.rows ((id % offset_limit) / t.of.stride - 3)
 
--- this ID, tags included, is that of the row of this state
+-- this is the ID, tags included, of the row of this state
 abbrev pub Names : Rows → ℕ → Powerset → Type 0
 Names t id q = id_of t q ≡ Some id
 
@@ -61,11 +61,11 @@ pub data Leads (t : Rows) (id : ℕ) (q : Powerset) : Type 0 where
 abbrev pub fixed_rows : ℕ → List ℕ
 fixed_rows s = replicate s unknown_id ++ (replicate s (dead_id s) ++ replicate s (quit_id s))
 
--- the fixed rows alone
+-- a table with only the fixed rows
 abbrev pub fresh : Machine → Rows
 fresh m = record { of = m; cells = fixed_rows m.stride; rows = [] }
 
--- a state that a row may have: one of the DFA, which costs no more than a state may, and is not dead
+-- a state that a row may have: it is a state of the DFA, costs no more than a state may, and is not dead
 pub record IsRowState (m : Machine) (q : Powerset) : Type 0 where
   -- it is a state of the DFA
   pub own : IsStateOf m q

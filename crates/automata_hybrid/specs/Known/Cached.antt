@@ -20,18 +20,19 @@ KnowsItsStart way m c input = is_cached m (start_event way input) c ≡ true
 abbrev pub KnowsUnit : Direction → Machine → Known → Input → (k : ℕ) → Type 0
 KnowsUnit way m c input k = is_cached m (unit_event (pass_trace way m input) way input k) c ≡ true
 
--- all that a pass uses is cached: its start state, and the transition on each unit that it reads, before a quit byte
+-- everything that a pass uses is cached: its start state, and the transition on each unit that it reads before a quit
+-- byte
 abbrev pub KnowsPass : Direction → Machine → Known → Input → Type 0
 KnowsPass way m c input =
     MayStart m input.anchored (tape_in way input).before
     → KnowsItsStart way m c input
     × ((k : ℕ) → Reads way m input k → HasReadNoQuit way m input (suc k) → KnowsUnit way m c input k)
 
--- all that a search uses is cached: what each of its passes uses
+-- everything that a search uses is cached: what each of its passes uses
 abbrev pub Knows : Direction → Machine → Known → Input → Type 0
 Knows way m c input = (k : ℕ) → TriesSpan way m input k → KnowsPass way m c (later way k input)
 
--- until a clear, all that a search uses stays cached
+-- until a clear, everything that a search uses stays cached
 abbrev pub KnownStays : Machine → Type 0
 KnownStays m =
     (way : Direction) (input : Input) (old new : Known) → IsGrown m old new → ClearedNothing old new

@@ -1,4 +1,4 @@
--- What follows of an event over what a cache knows, and so of a step and of a call for a start state.
+-- What follows from the effect of an event on what a cache knows, and so of a step and of a call for a start state.
 use Rattle.std.specs.Prelude.{ℕ, ◌≡◌, ◌+◌, ◌≤◌, ◌⊎◌, true, false, Option, Some}
 use Rattle.automata_base.specs.Powersets.Powerset.{Powerset}
 use Rattle.automata_base.specs.Retraced.Steps.{successor}
@@ -18,72 +18,72 @@ use Rattle.automata_hybrid.specs.Machines.Machine.{Machine, quits_on}
 use Rattle.automata_hybrid.specs.Steps.Starts.{start_row}
 use Rattle.automata_hybrid.specs.declared.cache.row.Row.{Row}
 
--- the row of the state that an event asks for: that of a successor has no start tag
+-- the row of the state that an event asks for; the row of a successor has no start tag
 abbrev pub asked_row : Machine → Event → Row
 asked_row m (Start mode behind) = start_row m mode behind
 asked_row m (Step q unit) = record { state = successor m.nfa (match_kind_of m.config) q unit; started = false }
 
--- whether a row that is added makes room for itself
+-- whether the cache is cleared to make room for a row
 pub data ClearsFor (m : Machine) (r : Row) (old new : Known) : Type 0 where
-  -- nothing is cleared, and the progress of searches is as it was
+  -- nothing is cleared, and the progress of searches is unchanged
   ClearsNothing : new.clears ≡ old.clears → new.searched ≡ old.searched → ClearsFor m r old new
-  -- its state was not there, did not fit, and the clear rule allowed a clear
+  -- its state was not there and did not fit, and the clear rule allowed a clear
   ClearsAll :
       has_state old r.state ≡ false → fits m old r.state ≡ false → refuses_to_clear m old ≡ false
       → new.clears ≡ saturated (old.clears + 1) → new.searched ≡ progress_cleared old.searched
       → ClearsFor m r old new
 
--- what follows of an event
+-- what follows from an event
 pub record EventFollows (m : Machine) (e : Event) (old new : Known) : Type 0 where
-  -- until a clear nothing is lost
+  -- nothing is lost until a clear
   pub grown : IsGrown m old new
-  -- what the cache knows then is still what one of the DFA knows
+  -- what the cache knows then still satisfies `IsKnown`
   pub sound : IsKnown m new
   -- if what it asks for is cached, it changes nothing
   pub known : is_cached m e old ≡ true → new ≡ old
-  -- if it is not, it is determinized, once
+  -- if it is not cached, it is determinized once
   pub computed : is_cached m e old ≡ false → new.count ≡ old.count + 1
-  -- it is cached from then on, also if the cache was cleared
+  -- it is cached afterwards, even if the cache was cleared
   pub learned : is_cached m e new ≡ true
-  -- no row is added but that of the state that it asks for, if that had none
+  -- no row is added except for the state that it asks for, if that state had none
   pub rows : (r : Row) → HasRow new r → HasRow old r ⊎ ((r ≡ asked_row m e) × (has_state old r.state ≡ false))
-  -- the cache is cleared only for that row, if it does not fit, and else no progress moves
+  -- the cache is cleared only for that row, if it does not fit; otherwise the progress is unchanged
   pub clears : ClearsFor m (asked_row m e) old new
 
--- what follows of each event over a cache of the DFA
+-- what follows from every event on a cache of the DFA
 abbrev pub EventsFollow : Machine → Type 0
 EventsFollow m =
     (e : Event) (old new : Known) → IsKnown m old → after_event m e old old ≡ Some new → EventFollows m e old new
 
 -- an ID is known
 pub data KnowsId (m : Machine) (c : Known) (id : ℕ) : Type 0 where
-  -- it is a fixed one
+  -- it is a fixed ID
   KnowsFixed : fixed_from ≤ id → KnowsId m c id
-  -- it is that of a row
+  -- it is the ID of a row
   KnowsRow : (q : Powerset) → id_in m c q ≡ Some id → KnowsId m c id
 
--- what follows of a step that returns Ok
+-- what follows from a step that returns Ok
 pub record StepFollows (m : Machine) (id : ℕ) (unit : Option ℕ) (old new : Known) : Type 0 where
-  -- until a clear nothing is lost
+  -- nothing is lost until a clear
   pub grown : IsGrown m old new
-  -- what the cache knows then is still what one of the DFA knows
+  -- what the cache knows then still satisfies `IsKnown`
   pub sound : IsKnown m new
   -- it determinizes at most once
   pub counted : new.count ≤ old.count + 1
-  -- over a unit that is no quit byte it is the event of the state that the ID names
+  -- on a unit that is not a quit byte, it is the event of the state that the ID names
   pub event :
       quits_on m unit ≡ false → (q : Powerset) → id_in m old q ≡ Some id → EventFollows m (Step q unit) old new
 
--- what follows of a call that fails
+-- what follows from a call that fails
 pub record FailureFollows (m : Machine) (old new : Known) : Type 0 where
   -- nothing is lost
   pub grown : IsGrown m old new
-  -- what the cache knows then is still what one of the DFA knows
+  -- what the cache knows then still satisfies `IsKnown`
   pub sound : IsKnown m new
-  -- nothing changes but the count of determinizations
+  -- nothing changes, except possibly the count of determinizations
   pub unchanged : (new ≡ old) ⊎ (new ≡ counted old)
 
--- what follows of each step over a cache of the DFA, from an ID that is known
+-- what follows from every step on a cache of the DFA, from an ID that is known
 pub record StepsFollow (m : Machine) : Type 0 where
   -- if it returns Ok
   pub answered :
@@ -94,7 +94,7 @@ pub record StepsFollow (m : Machine) : Type 0 where
       (id : ℕ) (unit : Option ℕ) (old new : Known) (e : StepError) → IsKnown m old → KnowsId m old id
       → StepFails m id unit old new e → FailureFollows m old new
 
--- what follows of each call for a start state over a cache of the DFA
+-- what follows from every call for a start state on a cache of the DFA
 pub record StartsFollow (m : Machine) : Type 0 where
   -- if it returns Ok
   pub answered :

@@ -1,4 +1,4 @@
--- What an event makes of what a cache knows: a state is added if there is room for it, or after a clear, or the call
+-- The effect of an event on what a cache knows: a state is added if there is room for it, or after a clear, or the call
 -- gives up.
 use Rattle.std.specs.Prelude.{ℕ, ◌+◌, ◌*◌, length, sum_by, Bool, true, false, cond, nat_eq, nat_lt, nat_le, ◌&&◌, ◌||◌}
 use Rattle.std.specs.Prelude.{Option, None, Some, is_some, option_map, unwrap_or, slice_get, slice_set}
@@ -18,8 +18,8 @@ use Rattle.automata_hybrid.specs.Machines.StartSlots.{slot_behind}
 use Rattle.automata_hybrid.specs.Steps.Starts.{start_row}
 use Rattle.automata_hybrid.specs.declared.cache.row.Row.{Row}
 
--- the accounted bytes: those of the cells and of the slots, of the rows with the three fixed ones, and of their entries
--- in the map, which has one of these three; the costs of all states, and the room for determinization
+-- the accounted bytes: the cells, the start slots, the rows with the three fixed ones, and the map entries, one for
+-- each row and one more; the costs of all states, and the room for determinization
 abbrev pub usage : Machine → Known → ℕ
 usage m c =
     cell_size * ((length c.rows + 3) * m.stride) + cell_size * m.slots + row_size * (length c.rows + 3)
@@ -30,39 +30,39 @@ abbrev pub fits : Machine → Known → Powerset → Bool
 fits m c q =
     nat_le (usage m c + row_usage m + cost q) m.capacity && nat_lt ((length c.rows + 3) * m.stride) offset_limit
 
--- a clear is allowed up to the limit, and past it only if enough bytes were searched since the last one
+-- no clear is allowed: the limit on clears is reached, and too few bytes were searched since the last one
 abbrev pub refuses_past : Machine → Known → (limit : Option ℕ) → Bool
 refuses_past m c None = false
 refuses_past m c (Some limit) =
     cond (nat_lt c.clears limit) false
     (short_of (minimum_bytes_per_state_of m.config) (length c.rows + 3) (total_len c.searched))
 
--- the clear rule
+-- the clear rule does not allow a clear
 abbrev pub refuses_to_clear : Machine → Known → Bool
 refuses_to_clear m c = refuses_past m c (minimum_cache_clear_count_of m.config)
 
--- what is known with a row that was not there: it fits, or the cache is cleared first; none, if the clear rule does not
--- allow that
+-- what is known once a new row is added; if it does not fit, the cache is cleared first; none if the clear rule does
+-- not allow that
 abbrev pub with_new_row : Machine → (emptied : Known) → Row → Known → Option Known
 with_new_row m emptied r c =
     cond (fits m c r.state) (Some (with_row r c)) (cond (refuses_to_clear m c) None (Some (with_row r emptied)))
 
--- what is known with a row for a state, which is added unless the state is there; none, if the call gives up
+-- what is known with a row for a state, which is added unless the state is there; none if the call gives up
 abbrev pub with_state : Machine → (emptied : Known) → Row → Known → Option Known
 with_state m emptied r c = cond (has_state c r.state) (Some c) (with_new_row m emptied r c)
 
--- what is known with one more transition, by one determinization
+-- what is known once one more transition is cached, after one determinization
 abbrev pub with_step : Powerset → (class : ℕ) → Known → Known
 with_step q class c = record c {
   steps = λ p other. (powerset_eq p q && nat_eq other class) || c.steps p other;
   count = c.count + 1;
 }
 
--- what is known with one more start state, by one determinization
+-- what is known once one more start state is cached, after one determinization
 abbrev pub with_start : (slot : ℕ) → Powerset → Known → Known
 with_start slot q c = record c { starts = slice_set c.starts slot (Some q); count = c.count + 1 }
 
--- what an event makes of a cache that has not what it asks for; none, if it gives up
+-- what is known after an event that asks for something not cached; none if the call gives up
 abbrev pub made : Machine → Event → Known → Option Known
 made m (Start mode behind) c =
     option_map (with_start (slot_behind m mode behind) (start_state_of m.nfa mode behind))
@@ -72,11 +72,12 @@ made m (Step q unit) c =
     (with_state m (cleared_saving q c)
     (record { state = successor m.nfa (match_kind_of m.config) q unit; started = false }) c)
 
--- what an event asks for is cached: the anchored mode of a pattern past the last asks for nothing
+-- what an event asks for is cached; the anchored mode of a pattern that is out of range asks for nothing
 abbrev pub is_cached : Machine → Event → Known → Bool
 is_cached m (Start mode behind) c = unwrap_or (option_map is_some (slice_get c.starts (slot_behind m mode behind))) true
 is_cached m (Step q unit) c = c.steps q (unit_class m unit)
 
--- what an event makes of a cache, which is `come` once the search has come to it; none, if it gives up
+-- what is known after an event; none if the call gives up. `come` is what is known once the search has reached the
+-- event
 abbrev pub after_event : Machine → Event → (come c : Known) → Option Known
 after_event m e come c = cond (is_cached m e c) (Some c) (made m e come)

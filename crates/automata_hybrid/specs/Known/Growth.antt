@@ -1,4 +1,4 @@
--- How what a cache knows grows: how many more states fit, and what stays, until a clear or through clears.
+-- How what a cache knows grows: how many more states fit, and what stays until a clear or through clears.
 use Rattle.std.specs.Prelude.{ℕ, ◌≡◌, ◌+◌, ◌-◌, ◌*◌, ◌^◌, ◌<◌, ◌≤◌, ◌⊎◌, List, ◌++◌, length, true, Option, Some}
 use Rattle.std.specs.Prelude.{slice_get}
 use Rattle.automata_base.specs.Powersets.Powerset.{Powerset}
@@ -12,22 +12,22 @@ use Rattle.automata_hybrid.specs.Machines.Machine.{Machine}
 use Rattle.automata_hybrid.specs.Steps.Starts.{start_row}
 use Rattle.automata_hybrid.specs.declared.cache.row.Row.{Row}
 
--- a row is there
+-- the cache has a row
 abbrev pub HasRow : Known → Row → Type 0
 HasRow c r = (place : ℕ) × (slice_get c.rows place ≡ Some r)
 
--- a row is that of a start state that is cached
+-- a row is the row of a cached start state
 pub record IsStartRow (m : Machine) (c : Known) (r : Row) : Type 0 where
   -- the anchored mode
   pub mode : Anchored
   -- the look-behind byte, if there is one
   pub behind : Option ℕ
-  -- it is the row of their start state
+  -- it is the row of that start state
   pub row : r ≡ start_row m mode behind
-  -- which is cached
+  -- the start state is cached
   pub known : is_cached m (Start mode behind) c ≡ true
 
--- nothing was cleared between: the count of clears is the same, and below the greatest number, where it would stay
+-- nothing was cleared in between: the count of clears is the same, and below the maximum, at which it would not change
 abbrev pub ClearedNothing : (old new : Known) → Type 0
 ClearedNothing old new = (new.clears ≡ old.clears) × (old.clears < 2 ^ 64 - 1)
 
@@ -37,21 +37,21 @@ pub record Keeps (old new : Known) : Type 0 where
   pub added : List Row
   -- they come after those that were there
   pub rows : new.rows ≡ old.rows ++ added
-  -- each transition that was cached is cached
+  -- each transition that was cached still is
   pub steps : (q : Powerset) (class : ℕ) → old.steps q class ≡ true → new.steps q class ≡ true
 
--- nothing has changed but the progress of searches
+-- nothing has changed except the progress of searches
 abbrev pub IsStill : (old new : Known) → Type 0
 IsStill old new = new ≡ record old { searched = new.searched }
 
--- there is room for so many more states, whatever they cost
+-- there is room for this many more states, whatever they cost
 pub record HasRoom (m : Machine) (c : Known) (states : ℕ) : Type 0 where
-  -- the accounted bytes stay within the capacity, if each state is of the greatest cost
+  -- the accounted bytes stay within the capacity, even if each state has the greatest cost
   pub capacity : usage m c + states * (row_usage m + m.greatest) ≤ m.capacity
   -- the offset of the last row is below the limit of IDs
   pub offsets : (length c.rows + 2 + states) * m.stride < offset_limit
 
--- what a cache knows after steps and searches, by what it knew before
+-- what a cache knows after steps and searches, compared with what it knew before
 pub record IsGrown (m : Machine) (old new : Known) : Type 0 where
   -- the count of determinizations has not fallen
   pub counted : old.count ≤ new.count
@@ -61,11 +61,11 @@ pub record IsGrown (m : Machine) (old new : Known) : Type 0 where
   pub starts :
       (mode : Anchored) (behind : Option ℕ) → is_cached m (Start mode behind) old ≡ true
       → is_cached m (Start mode behind) new ≡ true
-  -- a row that was not there has the start tag only if it is that of a start state
+  -- a new row has the start tag only if it is the row of a start state
   pub tagged : (r : Row) → HasRow new r → r.started ≡ true → HasRow old r ⊎ IsStartRow m new r
-  -- if nothing was determinized, nothing has changed but the progress of searches
+  -- if nothing was determinized, nothing has changed except the progress of searches
   pub idle : new.count ≡ old.count → IsStill old new
-  -- with nothing cleared nothing is lost
+  -- if nothing was cleared, nothing is lost
   pub kept : ClearedNothing old new → Keeps old new
   -- nothing is cleared if there is room for as many states as are determinized
   pub roomy :

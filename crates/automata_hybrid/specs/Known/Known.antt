@@ -1,5 +1,5 @@
 -- What a cache knows: the states that have rows, and which transitions and start states are cached, without the IDs and
--- cells in which it stands.
+-- cells that hold it.
 use Rattle.std.specs.Prelude.{ℕ, ◌+◌, List, [], ◌∷◌, ◌++◌, Bool, false, cond, ◌||◌, fold, find, Option, None, Some}
 use Rattle.std.specs.Prelude.{is_some, option_and_then}
 use Rattle.automata_base.specs.Powersets.Equal.{powerset_eq}
@@ -13,11 +13,11 @@ use Rattle.automata_hybrid.specs.declared.cache.row.Row.{Row}
 pub record Known : Type 0 where
   -- the rows of its states, oldest first, each with its start tag
   pub rows : List Row
-  -- from a state at a class: the transition is cached; where it leads, the automaton says
+  -- whether the transition from a state at a class is cached; the automaton says where it leads
   pub steps : Powerset → (class : ℕ) → Bool
-  -- of each start slot its start state, if that is cached
+  -- for each start slot, its start state if that is cached
   pub starts : List (Option Powerset)
-  -- how often it was cleared, up to the greatest number of 64 bits
+  -- how often it was cleared, up to the largest 64-bit number
   pub clears : ℕ
   -- the progress of searches
   pub searched : Searched
@@ -28,7 +28,7 @@ pub record Known : Type 0 where
 abbrev pub row_in : List Row → Powerset → Option Row
 row_in rows q = find (λ (r : Row). powerset_eq q r.state) rows
 
--- a state is there: dead, which needs no row, or one that has a row
+-- a state is there: it is dead, which needs no row, or it has a row
 abbrev pub has_state : Known → Powerset → Bool
 has_state c q = powerset_eq q dead || is_some (row_in c.rows q)
 
@@ -36,12 +36,12 @@ has_state c q = powerset_eq q dead || is_some (row_in c.rows q)
 abbrev pub with_row : Row → Known → Known
 with_row r c = record c { rows = c.rows ++ r ∷ [] }
 
--- rows with the row that was found, if one was and its state has none yet
+-- rows with the row that was found, if one was found and its state has no row yet
 abbrev pub keep_row : List Row → Option Row → List Row
 keep_row rows None = rows
 keep_row rows (Some r) = cond (is_some (row_in rows r.state)) rows (rows ++ r ∷ [])
 
--- rows with that of the start state of a slot, if it is cached
+-- rows with the row of a slot's start state, if that is cached
 abbrev pub keep_start : (old kept : List Row) → (start : Option Powerset) → List Row
 keep_start old kept start = keep_row kept (option_and_then (row_in old) start)
 
@@ -62,15 +62,15 @@ cleared c = record c {
 abbrev pub cleared_saving : Powerset → Known → Known
 cleared_saving q c = record (cleared c) { rows = keep_row (rows_of_starts c.rows c.starts) (row_in c.rows q) }
 
--- a search begins at an offset
+-- what is known once a search begins at an offset
 abbrev pub begun : (at : ℕ) → Known → Known
 begun at c = record c { searched = progress_started c.searched at }
 
--- the search moves to an offset
+-- what is known once the search moves to an offset
 abbrev pub moved : (at : ℕ) → Known → Known
 moved at c = record c { searched = progress_updated c.searched at }
 
--- the search ends at an offset
+-- what is known once the search ends at an offset
 abbrev pub ended : (at : ℕ) → Known → Known
 ended at c = record c { searched = progress_finished c.searched at }
 

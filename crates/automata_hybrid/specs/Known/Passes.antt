@@ -1,4 +1,4 @@
--- What the passes of a search make of what its cache knows: their events, unit by unit, up to one that fails.
+-- The effect of the passes of a search on what its cache knows: their events, unit by unit, up to one that fails.
 use Rattle.std.specs.Prelude.{ℕ, zero, suc, ◌≡◌, ◌+◌, ◌-◌, true, false, Option, None, Some, MatchOption, option_map}
 use Rattle.std.specs.Prelude.{option_and_then}
 use Rattle.automata_base.specs.Answers.Answers.{later, offset_in}
@@ -21,23 +21,23 @@ use Rattle.automata_hybrid.specs.Searches.Progress.{ReadsUnits, TriesSpan, Tries
 use Rattle.automata_hybrid.specs.Searches.Traces.{Trace, pass_trace}
 use Rattle.automata_hybrid.specs.Steps.Starts.{MayStart, quit_behind}
 
--- what a run along a trace makes of a cache by the unit at place `k`, to which the search moves if its step is not
+-- what is known after a run along a trace reads the unit at place `k`; the progress moves there only if the step is not
 -- cached
 abbrev pub after_unit : Trace → Direction → Machine → Input → (k : ℕ) → Known → Option Known
 after_unit s way m input k c = after_event m (unit_event s way input k) (moved (given_up_offset way input k) c) c
 
--- what a run along a trace makes of a cache by so many units from a place on, one after another
+-- what is known after a run along a trace reads `units` units from a place on, one after another
 unfoldable pub after_many : Trace → Direction → Machine → Input → (from units : ℕ) → Known → Option Known
 after_many s way m input from zero c = Some c
 after_many s way m input from (suc units) c =
     option_and_then (after_unit s way m input (from + units)) (after_many s way m input from units c)
 
--- what a pass makes of a cache by its start state, where it begins
+-- what is known once a pass has its start state and has begun
 abbrev pub after_start : Direction → Machine → Input → Known → Option Known
 after_start way m input c =
     option_map (begun (given_up_offset way input 0)) (after_event m (start_event way input) c c)
 
--- a pass that has begun ends, at the last of the units that it reads
+-- a pass that has begun ends at the last of the units that it reads
 pub record UnitsEnd (way : Direction) (m : Machine) (input : Input) (begun new : Known) : Type 0 where
   -- how many units it reads
   pub units : ℕ
@@ -45,7 +45,7 @@ pub record UnitsEnd (way : Direction) (m : Machine) (input : Input) (begun new :
   pub reads : ReadsUnits way m input units
   -- none of them is a quit byte
   pub clean : HasReadNoQuit way m input units
-  -- what they make of the cache
+  -- what is known after them, once the search has ended
   pub run :
       option_map (ended (given_up_offset way input (units - 1)))
       (after_many (pass_trace way m input) way m input 0 units begun)
@@ -57,7 +57,7 @@ pub record PassEnds (way : Direction) (m : Machine) (input : Input) (old new : K
   pub may : MayStart m input.anchored (tape_in way input).before
   -- what the cache knows once it has begun
   pub begun : Known
-  -- its start state made this of it
+  -- this is the effect of its start state
   pub starts : after_start way m input old ≡ Some begun
   -- it has ended
   pub ends : UnitsEnd way m input begun new
@@ -73,25 +73,25 @@ pub data FailsFor (m : Machine) (e : Event) (at : ℕ) (c : Known) (error : Sear
 pub record EventFails (m : Machine) (e : Event) (at : ℕ) (old new : Known) (error : SearchError) : Type 0 where
   -- what it asks for is not cached
   pub unknown : is_cached m e old ≡ false
-  -- nothing changes but the count of determinizations
+  -- only the count of determinizations changes
   pub unchanged : new ≡ counted old
   -- it gives up, or memory runs out
   pub why : FailsFor m e at old error
 
--- how reading a unit from a state fails, where the search has come to an offset: a quit byte is reported at an offset,
--- and the "gave up" error at another
+-- how reading a unit from a state fails, once the search has reached the offset `come`: a quit byte is reported at
+-- `quit_at`, and the "gave up" error at `given_up_at`
 pub data ReadFails (m : Machine) (q : Powerset) (unit : Option ℕ) (quit_at given_up_at come : ℕ) (old new : Known)
     (error : SearchError) : Type 0 where
-  -- it is a quit byte, and the search has ended there
+  -- the unit is a quit byte, and the search has ended there
   MeetsQuit :
       (byte : ℕ) → unit ≡ Some byte → quits_on m (Some byte) ≡ true → error ≡ search.Match (QuitAt byte quit_at)
       → new ≡ ended come old → ReadFails m q unit quit_at given_up_at come old new error
-  -- the step over it fails
+  -- the step on it fails
   CannotStep :
       quits_on m unit ≡ false → EventFails m (Step q unit) given_up_at (moved come old) new error
       → ReadFails m q unit quit_at given_up_at come old new error
 
--- how a pass fails at the unit at place `k`, to which it has come
+-- how a pass fails at the unit at place `k`, which it has reached
 abbrev pub UnitFails : Direction → Machine → Input → (k : ℕ) → (old new : Known) → SearchError → Type 0
 UnitFails way m input k old new error =
     ReadFails m (state_in way m input k) (next (tape_in way input) k) (unit_offset way input k)
@@ -106,9 +106,9 @@ pub record FailsAtUnit (way : Direction) (m : Machine) (input : Input) (begun ne
   pub reads : Reads way m input place
   -- none before it is a quit byte
   pub clean : HasReadNoQuit way m input place
-  -- what the cache knows once it has come to it
+  -- what the cache knows once the pass has reached it
   pub mid : Known
-  -- the units before it made this of it
+  -- this is the effect of the units before it
   pub run : after_many (pass_trace way m input) way m input 0 place begun ≡ Some mid
   -- it fails there
   pub fails : UnitFails way m input place mid new error
@@ -134,13 +134,13 @@ pub data PassFails (way : Direction) (m : Machine) (input : Input) (old new : Kn
       → after_start way m input old ≡ Some begun → FailsAtUnit way m input begun new error
       → PassFails way m input old new error
 
--- so many passes have ended, one after another, each over the next span
+-- `passes` passes have ended, one after another, each over the next span
 abbrev pub PassesEnd : Direction → Machine → Input → (passes : ℕ) → (old new : Known) → Type 0
 PassesEnd way m input zero old new = new ≡ old
 PassesEnd way m input (suc passes) old new =
     (mid : Known) × PassesEnd way m input passes old mid × PassEnds way m (later way passes input) mid new
 
--- the passes over as many spans that a search tries have ended
+-- the passes over the first `passes` spans that a search tries have ended
 pub record HaveTried (way : Direction) (m : Machine) (input : Input) (passes : ℕ) (old new : Known) : Type 0 where
   -- it tries these spans
   pub tried : TriesSpans way m input passes
@@ -172,7 +172,7 @@ pub record SearchFails (way : Direction) (m : Machine) (input : Input) (old new 
   -- the next one failed
   pub fails : PassFails way m (later way passes input) mid new error
 
--- what a search makes of what its cache knows, by the error that it returns, if it fails
+-- the effect of a search on what its cache knows, by the error that it returns, if any
 abbrev pub IsSearchRun : Direction → Machine → Input → (old new : Known) → Option SearchError → Type 0
 IsSearchRun way m input old new error =
     MatchOption error (SearchEnds way m input old new) (SearchFails way m input old new)

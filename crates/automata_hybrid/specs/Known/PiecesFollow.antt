@@ -1,4 +1,4 @@
--- What follows of what the calls of a search in pieces make of what their cache knows.
+-- What follows from the effect of the calls of a search in pieces on what their cache knows.
 use Rattle.std.specs.Prelude.{ℕ, ◌≡◌, ◌+◌, ◌^◌, ◌<◌, ◌≤◌, true, false, List, length, Option, None, Some, IfSome}
 use Rattle.std.specs.Prelude.{slice_get}
 use Rattle.automata_base.specs.Powersets.Powerset.{Powerset}
@@ -15,7 +15,7 @@ use Rattle.automata_hybrid.specs.Searches.Contracts.{IsMemory}
 use Rattle.automata_hybrid.specs.Walks.State.{At}
 use Rattle.automata_base.specs.ByteClasses.Classes.{is_quit}
 
--- nothing but a lack of memory can prevent that a piece is read: it has no quit byte, its bytes can be counted, and no
+-- only a lack of memory can prevent a piece from being read: it has no quit byte, its bytes can be counted, and no
 -- limit on clears is set
 pub record IsFreePiece (m : Machine) (piece : List ℕ) (p : PiecesView) : Type 0 where
   -- it has no quit byte
@@ -25,29 +25,29 @@ pub record IsFreePiece (m : Machine) (piece : List ℕ) (p : PiecesView) : Type 
   -- no limit on clears is set
   pub clears : minimum_cache_clear_count_of m.config ≡ None
 
--- what a call that reads at most so many units costs
+-- what a call costs that reads at most `units` units
 pub record IsCostOfUnits (m : Machine) (units : ℕ) (p : PiecesView) (old new : Known) : Type 0 where
   -- it determinizes at most once for each unit
   pub cost : new.count ≤ old.count + units
-  -- the cache has grown as by one determinization more than were made
+  -- the cache has grown as by one more determinization than were made
   pub grown : IsGrown m old (counted new)
-  -- if it had the state where the search stands, it has grown as by those that were made
+  -- if it had the row of the search's current state, it has grown as by those that were made
   pub there :
       ((q : Powerset) → p.state ≡ Some q → has_its_row old (At q) ≡ true) → IsGrown m old new
-  -- nothing is cleared if there is room for as many states, and for the search's own
+  -- nothing is cleared if there is room for as many states, and for the search's current state
   pub roomy : HasRoom m old (units + 1) → new.clears ≡ old.clears
-  -- what the cache knows then is still what one of the DFA knows
+  -- what the cache knows then still satisfies `IsKnown`
   pub sound : IsKnown m new
 
--- what follows of reading a piece: what it costs, and that it fails with out of memory alone if nothing else can
--- prevent that it is read
+-- what follows from reading a piece: what it costs, and that the only error is out of memory if nothing else can
+-- prevent it from being read
 abbrev pub PiecesFollow : Machine → Type 0
 PiecesFollow m =
     (piece : List ℕ) (p next : PiecesView) (old new : Known) (error : Option SearchError)
     → IsKnown m old → IsPiecesOf p m → IsPieceRun m piece p next old new error
     → IsCostOfUnits m (length piece) p old new × (IsFreePiece m piece p → IfSome error IsMemory)
 
--- what follows of asking a search in pieces for its answer, which reads one unit at most
+-- what follows from asking a search in pieces for its answer, which reads at most one unit
 abbrev pub PieceAnswersFollow : Machine → Type 0
 PieceAnswersFollow m =
     (ahead : Option ℕ) (p : PiecesView) (old new : Known) (error : Option SearchError)

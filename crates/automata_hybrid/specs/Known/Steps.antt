@@ -1,4 +1,4 @@
--- What a step, or a call for a start state, makes of what its cache knows.
+-- The effect of a step, or of a call for a start state, on what its cache knows.
 use Rattle.std.specs.Prelude.{ℕ, ◌≡◌, ◌*◌, ◌<◌, ◌≤◌, true, false, Option, None, Some}
 use Rattle.automata_base.specs.Powersets.Powerset.{Powerset}
 use Rattle.automata_base.specs.declared.util.search.Anchored.{Anchored}
@@ -21,13 +21,13 @@ use Rattle.automata_hybrid.specs.Steps.Starts.{MayStart, quit_behind, start_sear
 abbrev pub id_in : Machine → Known → Powerset → Option ℕ
 id_in m c q = find_id m.stride (3 * m.stride) q c.rows
 
--- what a step from an ID on a unit makes of what the cache knows, if it returns Ok
+-- the effect of a step from an ID on a unit on what the cache knows, if it returns Ok
 pub record IsStepRun (m : Machine) (id : ℕ) (unit : Option ℕ) (old new : Known) : Type 0 where
   -- from dead and quit it changes nothing
   pub fixed : fixed_from ≤ id → new ≡ old
-  -- over a quit byte it changes nothing
+  -- on a quit byte it changes nothing
   pub quit : quits_on m unit ≡ true → new ≡ old
-  -- any other unit is stepped over from the state that the ID names
+  -- on any other unit it is a step from the state that the ID names
   pub does :
       quits_on m unit ≡ false → (q : Powerset) → id_in m old q ≡ Some id
       → after_event m (Step q unit) old old ≡ Some new
@@ -36,9 +36,9 @@ pub record IsStepRun (m : Machine) (id : ℕ) (unit : Option ℕ) (old new : Kno
 pub record FailsFrom (m : Machine) (q : Powerset) (unit : Option ℕ) (old new : Known) (e : StepError) : Type 0 where
   -- the transition is not cached
   pub unknown : is_cached m (Step q unit) old ≡ false
-  -- nothing changes but the count of determinizations
+  -- only the count of determinizations changes
   pub unchanged : new ≡ counted old
-  -- a cache error says that it gives up
+  -- with a cache error the call gives up
   pub gives_up : IsCacheError e → made m (Step q unit) old ≡ None
 
 -- what holds if a step from an ID on a unit fails
@@ -50,21 +50,21 @@ pub record StepFails (m : Machine) (id : ℕ) (unit : Option ℕ) (old new : Kno
   -- it is the step from the state that the ID names
   pub fails : (q : Powerset) → id_in m old q ≡ Some id → FailsFrom m q unit old new e
 
--- what a call for a start state makes of what the cache knows, if it returns Ok
+-- the effect of a call for a start state on what the cache knows, if it returns Ok
 pub record IsStartRun (m : Machine) (mode : Anchored) (behind : Option ℕ) (old new : Known) : Type 0 where
-  -- a search may start so
+  -- a search may start in this mode after this byte
   pub may : MayStart m mode behind
   -- it asks for the start state
   pub does : after_event m (Start mode behind) old old ≡ Some new
 
--- why a call for a start state fails, and what that makes of what the cache knows
+-- why a call for a start state fails, and the effect on what the cache knows
 pub data StartFails (m : Machine) (mode : Anchored) (behind : Option ℕ) (old new : Known) (e : StartError) :
     Type 0 where
   -- the look-behind byte is a quit byte
   IsQuitBehind :
       (byte : ℕ) → quit_behind m behind ≡ Some byte → e ≡ start.Quit byte → new ≡ old
       → StartFails m mode behind old new e
-  -- it is none, and the anchored mode is not supported
+  -- it is not a quit byte, and the anchored mode is not supported
   IsNotSupported :
       quit_behind m behind ≡ None → supports m mode ≡ false → e ≡ start.UnsupportedAnchored mode → new ≡ old
       → StartFails m mode behind old new e
@@ -77,12 +77,12 @@ pub data StartFails (m : Machine) (mode : Anchored) (behind : Option ℕ) (old n
       MayStart m mode behind → is_cached m (Start mode behind) old ≡ false → e ≡ start.OutOfMemory
       → new ≡ counted old → StartFails m mode behind old new e
 
--- a search fails at its start state, and reports this error: it has the offset of the look-behind byte or of the start
+-- a search fails at its start state, and reports this error with the offset of the look-behind byte or of the start
 pub record StartFailsAt (m : Machine) (mode : Anchored) (behind : Option ℕ) (behind_at start_at : ℕ)
     (old new : Known) (e : SearchError) : Type 0 where
   -- why the call for the start state fails
   pub error : StartError
-  -- it fails so
+  -- it fails with this error
   pub fails : StartFails m mode behind old new error
   -- the error is reported at this offset
   pub reported : e ≡ start_search_error error behind_at start_at

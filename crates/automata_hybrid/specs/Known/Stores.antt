@@ -10,7 +10,7 @@ use Rattle.automata_hybrid.specs.Known.Known.{Known}
 use Rattle.automata_hybrid.specs.Machines.Machine.{Machine}
 use Rattle.automata_hybrid.specs.declared.cache.row.Row.{Row}
 
--- a row has a transition at a class: there is a cell for it, and it is no class of quit bytes
+-- a row has a transition at a class: there is a cell for it, and the class is not one of quit bytes
 abbrev pub has_steps_at : Machine → (class : ℕ) → Bool
 has_steps_at m class = nat_lt class m.stride && nat_eq (slice_index m.template class) unknown_id
 
@@ -23,7 +23,7 @@ is_cell_known c q class =
 abbrev pub is_step_known : Stored → Powerset → (class : ℕ) → Bool
 is_step_known c q class = has_steps_at c.table.of class && is_cell_known c q class
 
--- the start state of a slot, by the ID that it has: none, dead, or that of a row
+-- the start state of a slot, by the slot's ID: none, dead, or the state of a row
 abbrev pub start_named : Rows → (id : ℕ) → Option Powerset
 start_named t id =
     cond (nat_le unknown_id id) None

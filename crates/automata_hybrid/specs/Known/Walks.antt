@@ -1,4 +1,4 @@
--- What the calls of a walk, and the search for a set of patterns, make of what their cache knows.
+-- The effect of the calls of a walk, and of the search for a set of patterns, on what their cache knows.
 use Rattle.std.specs.Prelude.{ℕ, zero, suc, ◌≡◌, ◌<◌, ◌+◌, ◌-◌, ◌⊎◌, Bool, true, false, List, Option, None, Some}
 use Rattle.std.specs.Prelude.{MatchOption, is_some, option_map}
 use Rattle.automata_base.specs.Answers.Answers.{offset_in}
@@ -23,42 +23,42 @@ use Rattle.automata_hybrid.specs.Walks.Answers.{IsSilent, IsUnheld, ReportsNext,
 use Rattle.automata_hybrid.specs.Walks.Progress.{IsClosedAfter, IsJoinedAfter, IsOpenAfter, ReadsItsUnits, ReadsNoUnit}
 use Rattle.automata_hybrid.specs.Walks.State.{At, Ended, Fresh, Ids, Keeping, Stage, States, Walk, fresh_walk}
 
--- what is known with a row for a state where a walk stands: it is there, or is put back, without the start tag; none,
--- if the call gives up
+-- what is known with a row for the current state of a walk: it is there, or is put back without the start tag; none if
+-- the call gives up
 abbrev pub with_row_back : Machine → Powerset → Known → Option Known
 with_row_back m q c = with_state m (cleared c) (record { state = q; started = false }) c
 
--- what the state that a walk goes on from makes of the cache: its start, or the state where it stands; none, if the
--- call gives up, and if the walk has ended
+-- what is known with the state from which a walk continues: its start state, or its current state; none if the call
+-- gives up, or if the walk has ended
 abbrev pub after_resume : Direction → Machine → Input → Stage → Known → Option Known
 after_resume way m input Fresh c = after_event m (start_event way input) c c
 after_resume way m input (At q) c = with_row_back m q c
 after_resume way m input Ended c = None
 
--- what a walk that goes on from a place makes of the cache by its state there, where the call begins
+-- what is known once a walk has the state from which it continues, and its call has begun at a place
 abbrev pub after_going_on : Direction → Machine → Input → Stage → (from : ℕ) → Known → Option Known
 after_going_on way m input stage from c =
     option_map (begun (given_up_offset way input from)) (after_resume way m input stage c)
 
--- none of so many units from a place on is a quit byte
+-- none of the `units` units from a place on is a quit byte
 abbrev pub ReadsNoQuit : Direction → Machine → Input → (from units : ℕ) → Type 0
 ReadsNoQuit way m input from units =
     (k : ℕ) → k < units → quits_on m (unit_at (tape_in way input) (from + k)) ≡ false
 
--- a walk may go on: a search may start, if it has not begun
+-- a walk may continue: if it has not begun, a search may start
 abbrev pub MayGoOn : Direction → Machine → Input → Stage → Type 0
 MayGoOn way m input stage = stage ≡ Fresh → MayStart m input.anchored (tape_in way input).before
 
--- a call goes on from where its walk is, and reads its units
+-- a call continues from where its walk is, and reads its units
 pub record CallReads (way : Direction) (m : Machine) (input : Input) (walk next : Walk) (old new : Known) :
     Type 0 where
-  -- units are to be read
+  -- there are units to read
   pub some : ReadsNoUnit input walk → ⊥
-  -- it may go on
+  -- it may continue
   pub may : MayGoOn way m input walk.stage
   -- what the cache knows once it has begun
   pub begun : Known
-  -- the state that it goes on from made this of it
+  -- this is the effect of the state from which it continues
   pub goes_on : after_going_on way m input walk.stage walk.units old ≡ Some begun
   -- how many units are read
   pub units : ℕ
@@ -68,13 +68,13 @@ pub record CallReads (way : Direction) (m : Machine) (input : Input) (walk next 
   pub its : ReadsItsUnits way m input walk next
   -- none of them is a quit byte
   pub clean : ReadsNoQuit way m input walk.units units
-  -- what they make of the cache; the search ends at the last of them
+  -- what is known after them; the search ends at the last of them
   pub run :
       option_map (ended (given_up_offset way input (walk.units + (units - 1))))
       (after_many (pass_trace way m input) way m input walk.units units begun)
       ≡ Some new
 
--- what a call that answers makes of its walk and its cache; a walk that has ended has no match
+-- the effect of a call that answers on its walk and its cache; a walk that has ended has no match
 pub data CallEnds (way : Direction) (m : Machine) (input : Input) (walk next : Walk) (old new : Known) : Type 0 where
   -- it reads no unit, and changes nothing
   ReadsNone :
@@ -85,7 +85,7 @@ pub data CallEnds (way : Direction) (m : Machine) (input : Input) (walk next : W
       (next.stage ≡ Ended → next.found ≡ None) → CallReads way m input walk next old new
       → CallEnds way m input walk next old new
 
--- why the state where a walk stands is not put back, and nothing changes
+-- why the current state of a walk is not put back; nothing changes
 pub data IsNotBack (m : Machine) (q : Powerset) (at : ℕ) (old new : Known) (e : SearchError) : Type 0 where
   -- the call gives up
   GivesUpOnIt :
@@ -95,7 +95,7 @@ pub data IsNotBack (m : Machine) (q : Powerset) (at : ℕ) (old new : Known) (e 
       row_in old.rows q ≡ None → (with_row_back m q old ≡ None → ⊥) → e ≡ search.OutOfMemory → new ≡ old
       → IsNotBack m q at old new e
 
--- a walk lacks the state that it goes on from: its start fails, or the state where it stands is not put back
+-- a walk does not get the state from which it continues: its start state fails, or its current state is not put back
 abbrev pub IsNotResumed : Direction → Machine → Input → Stage → (units : ℕ) → (old new : Known) → SearchError → Type 0
 IsNotResumed way m input Fresh units old new e =
     StartFailsAt m input.anchored (tape_in way input).before (behind_offset way input) (offset_in way input 0)
@@ -126,42 +126,42 @@ pub record CallFailsAtUnit (keeping : Keeping) (way : Direction) (m : Machine) (
   pub silent : IsSilent way m input from (from + units)
   -- what the cache knows after them
   pub mid : Known
-  -- they made this of it
+  -- this is their effect
   pub run : after_many (pass_trace way m input) way m input from units begun ≡ Some mid
   -- it fails at the next one
   pub left : CallFailsAt keeping way m input (from + units) mid new e
 
--- what a call that is to read units makes of its cache, if it fails
+-- the effect of a call that has units to read on its cache, if it fails
 pub data CallFails (keeping : Keeping) (way : Direction) (m : Machine) (input : Input) (walk : Walk)
     (old new : Known) (e : SearchError) : Type 0 where
-  -- the walk cannot go on from where it is
+  -- the walk cannot continue from where it is
   FailsToGoOn :
       (ReadsNoUnit input walk → ⊥) → IsNotResumed way m input walk.stage walk.units old new e
       → CallFails keeping way m input walk old new e
-  -- it goes on, and fails at a unit
+  -- it continues, and fails at a unit
   FailsOnItsWay :
       (ReadsNoUnit input walk → ⊥) → MayGoOn way m input walk.stage → (begun : Known)
       → after_going_on way m input walk.stage walk.units old ≡ Some begun
       → CallFailsAtUnit keeping way m input walk.units begun new e → CallFails keeping way m input walk old new e
 
--- what a call of a walk makes of what its cache knows, by the error that it returns, if it fails
+-- the effect of a call of a walk on what its cache knows, by the error that it returns, if any
 abbrev pub IsWalkRun :
     Keeping → Direction → Machine → Input → (walk next : Walk) → (old new : Known) → Option SearchError → Type 0
 IsWalkRun keeping way m input walk next old new error =
     MatchOption error (CallEnds way m input walk next old new) (CallFails keeping way m input walk old new)
 
--- the cache has the row of the state that a walk goes on from
+-- the cache has the row of the state from which a walk continues
 abbrev pub has_its_row : Known → Stage → Bool
 has_its_row c Fresh = true
 has_its_row c (At q) = is_some (row_in c.rows q)
 has_its_row c Ended = true
 
--- so many calls of the walk of a set have ended, one after another
+-- `calls` calls of the walk of a set have ended, one after another
 pub data HaveCalled (m : Machine) (input : Input) (set : List Bool) (old : Known) :
     (calls : ℕ) → Walk → Known → Type 0 where
   -- none: the walk has not begun, and nothing has changed
   NoCall : (walk : Walk) (new : Known) → walk ≡ fresh_walk → new ≡ old → HaveCalled m input set old zero walk new
-  -- one more, while the set is open and the cache has the state where the walk stands
+  -- one more, while the set is open and the cache has the walk's current state
   OneMore :
       (calls : ℕ) (before walk : Walk) (mid new : Known) → HaveCalled m input set old calls before mid
       → IsOpenAfter m input set calls → has_its_row mid before.stage ≡ true → ReportsNext Forward m input before walk
@@ -193,13 +193,13 @@ pub record SetFails (m : Machine) (input : Input) (set joined : List Bool) (old 
   pub still_open : IsOpenAfter m input set calls
   -- it has what these calls reported
   pub joins : IsJoinedAfter m input set joined calls
-  -- the cache has the state where the walk stands
+  -- the cache has the walk's current state
   pub there : has_its_row mid walk.stage ≡ true
   -- the next call fails
   pub left : CallFails Ids Forward m input walk mid new e
 
--- what the search for a set makes of what its cache knows, and of the set if it fails, by the error that it returns
--- then
+-- the effect of the search for a set on what its cache knows, and on the set if it fails, by the error that it then
+-- returns
 abbrev pub IsSetRun :
     Machine → Input → (set joined : List Bool) → (old new : Known) → Option SearchError → Type 0
 IsSetRun m input set joined old new error =

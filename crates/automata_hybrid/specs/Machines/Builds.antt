@@ -1,4 +1,4 @@
--- What a machine is built from, and the automata of the two DFAs that need none.
+-- What a machine is built from, and the automata of `DFA::always_match` and `DFA::never_match`.
 use Rattle.std.specs.Prelude.{ℕ, ◌≡◌, List, [], ◌∷◌, false}
 use Rattle.automata_base.specs.Nfas.Automata.{automaton}
 use Rattle.automata_base.specs.Nfas.Nodes.{Automaton}
@@ -26,19 +26,19 @@ built_machine o a s = record {
   fixed = fixed_cost a;
 }
 
--- the machine is what settings make of an automaton
+-- the machine is built from an automaton with these settings
 abbrev pub Builds : Options → Automaton → Machine → Type 0
 Builds o a m = (s : Settled) × IsSettled o a s × (m ≡ built_machine o a s)
 
--- the automaton of one state, by the default flags, and these starts of its patterns
+-- the automaton with one state, the default flags, and these starts of its patterns
 abbrev pub one_state : State → List ℕ → Automaton
 one_state state starts =
     automaton (state ∷ []) 0 0 starts (record { utf8 = false; reverse = false; line_terminator = 10 })
 
--- the automaton of one pattern, which matches everywhere
+-- the automaton with one pattern, which matches everywhere
 abbrev pub always_matching : Automaton
 always_matching = one_state (Match 0) (0 ∷ [])
 
--- the automaton of no pattern, which matches nowhere
+-- the automaton with no patterns, which matches nowhere
 abbrev pub never_matching : Automaton
 never_matching = one_state Fail []

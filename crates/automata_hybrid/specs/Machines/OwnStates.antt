@@ -1,4 +1,4 @@
--- What states of an automaton are made of.
+-- What the powerset states of an automaton consist of.
 use Rattle.automata_base.specs.Nfas.Nodes.{Automaton}
 use Rattle.automata_base.specs.Powersets.Powerset.{Powerset}
 use Rattle.automata_base.specs.Paths.Starts.{IsOf, NeedsOwnLooks}

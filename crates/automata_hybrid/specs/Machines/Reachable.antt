@@ -1,4 +1,4 @@
--- The states of a lazy DFA: those that a search can come to.
+-- The states of a lazy DFA: those that a search can reach.
 use Rattle.std.specs.Prelude.{ℕ, zero, suc, ◌≡◌, ◌<◌, false, Option}
 use Rattle.automata_base.specs.Powersets.Powerset.{Powerset}
 use Rattle.automata_base.specs.Retraced.Steps.{successor, start_state_of}
@@ -8,7 +8,7 @@ use Rattle.automata_hybrid.specs.Machines.Machine.{Machine, quits_on}
 use Rattle.automata_hybrid.specs.Machines.OwnStates.{IsOwn}
 use Rattle.automata_hybrid.specs.Machines.StartSlots.{slot_behind}
 
--- so many units, none a quit byte, lead to a state from the start state of some anchored mode that has a slot
+-- `units` units, none of them a quit byte, lead to a state from the start state of some anchored mode that has a slot
 pub data IsReachableBy (m : Machine) : (units : ℕ) → Powerset → Type 0 where
   -- it is this start state
   AtStart :
@@ -19,13 +19,13 @@ pub data IsReachableBy (m : Machine) : (units : ℕ) → Powerset → Type 0 whe
       (units : ℕ) (before : Powerset) (unit : Option ℕ) → IsReachableBy m units before → quits_on m unit ≡ false
       → IsReachableBy m (suc units) (successor m.nfa (match_kind_of m.config) before unit)
 
--- a search can come to a state
+-- a search can reach a state
 abbrev pub IsReachable : Machine → Powerset → Type 0
 IsReachable m q = ∥ ((units : ℕ) × IsReachableBy m units q) ∥₁
 
 -- a state of a lazy DFA
 pub record IsStateOf (m : Machine) (q : Powerset) : Type 0 where
-  -- it is made of what the automaton has
+  -- what it consists of is the automaton's
   pub own : IsOwn m.nfa q
-  -- a search can come to it
+  -- a search can reach it
   pub reached : IsReachable m q

@@ -16,7 +16,7 @@ group_of (Pattern pattern) = suc (suc pattern)
 abbrev pub slot_of : Anchored → ℕ → ℕ
 slot_of mode kind = group_of mode * 6 + kind
 
--- the slot of an anchored mode after a look-behind byte, or after none
+-- the slot of an anchored mode after a look-behind byte, or without one
 abbrev pub slot_behind : Machine → Anchored → Option ℕ → ℕ
 slot_behind m mode behind = slot_of mode (behind_of m.nfa.flags.line_terminator behind)
 

@@ -1,4 +1,4 @@
--- Which patterns match at an offset where a walk over a haystack in pieces stands, by paths.
+-- Which patterns match, by paths, at an offset that a walk over a haystack in pieces has reached.
 use Rattle.std.specs.Prelude.{ℕ, suc, ◌≡◌, ◌-◌, ◌≤◌, List, Some}
 use Rattle.automata_base.specs.Answers.Answers.{IsInput}
 use Rattle.automata_base.specs.Haystacks.Input.{Input}
@@ -17,7 +17,7 @@ abbrev pub MatchesAt : Machine → Input → (start k p : ℕ) → Type 0
 MatchesAt m input start k p = (path : List ℕ) × Accepts (nfa_of m.nfa) (tape_in Forward input) start k p path
 
 -- under `MatchKind::All`, for every NFA, and by the start of the input's anchored mode: at each place of a span, its
--- end included, the state of a pass reports just the patterns that match there
+-- end included, the state of a pass reports exactly the patterns that match there
 abbrev pub StatesHaveMatching : Machine → Type 0
 StatesHaveMatching m =
     (input : Input) (start k : ℕ)

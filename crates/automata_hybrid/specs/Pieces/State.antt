@@ -1,4 +1,4 @@
--- Searches in pieces: what contracts see of where one stands.
+-- Searches in pieces: what contracts see of their state.
 use Rattle.std.specs.Prelude.{ℕ, ◌≡◌, Bool, Option, Some}
 use Rattle.automata_base.specs.Haystacks.Matches.{HalfMatch}
 use Rattle.automata_base.specs.Powersets.Powerset.{Powerset}
@@ -7,7 +7,7 @@ use Rattle.automata_hybrid.specs.Machines.Machine.{Machine}
 
 -- what contracts see of a search in pieces
 pub record PiecesView : Type 0 where
-  -- the state after the bytes that were read; none once nothing that follows can change the answer
+  -- the state after the bytes read so far; none once nothing that follows can change the answer
   pub state : Option Powerset
   -- how many bytes were read
   pub read : ℕ
@@ -16,6 +16,6 @@ pub record PiecesView : Type 0 where
   -- what these bytes report; its offset is counted from the first byte of the first piece
   pub found : Option HalfMatch
 
--- the search belongs to this DFA: it stands at one of its states, or at none
+-- the search belongs to this DFA: its current state, if it has one, is a state of the DFA
 abbrev pub IsPiecesOf : PiecesView → Machine → Type 0
 IsPiecesOf p m = (q : Powerset) → p.state ≡ Some q → IsRowState m q

@@ -8,12 +8,12 @@ use Rattle.automata_hybrid.specs.Machines.Machine.{Machine}
 use Rattle.automata_hybrid.specs.Pieces.Answers.{EndsHere, HasBegun, IsWhole, ReadsOn}
 use Rattle.automata_hybrid.specs.Pieces.State.{PiecesView}
 
--- the bytes of pieces, of which the last one is named first
+-- the bytes of pieces, which are listed last to first
 abbrev pub bytes_of_pieces : List (List ℕ) → List ℕ
 bytes_of_pieces [] = []
 bytes_of_pieces (piece ∷ earlier) = bytes_of_pieces earlier ++ piece
 
--- a search has begun at the start of a haystack, and has read these pieces, of which the last one is named first
+-- a search has begun at the start of a haystack, and has read these pieces, which are listed last to first
 abbrev pub HasReadAll : Machine → Anchored → (earliest : Bool) → List (List ℕ) → PiecesView → Type 0
 HasReadAll m mode earliest [] p = HasBegun m mode None earliest p
 HasReadAll m mode earliest (piece ∷ earlier) p =

@@ -1,4 +1,4 @@
--- That answers agree, over whatever caches and by DFAs that differ in settings alone.
+-- Answers agree, with any caches and with DFAs that differ only in settings.
 use Rattle.std.specs.Prelude.{ℕ, ◌≡◌, Option}
 use Rattle.automata_base.specs.Answers.Answers.{Half}
 use Rattle.automata_base.specs.Haystacks.Input.{Input}
@@ -9,8 +9,8 @@ use Rattle.automata_hybrid.specs.Walks.Answers.{HasReported, ReportsNext}
 use Rattle.automata_hybrid.specs.Walks.State.{Walk}
 use Rattle.automata_config.specs.Options.{match_kind_of}
 
--- searches over two caches of one DFA find the same, and so do two DFAs of one automaton and one kind, in whatever else
--- they differ: capacity, limits, byte classes, tags of starts, quit bytes
+-- searches with two caches of one DFA find the same, and so do two DFAs with the same automaton and match kind, even if
+-- they differ in capacity, limits, byte classes, tags of start states or quit bytes
 abbrev pub AnswersAgree : Type 0
 AnswersAgree =
     (way : Direction) (m other : Machine) (input : Input) (first second : Option Half)
@@ -19,7 +19,7 @@ AnswersAgree =
     → first ≡ second
 
 -- two walks over one input that have each reported `k` pairs report the same match by the next call that answers,
--- whatever cache it uses; and so do walks of two DFAs of one NFA and one match kind
+-- whatever cache it uses; and so do walks of two DFAs with the same NFA and match kind
 abbrev pub WalksAgree : Machine → Type 0
 WalksAgree m =
     (way : Direction) (other : Machine) (input : Input) (first second first_reported second_reported : Walk) (k : ℕ)

@@ -1,4 +1,4 @@
--- Where the answers of searches and walks lie, and whose their patterns are.
+-- Where the answers of searches and walks lie, and that their patterns are the automaton's.
 use Rattle.std.specs.Prelude.{ℕ, ◌<◌, ◌≤◌, length}
 use Rattle.automata_base.specs.Haystacks.Input.{Input}
 use Rattle.automata_base.specs.Haystacks.Matches.{HalfMatch}
@@ -17,7 +17,7 @@ pub record LiesIn (m : Machine) (input : Input) (half : HalfMatch) : Type 0 wher
 pub record LiesPast (m : Machine) (input : Input) (half : HalfMatch) (base : ℕ) : Type 0 where
   -- it lies in the span of the input
   pub lies : LiesIn m input half
-  -- the span that gave it does not begin before that of the input
+  -- the span that gave it does not begin before the span of the input
   pub from : input.start ≤ base
   -- it is at or after the start of the span that gave it
   pub past : base ≤ half.offset

@@ -1,4 +1,4 @@
--- What a search answers by its DFA and its input alone, whatever the cache.
+-- What a search answers, by its DFA and its input only, whatever the cache.
 use Rattle.std.specs.Prelude.{ℕ, ◌≡◌, ◌<◌, ◌≤◌, true, false, Option, None, option_map, Result, Ok, Err, IfOk, IfErr}
 use Rattle.std.specs.Prelude.{IfSome}
 use Rattle.automata_base.specs.Answers.Answers.{Half, IsAnswer}
@@ -25,8 +25,8 @@ use Rattle.automata_base.specs.declared.util.search.MatchErrorKind.TheVariants.{
 abbrev pub IsMemory : SearchError → Type 0
 IsMemory e = e ≡ search.OutOfMemory
 
--- nothing but a lack of memory can prevent an answer: no quit byte is in reach, the anchored mode is supported, and no
--- limit on clears is set
+-- only a lack of memory can prevent an answer: no quit byte is in reach, the anchored mode is supported, and no limit
+-- on clears is set
 pub record IsUnhindered (m : Machine) (input : Input) : Type 0 where
   -- no quit byte is in reach
   pub reach : NoQuitInReach m input
@@ -35,11 +35,11 @@ pub record IsUnhindered (m : Machine) (input : Input) : Type 0 where
   -- no limit on clears is set
   pub clears : minimum_cache_clear_count_of m.config ≡ None
 
--- the span is not done, the look-behind byte is no quit byte, and the anchored mode is not supported
+-- the span is not done, the look-behind byte is not a quit byte, and the anchored mode is not supported
 pub record IsUnsupported (way : Direction) (m : Machine) (input : Input) : Type 0 where
   -- the span is not done
   pub undone : input.start ≤ input.end
-  -- the look-behind byte is no quit byte
+  -- the look-behind byte is not a quit byte
   pub behind : quit_behind m (tape_in way input).before ≡ None
   -- the anchored mode is not supported
   pub mode : supports m input.anchored ≡ false
@@ -48,10 +48,10 @@ pub record IsUnsupported (way : Direction) (m : Machine) (input : Input) : Type 
 abbrev pub unsupported_error : Input → SearchError
 unsupported_error input = search.Match (UnsupportedMode input.anchored)
 
--- what a search in a direction returns: an option, seen as an answer by `Is`, which lies where `Lies` says
+-- what a search in a direction returns: an option, which is an answer by `Is`, and lies where `Lies` says
 pub record IsAnswered {A : Type 0} (Is : (Option Half → Type 0) → Option A → Type 0) (Lies : Option A → Type 0)
     (way : Direction) (m : Machine) (input : Input) (result : Result (Option A) SearchError) : Type 0 where
-  -- by the paths of the NFA alone, if it keeps its cycles: the answer of the ordered paths
+  -- by the paths of the NFA, if it keeps its cycles: the answer of the ordered paths
   pub answer :
       KeepsCycles (nfa_of m.nfa) → IfOk result (Is (IsAnswer way (engine m) input))
   -- for every NFA, in an earliest search: the nearest end
@@ -63,7 +63,7 @@ pub record IsAnswered {A : Type 0} (Is : (Option Half → Type 0) → Option A �
       → IfOk result (Is (IsFarthestAnswer way (engine m) input))
   -- it lies in the input's span, and its pattern is one of the NFA's
   pub within : IfOk result Lies
-  -- in a span that is done there is no match
+  -- if the span is done, there is no match
   pub done : input.end < input.start → result ≡ Ok None
   -- an anchored mode that is not supported is reported
   pub unsupported : IsUnsupported way m input → result ≡ Err (unsupported_error input)
@@ -83,7 +83,7 @@ abbrev pub IsBased : Machine → Input → Result (Option (HalfMatch × ℕ)) Se
 IsBased m input result =
     IsAnswered (λ P o. P (based_half o)) (λ o. IfSome o (λ p. LiesPast m input p.0 p.1)) Forward m input result
 
--- a search fails because of its input, and not for lack of room or memory
+-- a search fails because of its input, not because the cache is full or memory runs out
 abbrev pub IsOfInput : SearchError → Type 0
 IsOfInput (search.Match (GaveUp offset)) = ⊥
 IsOfInput (search.Match kind) = Unit {0}

@@ -1,4 +1,4 @@
--- A run under way, along whichever trace, and a pass: what the functions of a search keep from unit to unit.
+-- A run along any trace, and a pass: what the functions of a search maintain from unit to unit.
 use Rattle.std.specs.Prelude.{ℕ, ◌≡◌, List, [], ◌∷◌, true, Option, Some, None}
 use Rattle.automata_base.specs.Answers.Answers.{offset_in}
 use Rattle.automata_base.specs.Haystacks.Input.{Input}
@@ -17,7 +17,7 @@ abbrev pub half_of : Direction → Input → Option Pair → Option HalfMatch
 half_of way input None = None
 half_of way input (Some pair) = Some (record { pattern = pair.pattern; offset = offset_in way input pair.place })
 
--- what was found last, once these patterns are reported at an offset
+-- the last match found, once these patterns are reported at an offset
 abbrev pub half_at : List ℕ → ℕ → Option HalfMatch → Option HalfMatch
 half_at [] at found = found
 half_at (pattern ∷ patterns) at found = Some (record { pattern = pattern; offset = at })
@@ -26,7 +26,7 @@ half_at (pattern ∷ patterns) at found = Some (record { pattern = pattern; offs
 abbrev pub found_over : Direction → Machine → Input → Option HalfMatch
 found_over way m input = half_of way input (reported_over way m.nfa (match_kind_of m.config) input)
 
--- a run along a trace has read `k` units, none a quit byte: the ID names its state there, and this was found
+-- a run along a trace has read `k` units, none of them a quit byte: the ID names its state there, and this was found
 pub record IsAtAlong (s : Trace) (way : Direction) (m : Machine) (t : Rows) (input : Input) (k id : ℕ)
     (found : Option HalfMatch) : Type 0 where
   -- the ID names the state after these units
@@ -38,6 +38,6 @@ pub record IsAtAlong (s : Trace) (way : Direction) (m : Machine) (t : Rows) (inp
   -- none of these units is a quit byte
   pub clean : HasReadNoQuit way m input k
 
--- a pass has read `k` units, none a quit byte: the ID names its state there, and this was found
+-- a pass has read `k` units, none of them a quit byte: the ID names its state there, and this was found
 abbrev pub IsAt : Direction → Machine → Rows → Input → (k id : ℕ) → Option HalfMatch → Type 0
 IsAt way m t input k id found = IsAtAlong (pass_trace way m input) way m t input k id found

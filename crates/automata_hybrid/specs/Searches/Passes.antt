@@ -18,7 +18,7 @@ use Rattle.automata_hybrid.specs.Machines.Machine.{Machine, engine}
 use Rattle.automata_hybrid.specs.Steps.Starts.{quit_behind}
 use Rattle.automata_config.specs.Options.{match_kind_of}
 
--- the tape that the span of an input is in a direction
+-- the tape of an input's span in a direction
 abbrev pub tape_in : Direction → Input → Tape
 tape_in way input = tape_of way input.haystack input.start input.end
 
@@ -31,7 +31,7 @@ abbrev pub reported_in : Direction → Machine → Input → ℕ → Option Pair
 reported_in way m input k =
     reported_upto (match_kind_of m.config) input.earliest m.nfa input.anchored (tape_in way input) k
 
--- a pass reads the unit at place `k`: its state there is not dead, and an earliest one has reported nothing yet
+-- a pass reads the unit at place `k`: its state there is not dead, and an earliest pass has reported nothing yet
 abbrev pub Reads : Direction → Machine → Input → ℕ → Type 0
 Reads way m input k =
     (k ≤ length (tape_in way input).bytes) × (state_in way m input k ≡ dead → ⊥)
@@ -53,7 +53,7 @@ abbrev pub unit_offset : Direction → Input → ℕ → ℕ
 unit_offset Forward input k = input.start + k
 unit_offset Backward input k = input.end - k - 1
 
--- the offset of the "gave up" error there, which lies in the span
+-- the offset of the "gave up" error at a place of a pass, which lies in the span
 abbrev pub given_up_offset : Direction → Input → ℕ → ℕ
 given_up_offset Forward input k = input.start + k
 given_up_offset Backward input k = max input.start (input.end - k - 1)
@@ -72,7 +72,7 @@ Finds way m input reported =
 abbrev pub Skips : Machine → Type 0
 Skips m = IsSkipping (engine m)
 
--- What a search finds: what is reported over the first span for which that is nothing or not split. No pass that it
+-- What a search finds: what is reported over the first span for which that is nothing or is not split. No pass that it
 -- made met a quit byte.
 abbrev pub IsFound : Direction → Machine → Input → Option Half → Type 0
 IsFound way m input answer = Answers (Finds way m) (Skips m) way input answer

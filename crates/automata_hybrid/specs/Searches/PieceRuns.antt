@@ -1,4 +1,4 @@
--- Runs over a whole span along a trace, and over a piece of a haystack, from whichever state a search has come to.
+-- Runs over a whole span along a trace, and over a piece of a haystack, from any state that a search has reached.
 use Rattle.std.specs.Prelude.{ℕ, ◌≡◌, ◌-◌, ◌<◌, Bool, true, List, length, None}
 use Rattle.automata_base.specs.Haystacks.Input.{Input}
 use Rattle.automata_base.specs.Haystacks.Tapes.{forward_tape}
@@ -10,7 +10,7 @@ use Rattle.automata_config.specs.Options.{match_kind_of}
 use Rattle.automata_hybrid.specs.Machines.Machine.{Machine}
 use Rattle.automata_hybrid.specs.Searches.Traces.{Trace, reported_along}
 
--- a run along a trace reads the byte at place `k`: the state there is not dead, and an earliest one has reported
+-- a run along a trace reads the byte at place `k`: the state there is not dead, and an earliest run has reported
 -- nothing
 abbrev pub ReadsAlong : Trace → Input → (k : ℕ) → Type 0
 ReadsAlong s input k =

@@ -13,19 +13,19 @@ use Rattle.automata_hybrid.specs.Searches.Traces.{Trace}
 abbrev pub start_event : Direction → Input → Event
 start_event way input = Start input.anchored (tape_in way input).before
 
--- a run along a trace steps over the unit at place `k`
+-- a run along a trace takes the step on the unit at place `k`
 abbrev pub unit_event : Trace → Direction → Input → (k : ℕ) → Event
 unit_event s way input k = Step (s.state k) (next (tape_in way input) k)
 
--- a pass reads its first so many units, and no more: none, if its start state is dead
+-- a pass reads exactly its first `units` units: none if its start state is dead
 abbrev pub ReadsUnits : Direction → Machine → Input → (units : ℕ) → Type 0
 ReadsUnits way m input units =
     ((k : ℕ) → k < units → Reads way m input k) × (Reads way m input units → ⊥)
 
--- a search tries the span that begins so many places later, which is not done
+-- a search tries the span that begins `k` places later, and that span is not done
 abbrev pub TriesSpan : Direction → Machine → Input → (k : ℕ) → Type 0
 TriesSpan way m input k = Tries (Finds way m) (Skips m) way input k × (input.start + k ≤ input.end)
 
--- a search tries so many spans, none of which is done
+-- a search tries `passes` spans, none of which is done
 abbrev pub TriesSpans : Direction → Machine → Input → (passes : ℕ) → Type 0
 TriesSpans way m input passes = (k : ℕ) → k < passes → TriesSpan way m input k

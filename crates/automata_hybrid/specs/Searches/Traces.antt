@@ -1,6 +1,6 @@
--- The powerset states that units lead through, one after another, from whichever one. The loops that follow cached
--- transitions say by them what they do: a pass begins at its start state, and a run over a piece of a haystack at the
--- state that a search has come to.
+-- The powerset states that units lead through, one after another, from any state. The loops that follow cached
+-- transitions state by them what they do: a pass begins at its start state, and a run over a piece of a haystack begins
+-- at the state that a search has reached.
 use Rattle.std.specs.Prelude.{ℕ, suc, Bool, true, false, Option}
 use Rattle.automata_base.specs.Haystacks.Input.{Input}
 use Rattle.automata_base.specs.Paths.Selections.{Pair}
@@ -17,8 +17,8 @@ pub record Trace : Type 0 where
   -- what these units report
   pub reported : ℕ → Option Pair
 
--- what the first `k` units report, if they lead through these states: an earliest search the first match, any other
--- the last one
+-- what the first `k` units report, if they lead through these states: the first match in an earliest search, and the
+-- last one in any other
 abbrev pub reported_along : (earliest : Bool) → (ℕ → Powerset) → ℕ → Option Pair
 reported_along true state k = first_among (λ i. (state (suc i)).patterns) k
 reported_along false state k = last_among (λ i. (state (suc i)).patterns) k

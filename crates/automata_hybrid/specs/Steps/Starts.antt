@@ -1,5 +1,5 @@
--- Start states: when there is one, what it is, and why a call for it fails. What the call makes of the cache stands in
--- Known.Steps.
+-- Start states: when there is one, what it is, and why a call for it fails. Known.Steps has the effect of the call on
+-- the cache.
 use Rattle.std.specs.Prelude.{ℕ, ◌≡◌, ◌<◌, ◌≤◌, true, cond, Option, None, Some, slice_index}
 use Rattle.automata_base.specs.ByteClasses.Classes.{is_quit}
 use Rattle.automata_base.specs.Retraced.Steps.{start_state_of}
@@ -24,11 +24,11 @@ abbrev pub quit_behind : Machine → Option ℕ → Option ℕ
 quit_behind m None = None
 quit_behind m (Some byte) = cond (is_quit m.quits byte) (Some byte) None
 
--- a search may start: the look-behind byte is no quit byte, and the anchored mode is supported
+-- a search may start: the look-behind byte is not a quit byte, and the anchored mode is supported
 abbrev pub MayStart : Machine → Anchored → Option ℕ → Type 0
 MayStart m mode behind = (quit_behind m behind ≡ None) × (supports m mode ≡ true)
 
--- the anchored mode has a start slot: it has none for a pattern past the last
+-- the anchored mode has a start slot, which is not so for a pattern that is out of range
 abbrev pub HasSlot : Machine → Anchored → Option ℕ → Type 0
 HasSlot m mode behind = slot_behind m mode behind < m.slots
 
@@ -53,7 +53,7 @@ start_search_error start.OutOfMemory behind at = search.OutOfMemory
 -- the ID of a start state that a call returns
 pub record IsStartAnswer (m : Machine) (mode : Anchored) (behind : Option ℕ) (old new : CacheView) (id : ℕ) :
     Type 0 where
-  -- the call returns Ok only if a search may start: the look-behind byte is no quit byte, and the anchored mode is
+  -- the call returns Ok only if a search may start: the look-behind byte is not a quit byte, and the anchored mode is
   -- supported
   pub may : MayStart m mode behind
   -- its row is there
@@ -62,7 +62,7 @@ pub record IsStartAnswer (m : Machine) (mode : Anchored) (behind : Option ℕ) (
   pub named : Leads new.store.table id (start_state_of m.nfa mode behind)
   -- it has the match tag exactly if its state has patterns
   pub tag : HasItsMatchTag new.store.table id
-  -- past the last pattern the start is dead
+  -- for a pattern that is out of range the start is dead
   pub past : m.slots ≤ slot_behind m mode behind → id ≡ dead_id m.stride
-  -- from then on it is cached, also if the call cleared the cache
+  -- it is cached afterwards, even if the call cleared the cache
   pub cached : HasSlot m mode behind → known_start m new.store mode behind ≡ id

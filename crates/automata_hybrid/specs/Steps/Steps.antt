@@ -1,4 +1,4 @@
--- Steps: the ID that a call returns, on a byte or on the end. What it makes of the cache stands in Known.Steps.
+-- Steps: the ID that a call returns, on a byte or on the end. Known.Steps has the effect of the call on the cache.
 use Rattle.std.specs.Prelude.{ℕ, ◌≡◌, ◌<◌, ◌≤◌, true, false, Option}
 use Rattle.automata_base.specs.Powersets.Powerset.{Powerset}
 use Rattle.automata_base.specs.Retraced.Steps.{successor}
@@ -27,7 +27,7 @@ pub record IsStepAnswer (m : Machine) (id : ℕ) (unit : Option ℕ) (old new : 
   pub named :
       quits_on m unit ≡ false → (q : Powerset) → Names old.store.table id q
       → Leads new.store.table next (successor m.nfa (match_kind_of m.config) q unit)
-  -- from then on the transition to this ID is cached, at the row that the state has then, also if the call cleared the
+  -- afterwards the transition to this ID is cached, in the row that the state then has, even if the call cleared the
   -- cache
   pub cached :
       (q : Powerset) → Names old.store.table id q

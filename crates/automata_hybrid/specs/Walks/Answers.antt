@@ -34,7 +34,7 @@ half_nth [] k = None
 half_nth (pair ∷ pairs) zero = Some (record { pattern = pair.pattern; offset = pair.place })
 half_nth (pair ∷ pairs) (suc k) = half_nth pairs k
 
--- by its first `n` units a pass reports `k` pairs to a walk, the split ones left out if they are skipped
+-- by its first `n` units a pass reports `k` pairs to a walk, without the split ones if these are skipped
 pub record HasReportedBy (way : Direction) (m : Machine) (input : Input) (n k : ℕ) : Type 0 where
   -- the pairs that it reports to the walk, by their offsets
   pub pairs : List Pair
@@ -52,7 +52,7 @@ abbrev pub WalkMeetsNoQuit : Direction → Machine → Input → Type 0
 WalkMeetsNoQuit way m input =
     (k byte : ℕ) → WalkReads way m input k → next (tape_in way input) k ≡ Some byte → is_quit m.quits byte ≡ false
 
--- a walk stands at the state after the unit at a place that is not skipped, none of its units a quit byte; it has
+-- a walk is at the state after the unit at a place that is not skipped, and none of its units is a quit byte; it has
 -- reported `reported` patterns of this state, at least one, and `k` pairs in all
 pub record StandsAtState (way : Direction) (m : Machine) (input : Input) (q : Powerset) (units reported k : ℕ) :
     Type 0 where
@@ -62,49 +62,49 @@ pub record StandsAtState (way : Direction) (m : Machine) (input : Input) (q : Po
   pub may : MayStart m input.anchored (tape_in way input).before
   -- the place of the last unit read
   pub place : ℕ
-  -- the walk stands after this unit
+  -- the walk is after this unit
   pub one_after : units ≡ suc place
   -- the unit is a byte of the span, or the one after it
   pub within : place ≤ length (tape_in way input).bytes
-  -- the state is that after these units
+  -- the state is the one after these units
   pub state : q ≡ state_in way m input units
   -- it is a state that a row may have
   pub row : IsRowState m q
   -- none of these units is a quit byte
   pub clean : HasReadNoQuit way m input units
-  -- the place is not one that is skipped
+  -- the place is not skipped
   pub unskipped : Skips m → is_split input.haystack (offset_in way input place) ≡ false
-  -- a pattern of the state is reported
+  -- at least one pattern of the state is reported
   pub some : 0 < reported
-  -- the state has as many patterns as are reported, or more
+  -- the state has at least as many patterns as are reported
   pub few : reported ≤ length q.patterns
   -- how many pairs were reported before those of the state
   pub earlier : ℕ
-  -- the units before the last one report so many
+  -- the units before the last one report these
   pub before : HasReportedBy way m input place earlier
-  -- in all those are reported, and the patterns of the state that were
+  -- in all, these and the reported patterns of the state are reported
   pub count : k ≡ earlier + reported
 
 -- why a walk has ended
 pub data HasComeToEnd (way : Direction) (m : Machine) (input : Input) : Type 0 where
   -- its span was done
   WasDone : input.end < input.start → HasComeToEnd way m input
-  -- it met no quit byte to its end
+  -- it met no quit byte up to its end
   MetNoQuit :
       MayStart m input.anchored (tape_in way input).before → WalkMeetsNoQuit way m input → HasComeToEnd way m input
 
--- a walk has reported all that there is to report: its span was done, or it met no quit byte to its end
+-- a walk has reported everything: its span was done, or it met no quit byte up to its end
 pub record HasReportedAll (way : Direction) (m : Machine) (input : Input) (k : ℕ) : Type 0 where
-  -- the span was done, or the walk met no quit byte to its end
+  -- the span was done, or the walk met no quit byte up to its end
   pub clean : HasComeToEnd way m input
   -- the whole list of the walk
   pub pairs : List Pair
   -- it is what the pass reports, by offsets, without the split ones if these are skipped
   pub all : AreWalked way m input pairs
-  -- no pair of it is left to be reported
+  -- no pair of the list is left to report
   pub none_left : length pairs ≤ k
 
--- a walk has reported `k` pairs in all, by where it stands
+-- a walk has reported `k` pairs in all, by its stage
 abbrev pub HasReportedAt : Direction → Machine → Input → Stage → (units reported k : ℕ) → Type 0
 HasReportedAt way m input Fresh units reported k = (k ≡ 0) × (units ≡ 0)
 HasReportedAt way m input (At q) units reported k = StandsAtState way m input q units reported k
@@ -114,7 +114,7 @@ HasReportedAt way m input Ended units reported k = HasReportedAll way m input k
 abbrev pub HasReported : Direction → Machine → Input → Walk → ℕ → Type 0
 HasReported way m input w k = HasReportedAt way m input w.stage w.units w.reported k
 
--- a walk is one over this input
+-- this is a walk over this input
 abbrev pub IsWalkOf : Direction → Machine → Input → Walk → Type 0
 IsWalkOf way m input w = (k : ℕ) × HasReported way m input w k
 
@@ -127,14 +127,14 @@ ReportsNext way m input old new =
     × ((pairs : List Pair) → AreWalked way m input pairs
     → (new.found ≡ half_nth pairs k) × (length pairs ≤ k → new.stage ≡ Ended))
 
--- the state after the unit at place `j` reports a pair, and cannot be held: the count of those who share it cannot
--- rise, which is reported as out of memory
+-- the state after the unit at place `j` reports a pair, and cannot be held, because it cannot be shared once more, and
+-- this is reported as out of memory
 pub record IsUnheld (way : Direction) (m : Machine) (input : Input) (j : ℕ) (e : SearchError) : Type 0 where
-  -- the unit is no quit byte
+  -- the unit is not a quit byte
   pub clean : quits_on m (next (tape_in way input) j) ≡ false
   -- the state after it has patterns
   pub reports : 0 < length (state_in way m input (suc j)).patterns
-  -- its place is not one that is skipped
+  -- its place is not skipped
   pub unskipped : Skips m → is_split input.haystack (offset_in way input j) ≡ false
   -- the error is out of memory
   pub memory : e ≡ search.OutOfMemory

@@ -8,13 +8,14 @@ use Rattle.automata_base.specs.Powersets.Powerset.{Powerset}
 use Rattle.automata_base.specs.Paths.Selections.{Pair}
 use Rattle.automata_hybrid.specs.Walks.State.{At, Ended, Stage}
 
--- the next call of a walk reads units: it has not ended, has reported all of where it stands, and units are left
+-- the next call of a walk reads units: it has not ended, has reported all patterns of its current state, and units are
+-- left
 pub record IsToRead (input : Input) (stage : Stage) (units reported : ℕ) : Type 0 where
   -- the span is not done
   pub undone : input.start ≤ input.end
   -- the walk has not ended
   pub on : stage ≡ Ended → ⊥
-  -- all patterns of the state where it stands are reported
+  -- all patterns of its current state are reported
   pub all_reported : (q : Powerset) → stage ≡ At q → length q.patterns ≤ reported
   -- at least one unit is left
   pub left : units ≤ input.end - input.start

@@ -1,5 +1,5 @@
--- What a call of a walk and a set answer by their DFA and their input alone, whatever the cache, and what they make of
--- the walk and of the set.
+-- What a call of a walk, and the search for a set, answer by their DFA and their input only, whatever the cache, and
+-- their effect on the walk and on the set.
 use Rattle.std.specs.Prelude.{ℕ, ◌≡◌, ◌<◌, Bool, List, length, None, Result, Err, IfErr, IfSome, IsOk, OnOk, OnErr}
 use Rattle.automata_base.specs.Answers.Answers.{ArePatterns, ArePatternsFound, IsOverlapping}
 use Rattle.automata_base.specs.Haystacks.Input.{Input}
@@ -17,12 +17,12 @@ use Rattle.automata_hybrid.specs.Walks.Answers.{AreWalked, HasReported, ReportsN
 use Rattle.automata_hybrid.specs.Walks.State.{Ended, Fresh, Walk, without_match}
 use Rattle.automata_hybrid.specs.Searches.Bounds.{LiesIn}
 
--- what a call of a walk answers, and what it makes of the walk
+-- what a call of a walk answers, and its effect on the walk
 pub record IsWalkCall (way : Direction) (m : Machine) (input : Input) (old new : Walk)
     (result : Result (Unit {0}) SearchError) : Type 0 where
   -- for every NFA, the next pair that its pass reports
   pub reports : OnOk result (ReportsNext way m input old new)
-  -- if the NFA keeps its cycles, that of the list which the ordered paths define
+  -- if the NFA keeps its cycles, the next pair of the list that the ordered paths define
   pub paths :
       KeepsCycles (nfa_of m.nfa) → (k : ℕ) (pairs : List Pair) → HasReported way m input old k
       → IsOverlapping way (engine m) input pairs
@@ -33,11 +33,11 @@ pub record IsWalkCall (way : Direction) (m : Machine) (input : Input) (old new :
   pub ended : new.stage ≡ Ended → new.found ≡ None
   -- a walk whose call fails is unchanged, except that it has no match
   pub refused : OnErr result (new ≡ without_match old)
-  -- of a walk that has not begun, an anchored mode that is not supported is reported
+  -- if the walk has not begun, an anchored mode that is not supported is reported
   pub unsupported : old.stage ≡ Fresh → IsUnsupported way m input → result ≡ Err (unsupported_error input)
   -- if nothing else can prevent an answer, the only error is out of memory
   pub free : IsUnhindered m input → IfErr result IsMemory
-  -- one that reads no unit never fails
+  -- a call that reads no unit never fails
   pub ready : ReadsNoUnit input old → IfErr result (λ e. ⊥)
 
 -- for every NFA, a set is joined with the patterns below its capacity that the walk reports

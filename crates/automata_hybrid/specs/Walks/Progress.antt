@@ -1,4 +1,4 @@
--- Which units a call of a walk reads, and what a set has after some pairs.
+-- Which units a call of a walk reads, and what a set contains after some pairs.
 use Rattle.std.specs.Prelude.{ℕ, ◌≡◌, ◌<◌, ◌≤◌, ◌+◌, ◌↔◌, Bool, List, length, take}
 use Rattle.automata_base.specs.Answers.Answers.{IsInSet}
 use Rattle.automata_base.specs.Haystacks.Input.{Input}
@@ -17,13 +17,13 @@ use Rattle.automata_hybrid.specs.Walks.State.{At, Ended, Walk}
 pub data ReadsNoUnit (input : Input) (w : Walk) : Type 0 where
   -- the walk has ended
   HasEnded : w.stage ≡ Ended → ReadsNoUnit input w
-  -- another pattern is to be reported at its state
+  -- another pattern of its current state is left to report
   HasMore : (q : Powerset) → w.stage ≡ At q → w.reported < length q.patterns → ReadsNoUnit input w
   -- no unit of the span is left
   HasNoneLeft : input.end < input.start + w.units → ReadsNoUnit input w
 
--- a call reads the units after those of the walk: up to the one after which the next match is reported, those before
--- reporting none; or if there is none, up to the last one that can be read
+-- a call reads the units after those of the walk: up to the one after which the next match is reported, while those
+-- before it report nothing; or if there is no match, up to the last one that can be read
 abbrev pub ReadsItsUnits : Direction → Machine → Input → (walk next : Walk) → Type 0
 ReadsItsUnits way m input walk next =
     ((k : ℕ) → walk.units ≤ k → k < next.units → WalkReads way m input k × IsSilent way m input walk.units k)

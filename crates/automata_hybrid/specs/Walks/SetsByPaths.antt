@@ -21,7 +21,7 @@ pub record MatchesIn (m : Machine) (input : Input) (start pattern : ℕ) : Type 
 
 -- under `MatchKind::All`, for every NFA, and by the start of the input's anchored mode
 pub record SetsHaveMatching (m : Machine) : Type 0 where
-  -- a set has, after a call that answers, what it had and the patterns below its capacity that match in the span
+  -- after a call that answers, a set has what it had, and the patterns below its capacity that match in the span
   pub sets :
       (input : Input) (start : ℕ) (old new : List Bool)
       → match_kind_of m.config ≡ KindAll → mode_start m.nfa input.anchored ≡ Some start → input.earliest ≡ false

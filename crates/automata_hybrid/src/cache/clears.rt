@@ -1,5 +1,5 @@
-//! What a clear keeps: the start states, with the slots that name them, and the state that the step which needs room
-//! is taken from. They are put into a new table, and nothing of the old one changes.
+//! What a clear keeps: the start states, with their start slots, and the state from which the current step is taken.
+//! They are copied to a new table, and the old one does not change.
 ghost use Rattle.std.specs.Prelude.{◌≡◌, ◌+◌, ◌*◌, ◌^◌, ◌<◌, None, IfOk, OnOk, OnErr, length, sum_by};
 ghost use Rattle.automata_base.specs.Powersets.Powerset.{Powerset};
 ghost use Rattle.automata_hybrid.specs.Cache.Table.{id_of, Names, IsRowId, row_cost};
@@ -12,7 +12,7 @@ use crate::dfa::DFA;
 use crate::id::LazyStateID;
 use std::alloc::AllocError;
 
-/// Adds a row of another table, unless its state is there, and gives its ID here.
+/// Copies a row of another table, if its state is not here yet, and returns its ID here. An error changes nothing.
 pub fn keep_row(kept: &mut Table, old: &Table, id: LazyStateID) -> Result<LazyStateID, AllocError>
     requires valid { IsRowId old.now id }
     requires of { kept.old.of ≡ old.now.of }
@@ -34,7 +34,7 @@ pub fn keep_row(kept: &mut Table, old: &Table, id: LazyStateID) -> Result<LazySt
     Ok(added)
 }
 
-/// Keeps one slot: its row, or what it has.
+/// Copies a start slot, with its row if its ID has one. The unknown and the dead ID stay as they are.
 pub fn keep_slot(
     kept: &mut Table,
     slots: &mut Vec<LazyStateID>,
@@ -60,7 +60,7 @@ pub fn keep_slot(
     Ok(())
 }
 
-/// A table of the start states alone, and the slots that name them there. It changes nothing of the old one.
+/// Returns a table with only the start states, and the start slots with their IDs there. The old table does not change.
 pub fn keep_starts(
     dfa: &DFA,
     old: &Table,

@@ -3,13 +3,13 @@
 /// The bytes that a cache takes.
 #[derive(Clone, Copy, Debug)]
 pub struct Footprint {
-    /// The accounted ones, by which the cache keeps within its capacity.
+    /// The accounted bytes, which the capacity limits.
     pub accounted: usize,
-    /// Those of leaps.
+    /// The bytes of leaps.
     pub leaps: usize,
-    /// All that it holds of the allocator: lists by their capacities, the map of its states, the states, the buffers of
-    /// determinization, and leaps. An allocation of n bytes counts as n + 8, rounded up to a multiple of 16, and as 32
-    /// at least, as `malloc` of glibc takes them. States that a clone shares count for both. Tests compare it with what
-    /// `malloc` holds; that it is not less than the two others together is proved.
+    /// All bytes that the cache holds from the allocator: lists by their capacities, the map of its states, the states,
+    /// the buffers for determinization, and leaps. An allocation of n bytes counts as n + 8 bytes, rounded up to a
+    /// multiple of 16 and at least 32, as glibc's `malloc` takes them. States that a clone shares count for both. Tests
+    /// compare this number with what `malloc` holds; it is proved to be at least the sum of the other two.
     pub held: usize,
 }

@@ -1,4 +1,4 @@
-//! A powerset state that is held beside the rows of caches.
+//! A powerset state that is held outside the rows of caches.
 ghost use Rattle.std.specs.Prelude.{IfOk};
 ghost use Rattle.automata_hybrid.specs.Private.Walks.State.{IsHandle};
 
@@ -13,7 +13,7 @@ pub(crate) struct Handle {
 }
 
 impl Handle {
-    /// A handle on a state. It allocates nothing. It fails only if the state cannot be shared once more.
+    /// Returns a handle on a state. This does not allocate; it fails only if the state cannot be shared once more.
     pub(crate) fn of(state: &State) -> Result<Handle, AllocError>
         ensures { IfOk result (λ handle. IsHandle handle state.now) }
     {

@@ -1,7 +1,8 @@
-//! Leaps: where cached transitions lead from a row on a few bytes, looked up at once. They are made of the table for
-//! all rows that it has, and by the classes of bytes. A cell says which row comes after so many bytes, if each
-//! transition on the way is cached and leads to an ID without a tag, and else that these bytes are to be followed one
-//! by one. So they say nothing that the table does not say, and no contract of a search speaks of them.
+//! Leaps: where cached transitions lead from a row over a few bytes, found in one look-up. They are built from the
+//! transition table, for all rows that it has, by the classes of bytes. A cell has the row after these bytes if each
+//! transition on the way is cached and leads to an ID without a tag; otherwise it has a mark, and the bytes are
+//! followed one by one. So leaps contain nothing that the transition table does not contain, and no contract of a
+//! search mentions them.
 ghost use Rattle.std.specs.Prelude.{ℕ, suc, ◌≡◌, true, false, ◌+◌, ◌*◌, ◌^◌, ◌<◌, ◌≤◌, IfOk, IfSome, None, OnOk};
 ghost use Rattle.std.specs.Prelude.{length, slice_index};
 ghost use Rattle.automata_hybrid.specs.Private.Cache.Leaps.{AreLeaps, AreLeapSteps, IsLevel, IsShape, IsShapeOf};
@@ -12,31 +13,31 @@ use crate::cache::table::Table;
 use automata_base::util::heap::{array, block};
 use std::alloc::{AllocError, Global};
 
-/// What stands in a cell whose bytes are to be followed one by one.
+/// The mark: the value of a cell whose bytes have to be followed one by one.
 pub(crate) const MARK: u32 = u32::MAX;
 
-/// At most so many rows have leaps.
+/// The largest number of rows for which leaps are built.
 const MOST: usize = 1 << 18;
 
-/// How many bytes leaps take beside their cells.
+/// The number of bytes that leaps take in addition to their cells.
 const SIZE: usize = 64;
 
-/// How many bytes are searched at least before leaps are made.
+/// The minimum number of bytes that are searched before leaps are made.
 const FIRST: usize = 4096;
 
-/// How many bytes are searched for each cell before leaps are made.
+/// The number of bytes that are searched, for each cell, before leaps are made.
 const PRICE: usize = 16;
 
-/// How many bytes a leap takes, and how many cells there are.
+/// The number of bytes that a leap reads, and the number of cells.
 #[derive(Clone, Copy)]
 pub(crate) struct Shape {
-    /// How many bytes a leap takes.
+    /// The number of bytes that a leap reads.
     pub(crate) reach: usize,
-    /// How many classes of bytes there are.
+    /// The number of byte classes.
     pub(crate) classes: usize,
-    /// How many rows have leaps.
+    /// The number of rows that have leaps.
     pub(crate) rows: usize,
-    /// How many cells a row has: one for each sequence of so many classes.
+    /// The number of cells of a row: one for each sequence of `reach` classes.
     pub(crate) width: usize,
 }
 
@@ -44,20 +45,20 @@ pub(crate) struct Shape {
 #[derive(Drop)]
 pub(crate) struct Leaps {
     pub(crate) shape: Shape,
-    /// The place of the first cell of the row that comes next, or a mark.
+    /// The index of the first cell of the next row, or the mark.
     pub(crate) cells: Vec<u32>,
 }
 
-/// The leaps of a cache, if there are some, and when it looks whether to make them.
+/// The leaps of a cache, if there are any, and when it considers making them.
 #[derive(Drop)]
 pub(crate) struct Leaping {
     pub(crate) leaps: Option<Box<Leaps>>,
-    /// How many bytes were searched since the last clear when it looks next.
+    /// The number of bytes searched since the last clear after which the cache next considers making leaps.
     pub(crate) due: usize,
 }
 
 impl Leaping {
-    /// No leaps yet, as in a new cache and after a clear.
+    /// Returns the state in a new cache and after a clear: no leaps yet.
     pub(crate) fn new() -> Leaping
         ensures { result.leaps ≡ None }
     {
@@ -67,7 +68,7 @@ impl Leaping {
         }
     }
 
-    /// The bytes that leaps take of the allocator.
+    /// Returns the number of bytes that leaps take from the allocator.
     pub(crate) fn heap_usage(&self) -> usize {
         match &self.leaps {
             Some(leaps) => {
@@ -78,7 +79,7 @@ impl Leaping {
         }
     }
 
-    /// No leaps until the next clear.
+    /// Returns a state with no leaps until the next clear.
     pub(crate) fn none() -> Leaping
         ensures { result.leaps ≡ None }
     {
@@ -88,7 +89,7 @@ impl Leaping {
         }
     }
 
-    /// Drops leaps, if there are some, since the rows will be others.
+    /// Drops the leaps, if there are any, since the rows are about to change.
     #[inline(always)]
     pub(crate) fn drop_leaps(&mut self, searched: &Searched)
         ensures { self.new.leaps ≡ None }
@@ -98,7 +99,7 @@ impl Leaping {
         }
     }
 
-    /// Drops leaps, if a cell is written that was cached.
+    /// Drops the leaps if the cell to be written was not unknown.
     pub(crate) fn keep_if(&mut self, unknown: bool, searched: &Searched)
         ensures kept { unknown ≡ true → self.new.leaps ≡ self.old.leaps }
         ensures dropped { unknown ≡ false → self.new.leaps ≡ None }
@@ -108,7 +109,7 @@ impl Leaping {
         }
     }
 
-    /// Drops leaps. As many bytes as before are searched before they are made anew.
+    /// Drops the leaps. They are rebuilt only after as many bytes are searched as before they were made.
     #[inline(never)]
     fn end(&mut self, searched: usize)
         ensures { self.new.leaps ≡ None }
@@ -122,7 +123,7 @@ impl Leaping {
     }
 }
 
-/// How many bytes a leap takes, by the number of classes: none if these are many.
+/// Returns how many bytes a leap reads, by the number of classes: 0 if there are too many classes for leaps.
 fn reach_for(classes: usize) -> usize
     ensures short { result ≤ 4 }
     ensures narrow { 0 < result → classes ^ result ≤ 2 ^ 10 }
@@ -140,7 +141,7 @@ fn reach_for(classes: usize) -> usize
 }
 
 impl Shape {
-    /// The shape of leaps for so many classes and rows, if these are not too many.
+    /// Returns the shape of leaps for these numbers of classes and rows, unless they are too large.
     pub(crate) fn of(classes: usize, rows: usize) -> Option<Shape>
         ensures shape { IfSome result IsShape }
         ensures classes { IfSome result (λ s. s.classes ≡ classes) }
@@ -159,7 +160,7 @@ impl Shape {
         })
     }
 
-    /// How many bytes these leaps take.
+    /// Returns how many bytes leaps of this shape take.
     pub(crate) fn bytes(self) -> usize
         requires { IsShape self }
         ensures { result ≡ leaps_bytes (self.rows * self.width) }
@@ -167,8 +168,8 @@ impl Shape {
         SIZE + 4 * (self.rows * self.width)
     }
 
-    /// How many bytes are taken while these leaps are made: by them, by the rows after one byte, and by those after one
-    /// byte less than a leap takes.
+    /// Returns how many bytes it takes to build leaps of this shape: those of the leaps, of the rows after one byte,
+    /// and of the rows after all bytes of a leap but the last.
     pub(crate) fn making(self) -> usize
         requires { IsShape self }
         ensures { result ≡ making_bytes self }
@@ -178,13 +179,13 @@ impl Shape {
         self.bytes() + 4 * (steps + level)
     }
 
-    /// How many bytes are searched before these leaps are made.
+    /// Returns how many bytes are searched before leaps of this shape are made.
     pub(crate) fn price(self) -> usize {
         PRICE.saturating_mul(self.rows.saturating_mul(self.width))
     }
 }
 
-/// Adds the rows to which the transitions of a row lead, class by class. The number of rows stands for none.
+/// Adds the rows that the transitions of a row lead to, class by class. The number of rows stands for "no row".
 fn add_steps(
     steps: &mut Vec<u32>,
     table: &Table,
@@ -205,7 +206,8 @@ fn add_steps(
     Ok(())
 }
 
-/// The rows after one byte, for each row and class. From none, which comes last, each class leads to none.
+/// Returns the rows after one byte, for each row and class. The last entries are for "no row", which every class leads
+/// back to.
 fn steps_of(alloc: Global, table: &Table, classes: usize) -> Result<Vec<u32>, AllocError>
     requires rows { length table.now.rows ≤ 2 ^ 18 }
     requires classes { classes ≤ table.now.of.stride }
@@ -222,7 +224,7 @@ fn steps_of(alloc: Global, table: &Table, classes: usize) -> Result<Vec<u32>, Al
     Ok(steps)
 }
 
-/// The rows after one more byte: those that come after each. The table is there for the contract alone.
+/// Returns the rows after one more byte, for each row of `level` and each class. Only the contract needs the table.
 fn next_level(
     alloc: Global,
     _table: &Table,
@@ -246,7 +248,7 @@ fn next_level(
     Ok(next)
 }
 
-/// The rows after so many bytes, for each row and sequence of classes.
+/// Returns the rows after the bytes of a leap, for each row and sequence of classes.
 fn last_level(
     alloc: Global,
     table: &Table,
@@ -267,7 +269,7 @@ fn last_level(
     Ok(level)
 }
 
-/// Puts the place of a row's first cell in place of its index, and the mark in place of none.
+/// Replaces row indices by the indices of the rows' first cells, and "no row" by the mark.
 fn scale(cells: &mut Vec<u32>, rows: usize, width: usize)
     requires rows { rows ≤ 2 ^ 18 }
     requires width { width ≤ 2 ^ 10 }
@@ -286,7 +288,7 @@ fn scale(cells: &mut Vec<u32>, rows: usize, width: usize)
 }
 
 impl Leaps {
-    /// The leaps of all rows of a table.
+    /// Builds the leaps of all rows of a table.
     pub(crate) fn of_table(alloc: Global, table: &Table, shape: Shape) -> Result<Leaps, AllocError>
         requires of { IsShapeOf table.now shape }
         requires rows { shape.rows ≡ length table.now.rows }
@@ -300,8 +302,8 @@ impl Leaps {
         Ok(Leaps { shape, cells })
     }
 
-    /// The cell at a column of a row whose first cell is at a place. The column is found first, so that from one row to
-    /// the next there is one load alone.
+    /// Returns the cell at a column of a row, given the index of the row's first cell. The column is sliced first, so
+    /// that there is only one load between one row and the next.
     #[inline(always)]
     pub(crate) fn cell(&self, row: u32, column: usize) -> u32
         requires { row + column < length self.now.cells.items }

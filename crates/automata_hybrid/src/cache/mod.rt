@@ -1,11 +1,12 @@
-//! The cache of a lazy DFA: its store, the buffers to determinize into, the self-loop that was followed last, and
-//! leaps. Steps, start states and searches do all that they do to a cache by these methods. A state that does not fit
-//! is added after a clear, which makes the new store beside the old one: an error leaves the cache as it was.
+//! The cache of a lazy DFA: its store, the buffers for determinization, the self-loop that was followed last, and
+//! leaps. Steps, start states and searches use a cache only through these methods. If a state does not fit, the cache
+//! is cleared before the state is added. A clear builds the new store next to the old one, so that an error leaves the
+//! cache unchanged.
 //!
 //! A `store` has the `table` of the rows (`row`), the start slots and the progress of searches (`progress`), within
-//! limits (`settings`). Where a row does not fit, `clears` says what a clear keeps. Searches have from a cache what it
-//! keeps of a row's self-loop (`self_loops`), leaps (`leaps`), and a state that a walk holds (`handle`). `states` are
-//! what a cache holds, to look at, and its `footprint` is how many bytes it takes.
+//! limits (`settings`). `clears` has what a clear keeps. For searches a cache has the ranges of a row's self-loop
+//! (`self_loops`), leaps (`leaps`) and handles on the states that walks hold (`handle`). `states` gives read access to
+//! the cached states, and `footprint` is the number of bytes that a cache takes.
 ghost use Rattle.std.specs.Prelude.{ℕ, ◌≡◌, ◌*◌, ◌%◌, ◌<◌, ◌≤◌, IfOk, IfErr, OnOk, OnErr, slice_index, All, length};
 ghost use Rattle.std.specs.Prelude.{is_some, IfSome, IsSome, IsTrue, ◌+◌, ◌↔◌, ◌⊎◌, false, None, Option};
 ghost use Rattle.automata_base.specs.Powersets.Powerset.{Powerset, cost, dead};
@@ -68,18 +69,18 @@ use std::fmt;
 use std::marker::Model;
 use std::snapshot::Snapshot;
 
-/// What a look-up of a state gives.
+/// The result of looking up a state.
 #[derive(Drop)]
 pub(crate) enum Found {
-    /// The ID of its row, or the dead one.
+    /// The ID of its row, or the dead ID.
     Known(LazyStateID),
-    /// The state, which no row has.
+    /// The state itself, which no row has.
     New(State),
 }
 
-/// The states that a lazy DFA has determinized, their transitions, and the buffers to determinize more. Its accounted
-/// bytes, `memory_usage`, never exceed the capacity of the DFA's settings, or the minimum capacity if that was raised
-/// to.
+/// The states that a lazy DFA has determinized, their transitions, and the buffers for determinizing more. Its
+/// accounted bytes (`memory_usage`) never exceed the capacity in the DFA's settings, or the minimum capacity if the
+/// capacity was raised to it.
 pub struct Cache {
     store: Store,
     scratch: Scratch,
@@ -87,7 +88,7 @@ pub struct Cache {
     leaping: Leaping,
 }
 
-// One call for an owner, whose proof then has no step for each part.
+// An owner drops this with one call, so that its proof has no step for each field.
 impl Drop for Cache {
     fn drop(self) {
         let Self {
@@ -111,8 +112,8 @@ impl Model for Cache {
     ghost invariant = { λ c. AreCacheParts c.store c.scratch.of c.leaping.leaps };
 }
 
-/// A clone has rows of its own and shares their states, so that what is done to one does not show in the other. The
-/// only error is out of memory.
+/// A clone has its own rows and shares their states. Changes to one cache do not affect the other. The only error is
+/// out of memory.
 impl Clone for Cache {
     ghost is_clone = { λ a b. b ≡ a };
 
@@ -126,7 +127,7 @@ impl Clone for Cache {
     }
 }
 
-/// How much is in the cache, and not what.
+/// Shows how much is in the cache, not its contents.
 impl fmt::Debug for Cache {
     fn fmt<W: fmt::Write>(&self, f: &mut fmt::Formatter<W>) -> fmt::Result {
         f.debug_struct("Cache")
@@ -140,7 +141,7 @@ impl fmt::Debug for Cache {
 impl Cache {
     ghost use Rattle.automata_hybrid.specs.Private.Cache.LookUps.{IsLookedUp};
 
-    /// A cache of a DFA, with no state yet. It can be used with this DFA alone, until it is reset.
+    /// Returns a cache for a DFA, with no states yet. Until it is reset, it can be used only with this DFA.
     pub fn new(dfa: &DFA) -> Result<Cache, AllocError>
         ensures { IfOk result (λ c. c ≡ fresh_cache dfa.now) }
     {
@@ -154,8 +155,8 @@ impl Cache {
         })
     }
 
-    /// Makes it a fresh cache of this DFA, which may be another one than before. IDs of the old cache end. An error
-    /// changes nothing.
+    /// Resets this to a new cache for `dfa`, which need not be the DFA that it was made for. Earlier IDs are no longer
+    /// valid. An error changes nothing.
     pub fn reset(&mut self, dfa: &DFA) -> Result<(), AllocError>
         ensures ok { OnOk result (self.new ≡ fresh_cache dfa.now) }
         ensures err { OnErr result (self.new ≡ self.old) }
@@ -164,7 +165,7 @@ impl Cache {
         Ok(())
     }
 
-    /// The state after a unit, as a key.
+    /// Determinizes the state after a unit, and returns it as a key.
     pub(crate) fn determinize(
         &mut self,
         dfa: &DFA,
@@ -191,7 +192,8 @@ impl Cache {
         Ok(key)
     }
 
-    /// What the cache has for the state of a key, or the state itself, to be added. The key's room is used again.
+    /// Looks up the state of a key: returns its ID, or, if no row has it, the state itself, to be added. The key's
+    /// buffer is used again.
     #[inline(always)]
     pub(crate) fn resolve(&mut self, dfa: &DFA, key: Key) -> Result<Found, AllocError>
         ensures found { IfOk result (IsLookedUp self.old.store.table key) }
@@ -210,8 +212,8 @@ impl Cache {
         Ok(Found::New(state))
     }
 
-    /// The ID of a state, if the cache has it.
-    // Not inlined: with its text in `resume` the search for a set, which never calls it, takes 3% longer.
+    /// Returns the ID of a state, if the cache has it.
+    // Not inlined: if `resume` contains it, the search for a set takes 3% longer, although that never calls it.
     #[inline(never)]
     pub(crate) fn find(&self, key: &Key) -> Option<LazyStateID>
         ensures { result ≡ id_of self.now.store.table key.now }
@@ -219,7 +221,8 @@ impl Cache {
         self.store.table.get(key)
     }
 
-    /// A handle on the state of a row. It allocates nothing. It fails only if the state cannot be shared once more.
+    /// Returns a handle on the state of a row. This does not allocate; it fails only if the state cannot be shared once
+    /// more.
     pub(crate) fn handle(&self, id: LazyStateID) -> Result<Handle, AllocError>
         requires { IsRowId self.now.store.table id }
         ensures { IfOk result (λ handle. (q : Powerset) → Names self.now.store.table id q → IsHandle handle q) }
@@ -227,7 +230,7 @@ impl Cache {
         Handle::of(self.store.table.state(id))
     }
 
-    /// The state of a row, which only contracts see.
+    /// Returns the state of a row, for contracts only.
     pub(crate) fn snapshot(&self, id: LazyStateID) -> Snapshot<State>
         requires { IsRowId self.now.store.table id }
         ensures state { (q : Powerset) → Names self.now.store.table id q → result.value ≡ q }
@@ -237,8 +240,8 @@ impl Cache {
         Snapshot::of(self.store.table.state(id))
     }
 
-    /// Adds the state of a walk, which a clear has dropped or which another cache had. It gives up before it shares
-    /// the state. An error changes nothing.
+    /// Adds the state of a walk that a clear has dropped, or that the walk got from another cache. The "gave up" error
+    /// comes before the state is shared. An error changes nothing.
     pub(crate) fn add_again(&mut self, dfa: &DFA, state: &State) -> Result<LazyStateID, StepError>
         requires dfa { IsCacheOf self.old dfa.now }
         requires new { IsNewState self.old.store.table state.now }
@@ -255,8 +258,8 @@ impl Cache {
         Ok(id)
     }
 
-    /// Whether some row of the cache has exactly this ID now, tags included. A clear can end it, so ask before a step
-    /// from an ID that you kept while other calls used the cache.
+    /// Whether some row of the cache has exactly this ID now, tags included. A clear can invalidate an ID, so check it
+    /// before a step from an ID that you kept while other calls used the cache.
     pub fn is_valid(&self, id: LazyStateID) -> bool
         ensures { IsTrue result ↔ ((id ≡ unknown_id) ⊎ HoldsRow self.now id) }
     {
@@ -268,8 +271,8 @@ impl Cache {
             || table.has_row(id)
     }
 
-    /// The states that it holds, in the order in which they were added: what searches have built since the last clear,
-    /// and what that kept. Dead and quit are not among them.
+    /// Returns the cached states in the order in which they were added: those that the last clear kept, and those that
+    /// searches have built since. The dead and the quit state are not among them.
     pub fn states(&self) -> States<'_>
         ensures value { result ≡ held_states self.now.store.table }
         ensures held { All (IsHeldState self.now.store) result }
@@ -278,10 +281,10 @@ impl Cache {
         self.store.table.states()
     }
 
-    /// The start states that are cached, six for each group: the unanchored ones, the anchored ones, and those of each
-    /// pattern, if the DFA has them. In a group the first is the one after another byte, and then come those after a
-    /// word byte, at the edge of the haystack, after a line feed, after a carriage return, and after another line
-    /// terminator. `is_unknown` is true of those that are not cached.
+    /// Returns the IDs of the start states, six for each group: the unanchored group, the anchored group, and one group
+    /// for each pattern if the DFA has them. The order in a group is: after a byte that is none of the following, after
+    /// a word byte, at the edge of the haystack, after a line feed, after a carriage return, after another line
+    /// terminator. `is_unknown` returns true for start states that are not cached.
     pub fn starts(&self) -> &[LazyStateID]
         ensures value { result.now ≡ self.now.store.starts }
         ensures leads { (mode : Anchored) (behind : Option ℕ) → LeadsAsStart self.now.store mode behind }
@@ -290,7 +293,7 @@ impl Cache {
         self.store.starts.as_slice()
     }
 
-    /// Its transition table.
+    /// Returns the transition table.
     #[inline(always)]
     pub(crate) fn table(&self) -> &Table
         ensures { result.now ≡ self.now.store.table }
@@ -298,7 +301,7 @@ impl Cache {
         &self.store.table
     }
 
-    /// The cell of a row at a class, which may not be computed yet.
+    /// Returns the cell of a row at a class, which is unknown if the transition is not cached.
     #[inline(always)]
     pub(crate) fn cell(&self, id: LazyStateID, class: usize) -> LazyStateID
         requires row { IsRowId self.now.store.table id }
@@ -312,7 +315,8 @@ impl Cache {
         self.cell_in_row(id, id.offset() as usize, class)
     }
 
-    /// The cell of a row at a class, by the offset of the row; it may not be computed yet.
+    /// Returns the cell of a row at a class, given the row's offset. The cell is unknown if the transition is not
+    /// cached.
     #[inline(always)]
     pub(crate) fn cell_in_row(&self, id: LazyStateID, row: usize, class: usize) -> LazyStateID
         requires row { IsRowId self.now.store.table id }
@@ -328,7 +332,7 @@ impl Cache {
         self.store.table.cell_in_row(id, row, class)
     }
 
-    /// Writes a transition.
+    /// Writes a transition. If it overwrites a cached one, leaps are dropped.
     pub(crate) fn set_next(&mut self, id: LazyStateID, class: usize, next: LazyStateID)
         requires row { IsRowId self.old.store.table id }
         requires class { class < self.old.store.table.of.stride }
@@ -345,8 +349,8 @@ impl Cache {
         self.store.table.set_cell(id, class, next);
     }
 
-    /// Adds a state that the cache lacks, stepped to from a row; clears first if it does not fit. It returns the
-    /// row's ID as it is now, and the new one. An error changes nothing.
+    /// Adds a state that is not cached and that a step from a row leads to; clears first if it does not fit. Returns
+    /// the current ID of that row, and the ID of the new one. An error changes nothing.
     pub(crate) fn add_next(
         &mut self,
         dfa: &DFA,
@@ -368,8 +372,8 @@ impl Cache {
         self.clear_and_add_next(dfa, from, state, bytes)
     }
 
-    /// Adds the state that comes next where it does not fit: clears first, and keeps the row that the step is from.
-    // Not inlined, so that what a clear needs on the stack is prepared here alone.
+    /// Clears the cache, keeping the row that a step is from, and adds the state that the step leads to.
+    // Not inlined, so that only this function sets up the stack space that a clear needs.
     #[inline(never)]
     fn clear_and_add_next(
         &mut self,
@@ -393,7 +397,7 @@ impl Cache {
         Ok((from, to))
     }
 
-    /// The ID of a start slot, which may not be computed yet.
+    /// Returns the ID in a start slot, which is unknown if the start state is not cached.
     pub(crate) fn start_slot(&self, slot: usize) -> LazyStateID
         requires { slot < length self.now.store.starts }
         ensures value { result ≡ slice_index self.now.store.starts slot }
@@ -404,7 +408,7 @@ impl Cache {
         self.store.starts[slot]
     }
 
-    /// The start state of an anchored mode, as a key.
+    /// Determinizes the start state of an anchored mode after a look-behind byte, and returns it as a key.
     pub(crate) fn determinize_start(
         &mut self,
         dfa: &DFA,
@@ -433,7 +437,7 @@ impl Cache {
         self.store.starts[slot] = id;
     }
 
-    /// Adds a start state that the cache lacks; clears first if it does not fit. An error changes nothing.
+    /// Adds a start state that is not cached; clears first if it does not fit. An error changes nothing.
     pub(crate) fn add_start(
         &mut self,
         dfa: &DFA,
@@ -454,7 +458,7 @@ impl Cache {
         self.clear_and_add_start(dfa, state, started, bytes)
     }
 
-    /// Adds a start state where it does not fit: clears first. An error changes nothing.
+    /// Clears the cache, and adds a start state. An error changes nothing.
     #[inline(never)]
     fn clear_and_add_start(
         &mut self,
@@ -476,14 +480,14 @@ impl Cache {
         Ok(id)
     }
 
-    /// The ID of the dead state.
+    /// Returns the ID of the dead state.
     pub(crate) fn dead(&self) -> LazyStateID
         ensures { result ≡ dead_id self.now.store.table.of.stride }
     {
         LazyStateID::dead(self.store.table.stride() as u32)
     }
 
-    /// The number of patterns of a row's state.
+    /// Returns the number of patterns of a row's state.
     pub(crate) fn match_len(&self, id: LazyStateID) -> usize
         requires { IsRowId self.now.store.table id }
         ensures { (q : Powerset) → Names self.now.store.table id q → result ≡ length q.patterns }
@@ -491,7 +495,7 @@ impl Cache {
         self.store.table.state(id).match_len()
     }
 
-    /// A pattern of a row's state.
+    /// Returns a pattern of a row's state, by its index.
     pub(crate) fn match_pattern(&self, id: LazyStateID, index: usize) -> PatternID
         requires valid { IsRowId self.now.store.table id }
         requires index { (q : Powerset) → Names self.now.store.table id q → index < length q.patterns }
@@ -500,18 +504,19 @@ impl Cache {
         self.store.table.state(id).match_pattern(index)
     }
 
-    /// What was found of the self-loop that was followed last. No contract speaks of it, so it is tested before use.
+    /// Returns the ranges found for the self-loop that was followed last. No contract covers them, so they are tested
+    /// before use.
     #[inline(always)]
     pub(crate) fn self_loop(&self) -> KnownLoop {
         self.self_loop.get()
     }
 
-    /// Keeps what was found of a self-loop, for the next run over it.
+    /// Stores the ranges found for a self-loop, for the next run over it.
     pub(crate) fn set_self_loop(&self, found: KnownLoop) {
         self.self_loop.set(found);
     }
 
-    /// The leaps, if there are some.
+    /// Returns the leaps, if there are any.
     pub(crate) fn leaps(&self) -> Option<&Leaps>
         ensures { IfSome result (λ l. AreLeaps self.now.store.table l.now) }
     {
@@ -521,7 +526,7 @@ impl Cache {
         }
     }
 
-    /// The index of the row that has this ID.
+    /// Returns the index of the row that has this ID.
     pub(crate) fn row_index(&self, id: LazyStateID) -> usize
         requires { IsRowId self.now.store.table id }
         ensures row { (q : Powerset) → Names self.now.store.table id q → HasState self.now.store.table result q }
@@ -529,7 +534,7 @@ impl Cache {
         self.store.table.row_index(id)
     }
 
-    /// The ID of a row without tags.
+    /// Returns the ID of a row, without tags.
     pub(crate) fn row_at(&self, index: usize) -> LazyStateID
         requires { index < length self.now.store.table.rows }
         ensures { result ≡ (index + 3) * self.now.store.table.of.stride }
@@ -537,15 +542,16 @@ impl Cache {
         self.store.table.row_at(index)
     }
 
-    /// How many bytes are still searched before the cache looks whether to make leaps, once the open search has come to
-    /// an offset. While all is cached it stands at an earlier one.
+    /// Returns how many more bytes are searched before the cache considers making leaps, once the open search has
+    /// reached `at`. The progress itself may be at an earlier offset, since it does not move while everything is
+    /// cached.
     pub(crate) fn bytes_before_leaps(&self, at: usize) -> usize {
         self.leaping
             .due
             .saturating_sub(self.store.searched.total_at(at))
     }
 
-    /// Looks whether to make leaps, if enough bytes were searched once the open search has come to an offset.
+    /// Calls `make_leaps` if enough bytes are searched once the open search has reached `at`.
     #[inline(always)]
     pub(crate) fn prepare_leaps(&mut self, dfa: &DFA, at: usize)
         requires { IsCacheOf self.old dfa.now }
@@ -557,9 +563,9 @@ impl Cache {
         }
     }
 
-    /// Makes leaps anew, if they pay after so many searched bytes and there is room to make them, and says when to look
-    /// again. Where there is no room, this is after the next clear; where an allocation fails, once twice as many bytes
-    /// were searched.
+    /// Rebuilds the leaps, if they pay after `total` searched bytes and there is room to build them, and sets when to
+    /// try again: if they do not pay yet, once they do; if an allocation fails, after twice as many bytes; if there is
+    /// no room, or there are too many rows or classes, after the next clear.
     #[inline(never)]
     fn make_leaps(&mut self, dfa: &DFA, total: usize)
         requires { IsCacheOf self.old dfa.now }
@@ -582,7 +588,7 @@ impl Cache {
         }
     }
 
-    /// Leaps of a shape, for which there is room, also while they are made.
+    /// Builds leaps of a shape. There has to be room for them and for what building them takes.
     fn leaps_of(&self, dfa: &DFA, shape: Shape) -> Result<Box<Leaps>, AllocError>
         requires dfa { IsCacheOf self.now dfa.now }
         requires of { IsShapeOf self.now.store.table shape }
@@ -598,9 +604,9 @@ impl Cache {
         Ok(boxed)
     }
 
-    /// How often the cache was cleared.
+    /// Returns how often the cache was cleared.
     ///
-    /// The count begins at 0 when the cache is made or reset. If it rises fast, a greater capacity
+    /// The count begins at 0 when the cache is created or reset. If it rises fast, a larger capacity
     /// (`Config::cache_capacity`) may save time.
     pub fn clear_count(&self) -> usize
         ensures { result ≡ (known_of self.now).clears }
@@ -615,16 +621,16 @@ impl Cache {
         self.store.searched.running.is_some()
     }
 
-    /// The bytes searched since the last clear, with those of an open search.
+    /// Returns the number of bytes searched since the last clear, including those of an open search.
     pub fn search_total_len(&self) -> usize
         ensures { result ≡ total_len (known_of self.now).searched }
     {
         self.store.searched.total_len()
     }
 
-    /// A search begins at an offset; one that is open ends. A search by steps of your own can report its progress by
-    /// this call and the next two, so that the rule by which it gives up (`Config::minimum_bytes_per_state`) counts
-    /// the bytes that it reads.
+    /// Records that a search begins at an offset; a search that is open ends. A search by steps of your own can report
+    /// its progress with this call, `search_update` and `search_finish`, so that the rule for giving up
+    /// (`Config::minimum_bytes_per_state`) counts the bytes that it reads.
     pub fn search_start(&mut self, at: usize)
         ensures value { self.new ≡ with_store self.old (with_searched self.old.store
             (progress_started self.old.store.searched at)) }
@@ -633,7 +639,7 @@ impl Cache {
         self.store.searched.start(at);
     }
 
-    /// The open search has come to an offset. There has to be one: `in_progress` is the test.
+    /// Records that the open search has reached an offset. There has to be an open search, which `in_progress` tests.
     pub fn search_update(&mut self, at: usize)
         requires { IsSome self.old.store.searched.running }
         ensures { self.new ≡ with_store self.old (with_searched self.old.store
@@ -642,7 +648,7 @@ impl Cache {
         self.move_search(at);
     }
 
-    /// The open search ends at an offset. There has to be one: `in_progress` is the test.
+    /// Records that the open search ends at an offset. There has to be an open search, which `in_progress` tests.
     pub fn search_finish(&mut self, at: usize)
         requires { IsSome self.old.store.searched.running }
         ensures { self.new ≡ with_store self.old (with_searched self.old.store
@@ -651,7 +657,7 @@ impl Cache {
         self.end_search(at);
     }
 
-    /// Moves the search to an offset, if one is open.
+    /// Records that the open search has reached an offset; does nothing if none is open.
     pub(crate) fn move_search(&mut self, at: usize)
         ensures value { self.new ≡ with_store self.old (with_searched self.old.store
             (progress_updated self.old.store.searched at)) }
@@ -660,7 +666,7 @@ impl Cache {
         self.store.searched.update(at);
     }
 
-    /// Ends the search at an offset, if one is open.
+    /// Records that the open search ends at an offset; does nothing if none is open.
     pub(crate) fn end_search(&mut self, at: usize)
         ensures value { self.new ≡ with_store self.old (with_searched self.old.store
             (progress_finished self.old.store.searched at)) }
@@ -669,7 +675,7 @@ impl Cache {
         self.store.searched.finish(at);
     }
 
-    /// A search over so many bytes begins and ends.
+    /// Records a search that reads `bytes` bytes, from its beginning to its end. A search that is open ends.
     #[inline(always)]
     pub(crate) fn count_search(&mut self, bytes: usize)
         ensures value { self.new ≡ with_store self.old (with_searched self.old.store
@@ -679,8 +685,8 @@ impl Cache {
         self.store.searched.count(bytes);
     }
 
-    /// The accounted bytes: rows of cells, states, start slots and the buffers of determinization. They never exceed
-    /// the capacity, or the minimum capacity if that was raised to.
+    /// Returns the number of accounted bytes: rows of cells, states, start slots and the buffers for determinization.
+    /// It never exceeds the capacity, or the minimum capacity if the capacity was raised to it.
     ///
     /// ```rust
     /// self.cache.memory_usage()
@@ -693,9 +699,10 @@ impl Cache {
         self.store.memory_usage()
     }
 
-    /// The bytes that leaps take now, beside the accounted ones: by them a search over a long text reads a few bytes at
-    /// a step. Together they never exceed the capacity, or the minimum capacity if that was raised to. Leaps are made
-    /// where there is room for them, and dropped where a state is added or the cache is cleared.
+    /// Returns the number of bytes that leaps take now, in addition to the accounted bytes. With leaps, a search over a
+    /// long haystack reads several bytes per step. Together with the accounted bytes they never exceed the capacity, or
+    /// the minimum capacity if the capacity was raised to it. Leaps are made if there is room for them, and dropped
+    /// when a state is added or the cache is cleared.
     pub fn leap_usage(&self) -> usize
         ensures { usage (dfa_of self.now) (known_of self.now) + result ≤ (dfa_of self.now).capacity }
     {
@@ -706,7 +713,8 @@ impl Cache {
         }
     }
 
-    /// The bytes that it takes: the accounted ones, those of leaps, and all that it holds of the allocator.
+    /// Returns how many bytes the cache takes: the accounted bytes, those of leaps, and all that it holds from the
+    /// allocator.
     pub fn footprint(&self) -> Footprint
         ensures accounted { result.accounted ≡ usage (dfa_of self.now) (known_of self.now) }
         ensures within { result.accounted + result.leaps ≤ (dfa_of self.now).capacity }
@@ -727,7 +735,7 @@ impl Cache {
         }
     }
 
-    /// What is true of each cache; among it, that it is within the settings of the DFA that it belongs to. It does
+    /// Shows a proof what is true of every cache, for example that it is within the settings of its DFA. It does
     /// nothing.
     pub(crate) fn see_bounds(&self)
         ensures bounds { IsStoreOf self.now.store self.now.store.table.of }

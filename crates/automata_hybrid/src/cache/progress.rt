@@ -1,4 +1,5 @@
-//! How many bytes were searched since the last clear. A search gives up only if they are few for the number of states.
+//! The number of bytes searched since the last clear. If the settings have a minimum per state, a search gives up only
+//! below it.
 ghost use Rattle.std.specs.Prelude.{◌≡◌, ◌+◌, ◌-◌, Some, None};
 ghost use Rattle.automata_hybrid.specs.Cache.Progress.{distance, progress_finished, progress_started, progress_updated};
 ghost use Rattle.automata_hybrid.specs.Cache.Progress.{progress_cleared, saturated, total_len};
@@ -18,7 +19,7 @@ pub struct Searched {
 }
 
 impl Progress {
-    /// How many bytes lie between its two offsets.
+    /// Returns the number of bytes between the two offsets.
     pub fn distance(self) -> usize
         ensures { result ≡ distance self }
     {
@@ -31,7 +32,7 @@ impl Progress {
 }
 
 impl Searched {
-    /// The searched bytes, those of the open search among them.
+    /// Returns the number of bytes searched, including those of the open search.
     pub fn total_len(&self) -> usize
         ensures { result ≡ total_len self.now }
     {
@@ -41,7 +42,7 @@ impl Searched {
         }
     }
 
-    /// The searched bytes once the open search has come to an offset.
+    /// Returns the number of bytes searched once the open search has reached `at`.
     pub fn total_at(&self, at: usize) -> usize
         ensures { result ≡ total_len (progress_updated self.now at) }
     {
@@ -50,7 +51,7 @@ impl Searched {
         come.total_len()
     }
 
-    /// A search begins at an offset.
+    /// Records that a search begins at an offset; a search that is open ends.
     pub fn start(&mut self, at: usize)
         ensures { self.new ≡ progress_started self.old at }
     {
@@ -72,7 +73,7 @@ impl Searched {
         }
     }
 
-    /// The open search ends at an offset; none is open then.
+    /// Records that the open search ends at an offset; then none is open.
     pub fn finish(&mut self, at: usize)
         ensures { self.new ≡ progress_finished self.old at }
     {
@@ -86,7 +87,7 @@ impl Searched {
         }
     }
 
-    /// A search over so many bytes begins and ends.
+    /// Records a search that reads `bytes` bytes, from its beginning to its end. A search that is open ends.
     #[inline(always)]
     pub fn count(&mut self, bytes: usize)
         ensures { self.new ≡ record { bytes = saturated (total_len self.old + bytes); running = None } }
@@ -98,7 +99,7 @@ impl Searched {
         self.bytes = self.bytes.saturating_add(bytes);
     }
 
-    /// The progress after a clear: no bytes, and an open search as if it began where it is.
+    /// Returns the progress after a clear: no bytes, and an open search as if it began where it is now.
     pub fn cleared(&self) -> Searched
         ensures { result ≡ progress_cleared self.now }
     {

@@ -9,7 +9,7 @@ use automata_base::util::determinize::State;
 use automata_config::accounting::{HEAD_COST, ID_COST, PATTERN_COST};
 use std::alloc::AllocError;
 
-/// A row's state, and whether it was added as a start state with the start tag.
+/// The state of a row, and whether the row's ID has the start tag.
 #[derive(Drop)]
 pub struct Row {
     pub state: State,
@@ -32,7 +32,7 @@ impl Row {
     ghost use Rattle.std.specs.Prelude.{◌≡◌, ◌^◌, ◌<◌};
     ghost use Rattle.automata_hybrid.specs.Cache.Table.{row_id};
 
-    /// The ID of the row at an offset.
+    /// Returns the ID of this row, given its offset.
     pub fn id(&self, offset: u32) -> LazyStateID
         requires { offset < offset_limit }
         ensures { result ≡ row_id offset self.now }
@@ -41,7 +41,7 @@ impl Row {
     }
 }
 
-/// The accounted bytes of a state.
+/// Returns the accounted bytes of a state.
 pub fn cost(state: &State) -> usize
     requires { cost state.now < 2 ^ 64 }
     ensures { result ≡ cost state.now }
@@ -49,7 +49,7 @@ pub fn cost(state: &State) -> usize
     HEAD_COST + PATTERN_COST * state.match_len() + ID_COST * state.nfa_len()
 }
 
-/// Whether nothing can match after a state.
+/// Whether a state is dead, so that nothing can match after it.
 #[inline(always)]
 pub fn is_dead(state: &State) -> bool
     ensures { IsTrue result ↔ (state.now ≡ dead) }

@@ -1,4 +1,4 @@
-//! The states that a cache holds, to look at: each with its ID, its powerset state and its transitions.
+//! Read access to the states in a cache: each with its ID, its powerset state and its transitions.
 ghost use Rattle.std.specs.Prelude.{◌≡◌};
 ghost use Rattle.std.specs.Iterator.{YieldsFirst, item_count};
 
@@ -7,7 +7,7 @@ use crate::id::LazyStateID;
 use automata_base::util::determinize::State;
 use std::marker::Model;
 
-/// A state that a cache holds.
+/// A state in a cache.
 #[derive(Drop)]
 pub struct CachedState<'c> {
     id: LazyStateID,
@@ -24,25 +24,24 @@ impl<'c> Model for CachedState<'c> {
 }
 
 impl<'c> CachedState<'c> {
-    /// Its ID, which `is_start` and `is_match` ask for its tags. It is the ID that a search by steps gets for the
-    /// state.
+    /// Returns the ID of the state, the one that a search by steps gets. `is_start` and `is_match` check its tags.
     pub fn id(&self) -> LazyStateID
         ensures { result ≡ self.now.id }
     {
         self.id
     }
 
-    /// What it stands for: its NFA states in order of preference (`nfa`), its patterns (`match_len`, `match_pattern`),
-    /// and what is known of the byte before (`known`, `needed`, `word`, `half`).
+    /// Returns the powerset state: its NFA states in order of preference (`nfa`), its patterns (`match_len`,
+    /// `match_pattern`), and what is known of looks and of the previous byte (`known`, `needed`, `word`, `half`).
     pub fn state(&self) -> &'c State
         ensures { result.now ≡ self.now.state }
     {
         self.state
     }
 
-    /// The IDs that its transitions lead to, one for each class of bytes, as `ByteClasses::get` numbers them, and the
-    /// one on the haystack's end at `ByteClasses::eoi`. `is_unknown` is true of those that are not cached. Those after
-    /// the last class mean nothing.
+    /// Returns the IDs that the transitions of the state lead to: one for each class of bytes, as `ByteClasses::get`
+    /// numbers them, and at `ByteClasses::eoi` the one for the end of the haystack. `is_unknown` returns true for
+    /// transitions that are not cached. Entries after the last class have no meaning.
     pub fn transitions(&self) -> &'c [LazyStateID]
         ensures { result.now ≡ self.now.transitions }
     {
@@ -50,7 +49,7 @@ impl<'c> CachedState<'c> {
     }
 }
 
-/// The states that a cache holds, in the order in which they were added.
+/// An iterator over the states in a cache, in the order in which they were added.
 #[derive(Drop)]
 pub struct States<'c> {
     rows: &'c [Row],
@@ -75,7 +74,7 @@ impl<'c> States<'c> {
     ghost use Rattle.automata_hybrid.specs.Cache.States.{states_from};
     ghost use Rattle.automata_hybrid.specs.Private.Cache.States.{AreRowsLeft};
 
-    /// The states of these rows, with their cells, of which the first stands at an offset.
+    /// Returns the states of these rows, with their cells. `offset` is the offset of the first row.
     pub(crate) fn new(
         rows: &'c [Row],
         cells: &'c [LazyStateID],

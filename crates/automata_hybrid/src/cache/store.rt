@@ -1,6 +1,6 @@
 //! What a clear replaces: the table of states, the start slots, the count of clears and the progress of searches. The
-//! rules of the settings are here: what a state costs, whether it fits, and whether a search gives up in place of a
-//! clear.
+//! rules of the settings are here: what a state costs, whether it fits, and whether a search gives up instead of
+//! clearing the cache.
 ghost use Rattle.std.specs.Prelude.{◌≡◌, ◌+◌, ◌*◌, ◌<◌, ◌≤◌, ◌↔◌, None, IfOk, IfErr, OnOk, OnErr, length, IsTrue};
 ghost use Rattle.std.specs.Prelude.{true};
 ghost use Rattle.automata_base.specs.Powersets.Powerset.{cost};
@@ -28,10 +28,11 @@ use automata_config::error::{CacheError, StepError};
 use std::alloc::AllocError;
 use std::marker::Model;
 
-/// How many rows a new cache has room for, so that a short search does not move them.
+/// The number of rows that a new cache has room for, so that a short search does not have to move them.
 const FIRST_ROWS: usize = 8;
 
-/// What a clear of a cache replaces: rows, start slots and progress. Its accounted bytes never pass the capacity.
+/// The part of a cache that a clear replaces: rows, start slots and progress. Its accounted bytes never exceed the
+/// capacity.
 #[derive(Drop)]
 pub struct Store {
     pub(super) table: Table,
@@ -68,7 +69,7 @@ impl Clone for Store {
 }
 
 impl Store {
-    /// The fixed rows alone, and no start.
+    /// Returns a store with only the fixed rows, and with empty start slots.
     pub fn new(
         dfa: &DFA,
         stride: usize,
@@ -101,7 +102,7 @@ impl Store {
         })
     }
 
-    /// The accounted bytes.
+    /// Returns the number of accounted bytes.
     pub fn memory_usage(&self) -> usize
         ensures usage { result ≡ usage_in_store self.now }
         ensures within { result ≤ self.now.table.of.capacity }
@@ -116,13 +117,13 @@ impl Store {
             + self.settings.fixed
     }
 
-    /// The bytes that it takes of the allocator.
+    /// Returns the number of bytes that the store takes from the allocator.
     pub fn heap_usage(&self) -> usize {
         let starts = array(self.starts.capacity(), CELL_SIZE);
         starts.saturating_add(self.table.heap_usage())
     }
 
-    /// The accounted bytes of a new state. They are counted once, for all calls that need them.
+    /// Returns the number of accounted bytes of a new state. It is computed once for all calls that need it.
     pub fn cost_of(&self, state: &State) -> usize
         requires { cost state.now ≤ self.now.table.of.greatest }
         ensures { result ≡ cost state.now }
@@ -131,7 +132,7 @@ impl Store {
         row::cost(state)
     }
 
-    /// Whether a new state of so many bytes fits.
+    /// Whether a new state of `bytes` accounted bytes fits.
     pub fn fits(&self, bytes: usize) -> bool
         requires { bytes ≤ self.now.table.of.greatest }
         ensures { IsTrue result ↔ Fits self.now bytes }
@@ -142,21 +143,21 @@ impl Store {
         row + bytes <= room && self.table.cell_count() < LazyStateID::OFFSET_LIMIT
     }
 
-    /// The capacity.
+    /// Returns the capacity.
     pub fn capacity(&self) -> usize
         ensures { result ≡ self.now.table.of.capacity }
     {
         self.settings.capacity
     }
 
-    /// The bytes of the capacity that are not taken.
+    /// Returns the number of unused bytes of the capacity.
     pub fn room(&self) -> usize
         ensures { usage_in_store self.now + result ≡ self.now.table.of.capacity }
     {
         self.settings.capacity - self.memory_usage()
     }
 
-    /// Whether a search gives up in place of a clear.
+    /// Whether a search gives up instead of clearing the cache.
     pub fn refuses(&self) -> bool
         ensures { result ≡ refuses_in_store self.now }
     {
@@ -172,7 +173,7 @@ impl Store {
         self.searched.total_len() < bytes.saturating_mul(self.table.len() + 3)
     }
 
-    /// Whether a search gives up at a state that no row has: it does not fit, and no clear is allowed for it.
+    /// Whether a search gives up at a state that no row has, because it does not fit and no clear is allowed.
     pub fn gives_up(&self, state: &State) -> bool
         requires { cost state.now ≤ self.now.table.of.greatest }
         ensures { IsTrue result ↔ ((Fits self.now (cost state.now) → ⊥) × (refuses_in_store self.now ≡ true)) }
@@ -180,7 +181,8 @@ impl Store {
         !self.fits(self.cost_of(state)) && self.refuses()
     }
 
-    /// What a clear leaves of the cache, unless the search gives up. It changes nothing here.
+    /// Returns the store after a clear, and leaves this one unchanged. It fails if the search gives up instead, or if
+    /// memory runs out.
     pub fn cleared(&self, dfa: &DFA) -> Result<Store, StepError>
         requires { dfa.now ≡ self.now.table.of }
         ensures cleared { IfOk result (IsCleared self.now) }
@@ -201,7 +203,8 @@ impl Store {
         })
     }
 
-    /// Adds a row for a state that fits, whose accounted bytes these are.
+    /// Adds a row for a state that fits, and returns its ID. `bytes` is the number of accounted bytes of the state. An
+    /// error changes nothing.
     #[inline(always)]
     pub fn add_row(
         &mut self,
@@ -220,7 +223,8 @@ impl Store {
         Ok(added)
     }
 
-    /// Takes the row of another table over, where few rows are here.
+    /// Copies a row of another table, if its state is not here yet, and returns its ID here. There have to be at most
+    /// as many rows here as start slots.
     pub fn keep_saved(&mut self, old: &Table, id: LazyStateID) -> Result<LazyStateID, AllocError>
         requires valid { IsRowId old.now id }
         requires of { self.old.table.of ≡ old.now.of }
@@ -234,7 +238,8 @@ impl Store {
         Ok(kept)
     }
 
-    /// Puts what a clear left in place of the cache, with a row for a state. An error changes nothing.
+    /// Adds a row for a state to the store that a clear left, replaces this store by it, and returns the row's ID. An
+    /// error changes nothing.
     pub fn replace(
         &mut self,
         mut fresh: Store,

@@ -34,16 +34,16 @@ use std::marker::Model;
 /// The size, in bytes, of a key of the map.
 const KEY_SIZE: usize = 16;
 
-/// The size, in bytes, of the place of an entry of the map: its hash, and where the entry is.
+/// The size, in bytes, of what the map keeps to find an entry: its hash and its index.
 const PLACE_SIZE: usize = 8;
 
-/// For how many entries the map has a group, when it is full.
+/// The number of entries per group in a full map.
 const GROUP: usize = 9;
 
 /// The size, in bytes, of a group.
 const GROUP_SIZE: usize = 64;
 
-/// For how many groups there is room at least.
+/// The minimum number of groups that a map has room for.
 const LEAST_GROUPS: usize = 4;
 
 /// The rows of a lazy DFA, and the map from states to them.
@@ -56,7 +56,7 @@ pub struct Table {
     rows: Vec<Row>,
     map: HashMap<Key, LazyStateID>,
     costs: usize,
-    /// The bytes that the allocations of the rows' states take. No contract speaks of them.
+    /// The bytes that the allocations of the rows' states take. No contract covers them.
     blocks: usize,
 }
 
@@ -93,7 +93,8 @@ impl Clone for Table {
     }
 }
 
-/// The number of rows before an offset. The stride is a power of two, and a shift is far faster than a division.
+/// Returns the number of rows before an offset. The stride is a power of two, and a shift is much faster than a
+/// division.
 fn rows_before(offset: usize, stride: usize) -> usize
     requires positive { 0 < stride }
     requires power { (len : ℕ) × (stride ≡ stride_for len) }
@@ -102,8 +103,8 @@ fn rows_before(offset: usize, stride: usize) -> usize
     offset >> stride.ilog2()
 }
 
-/// The bytes that a map with room for so many entries takes of the allocator. It has four lists: of keys, of values, of
-/// the places of entries, and of groups of nine entries.
+/// Returns the number of bytes that a map with room for `capacity` entries takes from the allocator. It has four lists:
+/// keys, values, the hash and index of each entry, and groups of nine entries.
 fn map_usage(capacity: usize) -> usize {
     if capacity == 0 {
         return 0;
@@ -116,7 +117,7 @@ fn map_usage(capacity: usize) -> usize {
 }
 
 impl Table {
-    /// The ID of a state, if the table has a row for it.
+    /// Returns the ID of a state, if the table has a row for it.
     #[inline(always)]
     pub fn get(&self, state: &Key) -> Option<LazyStateID>
         ensures { result ≡ id_of self.now state.now }
@@ -124,7 +125,7 @@ impl Table {
         self.map.get(state).copied()
     }
 
-    /// The number of rows.
+    /// Returns the number of rows after the fixed ones.
     pub fn len(&self) -> usize
         ensures value { result ≡ length self.now.rows }
         ensures whole { length self.now.cells ≡ (length self.now.rows + 3) * self.now.of.stride }
@@ -132,14 +133,14 @@ impl Table {
         self.rows.len()
     }
 
-    /// What is true of the rows of each table. It does nothing.
+    /// Shows a proof what is true of the rows of every table. It does nothing.
     pub fn see_rows(&self)
         ensures { IsSoundTable self.now }
     {
         let _rows = &self.rows;
     }
 
-    /// How many cells a row has.
+    /// Returns the number of cells in a row.
     pub fn stride(&self) -> usize
         ensures value { result ≡ self.now.of.stride }
         ensures template { IsTemplate self.now.of.stride self.now.of.template }
@@ -147,14 +148,14 @@ impl Table {
         self.stride
     }
 
-    /// The number of cells of all rows.
+    /// Returns the number of cells in all rows, the fixed ones included.
     pub fn cell_count(&self) -> usize
         ensures { result ≡ length self.now.cells }
     {
         self.cells.len()
     }
 
-    /// The states of all rows.
+    /// Returns the states of all rows after the fixed ones.
     pub fn states(&self) -> States<'_>
         ensures { result ≡ held_states self.now }
     {
@@ -162,7 +163,7 @@ impl Table {
         States::new(&self.rows, &self.cells[fixed..], self.stride, fixed)
     }
 
-    /// The state that an ID names.
+    /// Returns the state that an ID names.
     pub fn state(&self, id: LazyStateID) -> &State
         requires { IsRowId self.now id }
         ensures named { (q : Powerset) → Names self.now id q → result.now ≡ q }
@@ -174,7 +175,7 @@ impl Table {
         &row.state
     }
 
-    /// The accounted bytes of all rows' states.
+    /// Returns the accounted bytes of all rows' states.
     pub fn costs(&self) -> usize
         ensures value { result ≡ sum_by row_cost self.now.rows }
         ensures most { sum_by row_cost self.now.rows ≤ length self.now.rows * self.now.of.greatest }
@@ -182,7 +183,8 @@ impl Table {
         self.costs
     }
 
-    /// The bytes that it takes of the allocator, with the states of its rows, which a clone shares.
+    /// Returns the number of bytes that the table takes from the allocator, including the states of its rows, which a
+    /// clone shares.
     pub fn heap_usage(&self) -> usize {
         let cells = array(self.cells.capacity(), CELL_SIZE);
         let row = array(self.template.capacity(), CELL_SIZE);
@@ -193,7 +195,8 @@ impl Table {
             .saturating_add(map_usage(self.map.capacity()))
     }
 
-    /// Adds a row for a state that the table lacks, whose accounted bytes these are. An error changes nothing.
+    /// Adds a row for a state that the table does not have, and returns its ID. `bytes` is the number of accounted
+    /// bytes of the state. An error changes nothing.
     #[inline(always)]
     pub fn add(
         &mut self,
@@ -229,7 +232,7 @@ impl Table {
         Ok(id)
     }
 
-    /// The fixed rows alone, with room for so many rows more.
+    /// Returns a table with only the fixed rows, and with room for `room` more.
     #[inline(always)]
     pub fn fresh(
         dfa: &DFA,
@@ -262,8 +265,8 @@ impl Table {
         })
     }
 
-    /// A table of the same shape, with the fixed rows alone, and with room for as many rows as are here: a cache that
-    /// clears often does not grow again each time.
+    /// Returns a table of the same shape with only the fixed rows, and with room for as many rows as this one has, so
+    /// that a cache that clears often does not have to grow again each time.
     pub fn emptied(&self, dfa: &DFA) -> Result<Table, AllocError>
         requires { dfa.now ≡ self.now.of }
         ensures { IfOk result (λ t. t ≡ fresh self.now.of) }
@@ -272,7 +275,7 @@ impl Table {
         Table::fresh(dfa, self.stride, template, self.rows.len())
     }
 
-    /// The index of the row that has this ID.
+    /// Returns the index of the row that has this ID.
     pub fn row_index(&self, id: LazyStateID) -> usize
         requires { IsRowId self.now id }
         ensures value { result ≡ (id % offset_limit) / self.now.of.stride - 3 }
@@ -298,8 +301,8 @@ impl Table {
         id == row.id(offset)
     }
 
-    /// The cell of a row at a class. The row's offset is known: no tag has to be taken off. The column is found first,
-    /// so that from one row to the next there is one load alone.
+    /// Returns the cell of a row at a class. The caller passes the row's offset, so that no tags have to be masked. The
+    /// column is sliced first, so that there is only one load between one row and the next.
     #[inline(always)]
     pub fn cell_in_row(&self, id: LazyStateID, row: usize, class: usize) -> LazyStateID
         requires row { IsRowId self.now id }
@@ -314,7 +317,7 @@ impl Table {
         column[row]
     }
 
-    /// Writes a transition.
+    /// Writes a transition to the cell of a row at a class.
     pub fn set_cell(&mut self, id: LazyStateID, class: usize, next: LazyStateID)
         requires row { IsRowId self.old id }
         requires class { class < self.old.of.stride }
@@ -325,7 +328,8 @@ impl Table {
         self.cells[id.offset() as usize + class] = next;
     }
 
-    /// The index of the row to which a cached transition leads, if its ID has no tag, and else the number of rows.
+    /// Returns the index of the row that a transition leads to, if it is cached and its ID has no tag; otherwise the
+    /// number of rows.
     pub fn row_after(&self, row: usize, class: usize) -> usize
         requires row { row < length self.now.rows }
         requires class { class < self.now.of.stride }
@@ -341,7 +345,7 @@ impl Table {
         index - 3
     }
 
-    /// The ID of a row without tags.
+    /// Returns the ID of a row, without tags.
     pub fn row_at(&self, index: usize) -> LazyStateID
         requires { index < length self.now.rows }
         ensures { result ≡ (index + 3) * self.now.of.stride }
@@ -350,7 +354,7 @@ impl Table {
         LazyStateID::at_offset((index + 3) * self.stride, 0)
     }
 
-    /// A copy of a row: its state, and whether its ID has the start tag.
+    /// Returns a copy of a row: its state, and whether its ID has the start tag.
     pub fn copied_row(&self, row: usize) -> Result<Row, AllocError>
         requires { row < length self.now.rows }
         ensures { IfOk result (IsCopiedRow self.now row) }
@@ -361,7 +365,7 @@ impl Table {
     }
 }
 
-/// Sets the cell of a class, where the byte is a quit byte.
+/// Sets the cell of a class to the quit ID, if its byte is a quit byte.
 fn mark(cells: &mut Vec<LazyStateID>, class: usize, quit: LazyStateID, quits: bool)
     requires { class < length cells.old.items }
     ensures { cells.new.items ≡ cond quits (slice_set cells.old.items class quit) cells.old.items }
@@ -371,7 +375,7 @@ fn mark(cells: &mut Vec<LazyStateID>, class: usize, quit: LazyStateID, quits: bo
     }
 }
 
-/// The cells of a new row: quit at the classes of quit bytes, and else unknown.
+/// Returns the cells of a new row: quit at the classes of quit bytes, and unknown at all others.
 pub fn new_row(
     alloc: Global,
     classes: &ByteClasses,

@@ -1,4 +1,4 @@
-//! The builder of lazy DFAs, and two DFAs that need no pattern: one that always matches, and one that never does.
+//! The builder of lazy DFAs, and two DFAs that are ready to use: one that always matches, and one that never does.
 ghost use Rattle.std.specs.Prelude.{◌≡◌, IfOk, IfErr, None};
 ghost use Rattle.automata_config.specs.Options.{unset, overwritten};
 ghost use Rattle.automata_config.specs.Settling.{settling_error};
@@ -42,7 +42,7 @@ impl Default for Builder {
 impl Builder {
     ghost use Rattle.std.specs.Result.{result_err};
 
-    /// The default settings.
+    /// Returns a builder with the default settings.
     pub fn new() -> Builder
         ensures { result ≡ unset }
     {
@@ -67,7 +67,8 @@ impl Builder {
         self
     }
 
-    /// The lazy DFA of an NFA. It allocates nothing. An error does not give the NFA back: clone it before.
+    /// Builds the lazy DFA of an NFA. This does not allocate. An error does not return the NFA, so clone it first if
+    /// you need it again.
     ///
     /// ```rust
     /// let sure = DFA::builder().build_from_nfa(nfa.clone()?)?;
@@ -82,7 +83,7 @@ impl Builder {
     }
 }
 
-/// The DFA of an NFA of one state, with the default settings. The only error is out of memory.
+/// Returns the DFA of an NFA with one state, with the default settings. The only error is out of memory.
 fn of_state(alloc: Global, state: State, starts: Vec<StateID>) -> Result<DFA, BuildError>
     requires { settling_error unset (one_state state starts.items) ≡ None }
     ensures refused { IfErr result (λ e. e ≡ BuildError.OutOfMemory) }
@@ -105,7 +106,7 @@ fn of_state(alloc: Global, state: State, starts: Vec<StateID>) -> Result<DFA, Bu
 }
 
 impl DFA {
-    /// A DFA of one pattern, which matches at every offset. The only error is out of memory.
+    /// Returns a DFA with one pattern, which matches at every offset. The only error is out of memory.
     pub fn always_match(alloc: Global) -> Result<DFA, BuildError>
         ensures refused { IfErr result (λ e. e ≡ BuildError.OutOfMemory) }
         ensures built { IfOk result (Builds unset always_matching) }
@@ -122,7 +123,7 @@ impl DFA {
         Ok(dfa)
     }
 
-    /// A DFA of no pattern, which never matches. The only error is out of memory.
+    /// Returns a DFA with no patterns, which never matches. The only error is out of memory.
     pub fn never_match(alloc: Global) -> Result<DFA, BuildError>
         ensures refused { IfErr result (λ e. e ≡ BuildError.OutOfMemory) }
         ensures built { IfOk result (Builds unset never_matching) }

@@ -1,6 +1,6 @@
-//! The lazy DFA itself: its NFA, settings, byte classes and quit bytes. It has no states of its own: they are in a
-//! `Cache`. `start` and `step` find an ID in the cache, or determinize its state and add a row. `builder` makes DFAs,
-//! with the limits of their caches.
+//! The lazy DFA itself: its NFA, settings, byte classes and quit bytes. Its states are not in it, but in a `Cache`.
+//! `start` and `step` find an ID in the cache, or determinize its state and add a row. `builder` builds DFAs, with the
+//! limits of their caches.
 ghost use Rattle.std.specs.Prelude.{◌≡◌, ◌<◌, ◌≤◌, IfOk, OnOk, OnErr, Some, None, true, false, slice_index};
 ghost use Rattle.std.specs.Prelude.{length};
 ghost use Rattle.automata_base.specs.ByteClasses.Classes.{AreClasses, class_in, eoi_class, is_quit};
@@ -44,7 +44,7 @@ pub struct DFA {
     capacity: usize,
 }
 
-// One call for an owner, whose proof then has no step for each part.
+// An owner drops this with one call, so that its proof has no step for each field.
 impl Drop for DFA {
     fn drop(self) {
         let Self {
@@ -86,14 +86,14 @@ impl Clone for DFA {
 }
 
 impl DFA {
-    /// The default settings, to set options of.
+    /// Returns the default settings, to set options on.
     pub fn config() -> Config
         ensures { result ≡ unset }
     {
         Config::new()
     }
 
-    /// A builder of lazy DFAs.
+    /// Returns a builder of lazy DFAs, with the default settings.
     ///
     /// ```rust
     /// let mut builder = DFA::builder();
@@ -107,7 +107,8 @@ impl DFA {
         Builder::new()
     }
 
-    /// The DFA of an NFA and of what its settings make of it.
+    /// Returns the DFA of an NFA, its settings, and the byte classes, quit set and capacity that they settle for this
+    /// NFA.
     pub(crate) fn of_settled(nfa: NFA, config: Config, settled: Settled) -> DFA
         requires { IsSettled config nfa settled }
         ensures { result ≡ built_machine config nfa settled }
@@ -124,15 +125,15 @@ impl DFA {
         }
     }
 
-    /// A cache for its searches, which serves one search after another. To use it with another DFA, reset it
-    /// (`Cache::reset`).
+    /// Returns a new cache for searches with this DFA. It serves one search after another. To use it with another DFA,
+    /// reset it (`Cache::reset`).
     pub fn create_cache(&self) -> Result<Cache, AllocError>
         ensures { IfOk result (λ c. c ≡ fresh_cache self.now) }
     {
         Cache::new(self)
     }
 
-    /// Makes a cache a fresh one of this DFA. An error changes nothing.
+    /// Resets a cache to a new one for this DFA. An error changes nothing.
     pub fn reset_cache(&self, cache: &mut Cache) -> Result<(), AllocError>
         ensures ok { OnOk result (cache.new ≡ fresh_cache self.now) }
         ensures err { OnErr result (cache.new ≡ cache.old) }
@@ -140,42 +141,43 @@ impl DFA {
         cache.reset(self)
     }
 
-    /// The classes of bytes that it distinguishes.
+    /// Returns the classes of bytes that the DFA distinguishes.
     pub fn byte_classes(&self) -> &ByteClasses
         ensures { result.now ≡ self.now.classes }
     {
         &self.classes
     }
 
-    /// The settings it was built with.
+    /// Returns the settings that the DFA was built with.
     pub fn get_config(&self) -> &Config
         ensures { result.now ≡ self.now.config }
     {
         &self.config
     }
 
-    /// The bytes that it takes on the heap beside its NFA: none. `Cache::memory_usage` has those of its states.
+    /// Returns the number of heap bytes that the DFA takes in addition to its NFA, which is 0. `Cache::memory_usage`
+    /// returns those of its states.
     pub fn memory_usage(&self) -> usize
         ensures { result ≡ 0 }
     {
         0
     }
 
-    /// The NFA that the DFA was built from.
+    /// Returns the NFA that the DFA was built from.
     pub fn get_nfa(&self) -> &NFA
         ensures { result.now ≡ self.now.nfa }
     {
         &self.nfa
     }
 
-    /// The number of patterns.
+    /// Returns the number of patterns.
     pub fn pattern_len(&self) -> usize
         ensures { result ≡ length self.now.nfa.start_pattern }
     {
         self.nfa.pattern_starts().len()
     }
 
-    /// The class of a byte.
+    /// Returns the class of a byte.
     #[inline(always)]
     pub(crate) fn class_of(&self, byte: u8) -> usize
         ensures value { result ≡ class_in self.now.classes byte }
@@ -188,7 +190,7 @@ impl DFA {
         usize::from(self.classes.get(byte))
     }
 
-    /// The class of the haystack's end.
+    /// Returns the class of the end of the haystack.
     pub(crate) fn end_class(&self) -> usize
         ensures value { result ≡ eoi_class self.now.classes }
         ensures below { result < self.now.stride }
@@ -198,7 +200,7 @@ impl DFA {
         self.classes.eoi()
     }
 
-    /// The class of a byte or of the end.
+    /// Returns the class of a byte, or of the end of the haystack.
     #[inline(always)]
     pub(crate) fn unit_class(&self, unit: Option<u8>) -> usize
         ensures value { result ≡ unit_class self.now unit }
@@ -215,7 +217,7 @@ impl DFA {
         }
     }
 
-    /// What is true of each DFA. It does nothing.
+    /// Shows a proof what is true of every DFA. It does nothing.
     pub(crate) fn see_machine(&self)
         ensures machine { IsMachine self.now }
         ensures rising { AreClasses self.now.classes }
@@ -223,7 +225,7 @@ impl DFA {
         let _len = self.classes.alphabet_len();
     }
 
-    /// The fixed rows alone.
+    /// Returns a store with only the fixed rows.
     #[inline(always)]
     pub(crate) fn fresh_store(&self) -> Result<Store, AllocError>
         ensures { IfOk result (λ c. c ≡ fresh_store self.now) }
@@ -235,7 +237,7 @@ impl DFA {
         Ok(store)
     }
 
-    /// What its caches are bounded by.
+    /// Returns the limits of the DFA's caches.
     fn settings(&self) -> Settings
         ensures { result ≡ cache_settings self.now }
     {

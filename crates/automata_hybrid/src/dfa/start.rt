@@ -1,6 +1,6 @@
-//! Start states. There is a start slot for each anchored mode, and each pattern if the settings ask for that, after
-//! each kind of look-behind byte (`Start`). A slot has the ID of its start state once that was determinized, and is
-//! unknown before.
+//! Start states. There is a start slot for each anchored mode, with one mode per pattern if the settings ask for that,
+//! and each kind of look-behind byte (`Start`). A slot is unknown until its start state is determinized; then it has
+//! the state's ID.
 ghost use Rattle.std.specs.Prelude.{◌≡◌, ◌+◌, ◌-◌, ◌*◌, ◌^◌, ◌<◌, ◌≤◌, ◌↔◌, IfOk, IfErr, OnOk, IfSome, IfNone, Err};
 ghost use Rattle.std.specs.Prelude.{Some, slice_get, false};
 ghost use Rattle.automata_base.specs.ByteClasses.LookBehind.{behind_of};
@@ -27,7 +27,8 @@ use automata_base::util::start;
 use automata_config::error::{SearchError, StartError, StepError};
 
 impl Cache {
-    /// The start state of an anchored mode's slot. A cached one allocates nothing.
+    /// Returns the start state of a slot, given the slot's anchored mode and look-behind byte. If it is cached, this
+    /// does not allocate.
     #[inline(always)]
     fn start(
         &mut self,
@@ -92,20 +93,20 @@ impl Cache {
     }
 }
 
-/// What is before a start, as far as start states depend on it. A group has a start slot for each, in this order.
+/// The kinds of look-behind byte that start states depend on. A group has a start slot for each, in this order.
 enum Start {
-    /// A byte that is none of those below.
+    /// A byte that is none of the following.
     NonWordByte,
     WordByte,
     /// No byte: the start of the haystack, or for a reverse search its end.
     Text,
     LineLF,
     LineCR,
-    /// The line terminator, where it is neither a line feed nor a carriage return.
+    /// The line terminator, if it is neither a line feed nor a carriage return.
     CustomLineTerminator,
 }
 
-/// How many start slots a group has.
+/// The number of start slots in a group.
 const GROUP: usize = Start::CustomLineTerminator as usize + 1;
 
 const N: u8 = Start::NonWordByte as u8;
@@ -116,8 +117,8 @@ const F: u8 = Start::LineLF as u8;
 
 const R: u8 = Start::LineCR as u8;
 
-/// The kind of each look-behind byte that is not the line terminator, as the number of a `Start`. A table of numbers
-/// lies in memory as it is; one of an enum would be made anew at each call.
+/// The kind of each look-behind byte that is not the line terminator, as the number of a `Start`. A table of numbers is
+/// a constant in memory; one of an enum would be built again at each call.
 const KINDS: [u8; 256] = [
     N, N, N, N, N, N, N, N, N, N, F, N, N, R, N, N, N, N, N, N, N, N, N, N, N, N, N, N, N, N, N, N,
     N, N, N, N, N, N, N, N, N, N, N, N, N, N, N, N, W, W, W, W, W, W, W, W, W, W, N, N, N, N, N, N,
@@ -129,7 +130,7 @@ const KINDS: [u8; 256] = [
     N, N, N, N, N, N, N, N, N, N, N, N, N, N, N, N, N, N, N, N, N, N, N, N, N, N, N, N, N, N, N, N,
 ];
 
-/// The kind of a look-behind byte that is the line terminator.
+/// Returns the kind of a look-behind byte that is the line terminator.
 #[inline(never)]
 fn behind_line(byte: u8) -> usize
     ensures { result ≡ behind_of byte (Some byte) }
@@ -144,7 +145,7 @@ fn behind_line(byte: u8) -> usize
 }
 
 impl DFA {
-    /// The kind of a look-behind byte, as the number of a `Start`.
+    /// Returns the kind of a look-behind byte, as the number of a `Start`.
     fn behind(&self, prev: Option<u8>) -> usize
         ensures value { result ≡ behind_of self.now.nfa.flags.line_terminator prev }
         ensures below { result < 6 }
@@ -158,7 +159,7 @@ impl DFA {
         usize::from(KINDS[usize::from(byte)])
     }
 
-    /// The start slot of a group, after a look-behind byte of a kind.
+    /// Returns the start slot of a group for a kind of look-behind byte.
     fn slot(&self, group: usize, kind: usize) -> usize
         requires room { group * 6 + 6 ≤ self.now.slots }
         requires kind { kind < 6 }
@@ -169,7 +170,8 @@ impl DFA {
         group * GROUP + kind
     }
 
-    /// The start slot of an anchored mode. A pattern past the last one has none.
+    /// Returns the start slot of an anchored mode, or `None` for a pattern that is out of range. It fails if the mode
+    /// is not supported.
     #[inline(always)]
     fn mode_slot(&self, mode: Anchored, prev: Option<u8>) -> Result<Option<usize>, StartError>
         ensures within { IfOk result (λ o. IfSome o (λ slot. slot < self.now.slots)) }
@@ -202,7 +204,7 @@ impl DFA {
     }
 }
 
-/// The error of a start state.
+/// Returns the error of a start state for the error of a step.
 fn start_error(error: StepError) -> StartError
     ensures { result ≡ start_error error }
 {
@@ -213,7 +215,7 @@ fn start_error(error: StepError) -> StartError
 }
 
 impl DFA {
-    /// Whether a search stops at a byte.
+    /// Whether a byte is a quit byte.
     #[inline(always)]
     pub(crate) fn quits(&self, byte: u8) -> bool
         ensures { result ≡ is_quit self.now.quits byte }
@@ -221,7 +223,7 @@ impl DFA {
         self.quits.contains(byte)
     }
 
-    /// The look-behind byte, if a search stops at it.
+    /// Returns the look-behind byte, if it is a quit byte.
     #[inline(always)]
     fn quits_behind(&self, prev: Option<u8>) -> Option<u8>
         ensures { result ≡ quit_behind self.now prev }
@@ -232,12 +234,12 @@ impl DFA {
         }
     }
 
-    /// The start state of an anchored mode after a look-behind byte. It fails if that is a quit byte, if the mode is
-    /// not supported, if the state does not fit and the settings allow no clear, and if memory runs out. A quit byte
-    /// is reported before a mode that is not supported.
+    /// Returns the start state of an anchored mode after a look-behind byte. It fails if that is a quit byte, if the
+    /// mode is not supported, if the state does not fit and the settings do not allow a clear, and if memory runs out.
+    /// A quit byte is reported before a mode that is not supported.
     ///
     /// If you have an input, `start_state_forward` and `start_state_reverse` take the anchored mode and the look-behind
-    /// byte from it. A cached start state allocates nothing.
+    /// byte from it. If the start state is cached, this does not allocate.
     #[inline(always)]
     pub fn start_state(
         &self,
@@ -264,8 +266,8 @@ impl DFA {
         }
     }
 
-    /// The start state of an anchored mode after a look-behind byte, if a search may start there and it is cached, and
-    /// else the unknown ID.
+    /// Returns the start state of an anchored mode after a look-behind byte, if a search may start there and the state
+    /// is cached; otherwise the unknown ID.
     #[inline(always)]
     pub(crate) fn start_state_known(
         &self,
@@ -289,10 +291,10 @@ impl DFA {
         cache.start_slot(slot)
     }
 
-    /// The start state of a forward search. The look-behind byte is the one before the span. The error of a quit byte
-    /// has that byte's offset, and the "gave up" error the span's start.
+    /// Returns the start state of a forward search. The look-behind byte is the one before the span. The error for a
+    /// quit byte has that byte's offset, and the "gave up" error has the span's start.
     ///
-    /// A search by steps begins with it; `example_steps` has one in full:
+    /// A search by steps begins with this call; the example `steps` has a complete one:
     ///
     /// ```rust
     /// let Ok(mut id) = dfa.start_state_forward(cache, input) else {
@@ -333,11 +335,11 @@ impl DFA {
         }
     }
 
-    /// The start state of a reverse search. The look-behind byte is the one at the span's end. The error of a quit byte
-    /// and the "gave up" error both have the span's end as their offset.
+    /// Returns the start state of a reverse search. The look-behind byte is the one at the span's end. The error for a
+    /// quit byte and the "gave up" error both have the span's end as their offset.
     ///
-    /// A reverse search by steps begins with it. It then reads the bytes from the span's end back to its start. Last
-    /// comes the byte before the span, by `next_state`, or `next_eoi_state` if there is none.
+    /// A reverse search by steps begins with this call, and then reads the bytes of the span from its end to its start.
+    /// Its last step is `next_state` on the byte before the span, or `next_eoi_state` if there is none.
     #[inline(always)]
     pub fn start_state_reverse(
         &self,
@@ -363,7 +365,8 @@ impl DFA {
     }
 }
 
-/// A start state's error as a search reports it: a quit byte at one offset, the "gave up" error at another.
+/// Returns the error that a search reports for a start state: a quit byte has the offset `behind`, and the "gave up"
+/// error has the offset `at`.
 fn start_search_error(error: StartError, behind: usize, at: usize) -> SearchError
     ensures { result ≡ start_search_error error behind at }
 {

@@ -1,5 +1,5 @@
-//! Steps: the ID of the state after a byte, or after the haystack's end, as it is cached or by determinizing it; and
-//! the patterns that match at a state.
+//! Steps: the ID of the state after a byte or after the end of the haystack, either cached or determinized now; and the
+//! patterns that match at a state.
 ghost use Rattle.std.specs.Prelude.{◌≡◌, ◌<◌, None, Some, IfOk, IfErr, OnOk, length, slice_index, true, false};
 ghost use Rattle.automata_base.specs.Powersets.Powerset.{Powerset};
 ghost use Rattle.automata_base.specs.Retraced.Steps.{successor};
@@ -23,8 +23,8 @@ use automata_base::util::primitives::PatternID;
 use automata_config::error::StepError;
 
 impl Cache {
-    /// The ID of the state after a byte or the end. Dead leads to dead, and quit to quit. A cached transition allocates
-    /// nothing.
+    /// Returns the ID of the state after a byte or the end of the haystack. Dead leads to dead, and quit to quit. If
+    /// the transition is cached, this does not allocate.
     #[inline(always)]
     fn next(
         &mut self,
@@ -92,10 +92,10 @@ impl Cache {
 }
 
 impl DFA {
-    /// The ID of the state after a byte. The given ID has to name a row of the cache and not be the unknown one:
-    /// `Cache::is_valid` and `LazyStateID::is_unknown` are the tests. Dead leads to dead, and quit to quit; a quit byte
-    /// leads to quit. A cached transition allocates nothing. It fails if the state does not fit and the settings allow
-    /// no clear, and if memory runs out; then nothing has changed.
+    /// Returns the ID of the state after a byte. The given ID has to be valid and must not be the unknown one, which
+    /// `Cache::is_valid` and `LazyStateID::is_unknown` test. Dead leads to dead, and quit to quit; from any other state
+    /// a quit byte leads to quit. If the transition is cached, this does not allocate. It fails if the state does not
+    /// fit and the settings do not allow a clear, and if memory runs out; an error changes nothing.
     ///
     /// ```rust
     /// match input.haystack().get(at) {
@@ -120,10 +120,10 @@ impl DFA {
         cache.next(self, id, Some(byte))
     }
 
-    /// The ID of the state after the haystack's end. The given ID has to name a row of the cache and not be the unknown
-    /// one, as for `next_state`. Take this step once, after the last byte: matches are delayed by one byte. Dead leads
-    /// to dead, and quit to quit. A cached transition allocates nothing. It fails if the state does not fit and the
-    /// settings allow no clear, and if memory runs out; then nothing has changed.
+    /// Returns the ID of the state after the end of the haystack. The given ID has to be valid and must not be the
+    /// unknown one, as for `next_state`. Take this step once, after the last byte, since matches are delayed by one
+    /// byte. Dead leads to dead, and quit to quit. If the transition is cached, this does not allocate. It fails if the
+    /// state does not fit and the settings do not allow a clear, and if memory runs out; an error changes nothing.
     pub fn next_eoi_state(
         &self,
         cache: &mut Cache,
@@ -140,11 +140,11 @@ impl DFA {
         cache.next(self, id, None)
     }
 
-    /// The ID of the state after a byte if the transition is cached, and else the unknown ID. It allocates nothing. The
-    /// given ID has to name a row of the cache and have no tag: `Cache::is_valid` and `LazyStateID::is_tagged` are the
-    /// tests.
+    /// Returns the ID of the state after a byte if the transition is cached; otherwise the unknown ID. This does not
+    /// allocate. The given ID has to be valid and must not have a tag, which `Cache::is_valid` and
+    /// `LazyStateID::is_tagged` test.
     ///
-    /// A loop of your own can follow cached transitions with it. If the unknown ID comes, it takes the same step by
+    /// A loop of your own can follow cached transitions with it. If it returns the unknown ID, take the same step with
     /// `next_state`.
     #[inline(always)]
     pub fn next_state_untagged(&self, cache: &Cache, id: LazyStateID, byte: u8) -> LazyStateID
@@ -163,8 +163,8 @@ impl DFA {
         cache.cell_in_row(id, id.untagged() as usize, self.class_of(byte))
     }
 
-    /// How many patterns match at a match state: at least one. The ID has to name a row of the cache and have the match
-    /// tag: `Cache::is_valid` and `LazyStateID::is_match` are the tests. `match_pattern` returns each of them.
+    /// Returns how many patterns match at a match state, which is at least one. The ID has to be valid and have the
+    /// match tag, which `Cache::is_valid` and `LazyStateID::is_match` test. `match_pattern` returns each pattern.
     pub fn match_len(&self, cache: &Cache, id: LazyStateID) -> usize
         requires of { IsCacheOf cache.now self.now }
         requires row { HoldsRow cache.now id }
@@ -176,9 +176,9 @@ impl DFA {
         cache.match_len(id)
     }
 
-    /// A pattern that matches at a match state, as `match_len` asks for it. The index is below `match_len`; the
-    /// patterns stand in the order in which the automaton's paths prefer them, so that index 0 has the one that a
-    /// search reports:
+    /// Returns a pattern that matches at a match state, by its index, which has to be less than `match_len`. The ID has
+    /// to be one that `match_len` accepts. The patterns are in the order in which the automaton's paths prefer them, so
+    /// index 0 is the one that a search reports:
     ///
     /// ```rust
     /// if next.is_match() {

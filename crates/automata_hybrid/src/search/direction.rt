@@ -1,5 +1,5 @@
-//! All in which the directions of a search differ. A place is counted from where the search begins; an offset is one of
-//! the haystack.
+//! Everything in which the directions of a search differ. A place is counted in bytes from where the search begins; an
+//! offset is a position in the haystack.
 ghost use Rattle.std.specs.Prelude.{ℕ, ◌≡◌, ◌+◌, ◌-◌, ◌^◌, ◌<◌, ◌≤◌, Some, true, false, length};
 ghost use Rattle.automata_base.specs.Answers.Answers.{later, offset_in};
 ghost use Rattle.automata_base.specs.Paths.Paths.{next};
@@ -16,7 +16,7 @@ use automata_base::util::search::{Direction, Input};
 use automata_base::util::start;
 use automata_config::error::SearchError;
 
-/// The last place of a search: after the bytes of its span.
+/// Returns the last place of a search, which is after the bytes of its span.
 pub(crate) fn last_place(input: &Input<'_>) -> usize
     requires { input.now.start ≤ input.now.end }
     ensures place { result ≡ input.now.end - input.now.start }
@@ -25,7 +25,7 @@ pub(crate) fn last_place(input: &Input<'_>) -> usize
     input.end() - input.start()
 }
 
-/// The offset of a place.
+/// Returns the offset of a place.
 pub(crate) fn place_offset(input: &Input<'_>, way: Direction, place: usize) -> usize
     requires open { input.now.start ≤ input.now.end }
     requires within { place ≤ input.now.end - input.now.start }
@@ -39,7 +39,7 @@ pub(crate) fn place_offset(input: &Input<'_>, way: Direction, place: usize) -> u
     }
 }
 
-/// The offset of the byte at a place before the last one.
+/// Returns the offset of the byte at a place before the last one.
 pub(crate) fn byte_offset(input: &Input<'_>, way: Direction, place: usize) -> usize
     requires { place < input.now.end - input.now.start }
     ensures unit { result ≡ unit_offset way input.now place }
@@ -53,7 +53,7 @@ pub(crate) fn byte_offset(input: &Input<'_>, way: Direction, place: usize) -> us
     }
 }
 
-/// The byte at a place before the last one.
+/// Returns the byte at a place before the last one.
 pub(crate) fn byte_at(input: &Input<'_>, way: Direction, place: usize) -> u8
     requires { place < input.now.end - input.now.start }
     ensures { next (tape_in way input.now) place ≡ Some result }
@@ -62,7 +62,8 @@ pub(crate) fn byte_at(input: &Input<'_>, way: Direction, place: usize) -> u8
     haystack[byte_offset(input, way, place)]
 }
 
-/// The bytes of the span from a place on, which are read from the front or from the back.
+/// Returns the bytes of the span from a place on. A forward search reads them from the front, a reverse search from the
+/// back.
 #[inline(always)]
 pub(crate) fn bytes_from<'h>(input: &Input<'h>, way: Direction, place: usize) -> &'h [u8]
     requires open { input.now.start ≤ input.now.end }
@@ -79,7 +80,8 @@ pub(crate) fn bytes_from<'h>(input: &Input<'h>, way: Direction, place: usize) ->
     }
 }
 
-/// What is read at a place: a byte of the span or the one after it, or none after the haystack.
+/// Returns the unit at a place: a byte of the span, the byte next to the span at the last place, or `None` if the
+/// haystack ends there.
 pub(crate) fn unit_at(input: &Input<'_>, way: Direction, place: usize) -> Option<u8>
     requires open { input.now.start ≤ input.now.end }
     requires within { place ≤ input.now.end - input.now.start }
@@ -105,7 +107,7 @@ pub(crate) fn unit_at(input: &Input<'_>, way: Direction, place: usize) -> Option
     }
 }
 
-/// The offset of the unit at a place.
+/// Returns the offset of the unit at a place.
 pub(crate) fn unit_offset(input: &Input<'_>, way: Direction, place: usize) -> usize
     requires open { input.now.start ≤ input.now.end }
     requires within { place ≤ input.now.end - input.now.start }
@@ -118,7 +120,7 @@ pub(crate) fn unit_offset(input: &Input<'_>, way: Direction, place: usize) -> us
     }
 }
 
-/// The offset of the unit at a place, or the span's start if the unit is before the span.
+/// Returns the offset of the unit at a place, or the span's start if the unit is before the span.
 pub(crate) fn span_offset(input: &Input<'_>, way: Direction, place: usize) -> usize
     requires open { input.now.start ≤ input.now.end }
     requires within { place ≤ input.now.end - input.now.start }
@@ -132,7 +134,7 @@ pub(crate) fn span_offset(input: &Input<'_>, way: Direction, place: usize) -> us
     }
 }
 
-/// The look-behind byte of a search, which its start state depends on.
+/// Returns the look-behind byte of a search, which its start state depends on.
 #[inline(always)]
 pub(crate) fn byte_behind(input: &Input<'_>, way: Direction) -> Option<u8>
     ensures { result ≡ (tape_in way input.now).before }
@@ -143,7 +145,8 @@ pub(crate) fn byte_behind(input: &Input<'_>, way: Direction) -> Option<u8>
     }
 }
 
-/// How many bytes a run counts that ended at a place: back, the byte after the span is none of them.
+/// Returns how many bytes are counted as searched for a run that ended at a place. In a reverse search the byte before
+/// the span does not count.
 #[inline(always)]
 pub(crate) fn bytes_read(input: &Input<'_>, way: Direction, place: usize) -> usize
     requires within { place ≤ input.now.end - input.now.start }
@@ -159,7 +162,7 @@ pub(crate) fn bytes_read(input: &Input<'_>, way: Direction, place: usize) -> usi
     }
 }
 
-/// Has a search begin one place later, unless no offset is left.
+/// Makes a search begin one place later. Returns false if no offset is left.
 #[inline(always)]
 pub(crate) fn begin_later(input: &mut Input<'_>, way: Direction) -> bool
     requires { input.old.start ≤ input.old.end }
@@ -183,7 +186,7 @@ pub(crate) fn begin_later(input: &mut Input<'_>, way: Direction) -> bool
     }
 }
 
-/// The start state of a search in a direction.
+/// Returns the start state of a search in a direction.
 #[inline(always)]
 pub(crate) fn walk_start(
     dfa: &DFA,

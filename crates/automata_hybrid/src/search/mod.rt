@@ -1,6 +1,6 @@
-//! Searches. Here is what one unit does to the state of a search, and `direction` has all in which the two directions
-//! differ. `plain` has the searches for one end of a match, `walk` overlapping searches, and `pieces` those whose
-//! haystack comes in pieces. `fast` follows cached transitions for all of them.
+//! Searches. This file has the step of a search over one unit, and `direction` has everything in which the two
+//! directions differ. `plain` has the searches for one end of a match, `walk` has overlapping searches, and `pieces`
+//! has those over a haystack that arrives in pieces. `fast` follows cached transitions for all of them.
 ghost use Rattle.std.specs.Prelude.{◌≡◌, slice_index, ◌<◌, Some, None, true, false};
 ghost use Rattle.automata_base.specs.Powersets.Powerset.{Powerset};
 ghost use Rattle.automata_hybrid.specs.Cache.Caches.{IsCacheOf};
@@ -29,7 +29,7 @@ use automata_base::util::primitives::PatternID;
 use automata_base::util::search::{HalfMatch, Input, MatchError};
 use automata_config::error::{SearchError, StepError};
 
-/// The error of a step, at an offset.
+/// Returns the error that a search reports for a step at an offset.
 fn step_error(error: StepError, at: usize) -> SearchError
     ensures { result ≡ step_error error at }
 {
@@ -39,7 +39,7 @@ fn step_error(error: StepError, at: usize) -> SearchError
     }
 }
 
-/// A quit byte, met at an offset.
+/// Returns the error for a quit byte at an offset.
 fn quit(byte: u8, at: usize) -> SearchError
     ensures { result ≡ SearchError.Match (QuitAt byte at) }
 {
@@ -57,8 +57,8 @@ fn splits(input: &Input<'_>, offset: usize) -> bool
 }
 
 impl DFA {
-    /// Whether matches at offsets inside a character are skipped: the NFA is in UTF-8 mode and matches the empty
-    /// string.
+    /// Whether matches at offsets inside a character are skipped, which is so if the NFA is in UTF-8 mode and matches
+    /// the empty string.
     pub fn skips(&self) -> bool
         ensures yes { result ≡ true → Skips self.now }
         ensures no { result ≡ false → Skips self.now → ⊥ }
@@ -71,7 +71,7 @@ impl DFA {
     }
 }
 
-/// Whether a match at an offset is skipped, since the offset is inside a character.
+/// Whether a match at an offset is skipped because the offset is inside a character.
 fn skips_at(dfa: &DFA, input: &Input<'_>, offset: usize) -> bool
     ensures yes { result ≡ true → Skips dfa.now × (is_split input.now.haystack offset ≡ true) }
     ensures no { result ≡ false → Skips dfa.now → is_split input.now.haystack offset ≡ false }
@@ -82,10 +82,10 @@ fn skips_at(dfa: &DFA, input: &Input<'_>, offset: usize) -> bool
     splits(input, offset)
 }
 
-/// The state after a unit, which is the quit state at a quit byte. `cell` was read in the row, so that a step that
-/// is not cached is computed without another look. The search moves to the unit if it is computed. An error is at
-/// this offset.
-// It has no `inline(always)`: each one makes `search` grow, until the compiler drops the mark of that.
+/// Returns the state after a unit, which is the quit state if that is a quit byte. `cell` is the row's cell for the
+/// unit, so that no look-up is repeated. If the transition is not cached, the progress of the search moves to `at` and
+/// the transition is computed; the "gave up" error has the offset `at`.
+// No `inline(always)`: inlining it here makes `search` too large for its own `inline(always)`.
 fn step(
     dfa: &DFA,
     cache: &mut Cache,
@@ -113,8 +113,8 @@ fn step(
     }
 }
 
-/// The state after a unit. `cell` was read in the row. A quit byte ends the search, and is an error at its own
-/// offset.
+/// Returns the state after a unit. `cell` is the row's cell for the unit. A quit byte ends the search with an error at
+/// `quit_at`, the byte's offset.
 #[inline(always)]
 fn read_met(
     dfa: &DFA,
@@ -147,7 +147,7 @@ fn read_met(
     }
 }
 
-/// The ID after a unit: the one that was met, or if none was, what stands in the row.
+/// Returns the ID after a unit: `met`, or the row's cell if `met` is unknown.
 #[inline(always)]
 fn met_or_cell(
     dfa: &DFA,
@@ -167,8 +167,8 @@ fn met_or_cell(
     met
 }
 
-/// The state after a unit. `met` is the next ID if the caller has seen it, and else unknown. A quit byte ends the
-/// search, and is an error at its own offset.
+/// Returns the state after a unit. `met` is the next ID if the caller has read it, and unknown otherwise. A quit byte
+/// ends the search with an error at `quit_at`, the byte's offset.
 #[inline(always)]
 fn read(
     dfa: &DFA,
@@ -189,7 +189,7 @@ fn read(
     read_met(dfa, cache, id, cell, unit, quit_at, at)
 }
 
-/// The first pattern of a match state. An NFA of one pattern needs no look-up.
+/// Returns the first pattern of a match state. If the NFA has only one pattern, this needs no look-up.
 #[inline(always)]
 fn first_pattern(dfa: &DFA, cache: &Cache, id: LazyStateID) -> PatternID
     requires of { IsCacheOf cache.now dfa.now }
@@ -204,7 +204,7 @@ fn first_pattern(dfa: &DFA, cache: &Cache, id: LazyStateID) -> PatternID
     first_of_many(dfa, cache, id)
 }
 
-/// The first pattern of a match state of an NFA of several patterns, looked up in its row.
+/// Looks up the first pattern of a match state in its row, for an NFA with several patterns.
 #[inline(never)]
 fn first_of_many(dfa: &DFA, cache: &Cache, id: LazyStateID) -> PatternID
     requires of { IsCacheOf cache.now dfa.now }
@@ -216,7 +216,7 @@ fn first_of_many(dfa: &DFA, cache: &Cache, id: LazyStateID) -> PatternID
     cache.match_pattern(id, 0)
 }
 
-/// What was found last, once the state of an ID has matched at an offset.
+/// Returns the last match found: a match at `at` if the state of the ID has patterns, otherwise `found`.
 #[inline(always)]
 fn found_at(
     dfa: &DFA,

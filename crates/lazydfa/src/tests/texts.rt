@@ -80,7 +80,7 @@ const NFA_BUILDS: &[(thompson::BuildError, Text)] = &[
 
 #[rattlefmt::skip]
 const REVERSES: &[(ReverseError, Text)] = &[
-    (ReverseError::Starts, "the starts differ in the empty match, so the reversed NFA would have others"),
+    (ReverseError::Starts, "only some of the starts match the empty string, so a reversed NFA would match differently"),
     (ReverseError::TooLarge, "the reversed NFA would be too large"),
     (ReverseError::OutOfMemory, "out of memory"),
 ];

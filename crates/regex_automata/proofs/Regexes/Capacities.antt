@@ -26,7 +26,7 @@ tested u s d b capacity minimum attempted =
     (cond (not s && d) (Some (InsufficientCacheCapacity minimum capacity))
     (cond b (Some (InsufficientStateIDCapacity attempted)) None))
 
--- the error is that of a capacity that is too small
+-- the error is a capacity that is too small
 abbrev IsOfCapacity : Option BuildError → Type 0
 IsOfCapacity e = (minimum given : ℕ) × (e ≡ Some (InsufficientCacheCapacity minimum given))
 
@@ -46,7 +46,7 @@ small_of :
     → tested u s d b capacity minimum attempted ≡ Some (InsufficientCacheCapacity minimum capacity)
 small_of u s d b c m n fine kept small = rw (fine, kept, small) refl
 
--- if each minimum that was named is within a greater capacity, the settings do not fail for that one
+-- if each minimum that was named is within a greater capacity, the settings do not fail for that capacity
 module _ (u s b : Bool) (capacity greater minimum attempted : ℕ) (grows : capacity ≤ greater) where
   within :
       ((a g : ℕ) → tested u s (ltb capacity minimum) b capacity minimum attempted ≡ Some (InsufficientCacheCapacity a g)
@@ -62,7 +62,7 @@ module _ (u s b : Bool) (capacity greater minimum attempted : ℕ) (grows : capa
       in
       omega (arith, below, most)
 
--- what an error of two says of each
+-- if two DFAs fail together for their capacity, one of them does
 either_of : (e f : Option BuildError) → IsOfCapacity (error_of_two e f) → IsOfCapacity e ⊎ IsOfCapacity f
 either_of None f of = inr of
 either_of (Some (InsufficientCacheCapacity m g)) f of = inl (m, g, refl)
@@ -123,7 +123,7 @@ module _ (u v s b d : Bool) (m n i j capacity minimum given : ℕ)
   enough : IsOfCapacity (error_of_two (tested_at u s b m i minimum) (tested_at v s d n j minimum)) → ⊥
   enough of = enough_by (either_of (tested_at u s b m i minimum) (tested_at v s d n j minimum) of)
 
--- the errors of settings are of this form, also with another capacity
+-- the errors of settings have this form, also with another capacity
 abbrev settings_error : Options → Automaton → (capacity : ℕ) → Option BuildError
 settings_error o a capacity =
     tested_at (is_unsupported o a) (skip_cache_capacity_check_of o) (ltb max_offset (greatest_offset o a))
@@ -170,7 +170,7 @@ enough_of o a b e is minimum given named m g again =
     (subst (λ x. cond (pattern_count a == pattern_count b) x (Some (PatternCounts (pattern_count a) (pattern_count b)))
     ≡ Some (InsufficientCacheCapacity m g)) (two_with o a b minimum) again)
 
--- what is returned, if there are equally many patterns
+-- what is returned, if the numbers of patterns are equal
 pub enough_with :
     (o : Options) (a b : Automaton) (r : Result Regex BuildError)
     → pattern_count a ≡ pattern_count b → result_err r ≡ error_of_both o a b → IfErr r (NamesEnough o a b)

@@ -1,4 +1,4 @@
--- A regex of an NFA that passes the tests and of the reversed one is a sound pair.
+-- A regex that is built from an NFA that passes the tests, and from its reversal, is a sound pair.
 use Rattle.std.proofs.Common.{◌≡◌, ◌∙◌, Bool, Some, ap, sym, subst}
 use Rattle.std.specs.Prelude.{◌==◌, if◌then◌else◌}
 use Rattle.automata_base.specs.declared.util.search.MatchKind.{MatchKind}
@@ -40,7 +40,7 @@ module _ (o : Options) (a b : Automaton) (p : Regex) (built : BuildsPair o a b p
         (utf8 (match_kind_of o));
   }
 
--- what was tested of an NFA is true of the one that keeps unions
+-- what the tests say of an NFA holds for the NFA that keeps unions
 module _ (o : Options) (a kept b : Automaton) (keeping : IsKeepingUnions a kept) where
   pub sound_of :
       (p : Regex) → BuildsPair o kept b p

@@ -1,4 +1,4 @@
--- What calls return whatever the cache, from their clauses.
+-- What calls return, whatever the cache, from their clauses.
 use Rattle.std.proofs.Common.{◌≡◌, ◌<◌, ◌≤◌, Option, None, Result, Ok, Err, IfErr, IfOk, Bool, true, false, inl, inr}
 use Rattle.std.proofs.Common.{IfSome, ap, subst, sym, ◌∙◌, Some, List, slice_get}
 use Rattle.std.specs.Result.{result_err}
@@ -26,7 +26,7 @@ use Rattle.regex_automata.specs.declared.hybrid.regex.Regex.{Regex}
 use Rattle.regex_automata.specs.declared.hybrid.regex.caches.Cache.{Cache}
 use Rattle.automata_config.specs.Options.{minimum_cache_clear_count_of}
 
--- caches of the current regex, and what they know
+-- caches of the current regex, and what they know, are caches of the history's current regex
 pub of_current :
     (regexes : List Regex) (h : History) (c : Cache) (p : Regex)
     → slice_get regexes h.current ≡ Some p → AreCachesOf c p → AreKnown p c → AreOfCurrent regexes h c

@@ -1,4 +1,4 @@
--- The walks that a replay keeps, beside those of the history.
+-- The walks that a replay keeps, and those of the history.
 use Rattle.std.proofs.Common.{◌≡◌, ℕ, zero, suc, ◌≤◌, List, [], ◌∷◌, ◌++◌, length, refl, sym, ◌∙◌, ap}
 use Rattle.std.proofs.Common.{arith, subst, Some, None}
 use Rattle.std.proofs.Math.ListN.{set}
@@ -13,7 +13,7 @@ pub same_at : (ks : List KeptWalk) (n : ℕ) (j k : KeptWalk) → slice_get ks n
 same_at ks n j k at_j at_k = some_inj (sym at_j ∙ at_k)
 
 module _ (rs : List Regex) where
-  -- one more
+  -- one more walk
   pub walks_push :
       (ws : List Begun) (ks : List KeptWalk) (w : Begun) (k : KeptWalk)
       → AreWalks rs ws ks → IsWalk rs w k → AreWalks rs (ws ++ w ∷ []) (ks ++ k ∷ [])
@@ -28,7 +28,7 @@ module _ (rs : List Regex) where
   length-walks (v ∷ ws) [] all = absurd all
   length-walks (v ∷ ws) (j ∷ ks) all = ap suc (length-walks ws ks all.1)
 
-  -- after the last there is none
+  -- after the last walk there is none
   pub no_walk :
       (ws : List Begun) (ks : List KeptWalk) (n : ℕ) → AreWalks rs ws ks → length ks ≤ n → slice_get ws n ≡ None
   no_walk [] ks n all le = refl
@@ -36,7 +36,7 @@ module _ (rs : List Regex) where
   no_walk (v ∷ ws) (j ∷ ks) zero all le = absurd (omega arith)
   no_walk (v ∷ ws) (j ∷ ks) (suc n) all le = no_walk ws ks n all.1 (omega arith)
 
-  -- the walk that is kept under a number
+  -- the walk that is kept with a number
   pub walk_at :
       (ws : List Begun) (ks : List KeptWalk) (n : ℕ) (k : KeptWalk)
       → AreWalks rs ws ks → slice_get ks n ≡ Some k → (w : Begun) × (slice_get ws n ≡ Some w) × IsWalk rs w k
@@ -57,7 +57,7 @@ module _ (rs : List Regex) where
       (subst (λ x. IsWalk rs (stepped x) k) (sym (some_inj at)) one, all.1)
   walks_step (v ∷ ws) (j ∷ ks) (suc n) w k all at one = (all.0, walks_step ws ks n w k all.1 at one)
 
-  -- or none
+  -- a walk that reported no further pair
   pub walks_same :
       (ws : List Begun) (ks : List KeptWalk) (n : ℕ) (w : Begun) (k : KeptWalk)
       → AreWalks rs ws ks → slice_get ws n ≡ Some w → IsWalk rs w k → AreWalks rs ws (set ks n k)

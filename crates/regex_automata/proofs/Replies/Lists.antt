@@ -13,7 +13,7 @@ use Rattle.regex_automata.specs.declared.replay.requests.Reply.TheVariants as re
 use Rattle.regex_automata.specs.declared.replay.requests.Fault.TheVariants as fault
 
 module _ (regexes : List Regex) (script : List Request) where
-  -- the replies that are left, after this history, complete the replies so far
+  -- the remaining replies, after this history, complete the replies so far
   abbrev pub Completes : List Reply → History → List Request → Type 0
   Completes done h left =
       (rest : List Reply) → AreRepliesAfter regexes h left rest → AreReplies regexes script (done ++ rest)
@@ -37,7 +37,7 @@ module _ (regexes : List Regex) (script : List Request) where
       (completes_next done h q (drop (i + 1) script) r
       (subst (λ (left : List Request). Completes done h left) cut all) own)
 
-  -- and the last
+  -- after the last request the replies are complete
   pub completes_end :
       (done : List Reply) (h : History) (i : ℕ)
       → length script ≤ i → Completes done h (drop i script) → AreReplies regexes script done
@@ -45,7 +45,7 @@ module _ (regexes : List Regex) (script : List Request) where
       let ended = subst (λ (left : List Request). Completes done h left) (drop_of_length-le script le) all in
       subst (λ (xs : List Reply). AreReplies regexes script xs) (append-nil done) (ended [] tt)
 
--- the caches over which what is left is answered continue those of the replies so far
+-- the caches over which the remaining requests are answered continue the caches of the replies so far
 module _ (regexes : List Regex) (script : List Request) (first : Cache) where
   abbrev pub Continues : List Reply → History → Cache → List Request → Type 0
   Continues done h at left =
@@ -78,7 +78,7 @@ cut_at (q ∷ qs) zero lt = (q, refl)
 cut_at (q ∷ qs) (suc i) lt = let (r, e) = cut_at qs i (omega arith) in (r, e)
 
 module _ (script : List Request) where
-  -- with no regex, the replies that are left, after any history, complete the replies so far
+  -- without a regex, the remaining replies, after any history, complete the replies so far
   abbrev pub AllBad : List Reply → List Request → Type 0
   AllBad done left =
       (rest : List Reply) → ((h : History) → AreRepliesAfter [] h left rest)

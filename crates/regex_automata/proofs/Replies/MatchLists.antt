@@ -40,7 +40,7 @@ pub same_error :
     → ◌≡◌ {A = Option SearchError} (Some e) (Some f)
 same_error h = cc
 
--- if nothing prevents a search, nothing prevents one from a later place
+-- if nothing prevents a search, nothing prevents one that starts later
 free_from : (p : Regex) (input : Input) (start : ℕ) → input.start ≤ start → IsFree p input → IsFree p (from start input)
 free_from p input start le free = record {
   forward = λ at byte l. free.forward at byte (omega (arith, le, l));

@@ -1,4 +1,4 @@
--- The list of the patterns of a set, and what walks say of it.
+-- The list of the patterns of a set, and what walks report.
 use Rattle.std.proofs.Common.{◌≡◌, ◌∙◌, ◌<◌, ◌≤◌, ◌⊎◌, ℕ, zero, suc, Bool, true, false, List, [], ◌∷◌, Option, Some}
 use Rattle.std.proofs.Common.{None}
 use Rattle.std.proofs.Common.{Result, Ok, Err, IfErr, OnOk, IfSome, arith, inl, inr, length, refl, subst, sym, ap}
@@ -24,7 +24,7 @@ use Rattle.automata_base.proofs.Paths.Orders.{some_none}
 use Rattle.regex_automata.specs.Spans.Contracts.{AreRising, ArePatternsUpto, HasReportedSet, empty_set}
 use Rattle.std.proofs.lemmas.Bool.{cases_lt}
 
--- what rises from a number rises from a lower one
+-- a list that rises from a number rises from a lower one
 rising_from : (low k : ℕ) (ks : List ℕ) → low ≤ k → AreRising k ks → AreRising low ks
 rising_from low k [] le all = tt
 rising_from low k (j ∷ ks) le all = let at = all.0 in (omega arith, all.1)
@@ -49,7 +49,7 @@ patterns_reported P input capacity old new found fresh none is reported =
     (subst (λ n. ArePatterns P input n (members old) (members new)) (ap length fresh ∙ length-replicate capacity false)
     reported))
 
--- the same of a call that may have failed
+-- if a call returned no error, what holds of an Ok result holds
 pub reported_where :
     {E : Type 0} (r : Result (Unit {0}) E) (P : Type 0) → OnOk r P → result_err r ≡ None → P
 reported_where (Ok x) P h none = h
@@ -59,14 +59,14 @@ pub memory_where : (r : Result (Unit {0}) SearchError) → IfErr r IsMemory → 
 memory_where (Ok x) h = h
 memory_where (Err e) h = h
 
--- what holds below a number and at it
+-- a property that holds below a number and at it holds up to it
 up_to : (P : ℕ → Type 0) (n : ℕ) → ((k : ℕ) → k < n → P k) → P n → (k : ℕ) → k < suc n → P k
 up_to P n below here k l = go (cases_lt k n) where
   go : (k < n) ⊎ (n ≤ k) → P k
   go (inl less) = below k less
   go (inr most) = let same : n ≡ k = omega (arith, l, most) in subst P same here
 
--- the calls that the walk of a set has made, one after another, have reported as many pairs, each if the set went on
+-- the calls that the walk of a set has made have reported as many pairs, each while the set could take more
 called_reported :
     (m : Machine) (input : Input) (set : List Bool) (calls : ℕ) (old : Known) (walk : Walk) (new : Known)
     → HaveCalled m input set old calls walk new
@@ -85,7 +85,7 @@ reported_set m input set old new s =
     let reported = called_reported m input set s.calls old s.walk new s.called in
     record { calls = s.calls; walk = s.walk; reported = reported.0; on = reported.1; last = s.last }
 
--- the run of one that returned no error
+-- the run of a search for a set that returned no error
 pub run_ended :
     (m : Machine) (input : Input) (set joined : List Bool) (old new : Known) (error : Option SearchError) → error ≡ None
     → IsSetRun m input set joined old new error → SetEnds m input set old new

@@ -1,4 +1,4 @@
--- Calls of a walk, by how many have answered before.
+-- Calls of a walk, by the number of previous calls that returned Ok.
 use Rattle.std.proofs.Common.{◌≡◌, ◌∙◌, ◌+◌, ◌<◌, ◌≤◌, ℕ, suc, false, List, length, Option, None, Ok, Err, IfSome}
 use Rattle.std.proofs.Common.{add-one, ap, arith}
 use Rattle.std.proofs.Common.{refl, subst, sym}
@@ -40,7 +40,7 @@ still_fresh way m input Ended units reported k h u =
     ]
 
 module _ (way : Direction) (m : Machine) (input : Input) (old : Walk) (k : ℕ) (h : HasAnswered way m input old k) where
-  -- one that answers
+  -- a call that returns Ok
   pub step_answers :
       (new : Walk) (found : Option HalfMatch) → found ≡ new.found → ReportsNext way m input old new
       → (KeepsCycles (nfa_of m.nfa) → (j : ℕ) (pairs : List Pair) → HasReported way m input old j
@@ -57,7 +57,7 @@ module _ (way : Direction) (m : Machine) (input : Input) (old : Walk) (k : ℕ) 
     free = λ f. tt;
   }
 
-  -- and what it leaves
+  -- the walk after a call that returned Ok
   pub answered :
       (new : Walk) → ReportsNext way m input old new → (new.stage ≡ Ended → new.found ≡ None)
       → HasAnswered way m input new (k + 1)
@@ -72,7 +72,7 @@ module _ (way : Direction) (m : Machine) (input : Input) (old : Walk) (k : ℕ) 
           let none : half_nth pairs k ≡ None = sym ((reports k h.reported).1 pairs all).0 ∙ unmatched over in
           let few : length pairs ≤ k = half_none pairs k none in omega arith
 
-  -- one that fails
+  -- a call that fails
   pub step_refused :
       (e : SearchError)
       → (old.stage ≡ Ended → ⊥)
@@ -89,7 +89,7 @@ module _ (way : Direction) (m : Machine) (input : Input) (old : Walk) (k : ℕ) 
     free = free;
   }
 
-  -- leaves the walk as it was
+  -- a call that fails leaves the walk unchanged
   pub stayed : (new : Walk) → new ≡ without_match old → HasAnswered way m input new k
   stayed new is =
       subst (λ (w : Walk). HasAnswered way m input w k) (sym is) (record { reported = h.reported; ended = h.ended })

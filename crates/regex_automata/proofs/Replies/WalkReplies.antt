@@ -1,4 +1,4 @@
--- A step of a walk, by what is kept of it and by the history.
+-- A step of a walk, by the kept walk and by the history.
 use Rattle.std.proofs.Common.{◌≡◌, ℕ, ◌+◌, ◌≤◌, List, length, Option, Some, None, Result, Ok, Err, Bool}
 use Rattle.std.proofs.Common.{eq-eqb, if◌then◌else◌, sym, subst, ap, refl, ◌∙◌}
 use Rattle.std.proofs.Math.ListN.{set}
@@ -26,7 +26,7 @@ use Rattle.regex_automata.specs.declared.replay.walks.KeptWalk.{KeptWalk}
 use Rattle.regex_automata.proofs.Replies.Histories.{is_own, is_bad}
 use Rattle.regex_automata.proofs.Replies.KeptWalks.{no_walk, walk_at, same_at, walks_step, walks_same}
 
--- the walk that is kept under a number belongs to the player's regex
+-- the walk that is kept with a number belongs to the player's regex
 of_current : (h : History) (s : Player) (w : Begun) (k : KeptWalk)
     → HasPlayed h s → IsWalk s.regexes.now w k → k.regex ≡ s.current
     → slice_get s.regexes.now w.regex ≡ Some s.regex.now
@@ -40,7 +40,7 @@ reported_there h s n k a is e =
     let (w, at, walk) = walk_at s.regexes.now h.walks s.walks.items n k a.walks is in
     (w.reported, walk.reported s.regex.now (of_current h s w k a walk e))
 
--- the same under another view of the list
+-- the walk with a number has answered some calls, also if the list is given by an equal one
 pub reported_at : (h : History) (s : Player) (n : ℕ) (k old : KeptWalk) (ks : List KeptWalk) → ks ≡ s.walks.items
     → HasPlayed h s → slice_get s.walks.items n ≡ Some k → k.regex ≡ s.current → slice_get ks n ≡ Some old
     → (j : ℕ) × HasAnsweredBy s.regex.now old j
@@ -72,7 +72,7 @@ other_reply h s n k a is ne =
     is_bad s.regexes.now h (request.StepWalk n) (reply.Bad fault.OtherRegex) s.regex.now fault.OtherRegex a.regex
     (ap (walk_fault h.current) at ∙ other_regex h.current w (λ e. ne (walk.regex ∙ e ∙ sym a.current))) refl
 
--- by the walk of the history
+-- what the step of a walk of the history returns
 begun_step : (rs : List Regex) (r : Regex) (w : Begun) (k : KeptWalk) (result : Result (Option HalfMatch) SearchError)
     → IsWalk rs w k → IsStepFrom r k w.reported result → IsStepOf r (Some w) result
 begun_step rs r w k result walk h =
@@ -91,7 +91,7 @@ step_reply h s n k result a is e returned =
     (begun_step s.regexes.now s.regex.now w k result walk
     (returned w.reported (walk.reported s.regex.now (of_current h s w k a walk e)))))
 
--- what it does to the caches
+-- what the step of a walk of the history does to the caches
 begun_made :
     (rs : List Regex) (r : Regex) (w : Begun) (k : KeptWalk) (old new : Cache)
     (result : Result (Option HalfMatch) SearchError)
@@ -153,7 +153,7 @@ walks_after rs r h ks n w old new (Ok found) all at of is g =
 walks_after rs r h ks n w old new (Err error) all at of is g =
     walks_same rs h.walks ks n w new all at (stays rs r w old new error of is g)
 
--- the rest stays
+-- a step leaves the current regex unchanged
 current_after :
     (h : History) (n : ℕ) (result : Result (Option HalfMatch) SearchError)
     → (after_step h n (reply.Half result)).current ≡ h.current

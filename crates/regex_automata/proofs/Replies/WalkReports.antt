@@ -26,12 +26,12 @@ use Rattle.automata_base.proofs.Paths.Orders.{none_some, some_inj, some_none}
 half_bad : {result : Result (Option HalfMatch) SearchError} {why : Fault} → reply.Half result ≡ reply.Bad why → ⊥
 half_bad e = cc
 
--- how many steps of a walk have answered Ok; none, if it is not begun
+-- how many steps of a walk have returned Ok; 0 if it has not begun
 abbrev reported_of : Option Begun → ℕ
 reported_of None = 0
 reported_of (Some w) = w.reported
 
--- one walk at two times
+-- the same walk at two times
 abbrev Same : Begun → Begun → Type 0
 Same v w = (v.regex ≡ w.regex) × (v.way ≡ w.way) × (v.input ≡ w.input)
 
@@ -45,7 +45,7 @@ becomes_itself (Some v) w e =
     let i = some_inj e in
     (ap (λ (x : Begun). x.regex) i, ap (λ (x : Begun). x.way) i, ap (λ (x : Begun). x.input) i)
 
--- a walk that is begun has reported nothing, and the others stay
+-- a walk that is begun has reported nothing, and the other walks are unchanged
 push_other :
     (ws : List Begun) (new : Begun) (k : ℕ) (v : Begun) → slice_get ws k ≡ Some v
     → slice_get (ws ++ new ∷ []) k ≡ Some v
@@ -78,7 +78,7 @@ step_other (x ∷ ws) zero (suc k) ne = refl
 step_other (x ∷ ws) (suc j) zero ne = refl
 step_other (x ∷ ws) (suc j) (suc k) ne = step_other ws j k (λ e. ne (ap suc e))
 
--- an Ok reply to a step: its walk exists and belongs to the current regex
+-- for an Ok reply to a step, its walk exists and belongs to the current regex
 by_regex :
     (ws : List Begun) (k : ℕ) (b : Bool) (r : Option Regex) (found : Option HalfMatch)
     → MatchOption (if b then None else Some fault.OtherRegex)
@@ -116,7 +116,7 @@ module _
     (rs : List Regex) (k : ℕ) (w : Begun) (r : Regex) (of : slice_get rs w.regex ≡ Some r) (pairs : List Pair)
     (names : (reported : ℕ) (found : Option HalfMatch) → IsStep w.way (dfa_in w.way r) w.input reported (Ok found)
     → found ≡ half_nth pairs reported) where
-  -- what is reported of a walk from where it stands now, which is the walk `w` at the end
+  -- what is reported of a walk from its current state on; at the end it is the walk `w`
   abbrev Reports : Option Begun → List (Option HalfMatch) → Type 0
   Reports now steps = AreReportedFrom (reported_of now) pairs steps × Becomes now w
 
@@ -162,7 +162,7 @@ module _
   over_step h j found steps false e own more =
       subst (λ (o : Option Begun). Reports o steps) (step_other h.walks j k (eqb-false j k e)) more
 
-  -- back over one request
+  -- what is reported before a request, by what is reported after it
   over_begins :
       (h : History) (way : Direction) (input : Input) (a : Reply) (steps : List (Option HalfMatch))
       → Reports (slice_get (after h (request.BeginWalk way input) a).walks k) steps
@@ -222,7 +222,7 @@ module _
   over_request h (request.Tokenise i) a steps own more = more
   over_request h (request.Which c i) a steps own more = more
 
-  -- and over a script
+  -- what is reported over a script
   reports :
       (h : History) (qs : List Request) (answers : List Reply)
       → AreRepliesAfter rs h qs answers → slice_get (history h qs answers).walks k ≡ Some w

@@ -78,7 +78,7 @@ module _ (one : ReportedIsOne) where
           (subst (λ (a : Automaton). IsReported Forward a (match_kind_of other.config) (in_full input) g.0) (sym nfa)
           g.1)
 
-  -- by what the forward search found it is known whether there is a match
+  -- what the forward search found decides whether there is a match
   front_truth :
       (m : Machine) (input : Input) (truth : Bool) (o : Option Half) → (input.earliest ≡ false) ⊎ (Skips m → ⊥)
       → IsMatchReported m input truth → IsFound Forward m input o → truth ≡ is_some o

@@ -31,7 +31,7 @@ use Rattle.automata_hybrid.proofs.Known.Memory.{search_memory}
 use Rattle.regex_automata.proofs.Spans.Quits.{back_free, never_pair}
 use Rattle.automata_config.specs.Options.{match_kind_of}
 
--- over NFAs that keep their cycles
+-- if the NFAs keep their cycles
 module _ (p : Regex) (front : ReportedIsRight p.forward.nfa) where
   front_right :
       (input : Input) (o : Option Half) → KeepsCycles (nfa_of p.forward.nfa) → IsInput input
@@ -61,7 +61,7 @@ module _ (p : Regex) (front : ReportedIsRight p.forward.nfa) where
       (found_reported Backward p.reverse (back input half) o b))
       outcome f
 
-  -- and over a sound pair
+  -- over a sound pair
   module _ (ends : ReportedEndsAreRight p.reverse.nfa) (starts : StartsAreRight) (sound : IsSoundPair p) (input : Input)
       (given : IsInput input) where
     outcome_far :
@@ -132,7 +132,7 @@ module _ (p : Regex) (front : ReportedIsRight p.forward.nfa) where
             not_quit : ◌≡◌ {A = SearchError} (search.Match (QuitAt byte at)) search.NotAPair → ⊥
             not_quit h = cc
 
--- if nothing prevents an answer, the error is out of memory, or that the two are no pair
+-- if nothing prevents an answer, the error is out of memory or `NotAPair`
 pub free_of :
     (p : Regex) (old new : Cache) (input : Input) (e : SearchError)
     → input.end ≤ length input.haystack → HasReason p old new input e → IsFree p input → IsOfMemory e

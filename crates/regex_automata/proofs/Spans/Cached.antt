@@ -1,4 +1,4 @@
--- What is cached from item to item.
+-- What is cached from one item to the next.
 use Rattle.std.proofs.Common.{ℕ, ◌≡◌, ◌∙◌, Option, Some, None, refl, sym, ap, subst}
 use Rattle.automata_base.specs.Answers.Answers.{Half}
 use Rattle.automata_base.specs.Haystacks.Input.{Input}
@@ -40,7 +40,7 @@ still_twice a b c f g = (
   still_trans (known_of a.reverse) (known_of b.reverse) (known_of c.reverse) f.1 g.1,
 )
 
--- if two searches cleared nothing together, neither did
+-- if nothing was cleared over two searches, nothing was cleared in either
 module _ (p : Regex) (a b c : Cache) (f : AreGrown p a b) (g : AreGrown p b c) (n : NothingCleared a c) where
   pub cleared_first : NothingCleared a b
   cleared_first = (
@@ -65,7 +65,7 @@ both_stays p front rear a b input grown nothing knows = (
       (knows.1 half found long),
 )
 
--- a search that finds no empty match at the last end is the only one
+-- if a search finds no empty match at the last end, there is no second search
 module _ (agree : MatchesAgree) (p : Regex) (input : Input) (last : Option ℕ) where
   stands :
       (o : Option Match) → FindsMatch p input o → ((m : Match) → o ≡ Some m → IsEmptyAt last m → ⊥)
@@ -81,7 +81,7 @@ module _ (agree : MatchesAgree) (p : Regex) (input : Input) (last : Option ℕ) 
   stands_some m found full =
       stands (Some m) found (λ n e empty. full (subst (λ (v : Match). IsEmptyAt last v) (sym (some_inj e)) empty))
 
--- what it left cached
+-- what a search without a second one leaves cached
 pub alone :
     (p : Regex) (input : Input) (last : Option ℕ) (c : Cache) → KnowsBoth p c input → (FindsEmptyAt p input last → ⊥)
     → KnowsNext p c input last

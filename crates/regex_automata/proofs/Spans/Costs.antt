@@ -1,4 +1,4 @@
--- What the search back finds, and what is cached for it.
+-- What the reverse search finds, and what is cached for it.
 use Rattle.std.specs.Prelude.{IfSome}
 use Rattle.std.proofs.Common.{ℕ, ◌≡◌, ◌∙◌, ◌≤◌, length, Option, Some, None, refl, sym, ap, subst, arith}
 use Rattle.std.specs.Option.{option_map}
@@ -20,14 +20,14 @@ use Rattle.regex_automata.specs.declared.hybrid.regex.Regex.{Regex}
 use Rattle.regex_automata.specs.declared.hybrid.regex.caches.Cache.{Cache}
 use Rattle.automata_base.proofs.Paths.Orders.{none_some, some_inj, some_none}
 
--- nothing is in reach of the search back that was not in reach before
+-- the reverse search reaches no quit byte that was not in reach before
 pub back_reach :
     (m : Machine) (input : Input) (half : Half) → input.start ≤ half.base → half.offset ≤ input.end
     → NoQuitInReach m input → NoQuitInReach m (back input half)
 back_reach m input half from within reach =
     λ at byte s e n. reach at byte (omega (arith, from, s)) (omega (arith, within, e)) n
 
--- what the search back found, as a half match with its base
+-- what the reverse search found, as a half match with its base
 pub back_some :
     (m : Machine) (rest : Input) (o : Option HalfMatch) (found : HalfMatch) → WithoutBase (IsFound Backward m rest) o
     → o ≡ Some found
@@ -41,7 +41,7 @@ pub back_none :
 back_none m rest o (None, f, e) is = f
 back_none m rest o (Some half, f, e) is = absurd (none_some (sym is ∙ e))
 
--- it lies between the two
+-- the start that the reverse search found lies between the base and the end
 pub back_within :
     (m : Machine) (input : Input) (half found : Half) → half.offset ≤ input.end → input.end ≤ length input.haystack
     → IsFound Backward m (back input half) (Some found) → (half.base ≤ found.offset) × (found.offset ≤ half.offset)
@@ -91,14 +91,14 @@ front_none m input o f is =
     subst (λ (v : Option (HalfMatch × ℕ)). IsFound Forward m input
     (option_map (λ (p : HalfMatch × ℕ). with_base p.0 p.1) v)) is f
 
--- a start that was found lies between the two
+-- a start that was found lies between the base and the end
 pub start_within :
     (base end : ℕ) (o : Option ℕ) (start : ℕ) → IfSome o (λ s. (base ≤ s) × (s ≤ end)) → o ≡ Some start → (base ≤ start)
     × (start ≤ end)
 start_within base end None start w is = absurd (none_some is)
 start_within base end (Some s) start w is = subst (λ n. (base ≤ n) × (n ≤ end)) (some_inj is) w
 
--- the match of what both searches found
+-- the match that both searches found
 abbrev match_at : (pattern start end : ℕ) → Match
 match_at pattern start end = record { pattern = pattern; start = start; end = end }
 

@@ -1,4 +1,4 @@
--- What the searches for the items of a list do to the caches, one after another.
+-- The effect of the searches for the items of a list on the caches, one after another.
 use Rattle.std.proofs.Common.{ℕ, ◌≡◌, ◌∙◌, Bool, false, List, [], ◌∷◌, ◌++◌, append_assoc, append-nil, Option, Some}
 use Rattle.std.proofs.Common.{None, refl, sym, subst}
 use Rattle.std.specs.Prelude.{Result, Ok}
@@ -16,7 +16,7 @@ use Rattle.regex_automata.specs.declared.hybrid.regex.caches.Cache.{Cache}
 use Rattle.regex_automata.specs.declared.tokens.error.TokenError.{TokenError}
 use Rattle.regex_automata.specs.declared.tokens.token.Token.{Token}
 
--- what an item makes of the caches, by the regex that the loop was given
+-- the effect of an item on the caches, by the regex that the loop was given
 pub run_turn :
     (p q : Regex) (now : Input) (last : Option ℕ) (ended : Bool) (at next : Cache)
     (item : Option (Result Match SearchError))
@@ -25,7 +25,7 @@ run_turn p q now last ended at next item regex going run =
     subst (λ (r : Regex). IsItemRun r now last false at next item) regex
     (subst (λ b. IsItemRun p now last b at next item) going run)
 
--- the searches after the matches so far complete those of the list
+-- the remaining searches complete those for the matches so far
 abbrev pub Searches :
     Regex → (first : Cache) → Input → List Match → (at : Cache) → (now : Input) → (last : Option ℕ) → Type 0
 Searches p first input found at now last =
@@ -59,7 +59,7 @@ searches_end p first at new final input now last found list error all ends items
     (subst (λ (xs : List Match). AreSearched p first new input None xs error) (append-nil found ∙ sym items)
     (all new [] error ends))
 
--- the same of tokens
+-- the remaining searches for tokens complete those for the tokens so far
 abbrev pub TokensSearch :
     Machine → List ℕ → (end start : ℕ) → (first : Cache) → List Match → (at : Cache) → (place : ℕ) → Type 0
 TokensSearch m h end start first found at place =
@@ -103,7 +103,7 @@ tokens_end m h end start first at new found list place error all ends items =
     subst (λ (xs : List Match). AreTokensSearched m h end start first new xs error) (append-nil found ∙ sym items)
     (all new [] error ends)
 
--- over the caches as they are left
+-- the searches for tokens, up to the final caches
 pub tokens_left :
     (m : Machine) (h : List ℕ) (end start : ℕ) (first new final : Cache) (list : List Match) (error : Option TokenError)
     → new ≡ final → AreTokensSearched m h end start first new list error

@@ -35,7 +35,7 @@ module _ (p : Regex) where
         (omega (arith, low.0, w.0, s), omega (arith, w.1, s, f.end), omega (arith, high, f.end))
 
   module _ (input : Input) (few : input.end ≤ length input.haystack) where
-    -- the search after the first ones begins no earlier
+    -- the search after the first matches begins no earlier
     pub comes_on :
         (start : ℕ) (last : Option ℕ) (ms : List Match) (at : ℕ) (before : Option ℕ)
         → ComesTo (FindsMatch p) input start last ms at before → start ≤ at

@@ -1,4 +1,4 @@
--- What follows of the runs of searches over two lazy DFAs.
+-- Consequences of the runs of searches over two lazy DFAs.
 use Rattle.std.proofs.Common.{ℕ, suc, ◌≡◌, ◌∙◌, ◌+◌, ◌≤◌, ◌<◌, ◌⊎◌, inl, inr, Option, Some, None, refl, sym, ap, subst}
 use Rattle.std.proofs.Common.{arith}
 use Rattle.std.specs.Prelude.{IfSome}
@@ -39,14 +39,14 @@ use Rattle.regex_automata.proofs.Spans.Costs.{knows_both, knows_front}
 use Rattle.regex_automata.proofs.Spans.ByPaths.{refusals}
 use Rattle.regex_automata.proofs.Spans.NextMatches.{grown_twice}
 
--- another property of an error that may be there
+-- a weaker property of an optional error
 weaker :
     {P Q : SearchError → Type 0} (error : Option SearchError) → ((e : SearchError) → P e → Q e) → IfSome error P
     → IfSome error Q
 weaker None f h = tt
 weaker (Some e) f h = f e h
 
--- what follows of the search back from a forward answer
+-- consequences of the reverse search from a forward answer
 record BackFollows (p : Regex) (input : Input) (half : Half) (old new : CacheView) (error : Option SearchError) : Type
     0 where
   -- it is one pass from the answer's end to its base
@@ -82,7 +82,7 @@ back_follows p law input half old new error is found (Made long run) = record {
   f : SearchFollows Backward p.reverse (back input half) (known_of old) (known_of new) error
   f = law Backward (back input half) (known_of old) (known_of new) error is run
 
--- why it fails
+-- why the reverse search fails
 back_refused :
     (p : Regex) (input : Input) (half : Half) (old new : CacheView) (error : Option SearchError)
     → IsBackRun p input half old new error → IfSome error (IsBackError p (known_of old) (known_of new) input half)
@@ -91,7 +91,7 @@ back_refused p input half old new error (NotMade short same none) =
 back_refused p input half old new None (Made long run) = tt
 back_refused p input half old new (Some e) (Made long run) = (long, run)
 
--- the error after a search back
+-- the error after a reverse search
 of_both :
     (p : Regex) (input : Input) (half : Half) (failed error : Option SearchError) (P : SearchError → Type 0)
     → (IsStartFound p input half None → P search.NotAPair) → IfSome failed P → IsErrorOfBoth p input half failed error
@@ -107,7 +107,7 @@ ends_both :
 ends_both p input half failed error (IsItsOwn same) ok = sym same ∙ ok
 ends_both p input half failed error (FindsNoStart ends none is) ok = ends
 
--- in a span that is done nothing is found
+-- over a span that is done nothing is found
 none_past :
     (m : Machine) (input : Input) (half : Half) → IsFound Forward m input (Some half) → input.end < input.start → ⊥
 none_past m input half found past =
@@ -132,7 +132,7 @@ span_refused p input old new error (inr b) =
     (back_refused p input b.half old.reverse new.reverse b.failed b.back))
     b.told
 
--- what follows by what follows of the searches of each DFA
+-- consequences of a search for a span, by the consequences of the searches of each DFA
 module _ (agree : AnswersAgree) (p : Regex) (front : SearchesFollow p.forward) (rear : SearchesFollow p.reverse) where
   span_follows :
       (input : Input) (old new : Cache) (error : Option SearchError) → AreKnown p old

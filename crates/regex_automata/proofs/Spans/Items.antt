@@ -18,7 +18,7 @@ use Rattle.regex_automata.specs.declared.hybrid.regex.caches.Cache.{Cache}
 use Rattle.regex_automata.proofs.Results.{ok_err, same_err}
 use Rattle.automata_hybrid.proofs.Searches.PassState.{false_true}
 
--- a match is returned
+-- the item is a match
 pub gives_match :
     (p : Regex) (input input' : Input) (last : Option ℕ) (ended : Bool) (m : Match) (start end : ℕ)
     → ended ≡ false → IsNextMatch p input last (Some m) → MatchLiesIn p input m → input' ≡ from start input
@@ -34,27 +34,27 @@ gives_match p input input' last false m start end still next lies same begins en
       going = refl;
     }
 
--- and may be sliced from the haystack, as what was searched lies in it
+-- the match of an item may be sliced from the haystack, since the searched span lies in it
 pub lies_in_haystack :
     (p : Regex) (input : Input) (m : Match) → MatchLiesIn p input m → input.end ≤ length input.haystack
     → LiesInHaystack input.haystack (Some (Ok m))
 lies_in_haystack p input m lies within = (lies.1, omega (arith, lies.2, within))
 
--- or there is none
+-- there is no item
 pub gives_none :
     (p : Regex) (input : Input) (last : Option ℕ) (ended : Bool)
     → ended ≡ false → IsNextMatch p input last None → GivesItem p None input input last last ended true
 gives_none p input last true still next = absurd (false_true (sym still))
 gives_none p input last false still next = (next, record { rest = refl; place = refl; over = refl })
 
--- or an error
+-- the item is an error
 pub gives_error :
     (p : Regex) (input : Input) (last : Option ℕ) (ended : Bool) (e : SearchError)
     → ended ≡ false → GivesItem p (Some (Err e)) input input last last ended true
 gives_error p input last true e still = absurd (false_true (sym still))
 gives_error p input last false e still = record { rest = refl; place = refl; over = refl }
 
--- what an item of an iteration that goes on makes of the caches
+-- the effect on the caches of an item of an iteration that has not ended
 pub item_run :
     (p : Regex) (asked input : Input) (last : Option ℕ) (ended : Bool) (old new : Cache)
     (item : Option (Result Match SearchError))
@@ -64,7 +64,7 @@ item_run p asked input last true old new item going same run = absurd (false_tru
 item_run p asked input last false old new item going same run =
     subst (λ (i : Input). IsNextRun p i last old new (item_error item)) same run
 
--- an item that is no error implies that the anchored mode is supported, and the error of a mode says that it is not
+-- if an item is not an error, the anchored mode is supported; if the mode is not supported, the item is that error
 pub reports_found :
     (p : Regex) (asked input : Input) (ended : Bool) (o : Option Match) (item : Option (Result Match SearchError))
     → asked ≡ input
@@ -93,7 +93,7 @@ reports_error p asked input ended e same reports = λ on u. reported (same_err (
   reported : {v : SearchError} → e ≡ v → ◌≡◌ {A = Option (Result Match SearchError)} (Some (Err e)) (Some (Err v))
   reported is = cc
 
--- after a match fewer items may come
+-- after a match the upper bound on the remaining items is lower
 most_after :
     (input input' : Input) (end : ℕ) → input' ≡ from end input
     → most_items false input' (Some end) ≡ input.end + 1 - end
@@ -134,7 +134,7 @@ fewer_left p input input' last false m start end still same begins ends goes =
     subst (λ n. n < most_items false input last) (sym behind)
     (subst (λ n. input.end + 1 - n < most_items false input last) (sym ends) (most_before p input last m goes))
 
--- and after an error none
+-- while an iteration has not ended, at least one item may remain
 pub some_left :
     (input : Input) (last : Option ℕ) (ended : Bool) → ended ≡ false → input.start ≤ input.end
     → 0 < most_items ended input last

@@ -13,7 +13,7 @@ use Rattle.automata_base.proofs.Answers.Once.{FindsOnce, next_none, next_some}
 use Rattle.automata_base.proofs.Answers.Rising.{all_first, first_right, matches_right}
 
 module _ (Finds : Input → Option Match → Type 0) (input : Input) where
-  -- one more
+  -- one more match
   pub comes_on :
       (start : ℕ) (last : Option ℕ) (ms : List Match) (at : ℕ) (before : Option ℕ) (m : Match)
       → ComesTo Finds input start last ms at before → IsNextItem Finds input at before (Some m)
@@ -25,7 +25,7 @@ module _ (Finds : Input → Option Match → Type 0) (input : Input) where
   )
   comes_on start last (n ∷ ms) at before m c next = (c.0, comes_on n.end (Some n.end) ms at before m c.1 next)
 
-  -- the last turn
+  -- the last turn: no further match
   pub comes_all :
       (start : ℕ) (last : Option ℕ) (ms : List Match) (at : ℕ) (before : Option ℕ)
       → ComesTo Finds input start last ms at before → IsNextItem Finds input at before None
@@ -48,7 +48,7 @@ module _ (Finds : Input → Option Match → Type 0) (input : Input) where
   collected ms None at before c next = comes_all input.start None ms at before c (next refl)
   collected ms (Some e) at before c next = comes_first input.start None ms at before c
 
--- if what searches find is right, the matches are right
+-- if searches find what is right, the collected matches are right
 pub collected_right :
     (F G : Input → Option Match → Type 0) (input : Input)
     (right : (start : ℕ) (o : Option Match) → F (from start input) o → G (from start input) o)
@@ -56,14 +56,14 @@ pub collected_right :
 collected_right F G input right ms None f = matches_right F G input right input.start None ms f
 collected_right F G input right ms (Some e) f = first_right F G input right input.start None ms f
 
--- an item of what is left is one of the input
+-- an item of the remaining input is an item of the input
 pub item_of_rest :
     (F : Input → Option Match → Type 0) (input : Input) (at start : ℕ) (last : Option ℕ) (o : Option Match)
     → IsNextItem F (from at input) start last o → IsNextItem F input start last o
 item_of_rest F input at start last o (FindsHere h apart) = FindsHere h apart
 item_of_rest F input at start last o (FindsLater m h empty later) = FindsLater m h empty later
 
--- what an item says
+-- the match of an item, and the iteration after it
 pub item_match :
     (p : Regex) (input input' : Input) (last last' : Option ℕ) (ended ended' : Bool) (m : Match)
     → GivesItem p (Some (Ok m)) input input' last last' ended ended'
@@ -105,7 +105,7 @@ input_turn input now next k same e =
     let f : next ≡ from k input = e ∙ ap (λ (i : Input). from k i) same in
     f ∙ ap (λ n. from n input) (sym (ap (λ (i : Input). i.start) f))
 
--- if searches find one answer, the first matches are a beginning of all matches
+-- if searches find one answer, the first matches are a prefix of all matches
 module _ (F : Input → Option Match → Type 0) (one : FindsOnce F) (input : Input) where
   pub first_begins :
       (start : ℕ) (last : Option ℕ) (ms all : List Match)

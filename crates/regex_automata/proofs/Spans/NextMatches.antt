@@ -20,7 +20,7 @@ pub on_err : {A E : Type 0} (r : Result A E) (P : Type 0) → P → OnErr r P
 on_err (Ok a) P p = tt
 on_err (Err e) P p = p
 
--- a search that failed had something to search
+-- a search that failed had a span to search
 pub ahead_of :
     {A E : Type 0} (r : Result A E) (e : E) (a : A) (start end : ℕ) → (end < start → r ≡ Ok a) → r ≡ Err e → start ≤ end
 ahead_of r e a start end done is = go (cases_lt end start) where
@@ -32,7 +32,7 @@ pub some_of : {A : Type 0} (o : Option A) (a : A) (P : A → Type 0) → IfSome 
 some_of None a P h is = absurd (none_some is)
 some_of (Some b) a P h is = subst P (some_inj is) h
 
--- the match found first stands
+-- if the match that is found first is not an empty one at the last end, it ends after the last end
 pub past_last :
     (input : Input) (last : Option ℕ) (m : Match) → input.start ≤ m.start → m.start ≤ m.end → (IsEmptyAt last m → ⊥)
     → last ≡ Some input.start → input.start < m.end
@@ -49,7 +49,7 @@ pub goes_first :
     → GoesPast p input last m
 goes_first p input last m lies full = (lies, past_last input last m lies.0 lies.1 full)
 
--- an empty match at the last end is replaced by what is found from one place later
+-- an empty match at the last end is replaced by what the search from one offset later finds
 module _ (p : Regex) (input : Input) (last : Option ℕ) (m : Match) (found : FindsMatch p input (Some m))
     (empty : IsEmptyAt last m) where
   pub next_later :

@@ -17,7 +17,7 @@ use Rattle.regex_automata.proofs.Spans.ByPaths.{match_right}
 use Rattle.regex_automata.proofs.Spans.Lists.{collected_right, comes_all, comes_first, comes_on, item_match, item_none}
 use Rattle.regex_automata.proofs.Spans.Lists.{item_of_rest}
 
--- if what searches find is right, the next match is right
+-- if searches find what is right, the next match is right
 next_right :
     (F G : Input → Option Match → Type 0) (input : Input)
     (right : (start : ℕ) (o : Option Match) → F (from start input) o → G (from start input) o)

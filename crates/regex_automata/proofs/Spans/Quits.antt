@@ -1,4 +1,4 @@
--- With one quit set the search back meets no quit byte; and by no search alone two DFAs are no pair.
+-- If both DFAs have the same quit bytes, the reverse search reads none; and no single search fails with `NotAPair`.
 use Rattle.std.proofs.Common.{ℕ, ◌≡◌, ◌∙◌, ◌+◌, ◌-◌, ◌≤◌, ◌⊎◌, inl, inr, Bool, true, false, cond, List, length, Option}
 use Rattle.std.proofs.Common.{Some, None, refl, sym, subst, arith}
 use Rattle.automata_base.specs.Answers.Answers.{Half, later}
@@ -27,7 +27,7 @@ use Rattle.automata_hybrid.proofs.Searches.PassState.{false_true}
 use Rattle.automata_base.proofs.Answers.Starts.{yes_no}
 use Rattle.automata_base.proofs.Answers.Tried.{tries_once}
 
--- a look-behind byte that is no quit byte, and one that is
+-- a look-behind byte that is not a quit byte, and one that is
 free_behind :
     (m : Machine) (o : Option ℕ) (byte : ℕ) → quit_behind m o ≡ None → o ≡ Some byte → is_quit m.quits byte ≡ false
 free_behind m None byte n e = absurd (none_some e)
@@ -39,7 +39,7 @@ free_behind m (Some b) byte n e =
       go true q h = absurd (some_none h)
       go false q h = q
 
--- the forward search met no quit byte up to its match
+-- the forward search read no quit byte up to its match
 front_clean :
     (m : Machine) (input : Input) (half : Half) (f : IsFound Forward m input (Some half))
     → MeetsNone (is_quit m.quits) (forward_tape input.haystack (input.start + f.0) input.end) f.2.pair.place
@@ -49,7 +49,7 @@ front_clean m input half f v (ReadsUnitAt j few e) =
     f.2.reported.1.1 j v (reported_reads Forward m (later Forward f.0 input) f.2.pair (sym f.2.reported.0) j few)
     (sym e)
 
--- so neither does one that goes back from there
+-- so the reverse search from there reads none
 rest_clean :
     (law : BackMeetsNone) (m : Machine) (input : Input) (half : Half) → input.end ≤ length input.haystack
     → half.offset ≤ input.end
@@ -68,7 +68,7 @@ rest_clean law m input half few within f =
     (subst (λ n. MeetsNone (is_quit m.quits) (reverse_tape input.haystack n (input.start + f.0 + f.2.pair.place))
     f.2.pair.place) base clean))
 
--- no event fails by a quit byte
+-- no event fails for a quit byte
 event_clean :
     (m : Machine) (e : Event) (place : ℕ) (old new : Known) (byte at : ℕ)
     → known.EventFails m e place old new (search.Match (QuitAt byte at)) → ⊥
@@ -77,7 +77,7 @@ event_clean m e place old new byte at f = go f.why where
   go (known.GivesUp none is) = absurd (cc)
   go (known.LacksMemory is) = absurd (cc)
 
--- a pass over bytes that are no quit bytes does not fail by one
+-- a pass over bytes that are not quit bytes does not fail for one
 pass_free :
     (m : Machine) (input : Input) (old new : Known) (byte at : ℕ) → input.start ≤ input.end
     → input.end ≤ length input.haystack
@@ -120,14 +120,14 @@ back_free law m rev old new input half byte at same few ahead within found f =
         (subst (λ n. known.PassFails Backward rev (record (back input half) { end = n }) f.mid new
         (search.Match (QuitAt byte at))) end f.fails)
 
--- no event fails with the error of a regex whose two searches disagree
+-- no event fails with `NotAPair`
 event_pair : (m : Machine) (e : Event) (at : ℕ) (old new : Known) → known.EventFails m e at old new search.NotAPair → ⊥
 event_pair m e at old new f = go f.why where
   go : known.FailsFor m e at old search.NotAPair → ⊥
   go (known.GivesUp none is) = absurd (cc)
   go (known.LacksMemory is) = absurd (cc)
 
--- nor does a search alone
+-- no single search fails with `NotAPair`
 pub never_pair :
     (way : Direction) (m : Machine) (input : Input) (old new : Known)
     → known.SearchFails way m input old new search.NotAPair → ⊥

@@ -33,7 +33,7 @@ module _ (way : Direction) (m : Machine) (input : Input) (pair : Pair)
   below : ReportedBelow (match_kind_of m.config) m.nfa input.anchored (tape_in way input) pair (suc Last)
   below = over_below way m.nfa (match_kind_of m.config) input pair reported
 
-  -- a pass reports at a place of its tape
+  -- a pass reports at a position of its tape
   pub reported_within : pair.place ≤ length (tape_in way input).bytes
   reported_within = let b = below.0 in omega (arith, b)
 
@@ -64,7 +64,7 @@ module _ (way : Direction) (m : Machine) (input : Input) (pair : Pair)
             let p : pair.place ≡ sooner.place = ap (λ (v : Pair). v.place) same in
             absurd (omega (arith, b.0, p, l))
 
-  -- and reads each unit up to that place
+  -- a pass reads each unit up to the position where it reports
   pub reported_reads : (j : ℕ) → j ≤ pair.place → Reads way m input j
   reported_reads j l =
       let w = reported_within in (omega (arith, l, w), alive j l, λ e. unreported j l input.earliest reported e)

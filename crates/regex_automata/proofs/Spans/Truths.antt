@@ -1,4 +1,5 @@
--- Whether there is a match: if nothing is skipped, the first match that is seen decides it as the whole search does.
+-- Whether there is a match: if nothing is skipped, the first match that a search sees decides it as the whole search
+-- does.
 use Rattle.std.proofs.Common.{ℕ, zero, suc, ◌≡◌, ◌∙◌, ◌<◌, ◌≤◌, ◌+◌, ◌⊎◌, inl, inr, Bool, true, List, [], ◌∷◌, length}
 use Rattle.std.proofs.Common.{Option, Some, None, refl, sym, ap, subst, arith, not, false}
 use Rattle.std.specs.Prelude.{is_some}
@@ -29,7 +30,7 @@ use Rattle.automata_config.specs.Options.{match_kind_of}
 use Rattle.std.proofs.lemmas.Bool.{cases_lt}
 use Rattle.automata_base.proofs.Answers.Tried.{tries_once}
 
--- the first match is there if the last one is
+-- there is a first match exactly if there is a last one
 some_same :
     (ps : List ℕ) (i : ℕ) (f l : Option Pair) → is_some f ≡ is_some l
     → is_some (earlier_or f (pair_at ps i None)) ≡ is_some (pair_at ps i l)
@@ -47,7 +48,7 @@ both_reported kind a mode t (suc i) =
     some_same (reported_at a kind mode t i) i (first_reported a kind mode t i) (last_reported a kind mode t i)
     (both_reported kind a mode t i)
 
--- so either decides it for a search that skips nothing
+-- so both decide it for a search that skips nothing
 module _ (m : Machine) (input : Input) (whole : Skips m → ⊥) where
   same_reported :
       (k : ℕ)
@@ -125,14 +126,14 @@ module _ (m : Machine) (input : Input) (whole : Skips m → ⊥) where
       (first_try f.0 f.1) f.2.within refl in
       (w.0, w.1, ap (λ (v : Option Pair). is_some v) f.2.reported ∙ same_reported f.0 ∙ w.2)
 
--- what is searched, by whether split places are skipped
+-- the input that is searched, by whether offsets inside characters are skipped
 pub asked_by :
     (m : Machine) (input asked : Input) (b : Bool) → (b ≡ true → Skips m) → (b ≡ false → Skips m → ⊥)
     → asked ≡ record input { earliest = not b } → IsAsked m input asked
 asked_by m input asked true does lacks is = AsksInFull (does refl) is
 asked_by m input asked false does lacks is = AsksInPart (lacks refl) is
 
--- what is searched differs from the input in one part
+-- the input that is searched differs from the given one only in its earliest flag
 pub asked_to :
     {R : Type 0} (P : Input → Type 0) (m : Machine) (input asked : Input) → IsAsked m input asked
     → (P (in_full input) → R) → (P (in_part input) → R) → P asked → R
@@ -150,14 +151,14 @@ same_some :
 same_some o None e = ap (λ (v : Option HalfMatch). is_some v) e
 same_some o (Some half) e = ap (λ (v : Option HalfMatch). is_some v) e
 
--- what it finds
+-- whether there is a match, by what the search finds
 pub truth_found :
     (m : Machine) (input asked : Input) → IsAsked m input asked → (found : Option HalfMatch) (truth : Bool)
     → WithoutBase (IsFound Forward m asked) found → truth ≡ is_some found → IsTruthFound m input truth
 truth_found m input asked is found truth f e =
     record { asked = asked; is = is; answer = f.0; found = f.1; same = e ∙ same_some found f.0 f.2 }
 
--- and what it reports
+-- whether there is a match, by what the passes report
 pub truth_reported :
     (m : Machine) (input asked : Input) → IsAsked m input asked → (found : Option HalfMatch) (truth : Bool)
     → WithoutBase (IsFound Forward m asked) found → truth ≡ is_some found → IsMatchReported m input truth
@@ -180,7 +181,7 @@ pub match_right :
 match_right m law input truth cycles given f =
     (f.0, law Forward (match_kind_of m.config) (in_full input) f.0 cycles given f.1, f.2)
 
--- if nothing is skipped the nearest end is searched for
+-- if nothing is skipped, the search finds the nearest end
 pub truth_nearest :
     (m : Machine) (input asked : Input) → IsAsked m input asked → (found : Option HalfMatch) (truth : Bool)
     → (asked.earliest ≡ true → WithoutBase (IsNearestAnswer Forward (engine m) asked) found)

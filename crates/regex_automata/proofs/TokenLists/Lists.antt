@@ -10,13 +10,13 @@ use Rattle.regex_automata.specs.declared.tokens.error.TokenError.{TokenError}
 use Rattle.automata_hybrid.proofs.Searches.PassState.{false_true}
 use Rattle.automata_base.proofs.Answers.Once.{match_is as same_parts}
 
--- what comes after the tokens so far completes them
+-- the tokens that follow complete the tokens so far
 abbrev pub Completes : Machine → List ℕ → (end start : ℕ) → List Match → (offset : ℕ) → Type 0
 Completes m h end start ts offset =
     (more : List Match) (error : Option TokenError) → AreGiven m h end offset more error
     → AreGiven m h end start (ts ++ more) error
 
--- one more
+-- one more token
 pub completes_on :
     (m : Machine) (h : List ℕ) (end start : ℕ) (ts more : List Match) (offset offset' : ℕ) (t : Match)
     → Completes m h end start ts offset → IsItemAt m h end offset (Ok t) → more ≡ ts ++ t ∷ [] → offset' ≡ t.end
@@ -26,14 +26,14 @@ completes_on m h end start ts more offset offset' t completes item is behind res
     (subst (λ (all : List Match). AreGiven m h end start all error) (sym (append_assoc ts (t ∷ []) rest))
     (completes (t ∷ rest) error (item, subst (λ k. AreGiven m h end k rest error) behind given)))
 
--- and nothing more
+-- after the last token the list is complete
 pub completes_end :
     (m : Machine) (h : List ℕ) (end start : ℕ) (ts : List Match) (offset : ℕ) (error : Option TokenError)
     → Completes m h end start ts offset → AreGiven m h end offset [] error → AreGiven m h end start ts error
 completes_end m h end start ts offset error completes last =
     subst (λ (all : List Match). AreGiven m h end start all error) (append-nil ts) (completes [] error last)
 
--- the item at an offset, of the regex and the span that the loop was given
+-- the item at an offset, for the regex and the span that the loop was given
 pub item_turn :
     (p q : Regex) (h h' : List ℕ) (end end' offset : ℕ) (item : Result Match TokenError) → p ≡ q → h ≡ h' → end ≡ end'
     → IsItemAt p.forward h end offset item → IsItemAt q.forward h' end' offset item
@@ -42,14 +42,14 @@ item_turn p q h h' end end' offset item regex haystack last is =
     (subst (λ (k : List ℕ). IsItemAt p.forward k end' offset item) haystack
     (subst (λ n. IsItemAt p.forward h n offset item) last is))
 
--- a match made of its parts
+-- two matches with the same parts are equal
 pub match_is :
     (m n : Match) (pattern start end : ℕ) → m ≡ record { pattern = pattern; start = start; end = end }
     → pattern ≡ n.pattern → start ≡ n.start → end ≡ n.end → m ≡ n
 match_is m n pattern start end is p s e =
     is ∙ same_parts (record { pattern = pattern; start = start; end = end }) n p s e
 
--- there is no item at the span's end
+-- an iteration that ends without an error has reached the span's end
 pub at_end :
     (failed : Bool) (end end' offset : ℕ) → (failed ≡ true) ⊎ (end ≤ offset) → failed ≡ false → end ≡ end'
     → end' ≤ offset

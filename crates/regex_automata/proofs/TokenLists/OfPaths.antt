@@ -46,7 +46,7 @@ span_at d h end offset half m a same begins ends =
       end = ends;
     }
 
--- or there is none
+-- the span of an anchored answer, if there is one
 answer_span :
     (d : Engine) (h : List ℕ) (end offset : ℕ) (m : Match) (o : Option Half) → IsAnswer Forward d (asked h end offset) o
     → ◌≡◌ {A = Option HalfMatch} (Some (record { pattern = m.pattern; offset = m.end })) (option_map without_base o)

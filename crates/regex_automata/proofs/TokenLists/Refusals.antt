@@ -28,7 +28,7 @@ answer_is_no_refusal offset (Some half) e is = go (nat_lt offset half.offset) is
   go true h = absurd (err_ok h)
   go false h = no_search offset e (sym (same_err h))
 
--- the error of the search at an offset is that of the item which its answer makes
+-- the error of the search at an offset is the search error of the item
 pub error_is :
     (offset : ℕ) (answer : Result (Option HalfMatch) SearchError) (e : TokenError)
     → ◌≡◌ {A = Result Match TokenError} (Err e) (item_of offset answer) → result_err answer ≡ search_error (Err e)

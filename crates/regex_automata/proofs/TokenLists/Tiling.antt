@@ -30,7 +30,7 @@ module _ (m : Machine) (h : List ℕ) (end : ℕ) where
       → LiesIn m (asked h end offset) half
   half_in offset half returned = returned.0.within
 
-  -- a token is an answer past its offset
+  -- a token is an answer that ends after its offset
   abbrev pub Reports : ℕ → Match → Type 0
   Reports offset t =
       SearchReturns m h end offset (Ok (Some (record { pattern = t.pattern; offset = t.end })))
@@ -59,7 +59,7 @@ module _ (m : Machine) (h : List ℕ) (end : ℕ) where
   token_is offset t (ahead, (Ok None, returned, is)) = absurd (ok_err is)
   token_is offset t (ahead, (Err e, returned, is)) = absurd (ok_err is)
 
-  -- with its bytes it is returned
+  -- the token that is returned has its bytes
   pub token_is_given :
       (offset : ℕ) (t : Token) (answer : Result (Option HalfMatch) SearchError) → offset < end
       → SearchReturns m h end offset answer
@@ -77,7 +77,7 @@ module _ (m : Machine) (h : List ℕ) (end : ℕ) where
         pattern = reports.0.0.within.pattern;
       }
 
-  -- no token is no answer, or one at its offset
+  -- there is no token if there is no answer, or one that ends at its offset
   abbrev pub ReportsNone : ℕ → Type 0
   ReportsNone offset =
       SearchReturns m h end offset (Ok None)
@@ -117,7 +117,7 @@ module _ (m : Machine) (h : List ℕ) (end : ℕ) where
   no_token_is offset at (ahead, (Ok None, returned, is)) = (same_place at offset (same_err is), ahead, inl returned)
   no_token_is offset at (ahead, (Err e, returned, is)) = absurd (no_search at e (same_err is))
 
-  -- if what an answer makes is no token, it is the error that is returned
+  -- if the item for an answer is an error, it is the error that is returned
   pub error_is_given :
       (offset : ℕ) (answer : Result (Option HalfMatch) SearchError) (e : TokenError) → offset < end
       → SearchReturns m h end offset answer
@@ -128,7 +128,7 @@ module _ (m : Machine) (h : List ℕ) (end : ℕ) where
       (item, (none.0, record { within = none.1; none = none.2 }))
   error_is_given offset answer (Search e) ahead returned is = ((ahead, (answer, returned, is)), tt)
 
-  -- and an error is the search's own
+  -- a search error is the search's own
   refused_is :
       (offset : ℕ) (e : SearchError) → IsItemAt m h end offset (Err (Search e)) → SearchReturns m h end offset (Err e)
   refused_is offset e (ahead, (Ok (Some half), returned, is)) = go (nat_lt offset half.offset) refl where
@@ -148,7 +148,7 @@ module _ (m : Machine) (h : List ℕ) (end : ℕ) where
   refused_is offset e (ahead, (Err d, returned, is)) =
       subst (λ (x : SearchError). SearchReturns m h end offset (Err x)) (sym (same_search e d (same_err is))) returned
 
-  -- so the tokens are those that searches find, by whatever such an answer is
+  -- so the tokens are those that searches find, for every property that such answers have
   module _ (P : Input → Option HalfMatch → Type 0)
       (right : (offset : ℕ) (o : Option HalfMatch) → SearchReturns m h end offset (Ok o)
       → P (asked h end offset) o) where
@@ -171,7 +171,7 @@ module _ (m : Machine) (h : List ℕ) (end : ℕ) where
         let found = right offset (Some (record { pattern = t.pattern; offset = t.end })) n.0 in
         (record { start = n.1; past = n.2; within = n.3; found = found }, found_by t.end ts error g.1)
 
-  -- a part of the haystack is two parts, split anywhere
+  -- a part of the haystack can be split anywhere into two parts
   parts : (a b c : ℕ) → a ≤ b → b ≤ c → slice_range h a b ++ slice_range h b c ≡ slice_range h a c
   parts a b c low high =
       let first : a + (b - a) ≡ b = omega (arith, low) in
@@ -189,7 +189,7 @@ module _ (m : Machine) (h : List ℕ) (end : ℕ) where
       ∙ ap (λ k. slice_range h k t.end ++ slice_range h t.end end) n.1
       ∙ parts offset t.end end (omega (arith, n.2)) n.3
 
-  -- the bytes of the tokens, joined, begin the span's bytes
+  -- the bytes of the tokens, joined, are a prefix of the span's bytes
   pub begins :
       (offset : ℕ) (ts : List Match) (error : Option TokenError) → AreGiven m h end offset ts error
       → IsBeginningOf (joined h ts) (slice_range h offset end)
@@ -202,7 +202,7 @@ module _ (m : Machine) (h : List ℕ) (end : ℕ) where
             ∙ token_then offset t (joined h ts ++ rest.0) n (sym rest.1)),
       )
 
-  -- and without an error are all of them
+  -- without an error, the bytes of the tokens, joined, are the span's bytes
   pub tiles : (offset : ℕ) (ts : List Match) → AreGiven m h end offset ts None → joined h ts ≡ slice_range h offset end
   tiles offset [] g =
       let none : end - offset ≡ 0 = omega (arith, g) in
@@ -210,7 +210,7 @@ module _ (m : Machine) (h : List ℕ) (end : ℕ) where
   tiles offset (t ∷ ts) g =
       let n = token_is offset t g.0 in token_then offset t (joined h ts) n (tiles t.end ts g.1)
 
-  -- if nothing prevents an answer at the start, nothing does later
+  -- if nothing prevents an answer at the start, nothing prevents one later
   unhindered_later :
       (start offset : ℕ) → start ≤ offset → IsUnhindered m (asked h end start) → IsUnhindered m (asked h end offset)
   unhindered_later start offset later free =

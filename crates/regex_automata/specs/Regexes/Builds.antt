@@ -1,4 +1,4 @@
--- What a regex's builder makes of two NFAs, or why it fails.
+-- What a regex's builder builds from two NFAs, or why it fails.
 use Rattle.std.specs.Prelude.{ℕ, ◌≡◌, ◌==◌, false, true, if◌then◌else◌, length, max, Option, None, Some}
 use Rattle.automata_base.specs.Nfas.Getters.{SkipsLazily}
 use Rattle.automata_base.specs.Nfas.Mirrors.{BeginsAlike, IsReversalOf}
@@ -23,39 +23,40 @@ use Rattle.regex_automata.specs.declared.hybrid.regex.build.RegexBuildError.TheV
 abbrev pub backward : Options → Options
 backward o = record o { match_kind = Some All; specialize_start_states = Some false }
 
--- each DFA is what its settings make of its NFA
+-- each DFA is built from its NFA with its settings
 abbrev pub BuildsPair : Options → Automaton → Automaton → Regex → Type 0
 BuildsPair o forward reverse p = dfa.Builds o forward p.forward × dfa.Builds (backward o) reverse p.reverse
 
--- how many patterns an NFA has
+-- the number of patterns of an NFA
 abbrev pub pattern_count : Automaton → ℕ
 pattern_count a = length a.start_pattern
 
--- two errors in one: the first, and if both are of a capacity that is too small, the greater minimum
+-- two errors joined: the first one; if the capacity is too small for both, with the greater minimum
 abbrev pub joined_error : BuildError → BuildError → BuildError
 joined_error (InsufficientCacheCapacity minimum given) (InsufficientCacheCapacity other asked) =
     InsufficientCacheCapacity (max minimum other) given
 joined_error first second = first
 
--- the error of the forward DFA, which comes first, or that of the reverse one, if there is any
+-- the errors of both DFAs joined, or the only one of them, if there is any
 abbrev pub error_of_two : (forward reverse : Option BuildError) → Option BuildError
 error_of_two (Some first) (Some second) = Some (joined_error first second)
 error_of_two (Some first) None = Some first
 error_of_two None reverse = reverse
 
--- why a DFA cannot be built of the one NFA or of the other
+-- why a DFA cannot be built from one of two NFAs
 abbrev pub error_of_both : Options → Automaton → Automaton → Option BuildError
 error_of_both o forward reverse =
     error_of_two (settling.settling_error o forward) (settling.settling_error (backward o) reverse)
 
--- why no regex is built: the NFAs are not for the same patterns, or a DFA cannot be built, the forward one first
+-- why no regex is built: the NFAs do not have the same number of patterns, or a DFA cannot be built, the forward one
+-- first
 abbrev pub pair_error : Options → Automaton → Automaton → Option BuildError
 pair_error o forward reverse =
     if pattern_count forward == pattern_count reverse
     then error_of_both o forward reverse
     else Some (PatternCounts (pattern_count forward) (pattern_count reverse))
 
--- with this capacity, and with the other settings and both NFAs as they are, a build does not fail for its capacity
+-- with this capacity, and with the other settings and both NFAs unchanged, a build does not fail for its capacity
 abbrev pub IsEnough : Options → Automaton → Automaton → (capacity : ℕ) → Type 0
 IsEnough o forward reverse capacity =
     (minimum given : ℕ)
@@ -68,7 +69,7 @@ abbrev pub NamesEnough : Options → Automaton → Automaton → BuildError → 
 NamesEnough o forward reverse error =
     (minimum given : ℕ) → error ≡ InsufficientCacheCapacity minimum given → IsEnough o forward reverse minimum
 
--- how the errors of `NFA::reversed` are named
+-- the build error for each error of `NFA::reversed`
 abbrev pub reverse_build_error : ReverseError → RegexBuildError
 reverse_build_error reverse.Starts = is.Starts
 reverse_build_error reverse.TooLarge = is.TooLarge
@@ -86,13 +87,13 @@ PassesTwo forward = SkipsLazily forward × IsUtf8 forward
 abbrev pub PassesAll : Automaton → Type 0
 PassesAll forward = PassesTwo forward × BeginsAlike forward
 
--- the regex is made of the NFA, which then keeps unions if it has a look cycle, and of the reversed one
+-- the regex is built from the NFA, which keeps unions if it has a look cycle, and from the reversed NFA
 abbrev pub BuildsOne : Options → Automaton → Regex → Type 0
 BuildsOne o forward p =
     (kept reverse : Automaton) × IsKeepingUnions forward kept × IsReversalOf forward reverse
     × BuildsPair o kept reverse p
 
--- why no pair of DFAs can be built of an NFA and of its reverse
+-- why no pair of DFAs can be built from an NFA and its reverse
 pub record IsUnpaired (o : Options) (forward : Automaton) (error : BuildError) : Type 0 where
   -- the NFA passes all tests
   pub passes : PassesAll forward
@@ -102,11 +103,11 @@ pub record IsUnpaired (o : Options) (forward : Automaton) (error : BuildError) :
   pub reversed : IsReversalOf forward reverse
   -- the two cannot be built
   pub fails : pair_error o forward reverse ≡ Some error
-  -- if the capacity is too small, the error names one that is enough
+  -- if the capacity is too small, the error names a minimum that is enough
   pub enough : NamesEnough o forward reverse error
 
--- why no regex is built of one NFA: it fails the next test after those that it passes; or it passes all, and cannot be
--- reversed, or no pair can be built of it and of its reverse. Memory is used only after the first test
+-- why no regex is built from one NFA: it fails a test after it passed the previous ones; or it passes all, and cannot
+-- be reversed, or no pair can be built from it and its reverse. Memory is used only after the first test
 abbrev pub IsBuildError : Options → Automaton → RegexBuildError → Type 0
 IsBuildError o forward is.NotLazy = SkipsLazily forward → ⊥
 IsBuildError o forward is.NotUtf8 = SkipsLazily forward × (IsUtf8 forward → ⊥)

@@ -15,36 +15,36 @@ use Rattle.regex_automata.specs.declared.hybrid.regex.caches.Cache.{Cache}
 use Rattle.regex_automata.specs.declared.hybrid.regex.Regex.{Regex}
 use Rattle.regex_automata.specs.Regexes.SoundPairs.{forward_engine}
 
--- each belongs to its DFA
+-- each cache belongs to its DFA
 abbrev pub AreCachesOf : Cache → Regex → Type 0
 AreCachesOf c p = IsCacheOf c.forward p.forward × IsCacheOf c.reverse p.reverse
 
--- nothing was done to either
+-- both caches are fresh
 abbrev pub AreFresh : Regex → Cache → Type 0
 AreFresh p c = (c.forward ≡ fresh_cache p.forward) × (c.reverse ≡ fresh_cache p.reverse)
 
--- each of the two knows what a cache of its DFA may know
+-- each cache knows only what a cache of its DFA may know
 abbrev pub AreKnown : Regex → Cache → Type 0
 AreKnown p c = IsKnown p.forward (known_of c.forward) × IsKnown p.reverse (known_of c.reverse)
 
--- what searches do to them
+-- the caches have grown as searches make them grow
 abbrev pub AreGrown : Regex → (old new : Cache) → Type 0
 AreGrown p old new =
     IsGrown p.forward (known_of old.forward) (known_of new.forward)
     × IsGrown p.reverse (known_of old.reverse) (known_of new.reverse)
 
--- nothing was cleared in either
+-- neither cache was cleared
 abbrev pub NothingCleared : (old new : Cache) → Type 0
 NothingCleared old new =
     ClearedNothing (known_of old.forward) (known_of new.forward)
     × ClearedNothing (known_of old.reverse) (known_of new.reverse)
 
--- nothing has changed but the progress of searches
+-- only the progress of searches has changed
 abbrev pub AreStill : (old new : Cache) → Type 0
 AreStill old new =
     IsStill (known_of old.forward) (known_of new.forward) × IsStill (known_of old.reverse) (known_of new.reverse)
 
--- all that the search back from a forward answer uses is cached, if it is made
+-- all that the reverse search from a forward answer uses is cached, if that search is made
 abbrev pub KnowsBack : Regex → Known → Input → Half → Type 0
 KnowsBack p c input half = (IsShort (forward_engine p) input half → ⊥) → Knows Backward p.reverse c (back input half)
 

@@ -1,4 +1,4 @@
--- What the two lazy DFAs of a regex have to be so that spans are promised.
+-- When the two lazy DFAs of a regex are a sound pair, which the promise of spans requires.
 use Rattle.automata_base.specs.Nfas.Engines.{Engine}
 use Rattle.automata_base.specs.Nfas.Nodes.{nfa_of}
 use Rattle.automata_base.specs.Paths.Paths.{KeepsCycles}
@@ -7,11 +7,11 @@ use Rattle.automata_base.specs.Answers.TruePairs.{IsTruePair, KeepsUtf8}
 use Rattle.regex_automata.specs.declared.hybrid.regex.Regex.{Regex}
 use Rattle.automata_hybrid.specs.Machines.Machine.{engine}
 
--- what the forward DFA searches by: its NFA and its match kind
+-- the forward DFA's NFA and match kind
 abbrev pub forward_engine : Regex → Engine
 forward_engine p = engine p.forward
 
--- what the reverse DFA searches by: its NFA and its match kind
+-- the reverse DFA's NFA and match kind
 abbrev pub reverse_engine : Regex → Engine
 reverse_engine p = engine p.reverse
 
@@ -19,7 +19,7 @@ reverse_engine p = engine p.reverse
 abbrev pub BothKeepCycles : Regex → Type 0
 BothKeepCycles p = KeepsCycles (nfa_of p.forward.nfa) × KeepsCycles (nfa_of p.reverse.nfa)
 
--- the two DFAs are of one regular expression, which keeps the UTF-8 promise, and the forward NFA keeps its cycles
+-- the two DFAs are a true pair, and the forward NFA keeps its cycles and the UTF-8 promise
 pub record IsSoundPair (p : Regex) : Type 0 where
   -- the forward NFA keeps its cycles
   pub cycles : KeepsCycles (nfa_of p.forward.nfa)

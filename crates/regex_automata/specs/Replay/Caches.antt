@@ -1,4 +1,4 @@
--- What the requests of a replay do to its caches, one after another; so why calls over these fail.
+-- What the requests of a replay do to its caches, one after another, and so why calls with these caches fail.
 use Rattle.std.specs.Prelude.{ℕ, ◌≡◌, ◌↔◌, ◌<◌, Bool, List, [], ◌∷◌, length, Option, Some, None}
 use Rattle.std.specs.Prelude.{Result, Ok, Err, IfOk, OnOk, slice_get}
 use Rattle.std.specs.Result.{result_err}
@@ -37,19 +37,19 @@ use Rattle.regex_automata.specs.declared.tokens.error.TokenError.{TokenError}
 use Rattle.regex_automata.specs.declared.tokens.error.TokenError.TheVariants.{Search}
 use Rattle.regex_automata.specs.declared.tokens.token.Token.{Token}
 
--- a search of one DFA over a cache: what its passes report, and what it makes of the cache
+-- a search of one DFA over a cache: what its passes report, and its effect on the cache
 abbrev pub IsSearched :
     Direction → Machine → Input → (old new : CacheView) → Result (Option HalfMatch) SearchError → Type 0
 IsSearched way m input old new result =
     IfOk result (WithoutBase (IsFound way m input))
     × IsSearchRun way m input (known_of old) (known_of new) (result_err result)
 
--- a search for a span: what its passes report, and what it makes of the caches
+-- a search for a span: what its passes report, and its effect on the caches
 abbrev pub IsSpanSearched : Regex → Input → (old new : Cache) → Result (Option Match) SearchError → Type 0
 IsSpanSearched p input old new result =
     IfOk result (FindsMatch p input) × IsSpanRun p input old new (result_err result)
 
--- a search for whether there is a match: what its passes report, and what it makes of the caches
+-- a search for whether there is a match: what its passes report, and its effect on the caches
 abbrev pub IsTruthSearched : Regex → Input → (old new : Cache) → Result Bool SearchError → Type 0
 IsTruthSearched p input old new result =
     IfOk result (IsTruthReported p.forward input) × IsTruthRun p input old new (result_err result)
@@ -59,12 +59,12 @@ pub data AreSearchedLast (p : Regex) (old new : Cache) (input : Input) (last : O
     Type 0 where
   -- there is no further match, or the search fails
   EndsList : IsNextRun p input last old new error → AreSearchedLast p old new input last error
-  -- there is a further match, and no memory for it in the list
+  -- there is another match, but no memory for it in the list
   NoRoom :
       (m : Match) → IsNextMatch p input last (Some m) → IsNextRun p input last old new None
       → error ≡ Some search.OutOfMemory → AreSearchedLast p old new input last error
 
--- the searches for a list of matches, one after another, each over the caches that the one before left
+-- the searches for a list of matches, one after another, each over the caches that the previous one left
 abbrev pub AreSearched : Regex → (old new : Cache) → Input → Option ℕ → List Match → Option SearchError → Type 0
 AreSearched p old new input last [] error = AreSearchedLast p old new input last error
 AreSearched p old new input last (m ∷ ms) error =
@@ -87,46 +87,46 @@ pub data IsTokenSearchedLast (m : Machine) (h : List ℕ) (end place : ℕ) (old
   FailsTokenList :
       (e : TokenError) → error ≡ Some e → IsTokenMade m h end place old new (Some (Err e))
       → IsTokenSearchedLast m h end place old new error
-  -- there is a further token, and no memory for it in the list
+  -- there is another token, but no memory for it in the list
   LacksTokenRoom :
       (t : Token) → error ≡ Some (Search search.OutOfMemory) → IsTokenMade m h end place old new (Some (Ok t))
       → IsTokenSearchedLast m h end place old new error
 
 -- the search for a token of a list, given by its pattern and its span
 pub record IsTokenSearched (m : Machine) (h : List ℕ) (end place : ℕ) (old new : Cache) (t : Match) : Type 0 where
-  -- the token that the search gives
+  -- the token that the search returns
   pub token : Token
   -- it has this pattern and this span
   pub is : match_of token ≡ t
   -- what the search for it does to the caches
   pub made : IsTokenMade m h end place old new (Some (Ok token))
 
--- the searches for a list of tokens, one after another, each over the caches that the one before left
+-- the searches for a list of tokens, one after another, each over the caches that the previous one left
 abbrev pub AreTokensSearched :
     Machine → List ℕ → (end place : ℕ) → (old new : Cache) → List Match → Option TokenError → Type 0
 AreTokensSearched m h end place old new [] error = IsTokenSearchedLast m h end place old new error
 AreTokensSearched m h end place old new (t ∷ ts) error =
     (next : Cache) × IsTokenSearched m h end place old next t × AreTokensSearched m h end t.end next new ts error
 
--- a walk has answered so many calls: it has ended exactly if they are more than its pairs
+-- a walk has answered `k` calls: it has ended exactly if `k` is greater than the number of its pairs
 pub record HasAnswered (way : Direction) (m : Machine) (input : Input) (w : Walk) (k : ℕ) : Type 0 where
   -- its calls have reported the first `k` pairs, or all of them if there are fewer
   pub reported : HasReported way m input w k
   -- it has ended exactly if there are fewer pairs than calls
   pub ended : (pairs : List Pair) → AreWalked way m input pairs → (w.stage ≡ Ended ↔ length pairs < k)
 
--- a call of a walk that has answered so many
+-- a call of a walk that has answered this many calls
 pub record IsCalled (way : Direction) (m : Machine) (input : Input) (answered : ℕ) (old new : CacheView)
     (result : Result (Option HalfMatch) SearchError) : Type 0 where
   -- the walk before the call
   pub walk : Walk
-  -- it has answered so many calls
+  -- it has answered as many calls
   pub before : HasAnswered way m input walk answered
   -- the walk after the call
   pub next : Walk
   -- if the call returns Ok, the walk goes on to the next pair
   pub reports : OnOk result (ReportsNext way m input walk next)
-  -- what the call makes of the cache, also if it fails
+  -- the effect of the call on the cache, also if it fails
   pub run : IsWalkRun States way m input walk next (known_of old) (known_of new) (result_err result)
 
 -- the cache of the DFA of a direction
@@ -148,7 +148,7 @@ IsWalkStepped r (Some w) old new result =
     result
     × (other_of w.way new ≡ other_of w.way old)
 
--- the search for the patterns below a capacity, listed
+-- a search for the patterns below a capacity, and the list of them
 pub data ArePatternsSearched (m : Machine) (input : Input) (capacity : ℕ) (old new : CacheView) (found : List ℕ)
     (error : Option SearchError) : Type 0 where
   -- there is no memory for the set, and nothing is searched
@@ -166,18 +166,18 @@ pub data ArePatternsSearched (m : Machine) (input : Input) (capacity : ℕ) (old
       → IsSetRun m input (empty_set capacity) set (known_of old) (known_of new) failed
       → found ≡ [] → error ≡ Some search.OutOfMemory → ArePatternsSearched m input capacity old new found error
 
--- a list of matches: those that an iteration gives, and what its searches make of the caches
+-- a list of matches: those that an iteration returns, and the effect of its searches on the caches
 abbrev pub IsListSearched : Regex → Input → (old new : Cache) → List Match → Option SearchError → Type 0
 IsListSearched r input old new ms error =
     AreCollected (FindsMatch r) input ms error × AreSearched r old new input None ms error
 
--- a list of tokens: what its searches report, and what they make of the caches
+-- a list of tokens: what its searches report, and their effect on the caches
 abbrev pub IsTokenListSearched : Regex → Input → (old new : Cache) → List Match → Option TokenError → Type 0
 IsTokenListSearched r input old new ts error =
     AreTokensReported r.forward input ts error
     × AreTokensSearched r.forward input.haystack input.end input.start old new ts error
 
--- a list of patterns: what the passes report, and what the search makes of the cache
+-- a list of patterns: what the passes report, and the effect of the search on the cache
 abbrev pub IsPatternListSearched :
     Machine → (capacity : ℕ) → Input → (old new : CacheView) → List ℕ → Option SearchError → Type 0
 IsPatternListSearched m capacity input old new found error =
@@ -207,7 +207,7 @@ abbrev pub IsMadeByOf : Option Regex → List Begun → Request → (old new : C
 IsMadeByOf None walks q old new answer = ⊥
 IsMadeByOf (Some r) walks q old new answer = IsMadeBy r walks q old new answer
 
--- after an Ok reset they are fresh ones of its regex
+-- after an Ok reset the caches are fresh ones of its regex
 abbrev pub AreFreshOf : Option Regex → Cache → Type 0
 AreFreshOf None c = ⊥
 AreFreshOf (Some r) c = AreFresh r c
@@ -218,11 +218,12 @@ IsRequestEffect regexes h q (reply.Bad why) old new = new ≡ old
 IsRequestEffect regexes h (request.Reset k) (reply.Done (Ok done)) old new = AreFreshOf (slice_get regexes k) new
 IsRequestEffect regexes h q answer old new = IsMadeByOf (slice_get regexes h.current) h.walks q old new answer
 
--- these are caches of the current regex, and know what such caches may know
+-- the caches belong to the current regex, and know only what such caches may know
 abbrev pub AreOfCurrent : List Regex → History → Cache → Type 0
 AreOfCurrent regexes h c = (r : Regex) → slice_get regexes h.current ≡ Some r → AreCachesOf c r × AreKnown r c
 
--- the requests are answered over such caches, one after another; so the error of a reply is one that these caches give
+-- the requests are answered one after another over such caches; so the error of a reply comes from a call on these
+-- caches
 abbrev pub AreAnsweredAfter : List Regex → History → Cache → List Request → List Reply → Type 0
 AreAnsweredAfter regexes h c [] replies = Unit {0}
 AreAnsweredAfter regexes h c (q ∷ qs) [] = Unit {0}
@@ -230,7 +231,7 @@ AreAnsweredAfter regexes h c (q ∷ qs) (r ∷ rs) =
     (next : Cache) × AreOfCurrent regexes (after h q r) next × IsRequestEffect regexes h q r c next
     × AreAnsweredAfter regexes (after h q r) next qs rs
 
--- starting with fresh ones of regex 0, if there is one
+-- the requests are answered one after another, starting with fresh caches of regex 0, if there is one
 abbrev pub AreAnswered : List Regex → List Request → List Reply → Type 0
 AreAnswered [] script replies = Unit {0}
 AreAnswered (r ∷ rs) script replies = (c : Cache) × AreFresh r c × AreAnsweredAfter (r ∷ rs) start c script replies

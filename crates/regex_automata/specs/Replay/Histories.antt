@@ -1,4 +1,4 @@
--- What the requests so far and their replies have made: which regex is current, and which walks there are.
+-- The state that the requests so far and their replies lead to: the current regex, and the walks.
 use Rattle.std.specs.Prelude.{ℕ, zero, suc, ◌+◌, List, [], ◌∷◌, ◌++◌, Ok}
 use Rattle.automata_base.specs.declared.util.search.Direction.{Direction}
 use Rattle.automata_base.specs.Haystacks.Input.{Input}
@@ -7,7 +7,7 @@ use Rattle.regex_automata.specs.declared.replay.requests.Request.TheVariants as 
 use Rattle.regex_automata.specs.declared.replay.requests.Reply.{Reply}
 use Rattle.regex_automata.specs.declared.replay.requests.Reply.TheVariants as reply
 
--- a walk that was begun: the number of its regex, its direction, its input, and how many of its steps answered Ok
+-- a walk that was begun: the number of its regex, its direction, its input, and how many of its steps returned Ok
 pub record Begun : Type 0 where
   -- the number of its regex
   pub regex : ℕ
@@ -15,7 +15,7 @@ pub record Begun : Type 0 where
   pub way : Direction
   -- its input
   pub input : Input
-  -- how many of its steps answered Ok
+  -- how many of its steps returned Ok
   pub reported : ℕ
 
 -- the number of the current regex, and the walks by their numbers
@@ -39,7 +39,7 @@ step_at k [] = []
 step_at zero (w ∷ ws) = stepped w ∷ ws
 step_at (suc k) (w ∷ ws) = w ∷ step_at k ws
 
--- an Ok reply begins a walk of the current regex, which has the next number
+-- the history after a request to begin a walk: an Ok reply adds a walk of the current regex, with the next number
 abbrev pub after_begin : History → Direction → Input → Reply → History
 after_begin h way input (reply.Begun (Ok k)) =
     record {
@@ -48,12 +48,12 @@ after_begin h way input (reply.Begun (Ok k)) =
     }
 after_begin h way input r = h
 
--- an Ok reply counts one more step of the walk
+-- the history after a step: an Ok reply counts one more step of the walk
 abbrev pub after_step : History → ℕ → Reply → History
 after_step h k (reply.Half (Ok found)) = record { current = h.current; walks = step_at k h.walks }
 after_step h k r = h
 
--- an Ok reply makes the regex of this number current
+-- the history after a reset: an Ok reply makes the regex of this number current
 abbrev pub after_reset : History → ℕ → Reply → History
 after_reset h k (reply.Done (Ok done)) = record { current = k; walks = h.walks }
 after_reset h k r = h

@@ -1,4 +1,4 @@
--- How what a replay keeps fits the history of its requests and replies.
+-- How the state of a replay agrees with the history of its requests and replies.
 use Rattle.std.specs.Prelude.{ℕ, ◌≡◌, ◌+◌, List, [], ◌∷◌, slice_set, Option, Some, Result}
 use Rattle.std.specs.Prelude.{OnOk, OnErr, slice_get}
 use Rattle.automata_base.specs.Haystacks.Input.{Input}
@@ -20,7 +20,7 @@ use Rattle.regex_automata.specs.declared.replay.requests.Request.{Request}
 use Rattle.regex_automata.specs.declared.replay.players.Player.{Player}
 use Rattle.regex_automata.specs.declared.replay.walks.KeptWalk.{KeptWalk}
 
--- one more call of a walk: what it returns, and what it leaves
+-- one more call of a walk: what it returns, and the walk after it
 pub record IsCall (way : Direction) (m : Machine) (input : Input) (old new : Walk)
     (result : Result (Option HalfMatch) SearchError) : Type 0 where
   -- after `k` calls that returned Ok it returns what the next one must
@@ -36,15 +36,15 @@ abbrev pub MakesCall :
 MakesCall way m input w old new result =
     (k : ℕ) → HasAnswered way m input w k → IsCalled way m input k old new result
 
--- a walk of this regex has answered so many calls
+-- a walk of this regex has answered `k` calls
 abbrev pub HasAnsweredBy : Regex → KeptWalk → ℕ → Type 0
 HasAnsweredBy r kept k = HasAnswered kept.way (dfa_in kept.way r) kept.input kept.state k
 
--- what its next call returns then
+-- what the next call of a walk that has answered `k` calls returns
 abbrev pub IsStepFrom : Regex → KeptWalk → ℕ → Result (Option HalfMatch) SearchError → Type 0
 IsStepFrom r kept k result = IsStep kept.way (dfa_in kept.way r) kept.input k result
 
--- one more call of it
+-- one more call of a walk of this regex
 pub record MakesOneCall (r : Regex) (old new : KeptWalk) (result : Result (Option HalfMatch) SearchError) : Type 0 where
   -- the walk belongs to the same regex as before
   pub regex : new.regex ≡ old.regex
@@ -59,30 +59,30 @@ pub record MakesOneCall (r : Regex) (old new : KeptWalk) (result : Result (Optio
   -- if it fails, the walk has answered as many calls as before
   pub kept : (k : ℕ) → HasAnsweredBy r old k → OnErr result (HasAnsweredBy r new k)
 
--- the walk of this number
+-- the walk with this number
 abbrev pub IsWalkAt : List KeptWalk → ℕ → KeptWalk → Type 0
 IsWalkAt ks number kept = slice_get ks number ≡ Some kept
 
--- one more call of the walk of this number, which leaves the other walks unchanged
+-- one more call of the walk with this number, which leaves the other walks unchanged
 abbrev pub GoesAt : Regex → ℕ → (olds news : List KeptWalk) → Result (Option HalfMatch) SearchError → Type 0
 GoesAt r number olds news result =
     (old : KeptWalk) → IsWalkAt olds number old
     → (new : KeptWalk) × MakesOneCall r old new result × (news ≡ slice_set olds number new)
 
--- what it does to the caches: to that of its direction what its call does, and nothing to the other
+-- the effect of a walk's call on the caches: it leaves the cache of the other direction unchanged
 abbrev pub MakesWalkStep : Regex → KeptWalk → (old new : Cache) → Result (Option HalfMatch) SearchError → Type 0
 MakesWalkStep r kept old new result =
     MakesCall kept.way (dfa_in kept.way r) kept.input kept.state (own_of kept.way old)
     (own_of kept.way new) result
     × (other_of kept.way new ≡ other_of kept.way old)
 
--- what one more call of the walk of this number does to the caches
+-- the effect of one more call of the walk with this number on the caches
 abbrev pub MakesStepAt :
     Regex → ℕ → List KeptWalk → (old new : Cache) → Result (Option HalfMatch) SearchError → Type 0
 MakesStepAt r number walks old new result =
     (kept : KeptWalk) → IsWalkAt walks number kept → MakesWalkStep r kept old new result
 
--- what is kept of a walk belongs to the walk that was begun, and has answered as many calls
+-- a kept walk is the walk that was begun, and has answered as many calls
 pub record IsWalk (regexes : List Regex) (w : Begun) (kept : KeptWalk) : Type 0 where
   -- it belongs to the same regex
   pub regex : kept.regex ≡ w.regex
@@ -93,14 +93,15 @@ pub record IsWalk (regexes : List Regex) (w : Begun) (kept : KeptWalk) : Type 0 
   -- it has answered as many calls
   pub reported : (r : Regex) → slice_get regexes w.regex ≡ Some r → HasAnsweredBy r kept w.reported
 
--- one for each
+-- each kept walk is the walk that was begun with its number
 abbrev pub AreWalks : List Regex → List Begun → List KeptWalk → Type 0
 AreWalks regexes [] [] = Unit {0}
 AreWalks regexes [] (k ∷ ks) = ⊥
 AreWalks regexes (w ∷ ws) [] = ⊥
 AreWalks regexes (w ∷ ws) (k ∷ ks) = IsWalk regexes w k × AreWalks regexes ws ks
 
--- the current regex is the history's, the caches belong to it, and the walks are the history's
+-- the state of a replay agrees with a history: the current regex and the walks are the same, and the caches belong to
+-- it
 pub record HasPlayed (h : History) (s : Player) : Type 0 where
   -- the number of the current regex is the history's
   pub current : s.current ≡ h.current
@@ -115,11 +116,11 @@ pub record HasPlayed (h : History) (s : Player) : Type 0 where
 abbrev pub IsReplyTo : Player → Request → Reply → Type 0
 IsReplyTo s q answer = (h : History) → HasPlayed h s → IsReply s.regexes.now h q answer
 
--- what is kept after a request fits the history that its reply makes, whatever the history before
+-- the state after a request agrees with the history that its reply leads to, whatever the previous history
 abbrev pub KeepsHistory : (old : Player) → Request → Reply → (new : Player) → Type 0
 KeepsHistory old q answer new = (h : History) → HasPlayed h old → HasPlayed (after h q answer) new
 
--- what the request does to the caches, after any history
+-- the effect of the request on the caches, after any history
 abbrev pub MakesCaches : (old : Player) → Request → Reply → (new : Player) → Type 0
 MakesCaches old q answer new =
     (h : History) → HasPlayed h old → IsRequestEffect old.regexes.now h q answer old.cache new.cache

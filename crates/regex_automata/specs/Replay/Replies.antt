@@ -30,28 +30,28 @@ abbrev pub walk_fault : (current : ℕ) → Option Begun → Option Fault
 walk_fault current None = Some fault.NoWalk
 walk_fault current (Some w) = if w.regex == current then None else Some fault.OtherRegex
 
--- why a request is bad where there is a regex: it is a bad step, or a reset that names no regex
+-- why a request is bad, if there are regexes: it is a bad step, or a reset whose number is out of range
 abbrev pub own_fault : List Regex → History → Request → Option Fault
 own_fault regexes h (request.StepWalk k) = walk_fault h.current (slice_get h.walks k)
 own_fault regexes h (request.Reset k) = if nat_lt k (length regexes) then None else Some fault.NoRegex
 own_fault regexes h other = None
 
--- why a request is bad, if it is: there is no regex at all, or it is bad itself
+-- why a request is bad, if it is: there are no regexes, or it is a bad step or reset
 abbrev pub fault_of : List Regex → History → Request → Option Fault
 fault_of [] h q = Some fault.NoRegex
 fault_of (r ∷ rs) h q = own_fault (r ∷ rs) h q
 
--- the reply is that of a search of one DFA or of a step, and its result has this property
+-- the reply is to a search of one DFA or to a step, and its result has this property
 abbrev pub OnHalf : (Result (Option HalfMatch) SearchError → Type 0) → Reply → Type 0
 OnHalf P (reply.Half result) = P result
 OnHalf P other = ⊥
 
--- the reply is that of a search for a span, and its result has this property
+-- the reply is to a search for a span, and its result has this property
 abbrev pub OnSpan : (Result (Option Match) SearchError → Type 0) → Reply → Type 0
 OnSpan P (reply.Span result) = P result
 OnSpan P other = ⊥
 
--- the reply is that of a search for whether there is a match, and its result has this property
+-- the reply is to a search for whether there is a match, and its result has this property
 abbrev pub OnTruth : (Result Bool SearchError → Type 0) → Reply → Type 0
 OnTruth P (reply.Truth result) = P result
 OnTruth P other = ⊥
@@ -66,7 +66,7 @@ abbrev pub OnTokens : (List Match → Option TokenError → Type 0) → Reply �
 OnTokens P (reply.Tokens found error) = P found.items error
 OnTokens P other = ⊥
 
--- the reply is that of beginning a walk, and its result has this property
+-- the reply is to the beginning of a walk, and its result has this property
 abbrev pub OnBegun : (Result ℕ SearchError → Type 0) → Reply → Type 0
 OnBegun P (reply.Begun result) = P result
 OnBegun P other = ⊥
@@ -76,28 +76,28 @@ abbrev pub OnPatterns : (List ℕ → Option SearchError → Type 0) → Reply �
 OnPatterns P (reply.Patterns found error) = P found.items error
 OnPatterns P other = ⊥
 
--- the reply is that of a reset, and its result has this property
+-- the reply is to a reset, and its result has this property
 abbrev pub OnDone : (Result (Unit {0}) SearchError → Type 0) → Reply → Type 0
 OnDone P (reply.Done result) = P result
 OnDone P other = ⊥
 
--- the DFA that makes a walk
+-- the DFA of a walk, by its direction
 abbrev pub dfa_in : Direction → Regex → Machine
 dfa_in Forward r = r.forward
 dfa_in Backward r = r.reverse
 
--- the step of a walk
+-- what a step of a walk returns
 abbrev pub IsStepOf : Regex → Option Begun → Result (Option HalfMatch) SearchError → Type 0
 IsStepOf r None result = ⊥
 IsStepOf r (Some w) result = IsStep w.way (dfa_in w.way r) w.input w.reported result
 
--- a walk takes the next number
+-- a new walk has the next number, or there is no memory for it
 abbrev pub IsNumber : ℕ → Result ℕ SearchError → Type 0
 IsNumber n (Ok k) = k ≡ n
 IsNumber n (Err e) = IsMemory e
 
--- the reply is the value of its request, by the current regex alone, and of a step by its walk alone; or an error that
--- the request's own call may give
+-- the reply is the value of its request, as determined by the current regex alone, and for a step by its walk alone; or
+-- an error that the request's own call may return
 abbrev pub IsOwnValue : Regex → (walks : List Begun) → Request → Reply → Type 0
 IsOwnValue r walks (request.SearchFwd input) = OnHalf (IsHalf Forward r.forward input)
 IsOwnValue r walks (request.SearchRev input) = OnHalf (IsHalf Backward r.reverse input)
@@ -110,30 +110,30 @@ IsOwnValue r walks (request.StepWalk k) = OnHalf (IsStepOf r (slice_get walks k)
 IsOwnValue r walks (request.Which capacity input) = OnPatterns (ArePatternsUpto r.forward input capacity)
 IsOwnValue r walks (request.Reset k) = OnDone (λ result. IfErr result IsMemory)
 
--- the reply is the own value of its request, by the current regex, which there is
+-- there is a current regex, and the reply is the request's own value by it
 abbrev pub IsOwnValueBy : Option Regex → (walks : List Begun) → Request → Reply → Type 0
 IsOwnValueBy None walks q answer = ⊥
 IsOwnValueBy (Some r) walks q answer = IsOwnValue r walks q answer
 
--- a reply after this history: bad exactly for the request's fault, and otherwise its own value
+-- a reply after this history: `Bad` with the request's fault if it has one, and otherwise the request's own value
 abbrev pub IsReply : List Regex → History → Request → Reply → Type 0
 IsReply regexes h q answer =
     MatchOption (fault_of regexes h q)
     (IsOwnValueBy (slice_get regexes h.current) h.walks q answer)
     (λ why. answer ≡ reply.Bad why)
 
--- one reply for each request, each after the history that the ones before it made
+-- one reply for each request, each after the history that the previous ones lead to
 abbrev pub AreRepliesAfter : List Regex → History → List Request → List Reply → Type 0
 AreRepliesAfter regexes h [] [] = Unit {0}
 AreRepliesAfter regexes h [] (r ∷ rs) = ⊥
 AreRepliesAfter regexes h (q ∷ qs) [] = ⊥
 AreRepliesAfter regexes h (q ∷ qs) (r ∷ rs) = IsReply regexes h q r × AreRepliesAfter regexes (after h q r) qs rs
 
--- from the beginning on
+-- one reply for each request of a script, from its beginning
 abbrev pub AreReplies : List Regex → List Request → List Reply → Type 0
 AreReplies regexes script replies = AreRepliesAfter regexes start script replies
 
--- the Ok reply to a step of walk `k`, before those that come later
+-- adds a reply to the later ones, if it is an Ok reply to a step of walk `k`
 abbrev pub report : ℕ → Request → Reply → List (Option HalfMatch) → List (Option HalfMatch)
 report k (request.StepWalk j) (reply.Half (Ok found)) later = if j == k then found ∷ later else later
 report k (request.StepWalk j) other later = later
@@ -145,14 +145,14 @@ reported_to k [] replies = []
 reported_to k (q ∷ qs) [] = []
 reported_to k (q ∷ qs) (r ∷ rs) = report k q r (reported_to k qs rs)
 
--- replies are the pairs of a list from number `reported` on, and then none
+-- replies are the pairs of a list from index `reported` on, and then none
 abbrev pub AreReportedFrom : ℕ → List Pair → List (Option HalfMatch) → Type 0
 AreReportedFrom reported pairs [] = Unit {0}
 AreReportedFrom reported pairs (found ∷ later) =
     (found ≡ half_nth pairs reported) × AreReportedFrom (suc reported) pairs later
 
--- the replies to a walk's steps are the pairs of the walk over an input, and then none: for every NFA those that its
--- passes report (there is one such list), and if the NFA keeps its cycles those of the ordered paths
+-- the replies to a walk's steps are the pairs of the walk over an input, and then none: for every NFA the pairs that
+-- its passes report (there is one such list), and if the NFA keeps its cycles those of the ordered paths
 pub record ReportWalk (way : Direction) (m : Machine) (input : Input) (steps : List (Option HalfMatch)) : Type 0 where
   -- for every NFA, they are the pairs that its passes report
   pub reported : (pairs : List Pair) → AreWalked way m input pairs → AreReportedFrom 0 pairs steps

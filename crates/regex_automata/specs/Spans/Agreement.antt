@@ -10,7 +10,7 @@ use Rattle.regex_automata.specs.declared.hybrid.regex.Regex.{Regex}
 use Rattle.automata_config.specs.Options.{match_kind_of}
 
 -- two regexes have the same NFAs and match kinds; their DFAs may differ in capacity, limits, byte classes, tags of
--- starts and quit bytes
+-- start states and quit bytes
 pub record AreAlike (p other : Regex) : Type 0 where
   -- the forward NFAs are the same
   pub forward : p.forward.nfa ≡ other.forward.nfa
@@ -27,7 +27,7 @@ MatchesAgree =
     (p other : Regex) (input : Input) (first second : Option Match)
     → AreAlike p other → FindsMatch p input first → FindsMatch other input second → first ≡ second
 
--- so do searches for whether there is a match, which use the forward DFA alone
+-- searches for whether there is a match return the same over any caches of DFAs of one forward NFA and match kind
 abbrev pub TruthsAgree : Type 0
 TruthsAgree =
     (m other : Machine) (input : Input) (first second : Bool)
@@ -35,7 +35,7 @@ TruthsAgree =
     → IsMatchReported m input first → IsMatchReported other input second
     → first ≡ second
 
--- if the input is not earliest or no place is skipped, there is a match exactly if a search finds one
+-- if the input is not earliest or no offset is skipped, there is a match exactly if a search finds one
 abbrev pub TruthIffFound : Type 0
 TruthIffFound =
     (p : Regex) (input : Input) (truth : Bool) (answer : Option Match)

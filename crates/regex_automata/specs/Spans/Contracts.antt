@@ -1,4 +1,4 @@
--- What the answer to a call is by its DFA or its regex and its input alone, whatever the cache.
+-- What a call returns, as determined by its DFA or its regex and its input alone, whatever the cache.
 use Rattle.std.specs.Prelude.{ℕ, suc, ◌≡◌, ◌<◌, ◌≤◌, ◌+◌, ◌-◌, ◌⊎◌, Bool, false, List, [], ◌∷◌, length, replicate}
 use Rattle.std.specs.Prelude.{Option, Some, None, Result, Ok, Err, IfOk, IfErr, IfSome, take}
 use Rattle.automata_base.specs.Answers.Answers.{IsOverlapping, ArePatterns, ArePatternsFound}
@@ -28,19 +28,19 @@ use Rattle.regex_automata.specs.Spans.Errors.{IsFree, IsOfMemory}
 use Rattle.regex_automata.specs.Regexes.SoundPairs.{BothKeepCycles, IsSoundPair, forward_engine, reverse_engine}
 use Rattle.regex_automata.specs.declared.hybrid.regex.Regex.{Regex}
 
--- what a call of a walk returns after so many that returned Ok
+-- what a call of a walk returns after `reported` calls that returned Ok
 pub record IsStep (way : Direction) (m : Machine) (input : Input) (reported : ℕ)
     (result : Result (Option HalfMatch) SearchError) : Type 0 where
   -- for every NFA, the next pair of the list that its passes report, and none after the last one
   pub pair : IfOk result (λ found. (pairs : List Pair) → AreWalked way m input pairs
       → found ≡ half_nth pairs reported)
-  -- if the NFA keeps its cycles, that of the list of the ordered paths
+  -- if the NFA keeps its cycles, the next pair of the list of the ordered paths
   pub paths :
       KeepsCycles (nfa_of m.nfa)
       → IfOk result (λ found.
       (pairs : List Pair) → IsOverlapping way (engine m) input pairs
       → found ≡ half_nth pairs reported)
-  -- with it the walk has reported so many, and no unit that it read is a quit byte
+  -- then the walk has reported one more, and has read no quit byte
   pub clean : IfOk result (λ found. (w : Walk) × HasReported way m input w (suc reported))
   -- it lies in the input's span, and its pattern is one of the NFA's
   pub within : IfOk result (λ found. IfSome found (LiesIn m input))
@@ -59,47 +59,47 @@ pub record IsSpanReported (p : Regex) (input : Input) (result : Result (Option M
   pub within : IfOk result (λ o. IfSome o (MatchLiesIn p input))
   -- an anchored mode that is not supported is reported
   pub unsupported : IsUnsupported Forward p.forward input → result ≡ Err (unsupported_error input)
-  -- in a span that is done there is no match
+  -- if the span is done there is no match
   pub done : input.end < input.start → result ≡ Ok None
 
 -- what a search for a span returns
 pub record IsSpanOf (p : Regex) (input : Input) (result : Result (Option Match) SearchError) : Type 0 where
-  -- if both NFAs keep their cycles, what the ordered paths through both define
+  -- if both NFAs keep their cycles, it is what the ordered paths through both define
   pub answer : BothKeepCycles p → IfOk result (TryFinds (forward_engine p) (reverse_engine p) input)
-  -- over a sound pair, the span of the path that the forward search chose
+  -- over a sound pair, it is the span of the path that the forward search chose
   pub span : IsSoundPair p → IfOk result (IsSpan (forward_engine p) input)
   -- it lies in the input's span, and its pattern is one of the NFAs'
   pub within : IfOk result (λ o. IfSome o (MatchLiesIn p input))
   -- an anchored mode that is not supported is reported
   pub unsupported : IsUnsupported Forward p.forward input → result ≡ Err (unsupported_error input)
-  -- if nothing prevents a search of either DFA, the only errors are out of memory, and that the two are no pair
+  -- if nothing prevents a search of either DFA, the only errors are out of memory and `NotAPair`
   pub free : IsFree p input → IfErr result IsOfMemory
-  -- and over a sound pair out of memory alone
+  -- over a sound pair, the only error is then out of memory
   pub paired : IsSoundPair p → IsFree p input → IfErr result IsMemory
-  -- in a span that is done there is no match
+  -- if the span is done there is no match
   pub done : input.end < input.start → result ≡ Ok None
 
 -- whether there is a match by the passes of the forward DFA, for every NFA
 pub record IsTruthReported (m : Machine) (input : Input) (truth : Bool) : Type 0 where
-  -- it is whether its search finds a match, whose passes met no quit byte
+  -- it is whether the search finds a match; its passes read no quit byte
   pub found : IsTruthFound m input truth
-  -- and whether the passes over an input that is not earliest report one
+  -- it is also whether the passes over the input, not earliest, report a match
   pub reported : IsMatchReported m input truth
 
--- what the search for whether there is a match returns
+-- what a search for whether there is a match returns
 pub record IsTruthOf (p : Regex) (input : Input) (result : Result Bool SearchError) : Type 0 where
   -- if the NFA keeps its cycles, whether the ordered paths have an answer
   pub answer : KeepsCycles (nfa_of p.forward.nfa) → IfOk result (IsMatch (forward_engine p) input)
-  -- for every NFA too, if no place is skipped: whether an earliest search has a nearest end
+  -- for every NFA, if no offset is skipped, whether an earliest search has a nearest end
   pub nearest : (Skips p.forward → ⊥) → IfOk result (IsNearestThere p.forward input)
   -- an anchored mode that is not supported is reported
   pub unsupported : IsUnsupported Forward p.forward input → result ≡ Err (unsupported_error input)
   -- if nothing prevents it, the only error is out of memory
   pub free : IsUnhindered p.forward input → IfErr result IsMemory
-  -- in a span that is done there is none
+  -- if the span is done there is no match
   pub done : input.end < input.start → result ≡ Ok false
 
--- an item of an iteration that goes on, if the anchored mode is not supported
+-- if the anchored mode is not supported, the item of an iteration that has not ended is that error
 abbrev pub ReportsUnsupported : Regex → Input → (ended : Bool) → Option (Result Match SearchError) → Type 0
 ReportsUnsupported p input ended item =
     ended ≡ false → IsUnsupported Forward p.forward input → item ≡ Some (Err (unsupported_error input))
@@ -113,33 +113,32 @@ pub record AreMatchesUpto (p : Regex) (input : Input) (ms : List Match) (error :
   -- over a sound pair, the list of all spans begins with these
   pub beginning :
       IsSoundPair p → (whole : List Match) → AreSpans (forward_engine p) input whole → IsBeginning ms whole
-  -- each starts at or after the end of the one before and ends after it, in the span
+  -- each starts at or after the end of the previous one and ends after it, in the span
   pub rise : Rise input.end None ms
-  -- there is at most one more than the span has bytes
+  -- their number is at most the length of the span plus one
   pub few : length ms ≤ input.end - input.start + 1
-  -- an anchored mode that is not supported is reported, and no match
+  -- if the anchored mode is not supported, there are no matches, and that is the error
   pub unsupported :
       IsUnsupported Forward p.forward input → (ms ≡ []) × (error ≡ Some (unsupported_error input))
   -- over a sound pair, if nothing prevents a search of either DFA, the only error is out of memory
   pub free : IsSoundPair p → IsFree p input → IfSome error IsMemory
 
--- each number is at least `low`, and greater than the one before
+-- each number is at least `low`, and greater than the previous one
 abbrev pub AreRising : (low : ℕ) → List ℕ → Type 0
 AreRising low [] = Unit {0}
 AreRising low (k ∷ ks) = (low ≤ k) × AreRising (suc k) ks
 
--- a set with room for so many patterns, and none in it
+-- an empty set with this capacity
 abbrev pub empty_set : (capacity : ℕ) → List Bool
 empty_set capacity = replicate capacity false
 
--- the walk of a set has made calls as long as the set could take more, until it ended or the set takes no more; no unit
--- that it read is a quit byte
+-- the walk that fills a set has made calls until it ended or the set could take no more; it read no quit byte
 pub record HasReportedSet (m : Machine) (input : Input) (set : List Bool) : Type 0 where
   -- how many calls it has made
   pub calls : ℕ
   -- the walk after them
   pub walk : Walk
-  -- they have reported as many pairs
+  -- they have reported as many pairs, or all of them if there are fewer
   pub reported : HasReported Forward m input walk calls
   -- the set could take more before each of them
   pub on : (k : ℕ) → k < calls → IsOpenAfter m input set k
@@ -150,27 +149,27 @@ pub record HasReportedSet (m : Machine) (input : Input) (set : List Bool) : Type
 
 -- the patterns below a capacity that the passes report, for every NFA
 pub record ArePatternsReported (m : Machine) (input : Input) (capacity : ℕ) (found : List ℕ) : Type 0 where
-  -- they are those of the walk
+  -- they are the patterns of the walk
   pub reported : ArePatterns (AreWalked Forward m input) input capacity [] found
-  -- no unit that was read up to the last one is a quit byte
+  -- no unit that was read for them is a quit byte
   pub clean : HasReportedSet m input (empty_set capacity)
 
--- the patterns below a capacity of all overlapping matches, in an earliest search of the first one; or those reported
--- before the error
+-- the patterns below a capacity of all overlapping matches, or for an earliest input of the first one; or those
+-- reported before the error
 pub record ArePatternsUpto (m : Machine) (input : Input) (capacity : ℕ) (found : List ℕ)
     (error : Option SearchError) : Type 0 where
   -- in increasing order
   pub rise : AreRising 0 found
-  -- if the NFA keeps its cycles, those of the ordered paths
+  -- if the NFA keeps its cycles and there is no error, those of the ordered paths
   pub paths :
       KeepsCycles (nfa_of m.nfa) → error ≡ None
       → ArePatternsFound (engine m) input capacity [] found
-  -- if the anchored mode is not supported there are none, and that is reported, or out of memory for the set or the
+  -- if the anchored mode is not supported there are none, and the error is that, or out of memory for the set or the
   -- list
   pub unsupported :
       IsUnsupported Forward m input
       → (found ≡ []) × ((error ≡ Some (unsupported_error input)) ⊎ (error ≡ Some search.OutOfMemory))
-  -- in a span that is done there is none
+  -- if the span is done there are none
   pub done : input.end < input.start → (found ≡ []) × IfSome error IsMemory
   -- if nothing prevents it, the only error is out of memory
   pub free : IsUnhindered m input → IfSome error IsMemory

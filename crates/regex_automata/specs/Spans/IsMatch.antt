@@ -9,22 +9,22 @@ use Rattle.automata_hybrid.specs.Machines.Machine.{Machine, engine}
 use Rattle.automata_hybrid.specs.Searches.Passes.{IsFound, Skips}
 use Rattle.automata_config.specs.Options.{match_kind_of}
 
--- the input, earliest
+-- the input with `earliest` set
 abbrev pub in_part : Input → Input
 in_part input = record input { earliest = true }
 
--- what is searched to see whether there is a match
+-- the input that is searched to see whether there is a match
 pub data IsAsked (m : Machine) (input asked : Input) : Type 0 where
-  -- split places are skipped: it is the input, not earliest
+  -- offsets inside characters are skipped: it is the input, not earliest
   AsksInFull : Skips m → asked ≡ in_full input → IsAsked m input asked
-  -- they are not: it is the input, earliest
+  -- no offset is skipped: it is the input, earliest
   AsksInPart : (Skips m → ⊥) → asked ≡ in_part input → IsAsked m input asked
 
--- whether there is a match, by what a search finds; none of its passes met a quit byte
+-- whether there is a match, by what a search finds; none of its passes read a quit byte
 pub record IsTruthFound (m : Machine) (input : Input) (truth : Bool) : Type 0 where
   -- the input that is searched
   pub asked : Input
-  -- it is not earliest if split places are skipped, and else earliest
+  -- it is not earliest if offsets inside characters are skipped, and otherwise earliest
   pub is : IsAsked m input asked
   -- what the search finds
   pub answer : Option Half
@@ -33,7 +33,7 @@ pub record IsTruthFound (m : Machine) (input : Input) (truth : Bool) : Type 0 wh
   -- there is a match exactly if it finds one
   pub same : truth ≡ is_some answer
 
--- by what passes report of the input when it is not earliest
+-- whether there is a match, by what passes over the input, not earliest, report
 abbrev pub IsMatchReported : Machine → Input → Bool → Type 0
 IsMatchReported m input truth =
     (o : Option Half) × IsReported Forward m.nfa (match_kind_of m.config) (in_full input) o × (truth ≡ is_some o)

@@ -14,7 +14,7 @@ use Rattle.regex_automata.specs.declared.hybrid.regex.Regex.{Regex}
 abbrev pub FindsEmptyAt : Regex → Input → Option ℕ → Type 0
 FindsEmptyAt p input last = (m : Match) × FindsMatch p input (Some m) × IsEmptyAt last m
 
--- the match after one that ended at `last`: it is not an empty one there
+-- the match after one that ended at `last`, which is not an empty match there
 abbrev pub IsNextMatch : Regex → Input → Option ℕ → Option Match → Type 0
 IsNextMatch p input last answer = IsNextItem (FindsMatch p) input input.start last answer
 
@@ -29,29 +29,29 @@ LiesInHaystack haystack item =
 
 -- an iteration stays where it is, and has ended
 pub record StaysEnded (input input' : Input) (last last' : Option ℕ) (ended' : Bool) : Type 0 where
-  -- the same is left to be searched
+  -- the remaining input is the same
   pub rest : input' ≡ input
   -- the last match ended at the same offset
   pub place : last' ≡ last
   -- the iteration has ended
   pub over : ended' ≡ true
 
--- an iteration gives a match, and goes on from its end
+-- an iteration returns a match, and continues from its end
 pub record PassesMatch (p : Regex) (m : Match) (input input' : Input) (last last' : Option ℕ) (ended' : Bool) :
     Type 0 where
   -- it is the match after the one that ended at `last`
   pub next : IsNextMatch p input last (Some m)
-  -- it lies in the span that was left, and its pattern is one of the NFAs'
+  -- it lies in the remaining span, and its pattern is one of the NFAs'
   pub within : MatchLiesIn p input m
-  -- what is left to be searched starts at its end
+  -- the remaining input starts at its end
   pub rest : input' ≡ from m.end input
-  -- and it is the last match
+  -- the last match ended at its end
   pub place : last' ≡ Some m.end
   -- the iteration has not ended
   pub going : ended' ≡ false
 
--- one item of an iteration, and the iteration before and after it: what is left to be searched, where the last match
--- ended, and whether it has ended
+-- one item of an iteration, and the iteration before and after it: the remaining input, the end of the last match, and
+-- whether it has ended
 abbrev pub GivesItem :
     Regex → Option (Result Match SearchError) → (input input' : Input) → (last last' : Option ℕ)
     → (ended ended' : Bool) → Type 0
@@ -61,12 +61,12 @@ GivesItem p None input input' last last' false ended' =
 GivesItem p (Some (Ok m)) input input' last last' false ended' = PassesMatch p m input input' last last' ended'
 GivesItem p (Some (Err e)) input input' last last' false ended' = StaysEnded input input' last last' ended'
 
--- an input made of its parts
+-- the input with these parts
 abbrev pub input_over : List ℕ → (start end : ℕ) → Anchored → (earliest : Bool) → Input
 input_over haystack start end anchored earliest =
     record { haystack = haystack; start = start; end = end; anchored = anchored; earliest = earliest }
 
--- how many items may come
+-- an upper bound on the number of remaining items
 abbrev pub most_items : (ended : Bool) → Input → Option ℕ → ℕ
 most_items true input last = 0
 most_items false input None = input.end + 2 - input.start
@@ -84,6 +84,6 @@ abbrev pub AreCollected : (Finds : Input → Option Match → Type 0) → Input 
 AreCollected Finds input ms error =
     MatchOption error (AreMatches Finds input input.start None ms) (λ e. AreFirst Finds input input.start None ms)
 
--- all matches begin with these
+-- the first list of matches is a prefix of the second
 abbrev pub IsBeginning : List Match → List Match → Type 0
 IsBeginning ms all = (rest : List Match) × (all ≡ ms ++ rest)

@@ -1,4 +1,4 @@
--- What a search over two lazy DFAs returns by what their passes report. It holds for every two DFAs.
+-- What a search with two lazy DFAs returns, by what their passes report. It is defined for every two DFAs.
 use Rattle.std.specs.Prelude.{ℕ, ◌<◌, ◌≤◌, Option, length}
 use Rattle.automata_base.specs.Answers.Answers.{Half}
 use Rattle.automata_base.specs.Haystacks.Input.{Input}

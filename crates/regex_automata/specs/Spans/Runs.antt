@@ -1,4 +1,4 @@
--- What searches over two lazy DFAs make of their caches: runs of the forward DFA, and of the reverse one, each over
+-- The effect of searches over two lazy DFAs on their caches: runs of the forward DFA, and of the reverse one, each over
 -- what its cache knows.
 use Rattle.std.specs.Prelude.{ℕ, suc, ◌≡◌, ◌⊎◌, Option, Some, None, Result, Bool, true, false}
 use Rattle.std.specs.Result.{result_err}
@@ -20,7 +20,7 @@ use Rattle.regex_automata.specs.Regexes.SoundPairs.{forward_engine}
 use Rattle.regex_automata.specs.declared.hybrid.regex.Regex.{Regex}
 use Rattle.regex_automata.specs.declared.hybrid.regex.caches.Cache.{Cache}
 
--- the search back from a forward answer, if it is made
+-- the reverse search from a forward answer, if it is made
 pub data IsBackRun (p : Regex) (input : Input) (half : Half) (old new : CacheView) (error : Option SearchError) :
     Type 0 where
   -- the start is known without it: the cache is unchanged, and nothing fails
@@ -37,16 +37,16 @@ IsFrontRun p input old new error =
     IsSearchRun Forward p.forward input (known_of old.forward) (known_of new.forward) error
     × (new.reverse ≡ old.reverse) × (error ≡ None → IsFound Forward p.forward input None)
 
--- the error after a search back
+-- the error after a reverse search
 pub data IsErrorOfBoth (p : Regex) (input : Input) (half : Half) (failed error : Option SearchError) : Type 0 where
-  -- it is that of the search back, if it has one
+  -- it is the error of the reverse search, if that has one
   IsItsOwn : error ≡ failed → IsErrorOfBoth p input half failed error
-  -- the search back finds no start, so the two are no pair
+  -- the reverse search finds no start, so the error is `NotAPair`
   FindsNoStart :
       failed ≡ None → IsStartFound p input half None → error ≡ Some search.NotAPair
       → IsErrorOfBoth p input half failed error
 
--- the forward search has an answer, and the search back fails or ends
+-- the forward search has an answer, and the reverse search fails or ends
 pub record IsBothRun (p : Regex) (input : Input) (old new : Cache) (error : Option SearchError) : Type 0 where
   -- the forward search does not fail
   pub front : IsSearchRun Forward p.forward input (known_of old.forward) (known_of new.forward) None
@@ -54,16 +54,16 @@ pub record IsBothRun (p : Regex) (input : Input) (old new : Cache) (error : Opti
   pub half : Half
   -- its passes report it
   pub found : IsFound Forward p.forward input (Some half)
-  -- the error of the search back, if that fails
+  -- the error of the reverse search, if that fails
   pub failed : Option SearchError
-  -- what the search back does, if it is made
+  -- what the reverse search does, if it is made
   pub back : IsBackRun p input half old.reverse new.reverse failed
   -- the error that is returned
   pub told : IsErrorOfBoth p input half failed error
 
 -- a search for a span, by the error that it returns, if it fails
 pub record IsSpanRun (p : Regex) (input : Input) (old new : Cache) (error : Option SearchError) : Type 0 where
-  -- it is the forward search alone, if that fails or finds no match, and else that and the search back
+  -- it is the forward search alone, if that fails or finds no match, and otherwise both searches
   pub run : IsFrontRun p input old new error ⊎ IsBothRun p input old new error
 
 -- a search for the match after another: one search, or, if that finds an empty match at the last end, another from one
@@ -92,7 +92,7 @@ IsItemRun p input last false old new item = IsNextRun p input last old new (item
 pub record IsTruthRun (p : Regex) (input : Input) (old new : Cache) (error : Option SearchError) : Type 0 where
   -- the input that is searched
   pub asked : Input
-  -- it is not earliest if split places are skipped, and else earliest
+  -- it is not earliest if offsets inside characters are skipped, and otherwise earliest
   pub is : IsAsked p.forward input asked
   -- the forward DFA searches it
   pub run : IsSearchRun Forward p.forward asked (known_of old.forward) (known_of new.forward) error

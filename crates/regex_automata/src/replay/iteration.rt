@@ -18,7 +18,7 @@ use automata_base::util::search::{Input, Match};
 use automata_config::error::SearchError;
 use std::alloc::Global;
 
-/// The matches up to an error, which is that of a search, or out of memory for the list.
+/// Returns the matches, and the error that ended them, if any: a search's error, or out of memory for the list.
 pub fn matches_upto(
     alloc: Global,
     regex: &Regex,
@@ -38,7 +38,7 @@ pub fn matches_upto(
     take_matches(alloc, regex, cache, input)
 }
 
-/// The matches up to an error, by what the passes report.
+/// Collects the matches up to an error. The contract is in terms of what the passes report.
 fn take_matches(
     alloc: Global,
     regex: &Regex,

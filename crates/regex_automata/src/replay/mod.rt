@@ -21,8 +21,8 @@ use std::alloc::{AllocError, Global};
 /// Returns one reply for each request, in order. Each is its request's own value, whatever came before.
 ///
 /// One cache serves all requests. At first it belongs to regex 0, which is the current one. If there is no regex, each
-/// reply is `Fault::NoRegex`. This call fails only if that cache or the list of replies cannot be allocated; out of
-/// memory inside a request is in its reply.
+/// reply is `Fault::NoRegex`. The call fails only if that cache or the list of replies cannot be allocated; if a
+/// request runs out of memory, its reply reports it.
 pub fn replay(
     alloc: Global,
     regexes: &[Regex],
@@ -36,7 +36,7 @@ pub fn replay(
     ensures walks { IfOk result (λ replies. ReportWalks regexes.now script.now replies.items) }
 
     // One cache serves all requests, within the settings of the current regex. It is fresh at first and after an Ok
-    // reset. An error is that of a call on the cache as the request before left it.
+    // reset. An error comes from a call on the cache as the previous request left it.
     ensures made { IfOk result (λ replies. AreAnswered regexes.now script.now replies.items) }
 {
     match regexes.first() {
@@ -65,7 +65,7 @@ fn answer_all<'h>(
     Ok(replies)
 }
 
-/// Replies that there is no regex, to each request.
+/// Replies `Fault::NoRegex` to each request.
 fn refuse_all(alloc: Global, script: &[Request<'_>]) -> Result<Vec<Reply>, AllocError>
     ensures { IfOk result (λ replies. AreReplies [] script.now replies.items) }
 {

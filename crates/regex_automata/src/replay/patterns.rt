@@ -13,7 +13,8 @@ use automata_base::util::search::Input;
 use automata_config::error::SearchError;
 use std::alloc::{AllocError, Global};
 
-/// The patterns in a fresh set after an overlapping search; after an error, those that were reported before it.
+/// Returns the patterns of all overlapping matches, collected in a new set; after an error, those reported before it.
+/// It returns no patterns if the set or the list cannot be allocated.
 pub fn patterns_below(
     alloc: Global,
     dfa: &DFA,
@@ -37,7 +38,7 @@ pub fn patterns_below(
     }
 }
 
-/// The patterns of a set, in increasing order.
+/// Returns the patterns of a set, in increasing order.
 fn list_members(alloc: Global, set: &PatternSet) -> Result<Vec<PatternID>, AllocError>
     ensures { IfOk result (λ list. list.items ≡ members set.now) }
 {

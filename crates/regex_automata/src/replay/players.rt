@@ -26,7 +26,7 @@ pub struct Player<'r, 'h> {
     walks: Vec<KeptWalk<'h>>,
 }
 
-// One call for an owner, whose proof then has no step for each part.
+// With its own `drop`, the proof of an owner has one step for it instead of one for each part.
 impl<'r, 'h> Drop for Player<'r, 'h> {
     fn drop(self) {
         let Self {
@@ -41,7 +41,7 @@ impl<'r, 'h> Drop for Player<'r, 'h> {
 }
 
 impl<'r, 'h> Player<'r, 'h> {
-    /// Before the first request: regex 0 is current.
+    /// Returns the state before the first request: regex 0 is current, with fresh caches.
     #[tactic(auto, using(crate::proofs::Replies::Contracts::fresh_caches))]
     pub fn new(
         alloc: Global,
@@ -151,7 +151,7 @@ impl<'r, 'h> Player<'r, 'h> {
         Reply::Half(step_at(&mut self.walks, number, regex, &mut self.cache))
     }
 
-    /// Makes another regex current. An error changes nothing.
+    /// Makes regex `number` the current one, with fresh caches. An error changes nothing.
     #[tactic(auto, using(crate::proofs::Replies::Contracts::fresh_caches))]
     fn reset(&mut self, number: usize) -> Reply
         requires { (h : History) × HasPlayed h self.old }

@@ -1,4 +1,4 @@
-//! What a script asks for, and what is replied.
+//! The requests of a script, and the replies.
 
 use crate::tokens::TokenError;
 use automata_base::util::primitives::PatternID;
@@ -10,7 +10,7 @@ use automata_config::error::SearchError;
 pub enum Request<'h> {
     /// A search of the current regex's forward DFA.
     SearchFwd(Input<'h>),
-    /// A search of its reverse DFA.
+    /// A search of the current regex's reverse DFA.
     SearchRev(Input<'h>),
     /// The span of the first match.
     Find(Input<'h>),
@@ -26,25 +26,25 @@ pub enum Request<'h> {
     StepWalk(usize),
     /// The patterns of all overlapping matches that are below the capacity.
     Which { capacity: usize, input: Input<'h> },
-    /// Makes the caches fresh ones of this regex, which becomes the current one.
+    /// Makes this regex the current one, with fresh caches.
     Reset(usize),
 }
 
 /// Why a request is bad.
 #[derive(Clone, Copy, Debug, PartialEq, Eq)]
 pub enum Fault {
-    /// There is no regex at all, or a reset names none.
+    /// There are no regexes, or the number of a reset is out of range.
     NoRegex,
-    /// There is no walk of this number.
+    /// There is no walk with this number.
     NoWalk,
-    /// The walk belongs to another regex than the current one.
+    /// The walk does not belong to the current regex.
     OtherRegex,
 }
 
 /// The reply to a request: its answer, or its error. Out of memory is an error too.
 #[derive(Debug, PartialEq, Eq)]
 pub enum Reply {
-    /// What a search of one DFA found, or the match of a walk after one step.
+    /// The match that a search of one DFA found, or that a step of a walk reports.
     Half(Result<Option<HalfMatch>, SearchError>),
     /// The span of the first match.
     Span(Result<Option<Match>, SearchError>),
@@ -60,20 +60,20 @@ pub enum Reply {
         found: Vec<Match>,
         error: Option<TokenError>,
     },
-    /// The number of the walk that was begun.
+    /// The number of the new walk.
     Begun(Result<usize, SearchError>),
     /// The patterns in increasing order, and the error that ended the search after them, if any.
     Patterns {
         found: Vec<PatternID>,
         error: Option<SearchError>,
     },
-    /// The regex that the reset names is current, and its caches are fresh.
+    /// A reset: if it is Ok, its regex is the current one, with fresh caches.
     Done(Result<(), SearchError>),
     /// The request is bad, and changed nothing.
     Bad(Fault),
 }
 
-// One call for an owner, whose proof then has no step for each part.
+// With its own `drop`, the proof of an owner has one step for it instead of one for each part.
 impl Drop for Reply {
     fn drop(self) {
         match self {

@@ -10,7 +10,8 @@ use automata_base::util::search::{Input, Match};
 use automata_config::error::SearchError;
 use std::alloc::Global;
 
-/// The patterns and spans of the tokens up to an error: no token, a search that fails, or out of memory for the list.
+/// Returns the patterns and spans of the tokens, and the error that ended them, if any: no token, a search's error, or
+/// out of memory for the list.
 pub fn tokens_upto(
     alloc: Global,
     regex: &Regex,
@@ -28,7 +29,7 @@ pub fn tokens_upto(
     take_tokens(alloc, regex, cache, input)
 }
 
-/// The tokens up to an error, by what each search returns.
+/// Collects the tokens up to an error. The contract is in terms of what each search returns.
 fn take_tokens(
     alloc: Global,
     regex: &Regex,

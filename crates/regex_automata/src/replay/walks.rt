@@ -15,7 +15,7 @@ use crate::hybrid::regex::{Cache, Regex};
 use automata_base::util::search::{Direction, HalfMatch, Input};
 use automata_config::error::SearchError;
 
-/// A walk: the number of its regex, its direction, its input, and how far it is.
+/// A walk: the number of its regex, its direction, its input, and its state.
 pub struct KeptWalk<'h> {
     pub(super) regex: usize,
     pub(super) way: Direction,
@@ -23,7 +23,7 @@ pub struct KeptWalk<'h> {
     pub(super) state: OverlappingState,
 }
 
-// One call for an owner, whose proof then has no step for each part.
+// With its own `drop`, the proof of an owner has one step for it instead of one for each part.
 impl<'h> Drop for KeptWalk<'h> {
     fn drop(self) {
         let Self {
@@ -35,7 +35,7 @@ impl<'h> Drop for KeptWalk<'h> {
     }
 }
 
-/// The match of a walk of a DFA after one more call. An error leaves the walk unchanged.
+/// Makes one more call of a walk of a DFA, and returns its match. An error leaves the walk unchanged.
 fn step_of(
     way: Direction,
     dfa: &DFA,
@@ -55,7 +55,7 @@ fn step_of(
     }
 }
 
-/// The match of a walk of a regex after one more call. An error leaves the walk unchanged.
+/// Makes one more call of a walk of a regex, and returns its match. An error leaves the walk unchanged.
 fn step(
     way: Direction,
     regex: &Regex,
@@ -77,7 +77,7 @@ fn step(
     }
 }
 
-/// One step of the walk of this number.
+/// Makes one step of the walk with this number.
 pub fn step_at(
     walks: &mut [KeptWalk<'_>],
     number: usize,

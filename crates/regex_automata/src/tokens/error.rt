@@ -4,7 +4,7 @@ use thiserror::Error;
 /// Why there is no next token.
 #[derive(Clone, Copy, Debug, PartialEq, Eq, Error)]
 pub enum TokenError {
-    /// At this offset no pattern matches, or only the empty string does.
+    /// At this offset no pattern matches, or the match is empty.
     #[error("no token at {0}")]
     NoToken(usize),
     /// The search for the token failed.

@@ -12,7 +12,7 @@ use automata_base::util::search::{Anchored, HalfMatch, Input, Match, Span};
 use automata_config::error::SearchError;
 use std::fmt;
 
-/// The input of the search at an offset: what is left of the span, anchored and not earliest.
+/// Returns the input of the search at an offset: the remaining span, anchored and not earliest.
 fn asked<'h>(haystack: &'h [u8], offset: usize, end: usize) -> Input<'h>
     requires { Allows haystack.now offset end }
     ensures { result ≡ asked haystack.now end offset }
@@ -22,7 +22,7 @@ fn asked<'h>(haystack: &'h [u8], offset: usize, end: usize) -> Input<'h>
         .anchored(Anchored::Yes)
 }
 
-/// The token that an answer at an offset makes, as a match, or why there is none.
+/// Converts the answer of the search at an offset to a token, as a match, or to the reason why there is none.
 fn item(offset: usize, answer: Result<Option<HalfMatch>, SearchError>) -> Result<Match, TokenError>
     ensures { result ≡ item_of offset answer }
 {
@@ -39,7 +39,7 @@ fn item(offset: usize, answer: Result<Option<HalfMatch>, SearchError>) -> Result
     }
 }
 
-/// The token at an offset before the span's end.
+/// Returns the token at an offset before the span's end.
 fn token_at<'h>(
     regex: &Regex,
     cache: &mut Cache,
@@ -64,11 +64,11 @@ fn token_at<'h>(
 }
 
 impl Regex {
-    /// The tokens of an input's span, one after another, whatever the input's anchored mode and earliest flag. It
-    /// allocates nothing.
+    /// Returns an iterator over the tokens of an input's span. It ignores the input's anchored mode and earliest flag,
+    /// and allocates nothing.
     ///
-    /// Each token is the match of the forward DFA, by its match kind, anchored at the offset where the token before
-    /// ended. A token borrows from the haystack alone, so you can keep it when the cache is gone:
+    /// Each token is the match of the forward DFA, by its match kind, anchored at the offset where the previous token
+    /// ended. A token borrows only from the haystack, so you can keep it when the cache is gone:
     ///
     /// ```rust
     /// for item in self.regex.tokens(&mut self.caches, Input::new(text)) {
@@ -106,7 +106,7 @@ impl Regex {
     }
 }
 
-/// An iterator over the tokens of a span that are left. An error is its last item. At the span's end and after an error
+/// An iterator over the remaining tokens of a span. An error is its last item. At the span's end and after an error
 /// each call returns none.
 #[derive(Drop)]
 pub struct Tokens<'r, 'c, 'h> {
@@ -120,7 +120,7 @@ pub struct Tokens<'r, 'c, 'h> {
     ghost of: { AreCachesOf cache.now regex.now },
 }
 
-/// How far the iteration has come.
+/// Formats the progress of the iteration.
 impl<'r, 'c, 'h> fmt::Debug for Tokens<'r, 'c, 'h> {
     fn fmt<W: fmt::Write>(&self, f: &mut fmt::Formatter<W>) -> fmt::Result {
         f.debug_struct("Tokens")

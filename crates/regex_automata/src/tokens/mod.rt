@@ -1,5 +1,5 @@
-//! A tokenizer: it returns the matches of a regex one after another, each anchored where the one before ended, so that
-//! they leave no gap.
+//! A tokenizer: it returns the matches of a regex one after another, each anchored where the previous one ended, so
+//! that they leave no gap.
 
 mod error;
 mod iterate;

@@ -6,11 +6,11 @@ use automata_base::util::search::Span;
 use std::alloc::AllocError;
 use std::ops::Range;
 
-/// A pattern and the bytes that it matches. The bytes are borrowed from the haystack alone, so you can keep a token
-/// when the iterator that returned it and its cache are gone.
+/// A pattern and the bytes that it matches. The bytes are borrowed only from the haystack, so you can keep a token when
+/// the iterator that returned it and its cache are gone.
 #[derive(Copy, Debug)]
 pub struct Token<'h> {
-    // A plain number: if its type had a model, callers that pass a token by value would get no proof.
+    // A plain number: with a type that has a model, callers that pass a token by value could not be proved.
     pattern: u32,
     span: Span,
     bytes: &'h [u8],
@@ -22,7 +22,7 @@ impl<'h> Token<'h> {
     ghost use Rattle.std.specs.Prelude.{◌≡◌, length};
     ghost use Rattle.regex_automata.specs.Tokens.{match_bytes, match_of};
 
-    /// The token of a pattern over a span of the haystack.
+    /// Returns the token of a pattern over a span of the haystack.
     pub(super) fn new(haystack: &'h [u8], pattern: PatternID, span: Span) -> Token<'h>
         requires ordered { span.start ≤ span.end }
         requires within { span.end ≤ length haystack.now }
@@ -36,14 +36,14 @@ impl<'h> Token<'h> {
         }
     }
 
-    /// The pattern that matches.
+    /// Returns the token's pattern.
     pub fn pattern(&self) -> PatternID
         ensures { result ≡ self.now.pattern }
     {
         PatternID::new_unchecked(self.pattern)
     }
 
-    /// Its span in the haystack.
+    /// Returns the token's span in the haystack.
     pub fn span(&self) -> Span
         ensures start { result.start ≡ self.now.span.start }
         ensures end { result.end ≡ self.now.span.end }
@@ -52,7 +52,7 @@ impl<'h> Token<'h> {
         self.span
     }
 
-    /// Where it starts.
+    /// Returns the offset where the token starts.
     pub fn start(&self) -> usize
         ensures start { result ≡ self.now.span.start }
         ensures ordered { self.now.span.start ≤ self.now.span.end }
@@ -60,7 +60,7 @@ impl<'h> Token<'h> {
         self.span.start
     }
 
-    /// Where it ends.
+    /// Returns the offset where the token ends.
     pub fn end(&self) -> usize
         ensures end { result ≡ self.now.span.end }
         ensures ordered { self.now.span.start ≤ self.now.span.end }
@@ -68,7 +68,7 @@ impl<'h> Token<'h> {
         self.span.end
     }
 
-    /// Its span in the haystack, as a range.
+    /// Returns the token's span in the haystack, as a range.
     pub fn range(&self) -> Range<usize>
         ensures start { result.start ≡ self.now.span.start }
         ensures end { result.end ≡ self.now.span.end }
@@ -76,21 +76,21 @@ impl<'h> Token<'h> {
         self.span.range()
     }
 
-    /// How many bytes it matches.
+    /// Returns the token's length in bytes.
     pub fn len(&self) -> usize
         ensures { result ≡ self.now.span.end - self.now.span.start }
     {
         self.span.len()
     }
 
-    /// Whether it matches no byte. No token that an iterator returns is empty.
+    /// Whether the token is empty. An iterator never returns an empty token.
     pub fn is_empty(&self) -> bool
         ensures { IsTrue result ↔ (self.now.span.end ≤ self.now.span.start) }
     {
         self.span.is_empty()
     }
 
-    /// The bytes that it matches.
+    /// Returns the bytes of the token.
     pub fn bytes(&self) -> &'h [u8]
         ensures { result.now ≡ self.now.bytes.now }
     {

@@ -1,4 +1,4 @@
--- One state of a list is patched.
+-- Patching one state of a list.
 use Rattle.std.proofs.Common.{ℕ, ◌≡◌, ◌<◌, List, length, map, set, get_or, Option, Some, None, Result, Ok, Err, refl}
 use Rattle.std.proofs.Common.{sym, ap, ◌∙◌}
 use Rattle.std.specs.Prelude.{slice_get, OnOk, OnErr}
@@ -49,7 +49,7 @@ on_err : {A B : Type 0} (r : Result A B) (P Q : Type 0) → (P → Q) → OnErr 
 on_err (Ok x) P Q f p = p
 on_err (Err x) P Q f p = f p
 
--- The same of a builder.
+-- The same for a builder.
 module _
     (items : List Added) (pattern : Option ℕ) (starts : List ℕ) (flags : Flags) (now : Draft) (at from : ℕ) (a : Added)
     (view : drafted (map shape_added items) pattern starts flags ≡ now) (same : at ≡ from) (within : at < length items)

@@ -1,4 +1,4 @@
--- An NFA that starts at a lazy loop which was added last skips lazily.
+-- An NFA whose unanchored start is a lazy loop that was added last skips lazily.
 use Rattle.std.proofs.Common.{ℕ, zero, suc, ◌≡◌, ◌<◌, ◌+◌, List, [], ◌∷◌, ◌++◌, length, map, Some}
 use Rattle.std.proofs.Common.{refl, sym, ap, ◌∙◌, subst, arith}
 use Rattle.std.specs.Prelude.{slice_get}

@@ -1,4 +1,4 @@
--- `NFA::from_states` fails on the states that are built as their shapes say.
+-- `NFA::from_states` fails on built states with the error that their shapes determine.
 use Rattle.std.proofs.Common.{ℕ, ◌≡◌, ◌⊎◌, List, [], ◌++◌, map, Some, None, Result, Ok, Err, inl, inr, refl, sym, ap}
 use Rattle.std.proofs.Common.{◌∙◌, subst}
 use Rattle.std.specs.Prelude.{IsOkUnless}

@@ -1,4 +1,4 @@
--- What reads like a reversed NFA is its other half of a true pair.
+-- An NFA that reads like the reversed one can take its place in a true pair.
 use Rattle.std.proofs.Common.{ℕ, ◌≡◌, ◌-◌, ◌↔◌, List, [], Some, refl, sym, ap, ◌∙◌, subst}
 use Rattle.std.specs.Prelude.{slice_get}
 use Rattle.automata_base.specs.declared.nfa.thompson.Flags.{Flags}
@@ -72,7 +72,7 @@ patterns_turned a b checked r k entry at h i j pattern l w = (
         (reverse_tape h i j) (j - i)
         pattern
 
--- The NFA itself reads like it.
+-- An NFA reads like itself.
 pub itself_alike : (a : Automaton) → ReadsAlike a a
 itself_alike a = record {
   flags = refl;
@@ -83,7 +83,7 @@ itself_alike a = record {
   empty = ((λ s. s), λ s. s);
 }
 
--- And so does the folded one.
+-- An NFA and its folded form read alike.
 module _ (states folded : List State) (root : ℕ) (entries : List ℕ) (flags : Flags) (free : List ℕ) (made : List Node)
     (f : IsFolded (nfa_of (automaton states root root entries flags))
     (nfa_of (automaton folded root root entries flags))

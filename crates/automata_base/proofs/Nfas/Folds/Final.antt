@@ -1,4 +1,4 @@
--- The states of which unions were folded are those of a folded NFA.
+-- Folding the unions of a list of states gives the states of a folded NFA.
 use Rattle.std.proofs.Common.{ℕ, zero, suc, ◌≡◌, ◌≤◌, leb, Bool, true, false, cond, List, [], ◌∷◌, Option, Some}
 use Rattle.std.proofs.Common.{None, inl, inr, refl}
 use Rattle.std.proofs.Common.{sym, ap, ◌∙◌, subst}
@@ -31,7 +31,7 @@ use Rattle.automata_base.proofs.Paths.Orders.{none_some, some_inj}
 use Rattle.automata_base.proofs.Paths.Sets.{nth_in}
 use Rattle.automata_base.proofs.Paths.Walks.{in_left}
 
--- The node of a state, if there is one.
+-- The node of a state; for no state, a node without edges.
 option_node : Option State → Node
 option_node None = Split []
 option_node (Some s) = node_of s
@@ -67,7 +67,7 @@ read_node :
     → node_in states x ≡ Read (range_of range ∷ [])
 read_node states x range r = node_some states x r.0 r.1 ∙ range_node r.0 range r.2
 
--- Where a state that reads a range leads.
+-- A state that reads a range leads to a state that is not free.
 pub range_kept :
     (states : List State) (free : List ℕ)
     → ((q t : ℕ) → is_large (node_in states q) ≡ false → In t (targets_of Every states q) → IsNotFree free t)
@@ -104,7 +104,7 @@ take_child (Assert look next) u y h = absurd (none_some h)
 take_child (Read ranges) u y h = (refl, taken_next ranges u y h)
 take_child (Accept p) u y h = absurd (none_some h)
 
--- What a single range takes.
+-- A single range takes the bytes within its bounds.
 one_takes :
     (range : Transition) (u t : ℕ) → range.next ≡ t → range.lo ≤ u → u ≤ range.hi
     → takes_in (range_of range ∷ []) u ≡ Some t
@@ -200,7 +200,7 @@ nodes_get [] k n e = absurd (none_some e)
 nodes_get (x ∷ xs) zero n e = (x, refl, some_inj e)
 nodes_get (x ∷ xs) (suc k) n e = nodes_get xs k n e
 
--- What the parts of the folding give.
+-- The steps of the folding together give a folded NFA.
 pub folded_from :
     (old mid new made : List State) (led0 led1 led2 free entries : List ℕ) (root : ℕ)
     → ((q t : ℕ) → is_large (node_in old q) ≡ false → In t (targets_of Every old q) → In t led0)

@@ -18,7 +18,7 @@ use Rattle.automata_base.proofs.Nfas.Mirrors.Copies.{nth_more, nth_last}
 use Rattle.automata_base.proofs.Paths.FirstVisits.{in_right}
 use Rattle.automata_base.proofs.Paths.Walks.{in_either, in_left}
 
--- What is made stays so when more is made.
+-- A made state stays in place when more states are made.
 pub made_more :
     (free : List ℕ) (made more : List Node) (z : ℕ) (x : Node) → IsMade free made z x → IsMade free (made ++ more) z x
 made_more free made more z x m = (m.0, m.1, nth_more made more m.0 x m.2)
@@ -51,7 +51,7 @@ kept_stands : (free : List ℕ) (made : List Node) (d z : ℕ) → IsNotFree fre
 kept_stands free made zero z k = IsTheTarget k refl
 kept_stands free made (suc d) z k = IsTheTarget k refl
 
--- Kept states, and a state that stands for others.
+-- A list of kept states followed by `rest` stands for the kept states followed by the targets of `rest`.
 kept_then :
     (free : List ℕ) (made : List Node) (d : ℕ) (list rest ts : List ℕ) → ((t : ℕ) → In t list → IsNotFree free t)
     → AreTargetsOf (StandsFor free made d) rest ts → AreTargetsOf (StandsFor free made d) (list ++ rest) (list ++ ts)
@@ -68,7 +68,7 @@ append-nil : (xs : List ℕ) → xs ++ [] ≡ xs
 append-nil [] = refl
 append-nil (x ∷ xs) = ap (λ (z : List ℕ). x ∷ z) (append-nil xs)
 
--- The targets of a list and of the head above it.
+-- A list of kept states and the head above it stand for the targets of both.
 pub joined_targets :
     (free : List ℕ) (made : List Node) (list : List ℕ) (o : Option ℕ) (ts : List ℕ)
     → ((t : ℕ) → In t list → IsNotFree free t) → StandsIfAny free made o ts
@@ -89,7 +89,7 @@ union_stands free made new x d id xs ts e s m h = (
       (λ y own k. stands_more free made (x ∷ []) d y own k) h)),
 )
 
--- The way of a node is the node, and the way of the one above it.
+-- The node `s` steps above a node's parent is `suc s` steps above the node.
 above_half : (s k : ℕ) → above s (k / 2) ≡ above (suc s) k
 above_half zero k = refl
 above_half (suc s) k = ap (λ v. v / 2) (above_half s k)
@@ -111,7 +111,7 @@ nth_front [] y k l = absurd (omega (arith, l))
 nth_front (x ∷ xs) y zero l = refl
 nth_front (x ∷ xs) y (suc k) l = nth_front xs y k (omega (arith, l))
 
--- Where the targets of the head above a node are those of its way.
+-- The head above a node stands for targets on the node's way. Together with the node's own list these are all of them.
 pub record IsAbove (free : List ℕ) (made : List Node) (lists : List (List ℕ)) (o : Option ℕ) (node : ℕ) : Type 0 where
   pub targets : List ℕ
   pub stands : StandsIfAny free made o targets
@@ -170,7 +170,7 @@ pub grows_on :
     (old mid new more next : List Node) → mid ≡ old ++ more → new ≡ mid ++ next → new ≡ old ++ (more ++ next)
 grows_on old mid new more next e f = f ∙ (ap (λ (z : List Node). z ++ next) e ∙ append_assoc old more next)
 
--- One head more.
+-- One more head.
 pub heads_next :
     (free : List ℕ) (made new more : List Node) (lists : List (List ℕ)) (heads after : List (Option ℕ)) (node : ℕ)
     (o head : Option ℕ) (list : List ℕ) → length heads ≡ node → list ≡ list_at lists node → new ≡ made ++ more
@@ -223,7 +223,7 @@ heads_next free made new more lists heads after node o head list count is grows 
         back t (inl i) = in_left t list up.targets (subst (λ (v : List ℕ). In t v) (sym is) i)
         back t (inr i) = in_right t list up.targets i
 
--- What is made last.
+-- The state that was just made is in place.
 pub made_last :
     (free : List ℕ) (old : List State) (new : List Node) (x : Node) (at id : ℕ) → at ≡ length old → at < length free
     → id ≡ get_or free at id → new ≡ nodes_of old ++ x ∷ [] → IsMade free new id x

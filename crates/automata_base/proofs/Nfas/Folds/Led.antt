@@ -1,4 +1,4 @@
--- Which states are led to, and which are free.
+-- Which states are targets, and which are free.
 use Rattle.std.proofs.Common.{ℕ, ◌≡◌, ◌<◌, ◌≤◌, ◌+◌, true, false, List, [], ◌∷◌, ◌++◌, ◌⊎◌, Option, Some, inl, inr}
 use Rattle.std.proofs.Common.{refl, sym}
 use Rattle.std.proofs.Common.{ap, ◌∙◌, subst, arith, length, get_or}
@@ -23,7 +23,7 @@ use Rattle.automata_base.proofs.Powersets.Walking.{node_at, nodes_length}
 pub some_is : {A : Type 0} (P : A → Type 0) (o : Option A) (x : A) → IfSome o P → o ≡ Some x → P x
 some_is P o x h e = subst (λ v. IfSome v P) e h
 
--- What the states before `count` lead to, but for large unions.
+-- The targets of the states before `count` are in `led`, except those of large unions.
 abbrev pub Leads : List State → (led : List ℕ) → (count : ℕ) → Type 0
 Leads states led count =
     (q t : ℕ) → q < count → is_large (node_in states q) ≡ false → In t (targets_of Every states q) → In t led
@@ -71,7 +71,7 @@ pub union_below :
 union_below n s list b u x i =
     below_in n u.0.items x (ap (λ v. state_below n v) (sym u.1) ∙ b) (subst (λ (z : List ℕ). In x z) u.2 i)
 
--- The states that are free.
+-- The free states.
 pub record AreFree (states : List State) (led free : List ℕ) (count : ℕ) : Type 0 where
   pub reads : (x : ℕ) → In x free → (range : Transition) × ReadsRange states x range
   pub new : (x : ℕ) → In x free → In x led → ⊥

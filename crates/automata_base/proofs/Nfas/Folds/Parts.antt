@@ -18,13 +18,13 @@ use Rattle.automata_base.proofs.Paths.FirstVisits.{in_right}
 use Rattle.automata_base.proofs.Paths.Orders.{none_some, some_inj}
 use Rattle.automata_base.proofs.Paths.Walks.{in_either, in_left}
 
--- The lists of a tree are those of the ranges that these states read.
+-- The tree holds the ranges that these states read.
 pub record AreRead (states : List State) (ids : List ℕ) (lists : List (List ℕ)) (nodes : ℕ) : Type 0 where
   pub reads : (u t : ℕ) → u < 256 → IsOnWay lists (u + 256) t ↔ SomeReads states ids u t
   pub low : (u t : ℕ) → SomeReads states ids u t → u < 256
   pub few : nodes ≡ 512
 
--- These are those of the states that read no range.
+-- The others are the states that read no range.
 pub record AreOthers (states : List State) (ids others : List ℕ) : Type 0 where
   pub sound : (x : ℕ) → In x others → In x ids × ((range : Transition) → ReadsRange states x range → ⊥)
   pub all : (x : ℕ) → In x ids → StaysOrReads states others x
@@ -43,7 +43,7 @@ reads_one :
 reads_one states x s o range at e r =
     e ∙ (ap (λ v. range_read v) (some_inj (sym at ∙ r.1)) ∙ r.2)
 
--- A state more, which reads a range.
+-- One more state, which reads a range.
 pub read_more :
     (states : List State) (ids after : List ℕ) (lists new : List (List ℕ)) (x nodes : ℕ) (s : State)
     (range : Transition)
@@ -127,7 +127,7 @@ read_more states ids after lists new x nodes s range e at is few put low old r =
             omega (arith, h, low)
         go (inr (inr i)) = absurd i
 
--- A state more, which reads none.
+-- One more state, which reads no range.
 pub read_none :
     (states : List State) (ids after : List ℕ) (lists : List (List ℕ)) (x nodes : ℕ) → after ≡ ids ++ x ∷ []
     → ((range : Transition) → ReadsRange states x range → ⊥) → AreRead states ids lists nodes
@@ -186,7 +186,7 @@ read_begin states lists nodes e few = record {
         subst (λ v. In t v)
         (ap (λ (z : List (List ℕ)). list_at z (above w.0 (u + 256))) e ∙ none_at 512 (above w.0 (u + 256))) w.1
 
--- Others: a state more.
+-- One more state among the others.
 pub other_more :
     (states : List State) (ids after others new : List ℕ) (x : ℕ) → after ≡ ids ++ x ∷ [] → new ≡ others ++ x ∷ []
     → ((range : Transition) → ReadsRange states x range → ⊥) → AreOthers states ids others → AreOthers states after new

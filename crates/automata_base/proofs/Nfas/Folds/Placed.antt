@@ -1,4 +1,4 @@
--- What is made is put in the place of the free states.
+-- The made states replace the free states.
 use Rattle.std.proofs.Common.{ℕ, zero, suc, ◌≡◌, ◌<◌, ◌≤◌, ◌+◌, List, [], ◌∷◌, ◌++◌, ◌⊎◌, Some, inl, inr, refl, sym, ap}
 use Rattle.std.proofs.Common.{◌∙◌, subst}
 use Rattle.std.proofs.Common.{arith, length, length-append, append_assoc}
@@ -44,7 +44,7 @@ states_nil : (xs : List State) → xs ≡ xs ++ []
 states_nil [] = refl
 states_nil (x ∷ xs) = ap (λ (z : List State). x ∷ z) (states_nil xs)
 
--- Some of what was made last is put.
+-- The made states after `rest` have replaced their free states.
 pub record Placing (free : List ℕ) (old now : List State) (all rest : List State) : Type 0 where
   pub more : List State
   pub whole : all ≡ rest ++ more

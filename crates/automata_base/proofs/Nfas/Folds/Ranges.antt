@@ -38,7 +38,7 @@ within_not : (lo hi u : ℕ) → (u < lo) ⊎ (hi < u) → within lo hi u ≡ fa
 within_not lo hi u (inl a) = grind (arith, nat_tests)
 within_not lo hi u (inr a) = grind (arith, nat_tests)
 
--- The ranges lead each byte below `byte` to its head, and no other byte.
+-- The ranges lead each byte below `byte` to its head, and take no other byte.
 pub record AreRanges (heads : List (Option ℕ)) (ts : List Transition) (byte : ℕ) : Type 0 where
   pub before : (u : ℕ) → u < byte → takes_in (ranges_of ts) u ≡ leaf_head heads u
   pub after : (u : ℕ) → byte ≤ u → takes_in (ranges_of ts) u ≡ None
@@ -51,7 +51,7 @@ ranges_none heads ts e = record {
   few = omega arith;
 }
 
--- Bytes without a head.
+-- Skips bytes that have no head.
 pub ranges_skip :
     (heads : List (Option ℕ)) (ts : List Transition) (byte end : ℕ) → leaf_head heads byte ≡ None → end ≤ 256
     → byte < end
@@ -67,7 +67,7 @@ ranges_skip heads ts byte end none few l same r = record {
     go u b (inl a) = r.before u a
     go u b (inr a) = r.after u a ∙ sym (same u a b ∙ none)
 
--- Bytes with a head.
+-- Adds a range for bytes that have a head.
 pub ranges_push :
     (heads : List (Option ℕ)) (ts new : List Transition) (t : Transition) (byte end : ℕ) → new ≡ ts ++ t ∷ []
     → t.lo ≡ byte

@@ -14,7 +14,7 @@ use Rattle.automata_base.specs.Retraced.Folds.{is_large_state, range_read}
 use Rattle.automata_base.proofs.Nfas.Folds.Heads.{made_more, any_more, nodes_nil}
 use Rattle.automata_base.proofs.Paths.Orders.{none_some, some_inj}
 
--- Where the same ranges are read, and when more is made.
+-- A fold stays a fold if the same ranges are read and when more states are made.
 module _ (A B : List State) (free : List ℕ) (made more new : List Node) (grows : new ≡ made ++ more)
     (forth : (x : ℕ) (range : Transition) → ReadsRange A x range → ReadsRange B x range)
     (back : (x : ℕ) (range : Transition) → ReadsRange B x range → ReadsRange A x range) where
@@ -128,7 +128,7 @@ module _ (old now : List State) (free : List ℕ) (made : List Node) (count : �
       go (inl l) = f.each x l
       go (inr l) = StaysState (f.rest x l) (ap (λ v. is_large_state v) (slice_get_past old x (omega (arith, l, all))))
 
--- The state of a number that is a large union, and its fold.
+-- A large union at an index, and its fold.
 pub folded_here :
     (states new : List State) (free : List ℕ) (made : List Node) (x : ℕ) (s folded : State) (list : List ℕ)
     → slice_get states x ≡ Some s → slice_get new x ≡ Some folded → IsUnionOf s list

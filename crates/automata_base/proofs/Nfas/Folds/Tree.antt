@@ -1,4 +1,4 @@
--- What is added to a segment tree.
+-- How ranges are added to a segment tree.
 use Rattle.std.proofs.Common.{ℕ, zero, suc, ◌≡◌, ◌<◌, ◌≤◌, ◌+◌, ◌/◌, ◌%◌, ◌↔◌, List, [], ◌∷◌, ◌⊎◌, inl, inr, refl, sym}
 use Rattle.std.proofs.Common.{ap, ◌∙◌}
 use Rattle.std.proofs.Common.{subst, arith, length}
@@ -11,7 +11,7 @@ use Rattle.automata_base.proofs.Nfas.Mirrors.Lists.{push_same, push_other, push_
 use Rattle.automata_base.proofs.Paths.FirstVisits.{in_right}
 use Rattle.automata_base.proofs.Paths.Walks.{in_either, in_left}
 
--- Further up the nodes are less than half as large.
+-- A node further up has at most half the index.
 falls : (s j leaf : ℕ) → s < j → above j leaf ≤ above s leaf / 2
 falls s zero leaf l = absurd (omega (arith, l))
 falls s (suc j) leaf l = go (cases_eq s j) (λ g. falls s j leaf g)
@@ -20,12 +20,12 @@ falls s (suc j) leaf l = go (cases_eq s j) (λ g. falls s j leaf g)
     go (inl e) ih = subst (λ v. above j leaf / 2 ≤ above v leaf / 2) (sym e) (omega arith)
     go (inr f) ih = let k : above j leaf ≤ above s leaf / 2 = ih (omega (arith, l, f)) in omega (arith, k)
 
--- The nodes of a level are from `width` on, as many.
+-- A level of the tree has `width` nodes, at the indices from `width` on.
 abbrev pub IsLevel : (steps width : ℕ) → Type 0
 IsLevel steps width =
     (leaf : ℕ) → 256 ≤ leaf → leaf < 512 → (width ≤ above steps leaf) × (above steps leaf < width + width)
 
--- A number that is halved so often until it is 1.
+-- Halving `width` this many times gives 1.
 abbrev pub Halves : (times width : ℕ) → Type 0
 Halves zero width = width ≡ 1
 Halves (suc times) width = (half : ℕ) × (width ≡ half + half) × Halves times half
@@ -44,7 +44,7 @@ below_or a b f = go (cases_lt a b)
     go (inl g) = inl g
     go (inr g) = inr (omega (arith, f, g))
 
--- A node of a level is no node of another one.
+-- A node belongs to only one level.
 same_level :
     (steps width s node leaf : ℕ) → IsLevel steps width → width ≤ node → node < width + width → 256 ≤ leaf → leaf < 512
     → above s leaf ≡ node → above steps leaf ≡ node
@@ -67,7 +67,7 @@ same_level steps width s node leaf l low high a b e = go (cases_eq s steps)
             let c = k.1 in
             absurd (omega (arith, h, c, low, e))
 
--- A state more in the list of a node.
+-- One more state in the list of a node.
 pushed :
     (lists : List (List ℕ)) (steps width node next leaf t : ℕ) → IsLevel steps width → width ≤ node
     → node < width + width
@@ -113,20 +113,20 @@ pushed lists steps width node next leaf t l low high few a b = (forth, back)
           (in_right t (list_at lists node) (next ∷ []) (inl w.0))),
     )
 
--- What is put already, and the row of nodes on a level that is still to be put, are the old ones and the range.
+-- What is stored already, together with the remaining nodes of a level, covers the old lists and the range.
 abbrev pub Covers : (old now : List (List ℕ)) → (lo hi next steps left end : ℕ) → Type 0
 Covers old now lo hi next steps left end =
     (u t : ℕ) → u < 256
     → (IsOnWay now (u + 256) t ⊎ ((t ≡ next) × (left ≤ above steps (u + 256)) × (above steps (u + 256) < end)))
     ↔ (IsOnWay old (u + 256) t ⊎ ((t ≡ next) × (lo ≤ u) × (u ≤ hi)))
 
--- The nodes from `left` to before `end` are of one level, or there are none.
+-- The nodes from `left` up to `end`, exclusive, belong to one level, or there are none.
 abbrev pub AreOfLevel : (steps left end : ℕ) → Type 0
 AreOfLevel steps left end =
     (end ≤ left)
     ⊎ ((width times : ℕ) × IsLevel steps width × Halves times width × (width ≤ left) × (end ≤ width + width))
 
--- A range is put but for a row of nodes.
+-- The range is stored except at the nodes from `left` up to `end`, exclusive.
 pub record Putting (old now : List (List ℕ)) (lo hi next left end : ℕ) : Type 0 where
   pub steps : ℕ
   pub level : AreOfLevel steps left end
@@ -136,7 +136,7 @@ pub record Putting (old now : List (List ℕ)) (lo hi next left end : ℕ) : Typ
 leaf_of : (u : ℕ) → u < 256 → (256 ≤ u + 256) × (u + 256 < 512)
 leaf_of u l = (omega (arith, l), omega (arith, l))
 
--- The row begins at the second child, which is put.
+-- The first remaining node is a right child, and is stored now.
 covers_first :
     (old now : List (List ℕ)) (lo hi next steps left end width : ℕ) → IsLevel steps width → width ≤ left
     → left < width + width → left < length now → left < end
@@ -177,7 +177,7 @@ covers_first old now lo hi next steps left end width l low high few some c u t v
         go (inl e) = inl (p (inr (w.0, e)))
         go (inr f) = let e = w.1 in inr (w.0, omega (arith, e, f), w.2)
 
--- The row ends at the first child, which is put.
+-- The last remaining node is a left child, and is stored now.
 covers_last :
     (old now : List (List ℕ)) (lo hi next steps left last end width : ℕ) → IsLevel steps width → width ≤ last
     → last < width + width → last < length now → left ≤ last → last + 1 ≡ end
@@ -218,7 +218,7 @@ covers_last old now lo hi next steps left last end width l low high few some is 
         go (inl e) = inl (p (inr (w.0, e)))
         go (inr f) = let e = w.2 in inr (w.0, w.1, omega (arith, e, f, is))
 
--- One level up, if the row begins and ends with a pair of children.
+-- Goes one level up if the remaining nodes are pairs of children.
 covers_up :
     (old now : List (List ℕ)) (lo hi next steps left end : ℕ) → left % 2 ≡ 0 → end % 2 ≡ 0
     → Covers old now lo hi next steps left end → Covers old now lo hi next (suc steps) (left / 2) (end / 2)

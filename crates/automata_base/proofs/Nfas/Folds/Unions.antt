@@ -1,4 +1,4 @@
--- What is made of a union.
+-- How a union is folded.
 use Rattle.std.proofs.Common.{ℕ, zero, suc, ◌≡◌, ◌<◌, ◌≤◌, ◌+◌, ◌-◌, ◌/◌, ◌↔◌, List, [], ◌∷◌, ◌++◌, ◌⊎◌, Option, inl}
 use Rattle.std.proofs.Common.{inr, refl, sym}
 use Rattle.std.proofs.Common.{ap, ◌∙◌, subst, arith, length}
@@ -49,7 +49,7 @@ list_past [] k l = refl
 list_past (x ∷ lists) zero l = absurd (omega (arith, l))
 list_past (x ∷ lists) (suc k) l = list_past lists k (omega (arith, l))
 
--- What is in the tree is kept.
+-- The states in the tree are kept.
 pub lists_kept :
     (states : List State) (free xs : List ℕ) (lists : List (List ℕ)) → length lists ≡ 512
     → ((u t : ℕ) → u < 256 → IsOnWay lists (u + 256) t ↔ SomeReads states xs u t)

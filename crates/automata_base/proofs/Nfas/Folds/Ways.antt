@@ -1,4 +1,4 @@
--- Ways through an NFA and through one whose wide unions are folded.
+-- Ways through an NFA and through its folded form.
 use Rattle.std.proofs.Common.{ℕ, zero, suc, ◌≡◌, ◌≤◌, List, [], ◌∷◌, ◌++◌, ◌⊎◌, Option, Some, None, inl, inr, refl, sym}
 use Rattle.std.proofs.Common.{ap, ◌∙◌, subst, arith, length}
 use Rattle.automata_base.specs.Lists.{In}
@@ -13,7 +13,7 @@ use Rattle.automata_base.proofs.Paths.Sets.{nth_in, in_nth}
 use Rattle.automata_base.proofs.Paths.Walks.{in_either, in_left}
 use Rattle.automata_base.proofs.Paths.FirstVisits.{in_right}
 
--- A target is one of some state's.
+-- Each joined target is a target of one of the states.
 pub target_state :
     (S : ℕ → List ℕ → Type 0) (xs ts : List ℕ) (t : ℕ) → AreTargetsOf S xs ts → In t ts
     → (x : ℕ) × (own : List ℕ) × In x xs × S x own × In t own
@@ -27,7 +27,7 @@ target_state S (x ∷ xs) ts t h k =
     go (inl a) later = (x, h.0, inl refl, h.2, a)
     go (inr a) later = let r = later a in (r.0, r.1, inr r.2, r.3, r.4)
 
--- The targets of a state are among those of all.
+-- The targets of each state are among the joined targets.
 pub state_targets :
     (S : ℕ → List ℕ → Type 0) (xs ts : List ℕ) (x : ℕ) → AreTargetsOf S xs ts → In x xs
     → (own : List ℕ) × S x own × ((t : ℕ) → In t own → In t ts)
@@ -62,7 +62,7 @@ module _ (n m : Nfa) (free : List ℕ) (made : List Node) (f : IsFolded n m free
       (hop_way m A b i z at.0 r.0 (ap (λ (v : Node). hop_at v (A i) at.0) (f.more z (Split xs) l) ∙ at.1))
       (stands_way d r.0 t i r.1 r.3 r.4)
 
-  -- A way to a match from a state that stands for some passes one of them.
+  -- A way to a match from a state that stands for targets passes through one of them.
   abbrev Past : ℕ → List ℕ → List ℕ → ℕ → ℕ → Type 0
   Past i ts path j q = (t : ℕ) × (rest : List ℕ) × In t ts × IsWay m A b i t rest j q × (length rest ≤ length path)
 
@@ -87,14 +87,14 @@ module _ (n m : Nfa) (free : List ℕ) (made : List Node) (f : IsFolded n m free
       let few = r.4 in
       (r.0, r.1, own.2 r.0 r.2, r.3, omega (arith, few))
 
-  -- A match, at the end of a way.
+  -- A way leads from `x` to a match of pattern `p`.
   abbrev There : Nfa → ℕ → ℕ → ℕ → ℕ → Type 0
   There o i x j p = (q : ℕ) × HasWay o A b i x j q × (accepts o q ≡ Some p)
 
   before : (o : Nfa) (i x k y j p : ℕ) → HasWay o A b i x k y → There o k y j p → There o i x j p
   before o i x k y j p w t = (t.0, join o A b i x k y j t.0 w t.1, t.2)
 
-  -- A state that reads, on a byte.
+  -- On a byte, a byte state leads to each of its targets.
   reader_way :
       (s u t i : ℕ) (ts : List ℕ) (ranges : List Range) (o : Option ℕ) → o ≡ takes_in ranges u
       → node m s ≡ Read ranges → b i ≡ Some u → StandsIfAny free made o ts → In t ts → HasWay m A b i s (suc i) t
@@ -104,7 +104,7 @@ module _ (n m : Nfa) (free : List ℕ) (made : List Node) (f : IsFolded n m free
       (move_way m A b i s u z d (ap (λ (v : Node). takes_at v u) r ∙ sym e))
       (stands_way h.0 z t (suc i) ts h.1 k)
 
-  -- The nodes of a folded union.
+  -- A folded union leads to the alternates that stay and to the state that reads for the others.
   union_hop :
       (xs : List ℕ) (x y i : ℕ) (u : IsFoldedUnion n free made xs (node m x)) → In y (u.stay ++ u.reader ∷ [])
       → HasWay m A b i x i y
@@ -115,7 +115,7 @@ module _ (n m : Nfa) (free : List ℕ) (made : List Node) (f : IsFolded n m free
   reader_at : (xs : List ℕ) (x : ℕ) (u : IsFoldedUnion n free made xs (node m x)) → node m u.reader ≡ Read u.ranges
   reader_at xs x u = f.more u.reader (Read u.ranges) u.reads
 
-  -- Ways of the NFA, one edge after another.
+  -- Ways of the first NFA, edge by edge.
   module _ (k j q p : ℕ) (a : accepts n q ≡ Some p)
       (on : (rest : List ℕ) (i y : ℕ) → length rest ≤ k → IsNotFree free y → IsWay n A b i y rest j q
       → There m i y j p) where
@@ -131,7 +131,7 @@ module _ (n m : Nfa) (free : List ℕ) (made : List Node) (f : IsFolded n m free
         (move_way m A b i x w.1 w.0 w.2 (ap (λ (v : Node). takes_at v w.1) same ∙ w.3))
         (on path (suc i) w.0 few (f.moves x w.1 w.0 w.3) w.4)
 
-    -- From an alternate that reads.
+    -- A way from an alternate that reads bytes.
     forth_read :
         (path : List ℕ) (i x y : ℕ) (xs : List ℕ) (own : List Range) → length path ≤ k
         → (u : IsFoldedUnion n free made xs (node m x)) → node n y ≡ Read own
@@ -189,7 +189,7 @@ module _ (n m : Nfa) (free : List ℕ) (made : List Node) (f : IsFolded n m free
       go on (StaysNode same leads) = forth_same k j q p a on path i x e short same leads w
       go on (FoldsNode xs s u) = forth_folded k j q p a on path i x e xs short s u w
 
-  -- Ways of the folded one.
+  -- Ways of the folded NFA, edge by edge.
   module _ (k j q p : ℕ) (a : accepts m q ≡ Some p)
       (on : (rest : List ℕ) (i y : ℕ) → length rest ≤ k → IsNotFree free y → IsWay m A b i y rest j q
       → There n i y j p) where
@@ -205,7 +205,7 @@ module _ (n m : Nfa) (free : List ℕ) (made : List Node) (f : IsFolded n m free
         before n i x (suc i) w.0 j p (move_way n A b i x w.1 w.0 w.2 h)
         (on path (suc i) w.0 few (f.moves x w.1 w.0 h) w.4)
 
-    -- An alternate of the union, and what it leads to on a byte.
+    -- A way from an alternate of the union that takes a byte.
     back_taken :
         (i x y u t : ℕ) (xs : List ℕ) → node n x ≡ Split xs → b i ≡ Some u → In y xs → takes n y u ≡ Some t
         → (rest : List ℕ) → length rest ≤ k → IsWay m A b (suc i) t rest j q → There n i x j p
@@ -216,7 +216,7 @@ module _ (n m : Nfa) (free : List ℕ) (made : List Node) (f : IsFolded n m free
         (join n A b i x i y (suc i) t (hop_way n A b i x at.0 y h) (move_way n A b i y u t d e))
         (on rest (suc i) t few (f.moves y u t e) w)
 
-    -- From the state that reads.
+    -- A way from the state that reads for the alternates.
     back_read :
         (path : List ℕ) (i x : ℕ) (xs : List ℕ) → length path ≤ k → node n x ≡ Split xs
         → (u : IsFoldedUnion n free made xs (node m x)) → IsWay m A b i u.reader path j q → There n i x j p
@@ -283,7 +283,7 @@ module _ (n m : Nfa) (free : List ℕ) (made : List Node) (f : IsFolded n m free
       go on (StaysNode same leads) = back_same k j q p a on path i x e short same leads w
       go on (FoldsNode xs s u) = back_folded k j q p a on path i x e xs short s u w
 
-  -- The two reach the same matches from each state that is kept.
+  -- Both reach the same matches from each kept state.
   pub forth_there : (i x j p : ℕ) → IsNotFree free x → There n i x j p → There m i x j p
   forth_there i x j p low w = forth (length w.1.0) w.1.0 i x j w.0 p (omega arith) low w.1.1 w.2
 

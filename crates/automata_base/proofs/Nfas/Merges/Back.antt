@@ -1,4 +1,4 @@
--- Each path of a merged NFA has one of the first NFA that corresponds to it.
+-- Each path of a merged NFA has a corresponding path in the first NFA.
 use Rattle.std.proofs.Common.{ℕ, zero, suc, ◌≡◌, ◌<◌, ◌≤◌, List, [], ◌∷◌, ◌⊎◌, length, Some, inl, inr, refl, sym, ap}
 use Rattle.std.proofs.Common.{◌∙◌, subst}
 use Rattle.std.proofs.lemmas.Bool.{cases_lt}
@@ -22,7 +22,7 @@ use Rattle.automata_base.proofs.Nfas.Merges.Routes.{meant, Turns, Keeps, Corresp
 
 module _ (n m : Nfa) (anchored : ℕ) (lists : List (List ℕ)) (t : Tape)
     (merged : IsMerged n m anchored lists) (ranged : IsInRange n) (bytes : IsHaystack t.bytes) where
-  -- The path of the merged NFA has one that corresponds to it, from a state of those that its first state stands for.
+  -- The path of the merged NFA has a corresponding path from one of the states that its first state stands for.
   abbrev pub HasFirst : List ℕ → Type 0
   HasFirst other =
       (i z : ℕ) (seen met : List ℕ) (j w : ℕ) → MayEnd n anchored w → ReadsNone n seen
@@ -30,7 +30,7 @@ module _ (n m : Nfa) (anchored : ℕ) (lists : List (List ℕ)) (t : Tape)
       → (k s : ℕ) × (path : List ℕ) × (slice_get (meant n m lists t z) k ≡ Some s)
       × Corresponds n m lists t other i z k path × IsPathFrom n t i seen s path j w
 
-  -- What goes on from a list: a path from one of its states, none of which was met.
+  -- A path continues from one of the states of a list, none of which was visited.
   abbrev pub HasTurn : (other : List ℕ) → (i : ℕ) → Node → (list seen : List ℕ) → (e j w : ℕ) → Type 0
   HasTurn other i x list seen e j w =
       (k s : ℕ) × (path : List ℕ) × (slice_get list k ≡ Some s)
@@ -96,7 +96,7 @@ module _ (n m : Nfa) (anchored : ℕ) (lists : List (List ℕ)) (t : Tape)
       target =
           ap (λ v. target_for (length n.nodes) lists v) (sym read) ∙ shows.same moves.0 (bytes i moves.0 moves.1)
 
-  -- From a state of the first NFA, by its node.
+  -- The case of a state of the first NFA, by its node.
   old_back :
       (other : List ℕ) (ih : HasFirst other) (i z e : ℕ) (x : Node) (seen met : List ℕ) (j w : ℕ)
       → z < length n.nodes → node n z ≡ x → MayEnd n anchored w → ReadsNone n seen

@@ -1,9 +1,8 @@
--- The order of lists, their equality, and which begins another, as one comparison.
+-- The order, the equality and the prefix relation of lists as one comparison.
 use Rattle.std.proofs.Common.{ℕ, ◌≡◌, ◌<◌, List, [], ◌∷◌, ◌++◌, ◌⊎◌, ◌↔◌, inl, inr, refl, sym, ap₂, subst, arith}
 use Rattle.automata_base.specs.Paths.Order.{Before, Begins, EndsFirst, TakesLess, TakesSame}
 
--- What holds of two lists: `E` if they are equal, `B` if the first is a proper beginning of the second, and `U` if it
--- is
+-- Compares two lists: `E` holds if they are equal, `B` if the first is a proper prefix of the second, and `U` if it is
 -- less at the first difference.
 abbrev pub Compares : (E B U : Type 0) → List ℕ → List ℕ → Type 0
 Compares E B U [] [] = E
@@ -17,7 +16,7 @@ both_ways a b = ((λ p. b.0 (a.0 p)), (λ r. a.1 (b.1 r)))
 pub other_way : {P Q : Type 0} → P ↔ Q → Q ↔ P
 other_way a = (a.1, a.0)
 
--- Equal heads decide nothing.
+-- Equal heads do not decide a comparison.
 pub same_head :
     (E B U : Type 0) (x y : ℕ) (a b : List ℕ) → x ≡ y → Compares E B U (x ∷ a) (y ∷ b) ↔ Compares E B U a b
 same_head E B U x y a b e = (to, (λ c. inr (e, c)))
@@ -31,7 +30,7 @@ pub with_equal :
 with_equal E B U P p q a b e f h =
     subst (λ v. P ↔ Compares E B U v q) (sym e) (subst (λ v. P ↔ Compares E B U a v) (sym f) h)
 
--- Lists in order are so compared, and lists so compared are in order.
+-- The order of lists as a comparison.
 abbrev pub IsBefore : List ℕ → List ℕ → Type 0
 IsBefore xs ys = Compares ⊥ (Unit {0}) (Unit {0}) xs ys
 
@@ -49,7 +48,7 @@ before_from (x ∷ xs) [] h = absurd h
 before_from (x ∷ xs) (y ∷ ys) (inl h) = TakesLess h.1
 before_from (x ∷ xs) (y ∷ ys) (inr h) = TakesSame h.0 (before_from xs ys h.1)
 
--- The same of equal lists.
+-- Equality as a comparison.
 abbrev pub IsEqual : List ℕ → List ℕ → Type 0
 IsEqual xs ys = Compares (Unit {0}) ⊥ ⊥ xs ys
 
@@ -67,7 +66,7 @@ equal_from (x ∷ xs) [] h = absurd h
 equal_from (x ∷ xs) (y ∷ ys) (inl h) = absurd h.0
 equal_from (x ∷ xs) (y ∷ ys) (inr h) = ap₂ ◌∷◌ h.0 (equal_from xs ys h.1)
 
--- The same of a list and what begins with it.
+-- The prefix relation as a comparison.
 abbrev pub IsPrefix : List ℕ → List ℕ → Type 0
 IsPrefix xs ys = Compares (Unit {0}) (Unit {0}) ⊥ xs ys
 
@@ -86,7 +85,7 @@ head_from (x ∷ xs) (y ∷ ys) (inl h) = absurd h.0
 head_from (x ∷ xs) (y ∷ ys) (inr h) =
     let c = head_from xs ys h.1 in (c.0, ap₂ ◌∷◌ (sym h.0) c.1)
 
--- The same of a proper beginning.
+-- The proper prefix relation as a comparison.
 abbrev pub IsBeginning : List ℕ → List ℕ → Type 0
 IsBeginning xs ys = Compares ⊥ (Unit {0}) ⊥ xs ys
 

@@ -1,4 +1,4 @@
--- Each path of the first NFA has one of the merged NFA that corresponds to it.
+-- Each path of the first NFA has a corresponding path in the merged NFA.
 use Rattle.std.proofs.Common.{ℕ, zero, suc, ◌≡◌, ◌<◌, ◌≤◌, List, [], ◌∷◌, ◌⊎◌, length, Option, Some, None, inl, inr}
 use Rattle.std.proofs.Common.{refl, sym, ap}
 use Rattle.std.proofs.Common.{◌∙◌, subst}
@@ -23,14 +23,14 @@ use Rattle.automata_base.proofs.Nfas.Merges.Routes.{meant, Turns, Keeps, Corresp
 
 module _ (n m : Nfa) (anchored : ℕ) (lists : List (List ℕ)) (t : Tape)
     (merged : IsMerged n m anchored lists) (ranged : IsInRange n) (bytes : IsHaystack t.bytes) where
-  -- The path from a state of the first NFA has one that corresponds to it.
+  -- The path from a state of the first NFA has a corresponding path.
   abbrev pub HasOld : List ℕ → Type 0
   HasOld path =
       (i z : ℕ) (seen met : List ℕ) (j w : ℕ) → z < length n.nodes → MayEnd n anchored w → ReadsNone n seen
       → ReadsNone m met → HaveSame (length n.nodes) seen met → IsPathFrom n t i seen z path j w
       → (other : List ℕ) × Corresponds n m lists t other i z 0 path × IsPathFrom m t i met z other j w
 
-  -- The path from one of a list has one from a state that stands for the list.
+  -- The path from a state of a list has a corresponding path from each state that stands for the list.
   abbrev pub HasShown : List ℕ → Type 0
   HasShown path =
       (i z k s : ℕ) (x : Node) (list seen met : List ℕ) (j w : ℕ) → node m z ≡ x → Shows n m anchored lists x list
@@ -39,7 +39,7 @@ module _ (n m : Nfa) (anchored : ℕ) (lists : List (List ℕ)) (t : Tape)
       → (e : ℕ) × (other : List ℕ) × Turns n m lists t (Corresponds n m lists t other) i x list k path e
       × IsPathFrom m t i met z (e ∷ other) j w
 
-  -- The path from one of a list that a state reads for has one from that state.
+  -- The path from a state of a list has a corresponding path from each state that reads for the list.
   abbrev pub HasRead : List ℕ → Type 0
   HasRead path =
       (i z k s : ℕ) (ranges : List Range) (list seen met : List ℕ) (j w : ℕ) → node m z ≡ Read ranges
@@ -48,12 +48,12 @@ module _ (n m : Nfa) (anchored : ℕ) (lists : List (List ℕ)) (t : Tape)
       → (e : ℕ) × (other : List ℕ) × Turns n m lists t (Corresponds n m lists t other) i (Read ranges) list k path e
       × IsPathFrom m t i met z (e ∷ other) j w
 
-  -- Both, of the rest of a path after its first edge.
+  -- Both hold for the rest of a path after its first edge.
   abbrev pub OfRest : List ℕ → Type 0
   OfRest [] = Unit {0}
   OfRest (e ∷ rest) = HasOld rest × HasShown rest
 
-  -- A path at a new place, from one of those that a state stands for.
+  -- The corresponding path at a new position, from one of the states that a state stands for.
   at_new :
       (path : List ℕ) (old : HasOld path) (shown : HasShown path) (i z k s j w : ℕ) → MayEnd n anchored w
       → slice_get (stood_for (length n.nodes) lists z) k ≡ Some s → IsPathFrom n t i [] s path j w

@@ -14,7 +14,7 @@ IsPart f [] j o k = ⊥
 IsPart f (z ∷ zs) zero o k = (k ≡ o) × (o < length (f z))
 IsPart f (z ∷ zs) (suc j) o k = (rest : ℕ) × (k ≡ length (f z) + rest) × IsPart f zs j o rest
 
--- Two parts come in the order of their elements.
+-- Parts come in the order of their elements.
 pub parts_order :
     (f : ℕ → List ℕ) (zs : List ℕ) (j1 o1 k1 j2 o2 k2 : ℕ) → IsPart f zs j1 o1 k1 → IsPart f zs j2 o2 k2
     → ((k1 < k2) ↔ ((j1 < j2) ⊎ ((j1 ≡ j2) × (o1 < o2)))) × ((k1 ≡ k2) ↔ ((j1 ≡ j2) × (o1 ≡ o2)))
@@ -54,7 +54,7 @@ get_append (y ∷ xs) ys (suc k) x e = go (get_append xs ys k x e)
     go (inr h) = inr (h.0, omega (arith, h.1), h.2)
 
 module _ (count : ℕ) (lists : List (List ℕ)) where
-  -- Each state that some of these stand for is the part of one.
+  -- Each state that the list stands for is a part of what one of its states stands for.
   pub part_of :
       (zs : List ℕ) (k s : ℕ) → slice_get (all_stood_for count lists zs) k ≡ Some s
       → (j o z : ℕ) × (slice_get zs j ≡ Some z) × (slice_get (stood_for count lists z) o ≡ Some s)
@@ -77,7 +77,7 @@ module _ (count : ℕ) (lists : List (List ℕ)) where
       go (inr h) ih =
           let c = ih h.0 h.2 in (suc c.0, c.1, c.2, c.3, c.4, (h.0, h.1, c.5))
 
-  -- Each part is at a place of the whole.
+  -- Each part has an index in the joined list.
   pub part_at :
       (zs : List ℕ) (j o z s : ℕ) → slice_get zs j ≡ Some z → slice_get (stood_for count lists z) o ≡ Some s
       → (k : ℕ) × (slice_get (all_stood_for count lists zs) k ≡ Some s) × IsPart (stood_for count lists) zs j o k
@@ -97,12 +97,12 @@ module _ (count : ℕ) (lists : List (List ℕ)) where
         (c.0, refl, c.2),
       )
 
--- How many of a list come before an element, if there is one more or not.
+-- The index `rest`, one more if the option has an element.
 abbrev pub after : Option ℕ → ℕ → ℕ
 after None rest = rest
 after (Some y) rest = suc rest
 
--- Element `o` of the picked list is `x`, what `g` makes of element `k`.
+-- Element `o` of the picked list is `x`, the value of `g` at element `k`.
 abbrev pub IsPicked : (ℕ → Option ℕ) → List ℕ → (k o x : ℕ) → Type 0
 IsPicked g [] k o x = ⊥
 IsPicked g (s ∷ ss) zero o x = (o ≡ 0) × (g s ≡ Some x)
@@ -119,7 +119,7 @@ after_some : (y : Option ℕ) (x o r : ℕ) → y ≡ Some x → o ≡ after y r
 after_some None x o r e f = absurd (none_some e)
 after_some (Some y) x o r e f = omega (arith, f)
 
--- What is picked keeps its order.
+-- Picking keeps the order.
 pub picked_order :
     (g : ℕ → Option ℕ) (ss : List ℕ) (k1 o1 x1 k2 o2 x2 : ℕ) → IsPicked g ss k1 o1 x1 → IsPicked g ss k2 o2 x2
     → ((k1 < k2) ↔ (o1 < o2)) × ((k1 ≡ k2) ↔ (o1 ≡ o2))
@@ -132,7 +132,7 @@ picked_order g (s ∷ ss) (suc k1) o1 x1 zero o2 x2 a b =
 picked_order g (s ∷ ss) (suc k1) o1 x1 (suc k2) o2 x2 a b =
     after_order (g s) k1 k2 o1 o2 a.0 b.0 a.1 b.1 (picked_order g ss k1 a.0 x1 k2 b.0 x2 a.2 b.2)
 
--- Each picked element is made of one of the list.
+-- Each picked element comes from an element of the list.
 pub picked_of :
     (g : ℕ → Option ℕ) (ss : List ℕ) (o x : ℕ) → slice_get (pick g ss) o ≡ Some x
     → (k s : ℕ) × (slice_get ss k ≡ Some s) × (g s ≡ Some x) × IsPicked g ss k o x
@@ -148,7 +148,7 @@ picked_of g (s ∷ ss) o x e = go (g s) refl o e (λ r h. picked_of g ss r x h)
     go (Some y) f zero e ih = (0, s, refl, f ∙ e, (refl, f ∙ e))
     go (Some y) f (suc o) e ih = let c = ih o e in (suc c.0, c.1, c.2, c.3, (o, ap (λ v. after v o) (sym f), c.4))
 
--- What is made of an element is picked.
+-- The value of `g` at an element is picked.
 pub picked_at :
     (g : ℕ → Option ℕ) (ss : List ℕ) (k s x : ℕ) → slice_get ss k ≡ Some s → g s ≡ Some x
     → (o : ℕ) × (slice_get (pick g ss) o ≡ Some x) × IsPicked g ss k o x

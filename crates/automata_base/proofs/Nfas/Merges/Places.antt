@@ -1,4 +1,4 @@
--- What holds of each state of a merged NFA, and of what paths have met.
+-- Properties of the states of a merged NFA, and of the states that paths have visited.
 use Rattle.std.proofs.Common.{ℕ, zero, suc, ◌≡◌, ◌<◌, ◌≤◌, ◌-◌, Bool, true, false, cond, List, [], ◌∷◌, ◌++◌, ◌⊎◌, ◌↔◌}
 use Rattle.std.proofs.Common.{length, Option, Some, None, inl, inr, refl, sym, ap, ap₂, ◌∙◌, subst, arith, lt-ltb}
 use Rattle.std.proofs.Common.{le-ltb}
@@ -43,7 +43,7 @@ further_means :
 further_means count lists q l =
     ap (λ b. cond b (q ∷ []) (list_or_none (slice_get lists (q - count)))) (le-ltb q count l)
 
--- An old state stands for itself alone.
+-- A state of the first NFA stands only for itself.
 pub old_one :
     (count : ℕ) (lists : List (List ℕ)) (q o s : ℕ) → q < count → slice_get (stood_for count lists q) o ≡ Some s
     → (o ≡ 0) × (s ≡ q)
@@ -64,7 +64,7 @@ all_old count lists (q ∷ qs) f =
 abbrev pub ReadsNone : Nfa → List ℕ → Type 0
 ReadsNone n seen = (q : ℕ) (ranges : List Range) → In q seen → node n q ≡ Read ranges → ⊥
 
--- A state of the first NFA is in both, or in none.
+-- A state of the first NFA is in both lists or in neither.
 abbrev pub HaveSame : (count : ℕ) → List ℕ → List ℕ → Type 0
 HaveSame count seen other = (q : ℕ) → q < count → In q seen ↔ In q other
 
@@ -134,7 +134,7 @@ match_may_end n anchored w p h =
     go (inr l) = absurd (none_some (ap accepts_at (sym (node_past n w l)) ∙ h))
 
 module _ (n m : Nfa) (anchored : ℕ) (lists : List (List ℕ)) (merged : IsMerged n m anchored lists) where
-  -- Looks hold in both NFAs alike.
+  -- Looks hold alike in both NFAs.
   pub hops_alike :
       (x : Node) (t : Tape) (i e : ℕ) → hop_at x (truth m t i) e ≡ hop_at x (truth n t i) e
   hops_alike (Split alternates) t i e = refl
@@ -170,7 +170,7 @@ module _ (n m : Nfa) (anchored : ℕ) (lists : List (List ℕ)) (merged : IsMerg
     assert_old z look r e =
         ranged.0 z r (λ look. true) (subst (λ v. In r (children_at v (λ look. true))) (sym e) (inl refl))
 
-    -- A union of the first NFA is shown as a node that stands for its alternates.
+    -- A union of the first NFA becomes a node that stands for its alternates.
     pub union_shows :
         (z : ℕ) (alternates : List ℕ) → z < length n.nodes → node n z ≡ Split alternates
         → Shows n m anchored lists (node m z) alternates
@@ -186,7 +186,7 @@ module _ (n m : Nfa) (anchored : ℕ) (lists : List (List ℕ)) (merged : IsMerg
         go (MergesUnion others was shows) =
             subst (λ v. Shows n m anchored lists (node m z) v) (split_inj others alternates (sym was ∙ e)) shows
 
-  -- Any other state of the first NFA is as it was.
+  -- Any other state of the first NFA is unchanged.
   pub others_same :
       (z : ℕ) → z < length n.nodes → ((alternates : List ℕ) → node n z ≡ Split alternates → ⊥) → node m z ≡ node n z
   others_same z l f = go (merged.first_states z l)

@@ -1,4 +1,4 @@
--- What edges read, looks taken as true, in an NFA and in the merged one.
+-- What edges read in an NFA and in the merged one, if all looks are taken as true.
 use Rattle.std.proofs.Common.{ℕ, ◌≡◌, ◌<◌, ◌≤◌, List, [], ◌∷◌, ◌⊎◌, length, Option, Some, None, inl, inr, refl}
 use Rattle.std.proofs.Common.{sym, ap, ◌∙◌, subst}
 use Rattle.std.proofs.lemmas.Bool.{cases_lt}
@@ -20,7 +20,7 @@ use Rattle.automata_base.proofs.Paths.Sets.{nth_in, in_nth}
 
 module _ (n m : Nfa) (anchored : ℕ) (lists : List (List ℕ)) (merged : IsMerged n m anchored lists)
     (ranged : IsInRange n) where
-  -- What is read from a state of the first NFA is read from one of those for which a state stands.
+  -- One of the states that `y` stands for reads `bytes` up to `z`.
   abbrev HasSource : ℕ → List ℕ → ℕ → Type 0
   HasSource y bytes z =
       (k s : ℕ) × (slice_get (stood_for (length n.nodes) lists y) k ≡ Some s) × ReadsTo n s bytes z
@@ -34,7 +34,7 @@ module _ (n m : Nfa) (anchored : ℕ) (lists : List (List ℕ)) (merged : IsMerg
   to_old : (y : ℕ) (bytes : List ℕ) (z : ℕ) → y < length n.nodes → HasSource y bytes z → ReadsTo n y bytes z
   to_old y bytes z l c = subst (λ v. ReadsTo n v bytes z) (old_one (length n.nodes) lists y c.0 c.1 l c.2).1 c.3
 
-  -- An edge that reads nothing, of a state that stands for a list.
+  -- An epsilon edge of a state that stands for a list.
   hop_source :
       (x : Node) (list : List ℕ) (e r : ℕ) (bytes : List ℕ) (z : ℕ) → Shows n m anchored lists x list
       → hop_at x all_true e ≡ Some r → HasSource r bytes z
@@ -46,7 +46,7 @@ module _ (n m : Nfa) (anchored : ℕ) (lists : List (List ℕ)) (merged : IsMerg
   hop_source (Read ranges) list e r bytes z s h c = absurd (none_some h)
   hop_source (Accept p) list e r bytes z s h c = absurd s
 
-  -- An edge that reads a byte, of a state that stands for a list.
+  -- A byte edge of a state that stands for a list.
   read_source :
       (x : Node) (list : List ℕ) (u r : ℕ) (bytes : List ℕ) (z : ℕ) → u < 256 → Shows n m anchored lists x list
       → takes_at x u ≡ Some r → HasSource r bytes z
@@ -107,17 +107,17 @@ module _ (n m : Nfa) (anchored : ℕ) (lists : List (List ℕ)) (merged : IsMerg
       → ReadsTo n q bytes z
   reads_back_old q bytes z l k g = to_old q bytes z l (reads_back q bytes z k g)
 
-  -- What is read from a state of the first NFA is read from it in the merged one,
+  -- What a state of the first NFA reads, it also reads in the merged NFA.
   abbrev FromOld : ℕ → List ℕ → ℕ → Type 0
   FromOld s bytes z = s < length n.nodes → ReadsTo m s bytes z
 
-  -- from each state that reads for a list with it,
+  -- So does each state that reads for a list with it.
   abbrev FromRead : ℕ → List ℕ → ℕ → Type 0
   FromRead s bytes z =
       (y : ℕ) (ranges : List Range) (list : List ℕ) → node m y ≡ Read ranges → ReadsFor n anchored lists ranges list
       → In s list → ReadsTo m y bytes z
 
-  -- and from each that stands for one.
+  -- So does each state that stands for a list with it.
   abbrev FromList : ℕ → List ℕ → ℕ → Type 0
   FromList s bytes z =
       (y : ℕ) (list : List ℕ) → Shows n m anchored lists (node m y) list → In s list → ReadsTo m y bytes z

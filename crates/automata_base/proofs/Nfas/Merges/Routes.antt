@@ -1,4 +1,4 @@
--- Which paths of an NFA and of the merged one correspond, and that they come in one order.
+-- Which paths of an NFA and of the merged one correspond. Corresponding paths are ordered alike.
 use Rattle.std.proofs.Common.{ℕ, suc, ◌≡◌, ◌<◌, ◌≤◌, List, [], ◌∷◌, ◌⊎◌, ◌↔◌, length, Some, inl, inr, refl, sym, ap}
 use Rattle.std.proofs.Common.{◌∙◌, subst, arith}
 use Rattle.std.specs.Prelude.{slice_get}
@@ -10,12 +10,13 @@ use Rattle.automata_base.proofs.Nfas.Merges.Comparing.{Compares, both_ways, othe
 use Rattle.automata_base.proofs.Nfas.Merges.Parts.{IsPart, parts_order, IsPicked, picked_order}
 
 module _ (n m : Nfa) (lists : List (List ℕ)) (t : Tape) where
-  -- What a state of the merged NFA stands for.
+  -- The states that a state of the merged NFA stands for.
   abbrev pub meant : ℕ → List ℕ
   meant z = stood_for (length n.nodes) lists z
 
-  -- The edge `j` of a node that stands for the list, where a path of the first NFA goes on from state `k` of the list.
-  -- `Next` says how both go on: at a place, from a state of the merged NFA and one of those that it stands for.
+  -- Edge `j` of a node that stands for the list corresponds to a path of the first NFA from state `k` of the list.
+  -- `Next` relates how both continue: at a position, from a state of the merged NFA and one of the states that it
+  -- stands for.
   abbrev pub Turns :
       (Next : ℕ → ℕ → ℕ → List ℕ → Type 0) → (i : ℕ) → Node → (list : List ℕ) → (k : ℕ) → (path : List ℕ) → (j : ℕ)
       → Type 0
@@ -27,7 +28,7 @@ module _ (n m : Nfa) (lists : List (List ℕ)) (t : Tape) where
       × (takes_in ranges u ≡ Some r) × IsPicked (λ b. takes n b u) list k o x × Next (suc i) r o rest
   Turns Next i (Accept p) list k path j = ⊥
 
-  -- The edge `j` of a state of the first NFA, which is shown as one node in the merged NFA and as another in its own.
+  -- Edge `j` of a state of the first NFA, whose node is `shown` in the merged NFA and `own` in the first NFA.
   abbrev pub Keeps :
       (Next : ℕ → ℕ → ℕ → List ℕ → Type 0) → (i : ℕ) → (shown own : Node) → (path : List ℕ) → (j : ℕ) → Type 0
   Keeps Next i shown (Split alternates) path j =
@@ -39,8 +40,8 @@ module _ (n m : Nfa) (lists : List (List ℕ)) (t : Tape) where
       × (takes_in ranges u ≡ Some r) × Next (suc i) r 0 rest
   Keeps Next i shown (Accept p) path j = ⊥
 
-  -- The path `other` from `z` at place `i` of the merged NFA corresponds to the path from state `k` of those that `z`
-  -- stands for.
+  -- The path `other` of the merged NFA from `z` at position `i` corresponds to the path from state `k` of those that
+  -- `z` stands for.
   abbrev pub Corresponds : (other : List ℕ) → (i z k : ℕ) → (path : List ℕ) → Type 0
   Corresponds [] i z k path = (z < length n.nodes) × (k ≡ 0) × (path ≡ [])
   Corresponds (j ∷ rest) i z k path =
@@ -48,7 +49,7 @@ module _ (n m : Nfa) (lists : List (List ℕ)) (t : Tape) where
       ⊎ ((length n.nodes ≤ z) × Turns (Corresponds rest) i (node m z) (meant z) k path j)
 
   module _ (E B U : Type 0) where
-    -- Two rests of paths are compared alike wherever they go on from one state.
+    -- Two remaining paths compare alike wherever they continue from the same state.
     abbrev pub Alike : (X Y : ℕ → ℕ → ℕ → List ℕ → Type 0) → (a b : List ℕ) → Type 0
     Alike X Y a b =
         (i z k1 k2 : ℕ) (p1 p2 : List ℕ) → X i z k1 p1 → Y i z k2 p2
@@ -147,14 +148,14 @@ module _ (n m : Nfa) (lists : List (List ℕ)) (t : Tape) where
     keeps_more X i shown (Read ranges) path j g = (0, g.2, g.4)
     keeps_more X i shown (Accept p) path j g = absurd g
 
-    -- A path that goes on, from a state where another ends.
+    -- A path that corresponds to a nonempty path from a state of the first NFA is not empty.
     goes_on :
         (j : ℕ) (a : List ℕ) (i z k : ℕ) (path : List ℕ) → z < length n.nodes → Corresponds (j ∷ a) i z k path
         → (k ≡ 0) × ((e : ℕ) × (rest : List ℕ) × (path ≡ e ∷ rest))
     goes_on j a i z k path l (inl g) = (g.1, keeps_more (Corresponds a) i (node m z) (node n z) path j g.2)
     goes_on j a i z k path l (inr g) = absurd (omega (arith, l, g.0))
 
-    -- Corresponding paths from one state come in one order.
+    -- Corresponding paths from one state are ordered alike.
     pub same_order : (a b : List ℕ) → Alike (Corresponds a) (Corresponds b) a b
     same_order [] [] i z k1 k2 p1 p2 g h =
         both_ways (with_equal E B U E p1 p2 [] [] g.2 h.2 ((λ e. e), (λ e. e)))

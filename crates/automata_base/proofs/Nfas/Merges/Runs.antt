@@ -1,4 +1,4 @@
--- Runs of edges that read nothing, in an NFA and in the merged one.
+-- Runs of epsilon edges in an NFA and in the merged one.
 use Rattle.std.proofs.Common.{ℕ, zero, suc, ◌≡◌, ◌<◌, ◌≤◌, List, [], ◌∷◌, ◌⊎◌, length, Some, inl, inr, refl}
 use Rattle.std.proofs.Common.{sym, ap, ◌∙◌, subst, arith}
 use Rattle.std.proofs.lemmas.Bool.{cases_lt}
@@ -18,7 +18,7 @@ use Rattle.automata_base.proofs.Nfas.Merges.Places.{old_one, split_assert, match
 use Rattle.automata_base.proofs.Paths.Orders.{some_inj, none_some}
 use Rattle.automata_base.proofs.Paths.Sets.{nth_in}
 
--- From a state that reads bytes no other state is reached, and no match.
+-- From a byte state, no run reaches another state or a match.
 stuck :
     (n : Nfa) (q : ℕ) (ranges : List Range) (path : List ℕ) (z : ℕ) → node n q ≡ Read ranges → Run n q path z → q ≡ z
 stuck n q ranges [] z e u = u
@@ -35,7 +35,7 @@ assert_hop look r zero y h = sym (some_inj h)
 assert_hop look r (suc e) y h = absurd (none_some h)
 
 module _ (n m : Nfa) (anchored : ℕ) (lists : List (List ℕ)) (merged : IsMerged n m anchored lists) where
-  -- A state of the merged NFA that matches is one of the first NFA, which matches too.
+  -- A further state that reads bytes stands only for states that read bytes.
   pub further_reads :
       (y o s : ℕ) (ranges : List Range) → length n.nodes ≤ y → node m y ≡ Read ranges
       → slice_get (stood_for (length n.nodes) lists y) o ≡ Some s → (own : List Range) × (node n s ≡ Read own)
@@ -76,7 +76,7 @@ module _ (n m : Nfa) (anchored : ℕ) (lists : List (List ℕ)) (merged : IsMerg
           (further_shows n m anchored lists merged w far) h)
 
   module _ (ranged : IsInRange n) where
-    -- An edge between states of the first NFA that the merged one has is one of the first.
+    -- An edge of the merged NFA between states of the first NFA comes from an edge of the first NFA.
     hop_back :
         (q e y : ℕ) → q < length n.nodes → y < length n.nodes → hop m all_true q e ≡ Some y
         → (k : ℕ) × (hop n all_true q k ≡ Some y)
@@ -113,7 +113,8 @@ module _ (n m : Nfa) (anchored : ℕ) (lists : List (List ℕ)) (merged : IsMerg
         go (Read ranges) is f = absurd (none_some f)
         go (Accept p) is f = absurd (none_some f)
 
-    -- An edge of the merged NFA leads to a state of the first, or to one that reads bytes.
+    -- An edge of the merged NFA from a state of the first leads to a state of the first or to a further state that
+    -- reads bytes.
     hop_to :
         (q e y : ℕ) → q < length n.nodes → hop m all_true q e ≡ Some y
         → (y < length n.nodes) ⊎ ((length n.nodes ≤ y) × ((ranges : List Range) × (node m y ≡ Read ranges)))
@@ -204,7 +205,7 @@ module _ (n m : Nfa) (anchored : ℕ) (lists : List (List ℕ)) (merged : IsMerg
         go (Read ranges) is f ih = absurd (none_some (subst (λ v. hop_at v all_true e ≡ Some u.0) is f))
         go (Accept r) is f ih = absurd (none_some (subst (λ v. hop_at v all_true e ≡ Some u.0) is f))
 
-    -- Both have the empty match, or none has it.
+    -- Both NFAs have the empty match, or neither does.
     pub empty_forth :
         (starts : List ℕ) → ((start : ℕ) → In start starts → start < length n.nodes) → MatchesEmpty n starts
         → MatchesEmpty m starts
@@ -218,7 +219,7 @@ module _ (n m : Nfa) (anchored : ℕ) (lists : List (List ℕ)) (merged : IsMerg
         let h2 = match_back q p h in
         (start, q, p, i, run_back run.0 start q (within start i) (match_may_end n anchored q p h2).0 run.1, h2)
 
-    -- No cycle of such edges passes a look of the merged NFA, if none passes one of the first.
+    -- No epsilon cycle of the merged NFA passes a look if none of the first NFA does.
     pub acyclic_merged : IsLookAcyclic n → IsLookAcyclic m
     acyclic_merged none q look r e on = go (cases_lt q (length n.nodes))
       where

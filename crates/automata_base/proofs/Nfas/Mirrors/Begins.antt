@@ -1,4 +1,4 @@
--- Whether the starts begin alike, by two tests.
+-- Two tests of whether the starts begin alike.
 use Rattle.std.proofs.Common.{◌≡◌, ◌↔◌, Bool, true, false, [], ◌∷◌}
 use Rattle.std.proofs.Common.{refl, sym, ◌∙◌}
 use mathlib.Core.Bool.{beq}
@@ -41,7 +41,7 @@ agree true false e = sym e
 agree false true e = e
 agree false false e = refl
 
--- The answer of both tests.
+-- Comparing both tests decides whether the starts begin alike.
 pub alike_is :
     (a : Automaton) (x y : Bool) → IsTrue x ↔ ReachesMatch a.states (a.start_anchored ∷ []) → IsTrue y ↔ HasEmpty a
     → IsTrue (beq x y) ↔ BeginsAlike a

@@ -8,7 +8,7 @@ use Rattle.automata_base.specs.Retraced.DenseRuns.{starts_with, run_of, runs_fro
 use Rattle.automata_base.specs.Retraced.ReversedEdges.{Turns, turn_by, turn_ranges, size}
 use Rattle.automata_base.proofs.Nfas.Mirrors.Sizes.{size_ranges}
 
--- Too many at one range are too many at the end.
+-- If one range already makes too many states, there are too many at the end.
 pub ranges_large :
     (t : Turns) (from : ℕ) (rs : List Transition) (i : ℕ) (r : Transition) → i < length rs → r ≡ get_or rs i r
     → (w : Turns) → turn_ranges t from (drop i rs) ≡ w

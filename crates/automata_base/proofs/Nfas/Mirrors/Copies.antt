@@ -1,4 +1,4 @@
--- Copies of turned states, and their numbers.
+-- Copies of reversed states, and their IDs.
 use Rattle.std.proofs.Common.{ℕ, zero, suc, ◌≡◌, ◌<◌, ◌≤◌, ◌+◌, ◌⊎◌, ◌↔◌, ◌&&◌, ltb, Bool, true, false, cond, List}
 use Rattle.std.proofs.Common.{[], ◌∷◌, ◌++◌, length, length-append, get_or, drop, map, Vec, Option, Some, None, inl}
 use Rattle.std.proofs.Common.{inr, refl, sym}
@@ -33,13 +33,13 @@ in_slice [] i x l e = absurd (omega (arith, l))
 in_slice (y ∷ ys) zero x l e = inl e
 in_slice (y ∷ ys) (suc i) x l e = inr (in_slice ys i x (omega (arith, l)) e)
 
--- A state of a list, at a number.
+-- The state of a list at an index.
 pub state_same :
     (states : List State) (at id : ℕ) (s : State) → at < length states → at ≡ id → s ≡ get_or states at s
     → s ≡ get_or states id is.Fail
 state_same states at id s k a f = f ∙ (get_or_default states at s is.Fail k ∙ ap (λ z. get_or states z is.Fail) a)
 
--- One member more.
+-- One more member.
 pub map_next :
     (f : ℕ → ℕ) (xs out new w : List ℕ) (i x y : ℕ) → i < length xs → x ≡ get_or xs i x → y ≡ f x
     → new ≡ out ++ y ∷ [] → out ++ map f (drop i xs) ≡ w → new ++ map f (drop (i + 1) xs) ≡ w
@@ -94,7 +94,7 @@ pub matches_done :
 matches_done states p xs out w i l h =
     sym (append-nil out) ∙ (sym (ap (λ z. out ++ matches_in states p z) (drop_all i xs l)) ∙ h)
 
--- The roots of a pattern, as they were listed.
+-- The listed roots of a pattern.
 pub roots_are :
     (vs : List (Vec ℕ Global)) (states : List State) (reached roots : List ℕ) (v : Vec ℕ Global) (patterns p q : ℕ)
     → roots ≡ v.items → p < patterns → length vs ≡ patterns → v ≡ get_or vs p v
@@ -136,7 +136,7 @@ nth_copies f p turned [] k q e = absurd (none_some e)
 nth_copies f p turned (x ∷ xs) zero q e = ap (λ v. Some (copied f p (get_or turned v is.Fail))) (some_inj e)
 nth_copies f p turned (x ∷ xs) (suc k) q e = nth_copies f p turned xs k q e
 
--- A part that is made.
+-- A part that was made.
 pub part_made :
     (old mid new : List Node) (turned : List State) (roots items alternates : List ℕ) (p base entry : ℕ)
     → ((q : ℕ) → In q items ↔ IsReached Every turned roots q) → Distinct items
@@ -161,7 +161,7 @@ part_made old mid new turned roots items alternates p base entry reached distinc
   ends = ends;
 }
 
--- What was made stays.
+-- A part stays a part when more nodes are added.
 pub copied_more :
     (nodes new more : List Node) (turned : List State) (roots : List ℕ) (p entry base : ℕ) (items : List ℕ)
     → new ≡ nodes ++ more → IsCopied nodes turned roots p entry base items
@@ -190,7 +190,7 @@ nth_either (y ∷ ys) a (suc k) x e = go (nth_either ys a k x e)
     go (inl h) = inl h
     go (inr h) = inr (ap suc h.0, h.1)
 
--- One element more, which is not among the others.
+-- A list without repeats stays so when an element that it does not contain is added at the end.
 pub distinct_last : (xs : List ℕ) (y : ℕ) → Distinct xs → (In y xs → ⊥) → Distinct (xs ++ y ∷ [])
 distinct_last [] y d f = ((λ i. i), tt)
 distinct_last (x ∷ xs) y d f = ((λ i. go (in_either x xs (y ∷ []) i)), distinct_last xs y d.1 (λ i. f (inr i)))
@@ -225,12 +225,12 @@ have_none states turned reached = record {
   distinct = tt;
 }
 
--- A part has the node, or it is its entry.
+-- The node belongs to a part, or is its entry.
 abbrev IsIn : List ℕ → List Copied → ℕ → Type 0
 IsIn entries parts x =
     (q y : ℕ) × (slice_get entries q ≡ Some y) × ((part_at parts q).base ≤ x) × (x ≤ y)
 
--- The copies for one pattern more.
+-- The copies for one more pattern.
 pub have_more :
     (nodes new more : List Node) (states turned : List State) (reached entries entries' : List ℕ) (p entry base : ℕ)
     (items : List ℕ)
@@ -318,7 +318,7 @@ matches_few states p (q ∷ qs) = go (is_of (accepts_at (node_of (get_or states 
     go true h = omega (arith, h)
     go false h = omega (arith, h)
 
--- Roots are states.
+-- Roots are in range.
 pub matches_below :
     (n m : ℕ) (states : List State) (p : ℕ) (ids : List ℕ) → n ≤ m → all_below n ids ≡ true
     → all_below m (matches_in states p ids) ≡ true

@@ -1,4 +1,4 @@
--- An NFA may be made of what is copied.
+-- `NFA::from_states` accepts the copied states.
 use Rattle.std.proofs.Common.{ℕ, suc, ◌≡◌, ◌<◌, ◌≤◌, ◌+◌, ◌*◌, ◌^◌, ◌&&◌, ◌↔◌, ◌⊎◌, true, false, leb, List, [], ◌∷◌}
 use Rattle.std.proofs.Common.{◌++◌, length, length-append, get_or, map, None, inl, inr, refl, sym, ap, ap₂, ◌∙◌, subst}
 use Rattle.std.proofs.Common.{arith}
@@ -49,7 +49,7 @@ copied_length old out f p turned items e =
     let d = copies_length f p turned items in
     omega (arith, a, b, c, d)
 
--- A part that is made.
+-- A part that was made.
 pub part_added :
     (old mid new : List Node) (turned : List State) (roots items alternates : List ℕ) (p base entry : ℕ)
     → ((q : ℕ) → In q items ↔ IsReached Every turned roots q) → Distinct items
@@ -99,7 +99,7 @@ added_length old new turned roots p entry items w =
     let d = w.enters in
     omega (arith, a, b, c, d)
 
--- The nodes that are added.
+-- The nodes that a part adds.
 abbrev pub added_nodes : (old : List Node) → (turned : List State) → (roots : List ℕ) → (p : ℕ) → (items : List ℕ)
     → List Node
 added_nodes old turned roots p items =
@@ -117,7 +117,7 @@ added_more old new turned roots p entry items w =
     ∙ append_two old (copies (copy_of (length old) items) p turned items)
     (Split (map (copy_of (length old) items) roots) ∷ [])
 
--- Plain nodes.
+-- A plain node stays plain when the bound grows.
 node_more : (n m P : ℕ) (x : Node) → n ≤ m → IsPlain n P x → IsPlain m P x
 node_more n m P (Split alternates) l h = λ x i. let k = h x i in omega (arith, k, l)
 node_more n m P (Assert look next) l h = omega (arith, h, l)
@@ -174,7 +174,7 @@ module _ (turned : List State) (items : List ℕ) (base n P p : ℕ) (room : bas
     copies_plain qs (λ s r i j. f s r (inr i) j) o,
   )
 
--- How many alternates they have.
+-- A copy has at most as many alternates as its state.
 copied_width : (f : ℕ → ℕ) (p : ℕ) (s : State) → width (copied f p s) ≤ alternates_of s
 copied_width f p (is.ByteRange lo hi next) = omega arith
 copied_width f p (is.Sparse ts) = omega arith
@@ -207,7 +207,7 @@ more_mul p m = ap (λ z. z * m) (one p) ∙ suc-mul p m
     one : (p : ℕ) → p + 1 ≡ suc p
     one p = omega arith
 
--- One part more.
+-- One more part.
 pub part_fits :
     (turned : List State) (most P p : ℕ) (old new : List Node) (entries entries' roots : List ℕ) (entry : ℕ)
     → states_ordered turned ≡ true → p < P → length roots ≤ most → IsPartAdded old new turned roots p entry
@@ -281,7 +281,7 @@ part_fits turned most P p old new entries entries' roots entry ordered less shor
     entered x (inl i) = let k = had.entered x i in omega (arith, k, long)
     entered x (inr k) = let a = w.enters in omega (arith, k, a, long)
 
--- If there is no room for a part.
+-- If there is no room for a part, the parts together are too large.
 pub part_large :
     (turned : List State) (most P p : ℕ) (old : List Node) (entries : List ℕ) (len : ℕ) → p < P
     → AreParts turned most P p old entries → len ≡ length old → 2 ^ 27 < len + length turned + 1
@@ -351,7 +351,7 @@ plain_tests n P (x ∷ xs) z h =
       ap (λ v. v && matches_below P xs) (plain_match n P x h.0) ∙ w.2,
     )
 
--- How many alternates states have, by their nodes.
+-- A state has at most as many alternates as its node.
 state_width : (s : State) → alternates_of s ≤ width (node_of s)
 state_width (is.ByteRange lo hi next) = omega arith
 state_width (is.Sparse ts) = omega arith
@@ -374,7 +374,7 @@ states_width (x ∷ xs) =
     let d = states_width xs in
     omega (arith, a, b, c, d)
 
--- The parts and the root.
+-- The parts and the root together.
 pub made_fits :
     (states turned made : List State) (reached : List ℕ) (P : ℕ) (nodes : List Node) (entries entries' : List ℕ)
     (root len : ℕ)
@@ -426,7 +426,7 @@ made_fits states turned made reached P nodes entries entries' root len parts n r
         one : (m : ℕ) → m + 1 ≡ suc m
         one m = omega arith
 
--- If there may be too many.
+-- If the parts are too large, so is the bound computed from the states and edges of the NFA.
 pub parts_large :
     (states turned : List State) (P : ℕ) → length turned ≤ length states + sum_by asking_edges states + 1
     → 2 ^ 27 < P * (length turned + 1) → 2 ^ 27 < (P + 1) * (length states + sum_by asking_edges states + 2)

@@ -1,4 +1,4 @@
--- A turned look holds if the look does, seen from the other side.
+-- A reversed look holds exactly if the look holds as seen from the other side.
 use Rattle.std.proofs.Common.{ℕ, ◌≡◌, Bool, true, false, not, ◌&&◌, Option, refl, ap}
 use Rattle.automata_base.specs.Haystacks.Looks.{Look, holds, differ, is_word}
 use Rattle.automata_base.specs.Haystacks.Looks.{Start, End, StartLF, EndLF, StartCRLF, EndCRLF}

@@ -1,4 +1,4 @@
--- What is turned, edge by edge, is what stands for the edges.
+-- Reversing the edges one by one gives exactly the alternates that stand for them.
 use Rattle.std.proofs.Common.{ℕ, zero, suc, ◌≡◌, ◌<◌, ◌+◌, List, [], ◌∷◌, ◌++◌, ◌⊎◌, length, Some, inl}
 use Rattle.std.proofs.Common.{inr, refl, sym, ap, ap₂, ◌∙◌, subst, arith, ⊎_elim}
 use Rattle.automata_base.specs.declared.nfa.thompson.State.{State}
@@ -60,7 +60,7 @@ in_push (xs ∷ rest) (suc to) y (suc k) x i = go (in_push rest to y k x i)
     go (inl j) = inl j
     go (inr e) = inr (ap suc e.0, e.1)
 
--- What is put after the alternates of a state, unless it is the last of them, is among them, and nothing else is new.
+-- `put_at` adds `y` to the alternates of a state and nothing else; the other alternates stay.
 put_old : (lists : List (List ℕ)) (to y k x : ℕ) → InAt lists k x → InAt (put_at lists to y) k x
 put_old [] to y k x i = i
 put_old (xs ∷ rest) zero y zero x i = go (ends_in xs y)
@@ -97,7 +97,7 @@ in_put (xs ∷ rest) (suc to) y (suc k) x i = go (in_put rest to y k x i)
     go (inl j) = inl j
     go (inr e) = inr (ap suc e.0, e.1)
 
--- The list of a number.
+-- `InAt` is membership in the list at an index.
 pub at_list : (lists : List (List ℕ)) (k x : ℕ) → InAt lists k x → In x (list_at lists k)
 at_list [] k x i = i
 at_list (xs ∷ rest) zero x i = i
@@ -108,17 +108,17 @@ list_in [] k x i = i
 list_in (xs ∷ rest) zero x i = i
 list_in (xs ∷ rest) (suc k) x i = list_in rest k x i
 
--- The number of a helper.
+-- The ID of a helper.
 abbrev pub IsHelper : Turns → ℕ → State → Type 0
 IsHelper t x h = (j : ℕ) × (x ≡ length t.lists + j) × (slice_get t.helpers j ≡ Some h)
 
--- What stands for an edge from `s`.
+-- The state `x` stands for an edge from `s` with this label.
 abbrev pub Stand : Turns → ℕ → Label → ℕ → Type 0
 Stand t x Free s = x ≡ s
 Stand t x (Asks look) s = IsHelper t x (is.Look (flip look) s)
 Stand t x (Reads lo hi) s = IsHelper t x (is.ByteRange lo hi s)
 
--- Each edge of `P` is turned, and no other; and the states of `M` go on to a match.
+-- The lists hold the reversed edges of `P` and no others, and the states of `M` go on to a match.
 pub record IsGraph (P : ℕ → Label → ℕ → Type 0) (M : ℕ → Type 0) (size : ℕ) (t : Turns) : Type 0 where
   pub whole : length t.lists ≡ size
   pub sound :
@@ -127,7 +127,7 @@ pub record IsGraph (P : ℕ → Label → ℕ → Type 0) (M : ℕ → Type 0) (
   pub arcs : (s k : ℕ) (l : Label) → P s l k → (x : ℕ) × InAt t.lists k x × Stand t x l s
   pub reported : (k : ℕ) → M k → (x : ℕ) × InAt t.lists k x × IsHelper t x (is.Match 0)
 
--- The same edges.
+-- The same graph for the same edges.
 pub graph_same :
     (P Q : ℕ → Label → ℕ → Type 0) (M : ℕ → Type 0) (size : ℕ) (t : Turns)
     → ((s k : ℕ) (l : Label) → P s l k → Q s l k) → ((s k : ℕ) (l : Label) → Q s l k → P s l k)
@@ -162,7 +162,7 @@ stand_by t g to x s Free h = h
 stand_by t g to x s (Asks look) h = helper_by t g to x (is.Look (flip look) s) h
 stand_by t g to x s (Reads lo hi) h = helper_by t g to x (is.ByteRange lo hi s) h
 
--- The number of the next helper.
+-- The ID of the next helper.
 abbrev pub next_of : Turns → ℕ
 next_of t = length t.lists + length t.helpers
 
@@ -173,7 +173,7 @@ helper_new t g to = (
   nth_last t.helpers g,
 )
 
--- One edge more.
+-- One more edge.
 abbrev pub And : (ℕ → Label → ℕ → Type 0) → ℕ → Label → ℕ → ℕ → Label → ℕ → Type 0
 And P from label to s l k = P s l k ⊎ ((s ≡ from) × (l ≡ label) × (k ≡ to))
 
@@ -266,7 +266,7 @@ step_by P M size t from to label g small stands i = record {
           (stands (turn_by t g to) (next_of t) (helper_new t g to))),
     )
 
--- The edges of a node more.
+-- The edges of one more node.
 abbrev pub From : (ℕ → Label → ℕ → Type 0) → ℕ → Node → ℕ → Label → ℕ → Type 0
 From P from x s l k = P s l k ⊎ ((s ≡ from) × HasArcAt x l k)
 
@@ -402,7 +402,7 @@ module _ (M : ℕ → Type 0) (size from : ℕ) where
   look_only look next (Asks other) k h = (ap Asks (sym h.0), sym h.1)
   look_only look next (Reads lo hi) k h = absurd h
 
-  -- Each edge of a state.
+  -- Reverses each edge of a state.
   graph_state :
       (state : State) (P : ℕ → Label → ℕ → Type 0) (t : Turns) → state_below size state ≡ true → IsGraph P M size t
       → IsGraph (From P from (ranged state)) M size (turn_state t from state)
@@ -428,7 +428,7 @@ module _ (M : ℕ → Type 0) (size from : ℕ) where
   graph_state is.Fail P t b i = graph_all [] P t refl i
   graph_state (is.Match pattern) P t b i = none_more P t (Accept pattern) (no_accept pattern) i
 
--- Each edge of the states of a list.
+-- The edges of the states of a list.
 abbrev pub Of : (ℕ → Label → ℕ → Type 0) → List State → List ℕ → ℕ → Label → ℕ → Type 0
 Of P states ids s l k = P s l k ⊎ (In s ids × HasArcAt (ranged (slice_index_or states s is.Fail)) l k)
 
@@ -466,7 +466,7 @@ graph_states M size states (q ∷ qs) P t b i =
     back s k l (inl p) = inl (inl p)
     back s k l (inr a) = on s k l a.0 a.1
 
--- At first there is no edge.
+-- Initially there are no edges.
 pub graph_none : (n : ℕ) → IsGraph (λ s l k. ⊥) (λ k. ⊥) n (record { lists = no_lists n; helpers = [] })
 graph_none n = record {
   whole = long n;
@@ -484,7 +484,7 @@ graph_none n = record {
     none (suc n) zero x i = i
     none (suc n) (suc k) x i = none n k x i
 
--- At last the first state goes on to a match.
+-- Finally, the first state goes on to a match.
 pub graph_report :
     (P : ℕ → Label → ℕ → Type 0) (size : ℕ) (t : Turns) (first : ℕ) → first < size → IsGraph P (λ k. ⊥) size t
     → IsGraph P (λ k. k ≡ first) size (turn_by t (is.Match 0) first)

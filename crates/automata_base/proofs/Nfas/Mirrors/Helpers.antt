@@ -31,7 +31,7 @@ range_at (Read []) = none
 range_at (Read (r ∷ rs)) = r
 range_at (Accept p) = none
 
--- Helpers whose copies are the same are the same.
+-- Helpers with equal copies are equal.
 module _ (f : ℕ → ℕ) (p : ℕ) (items : List ℕ) where
   ranges_same :
       (a b x c d y : ℕ) → In x items → In y items → ((x y : ℕ) → In x items → In y items → f x ≡ f y → x ≡ y)

@@ -9,7 +9,7 @@ led_on :
 led_on n q [] s r l w h = (r ∷ [], ((l, subst (λ v. HasArc n v l r) (sym w) h), refl))
 led_on n q (x ∷ way) s r l w h = let k = led_on n x way s r l w.1 h in (x ∷ k.0, (w.0, k.1))
 
--- One edge more, at the end or at the beginning.
+-- One more edge, at the end or at the beginning.
 pub leads_on : (n : Nfa) (q s r : ℕ) (l : Label) → LeadsTo n q s → HasArc n s l r → LeadsTo n q r
 leads_on n q s r l w h = led_on n q w.0 s r l w.1 h
 

@@ -51,7 +51,7 @@ push_length [] k x = refl
 push_length (y ∷ ys) zero x = refl
 push_length (y ∷ ys) (suc k) x = ap suc (push_length ys k x)
 
--- What is added to a list of IDs, unless it is the last, is added to the list of its numbers.
+-- Adding an ID to one of the lists, unless it is the last one there, is `put_at` on the lists.
 pub lists_put :
     (vs : List (Vec ℕ Global)) (k : ℕ) (old new d : Vec ℕ Global) (x : ℕ) → k < length vs → old ≡ get_or vs k d
     → new.items ≡ put old.items x → lists_of (set vs k new) ≡ put_at (lists_of vs) k x
@@ -86,7 +86,7 @@ ends_member xs x e = go (slice_get xs (length xs - 1)) refl e
     go None f e = let k : false ≡ true = e in absurd cc
     go (Some y) f e = nth_in xs (length xs - 1) x (f ∙ ap Some (eqb-true y x e))
 
--- The list of a number.
+-- The list at an index.
 pub list_item :
     (vs : List (Vec ℕ Global)) (k : ℕ) (v : Vec ℕ Global) → k < length vs → v ≡ get_or vs k v
     → list_at (lists_of vs) k ≡ v.items
@@ -99,7 +99,7 @@ none_at zero k = refl
 none_at (suc n) zero = refl
 none_at (suc n) (suc k) = none_at n k
 
--- What is added past the last list changes nothing.
+-- Adding after the last list changes nothing.
 pub push_past : (xs : List (List ℕ)) (k x : ℕ) → length xs ≤ k → push_at xs k x ≡ xs
 push_past [] k x l = refl
 push_past (y ∷ ys) zero x l = absurd (omega (arith, l))
@@ -117,7 +117,7 @@ push_other (y ∷ ys) zero (suc k) x f = refl
 push_other (y ∷ ys) (suc j) zero x f = refl
 push_other (y ∷ ys) (suc j) (suc k) x f = push_other ys j k x (λ e. f (ap suc e))
 
--- The list of a pattern with a state more.
+-- The list of a pattern after one more state.
 pub listed_at :
     (xs : List (List ℕ)) (found : Option ℕ) (x p : ℕ) → p < length xs
     → list_at (list_match xs found x) p ≡ list_at xs p ++ cond (is_of found p) (x ∷ []) []
@@ -142,7 +142,7 @@ pub nothing : {A : Type 0} (o : Option A) → ((x : A) → o ≡ Some x → ⊥)
 nothing None f = refl
 nothing (Some x) f = absurd (f x refl)
 
--- There is no number for what is past the greatest.
+-- A checked number is missing only if it is greater than the limit.
 pub none_large : (n m : ℕ) → cond (leb n m) (Some n) None ≡ None → m < n
 none_large n m e = go (leb n m) refl e
   where
@@ -150,7 +150,7 @@ none_large n m e = go (leb n m) refl e
     go true h k = absurd (none_some (sym k))
     go false h k = leb-false n m h
 
--- The turned edges of one state more.
+-- The reversed edges of one more state.
 pub states_next :
     (t new : Turns) (states : List State) (ids : List ℕ) (i id at : ℕ) (s : State) (w : Turns)
     → i < length ids → id ≡ get_or ids i id → at < length states → at ≡ id → s ≡ get_or states at s
@@ -162,7 +162,7 @@ states_next t new states ids i id at s w l e k a f g h =
     same : s ≡ get_or states id Fail
     same = f ∙ (get_or_default states at s Fail k ∙ ap (λ z. get_or states z Fail) a)
 
--- An error that is passed on is the error.
+-- An error that is passed on stays the same.
 pub err_is :
     {A B E : Type 0} → (r : Result A E) (x z : E) → IsErrAnd r (λ y. y ≡ x) → r ≡ Err z
     → ◌≡◌ {A = Result B E} (Err x) (Err z)
@@ -172,7 +172,7 @@ err_is (Err y) x z h e = ap (λ v. Err v) (sym h ∙ one e)
     one : {A E : Type 0} {a b : E} → ◌≡◌ {A = Result A E} (Err a) (Err b) → a ≡ b
     one e = cc
 
--- One state more is made.
+-- One more state is made.
 pub heads_more :
     (n : ℕ) (hs : List State) (lists : List (List ℕ)) (heads : List State) (xs : List ℕ) (s : State)
     → AreHeads n hs lists heads → IsHead n hs xs s → AreHeads n hs (lists ++ xs ∷ []) (heads ++ s ∷ [])
@@ -202,7 +202,7 @@ made_is n len hs lists yielded heads states a e l m f = (
       (subst (λ z. AreHeads n hs (lists_of z) heads) e a),
 )
 
--- A list in the place of one with the same items changes nothing.
+-- Replacing a list by one with the same items changes nothing.
 pub lists_same :
     (vs : List (Vec ℕ Global)) (k : ℕ) (old new : Vec ℕ Global) → k < length vs → old ≡ get_or vs k old
     → new.items ≡ old.items

@@ -1,4 +1,4 @@
--- Targets and edges, numbers of copies, and the turned states by their numbers.
+-- Targets and edges, IDs of copies, and the reversed states by their IDs.
 use Rattle.std.proofs.Common.{ℕ, zero, suc, ◌≡◌, ◌<◌, ◌+◌, ◌⊎◌, Bool, true, false, cond, eqb, List, [], ◌∷◌}
 use Rattle.std.proofs.Common.{◌++◌, length, get_or, map, Option, Some, None, inl, inr, refl, sym, ap, ◌∙◌, subst}
 use Rattle.std.proofs.Common.{arith}
@@ -25,7 +25,7 @@ range_next [] lo hi r h = absurd (none_some h.1)
 range_next (x ∷ xs) lo hi r (zero, e) = inl (sym (ap (λ (v : Range). v.next) (some_inj e)))
 range_next (x ∷ xs) lo hi r (suc k, e) = inr (range_next xs lo hi r (k, e))
 
--- What an edge leads to is a target.
+-- An edge leads to a target.
 arc_target : (x : Node) (l : Label) (r : ℕ) → HasArcAt x l r → In r (targets_at Every x)
 arc_target (Split alternates) Free r h = in_left r alternates [] h
 arc_target (Split alternates) (Asks look) r h = absurd h
@@ -103,7 +103,7 @@ nth_place (x ∷ xs) q i = go (eqb_tells x q) i (nth_place xs q)
     go (inr e) (inl f) ih = absurd (e.1 (sym f))
     go (inr e) (inr j) ih = ap (λ b. slice_get (x ∷ xs) (cond b 0 (suc (place_in xs q)))) e.0 ∙ ih j
 
--- Members have places of their own.
+-- Different members have different indices.
 pub place_same : (items : List ℕ) (q r : ℕ) → In q items → In r items → place_in items q ≡ place_in items r → q ≡ r
 place_same items q r i j e =
     some_inj (sym (nth_place items q i) ∙ (ap (λ k. slice_get items k) e ∙ nth_place items r j))
@@ -241,7 +241,7 @@ module _ (states : List State) (p : ℕ) where
       go true ih = ((λ i. d.0 (matches_are xs x i).0), ih)
       go false ih = ih
 
--- The turned states, by their numbers.
+-- The reversed states by their IDs.
 pub head_at :
     (n : ℕ) (hs : List State) (lists : List (List ℕ)) (heads more : List State) (k : ℕ) → AreHeads n hs lists heads
     → k < length lists → IsHead n hs (list_at lists k) (get_or (heads ++ more) k is.Fail)

@@ -1,4 +1,4 @@
--- An NFA and its reversed one are a true pair.
+-- An NFA and its reverse are a true pair.
 use Rattle.std.proofs.Common.{ℕ, zero, suc, ◌≡◌, ◌≤◌, ◌+◌, ◌-◌, ◌&&◌, leb, not, true, cond, List, [], ◌∷◌}
 use Rattle.std.proofs.Common.{length, Option, Some, None, inl, inr, refl, sym, ap, ◌∙◌, subst, arith}
 use Rattle.std.proofs.lemmas.Bool.{leb-true}
@@ -37,7 +37,7 @@ use Rattle.std.proofs.lemmas.Bool.{and_parts}
 use Rattle.automata_base.proofs.Answers.Loops.{nth_some}
 use Rattle.automata_base.proofs.Nfas.Utf8.Edges.{within_past}
 
--- Ordered ranges are apart.
+-- Ordered ranges are disjoint.
 abbrev pub IsApartAt : Node → Type 0
 IsApartAt (Split alternates) = Unit {0}
 IsApartAt (Assert look next) = Unit {0}
@@ -125,7 +125,7 @@ checked_apart a o = record {
       let k : IsApartAt (Read ranges) = subst IsApartAt e (node_apart a.states q o) in k lo hi next u h w;
 }
 
--- The tapes of a span are one, seen from and_parts ends.
+-- A look holds on one tape of a span exactly if its reverse holds on the other.
 truth_turns :
     (n m : Nfa) (look : Look) (p p' q q' : Option ℕ) → m.terminator ≡ n.terminator → m.reverse ≡ not n.reverse
     → p' ≡ q → q' ≡ p
@@ -157,7 +157,7 @@ tapes_turn n m h i j t r l w = record {
 still_turns : IsTurn always always no_bytes no_bytes 0
 still_turns = record { looks = λ a b look e. refl; bytes = λ a b e. refl }
 
--- An accepting way of the one from its first state, and of the other from a state.
+-- Accepting ways of `a` from its first state, and of `b` from a state.
 module _ (a b : Automaton) (checked : IsChecked a) (reversed : IsReversed a b) (A B : ℕ → Truth) (bytes back : Bytes)
     (J : ℕ)
     (turn : IsTurn A B bytes back J) where
@@ -214,7 +214,7 @@ module _ (a b : Automaton) (checked : IsChecked a) (reversed : IsReversed a b) (
       (checked_apart a checked.ordered) reversed.mirror turn path p z w m)
 
 module _ (a b : Automaton) (kind : MatchKind) (checked : IsChecked a) (reversed : IsReversed a b) where
-  -- The entry of a pattern.
+  -- Each pattern has an entry.
   entry : (q p : ℕ) → accepts (nfa_of a) q ≡ Some p → (e : ℕ) × (slice_get b.start_pattern p ≡ Some e)
   entry q p e = nth_some b.start_pattern p (omega (arith, checked.patterns q p e, reversed.patterns))
 

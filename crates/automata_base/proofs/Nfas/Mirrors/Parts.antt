@@ -1,4 +1,4 @@
--- What is made of an NFA is the reversed NFA.
+-- The NFA that is made of the copies is the reversed NFA.
 use Rattle.std.proofs.Common.{ℕ, ◌≡◌, ◌<◌, ◌≤◌, ◌+◌, ◌-◌, ◌↔◌, ◌⊎◌, Bool, true, false, not, ltb, List, [], ◌∷◌, ◌++◌}
 use Rattle.std.proofs.Common.{zero, suc, length, length-append, get_or, map, Vec, Some, inl, inr, refl, sym}
 use Rattle.std.proofs.Common.{ap, ◌∙◌, subst, arith}
@@ -47,7 +47,7 @@ in_at_inside [] k x i = absurd i
 in_at_inside (xs ∷ rest) zero x i = omega arith
 in_at_inside (xs ∷ rest) (suc k) x i = let l = in_at_inside rest k x i in omega (arith, l)
 
--- An NFA, the states that are reached from its first, and what is turned of these.
+-- An NFA, the states that its anchored start reaches, and their reversed edges.
 module _ (a : Automaton) (turned : List State) (reached : List ℕ) (m : Nfa)
     (checked : IsChecked a)
     (reach : (q : ℕ) → In q reached ↔ IsReached Every a.states (a.start_anchored ∷ []) q) (distinct : Distinct reached)
@@ -78,7 +78,7 @@ module _ (a : Automaton) (turned : List State) (reached : List ℕ) (m : Nfa)
   whole : length t.lists ≡ length a.states
   whole = graph.whole
 
-  -- A state is reached if edges lead to it from the first one, and the other way round.
+  -- A state is reached exactly if edges lead to it from the first state.
   led_reached : (q : ℕ) (way : List ℕ) (z : ℕ) → In q reached → IsLed (ranged_nfa a) q way z → In z reached
   led_reached q [] z i w = subst (λ v. In v reached) w i
   led_reached q (r ∷ way) z i w = led_reached r way z (goes_on q r w.0.0 i w.0.1) w.1
@@ -137,7 +137,7 @@ module _ (a : Automaton) (turned : List State) (reached : List ℕ) (m : Nfa)
         cancel : (x y : ℕ) → base + x ≡ base + y → x ≡ y
         cancel x y e = omega (arith, e)
 
-    -- What stands for an edge is copied as the turned edge, and its source is kept.
+    -- The copy of a state that stands for an edge is the reversed edge, and the source of the edge is kept.
     edge_is :
         (y s : ℕ) (l : Label) → In y items → Stand t y l s
         → In s items × IsReversedArc m (copy_of base items y) l (copy_of base items s)
@@ -164,7 +164,7 @@ module _ (a : Automaton) (turned : List State) (reached : List ℕ) (m : Nfa)
             omega (arith, i, size_is)
         go (r ∷ way) w = inside q w.0.0 r w.0.1
 
-    -- The source of a turned edge to a kept state is kept.
+    -- The source of an edge to a kept state is kept.
     source_kept : (s : ℕ) (l : Label) (k : ℕ) → Of (λ s l k. ⊥) a.states reached s l k → Kept k → Kept s
     source_kept s l k (inl b) kk = absurd b
     source_kept s l k (inr b) kk =
@@ -174,7 +174,7 @@ module _ (a : Automaton) (turned : List State) (reached : List ℕ) (m : Nfa)
     source_inside s l k (inl b) = absurd b
     source_inside s l k (inr b) = inside s l k (is_arc s l k b.1)
 
-    -- What a helper among the alternates of a state is.
+    -- An ID determines its helper.
     helper_same :
         (x j : ℕ) (g h : State) → x ≡ length t.lists + j → slice_get t.helpers j ≡ Some g → IsHelper t x h → g ≡ h
     helper_same x j g h e i w =
@@ -216,7 +216,7 @@ module _ (a : Automaton) (turned : List State) (reached : List ℕ) (m : Nfa)
     helper_goes k x j g kk (inr h) e i r m =
         absurd (subst (λ v. In r (targets_at Every (node_of v))) (helper_same x j g (is.Match 0) e i h.1) m)
 
-    -- What a kept state's turned state is made of.
+    -- Each state's reversed state is made from its list of alternates.
     head_of :
         (k : ℕ) → k < length a.states → IsHead (length t.lists) t.helpers (list_at t.lists k) (get_or turned k is.Fail)
     head_of k l =
@@ -330,8 +330,7 @@ module _ (a : Automaton) (turned : List State) (reached : List ℕ) (m : Nfa)
     abbrev Edge : ℕ → ℕ → Type 0
     Edge k x = IsEdgeTo (ranged_nfa a) m a.start_anchored p (copy_of base items) IsAnyLabel k x
 
-    -- A member among the alternates of a state is turned to a union, or is a helper, or the copy of one as its only
-    -- alternate.
+    -- The state is helper `j`, or its only alternate is helper `j`.
     abbrev Sole : ℕ → ℕ → Type 0
     Sole y j = (y ≡ length t.lists + j) ⊎ ((y < length a.states) × (list_at t.lists y ≡ (length t.lists + j) ∷ []))
 
@@ -371,7 +370,7 @@ module _ (a : Automaton) (turned : List State) (reached : List ℕ) (m : Nfa)
         go (inl (s, Reads lo hi, b, h)) = helper (is.ByteRange lo hi s) h
         go (inr h) = helper (is.Match 0) h.1
 
-    -- A helper has one place among the alternates of a state.
+    -- The alternates of a state do not include both a helper and a state whose only alternate is that helper.
     helper_place :
         (k x y j : ℕ) → InAt t.lists k x → InAt t.lists k y → x ≡ length t.lists + j → y < length a.states
         → list_at t.lists y ≡ (length t.lists + j) ∷ [] → ⊥
@@ -393,7 +392,7 @@ module _ (a : Automaton) (turned : List State) (reached : List ℕ) (m : Nfa)
     one_place k x y j ix iy (inr e) (inr f) =
         once.owned x y (length t.lists + j) (omega (arith, whole)) (sole x j e.1) (sole y j f.1)
 
-    -- Alternates that do the same are one.
+    -- Alternates with equal copies are equal, unless the copies are unions.
     one_alternate :
         (k x y : ℕ) → InAt t.lists k x → InAt t.lists k y → In x items → In y items
         → node m (copy_of base items x) ≡ node m (copy_of base items y) → IsUnion (node m (copy_of base items x))
@@ -416,7 +415,7 @@ module _ (a : Automaton) (turned : List State) (reached : List ℕ) (m : Nfa)
             let k' : i ≡ j = once.helpers i j h (gi ∙ ap Some alike) hj in
             inr (one_place k x y j ix iy (subst (λ v. Sole x v) k' gs) hs)
 
-    -- A state whose alternates are a union.
+    -- The case of a state that becomes a union of its alternates.
     union_at :
         (k : ℕ) → Kept k → (v : Vec ℕ Global) → get_or turned k is.Fail ≡ is.Union v → v.items ≡ list_at t.lists k
         → At k (map (copy_of base items) v.items)
@@ -485,7 +484,7 @@ module _ (a : Automaton) (turned : List State) (reached : List ℕ) (m : Nfa)
             from (inl h) = inl (subst (λ v. IsUnion (node m v)) (sym w.2) h)
             from (inr h) = inr (w.2 ∙ (ap (copy_of base items) h ∙ sym u.2))
 
-    -- A state whose only alternate is a helper: it is a copy of the helper.
+    -- The case of a state whose only alternate is a helper: it becomes a copy of the helper.
     alone_at :
         (k : ℕ) → Kept k → (j : ℕ) → list_at t.lists k ≡ (length t.lists + j) ∷ []
         → slice_get t.helpers j ≡ Some (get_or turned k is.Fail) → At k (copy_of base items k ∷ [])
@@ -663,7 +662,7 @@ module _ (a : Automaton) (turned : List State) (reached : List ℕ) (m : Nfa)
           w.3 w.4)
       only x false f l = let more = ltb-false x (length nodes) f in IsRootOf (omega (arith, more, l, long, r))
 
--- The states that `NFA::from_states` accepts are in range, whatever the number.
+-- If all states of a list are in range, so is the state at any index.
 all_in_range :
     (n : ℕ) (states : List State) (q : ℕ) → states_below n states ≡ true
     → state_below n (get_or states q is.Fail) ≡ true

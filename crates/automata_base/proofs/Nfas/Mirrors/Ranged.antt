@@ -1,4 +1,4 @@
--- An NFA and the one with each dense state's edges as ranges have the same ways.
+-- An NFA has the same ways if the edges of each dense state are written as ranges.
 use Rattle.std.proofs.Common.{ℕ, suc, ◌≡◌, List, [], ◌∷◌, get_or, inl, inr, refl, sym, ap, ◌∙◌}
 use Rattle.automata_base.specs.declared.nfa.thompson.State.{State}
 use Rattle.automata_base.specs.declared.nfa.thompson.State.TheVariants as is

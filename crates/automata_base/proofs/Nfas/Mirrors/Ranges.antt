@@ -1,4 +1,4 @@
--- The numbers that states lead to are in range.
+-- The IDs that states lead to are in range.
 use Rattle.std.proofs.Common.{ℕ, zero, suc, ◌≡◌, ◌<◌, ◌≤◌, ◌+◌, ◌⊎◌, ◌&&◌, true, false, List, [], ◌∷◌, ◌++◌, length}
 use Rattle.std.proofs.Common.{length-append, get_or, Option, Some, None, inl, inr, refl, sym, ap, ◌∙◌, subst, arith}
 use Rattle.std.proofs.lemmas.Bool.{lt-ltb}
@@ -107,7 +107,7 @@ nth_inside [] j a e = absurd (no e)
 nth_inside (x ∷ xs) zero a e = omega arith
 nth_inside (x ∷ xs) (suc j) a e = let k = nth_inside xs j a e in omega (arith, k)
 
--- What is turned is in range, and has no fewer states.
+-- The reversed states are in range, and there are at least as many as states.
 module _ (a : Automaton) (turned : List State) (reached : List ℕ)
     (below : states_below (length a.states) a.states ≡ true)
     (first : a.start_anchored < length a.states) (small : all_below (length a.states) reached ≡ true)
@@ -164,7 +164,7 @@ module _ (a : Automaton) (turned : List State) (reached : List ℕ)
       ∙ heads_below (length turned) (length are.0.lists) are.0.helpers are.0.helpers are.0.lists are.1.0 heads_are
       inside helpers_are helpers_are
 
--- The same of states alone.
+-- The same for states alone.
 module _ (states turned : List State) (reached : List ℕ) (first : ℕ)
     (below : states_below (length states) states ≡ true)
     (inside : first < length states) (small : all_below (length states) reached ≡ true)

@@ -1,4 +1,4 @@
--- A dense state with its edges as ranges does what it does byte by byte.
+-- A dense state behaves the same whether its edges are written as ranges or byte by byte.
 use Rattle.std.proofs.Common.{ℕ, zero, suc, ◌≡◌, ◌<◌, ◌≤◌, ◌+◌, ◌&&◌, ltb, leb, Bool, true, false, cond, List, [], ◌∷◌}
 use Rattle.std.proofs.Common.{◌++◌, Option, Some, None, inl, inr, refl, sym, ap, ◌∙◌, subst, arith}
 use Rattle.std.proofs.lemmas.Bool.{le-leb, ltb-true, eqb-true}
@@ -19,7 +19,7 @@ head_is : (x : ℕ) (xs : List ℕ) → starts_with x xs ≡ true → (ys : List
 head_is x [] e = let k : false ≡ true = e in absurd cc
 head_is x (y ∷ ys) e = (ys, ap (λ v. v ∷ ys) (eqb-true y x e))
 
--- The case that the first target leads somewhere.
+-- The first target, if it leads somewhere.
 abbrev pub led : List ℕ → Option ℕ
 led [] = None
 led (zero ∷ xs) = None
@@ -33,7 +33,7 @@ none_or : (b : Bool) (d : Option ℕ) → (b ≡ true → d ≡ None) → cond b
 none_or true d f = sym (f refl)
 none_or false d f = refl
 
--- The bytes from `lo` up to `byte` are those before it and it.
+-- The bytes from `lo` to `byte` are those before `byte` and `byte` itself.
 run_ends :
     (lo byte u : ℕ) (v d : Option ℕ) → lo ≤ byte
     → cond (within lo byte u) v d ≡ cond (leb lo u && ltb u byte) v (cond (within byte byte u) v d)
@@ -134,7 +134,7 @@ runs_ordered (x ∷ xs) low lo byte a b =
     go true p q r = p
     go false p q r = run_ordered low lo byte x (runs_from (suc byte) (suc byte) xs) a b q r
 
--- They lead to targets.
+-- The ranges lead to targets.
 pub runs_below :
     (n : ℕ) (xs : List ℕ) (lo byte : ℕ) → all_below n xs ≡ true → transitions_below n (runs_from lo byte xs) ≡ true
 runs_below n [] lo byte h = refl
@@ -186,7 +186,7 @@ runs_next (x ∷ xs) lo byte r i =
     go true f g i = later x (f i)
     go false f g i = one x g i
 
--- Each target of a dense state is that of a run.
+-- Each target of a dense state is the target of a run.
 pub next_runs :
     (xs : List ℕ) (lo byte r : ℕ) → In r (nexts (dense_from byte xs)) → In r (nexts (ranges_of (runs_from lo byte xs)))
 next_runs [] lo byte r i = i

@@ -1,4 +1,4 @@
--- Each edge is turned once: no alternate and no helper repeats.
+-- Each edge is reversed once: no alternate and no helper repeats.
 use Rattle.std.proofs.Common.{ℕ, zero, suc, ◌≡◌, ◌<◌, ◌≤◌, ◌+◌, ◌⊎◌, Bool, true, false, cond, leb, List, [], ◌∷◌}
 use Rattle.std.proofs.Common.{◌++◌, ◌&&◌, length, length-append, get_or, Option, Some, None, inl, inr, refl, sym, ap}
 use Rattle.std.proofs.Common.{◌∙◌, subst, arith}
@@ -77,7 +77,7 @@ state_either (y ∷ ys) a (suc k) x e = go (state_either ys a k x e)
     go (inl h) = inl h
     go (inr h) = inr (ap suc h.0, h.1)
 
--- No alternate repeats, no helper does, and each helper is an alternate of one state. There are `n` lists.
+-- No alternate and no helper repeats, and each helper is an alternate of only one state. There are `n` lists.
 pub record IsOnce (n : ℕ) (t : Turns) : Type 0 where
   pub whole : length t.lists ≡ n
   pub below : (k x : ℕ) → InAt t.lists k x → x < n + length t.helpers
@@ -97,7 +97,7 @@ source_of (is.Capture next pattern index slot) = None
 source_of is.Fail = None
 source_of (is.Match pattern) = None
 
--- The edges of these states are not turned yet.
+-- The edges of the states in `new` are not yet reversed.
 pub record IsNew (new : ℕ → Type 0) (n : ℕ) (t : Turns) : Type 0 where
   pub once : IsOnce n t
   pub lists : (k x : ℕ) → InAt t.lists k x → new x → n ≤ x
@@ -200,7 +200,7 @@ module _ (new : ℕ → Type 0) (n from : ℕ) (known : new from → ⊥) (small
   all_once (x ∷ xs) t last w =
       all_once xs (turn_free t from x) (put_last t.lists x from last) (step_free t x last w)
 
-  -- The ranges of the state that are turned already begin before this byte.
+  -- The ranges of the state that are already reversed begin before this byte.
   abbrev IsBefore : ℕ → Turns → Type 0
   IsBefore low t = (j lo hi : ℕ) → slice_get t.helpers j ≡ Some (is.ByteRange lo hi from) → lo < low
 

@@ -1,4 +1,4 @@
--- How many states and alternates what is turned has.
+-- The number of states and alternates after reversing.
 use Rattle.std.proofs.Common.{ℕ, zero, suc, ◌≡◌, ◌<◌, ◌≤◌, ◌+◌, ◌^◌, ◌&&◌, Bool, true, false, cond, leb, List, [], ◌∷◌}
 use Rattle.std.proofs.Common.{◌++◌, drop, length}
 use Rattle.std.proofs.Common.{length-append, get_or, Option, Some, None, refl, sym, ap, ◌∙◌, subst, arith}
@@ -24,7 +24,7 @@ use Rattle.automata_base.proofs.Nfas.Mirrors.Sums.{sum_some}
 use Rattle.automata_base.proofs.Paths.Checked.{below_in}
 use Rattle.std.proofs.lemmas.Bool.{and_parts}
 
--- How many alternates they have.
+-- The number of alternates in all lists.
 abbrev pub total : List (List ℕ) → ℕ
 total [] = 0
 total (xs ∷ rest) = length xs + total rest
@@ -75,7 +75,7 @@ size_state t from (is.Capture next pattern index slot) = let a = size_all t from
 size_state t from is.Fail = omega arith
 size_state t from (is.Match pattern) = omega arith
 
--- What `f` counts of the states of these numbers.
+-- The sum of `f` over the states with these IDs.
 abbrev pub sum_at : (State → ℕ) → List State → List ℕ → ℕ
 sum_at f states ids = sum_by (λ q. f (get_or states q is.Fail)) ids
 
@@ -145,7 +145,7 @@ none_length : (n : ℕ) → length (no_lists n) ≡ n
 none_length zero = refl
 none_length (suc n) = ap suc (none_length n)
 
--- Helpers are no unions, and their ranges are in order.
+-- Helpers have no alternates, and their ranges are in order.
 abbrev pub IsHelperOf : State → Type 0
 IsHelperOf h = (alternates_of h ≡ 0) × (state_ordered h ≡ true)
 
@@ -255,7 +255,7 @@ heads_ordered m hs more (xs ∷ rest) (s ∷ ss) a h o =
     one (IsUnionOfAll v e g) = ap state_ordered e
     one (IsOnlyHelper j e g) = (nth_helper hs j s h g).1
 
--- What is turned of states without repeats.
+-- The reversed states, if no reached state repeats.
 module _ (states turned : List State) (reached : List ℕ) (first : ℕ) (distinct : Distinct reached)
     (below : all_below (length states) reached ≡ true) (are : AreTurned states reached first turned) where
   abbrev none : Turns
@@ -306,7 +306,7 @@ module _ (states turned : List State) (reached : List ℕ) (first : ℕ) (distin
         let i = total_none (length states) in
         omega (arith, a, b, c, d, e, f, g, h, i)
 
--- Too many at one state are too many at the end.
+-- If one state already makes too many states, there are too many at the end.
 pub state_large :
     (t : Turns) (states : List State) (ids : List ℕ) (i id at : ℕ) (s : State) (w : Turns)
     → i < length ids → id ≡ get_or ids i id → at < length states → at ≡ id → s ≡ get_or states at s
@@ -315,7 +315,7 @@ state_large t states ids i id at s w l e k a f h b =
     subst (λ (z : Turns). 2 ^ 27 < size z) (states_next t (turn_state t id s) states ids i id at s w l e k a f refl h)
     (let c = size_states (turn_state t id s) states (drop (i + 1) ids) in omega (arith, b, c))
 
--- If there are too many.
+-- An upper bound on the number of states after reversing.
 pub states_large :
     (states : List State) (reached : List ℕ) → Distinct reached → all_below (length states) reached ≡ true
     → size (turn_states (record { lists = no_lists (length states); helpers = [] }) states reached)

@@ -48,7 +48,7 @@ unvisited_all f d xs (suc n) l =
     subst (λ z. sum_by f (take z xs) ≡ sum_by f (take n xs) + f (get_or xs n d)) one more in
     omega (arith, rest, more')
 
--- What some of the elements have is at most what all have.
+-- The sum over some of the elements is at most the sum over all.
 pub sum_some :
     {A : Type 0} → (f : A → ℕ) (d : A) (xs : List A) (ids : List ℕ) → Distinct ids
     → ((q : ℕ) → In q ids → q < length xs)

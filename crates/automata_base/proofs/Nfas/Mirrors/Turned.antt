@@ -1,4 +1,4 @@
--- A reversed NFA goes back along the edges of the other.
+-- A reversed NFA follows the edges of the first NFA backward.
 use Rattle.std.proofs.Common.{ℕ, zero, suc, ◌≡◌, ◌<◌, ◌≤◌, ◌+◌, Bool, true, false, cond, List, [], ◌∷◌, ◌⊎◌, length}
 use Rattle.std.proofs.Common.{Option, Some, None, inl, inr, refl, sym, ap, ◌∙◌, subst, arith}
 use Rattle.automata_base.specs.Lists.{In}
@@ -15,7 +15,7 @@ use Rattle.automata_base.proofs.Paths.Sets.{nth_in, in_nth}
 use Rattle.automata_base.proofs.Nfas.Mirrors.Leads.{kept_back, kept_match, leads_here, leads_on}
 use Rattle.automata_base.proofs.Nfas.Mirrors.Ways.{Bytes, IsWay, HasWay, join, hop_way, move_way, way_grows}
 
--- The same span seen from its other end, `J` places long.
+-- The same span seen from its other end. It is `J` positions long.
 pub record IsTurn (A B : ℕ → Truth) (b c : Bytes) (J : ℕ) : Type 0 where
   pub looks : (k l : ℕ) (look : Look) → k + l ≡ J → B l (flip look) ≡ A k look
   pub bytes : (k l : ℕ) → suc (k + l) ≡ J → c l ≡ b k
@@ -26,7 +26,7 @@ pub record IsApart (n : Nfa) : Type 0 where
       (q : ℕ) (ranges : List Range) (lo hi next u : ℕ) → node n q ≡ Read ranges → HasRange ranges lo hi next
       → within lo hi u ≡ true → takes_in ranges u ≡ Some next
 
--- An edge by its label.
+-- An edge with this label can be followed without reading a byte.
 abbrev pub Holds : Truth → Label → Type 0
 Holds A Free = Unit {0}
 Holds A (Asks look) = A look ≡ true
@@ -117,7 +117,7 @@ accept_inside n q p h = go n.nodes q h
     go (x ∷ xs) zero h = omega arith
     go (x ∷ xs) (suc q) h = let k = go xs q h in omega (arith, k)
 
--- The node of a state in terms of what it is.
+-- The edges of a state, by its kind of node.
 split_hop :
     (m : Nfa) (A : Truth) (q : ℕ) (xs : List ℕ) (x : ℕ) → node m q ≡ Split xs → In x xs → (e : ℕ)
     × (hop m A q e ≡ Some x)
@@ -126,7 +126,7 @@ split_hop m A q xs x s i = let k = in_nth xs x i in (k.0, ap (λ v. hop_at v A k
 hop_split : (m : Nfa) (A : Truth) (q : ℕ) (xs : List ℕ) (e x : ℕ) → node m q ≡ Split xs → hop m A q e ≡ Some x → In x xs
 hop_split m A q xs e x s h = nth_in xs e x (sym (ap (λ v. hop_at v A e) s) ∙ h)
 
--- Two NFAs of which `m` is `n` reversed, and a span seen from both ends.
+-- `m` is the reverse of `n`, and the span is seen from both ends.
 module _ (n m : Nfa) (first root : ℕ) (entries : List ℕ)
     (A B : ℕ → Truth) (b c : Bytes) (J : ℕ)
     (apart : IsApart n)
@@ -142,7 +142,7 @@ module _ (n m : Nfa) (first root : ℕ) (entries : List ℕ)
 
   -- The part of one pattern.
   module _ (p entry : ℕ) (place : ℕ → ℕ) (part : IsPart n m first p entry place) where
-    -- To what the state that stands for `t` goes on to.
+    -- Ways from the state that stands for `t` to its alternates.
     enters :
         (t k x : ℕ) (xs : List ℕ) → IsReversedAt n m first p place t xs → In x xs → HasWay m B c k (place t) k x
     enters t k x xs at i = go at.stands
@@ -155,7 +155,7 @@ module _ (n m : Nfa) (first root : ℕ) (entries : List ℕ)
         go (JoinsEdges s) = let h = split_hop m (B k) (place t) xs x s i in hop_way m B c k (place t) h.0 x h.1
         go (IsOnlyEdge e f) = ([], (refl, sym (one (place t) (subst (λ v. In x v) e i))))
 
-    -- From an edge's target back to its source.
+    -- The way back from an edge's target to its source.
     back_hop :
         (s t : ℕ) (l : Label) (k k' : ℕ) → IsUseful n first p s → IsUseful n first p t → k + k' ≡ J → HasArc n s l t
         → Holds (A k) l → HasWay m B c k' (place t) k' (place s)
@@ -188,7 +188,7 @@ module _ (n m : Nfa) (first root : ℕ) (entries : List ℕ)
         w : (x : ℕ) × In x at.0 × IsReversedArc m x (Reads lo hi) (place s)
         w = at.1.arcs s (Reads lo hi) ks arc
 
-    -- A way forth to a kept state gives a way back.
+    -- A way to a kept state gives a way back.
     abbrev pub GoesBack : ℕ → ℕ → ℕ → ℕ → Type 0
     GoesBack j' z i' q = IsUseful n first p q × HasWay m B c j' (place z) i' (place q)
 
@@ -241,7 +241,7 @@ module _ (n m : Nfa) (first root : ℕ) (entries : List ℕ)
     abbrev pub Comes : ℕ → ℕ → ℕ → ℕ → Type 0
     Comes p' j' i' t = (p' ≡ p) × HasWay n A b j' first i' t
 
-    -- An edge more.
+    -- One more edge.
     comes_hop :
         (p' j' i i' s t : ℕ) (l : Label) → i + i' ≡ J → HasArc n s l t → Holds (A i') l → Comes p' j' i' s
         → Comes p' j' i' t
@@ -254,7 +254,7 @@ module _ (n m : Nfa) (first root : ℕ) (entries : List ℕ)
         (i x j z i' j' t p' : ℕ) → IsUseful n first p t → i + i' ≡ J → j + j' ≡ J → Stands x t
         → IsWay m B c i x path j z → accepts m z ≡ Some p' → Comes p' j' i' t
 
-    -- From a state that stands for an edge that reads or asks.
+    -- Ways from a state that stands for an edge that reads a byte or tests a look.
     from_asking :
         (path : List ℕ) (e : ℕ) → Goes path → (l : Label)
         → (i x j z i' j' s t p' : ℕ) → IsUseful n first p s → i + i' ≡ J → j + j' ≡ J → HasArc n s l t → IsAsking l
@@ -287,13 +287,13 @@ module _ (n m : Nfa) (first root : ℕ) (entries : List ℕ)
                   (arc_takes n s lo hi t h.1 apart arc taken.0)),
             )
 
-    -- From a match.
+    -- No way continues from a match.
     from_match :
         (path : List ℕ) (e i x j z : ℕ) (C : Type 0) → node m x ≡ Accept p → IsWay m B c i x (e ∷ path) j z → C
     from_match path e i x j z C is (inl h) = absurd (none_some (sym (ap (λ v. hop_at v (B i) e) is) ∙ h.1))
     from_match path e i x j z C is (inr h) = absurd (none_some (sym (ap (λ v. takes_at v h.1) is) ∙ h.3))
 
-    -- From a state that stands for `t`, once the first edge is known.
+    -- Ways from a state that stands for `t`, once the first edge is known.
     from_place :
         (path : List ℕ) (e : ℕ) → Goes path
         → (i x j z i' j' t p' : ℕ) → IsUseful n first p t → i + i' ≡ J → j + j' ≡ J → x ≡ place t
@@ -365,7 +365,7 @@ module _ (n m : Nfa) (first root : ℕ) (entries : List ℕ)
         go (JoinsEdges is) = absurd (not_split z at.0 p' (ap (λ v. node m v) (sym here) ∙ is) a)
         go (IsOnlyEdge is g) = by_edge g
 
-    -- A way back to a match gives a way forth.
+    -- A way back to a match gives a way forward.
     pub turned_forth : (path : List ℕ) → Goes path
     turned_forth [] i x j z i' j' t p' kt d f (inl same) w a =
         stop_place i j z i' j' t p' kt d f w.0 (sym same ∙ w.1) a
@@ -385,7 +385,7 @@ module _ (n m : Nfa) (first root : ℕ) (entries : List ℕ)
     turned_forth (e ∷ path) i x j z i' j' t p' kt d f (inr (EndsPath begins is)) w a =
         from_match path e i x j z (Comes p' j' i' t) is w
 
-    -- From the entry.
+    -- Ways from the entry.
     entry_back :
         (q : ℕ) → HasWay n A b 0 first J q → accepts n q ≡ Some p
         → (z : ℕ) × HasWay m B c 0 entry J z × (accepts m z ≡ Some p)
@@ -440,7 +440,7 @@ module _ (n m : Nfa) (first root : ℕ) (entries : List ℕ)
     entry_forth (e ∷ path) p' z (inr h) a =
         absurd (none_some (sym (ap (λ v. takes_at v h.1) part.enters.1.union) ∙ h.3))
 
-  -- An accepting way of the pattern, forth from the first state, and back from a state.
+  -- An accepting way of the pattern, forward from the first state, or back from a state.
   abbrev pub Forth : ℕ → Type 0
   Forth p = (q : ℕ) × HasWay n A b 0 first J q × (accepts n q ≡ Some p)
 

@@ -1,4 +1,4 @@
--- Ways through an NFA: paths that may pass a state twice at one place, over any truths and bytes.
+-- Ways through an NFA: paths that may pass a state twice at one position, over any truths and bytes.
 use Rattle.std.proofs.Common.{ℕ, suc, ◌≡◌, ◌≤◌, List, [], ◌∷◌, ◌++◌, ◌⊎◌, Option, Some, None, inl, inr, refl, sym, ◌∙◌}
 use Rattle.std.proofs.Common.{subst, arith, ⊎_elim}
 use Rattle.automata_base.specs.Lists.{In}
@@ -10,7 +10,7 @@ use Rattle.automata_base.proofs.Paths.Orders.{none_some}
 use Rattle.automata_base.proofs.Paths.Walks.{in_either}
 use Rattle.std.proofs.lemmas.Bool.{cases_eq}
 
--- The bytes at the places.
+-- The byte at each position.
 abbrev pub Bytes : Type 0
 Bytes = ℕ → Option ℕ
 
@@ -23,7 +23,7 @@ IsWay n A b i q (e ∷ path) j z =
 abbrev pub HasWay : Nfa → (ℕ → Truth) → Bytes → ℕ → ℕ → ℕ → ℕ → Type 0
 HasWay n A b i q j z = (path : List ℕ) × IsWay n A b i q path j z
 
--- One way and another.
+-- Joins two ways.
 pub way_join :
     (n : Nfa) (A : ℕ → Truth) (b : Bytes) (i q : ℕ) (p : List ℕ) (k y : ℕ) (s : List ℕ) (j z : ℕ)
     → IsWay n A b i q p k y → IsWay n A b k y s j z → IsWay n A b i q (p ++ s) j z
@@ -63,11 +63,11 @@ path_way n t i seen q (e ∷ p) j z (StaysHere r hops new on) = inl (r, hops, pa
 path_way n t i seen q (e ∷ p) j z (ReadsByte r edge moves on) =
     inr (r, moves.0, moves.1, moves.2, path_way n t (suc i) [] r p j z on)
 
--- A path exists.
+-- There is a path from `q` at position `i` to `z` at position `j`.
 abbrev pub HasPath : Nfa → Tape → ℕ → ℕ → ℕ → ℕ → Type 0
 HasPath n t i q j z = (path : List ℕ) × IsPathFrom n t i [] q path j z
 
--- Past fewer states.
+-- A path stays a path if it has to avoid fewer states.
 path_forget :
     (n : Nfa) (t : Tape) (i : ℕ) (seen more : List ℕ) (q : ℕ) (p : List ℕ) (j z : ℕ)
     → ((y : ℕ) → In y more → In y seen) → IsPathFrom n t i seen q p j z → IsPathFrom n t i more q p j z
@@ -83,7 +83,7 @@ path_forget n t i seen more q (e ∷ p) j z f (StaysHere r hops new on) =
     still k = under r k
 path_forget n t i seen more q (e ∷ p) j z f (ReadsByte r edge moves on) = ReadsByte r edge moves on
 
--- A path meets `q` at its first place, and then there is one from `q`, or it is one past `q`.
+-- A path either passes `q` at its first position, and then there is a path from `q`, or it avoids `q`.
 abbrev pub Meets : Nfa → Tape → ℕ → List ℕ → ℕ → ℕ → List ℕ → ℕ → ℕ → Type 0
 Meets n t i seen q r p j z =
     HasPath n t i q j z ⊎ (IsPathFrom n t i (seen ++ (q ∷ [])) r p j z × (r ≡ q → ⊥))
@@ -122,7 +122,7 @@ hop_path n t i q e r j z h w = go (meets n t i [] q r w.0 j z w.1)
     go (inl k) = k
     go (inr k) = (e ∷ w.0, StaysHere r h (λ c. ⊎_elim (λ (s : r ≡ q). k.1 s) (λ (d : ⊥). d) c) k.0)
 
--- A way has a path.
+-- If there is a way, there is a path.
 pub way_path :
     (n : Nfa) (t : Tape) (i q : ℕ) (p : List ℕ) (j z : ℕ)
     → IsWay n (truth n t) (slice_get t.bytes) i q p j z → HasPath n t i q j z
@@ -131,7 +131,7 @@ way_path n t i q (e ∷ p) j z (inl h) = hop_path n t i q e h.0 j z h.1 (way_pat
 way_path n t i q (e ∷ p) j z (inr h) =
     let w = way_path n t (suc i) h.0 p j z h.4 in (0 ∷ w.0, ReadsByte h.0 refl (h.1, h.2, h.3) w.1)
 
--- Edges that read nothing, looks taken as true.
+-- No bytes: such ways follow only epsilon edges.
 abbrev pub no_bytes : Bytes
 no_bytes i = None
 

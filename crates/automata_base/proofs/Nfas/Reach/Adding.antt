@@ -1,4 +1,4 @@
--- What a set has once the states of a list were added.
+-- The members of a set after the states of a list were added.
 use Rattle.std.proofs.Common.{ℕ, zero, suc, ◌≡◌, ◌<◌, ◌≤◌, ◌+◌, ◌⊎◌, Bool, true, false, cond, List, [], ◌∷◌, ◌++◌}
 use Rattle.std.proofs.Common.{length, get_or, take, drop, inl, inr, refl, sym, ap, ◌∙◌, subst, arith, append_assoc}
 use Rattle.std.proofs.Common.{append-nil}
@@ -45,7 +45,7 @@ inserted old new id true fresh added had kept =
 inserted old new id false fresh added had kept =
     kept refl ∙ (sym (append-nil old) ∙ ap (λ z. old ++ cond z [] (id ∷ [])) (sym (had_is id old (had refl))))
 
--- The insertion of a state that is no member puts it last.
+-- Inserting a state that is not a member puts it last.
 pub inserted_new :
     (old new : List ℕ) (id : ℕ) (b : Bool) → (In id old → ⊥) → (IsTrue b → new ≡ old ++ id ∷ [])
     → (IsFalse b → In id old)

@@ -1,4 +1,4 @@
--- What is apart from two states does not reach them.
+-- States that are apart from two states do not reach them.
 use Rattle.std.proofs.Common.{ℕ, zero, suc, ◌≡◌, ◌<◌, ◌≤◌, ◌⊎◌, ◌||◌, ◌&&◌, Bool, true, false, not, eqb}
 use Rattle.std.proofs.Common.{List, [], ◌∷◌, ◌++◌, length, get_or, inl, inr, refl, sym, ap, ◌∙◌, subst, true≢false}
 use Rattle.std.proofs.Common.{arith}
@@ -64,7 +64,7 @@ targets_in one two (is.Capture next pattern index slot) r h i = other_one one tw
 targets_in one two is.Fail r h i = absurd i
 targets_in one two (is.Match pattern) r h i = absurd i
 
--- A state that was read leads to neither of the two, or is one of them.
+-- A tested state is one of the two, or leads to neither of them.
 pub apart_here :
     (states : List State) (one two at : ℕ) (s : State) → at < length states → s ≡ get_or states at s
     → leads_elsewhere one two s ≡ true

@@ -1,4 +1,4 @@
--- What walks from the targets of looks say about the looks.
+-- Which looks lead back to themselves, by walks from their targets.
 use Rattle.std.proofs.Common.{ℕ, zero, suc, ◌≡◌, ◌<◌, ◌≤◌, ◌+◌, ◌⊎◌, ◌↔◌, Bool, true, false, List, [], ◌∷◌, ◌++◌}
 use Rattle.std.proofs.Common.{length, get_or, take, Some, None, inl, inr, refl, sym, ap, ◌∙◌, subst, true≢false, arith}
 use Rattle.std.proofs.Common.{append-nil}
@@ -35,7 +35,7 @@ use Rattle.automata_base.proofs.Paths.Walks.{in_left}
 use Rattle.automata_base.proofs.Paths.FirstVisits.{in_right}
 use Rattle.automata_base.proofs.Paths.Walks.{in_either}
 
--- A node that has a target as a look is one.
+-- A node that has a target as a look is a look.
 pub look_is : (x : Node) (next : ℕ) → look_target x ≡ Some next → (look : Look) × (x ≡ Assert look next)
 look_is (Split alternates) next e = absurd (none_some e)
 look_is (Assert look other) next e = (look, ap (λ z. Assert look z) (some_inj e))
@@ -62,7 +62,7 @@ pub look_here :
 look_here states at q s within e read = ap look_target (here states q s within (read_at states at q s e read))
 
 module _ (states : List State) (q : ℕ) (old : List ℕ) where
-  -- Whose members lead to members alone, they are what is reached from them.
+  -- If the state is not a look and members lead only to members, the members are the states that are reached.
   pub none_reached :
       look_target (node_in states q) ≡ None → ((p r : ℕ) → In p old → In r (targets_of Epsilon states p) → In r old)
       → (z : ℕ) → In z old ↔ IsReached Epsilon states (old ++ option_to_list (look_target (node_in states q))) z
@@ -121,7 +121,7 @@ past_all [] q l = refl
 past_all (x ∷ xs) zero l = absurd (omega (arith, l))
 past_all (x ∷ xs) (suc q) l = past_all xs q (omega (arith, l))
 
--- The first members of a set that a state was added to are those before, which lead to members alone.
+-- After a state is added, the previous members still lead only to members.
 pub added_walked :
     (G : ℕ → List ℕ) (old added : List ℕ) (next done : ℕ) → done ≡ length old → added ≡ once_from old (next ∷ [])
     → ((p r : ℕ) → In p old → In r (G p) → In r old) → (p r : ℕ) → In p (take done added) → In r (G p) → In r added
@@ -161,7 +161,8 @@ module _ (states : List State) where
       → LooksTo states r z
   looks_to r next z e h = (next, e, (h.0, h.1, subst (λ v. In h.0 v) (only_target r next e) h.2, h.3))
 
--- The first `i` looks of an order do not lead back, each member is led to by one of them, and members lead to members.
+-- The first `i` looks of an order do not lead back to themselves. Each member is reached from one of them, and members
+-- lead only to members.
 pub record IsTried (states : List State) (order : List ℕ) (i : ℕ) (items : List ℕ) : Type 0 where
   pub none : (r : ℕ) → In r (take i order) → LeadsBack states r → ⊥
   pub sound : (z : ℕ) → In z items → (r : ℕ) × In r (take i order) × LooksTo states r z
@@ -195,7 +196,7 @@ module _
     last : In q (take (i + 1) order)
     last = subst (λ z. In q z) (sym front) (in_right q (take i order) (q ∷ []) (inl refl))
 
-    -- A member is led to by a look before this one, or by this one.
+    -- A member is reached from a previous look or from this one.
     led : (z : ℕ) → In z new → ((r : ℕ) × In r (take i order) × LooksTo states r z) ⊎ LooksTo states q z
     led z j = go ((reached z).0 j)
       where
@@ -220,7 +221,8 @@ module _
             → ((r : ℕ) × In r (take i order) × LooksTo states r z) ⊎ LooksTo states q z
         go h = from h.0 h.1 h.3 (in_either h.0 old (option_to_list (look_target (node_in states q))) h.2)
 
-    -- The walk returns to it exactly if it leads back to itself: a look before it that led to it would be on a cycle.
+    -- The walk returns to the look exactly if it leads back to itself: a previous look that led to it would be on a
+    -- cycle.
     pub back_is : IsTrue b ↔ LeadsBack states q
     back_is = (
       λ t. let w = found.0 t in go (led q w.2),

@@ -61,7 +61,7 @@ pub edges_at :
     → targets_of Epsilon states q ≡ children_at (node_of s) all_true
 edges_at states at q s l e is = ap (λ x. children_at x all_true) (node_at states q s s l (read_at states at q s e is))
 
--- What was put on a stack, and what was taken off it.
+-- The stack after a push and before a pop.
 pub stack_top : (xs ys : List Frame) (x : Frame) → xs ≡ ys ++ x ∷ [] → reverse xs ≡ x ∷ reverse ys
 stack_top xs ys x e = ap reverse e ∙ reverse-append ys (x ∷ [])
 
@@ -93,7 +93,7 @@ followed_more n G visited more (f ∷ fs) w =
     (w.0, λ r i. in_left r visited more (w.1 r i), followed_more n G visited more fs w.2)
 
 module _ (n : ℕ) (G : ℕ → List ℕ) (visited finished : List ℕ) where
-  -- A state that was not visited is put on a stack that is empty.
+  -- A state that was not visited is pushed on an empty stack.
   pub search_starts :
       (frame : Frame) (id : ℕ) → frame.state ≡ id → frame.edge ≡ 0 → id < n → IsUnderSearch n G visited finished []
       → IsUnderSearch n G (visited ++ id ∷ []) finished (frame ∷ [])
@@ -124,7 +124,7 @@ module _ (n : ℕ) (G : ℕ → List ℕ) (visited finished : List ℕ) where
       closed p r (inr i) = absurd i
 
   module _ (frame : Frame) (below : List Frame) (w : IsUnderSearch n G visited finished (frame ∷ below)) where
-    -- An edge leads to a state that was not visited: it is put on the stack.
+    -- An edge leads to a state that was not visited: it is pushed.
     pub search_enters :
         (again next : Frame) (edge id : ℕ) → again.state ≡ frame.state → again.edge ≡ edge + 1 → next.state ≡ id
         → next.edge ≡ 0
@@ -176,7 +176,7 @@ module _ (n : ℕ) (G : ℕ → List ℕ) (visited finished : List ℕ) where
         leads q (inl e) = subst (λ z. LeadsBy G z next.state) (sym (e ∙ same)) step
         leads q (inr i) = leads_then G q frame.state next.state (w.chain.0 q i) step
 
-    -- A state is finished whose edges were all followed: it leads to an unfinished state only through one below it on
+    -- A state whose edges were all followed is finished: it leads to an unfinished state only through one below it on
     -- the stack, which leads back to it.
     search_leaves :
         (new : List ℕ) → ((r : ℕ) → In r (G frame.state) → In r visited) → (In frame.state finished → ⊥)
@@ -236,7 +236,7 @@ module _ (n : ℕ) (G : ℕ → List ℕ) (visited finished : List ℕ) where
               λ m. w.cyclic p frame.state old fresh (subst (LeadsBy G p) h.0 m),
             )
 
-    -- A state that is finished already is dropped.
+    -- A state that is already finished is dropped.
     search_drops : (new : List ℕ) → In frame.state finished → new ≡ finished → IsUnderSearch n G visited new below
     search_drops new had e = subst (λ z. IsUnderSearch n G visited z below) (sym e) (record {
       visits = λ q i. leaves q (w.visits q i);

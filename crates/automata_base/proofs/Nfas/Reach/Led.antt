@@ -1,4 +1,4 @@
--- Targets lead to the states to which edges lead.
+-- The targets of a state are the states to which its edges lead.
 use Rattle.std.proofs.Common.{ℕ, zero, suc, ◌≡◌, ◌≤◌, ◌+◌, ◌⊎◌, ◌↔◌, ◌&&◌, Bool, true, false, cond, leb, List, [], ◌∷◌}
 use Rattle.std.proofs.Common.{Some, None, inl, inr, refl, sym, ap, ◌∙◌, subst, arith}
 use Rattle.std.proofs.lemmas.Grind.{common_steps}
@@ -85,7 +85,7 @@ module _ (a : Automaton) where
       )
       go (inr i) = absurd i
 
-  -- No look leads back to itself exactly if no cycle passes one.
+  -- No look leads back to itself exactly if no epsilon cycle passes a look.
   pub acyclic_is : (b : Type 0) → b ↔ AreLooksAcyclic a.states → b ↔ IsLookAcyclic (nfa_of a)
   acyclic_is b found = (
     λ t q look next e h. found.0 t q (goes_back q look next e h),
@@ -94,7 +94,7 @@ module _ (a : Automaton) where
         h q w.0 back.0 w.1 (comes_back q w.0 back.0 w.1 back.2)),
   )
 
--- What reads a byte leads to a target.
+-- If ranges take a byte, they lead it to one of their targets.
 takes_next : (ranges : List Range) (u r : ℕ) → takes_in ranges u ≡ Some r → In r (nexts ranges)
 takes_next [] u r e = absurd (none_some e)
 takes_next (x ∷ xs) u r e = go (within x.lo x.hi u) e (takes_next xs u r)
@@ -117,7 +117,7 @@ within_low lo hi h = ap (λ b. b && leb lo hi) (le-leb lo lo (omega arith)) ∙ 
 within_past : (lo hi u : ℕ) → hi + 1 ≤ u → within lo hi u ≡ false
 within_past lo hi u l = grind (arith, common_steps)
 
--- Each target of ordered ranges is led to by a byte of its range.
+-- Each target of ordered ranges is reached on a byte of its range.
 next_takes :
     (low : ℕ) (ts : List Transition) (r : ℕ) → ordered_from low ts ≡ true → In r (nexts (ranges_of ts))
     → (u : ℕ) × (low ≤ u) × (takes_in (ranges_of ts) u ≡ Some r)

@@ -54,7 +54,7 @@ second_below states at s first skip h l e t =
     (node_fits (length states) s (state_at_below (length states) states at s h l e)))
     (inr (inl refl))
 
--- One range of a sparse state, and other numbers of them.
+-- A sparse state with one range, or with another number of them.
 pub one_range :
     (ts : List Transition) (t : Transition) → length ts ≡ 1 → t ≡ get_or ts 0 t → ranges_of ts ≡ range_of t ∷ []
 one_range [] t l e = absurd (omega (arith, l))

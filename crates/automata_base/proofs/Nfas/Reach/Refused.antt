@@ -26,7 +26,7 @@ chain small narrow starts targets ranges patterns =
     (unless narrow TooLarge
     (unless starts StartRange (unless targets StateRange (unless ranges Ranges (unless patterns PatternRange None)))))
 
--- The tests of states are those of their shapes.
+-- Testing states is the same as testing their shapes.
 all_below_is : (n : ℕ) (xs : List State) → every (shape_below n) (map shape_of xs) ≡ states_below n xs
 all_below_is n [] = refl
 all_below_is n (x ∷ xs) = ap (λ b. shape_below n (shape_of x) && b) (all_below_is n xs)
@@ -109,7 +109,7 @@ some_apart e = cc
 same_error : {x y : NfaError} → ◌≡◌ {A = Option NfaError} (Some x) (Some y) → x ≡ y
 same_error e = cc
 
--- If the first test that fails is known, its error is returned.
+-- The result is the error of the first test that fails, or `Ok` if none fails.
 abbrev pub IsReported : Option NfaError → Result Totals NfaError → Type 0
 IsReported o r = ((e : NfaError) → o ≡ Some e → r ≡ Err e) × (o ≡ None → IsOk r)
 
@@ -140,7 +140,7 @@ extras_most (x ∷ xs) =
     sum_by-cons alternates_of x xs in
     omega arith
 
--- Few alternates make a small room.
+-- If the states have few alternates, the room of the stack is small.
 pub room_small : (xs : List State) → is_narrow xs ≡ true → stack_room xs ≤ 2 ^ 31 + 1
 unfolding stack_room
 room_small xs h =

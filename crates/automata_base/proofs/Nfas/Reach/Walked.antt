@@ -1,4 +1,4 @@
--- A walk that adds the targets of its members, one after the other.
+-- A walk that adds the targets of its members, one after another.
 use Rattle.std.proofs.Common.{ℕ, ◌≡◌, ◌<◌, ◌≤◌, ◌+◌, ◌⊎◌, ◌↔◌, List, [], ◌∷◌, ◌++◌, length, get_or, take, inl, inr}
 use Rattle.std.proofs.Common.{refl, sym, ap, ◌∙◌, subst, arith}
 use Rattle.std.proofs.lemmas.List.{take_more, take_all}
@@ -30,7 +30,7 @@ walk_starts G at items closed = record {
   closed = closed;
 }
 
--- Roots that are the same states lead to the same ones.
+-- More roots reach at least the same states.
 pub roots_alike :
     (G : ℕ → List ℕ) (roots others : List ℕ) (z : ℕ) → ((q : ℕ) → In q roots → In q others) → IsReachedBy G roots z
     → IsReachedBy G others z

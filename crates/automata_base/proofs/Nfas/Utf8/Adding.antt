@@ -1,4 +1,4 @@
--- What a set has once pairs were added.
+-- The members of a set after pairs were added.
 use Rattle.std.proofs.Common.{ℕ, zero, suc, ◌≡◌, ◌<◌, ◌+◌, true, cond, List, [], ◌∷◌, ◌++◌, length, get_or, drop, ltb}
 use Rattle.std.proofs.Common.{refl, sym, ap, ◌∙◌, arith, append-nil}
 use Rattle.std.proofs.lemmas.Bool.{ltb-true}
@@ -21,7 +21,7 @@ item_drop :
     {A : Type 0} (xs : List A) (i : ℕ) (x : A) → i < length xs → x ≡ get_or xs i x → drop i xs ≡ x ∷ drop (i + 1) xs
 item_drop xs i x l e = at_drop_more (λ z. z) xs i x l ∙ ap (λ z. z ∷ drop (i + 1) xs) (sym e)
 
--- A loop that adds has less left.
+-- One step of a loop that adds elements.
 added_next :
     (ys new some rest whole w : List ℕ) → whole ≡ some ++ rest → new ≡ once_from ys some → once_from ys whole ≡ w
     → once_from new rest ≡ w
@@ -69,7 +69,7 @@ target_next cs s xs ys new w i x l e =
     (ranges_pairs cs s (dense_from i (drop i xs))) w
     (ap (λ z. ranges_pairs cs s (dense_from i z)) (item_drop xs i x l e) ∙ dense_first cs s i x (drop (i + 1) xs))
 
--- A target by its test for 0.
+-- The pairs of a target, by whether it is 0.
 pub no_target : (cs : List Class) (s byte x : ℕ) → x ≡ 0 → ranges_pairs cs s (dense_from byte (x ∷ [])) ≡ []
 no_target cs s byte x e = ap (λ z. ranges_pairs cs s (dense_from byte (z ∷ []))) e
 

@@ -1,4 +1,4 @@
--- What the tests of UTF-8 answer.
+-- What the UTF-8 tests return.
 use Rattle.std.proofs.Common.{◌≡◌, ◌↔◌, Bool, true, List, ◌∷◌, Result, Ok, Err, IfOk, IsUtf8}
 use Rattle.std.proofs.Common.{ℕ}
 use Rattle.std.specs.Prelude.{IsTrue}
@@ -18,7 +18,7 @@ use Rattle.automata_base.proofs.Nfas.Utf8.Keeping.{keeps_from, keeps_back}
 use Rattle.automata_base.proofs.Nfas.Utf8.Reading.{ends_reads}
 use Rattle.automata_base.proofs.Nfas.Utf8.Tables.{forward, forward_decodes, forward_chained}
 
--- Between two characters again exactly after UTF-8.
+-- The decoder is between two characters again exactly after UTF-8.
 forward_right : (us : List ℕ) → AreBytes us → decode forward 0 us ≡ 0 ↔ IsUtf8 us
 forward_right us bytes = decode_utf8 forward forward_decodes us bytes
 

@@ -23,11 +23,11 @@ four c l = rw (le-ltb c 128 (omega arith), le-ltb c 2048 (omega arith), le-ltb c
 high_scalar : (c : ℕ) → 57344 ≤ c → c < 1114112 → scalar c ≡ true
 high_scalar c l h = rw (le-ltb c 55296 (omega arith), le-leb 57344 c l, lt-ltb c 1114112 h)
 
--- A byte that goes on with a character.
+-- A continuation byte.
 abbrev pub IsNext : ℕ → Type 0
 IsNext u = (128 ≤ u) × (u < 192)
 
--- What the second byte of three and of four has to be beside the first.
+-- What the second byte of three and of four has to satisfy, given the first.
 abbrev pub Fits3 : ℕ → ℕ → Type 0
 Fits3 u y = ((224 < u) ⊎ (160 ≤ y)) × ((u < 237) ⊎ ((237 < u) ⊎ (y < 160)))
 
@@ -54,7 +54,7 @@ tail (x ∷ xs) = xs
 follows : (x : ℕ) → IsNext (next x)
 follows x = (omega arith, omega arith)
 
--- What begins with the encoding of a scalar value.
+-- Text that begins with the encoding of a scalar value.
 module _ (c u : ℕ) (rest us : List ℕ) (utf8 : IsUtf8 rest) (e : encode c ++ rest ≡ u ∷ us) where
   lead1 : c < 128 → Lead u us
   lead1 h =
@@ -127,7 +127,7 @@ lead u us h = go h.0 h.1.0 h.1.1
         let p = and_parts (scalar c) (scalars cs) ok in
         lead_of c u (encodes cs) us (cs, (p.1, refl)) e (scalar_cases c p.0)
 
--- A character and more.
+-- The encoding of a character followed by UTF-8 is UTF-8.
 cons : (c : ℕ) (front bs : List ℕ) → scalar c ≡ true → encode c ≡ front → IsUtf8 bs → IsUtf8 (front ++ bs)
 cons c front bs ok e u = (c ∷ u.0, (rw ok u.1.0, λ i. e i ++ u.1.1 i))
 

@@ -11,13 +11,13 @@ use Rattle.automata_base.proofs.Nfas.Utf8.Adding.{entry_below}
 use Rattle.automata_base.proofs.Nfas.Utf8.Chars.{IsNext, Lead, of1, of2, of3, of4, lead, cons_one, cons_two, cons_three}
 use Rattle.automata_base.proofs.Nfas.Utf8.Chars.{cons_four}
 
--- The first byte is in these bounds, and the others are as they have to be.
+-- The first byte is within these bounds, and `P` holds for the others.
 abbrev pub Next : (lo hi : ℕ) → (List ℕ → Type 0) → List ℕ → Type 0
 Next lo hi P [] = ⊥
 Next lo hi P (u ∷ us) = (lo ≤ u) × (u ≤ hi) × P us
 
--- What may follow at each state of the decoder: any text; nothing; one, two and three bytes that continue a character,
--- and any text; the same after 0xE0, 0xED, 0xF0 and 0xF4.
+-- What may follow in each state of the decoder: any text; nothing; one, two or three continuation bytes and then any
+-- text; the same after 0xE0, 0xED, 0xF0 and 0xF4.
 abbrev pub Completes : ℕ → List ℕ → Type 0
 Completes zero us = IsUtf8 us
 Completes (suc zero) us = ⊥
@@ -30,7 +30,7 @@ Completes (suc (suc (suc (suc (suc (suc (suc zero))))))) us = Next 144 191 (Next
 Completes (suc (suc (suc (suc (suc (suc (suc (suc zero)))))))) us = Next 128 143 (Next 128 191 (Next 128 191 IsUtf8)) us
 Completes (suc (suc (suc (suc (suc (suc (suc (suc (suc n))))))))) us = ⊥
 
--- The bytes from `low` on, by classes that end at 255: each leads where it has to.
+-- The classes cover the bytes from `low` to 255, and each byte leads to the right state.
 abbrev pub Rows : ℕ → ℕ → List Class → Type 0
 Rows s low [] = 256 ≤ low
 Rows s low (c ∷ cs) =
@@ -49,9 +49,8 @@ rows_step s low (c ∷ cs) u us rows l h = go (leb u c.last) refl (λ k. rows_st
     go true e ih = rows.0 u us l (leb-true u c.last e)
     go false e ih = ih (let k : c.last < u = leb-false u c.last e in omega arith)
 
--- The tests of a class that begins at `low`: inside or outside the bounds of a state; of a state that has failed; of
--- the
--- bytes that begin a character.
+-- Tests of a class that begins at `low`: inside or outside the bounds of a state; for the failed state; for the bytes
+-- that begin a character.
 abbrev fits : (lo hi target s low : ℕ) → Class → Bool
 fits lo hi target s low c =
     (leb lo low && (leb c.last hi && eqb (get_or c.to s 0) target))
@@ -65,7 +64,7 @@ abbrev all_fail : (s low : ℕ) → List Class → Bool
 all_fail s low [] = leb 256 low
 all_fail s low (c ∷ cs) = eqb (get_or c.to s 0) 1 && all_fail s (c.last + 1) cs
 
--- Bytes that begin a character, and where they lead.
+-- A range of bytes that begin a character, and the state to which they lead.
 record Kind : Type 0 where
   lo : ℕ
   hi : ℕ
@@ -155,7 +154,7 @@ module _ (lo hi target s : ℕ)
       let p = and_parts (fits lo hi target s low c) (all_fit lo hi target s (c.last + 1) cs) e in
       (row_fits low c p.0, rows_fit (c.last + 1) cs p.1)
 
--- Each kind of first byte leads where it has to.
+-- Each kind of first byte leads to the right state.
 abbrev IsRight : Kind → Type 0
 IsRight k = (u : ℕ) (us : List ℕ) → k.lo ≤ u → u ≤ k.hi → IsUtf8 (u ∷ us) ↔ Completes k.to us
 
@@ -194,7 +193,7 @@ two u us l h = (λ k. go (lead u us k), back us)
     back [] k = absurd k
     back (y ∷ us) k = cons_two u y us l (omega (arith, h)) (k.0, omega (arith, k.1)) k.2
 
--- A first byte of three, with the bounds that it sets for the second.
+-- The first of three bytes, with the bounds that it sets for the second.
 three : (lo hi u : ℕ) → 224 ≤ u → u < 240 → 128 ≤ lo → hi ≤ 191
     → ((y : ℕ) → IsNext y → ((224 < u) ⊎ (160 ≤ y)) × ((u < 237) ⊎ ((237 < u) ⊎ (y < 160))) → (lo ≤ y) × (y ≤ hi))
     → ((y : ℕ) → lo ≤ y → y ≤ hi → ((224 < u) ⊎ (160 ≤ y)) × ((u < 237) ⊎ ((237 < u) ⊎ (y < 160))))
@@ -216,7 +215,7 @@ three lo hi u l h low high inside outside us = (λ k. go (lead u us k), back us)
         cons_three u y z us l h (omega (arith, k.0, low), omega (arith, k.1, high)) (k.2.0, omega (arith, k.2.1))
         (outside y k.0 k.1) k.2.2
 
--- A first byte of four.
+-- The first of four bytes.
 four : (lo hi u : ℕ) → 240 ≤ u → u < 245 → 128 ≤ lo → hi ≤ 191
     → ((y : ℕ) → IsNext y → ((240 < u) ⊎ (144 ≤ y)) × ((u < 244) ⊎ (y < 144)) → (lo ≤ y) × (y ≤ hi))
     → ((y : ℕ) → lo ≤ y → y ≤ hi → ((240 < u) ⊎ (144 ≤ y)) × ((u < 244) ⊎ (y < 144)))
@@ -412,7 +411,7 @@ decode_is cs test (u ∷ us) s l bytes =
     let h = decode_is cs test us (step cs s u) (step_below cs s u (below cs test)) bytes.1 in
     (λ k. r.1 (h.0 k), λ k. h.1 (r.0 k))
 
--- Between two characters again exactly after UTF-8.
+-- The decoder is between two characters again exactly after UTF-8.
 pub decode_utf8 :
     (cs : List Class) → decodes_utf8 cs ≡ true → (us : List ℕ) → AreBytes us → decode cs 0 us ≡ 0 ↔ IsUtf8 us
 decode_utf8 cs test us bytes = decode_is cs test us 0 (omega arith) bytes

@@ -1,4 +1,4 @@
--- The pairs that a pair leads to are those that an edge leads to.
+-- A pair leads to the pairs that its edges lead to.
 use Rattle.std.proofs.Common.{ℕ, zero, suc, ◌≡◌, ◌+◌, ◌/◌, ◌%◌, ◌<◌, ◌≤◌, ◌⊎◌, Bool, true, false, cond, ◌&&◌, leb, eqb}
 use Rattle.std.proofs.Common.{List, [], ◌∷◌, ◌++◌, get_or, Some, inl, inr, refl, sym, ap, ◌∙◌, subst, arith}
 use Rattle.std.proofs.lemmas.Bool.{and_parts, and_right, cases_lt, leb-true, le-leb, lt-leb, leb-false, eqb-true}
@@ -24,7 +24,7 @@ use Rattle.automata_base.proofs.Paths.Walks.{in_left}
 use Rattle.automata_base.proofs.Paths.FirstVisits.{in_right}
 use Rattle.automata_base.proofs.Paths.Walks.{in_either}
 
--- Whether the classes from the byte `low` on are all bytes, each once, in order.
+-- Whether the classes cover the bytes from `low` on, each once, in order.
 abbrev pub chained : ℕ → List Class → Bool
 chained low [] = eqb low 256
 chained low (c ∷ cs) = eqb c.first low && (leb low c.last && chained (c.last + 1) cs)
@@ -105,7 +105,7 @@ range_from s y low r (c ∷ cs) o e i =
     go (inl j) ih = here (meets c r) refl j
     go (inr j) ih = later (ih j)
 
--- A byte from `low` on that ranges take leads to the pair.
+-- A byte from `low` on that the ranges take leads to the pair.
 abbrev Led : List Class → (s low y : ℕ) → List Range → Type 0
 Led cs s low y ranges =
     (u r : ℕ) × (low ≤ u) × (u < 256) × (takes_in ranges u ≡ Some r) × (y ≡ pair r (step cs s u))
@@ -186,7 +186,7 @@ module _ (cs : List Class) (chain : chained 0 cs ≡ true) (s y : ℕ) where
           led_later k (suc k) (record { lo = k; hi = k; next = suc m }) (dense_from (suc k) xs) (omega arith)
           (omega arith) (ih j)
 
-  -- Of a state.
+  -- A byte that a node takes leads to the pair.
   abbrev Byte : Node → Type 0
   Byte x = (u r : ℕ) × (u < 256) × (takes_at x u ≡ Some r) × (y ≡ pair r (step cs s u))
 
@@ -220,7 +220,7 @@ module _ (cs : List Class) (chain : chained 0 cs ≡ true) (s y : ℕ) where
   node_led (x ∷ xs) zero o i = state_led x (and_parts (state_ordered x) (states_ordered xs) o).0 i
   node_led (x ∷ xs) (suc q) o i = node_led xs q (and_parts (state_ordered x) (states_ordered xs) o).1 i
 
--- And back.
+-- The converse.
 module _ (s u : ℕ) (byte : u < 256) where
   range_hit :
       (low : ℕ) (r : Range) (cs : List Class) → chained low cs ≡ true → low ≤ u → r.lo ≤ u → u ≤ r.hi
@@ -275,7 +275,7 @@ module _ (s u : ℕ) (byte : u < 256) where
   node_hit cs (Read ranges) r e t = ranges_hit cs ranges r e t
   node_hit cs (Accept p) r e t = absurd (none_some t)
 
--- States beside one of the decoder's.
+-- Pairs of NFA states with one state of the decoder.
 pub of_pairs : (s y : ℕ) (ids : List ℕ) → In y (pairs_at s ids) → (r : ℕ) × In r ids × (y ≡ pair r s)
 of_pairs s y [] i = absurd i
 of_pairs s y (x ∷ xs) (inl e) = (x, inl refl, e)

@@ -1,4 +1,4 @@
--- What is read, looks taken as true, and the promise of UTF-8.
+-- What an NFA reads if all looks are taken as true, and the UTF-8 promise.
 use Rattle.std.proofs.Common.{ℕ, zero, suc, ◌≡◌, ◌+◌, ◌-◌, ◌<◌, ◌≤◌, true, List, [], ◌∷◌, ◌++◌, length, take, drop}
 use Rattle.std.proofs.Common.{reverse, Option, Some, IsUtf8, inl, inr, refl, sym, ap, ◌∙◌, subst, arith}
 use Rattle.std.proofs.lemmas.List.{take_all, reverse-reverse, length-reverse}
@@ -24,7 +24,7 @@ use Rattle.automata_base.proofs.Answers.Bytes.{between_length, tape_length}
 use Rattle.automata_base.proofs.Nfas.Utf8.Decoding.{AreBytes}
 use Rattle.automata_base.proofs.Nfas.Utf8.Reading.{reads_bytes}
 
--- Lists of bytes.
+-- A haystack is a list of bytes.
 bytes_of : (h : List ℕ) → IsHaystack h → AreBytes h
 bytes_of [] f = tt
 bytes_of (u ∷ us) f = (f 0 u refl, bytes_of us (λ o v e. f (suc o) v e))
@@ -69,7 +69,7 @@ drop_nth [] i u e = absurd (none_some e)
 drop_nth (x ∷ xs) zero u e = ap (λ z. z ∷ xs) (some_inj e)
 drop_nth (x ∷ xs) (suc i) u e = drop_nth xs i u e
 
--- A path reads the bytes from its first place to its last.
+-- A path reads the bytes from its first position to its last.
 module _ (n : Nfa) (t : Tape) (bytes : AreBytes t.bytes) where
   path_reads :
       (i : ℕ) (seen : List ℕ) (q : ℕ) (path : List ℕ) (j z : ℕ) → IsPathFrom n t i seen q path j z
@@ -96,7 +96,7 @@ order_tape : (way : Direction) (h : List ℕ) (i j : ℕ) → in_order way (tape
 order_tape Forward h i j = refl
 order_tape Backward h i j = reverse-reverse (between h i j)
 
--- A search of an anchored mode begins at the anchored start or at a pattern's.
+-- A search in an anchored mode begins at the anchored start or at a pattern's start.
 starts_in :
     (a : Automaton) (kind : MatchKind) (mode : Anchored) (start : ℕ) → (mode ≡ No → ⊥)
     → first_state (engine_of a kind) mode ≡ Some start
@@ -119,7 +119,7 @@ keeps_from way a f kind h i j pattern mode start path utf8 hay l w anchored firs
         take_all (j - i - 0) (tape_of way h i j).bytes
         (let k = tape_whole way h i j (omega (arith, l)) w in omega (arith, k))
 
--- Without looks, what is read is the way of a path.
+-- Without looks, whatever is read is read along a path.
 hop_same_at :
     (x : Node) (A : Truth) (e r : ℕ) → ((look : Look) (next : ℕ) → x ≡ Assert look next → ⊥)
     → hop_at x all_true e ≡ Some r → hop_at x A e ≡ Some r

@@ -1,4 +1,4 @@
--- A walk over the pairs, and the tests of what it reached.
+-- A walk over the pairs, and the tests of the pairs that it reached.
 use Rattle.std.proofs.Common.{ℕ, ◌≡◌, ◌<◌, ◌≤◌, ◌+◌, ◌⊎◌, ◌↔◌, Bool, true, false, not, List, [], ◌∷◌, ◌++◌, length}
 use Rattle.std.proofs.Common.{get_or, take, inl, inr, refl, sym, ap, ◌∙◌, subst, true≢false}
 use Rattle.std.specs.Prelude.{IsTrue}
@@ -45,12 +45,12 @@ module _ (P : ℕ → Type 0) (ids : List ℕ) where
       (i : ℕ) → length ids ≤ i → ((x : ℕ) → In x (take i ids) → P x) → IsTrue true ↔ ((x : ℕ) → In x ids → P x)
   each_done i l all = (λ _ x j. all x (subst (λ z. In x z) (sym (take_all i ids l)) j), λ _. refl)
 
--- A test of what would have to be.
+-- If `Q` does not hold, the negated test of `P` decides whether `P` implies `Q`.
 pub test_not : (P Q : Type 0) (b : Bool) → IsTrue b ↔ P → (Q → ⊥) → IsTrue (not b) ↔ (P → Q)
 test_not P Q true test never = (λ e. absurd (true≢false (sym e)), λ f. absurd (never (f (test.0 refl))))
 test_not P Q false test never = (λ _ p. absurd (false≢true (test.1 p)), λ _. refl)
 
--- What holds of each member holds of each pair that is reached.
+-- What holds for each member holds for each pair that is reached.
 pub test_reached :
     (G : ℕ → List ℕ) (P : ℕ → Type 0) (roots old items slice : List ℕ) (b : Bool) → old ≡ once_from [] roots
     → slice ≡ items

@@ -30,7 +30,7 @@ module _ (a : Automaton) (cs : List Class) (chain : chained 0 cs ≡ true) (belo
       let k = reads_route r vs z w (step cs s u) (step_below cs s u below) in
       (pair r (step cs s u) ∷ k.0, (edge_byte a cs chain q s u r l b t, k.1))
 
-  -- What a route reads.
+  -- Some bytes lead from the pair `x` to the pair `z`.
   abbrev Read : (x z : ℕ) → Type 0
   Read x z = (us : List ℕ) × ReadsTo (nfa_of a) (x / 11) us (z / 11) × (z % 11 ≡ decode cs (x % 11) us)
 
@@ -54,7 +54,7 @@ module _ (a : Automaton) (cs : List Class) (chain : chained 0 cs ≡ true) (belo
           let s : y % 11 ≡ n = omega arith in
           (u ∷ us, reads b t (subst (λ v. ReadsTo (nfa_of a) v us (z / 11)) q k), d ∙ ap (λ v. decode cs v us) s)
 
-  -- The walk's test is one of what is read.
+  -- The walk's test holds exactly if everything that is read up to a match satisfies `P`.
   pub ends_reads :
       (P : List ℕ → Type 0) (starts : List ℕ) → states_ordered a.states ≡ true
       → ((us : List ℕ) → AreBytes us → decode cs 0 us ≡ 0 ↔ P us)

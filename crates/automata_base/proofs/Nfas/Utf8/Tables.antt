@@ -4,7 +4,7 @@ use Rattle.automata_base.specs.declared.nfa.thompson.utf8.Class.{Class}
 use Rattle.automata_base.proofs.Nfas.Utf8.Decoding.{decodes_utf8}
 use Rattle.automata_base.proofs.Nfas.Utf8.Edges.{chained}
 
--- From the first byte to the last.
+-- The decoder for bytes from the first to the last.
 abbrev pub forward : List Class
 forward =
     record { first = 0; last = 127; to = 0 ∷ 1 ∷ 1 ∷ 1 ∷ 1 ∷ 1 ∷ 1 ∷ 1 ∷ 1 ∷ 1 ∷ 1 ∷ [] }

@@ -62,7 +62,7 @@ pub length-four_bytes : (ps : List ℕ) → length (flat_map four_bytes ps) ≡ 
 length-four_bytes [] = refl
 length-four_bytes (p ∷ ps) = omega (arith, length-four_bytes ps)
 
--- ---- what the loops that write keep
+-- ---- invariants of the loops that write
 
 pub varint-last : (n : ℕ) → n < 128 → varint n ≡ n ∷ []
 unfolding groups
@@ -81,7 +81,7 @@ pushed-step out front bytes n b f h e p =
     append_assoc out (b ∷ []) (varint (n / 128)) ∙ ap (λ x. out ++ x ∷ varint (n / 128)) e
     ∙ ap (λ x. out ++ x) (sym (varint-step n f h)) ∙ p
 
--- the NFA states from an index on
+-- One more NFA state is encoded.
 pub ids-step :
     (out front ids : List ℕ) (before i z : ℕ) → i < length ids → z ≡ difference before (get_or ids i 0)
     → out ++ ids_code before (drop i ids) ≡ front
@@ -135,7 +135,7 @@ length-numbers b bytes =
     (λ e. let none : bit (nat_lt b 128) ≡ 0 = ap bit e in
     omega (arith, none, length-with_low (b - 128) (numbers bytes)))
 
--- the numbers from an index on, where those before it are counted
+-- One more byte is counted, where `count` numbers end before index `i`.
 pub counted-next : (bytes : List ℕ) (i count one all : ℕ) → i < length bytes → one ≡ bit (nat_lt (get_or bytes i 0) 128)
     → count + length (numbers (drop i bytes)) ≡ all → (count + one) + length (numbers (drop (i + 1) bytes)) ≡ all
 counted-next bytes i count one all l e p =
@@ -211,7 +211,7 @@ front_more b n bytes tail f h = front_more_at f.0 b n bytes tail f.1 f.2 f.3 h
 pub front_some : (n : ℕ) (tail : List ℕ) → IsFront [] n tail → ⊥
 front_some n tail f = front_some_at f.0 n tail f.3
 
--- what is read at the front, where something is left
+-- The number at the front of the remaining bytes.
 pub record Reads (before : ℕ) (bytes : List ℕ) : Type 0 where
   pub number : ℕ
   pub tail : List ℕ
@@ -252,7 +252,7 @@ unfolding ids_of numbers
 nothing_left before [] e = refl
 nothing_left before (b ∷ bytes) e = absurd (omega arith)
 
--- the bytes are the first and the others, as a pattern takes them
+-- The bytes are the first and the others, as a slice pattern splits them.
 pub split_bytes :
     (bytes : List ℕ) → 1 ≤ length bytes → bytes ≡ get_or bytes 0 0 ∷ take (length bytes - 1) (drop 1 bytes)
 split_bytes [] h = absurd (omega arith)
@@ -272,11 +272,11 @@ pub front_none : (bytes : List ℕ) (n : ℕ) (tail : List ℕ) → length bytes
 front_none [] n tail h f = front_some n tail f
 front_none (b ∷ bytes) n tail h f = omega arith
 
--- an iterator that gave the first has less left
+-- After the first element was returned, fewer elements remain.
 pub fewer : (old new : List ℕ) (x : ℕ) → old ≡ x ∷ new → length new < length old
 fewer old new x e = omega (arith, ap length e)
 
--- the same, with the first as an element that was read
+-- The same for an element that was read at index 0.
 pub split_at_item :
     (xs : List ℕ) (x : ℕ) → 1 ≤ length xs → x ≡ get_or xs 0 x → xs ≡ x ∷ take (length xs - 1) (drop 1 xs)
 split_at_item xs x h e =

@@ -14,7 +14,7 @@ use Rattle.automata_base.proofs.Powersets.Distinct.{distinct_below}
 use Rattle.automata_base.proofs.Powersets.Code.Groups.{ids_of-ids_code, numbers_at-four_bytes, length-four_bytes}
 use Rattle.automata_base.proofs.Powersets.Code.Groups.{length-ids_code}
 
--- the four bits of the first byte
+-- The four bits of the first byte.
 pub flag_bits :
     (a b c d : Bool) (rest : List ℕ) → (is_set 1 (flag_byte a b c d ∷ rest) ≡ a)
     × (is_set 2 (flag_byte a b c d ∷ rest) ≡ b) × (is_set 4 (flag_byte a b c d ∷ rest) ≡ c)
@@ -50,7 +50,7 @@ all_in (p ∷ ps) q h (inr i) = all_in ps q h.1 i
 pub count_fits : (ps : List ℕ) → AllByRecursion IsId ps → Distinct ps → length ps < 2 ^ 32
 count_fits ps h d = omega (arith, distinct_below 2147483647 ps d (λ q i. all_in ps q h i))
 
--- where patterns are not listed, they are none or pattern 0 alone
+-- If patterns are not listed, there is none, or only pattern 0.
 abbrev pub unlisted : Bool → List ℕ
 unlisted has = cond has (0 ∷ []) []
 
@@ -82,7 +82,7 @@ ids_after true ps rest l =
     ∙ drop_at (flat_map four_bytes ps) rest (4 * length ps) (length-four_bytes ps)
 ids_after false ps rest l = refl
 
--- what comes behind the patterns are the NFA states
+-- The NFA states follow the patterns.
 pub ids_bytes-code : (q : Powerset) → IsPowerset q → ids_bytes (code q) ≡ ids_code 0 q.nfa
 ids_bytes-code q h =
     let tail : List ℕ = patterns_code q.patterns ++ ids_code 0 q.nfa in
@@ -92,7 +92,7 @@ ids_bytes-code q h =
     ap (λ b. cond b (drop (4 * from_le_bytes w32 tail) (drop 4 tail)) tail) f.1
     ∙ ids_after (is_listed q.patterns) q.patterns (ids_code 0 q.nfa) (count_fits q.patterns h.patterns h.distinct)
 
--- the state of the bytes of a state is that state
+-- Decoding the bytes of a state returns the state.
 pub decoded-code : (q : Powerset) → IsPowerset q → decoded (code q) ≡ q
 decoded-code q h =
     let rest : List ℕ = four_bytes q.known ++ (four_bytes q.needed ++ (patterns_code q.patterns ++ ids_code 0 q.nfa)) in
@@ -109,7 +109,7 @@ decoded-code q h =
     ap (λ x. ids_of 0 (numbers x)) (ids_bytes-code q h) ∙ ids_of-ids_code 0 q.nfa (omega arith) h.nfa in
     λ i. record { nfa = nfa i; patterns = patterns i; known = known i; needed = needed i; word = f.2 i; half = f.3 i }
 
--- equal bytes only where the states are equal
+-- States with equal bytes are equal.
 pub same_from_code : (a b : Powerset) → IsPowerset a → IsPowerset b → code a ≡ code b → a ≡ b
 same_from_code a b p q e = sym (decoded-code a p) ∙ ap decoded e ∙ decoded-code b q
 

@@ -11,7 +11,7 @@ use Rattle.automata_base.specs.Powersets.Code.{number_at, numbers_at, patterns_o
 use Rattle.automata_base.proofs.Powersets.Code.Groups.{length-four_bytes}
 use Rattle.automata_base.proofs.Powersets.Code.Inverse.{flag_bits, count_fits, listed_has, ids_bytes-code}
 
--- ---- what the bytes of a state have
+-- ---- the fields of the bytes of a state
 
 flags_are :
     (bytes : List ℕ) → IsCode bytes → (is_set 1 bytes ≡ has_any (patterns_of bytes))
@@ -23,7 +23,7 @@ flags_are bytes h =
     (four_bytes q.known ++ (four_bytes q.needed ++ (patterns_code q.patterns ++ ids_code 0 q.nfa))) in
     (ap (is_set 1) (sym h.same) ∙ f.0, ap (is_set 2) (sym h.same) ∙ f.1)
 
--- the list of patterns is whole
+-- The list of patterns is complete.
 pub record IsWhole (bytes : List ℕ) : Type 0 where
   pub has : is_set 1 bytes ≡ true
   pub count : number_at bytes 9 ≡ length (patterns_of bytes)
@@ -66,7 +66,7 @@ get_or-numbers_at (suc n) bytes (suc i) h =
     get_or-numbers_at n (drop 4 bytes) i (omega arith)
     ∙ ap (from_le_bytes w32) (drop-drop (4 * i) 4 bytes ∙ ap (λ k. drop k bytes) (omega arith))
 
--- the NFA states are behind 0
+-- The NFA states are encoded as differences, the first one to 0.
 pub ids_are : (bytes : List ℕ) → IsCode bytes → AreIds 0 (ids_bytes bytes)
 ids_are bytes h =
     record {
@@ -81,7 +81,7 @@ pub count-listed :
     → patterns_of bytes ≡ numbers_at (number_at bytes 9) (drop 13 bytes)
 count-listed bytes h e = cond-true (is_set 1 bytes) _ _ (whole bytes h e).has ∙ cond-true (is_set 2 bytes) _ _ e
 
--- the pattern at an index
+-- The pattern at an index.
 pub pattern-listed :
     (bytes : List ℕ) (i : ℕ) → IsCode bytes → is_set 2 bytes ≡ true → i < length (patterns_of bytes)
     → get_or (patterns_of bytes) i 0 ≡ number_at bytes (13 + 4 * i)
@@ -90,7 +90,7 @@ pattern-listed bytes i h e l =
     ∙ get_or-numbers_at (number_at bytes 9) (drop 13 bytes) i (omega (arith, (whole bytes h e).count))
     ∙ ap (from_le_bytes w32) (drop-drop (4 * i) 13 bytes)
 
--- the bytes from a place on, as a range takes them
+-- The bytes from an offset on, as a slice range takes them.
 pub ids_from :
     (bytes : List ℕ) (count : ℕ) → is_set 2 bytes ≡ true → count ≡ number_at bytes 9
     → take (length bytes - (13 + 4 * count)) (drop (13 + 4 * count) bytes) ≡ ids_bytes bytes

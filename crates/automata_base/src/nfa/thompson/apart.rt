@@ -1,4 +1,4 @@
-//! Whether two states of an NFA are reached from each other alone.
+//! A test whether edges lead to two states of an NFA only from these two.
 ghost use Rattle.std.specs.Prelude.{◌≡◌, ◌<◌, ◌≤◌, ◌^◌, ◌||◌, ℕ, false, not, IsTrue, length};
 ghost use Rattle.automata_base.specs.Lists.{In};
 ghost use Rattle.automata_base.specs.Retraced.Apart.{is_either, are_others, lead_elsewhere, leads_elsewhere};
@@ -46,8 +46,8 @@ fn lead_elsewhere(transitions: &[Transition], one: StateID, two: StateID) -> boo
     true
 }
 
-/// Whether no edge of the state leads to one of the two states. For a dense state it answers no, since it does not read
-/// its edges.
+/// Whether no edge of the state leads to one of the two states. It is false for a dense state, whose edges it does not
+/// read.
 fn leads_elsewhere(state: &State, one: StateID, two: StateID) -> bool
     ensures { result ≡ leads_elsewhere one two state.now }
 {
@@ -66,7 +66,7 @@ fn leads_elsewhere(state: &State, one: StateID, two: StateID) -> bool
     }
 }
 
-/// Whether no other state leads to one of these two. It may answer no where there is a dense state, whose edges it does
+/// Whether no other state leads to one of these two. It may be false where there is a dense state, whose edges it does
 /// not read.
 pub fn are_apart(states: &[State], one: StateID, two: StateID) -> bool
     requires { length states.now ≤ 2 ^ 27 }

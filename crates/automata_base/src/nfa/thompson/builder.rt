@@ -18,7 +18,7 @@ pub struct Builder {
     flags: Flags,
 }
 
-// One call for an owner, whose proof then has no step for each part.
+// An owner drops this with one call, so that its proof has no step for each field.
 impl Drop for Builder {
     fn drop(self) {
         let Self {
@@ -53,7 +53,7 @@ impl Builder {
     ghost use Rattle.automata_base.specs.Nfas.Shapes.{FailShape};
     ghost use Rattle.automata_base.specs.Nfas.Shapes.{MatchShape};
 
-    /// A builder without states, whose NFA is neither in UTF-8 mode nor reversed, and whose lines end in `\n`.
+    /// Returns a builder without states, whose NFA is neither in UTF-8 mode nor reversed, and whose lines end in `\n`.
     pub fn new(alloc: Global) -> Builder
         ensures { result ≡ blank default_flags }
     {
@@ -95,7 +95,7 @@ impl Builder {
         Ok(pattern)
     }
 
-    /// Finishes the pattern that was started, whose searches start at this state, and returns its ID.
+    /// Finishes the pattern that was started, and returns its ID. Searches for the pattern start at `start_id`.
     pub fn finish_pattern(&mut self, start_id: StateID) -> Result<PatternID, BuildError>
         ensures id { IfOk result (λ p. self.old.pattern ≡ Some p) }
         ensures finished { OnOk result (self.new ≡ finished self.old start_id) }
@@ -115,7 +115,7 @@ impl Builder {
         }
     }
 
-    /// Adds a state after the others, and returns its ID. If there is no ID left for it, it fails with `TooLarge`.
+    /// Adds a state after the others, and returns its ID. If no ID is left for it, the call fails with `TooLarge`.
     fn add(&mut self, added: Added) -> Result<StateID, BuildError>
         ensures { IsAdding self.old self.new result (shape_added added ∷ []) }
     {
@@ -242,8 +242,8 @@ impl Builder {
         self.add_capture(next, group_index, 2 * group_index + 1)
     }
 
-    /// Adds an alternate to a union, or changes the target of a state that has one. Fail and match states stay as they
-    /// are. A sparse state cannot be patched: it has its targets with its ranges.
+    /// Adds an alternate to a union, or changes the target of a state that has one. Fail and match states are
+    /// unchanged. A sparse state cannot be patched: each of its ranges has its own target.
     pub fn patch(&mut self, from: StateID, to: StateID) -> Result<(), BuildError>
         ensures patched { OnOk result ((old shape : Shape) → slice_get self.old.states from ≡ Some old
             → patched old to ≡ Some shape → self.new ≡ with_states self.old (set self.old.states from shape)) }
@@ -267,7 +267,7 @@ impl Builder {
         self.flags.utf8 = yes;
     }
 
-    /// Sets whether the NFA matches the reversed texts.
+    /// Sets whether the NFA matches reversed text.
     pub fn set_reverse(&mut self, yes: bool)
         ensures { self.new ≡ with_flags self.old (record self.old.flags { reverse = yes }) }
     {
@@ -306,8 +306,8 @@ impl Builder {
         Ok(union)
     }
 
-    /// Builds the NFA of these states, in which searches start at the anchored or the unanchored start. It fails if a
-    /// pattern is not finished, or if `NFA::from_states` fails.
+    /// Builds the NFA of the states that were added, with these two starts. It fails if a pattern is not finished, or
+    /// if `NFA::from_states` fails.
     pub fn build(
         &self,
         start_anchored: StateID,

@@ -1,4 +1,4 @@
-//! The states that a builder keeps, and what it builds of them.
+//! The states that a builder keeps, and the NFA states that it builds from them.
 ghost use Rattle.std.specs.Prelude.{◌≡◌, ◌++◌, ◌∷◌, [], None, Some, map, reverse};
 ghost use Rattle.std.specs.Prelude.{IfOk, OnOk, OnErr, IsOkUnless};
 ghost use Rattle.automata_base.specs.Nfas.Drafts.{build_error};
@@ -11,7 +11,7 @@ use crate::util::primitives::{PatternID, StateID};
 use std::alloc::{AllocError, AllocFailed, Global};
 use thiserror::Error;
 
-/// Why a call on a builder fails. The builder is then as it was before the call.
+/// Why a call on a builder fails. The builder is then unchanged.
 #[derive(Clone, Copy, Debug, PartialEq, Eq, Error)]
 pub enum BuildError {
     /// No pattern was started, or the last one was finished.
@@ -29,7 +29,7 @@ pub enum BuildError {
     /// There are too many states or patterns for their IDs, or the index of a group is too large.
     #[error("too many states, patterns or groups")]
     TooLarge,
-    /// `NFA::from_states` returns this error.
+    /// `NFA::from_states` failed with this error.
     #[error("{0}")]
     NFA(NfaError),
     /// An allocation failed.
@@ -99,7 +99,7 @@ pub enum Added {
     },
 }
 
-// One call for an owner, whose proof then has no step for each part.
+// An owner drops this with one call, so that its proof has no step for each field.
 impl Drop for Added {
     fn drop(self) {
         match self {
@@ -128,7 +128,7 @@ impl Drop for Added {
     }
 }
 
-/// Adds an alternate after the others of a union.
+/// Adds an alternate to a union, after the others.
 fn push_alternate(alternates: &mut Vec<StateID>, to: StateID) -> Result<(), BuildError>
     ensures added { OnOk result (alternates.new.items ≡ alternates.old.items ++ to ∷ []) }
     ensures same { OnErr result (alternates.new.items ≡ alternates.old.items) }
@@ -140,7 +140,7 @@ fn push_alternate(alternates: &mut Vec<StateID>, to: StateID) -> Result<(), Buil
     }
 }
 
-/// Adds an edge from the state, or moves the one that it has.
+/// Adds an alternate to a union, or changes the target of a state that has one.
 pub fn patch(added: &mut Added, to: StateID) -> Result<(), BuildError>
     ensures patched { OnOk result (patched (shape_added added.old) to ≡ Some (shape_added added.new)) }
     ensures same { OnErr result (shape_added added.new ≡ shape_added added.old) }
@@ -186,7 +186,7 @@ fn union_reverse(alloc: Global, alternates: &[StateID]) -> Result<State, AllocEr
     Ok(union(reversed))
 }
 
-/// Makes the state of an NFA for one that was added to the builder.
+/// Makes the NFA state for a state that was added to the builder.
 fn build_state(alloc: Global, added: &Added) -> Result<State, AllocError>
     ensures { IfOk result (λ state. shape_of state ≡ built_of (shape_added added.now)) }
 {
@@ -222,7 +222,7 @@ fn build_state(alloc: Global, added: &Added) -> Result<State, AllocError>
     })
 }
 
-/// Appends the state of an NFA for one that was added to the builder.
+/// Appends the NFA state for a state that was added to the builder.
 fn push_state(alloc: Global, states: &mut Vec<State>, added: &Added) -> Result<(), AllocError>
     ensures { OnOk result (map shape_of states.new.items
         ≡ map shape_of states.old.items ++ built_of (shape_added added.now) ∷ []) }
@@ -232,7 +232,7 @@ fn push_state(alloc: Global, states: &mut Vec<State>, added: &Added) -> Result<(
     Ok(())
 }
 
-/// Appends the states of an NFA for those that were added.
+/// Appends the NFA states for the states that were added to the builder.
 pub fn push_states(
     alloc: Global,
     states: &mut Vec<State>,

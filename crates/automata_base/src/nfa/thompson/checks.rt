@@ -13,10 +13,10 @@ use crate::nfa::thompson::{NfaError, State, Transition};
 use crate::util::look::LookSet;
 use crate::util::primitives::{PatternID, StateID};
 
-// 2^27: the most states, and the most patterns.
+// 2^27: the most states, and the most patterns, of an NFA.
 pub(super) const MAX_STATES: usize = 134_217_728;
 
-// 2^31, in all unions together.
+// 2^31: the most alternates, in all unions together.
 const MAX_ALTERNATES: usize = 2_147_483_648;
 
 /// Whether the state's ID is below `n`.
@@ -81,7 +81,7 @@ fn is_state_below(state: &State, n: usize) -> bool
     }
 }
 
-/// Whether the state is no match state, or its pattern is below `n`.
+/// Whether the state, if it is a match state, has a pattern below `n`.
 fn is_match_below(state: &State, n: usize) -> bool
     ensures { result ≡ match_below n state.now }
 {
@@ -115,8 +115,7 @@ fn are_matches_below(states: &[State], n: usize) -> bool
     true
 }
 
-/// Whether the state passes the tests of targets, which are below `n`, of ranges, and of patterns, which are below
-/// `patterns`.
+/// Whether the state's targets are below `n`, its ranges are in order, and its pattern is below `patterns`.
 fn is_sound(state: &State, n: usize, patterns: usize) -> bool
     ensures below { IsTrue result → state_below n state.now ≡ true }
     ensures ordered { IsTrue result → state_ordered state.now ≡ true }
@@ -135,8 +134,8 @@ fn is_sound(state: &State, n: usize, patterns: usize) -> bool
     }
 }
 
-/// Whether all states pass the tests of targets, which are below `n`, of ranges, and of patterns, which are below
-/// `patterns`. It reads each state once.
+/// Whether the targets of all states are below `n`, their ranges are in order, and their patterns are below `patterns`.
+/// It reads each state once.
 fn are_sound(states: &[State], n: usize, patterns: usize) -> bool
     ensures below { IsTrue result → states_below n states.now ≡ true }
     ensures ordered { IsTrue result → states_ordered states.now ≡ true }
@@ -157,7 +156,7 @@ fn fits(t: &Transition, low: usize) -> bool
     low <= usize::from(t.lo) && t.lo <= t.hi
 }
 
-/// One more than the byte, 1 to 256: the least byte that the next range may begin with.
+/// Returns one more than the byte, 1 to 256: the least byte that the next range may begin with.
 fn above(hi: u8) -> usize
     ensures { result ≡ hi + 1 }
 {
@@ -186,7 +185,7 @@ fn is_range(lo: u8, hi: u8) -> bool
     lo <= hi
 }
 
-/// Whether the ranges of the state are in order. Those of a state without ranges are.
+/// Whether the ranges of the state are in order. It is true for a state without ranges.
 fn is_state_ordered(state: &State) -> bool
     ensures { result ≡ state_ordered state.now }
 {
@@ -209,7 +208,7 @@ fn are_ordered(states: &[State]) -> bool
     true
 }
 
-/// How many alternates the state has: two if it is a binary union, and none if it is no union.
+/// Returns the number of alternates of the state: two if it is a binary union, and zero if it is not a union.
 fn count_alternates(state: &State) -> usize
     ensures count { result ≡ alternates_of state.now }
 {
@@ -220,7 +219,7 @@ fn count_alternates(state: &State) -> usize
     }
 }
 
-/// What the states of an NFA come to.
+/// Totals over the states of an NFA.
 #[derive(Clone, Copy)]
 pub struct Totals {
     /// The room that the stack of a closure needs, in states.
@@ -229,7 +228,8 @@ pub struct Totals {
     pub looks: LookSet,
 }
 
-/// The totals of these states, if the unions have at most 2^31 alternates in all. It reads each state once.
+/// Returns the totals of these states, or none if the unions have more than 2^31 alternates in all. It reads each state
+/// once.
 pub fn totals_of(states: &[State]) -> Option<Totals>
     ensures totals { IfSome result (AreTotals states.now) }
     ensures few { OnSome result (is_narrow states.now ≡ true) }
@@ -257,14 +257,14 @@ fn has_few(states: &[State], starts: &[StateID]) -> bool
     states.len() <= MAX_STATES && starts.len() <= MAX_STATES
 }
 
-/// Whether the anchored start, the unanchored one, and those of the patterns are below `n`.
+/// Whether the anchored start, the unanchored start, and the starts of the patterns are below `n`.
 fn are_starts(n: usize, anchored: StateID, unanchored: StateID, starts: &[StateID]) -> bool
     ensures { result ≡ starts_below n anchored unanchored starts.now }
 {
     is_below(anchored, n) && is_below(unanchored, n) && ids_below(starts, n)
 }
 
-/// Makes the tests of `NFA::from_states`, one after another, and returns the totals of the states.
+/// Runs the tests of `NFA::from_states`, in order, and returns the totals of the states.
 pub fn test(
     states: &[State],
     anchored: StateID,
@@ -285,7 +285,7 @@ pub fn test(
     if !are_starts(states.len(), anchored, unanchored, starts) {
         return Err(NfaError::StartRange);
     }
-    // Most lists pass. Only one that does not is read test by test, for the first that fails.
+    // Most lists pass. If one does not, the tests are run one by one, to find the first that fails.
     if are_sound(states, states.len(), starts.len()) {
         return Ok(totals);
     }

@@ -1,4 +1,4 @@
-//! A copy of the reversed states for each pattern: of those that are reached from its matches.
+//! Copies of the reversed states: for each pattern, a copy of those that are reached from its match states.
 ghost use Rattle.std.specs.Prelude.{ℕ, ◌≡◌, ◌<◌, ◌≤◌, ◌+◌, ◌*◌, ◌^◌, ◌++◌, [], ◌∷◌, true, map, length};
 ghost use Rattle.std.specs.Prelude.{IfOk, OnOk, Err, None, Some};
 ghost use Rattle.automata_base.specs.Retraced.Copies.{AreCopyable, AreParts, IsPartAdded};
@@ -18,7 +18,7 @@ use crate::util::determinize::sparse_set::SparseSet;
 use crate::util::primitives::{PatternID, StateID};
 use std::alloc::{AllocError, Global};
 
-/// The ID of a member's copy, if the copies of the set's members begin at `base`.
+/// Returns the ID of a member's copy, if the copies of the set's members begin at `base`.
 fn copy_id(set: &SparseSet, base: StateID, id: StateID) -> StateID
     requires member { In id set.now.items }
     requires room { base + length set.now.items ≤ 2 ^ 27 }
@@ -27,7 +27,7 @@ fn copy_id(set: &SparseSet, base: StateID, id: StateID) -> StateID
     StateID::new_unchecked((base.as_usize() + set.place(id)) as u32)
 }
 
-/// Adds an ID after the others of a list.
+/// Appends an ID to a list.
 pub fn push_id(ids: &mut Vec<StateID>, id: StateID) -> Result<(), AllocError>
     ensures { OnOk result (ids.new.items ≡ ids.old.items ++ id ∷ []) }
 {
@@ -35,7 +35,7 @@ pub fn push_id(ids: &mut Vec<StateID>, id: StateID) -> Result<(), AllocError>
     Ok(())
 }
 
-/// The IDs of the copies of these members, in their order, if the copies of the set's members begin at `base`.
+/// Returns the IDs of the copies of these members, in their order, if the copies of the set's members begin at `base`.
 fn copy_ids(
     alloc: Global,
     set: &SparseSet,
@@ -54,7 +54,8 @@ fn copy_ids(
     Ok(copies)
 }
 
-/// Copies a reversed state for a pattern: its targets are their copies, and its match is one of the pattern.
+/// Copies a reversed state for a pattern: the copy leads to the copies of the state's targets, and matches the pattern
+/// if the state is a match state.
 fn copy_state(
     alloc: Global,
     set: &SparseSet,
@@ -131,7 +132,7 @@ fn list_match(
     Ok(())
 }
 
-/// The match states among these, in a list for each pattern.
+/// Returns the match states among these, in a list for each pattern.
 fn matches_by_pattern(
     alloc: Global,
     states: &[State],
@@ -150,15 +151,15 @@ fn matches_by_pattern(
     Ok(lists)
 }
 
-/// Copies for patterns, and for each pattern the state where its paths begin.
+/// The copies for all patterns, and for each pattern the state where its paths begin.
 #[derive(Drop)]
 pub struct Parts {
     pub states: Vec<State>,
     pub entries: Vec<StateID>,
 }
 
-/// The ID of the first copy of the set's members: the number of states. It is none if with these copies and one state
-/// more there were more than 2^27.
+/// Returns the ID of the first copy of the set's members: the number of states. It is none if there would be more than
+/// 2^27 states with these copies and one more.
 fn base_of(states: &[State], set: &SparseSet) -> Option<StateID>
     requires { set.now.capacity ≤ 2 ^ 27 }
     ensures some { (base : ℕ) → result ≡ Some base
@@ -175,8 +176,8 @@ fn base_of(states: &[State], set: &SparseSet) -> Option<StateID>
     Some(StateID::new_unchecked(states.len() as u32))
 }
 
-/// Adds the copies, for a pattern, of what is reached from its roots, and after them its entry, the union of the roots'
-/// copies. It overwrites the set.
+/// Adds the copies, for a pattern, of the states that are reached from its roots, and after them its entry: the union
+/// of the roots' copies. The call overwrites the set.
 fn add_part(
     alloc: Global,
     turned: &[State],

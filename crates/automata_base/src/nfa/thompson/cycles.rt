@@ -1,4 +1,4 @@
-//! Whether epsilon edges lead from a look back to itself.
+//! A test whether epsilon edges lead from a look back to itself.
 ghost use Rattle.std.specs.Prelude.{◌≡◌, ◌<◌, ◌≤◌, ◌^◌, ◌↔◌, ◌++◌, ℕ, [], Some, true, length};
 ghost use Rattle.std.specs.Prelude.{option_to_list, eqb, IfOk, IsTrue};
 ghost use Rattle.automata_base.specs.Haystacks.Looks.{Look, look_index};
@@ -20,7 +20,8 @@ use crate::util::primitives::StateID;
 use std::alloc::{AllocError, Global};
 
 /// Adds the states that epsilon edges reach from the look's target, and returns whether the look itself is then a
-/// member. Before the call, members have to lead to members only. A state that is no look adds nothing.
+/// member. Before the call, members must lead only to members. If the state is not a look, nothing is added and the
+/// result is false.
 fn reaches_look(set: &mut SparseSet, states: &[State], q: StateID) -> bool
     requires few { length states.now ≤ 2 ^ 27 }
     requires range { states_below (length states.now) states.now ≡ true }
@@ -43,8 +44,8 @@ fn reaches_look(set: &mut SparseSet, states: &[State], q: StateID) -> bool
     set.contains(q)
 }
 
-/// Whether no look is on a cycle of epsilon edges. One walk goes on from look to look in a finishing order, so the
-/// first look that it returns to is on one.
+/// Whether no look is on a cycle of epsilon edges. One walk continues from look to look in a finishing order, so the
+/// first look that it returns to is on a cycle.
 fn are_acyclic_in(set: &mut SparseSet, states: &[State], order: &[StateID]) -> bool
     requires few { length states.now ≤ 2 ^ 27 }
     requires range { states_below (length states.now) states.now ≡ true }
@@ -61,9 +62,9 @@ fn are_acyclic_in(set: &mut SparseSet, states: &[State], order: &[StateID]) -> b
     true
 }
 
-/// Whether no epsilon edges lead from a look back to it. The looks are those that occur: if there are none, nothing is
-/// searched. Otherwise it takes a depth-first search over these edges and a second walk over them, in time linear in
-/// states and epsilon edges.
+/// Whether no look is on a cycle of epsilon edges. `looks` has the looks that occur; if it is empty, nothing is
+/// searched. Otherwise it takes a depth-first search over the epsilon edges and a second walk over them, in time linear
+/// in the states and these edges.
 pub fn are_looks_acyclic(
     alloc: Global,
     states: &[State],

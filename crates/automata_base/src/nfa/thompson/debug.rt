@@ -3,7 +3,7 @@
 use crate::nfa::thompson::NFA;
 use std::fmt;
 
-/// Its states and starts, and nothing that follows from these.
+/// Prints the states and starts, and nothing that follows from them.
 impl fmt::Debug for NFA {
     fn fmt<W: fmt::Write>(&self, f: &mut fmt::Formatter<W>) -> fmt::Result {
         f.debug_struct("NFA")

@@ -16,7 +16,7 @@ use crate::util::determinize::sparse_set::SparseSet;
 use crate::util::primitives::StateID;
 use std::alloc::{AllocError, Global};
 
-/// A state on the stack of the search, and the first of its edges that was not followed.
+/// A state on the stack of the search, and the first of its edges that was not followed yet.
 #[derive(Clone, Copy)]
 pub struct Frame {
     /// The state.
@@ -32,7 +32,7 @@ struct Edge {
     target: StateID,
 }
 
-/// The first epsilon edge of the state, from number `from` on, that leads to an unvisited state.
+/// Returns the first epsilon edge of the state, from number `from` on, that leads to an unvisited state.
 fn next_edge(visited: &SparseSet, state: &State, from: usize) -> Option<Edge>
     requires range { state_below visited.now.capacity state.now ≡ true }
     requires followed { (r : ℕ) → In r (take from (children_at (node_of state.now) all_true)) → In r visited.now.items }
@@ -53,7 +53,7 @@ fn next_edge(visited: &SparseSet, state: &State, from: usize) -> Option<Edge>
     None
 }
 
-/// Marks a state as visited. It has to be unvisited.
+/// Marks an unvisited state as visited.
 fn mark(visited: &mut SparseSet, id: StateID)
     requires below { id < visited.old.capacity }
     requires new { In id visited.old.items → ⊥ }
@@ -161,8 +161,8 @@ fn search_all(
     Ok(())
 }
 
-/// Each state once, in the order in which one depth-first search finishes them: a state that leads to a later one is on
-/// a cycle. It takes time linear in states and epsilon edges.
+/// Returns each state once, in the order in which one depth-first search finishes them: a state that leads to a later
+/// one is on a cycle. It takes time linear in the states and epsilon edges.
 pub fn finishing_order(alloc: Global, states: &[State]) -> Result<SparseSet, AllocError>
     requires few { length states.now ≤ 2 ^ 27 }
     requires range { states_below (length states.now) states.now ≡ true }

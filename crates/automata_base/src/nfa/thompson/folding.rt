@@ -1,8 +1,9 @@
-//! States with their wide unions folded.
+//! Folding of wide unions.
 //!
-//! Of the alternates of a union those that read a range of bytes become one state. For each byte it leads to a state
-//! that stands for all to which these led on it. So a powerset state has one NFA state where it had all that read, and
-//! a step follows the byte once. States that nothing leads to any more are made anew, and no state is added.
+//! The alternates of a wide union that read a range of bytes become one state. On each byte, it leads to a state that
+//! stands for all the states that those alternates lead to. So a powerset state has one NFA state in place of these
+//! alternates, and a step follows the byte once. The new states replace states that nothing leads to any more, so their
+//! number stays the same.
 ghost use Rattle.std.specs.Prelude.{ℕ, ◌≡◌, ◌<◌, ◌≤◌, ◌+◌, ◌/◌, ◌^◌, ◌↔◌, ◌++◌, [], ◌∷◌, true, false, List};
 ghost use Rattle.std.specs.Prelude.{IfOk, IfSome, OnOk, IsTrue, length, Some, None, slice_get};
 ghost use Rattle.automata_base.specs.Lists.{In, Distinct, cons_some};
@@ -28,10 +29,11 @@ use crate::util::determinize::sparse_set::SparseSet;
 use crate::util::primitives::StateID;
 use std::alloc::{AllocError, Global};
 
-/// How many alternates a union has at least if it is folded, and how many of them read a range, in one union at least.
+/// The least number of alternates of a union that is folded. At least one union must have this many alternates that
+/// read a range.
 const FEWEST: usize = 64;
 
-/// Makes a state of the next free one, and gives its ID. If none is left, it fails with `TooLarge`.
+/// Adds a state in place of the next free one, and returns its ID. If no free state is left, it fails with `TooLarge`.
 fn make(free: &[StateID], made: &mut Vec<State>, state: State) -> Result<StateID, MakeError>
     ensures more { OnOk result (nodes_of made.new.items ≡ nodes_of made.old.items ++ node_of state ∷ []) }
     ensures made { IfOk result (λ id. IsMade free.now (nodes_of made.new.items) id (node_of state)) }
@@ -45,7 +47,7 @@ fn make(free: &[StateID], made: &mut Vec<State>, state: State) -> Result<StateID
     Ok(free[at])
 }
 
-/// The state that stands for these: the only one, or a union of them. It is none if there are none.
+/// Returns the state that stands for these: the only one, or a new union of them. It is none if there are none.
 fn stand(
     free: &[StateID],
     made: &mut Vec<State>,
@@ -68,7 +70,7 @@ fn stand(
     }
 }
 
-/// These states, and one more if there is one.
+/// Returns these states, followed by `last` if there is one.
 fn joined(
     alloc: Global,
     list: &[StateID],
@@ -84,7 +86,7 @@ fn joined(
     Ok(ids)
 }
 
-/// The head of a node: the state that stands for the states of its list and for the head of the node above it.
+/// Returns the head of a node: the state that stands for the states in its list and for the head of the node above it.
 fn head(
     alloc: Global,
     free: &[StateID],
@@ -108,7 +110,7 @@ fn head(
     Ok(head)
 }
 
-/// The head of the node above this one. Node 0 has none.
+/// Returns the head of the node above this one, or none for node 0.
 fn head_above(heads: &[Option<StateID>], node: usize) -> Option<StateID>
     requires { node ≤ length heads.now }
     ensures root { node ≡ 0 → result ≡ None }
@@ -120,7 +122,7 @@ fn head_above(heads: &[Option<StateID>], node: usize) -> Option<StateID>
     heads[node / 2]
 }
 
-/// Adds a head after the others.
+/// Appends a head.
 fn push_head(heads: &mut Vec<Option<StateID>>, head: Option<StateID>) -> Result<(), AllocError>
     ensures { OnOk result (heads.new.items ≡ heads.old.items ++ head ∷ []) }
 {
@@ -128,7 +130,7 @@ fn push_head(heads: &mut Vec<Option<StateID>>, head: Option<StateID>) -> Result<
     Ok(())
 }
 
-/// For each node of a segment tree its head.
+/// Returns the head of each node of a segment tree.
 fn heads_of(
     alloc: Global,
     free: &[StateID],
@@ -153,7 +155,7 @@ fn heads_of(
     Ok(heads)
 }
 
-/// The byte after the last one of those that have the same head as this one, without a break.
+/// Returns the end of the run of bytes that have the same head as this byte: one more than the last of them.
 fn run_end(heads: &[Option<StateID>], byte: usize) -> usize
     requires nodes { length heads.now ≡ 512 }
     requires byte { byte < 256 }
@@ -169,7 +171,7 @@ fn run_end(heads: &[Option<StateID>], byte: usize) -> usize
     end
 }
 
-/// Adds a range after the others.
+/// Appends a range.
 fn push_range(ranges: &mut Vec<Transition>, range: Transition) -> Result<(), AllocError>
     ensures { OnOk result (ranges.new.items ≡ ranges.old.items ++ range ∷ []) }
 {
@@ -177,7 +179,7 @@ fn push_range(ranges: &mut Vec<Transition>, range: Transition) -> Result<(), All
     Ok(())
 }
 
-/// The ranges of a state that leads on each byte to the head of its leaf.
+/// Returns the ranges of a state that leads on each byte to the head of its leaf.
 fn ranges_to(alloc: Global, heads: &[Option<StateID>]) -> Result<Vec<Transition>, AllocError>
     requires { length heads.now ≡ 512 }
     ensures { IfOk result (λ v. (u : ℕ) → takes_in (ranges_of v.items) u ≡ leaf_head heads.now u) }
@@ -195,7 +197,7 @@ fn ranges_to(alloc: Global, heads: &[Option<StateID>]) -> Result<Vec<Transition>
     Ok(ranges)
 }
 
-/// The range of a state that reads one.
+/// Returns the range of a state that reads one, or none for any other state.
 fn range_read(state: &State) -> Option<Transition>
     ensures { result ≡ range_read state.now }
 {
@@ -209,7 +211,7 @@ fn range_read(state: &State) -> Option<Transition>
     }
 }
 
-/// The segment tree of the ranges that these states read.
+/// Returns the segment tree of the ranges that these states read.
 fn segments_of(
     alloc: Global,
     states: &[State],
@@ -230,7 +232,7 @@ fn segments_of(
     Ok(lists)
 }
 
-/// Those of these states that do not read a range.
+/// Returns the states among these that do not read a range.
 fn others_of(alloc: Global, states: &[State], ids: &[StateID]) -> Result<Vec<StateID>, AllocError>
     requires { (x : ℕ) → In x ids.now → x < length states.now }
     ensures sound { IfOk result (λ v. (x : ℕ) → In x v.items
@@ -247,7 +249,7 @@ fn others_of(alloc: Global, states: &[State], ids: &[StateID]) -> Result<Vec<Sta
     Ok(others)
 }
 
-/// The union of these states, of which those that read a range are folded.
+/// Returns the union of these states, with those that read a range folded into one.
 fn fold_union(
     alloc: Global,
     states: &[State],
@@ -273,7 +275,7 @@ fn fold_union(
     Ok(State::Union { alternates: stay })
 }
 
-/// The alternates of a union that has many.
+/// Returns the alternates of a union that has at least `FEWEST`, or none for any other state.
 fn large(state: &State) -> Option<&[StateID]>
     ensures some { IfSome result (λ list. IsUnionOf state.now list.now × (is_large (node_of state.now) ≡ true)) }
     ensures none { result ≡ None → is_large (node_of state.now) ≡ false }
@@ -289,7 +291,7 @@ fn large(state: &State) -> Option<&[StateID]>
     }
 }
 
-/// Folds the union of this number, if it has many alternates.
+/// Folds the state with this number, if it is a union of at least `FEWEST` alternates.
 fn fold_at(
     alloc: Global,
     states: &mut Vec<State>,
@@ -316,7 +318,7 @@ fn fold_at(
     Ok(())
 }
 
-/// Folds each union that has many alternates.
+/// Folds each union of at least `FEWEST` alternates.
 fn fold_all(
     alloc: Global,
     states: &mut Vec<State>,
@@ -337,7 +339,7 @@ fn fold_all(
     Ok(())
 }
 
-/// The states to which others lead, but for what large unions lead to.
+/// Returns the states that states other than large unions lead to.
 fn led_to(alloc: Global, states: &[State]) -> Result<SparseSet, AllocError>
     requires few { length states.now ≤ 2 ^ 27 }
     requires range { states_below (length states.now) states.now ≡ true }
@@ -354,7 +356,7 @@ fn led_to(alloc: Global, states: &[State]) -> Result<SparseSet, AllocError>
     Ok(led)
 }
 
-/// The states that read a range and are not members of the set.
+/// Returns the states that read a range and are not members of the set.
 fn free_of(alloc: Global, states: &[State], led: &SparseSet) -> Result<Vec<StateID>, AllocError>
     requires few { length states.now ≤ 2 ^ 27 }
     requires capacity { led.now.capacity ≡ length states.now }
@@ -372,7 +374,7 @@ fn free_of(alloc: Global, states: &[State], led: &SparseSet) -> Result<Vec<State
     Ok(free)
 }
 
-/// Puts what was made in the place of the free states.
+/// Replaces the free states, in order, by the states that were made.
 fn put_made(states: &mut Vec<State>, free: &[StateID], mut made: Vec<State>)
     requires few { length made.items ≤ length free.now }
     requires below { (x : ℕ) → In x free.now → x < length states.old.items }
@@ -387,7 +389,7 @@ fn put_made(states: &mut Vec<State>, free: &[StateID], mut made: Vec<State>)
     }
 }
 
-/// How many of these states read a range.
+/// Returns the number of these states that read a range.
 fn count_reads(states: &[State], ids: &[StateID]) -> usize
     requires { (x : ℕ) → In x ids.now → x < length states.now }
 {
@@ -400,7 +402,7 @@ fn count_reads(states: &[State], ids: &[StateID]) -> usize
     count
 }
 
-/// Whether there is a union of which many alternates read a range.
+/// Whether some union has at least `FEWEST` alternates that read a range.
 pub fn has_wide(states: &[State]) -> bool
     requires { states_below (length states.now) states.now ≡ true }
 {
@@ -414,8 +416,8 @@ pub fn has_wide(states: &[State]) -> bool
     false
 }
 
-/// Folds the unions of a reversed NFA that begins at these states. If there are not enough free states, it fails with
-/// `TooLarge`.
+/// Folds the large unions of a reversed NFA that starts at `root` and `entries`. If there are not enough free states,
+/// it fails with `TooLarge`.
 pub fn fold(
     alloc: Global,
     states: &mut Vec<State>,

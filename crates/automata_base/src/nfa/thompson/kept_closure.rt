@@ -1,4 +1,4 @@
-//! The closure of one state, which an NFA keeps with what its powerset states have of it.
+//! The closure of the unanchored start, which an NFA keeps together with what powerset states keep of it.
 ghost use Rattle.std.specs.Prelude.{◌≡◌, ◌<◌, ◌≤◌, ◌⊎◌, [], ◌∷◌, ℕ, length, IfOk, IfSome, IsTrue, OnOk, None, false};
 ghost use Rattle.automata_base.specs.Lists.{In};
 ghost use Rattle.automata_base.specs.Haystacks.LookSets.{truth_of};
@@ -22,33 +22,33 @@ use crate::util::primitives::StateID;
 use std::alloc::{AllocError, Global};
 use std::sync::Arc;
 
-/// How many states a closure has at least if it is kept.
+/// The least number of states of a closure that is kept.
 const FEWEST: usize = 24;
 
-/// How many bytes may be tried for each kept state to find where it leads, and how many more.
+/// Rows are made only if at most `EACH` bytes for each kept state, and `MORE` in addition, have to be tried.
 const EACH: usize = 8;
 
 const MORE: usize = 512;
 
-/// The closure of the root of an NFA, the unanchored start, with whose closure most powerset states end. What a step
-/// needs of it is here.
+/// The closure of an NFA's root, which is the unanchored start, with what a step needs of it. Most powerset states end
+/// with this closure.
 #[derive(Drop)]
 pub(crate) struct KeptClosure {
     /// The state whose closure this is.
     pub root: StateID,
     /// The states of the closure, in the order of preference.
     pub set: SparseSet,
-    /// Those of them that powerset states keep. None is a look.
+    /// The states of the closure that powerset states keep. None of them is a look.
     pub kept: Vec<StateID>,
-    /// The bytes that code the kept states behind the first of them.
+    /// The encoding of the kept states after the first.
     pub code: Vec<u8>,
-    /// For each byte, where the kept states lead on it, in order. There are no rows if a kept state matches or if it
-    /// would take too long to make them.
+    /// For each byte, the states that the kept states lead to on it, in order. There are no rows if a kept state is a
+    /// match state, or if it would take too long to make them.
     pub rows: Vec<Vec<StateID>>,
 }
 
 impl KeptClosure {
-    /// Where the kept states lead on a byte, if there are rows.
+    /// Returns the states that the kept states lead to on a byte, if there are rows.
     #[inline(always)]
     pub fn row(&self, nfa: &NFA, u: u8) -> Option<&[StateID]>
         requires { IsKeptClosure nfa.now self.now }
@@ -62,7 +62,7 @@ impl KeptClosure {
     }
 }
 
-/// The states that epsilon edges reach from the root where no look holds.
+/// Returns the states that epsilon edges reach from the root if no look holds.
 fn visited_from(nfa: &NFA, root: StateID) -> Result<SparseSet, AllocError>
     requires { root < length nfa.now.states }
     ensures whole { IfOk result (λ set. set.capacity ≡ length nfa.now.states) }
@@ -75,7 +75,7 @@ fn visited_from(nfa: &NFA, root: StateID) -> Result<SparseSet, AllocError>
     Ok(set)
 }
 
-/// The bytes that code these states behind the first of them.
+/// Returns the encoding of these states after the first.
 fn code_of(alloc: Global, kept: &[StateID]) -> Result<Vec<u8>, AllocError>
     ensures { IfOk result (λ code. IsRestCode kept.now code.items) }
 {
@@ -89,7 +89,7 @@ fn code_of(alloc: Global, kept: &[StateID]) -> Result<Vec<u8>, AllocError>
     }
 }
 
-/// The lower of two numbers.
+/// Returns the lower of two numbers.
 pub(super) fn lower(a: usize, b: usize) -> usize
     ensures first { result ≤ a }
     ensures second { result ≤ b }
@@ -97,7 +97,7 @@ pub(super) fn lower(a: usize, b: usize) -> usize
     if a < b { a } else { b }
 }
 
-/// The higher of two numbers.
+/// Returns the higher of two numbers.
 pub(super) fn higher(a: usize, b: usize) -> usize
     ensures first { a ≤ result }
     ensures second { b ≤ result }
@@ -106,7 +106,7 @@ pub(super) fn higher(a: usize, b: usize) -> usize
     if a < b { b } else { a }
 }
 
-/// The first byte of these ranges, or 256 if there are none.
+/// Returns the first byte of these ranges, or 256 if there are none.
 fn first_of(ranges: &[Transition]) -> usize
     ensures { (u : ℕ) → u < result → takes_in (ranges_of ranges.now) u ≡ None }
 {
@@ -117,7 +117,7 @@ fn first_of(ranges: &[Transition]) -> usize
     first
 }
 
-/// The byte behind the last one of these ranges, or 0 if there are none.
+/// Returns the byte after the last one of these ranges, or 0 if there are none.
 fn end_of(ranges: &[Transition]) -> usize
     ensures few { result ≤ 256 }
     ensures none { (u : ℕ) → result ≤ u → takes_in (ranges_of ranges.now) u ≡ None }
@@ -129,7 +129,7 @@ fn end_of(ranges: &[Transition]) -> usize
     end
 }
 
-/// A byte below which the state leads nowhere.
+/// Returns a byte below which the state leads nowhere.
 pub(super) fn first_byte(state: &State) -> usize
     ensures { (u : ℕ) → u < result → takes_at (node_of state.now) u ≡ None }
 {
@@ -140,7 +140,7 @@ pub(super) fn first_byte(state: &State) -> usize
     }
 }
 
-/// A byte from which on the state leads nowhere, or 256.
+/// Returns a byte from which on the state leads nowhere, or 256.
 pub(super) fn byte_end(state: &State) -> usize
     ensures few { result ≤ 256 }
     ensures none { (u : ℕ) → u < 256 → result ≤ u → takes_at (node_of state.now) u ≡ None }
@@ -153,7 +153,7 @@ pub(super) fn byte_end(state: &State) -> usize
     }
 }
 
-/// Adds where the state leads on each byte to the row of the byte.
+/// Adds the state that this state leads to on each byte, if there is one, to the row of the byte.
 fn push_edges(rows: &mut Vec<Vec<StateID>>, state: &State) -> Result<(), AllocError>
     requires { length rows.old.items ≡ 256 }
     ensures edges { OnOk result (AddsEdges (node_of state.now) rows.old.items rows.new.items) }
@@ -167,7 +167,7 @@ fn push_edges(rows: &mut Vec<Vec<StateID>>, state: &State) -> Result<(), AllocEr
     Ok(())
 }
 
-/// Whether there are to be rows of these states: none of them matches, and few bytes are tried to make them.
+/// Whether to make rows of these states: none of them is a match state, and few bytes have to be tried.
 fn are_plain(nfa: &NFA, kept: &[StateID]) -> bool
     requires below { (q : ℕ) → In q kept.now → q < length nfa.now.states }
     ensures { IsTrue result → has_match (nfa_of nfa.now) kept.now ≡ false }
@@ -188,7 +188,7 @@ fn are_plain(nfa: &NFA, kept: &[StateID]) -> bool
     true
 }
 
-/// For each byte, where these states lead on it, in order.
+/// Returns, for each byte, the states that these states lead to on it, in order.
 pub(super) fn rows_of(nfa: &NFA, kept: &[StateID]) -> Result<Vec<Vec<StateID>>, AllocError>
     requires below { (q : ℕ) → In q kept.now → q < length nfa.now.states }
     requires plain { has_match (nfa_of nfa.now) kept.now ≡ false }
@@ -202,7 +202,7 @@ pub(super) fn rows_of(nfa: &NFA, kept: &[StateID]) -> Result<Vec<Vec<StateID>>, 
     Ok(rows)
 }
 
-/// The rows of these states, or none if a state matches or if it would take too long to make them.
+/// Returns the rows of these states, or no rows if one is a match state or if it would take too long to make them.
 fn rows_if_plain(nfa: &NFA, kept: &[StateID]) -> Result<Vec<Vec<StateID>>, AllocError>
     requires below { (q : ℕ) → In q kept.now → q < length nfa.now.states }
     ensures { IfOk result (λ rows. AreRows (nfa_of nfa.now) kept.now rows.items) }
@@ -213,8 +213,7 @@ fn rows_if_plain(nfa: &NFA, kept: &[StateID]) -> Result<Vec<Vec<StateID>>, Alloc
     Ok(Vec::new(nfa.alloc()))
 }
 
-/// The closure of the root, with what powerset states keep of it, unless a state of it is a look, on which it would
-/// hang.
+/// Returns the kept closure of the root, or none if one of its states is a look, on which the closure would depend.
 fn with_kept(
     nfa: &NFA,
     root: StateID,
@@ -243,8 +242,8 @@ fn with_kept(
     Ok(Some(closure))
 }
 
-/// The closure of the root, if it is to be kept: it has many states, and no look. Of an NFA that has few states nothing
-/// is computed.
+/// Returns the closure of the root if it has many states and no look, and none otherwise. For an NFA that has few
+/// states, nothing is computed.
 pub fn kept_closure_of(nfa: &NFA) -> Result<Option<Arc<KeptClosure>>, AllocError>
     ensures { IfOk result (λ kept. IfSome kept (λ closure. IsKeptClosure nfa.now closure.value)) }
 {

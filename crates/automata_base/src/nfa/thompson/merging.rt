@@ -1,10 +1,10 @@
-//! The same NFA with fewer states to follow at once.
+//! Merging of wide unions, after which a search follows fewer states at once.
 //!
-//! The alternates of a wide union that read bytes, one after another, become one state that reads. Where several of
-//! them read one byte, it leads to a further state, which stands for the list of their targets and is merged likewise.
-//! So a union of many words becomes a trie. An alternate that reads no byte stays, and the order stays as it is.
+//! Consecutive alternates of a wide union that read bytes become one state. Where several of them read the same byte,
+//! that state leads to an additional state, which stands for the list of their targets and is merged in the same way.
+//! So a union of many words becomes a trie. An alternate that does not read a byte stays, and the order stays the same.
 //!
-//! Nothing is promised of the states that are made: `standing` tests them.
+//! No contract says what the states that are made are: `standing` tests them.
 ghost use Rattle.std.specs.Prelude.{◌≡◌, IfOk, IfSome, IsTrue, false};
 ghost use Rattle.automata_base.specs.Answers.Alike.{AnswerAlike};
 ghost use Rattle.automata_base.specs.Nfas.Engines.{engine_of};
@@ -19,49 +19,49 @@ use crate::util::primitives::StateID;
 use std::alloc::{AllocError, Global};
 use std::mem;
 
-/// How many alternates a union has at least if they are merged.
+/// The least number of alternates of a union that is merged.
 const FEWEST: usize = 8;
 
-/// How many targets may be listed for each state of the NFA, and how many more.
+/// At most `EACH` targets for each state of the NFA, and `MORE` in addition, may be listed.
 const EACH: usize = 8;
 
 const MORE: usize = 4096;
 
-/// The states of a merged NFA: those of the NFA, of which some are replaced, and after them further ones.
+/// The states of a merged NFA: those of the NFA, some of them replaced, followed by additional ones.
 #[derive(Drop)]
 pub struct Merged {
     /// The states.
     pub states: Vec<State>,
-    /// For each further state the states of the NFA for which it stands.
+    /// For each additional state, the states of the NFA that it stands for.
     pub lists: Vec<Vec<StateID>>,
 }
 
-/// What is kept while states are merged.
+/// The working data of a merge.
 #[derive(Drop)]
 struct Merging {
-    /// How many states the NFA has.
+    /// The number of states of the NFA.
     count: usize,
-    /// The lists for which further states stand.
+    /// The lists that additional states stand for.
     lists: Vec<Vec<StateID>>,
-    /// For each byte the targets of a row of states, while it is merged.
+    /// For each byte, the targets of the row of states that is being merged.
     targets: Vec<Vec<StateID>>,
     /// The least byte that has targets, or 255.
     first: u8,
     /// The greatest byte that has targets, or 0.
     last: u8,
-    /// How many targets may still be listed.
+    /// The number of targets that may still be listed.
     left: usize,
-    /// Whether more were asked for, so that nothing is merged.
+    /// Whether a limit was exceeded, in which case nothing is merged.
     is_short: bool,
 }
 
-/// A copy of a dense state.
+/// Returns a copy of a dense state.
 fn copy_dense(alloc: Global, targets: &[StateID; 256]) -> Result<State, AllocError> {
     let targets = Box::new(alloc, *targets).map_err(AllocError::from)?;
     Ok(State::Dense(targets))
 }
 
-/// A copy of a state.
+/// Returns a copy of a state.
 fn copy_of(alloc: Global, state: &State) -> Result<State, AllocError> {
     match state {
         State::ByteRange { lo, hi, next } => Ok(State::ByteRange {
@@ -98,7 +98,7 @@ fn copy_of(alloc: Global, state: &State) -> Result<State, AllocError> {
     }
 }
 
-/// The alternates of a union that is wide enough, and none of another state.
+/// Returns the alternates of a union that is wide enough, or none for any other state.
 fn wide(state: &State) -> Option<&[StateID]> {
     match state {
         State::Union { alternates } => {
@@ -112,7 +112,7 @@ fn wide(state: &State) -> Option<&[StateID]> {
     }
 }
 
-/// Whether there is a union that is wide enough.
+/// Whether some union is wide enough to be merged.
 pub fn has_wide(states: &[State]) -> bool {
     for state in states {
         if wide(state).is_some() {
@@ -138,7 +138,7 @@ fn push_range(
 }
 
 impl Merging {
-    /// Takes so many targets of those that may be listed. Whether there are so many.
+    /// Takes `targets` from the targets that may still be listed; false if fewer are left.
     fn take(&mut self, targets: usize) -> bool {
         if targets > self.left {
             self.is_short = true;
@@ -148,7 +148,7 @@ impl Merging {
         true
     }
 
-    /// Lists where a range of bytes leads.
+    /// Lists the target of a range of bytes.
     fn list_range(&mut self, lo: u8, hi: u8, next: StateID) -> Result<(), AllocError> {
         let bytes = (usize::from(hi) + 1).saturating_sub(usize::from(lo));
         if self.take(bytes) {
@@ -159,7 +159,7 @@ impl Merging {
         Ok(())
     }
 
-    /// Lists where ranges of bytes lead.
+    /// Lists the targets of ranges of bytes.
     fn list_ranges(&mut self, ranges: &[Transition]) -> Result<(), AllocError> {
         for range in ranges {
             self.list_range(range.lo, range.hi, range.next)?;
@@ -167,7 +167,7 @@ impl Merging {
         Ok(())
     }
 
-    /// Lists where a dense state leads.
+    /// Lists the targets of a dense state.
     fn list_dense(&mut self, targets: &[StateID; 256]) -> Result<(), AllocError> {
         for byte in 0..=255u8 {
             let next = targets[usize::from(byte)];
@@ -178,7 +178,7 @@ impl Merging {
         Ok(())
     }
 
-    /// Lists where a state leads on each byte.
+    /// Lists the targets of a state for each byte.
     fn list(&mut self, state: &State) -> Result<(), AllocError> {
         match state {
             State::ByteRange { lo, hi, next } => self.list_range(*lo, *hi, *next),
@@ -188,7 +188,7 @@ impl Merging {
         }
     }
 
-    /// The state that stands for these: the only one of them, or a further state.
+    /// Returns the state that stands for these: the only one, or an additional state.
     fn standing(&mut self, list: Vec<StateID>) -> Result<StateID, AllocError> {
         if let [only] = list.as_slice() {
             return Ok(*only);
@@ -202,13 +202,13 @@ impl Merging {
         Ok(id)
     }
 
-    /// Whether a range ends before a byte and leads to what stands for these targets.
+    /// Whether a range ends right before a byte and leads to the state that stands for these targets.
     fn goes_on(&self, last: &Transition, byte: u8, targets: &[StateID]) -> bool {
         usize::from(last.hi) + 1 == usize::from(byte)
             && stands_for(self.lists.as_slice(), self.count, last.next, targets)
     }
 
-    /// Adds to the ranges of a state that a byte leads to these targets.
+    /// Extends the ranges of a state, so that a byte leads to these targets.
     fn push_byte(
         &mut self,
         ranges: &mut Vec<Transition>,
@@ -230,7 +230,7 @@ impl Merging {
         Ok(())
     }
 
-    /// Makes the ranges of a state of what was listed for each byte, of which nothing is left.
+    /// Takes the targets that were listed for each byte, and returns the ranges of a state that leads to them.
     fn ranges(&mut self, alloc: Global) -> Result<Vec<Transition>, AllocError> {
         let mut ranges = Vec::new(alloc);
         for byte in self.first..=self.last {
@@ -244,7 +244,8 @@ impl Merging {
         Ok(ranges)
     }
 
-    /// The state that leads on each byte to what stands for the targets of these states, which read bytes.
+    /// Returns the state that leads, on each byte, to the state that stands for the targets of these states, which must
+    /// read bytes.
     fn row(&mut self, nfa: &NFA, list: &[StateID]) -> Result<State, AllocError> {
         let states = nfa.states();
         for id in list {
@@ -256,7 +257,7 @@ impl Merging {
         Ok(State::Sparse(ranges))
     }
 
-    /// Ends a row of states that read bytes: one alternate stands for them, if there are any.
+    /// Ends a row of states that read bytes. If there are any, it adds the alternate that stands for them.
     fn close(
         &mut self,
         alloc: Global,
@@ -272,7 +273,7 @@ impl Merging {
         Ok(())
     }
 
-    /// The union in which one alternate stands for each row of states that read bytes.
+    /// Returns the union in which one alternate stands for each row of states that read bytes.
     fn rows(&mut self, nfa: &NFA, list: &[StateID]) -> Result<State, AllocError> {
         let alloc = nfa.alloc();
         let mut alternates = Vec::new(alloc);
@@ -289,7 +290,7 @@ impl Merging {
         Ok(State::Union { alternates })
     }
 
-    /// The state that stands for these: one that reads if all of them do, and else a union.
+    /// Returns the state that stands for these: one that reads bytes if all of them do, and otherwise a union.
     fn merge_list(&mut self, nfa: &NFA, list: &[StateID]) -> Result<State, AllocError> {
         for id in list {
             if !is_plain(nfa, *id) {
@@ -299,7 +300,8 @@ impl Merging {
         self.row(nfa, list)
     }
 
-    /// What becomes of a state of the NFA.
+    /// Returns the state that takes the place of a state of the NFA: a merged one if it is a wide union, and otherwise
+    /// a copy.
     fn merge_state(&mut self, nfa: &NFA, state: &State) -> Result<State, AllocError> {
         match wide(state) {
             Some(alternates) => {
@@ -313,7 +315,7 @@ impl Merging {
         }
     }
 
-    /// Adds what becomes of the states of the NFA.
+    /// Adds the states that take the place of the NFA's states.
     fn merge_states(&mut self, nfa: &NFA, states: &mut Vec<State>) -> Result<(), AllocError> {
         for state in nfa.states() {
             let merged = self.merge_state(nfa, state)?;
@@ -322,7 +324,7 @@ impl Merging {
         Ok(())
     }
 
-    /// The further state of this number.
+    /// Returns the additional state with this number.
     fn merge_further(&mut self, nfa: &NFA, at: usize) -> Result<State, AllocError> {
         let alloc = nfa.alloc();
         let Some(own) = self.lists.get_mut(at) else {
@@ -336,7 +338,7 @@ impl Merging {
         Ok(state)
     }
 
-    /// Adds the further states, one after another. There are less than so many.
+    /// Adds the additional states in order; there are fewer than `most`.
     fn merge_lists(
         &mut self,
         nfa: &NFA,
@@ -354,7 +356,7 @@ impl Merging {
     }
 }
 
-/// The states of the merged NFA, or none if they would be too many.
+/// Returns the states of the merged NFA, or none if a limit was exceeded.
 pub fn merge(nfa: &NFA) -> Result<Option<Merged>, AllocError> {
     let alloc = nfa.alloc();
     let count = nfa.states().len();
@@ -383,15 +385,16 @@ pub fn merge(nfa: &NFA) -> Result<Option<Merged>, AllocError> {
 }
 
 impl NFA {
-    /// This NFA with its wide unions merged: each row of their alternates that read bytes is one state, which leads on
-    /// each byte to the targets of the row, in order. So a lazy DFA of it has smaller states, which are made faster; a
-    /// set of 1,000 words takes a twentieth of the time and the memory until its states are cached.
+    /// Returns this NFA with its wide unions merged: consecutive alternates that read bytes become one state, which
+    /// leads on each byte to all their targets, in order. So a lazy DFA of it has smaller states, which are made
+    /// faster; a set of 1,000 words takes a twentieth of the time and the memory until its states are cached.
     ///
-    /// Its searches, walks, spans and sets answer as those of this NFA do, and it is made with the same starts and
-    /// flags. The states keep their IDs, and further ones come after them. It is this NFA itself if no union has eight
-    /// alternates, if it keeps unions (`NFA::keeping_unions`), if the targets to be listed are too many, more than
-    /// eight for each state and some thousands, or if a closure would need more room or searches no longer skip lazily.
-    /// The only error is out of memory. It takes time linear in the states, their edges and what is listed.
+    /// Its searches, walks, spans and sets give the same answers, and its starts and flags are the same. The states
+    /// keep their IDs, and additional ones come after them. The result is this NFA itself if no union has eight
+    /// alternates, if this NFA keeps unions (`NFA::keeping_unions`), if more targets would be listed than eight for
+    /// each state and 4,096 in addition, or if, after merging, a closure would need more room, a cycle of epsilon
+    /// transitions would newly pass a look, or unanchored searches would no longer skip lazily. The only error is out
+    /// of memory. The call takes time linear in the states, their edges and what is listed.
     pub fn merged(&self) -> Result<NFA, AllocError>
         ensures alike { IfOk result (λ nfa. (kind : MatchKind)
             → AnswerAlike (engine_of self.now kind) (engine_of nfa kind)) }
@@ -403,7 +406,7 @@ impl NFA {
         self.merged_if_wide()
     }
 
-    /// This NFA with its unions merged, if one of them is wide.
+    /// Returns this NFA with its unions merged, if one of them is wide.
     fn merged_if_wide(&self) -> Result<NFA, AllocError>
         ensures merged { IfOk result (λ nfa. IsMergedNfa self.now nfa) }
         ensures bounds { IfOk result (λ nfa. KeepsBounds self.now nfa) }
@@ -417,7 +420,7 @@ impl NFA {
         }
     }
 
-    /// This NFA, of which nothing is merged.
+    /// Returns this NFA, with nothing merged.
     fn unmerged(&self) -> Result<NFA, AllocError>
         ensures merged { IfOk result (λ nfa. IsMergedNfa self.now nfa) }
         ensures bounds { IfOk result (λ nfa. KeepsBounds self.now nfa) }
@@ -425,7 +428,7 @@ impl NFA {
         self.clone()
     }
 
-    /// The NFA of these states if it is this one, merged, and otherwise this one.
+    /// Returns the NFA of these states if it is this one with unions merged, and otherwise this one.
     fn merged_as(&self, merged: Merged) -> Result<NFA, AllocError>
         requires { self.now.keeps_unions ≡ false }
         ensures merged { IfOk result (λ nfa. IsMergedNfa self.now nfa) }
@@ -438,7 +441,8 @@ impl NFA {
         }
     }
 
-    /// The NFA of these states with the starts and flags of this one, if they are states of an NFA.
+    /// Returns the NFA of these states with the starts and flags of this one, or none if `NFA::from_states` does not
+    /// accept them.
     fn with_states(&self, states: Vec<State>) -> Result<Option<NFA>, AllocError>
         requires { self.now.keeps_unions ≡ false }
         ensures { IfOk result (λ made. IfSome made (λ nfa. BeginsAs self.now nfa)) }
@@ -459,7 +463,7 @@ impl NFA {
         }
     }
 
-    /// The NFA if it is this one, merged, and keeps its bounds, and otherwise this one.
+    /// Returns `nfa` if it is this NFA with unions merged and keeps its bounds, and otherwise this NFA.
     fn if_merged(&self, nfa: NFA, lists: &[Vec<StateID>]) -> Result<NFA, AllocError>
         requires { BeginsAs self.now nfa }
         ensures merged { IfOk result (λ m. IsMergedNfa self.now m) }
@@ -472,7 +476,7 @@ impl NFA {
     }
 
     /// Whether a closure in the other NFA needs no more room than in this one, no cycle of epsilon transitions passes a
-    /// look there if none does here, and its unanchored searches start lazily if those of this one do.
+    /// look there if none does here, and it skips lazily if this one does.
     fn bounds(&self, other: &NFA) -> bool
         ensures { IsTrue result → KeepsBounds self.now other.now }
     {

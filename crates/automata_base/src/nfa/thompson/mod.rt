@@ -35,7 +35,7 @@ use std::marker::Model;
 use std::sync::Arc;
 use thiserror::Error;
 
-/// An edge that reads a byte: from `lo` to `hi`, both included, it leads to `next`.
+/// An edge that reads a byte: on each byte from `lo` to `hi`, both included, it leads to `next`.
 #[derive(Clone, Copy, Debug, PartialEq, Eq)]
 pub struct Transition {
     /// The least byte.
@@ -58,18 +58,19 @@ pub enum State {
         /// The state that the byte leads to.
         next: StateID,
     },
-    /// Reads one byte, by the range that contains it. The ranges are sorted, and no two overlap.
+    /// Reads one byte, and leads to the target of the range that contains it. The ranges are sorted, and no two
+    /// overlap.
     Sparse(Vec<Transition>),
-    /// Reads one byte, by the target at its index. Target 0 stands for no edge.
+    /// Reads one byte, and leads to the target at the byte's index. Target 0 means that there is no edge.
     Dense(Box<[StateID; 256]>),
-    /// Goes on without reading if the look holds.
+    /// Leads to `next` without reading a byte, if the look holds.
     Look {
-        /// The look that has to hold.
+        /// The look that must hold.
         look: Look,
         /// The state that it leads to.
         next: StateID,
     },
-    /// Goes on without reading to each alternate, the first of them preferred.
+    /// Leads to each alternate without reading a byte, the first of them preferred.
     Union {
         /// The alternates, the preferred ones first.
         alternates: Vec<StateID>,
@@ -78,10 +79,10 @@ pub enum State {
     BinaryUnion {
         /// The alternate that is preferred.
         alt1: StateID,
-        /// The other one.
+        /// The other alternate.
         alt2: StateID,
     },
-    /// Goes on without reading. Searches ignore its group.
+    /// Leads to `next` without reading a byte. Searches ignore the group.
     Capture {
         /// The state that it leads to.
         next: StateID,
@@ -101,7 +102,7 @@ pub enum State {
     },
 }
 
-// One call for an owner, whose proof then has no step for each part.
+// An owner drops this with one call, so that its proof has no step for each field.
 impl Drop for State {
     fn drop(self) {
         match self {
@@ -140,7 +141,7 @@ impl Drop for State {
 pub struct Flags {
     /// Whether empty matches inside UTF-8 encoded characters are omitted.
     pub utf8: bool,
-    /// Whether it matches the reversed texts.
+    /// Whether the NFA matches reversed text.
     pub reverse: bool,
     /// The byte that ends a line, for the looks at lines.
     pub line_terminator: u8,
@@ -166,7 +167,7 @@ pub enum NfaError {
     /// A state leads to a state that does not exist.
     #[error("a state leads to a state that is out of range")]
     StateRange,
-    /// A start is a state that does not exist: an NFA has at least one state.
+    /// A start state does not exist. An NFA has at least one state.
     #[error("a start state is out of range")]
     StartRange,
     /// A match state has a pattern without a start.
@@ -175,7 +176,7 @@ pub enum NfaError {
     /// A range ends before it begins, or ranges of a sparse state are not sorted or overlap.
     #[error("ranges of bytes are not in order")]
     Ranges,
-    /// There are more than 2^27 states or patterns, or more than 2^31 alternates in all, a binary union having two.
+    /// There are more than 2^27 states or patterns, or more than 2^31 alternates in all, where a binary union has two.
     #[error("too many states, patterns or alternates")]
     TooLarge,
     /// An allocation failed.
@@ -199,9 +200,9 @@ impl From<AllocError> for NfaError {
 pub enum ReverseError {
     /// The empty match is reached from the start of some pattern and not from the anchored start, or the other way
     /// round.
-    #[error("the starts differ in the empty match, so the reversed NFA would have others")]
+    #[error("only some of the starts match the empty string, so a reversed NFA would match differently")]
     Starts,
-    /// The reversed NFA might have more states or alternates than an NFA may have, by a bound of its size.
+    /// The reversed NFA might have more states or alternates than an NFA may have, by a bound on its size.
     #[error("the reversed NFA would be too large")]
     TooLarge,
     /// An allocation failed.
@@ -234,7 +235,7 @@ struct Data {
     is_look_acyclic: bool,
 }
 
-// One call for an owner, whose proof then has no step for each part.
+// An owner drops this with one call, so that its proof has no step for each field.
 impl Drop for Data {
     fn drop(self) {
         let Self {
@@ -260,7 +261,7 @@ pub struct NFA {
     kept_closure: Option<Arc<KeptClosure>>,
 }
 
-// One call for an owner, whose proof then has no step for each part.
+// An owner drops this with one call, so that its proof has no step for each field.
 impl Drop for NFA {
     fn drop(self) {
         let Self {
@@ -334,11 +335,11 @@ impl NFA {
     ghost use Rattle.automata_base.specs.Nfas.Unions.{IsKeepingUnions};
     ghost use Rattle.automata_base.specs.Nfas.Utf8.{HasNoLook, ReadsUtf8};
 
-    /// An NFA of these states. Searches start at the anchored or the unanchored start, and those for pattern k at
-    /// `start_pattern[k]`, so there are as many patterns as such starts. The tests are made in this order, each of the
-    /// whole list: its size, the starts, the states that edges lead to, the order of ranges, the patterns. The first
-    /// test that fails names the error. An error does not return the lists. It takes time linear in the states, their
-    /// edges and the starts; a dense state has 256 edges.
+    /// Builds the NFA of these states. Searches start at the anchored or the unanchored start, and searches for pattern
+    /// k at `start_pattern[k]`, so there are as many patterns as such starts. The call tests, in this order, the number
+    /// of states, patterns and alternates, the starts, the states that edges lead to, the order of ranges, and the
+    /// patterns; each test is of the whole list. The first test that fails determines the error. If the call fails, the
+    /// lists are dropped. It takes time linear in the states, their edges and the starts; a dense state has 256 edges.
     pub fn from_states(
         alloc: Global,
         states: Vec<State>,
@@ -372,8 +373,8 @@ impl NFA {
         )
     }
 
-    /// Makes the NFA of lists that have passed the tests of `from_states`, and computes what it keeps beside them.
-    /// The totals are those of the states. The only error is out of memory.
+    /// Builds the NFA of lists that have passed the tests of `from_states`, and computes what it keeps beside them.
+    /// `totals` must be the totals of the states. The only error is out of memory.
     fn make(
         alloc: Global,
         states: Vec<State>,
@@ -402,7 +403,7 @@ impl NFA {
         Ok(nfa)
     }
 
-    /// This NFA, which keeps the closure of one state if that has many states and no look.
+    /// Returns this NFA, which then keeps the closure of its unanchored start if that has many states and no look.
     fn keeping_closure(self) -> Result<NFA, AllocError>
         ensures { IfOk result (λ nfa. nfa ≡ self) }
     {
@@ -421,8 +422,8 @@ impl NFA {
         })
     }
 
-    /// Makes the NFA of lists that have passed the tests of `from_states`, and computes what it says of itself. It
-    /// keeps no closure yet. The totals are those of the states. The only error is out of memory.
+    /// Builds the NFA of lists that have passed the tests of `from_states`, and computes its properties. It keeps no
+    /// closure yet. `totals` must be the totals of the states. The only error is out of memory.
     fn plain(
         alloc: Global,
         states: Vec<State>,
@@ -471,7 +472,7 @@ impl NFA {
         }
     }
 
-    /// The states, state k at index k.
+    /// Returns the states, with state k at index k.
     pub fn states(&self) -> &[State]
         ensures same { result.now ≡ self.now.states }
         ensures checked { IsChecked self.now }
@@ -479,7 +480,7 @@ impl NFA {
         self.data.states.as_slice()
     }
 
-    /// The state with this ID, which has to be below the number of `states`.
+    /// Returns the state with this ID, which must be below the number of `states`.
     pub fn state(&self, id: StateID) -> &State
         requires { id < length self.now.states }
         ensures same { slice_get self.now.states id ≡ Some result.now }
@@ -488,7 +489,7 @@ impl NFA {
         &self.data.states[id.as_usize()]
     }
 
-    /// Where a search of this anchored mode starts. A pattern that the NFA does not have has no start.
+    /// Returns the state where a search in this anchored mode starts, or none for a pattern that the NFA does not have.
     pub fn start(&self, mode: Anchored) -> Option<StateID>
         ensures same { result ≡ mode_start self.now mode }
         ensures below { (q : ℕ) → result ≡ Some q → q < length self.now.states }
@@ -500,21 +501,21 @@ impl NFA {
         }
     }
 
-    /// Where an anchored search starts.
+    /// Returns the state where an anchored search starts.
     pub fn start_anchored(&self) -> StateID
         ensures { result ≡ self.now.start_anchored }
     {
         self.data.start_anchored
     }
 
-    /// Where an unanchored search starts.
+    /// Returns the state where an unanchored search starts.
     pub fn start_unanchored(&self) -> StateID
         ensures { result ≡ self.now.start_unanchored }
     {
         self.data.start_unanchored
     }
 
-    /// The closure that the NFA keeps, with what powerset states have of it, if it keeps one.
+    /// Returns the kept closure, with what powerset states keep of it, or none if the NFA does not keep one.
     #[inline(always)]
     pub(crate) fn kept_closure(&self) -> Option<&KeptClosure>
         ensures { IfSome result (λ kept. IsKeptClosure self.now kept.now) }
@@ -525,21 +526,22 @@ impl NFA {
         }
     }
 
-    /// How many patterns there are.
+    /// Returns the number of patterns.
     pub fn pattern_len(&self) -> usize
         ensures { result ≡ length self.now.start_pattern }
     {
         self.data.start_pattern.len()
     }
 
-    /// Where an anchored search for the pattern starts. A pattern that the NFA does not have has no start.
+    /// Returns the state where an anchored search for the pattern starts, or none for a pattern that the NFA does not
+    /// have.
     pub fn start_pattern(&self, pattern: PatternID) -> Option<StateID>
         ensures { result ≡ slice_get self.now.start_pattern pattern }
     {
         self.data.start_pattern.get(pattern.as_usize()).copied()
     }
 
-    /// Where anchored searches for each pattern start, in the order of the patterns.
+    /// Returns the states where anchored searches for each pattern start, in the order of the patterns.
     pub fn pattern_starts(&self) -> &[StateID]
         ensures same { result.now ≡ self.now.start_pattern }
         ensures few { length self.now.start_pattern ≤ 2 ^ 27 }
@@ -547,9 +549,9 @@ impl NFA {
         self.data.start_pattern.as_slice()
     }
 
-    /// This NFA, which from then on keeps unions in the states of its lazy DFAs if a cycle of epsilon transitions
-    /// passes a look. Searches are proved to answer by the ordered paths of every NFA that this returns. It changes
-    /// nothing if there is no such cycle, and allocates nothing.
+    /// Returns this NFA, which then keeps unions in the states of its lazy DFAs if a cycle of epsilon transitions
+    /// passes a look. For every NFA that this returns, searches are proved to answer by the ordered paths. The call
+    /// changes nothing if there is no such cycle, and allocates nothing.
     pub fn keeping_unions(self) -> NFA
         ensures same { IsKeepingUnions self result }
         ensures keeps { KeepsCycles (nfa_of result) }
@@ -582,7 +584,7 @@ impl NFA {
         self.keeps_unions
     }
 
-    /// The flags of the NFA.
+    /// Returns the flags of the NFA.
     pub fn flags(&self) -> Flags
         ensures { result ≡ self.now.flags }
     {
@@ -596,14 +598,14 @@ impl NFA {
         self.data.flags.utf8
     }
 
-    /// Whether it matches the reversed texts.
+    /// Whether the NFA matches reversed text.
     pub fn is_reverse(&self) -> bool
         ensures { result ≡ self.now.flags.reverse }
     {
         self.data.flags.reverse
     }
 
-    /// The looks that occur in the NFA.
+    /// Returns the looks that occur in the NFA.
     pub fn look_set_any(&self) -> LookSet
         ensures same { IsLooks self.now result }
         ensures occurs { (look : Look) → (truth_of result look ≡ true) ↔ Occurs (nfa_of self.now) look }
@@ -611,8 +613,8 @@ impl NFA {
         self.data.looks
     }
 
-    /// Whether epsilon transitions lead from the start of some pattern to a match, looks taken as true. So it is true
-    /// if the empty match can be found; it may also be true if looks never hold there.
+    /// Whether epsilon transitions lead from the start of some pattern to a match, with every look taken as true. So it
+    /// is true if the empty match can be found; it may also be true if it cannot, because some look never holds there.
     pub fn has_empty(&self) -> bool
         ensures { IsTrue result ↔ HasEmpty self.now }
     {
@@ -634,11 +636,12 @@ impl NFA {
         self.data.skips_lazily
     }
 
-    /// Whether no cycle of epsilon transitions passes a look. Then searches are proved to answer by the ordered paths;
-    /// with such a cycle they do if the NFA keeps unions (`NFA::keeping_unions`). It is computed when the NFA is made.
+    /// Whether no cycle of epsilon transitions passes a look. If so, searches are proved to answer by the ordered
+    /// paths; with such a cycle, they are if the NFA keeps unions (`NFA::keeping_unions`). The result is computed when
+    /// the NFA is built.
     ///
-    /// An NFA of a regular expression passes a look twice at one place only if something that may be empty and has a
-    /// look is repeated, as in `(?:\b|a)*`.
+    /// The NFA of a regular expression has such a cycle only if the expression repeats something that has a look and
+    /// may match the empty string, as in `(?:\b|a)*`.
     pub fn is_look_acyclic(&self) -> bool
         ensures { IsTrue result ↔ IsLookAcyclic (nfa_of self.now) }
     {
@@ -646,11 +649,11 @@ impl NFA {
     }
 
     /// Whether every path that is not empty, from the anchored start or the start of a pattern to a match state, reads
-    /// valid UTF-8, from the start of the haystack to its end. Searches for spans need it in UTF-8 mode. Outside UTF-8
-    /// mode nothing is needed, and it returns `true`.
+    /// valid UTF-8 in the forward direction. Searches for spans need this in UTF-8 mode. Outside UTF-8 mode nothing is
+    /// needed, and the call returns `true`.
     ///
-    /// Looks are taken as true. So `true` is right for every NFA, and `false` for every NFA without looks. The NFA of
-    /// `\z\xFF` has no such path, since no byte follows the end of a haystack, and yet it returns `false`.
+    /// Every look is taken as true. So `true` is right for every NFA, and `false` is right for every NFA without looks.
+    /// The NFA of `\z\xFF` has no such path, since no byte follows the end of a haystack, but the call returns `false`.
     ///
     /// It takes time and memory linear in the states and their edges.
     pub fn keeps_utf8(&self) -> Result<bool, AllocError>
@@ -667,8 +670,8 @@ impl NFA {
         self.reads_utf8(&FORWARD)
     }
 
-    /// Whether match states are reached from the anchored start and those of the patterns only between two characters,
-    /// by the decoder of these classes.
+    /// Whether match states are reached from the anchored start and the starts of the patterns only between two
+    /// characters, by the decoder with these classes.
     fn reads_utf8(&self, classes: &[Class]) -> Result<bool, AllocError>
         requires { classes_below classes.now ≡ true }
         ensures ends { IfOk result (λ reads. IsTrue reads
@@ -684,7 +687,8 @@ impl NFA {
         )
     }
 
-    /// How many states may wait on the stack of a closure: one, and each alternate of a union except its first.
+    /// Returns the most states that the stack of a closure may hold: one, and each alternate of a union except its
+    /// first.
     pub fn room(&self) -> usize
         ensures number { result ≡ stack_room self.now.states }
         ensures few { result ≤ 2147483649 }
@@ -692,27 +696,27 @@ impl NFA {
         self.data.room
     }
 
-    /// The reversed NFA: reading backward, it accepts what this one accepts from its anchored start, each part of a
-    /// haystack by the same patterns. A regex finds with it where a match starts; `regex::Builder::build_from_nfa`
-    /// makes both at once.
+    /// Returns the reversed NFA. Reading backward, it accepts what this NFA accepts from its anchored start: each part
+    /// of a haystack, by the same patterns. A regex uses it to find where a match starts;
+    /// `regex::Builder::build_from_nfa` makes both at once.
     ///
-    /// It is for anchored searches under `MatchKind::All`, and has one start for both anchored modes. A search of it
-    /// for pattern k accepts what this NFA accepts by pattern k. Its reverse flag is flipped, and its other flags are
-    /// the same. Reversing takes time linear in the NFA and in the reversed one.
+    /// It is meant for anchored searches under `MatchKind::All`, and its anchored and unanchored starts are the same
+    /// state. With it, a search for pattern k accepts what this NFA accepts by pattern k. Its reverse flag is flipped,
+    /// and its other flags are the same. Reversing takes time linear in the sizes of both NFAs.
     ///
-    /// The reversed NFA has, for each pattern, states for what is reached from the anchored start and leads to a match
+    /// For each pattern, the reversed NFA has states for what is reached from the anchored start and leads to a match
     /// of the pattern: one for each such state, and one for each edge that reads a byte or tests a look. So it has at
-    /// most `(P + 1) * (n + r + 2)` states, where P counts patterns, n states, and r such edges. Neighbouring bytes of
-    /// a `Dense` state that lead to one state are one edge.
+    /// most `(P + 1) * (n + r + 2)` states, where P is the number of patterns, n of states, and r of such edges.
+    /// Adjacent bytes of a `Dense` state that lead to the same state count as one edge.
     ///
-    /// Where many edges that read bytes lead to one state, as to the match of a large class of characters, one state
-    /// reads in place of theirs, and others of them stand for the states that a byte leads to. The states are as many
-    /// as before.
+    /// Where many edges that read bytes lead to one state, as to the match of a large class of characters, a single
+    /// state reads in place of the states of these edges, and some of those are reused for the sets of states that a
+    /// byte leads to. The number of states stays the same.
     ///
     /// It fails if the empty match is reached from the start of a pattern and not from the anchored start, or the other
-    /// way round, since then the two would not omit the same empty matches in UTF-8 mode; if by that bound, or a like
-    /// one for alternates, the reversed NFA might be too large; and if an allocation fails. A regex of the two also
-    /// needs `skips_lazily` of this NFA.
+    /// way round, since then the two would not omit the same empty matches in UTF-8 mode; if by that bound, or a
+    /// similar one for alternates, the reversed NFA might be too large; and if an allocation fails. A regex of the two
+    /// also needs this NFA to skip lazily (`skips_lazily`).
     ///
     /// ```text
     /// let reverse = forward.reversed()?;
@@ -743,8 +747,8 @@ impl NFA {
         Ok(begins == self.has_empty())
     }
 
-    /// The reversed NFA of these states, with the reverse flag flipped and the other flags as they are here. If its
-    /// unions have too many alternates, it fails with `TooLarge`.
+    /// Builds the reversed NFA of these states, with the reverse flag flipped and the other flags of this NFA
+    /// unchanged. If its unions have too many alternates, it fails with `TooLarge`.
     fn mirrored(&self, mirror: Mirror) -> Result<NFA, ReverseError>
         requires fit { IsFit
             self.now.states (length self.now.start_pattern) mirror.states.items mirror.entries.items mirror.root }
@@ -773,7 +777,7 @@ impl NFA {
         }
     }
 
-    /// The allocator of the NFA.
+    /// Returns the allocator of the NFA.
     pub fn alloc(&self) -> Global {
         self.alloc
     }

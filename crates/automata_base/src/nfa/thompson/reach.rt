@@ -1,4 +1,4 @@
-//! Which states edges reach, and what an NFA says of itself by that.
+//! The states that edges reach, and the properties of an NFA that follow from them.
 ghost use Rattle.std.specs.Prelude.{◌≡◌, ◌<◌, ◌≤◌, ◌^◌, ◌↔◌, ℕ, [], ◌∷◌, true, length, get_or, IfOk, IsTrue, Some};
 ghost use Rattle.std.specs.Prelude.{List, None, take};
 ghost use Rattle.automata_base.specs.Lists.{all_below, In};
@@ -40,7 +40,7 @@ pub fn add(set: &mut SparseSet, id: StateID)
     set.insert(id);
 }
 
-/// Adds those of the states that are not members, in their order.
+/// Adds the states that are not members, in their order.
 pub fn add_ids(set: &mut SparseSet, ids: &[StateID])
     requires { all_below set.old.capacity ids.now ≡ true }
     ensures items { set.new.items ≡ once_from set.old.items ids.now }
@@ -60,7 +60,7 @@ fn add_next(set: &mut SparseSet, transition: &Transition)
     add(set, transition.next);
 }
 
-/// Adds the states that the edges lead to, those that are not members, in the order of the edges.
+/// Adds the states that the edges lead to and that are not members, in the order of the edges.
 fn add_nexts(set: &mut SparseSet, transitions: &[Transition])
     requires { transitions_below set.old.capacity transitions.now ≡ true }
     ensures items { set.new.items ≡ once_from set.old.items (nexts (ranges_of transitions.now)) }
@@ -71,7 +71,7 @@ fn add_nexts(set: &mut SparseSet, transitions: &[Transition])
     }
 }
 
-/// Adds a target of a dense state, if it is not a member. Target 0 stands for no edge.
+/// Adds a target of a dense state, if it is not a member. Target 0 means that there is no edge.
 fn add_dense(set: &mut SparseSet, target: StateID)
     requires { target < set.old.capacity }
     ensures items { set.new.items ≡ once_from set.old.items (nexts (dense_from 0 (target ∷ []))) }
@@ -83,7 +83,7 @@ fn add_dense(set: &mut SparseSet, target: StateID)
     add(set, target);
 }
 
-/// Adds the targets of a dense state, those that are not members, in the order of its bytes.
+/// Adds the targets of a dense state that are not members, in the order of its bytes.
 fn add_all_dense(set: &mut SparseSet, targets: &[StateID])
     requires { all_below set.old.capacity targets.now ≡ true }
     ensures items { set.new.items ≡ once_from set.old.items (nexts (dense_from 0 targets.now)) }
@@ -94,7 +94,7 @@ fn add_all_dense(set: &mut SparseSet, targets: &[StateID])
     }
 }
 
-/// Adds the states that epsilon edges lead to from this state, looks taken as true.
+/// Adds the states that epsilon edges lead to from this state, with every look taken as true.
 fn add_epsilon_targets(set: &mut SparseSet, state: &State)
     requires { state_below set.old.capacity state.now ≡ true }
     ensures items { set.new.items ≡ once_from set.old.items (children_at (node_of state.now) all_true) }
@@ -136,7 +136,7 @@ pub fn add_targets(set: &mut SparseSet, state: &State, edges: Edges)
     }
 }
 
-/// The member at this index, in the order in which members were added, or none if there are fewer.
+/// Returns the member at this index, in the order in which members were added, or none if there are fewer.
 pub fn member(set: &SparseSet, at: usize) -> Option<StateID>
     ensures some { (id : ℕ) → result ≡ Some id
         → (at < length set.now.items) × (id ≡ get_or set.now.items at id)
@@ -150,8 +150,8 @@ pub fn member(set: &SparseSet, at: usize) -> Option<StateID>
     Some(items[at])
 }
 
-/// Adds the states that the edges reach from the members. The first `done` of them lead to members only, as after a
-/// walk that ended, and are not visited again.
+/// Adds the states that the edges reach from the members. The first `done` members must lead only to members, as after
+/// a walk that ended; they are not visited again.
 pub fn walk_on(set: &mut SparseSet, states: &[State], edges: Edges, done: usize)
     requires few { length states.now ≤ 2 ^ 27 }
     requires range { states_below (length states.now) states.now ≡ true }
@@ -168,7 +168,7 @@ pub fn walk_on(set: &mut SparseSet, states: &[State], edges: Edges, done: usize)
     }
 }
 
-/// Makes the set those states that the edges reach from the roots, the roots among them.
+/// Sets `set` to the states that the edges reach from the roots, including the roots.
 pub fn walk(set: &mut SparseSet, states: &[State], roots: &[StateID], edges: Edges)
     requires few { length states.now ≤ 2 ^ 27 }
     requires range { states_below (length states.now) states.now ≡ true }
@@ -182,7 +182,7 @@ pub fn walk(set: &mut SparseSet, states: &[State], roots: &[StateID], edges: Edg
     walk_on(set, states, edges, 0);
 }
 
-/// The states that the edges reach from the roots, the roots among them.
+/// Returns the states that the edges reach from the roots, including the roots.
 pub fn reach(
     alloc: Global,
     states: &[State],
@@ -220,7 +220,7 @@ fn is_some_match(states: &[State], ids: &[StateID]) -> bool
     false
 }
 
-/// An empty set with room for all states.
+/// Returns an empty set with room for all states.
 pub fn set_for(alloc: Global, states: &[State]) -> Result<SparseSet, AllocError>
     requires few { length states.now ≤ 2 ^ 27 }
     ensures { IfOk result (λ set. set.capacity ≡ length states.now) }
@@ -229,7 +229,7 @@ pub fn set_for(alloc: Global, states: &[State]) -> Result<SparseSet, AllocError>
     Ok(set)
 }
 
-/// Whether epsilon edges lead from some root to a match. The walk takes the set for those that it reaches.
+/// Whether epsilon edges lead from some root to a match. The walk overwrites the set with the states that it reaches.
 pub fn reaches_match_in(set: &mut SparseSet, states: &[State], roots: &[StateID]) -> bool
     requires few { length states.now ≤ 2 ^ 27 }
     requires range { states_below (length states.now) states.now ≡ true }
@@ -253,8 +253,8 @@ pub fn reaches_match(alloc: Global, states: &[State], roots: &[StateID]) -> Resu
     Ok(reaches_match_in(&mut set, states, roots))
 }
 
-/// Whether edges lead from the root to the target. In most NFAs only a loop of the target and the state `through` leads
-/// to these two, and then no walk is needed.
+/// Whether edges lead from the root to the target. In most NFAs, only the target and the state `through` lead to one of
+/// these two, and then no walk is needed.
 fn leads_back(
     set: &mut SparseSet,
     states: &[State],
@@ -276,7 +276,7 @@ fn leads_back(
     set.contains(target)
 }
 
-/// The second of two alternates, if the first is `first`, and none if there are not two.
+/// Returns the second of two alternates if the first is `first`, and none otherwise.
 fn second(alternates: &[StateID], first: StateID) -> Option<StateID>
     ensures { result ≡ second_of alternates.now first }
 {
@@ -286,7 +286,7 @@ fn second(alternates: &[StateID], first: StateID) -> Option<StateID>
     Some(alternates[1])
 }
 
-/// The second alternate of a union of two, if the first is `first`.
+/// Returns the second alternate of a union of two if the first is `first`, and none otherwise.
 fn second_alternate(state: &State, first: StateID) -> Option<StateID>
     ensures { result ≡ second_at (node_of state.now) first }
 {
@@ -297,14 +297,14 @@ fn second_alternate(state: &State, first: StateID) -> Option<StateID>
     }
 }
 
-/// Whether the range has each byte and leads to the target.
+/// Whether the range contains every byte and leads to the target.
 fn is_whole(lo: u8, hi: u8, next: StateID, target: StateID) -> bool
     ensures { IsTrue result ↔ (Read (record { lo = lo; hi = hi; next = next } ∷ []) ≡ any_byte target) }
 {
     lo == 0 && hi == 255 && next == target
 }
 
-/// Whether these are one range, which has each byte and leads to the target.
+/// Whether there is exactly one range, which contains every byte and leads to the target.
 fn are_whole(ranges: &[Transition], target: StateID) -> bool
     ensures { IsTrue result ↔ (Read (ranges_of ranges.now) ≡ any_byte target) }
 {
@@ -332,8 +332,8 @@ fn is_any_byte(state: &State, target: StateID) -> bool
     }
 }
 
-/// Whether the two starts are one state, or the unanchored one is a lazy loop over any bytes before the anchored one.
-/// A walk takes the set for those that it reaches.
+/// Whether the two starts are the same state, or the unanchored one is a lazy loop over any bytes before the anchored
+/// one. It may overwrite the set, for a walk.
 pub fn skips_lazily(
     set: &mut SparseSet,
     states: &[State],

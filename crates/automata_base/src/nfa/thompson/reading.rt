@@ -1,4 +1,4 @@
-//! What one state of an NFA has: its look, its pattern, and where it leads.
+//! The parts of a single NFA state: its look, its pattern, and its targets.
 ghost use Rattle.std.specs.Prelude.{◌≡◌, ◌<◌, ◌||◌, ◌&&◌, eqb, Some, slice_get};
 ghost use Rattle.std.specs.Prelude.{None, length, slice_get};
 ghost use Rattle.automata_base.specs.Nfas.Accepted.{IsChecked};
@@ -19,8 +19,8 @@ use crate::util::look::LookSet;
 use crate::util::primitives::{PatternID, StateID};
 use crate::util::search::MatchKind;
 
-/// The state with this ID, which has to be below the number of states. A loop takes the NFA's states once, before it,
-/// and finds each by one load.
+/// Returns the state with this ID, which must be below the number of states. A loop gets `states` once, before it
+/// begins, so that it reads each state with one load.
 pub fn state_at<'a>(nfa: &NFA, states: &'a [State], id: StateID) -> &'a State
     requires states { states.now ≡ nfa.now.states }
     requires id { id < length states.now }
@@ -31,7 +31,7 @@ pub fn state_at<'a>(nfa: &NFA, states: &'a [State], id: StateID) -> &'a State
     &states[id.as_usize()]
 }
 
-/// Whether a powerset state keeps the state, of an NFA whose powerset states keep unions or not.
+/// Whether powerset states keep the state. `keeps_unions` says whether they keep unions.
 pub fn is_kept(state: &State, keeps_unions: bool) -> bool
     ensures { result ≡ (stays_at (node_of state.now) || (splits_at (node_of state.now) && keeps_unions)) }
 {
@@ -47,7 +47,7 @@ pub fn is_kept(state: &State, keeps_unions: bool) -> bool
     }
 }
 
-/// The set with the state's look, if it is a look.
+/// Returns the set with the state's look added, if the state is a look.
 pub fn add_look(set: LookSet, state: &State) -> LookSet
     ensures { (other : Look) → truth_of result other
         ≡ (looks_at (λ look. eqb (look_index look) (look_index other)) (node_of state.now) || truth_of set other) }
@@ -58,7 +58,7 @@ pub fn add_look(set: LookSet, state: &State) -> LookSet
     }
 }
 
-/// The pattern of a match state.
+/// Returns the pattern of a match state, or none for any other state.
 pub fn pattern_of(state: &State) -> Option<PatternID>
     ensures { result ≡ accepts_at (node_of state.now) }
 {
@@ -68,7 +68,7 @@ pub fn pattern_of(state: &State) -> Option<PatternID>
     }
 }
 
-/// The target of a look.
+/// Returns the target of a look, or none for any other state.
 pub fn look_target(state: &State) -> Option<StateID>
     ensures { result ≡ look_target (node_of state.now) }
 {
@@ -78,7 +78,8 @@ pub fn look_target(state: &State) -> Option<StateID>
     }
 }
 
-/// The target of the epsilon edge of this number, looks taken as true.
+/// Returns the target of the epsilon edge with this number, or none if there is no such edge. Every look is taken as
+/// true.
 pub fn epsilon_target(state: &State, edge: usize) -> Option<StateID>
     ensures same { result ≡ slice_get (children_at (node_of state.now) all_true) edge }
     ensures few { result ≡ None ⊎ edge < 2 ^ 63 }
@@ -99,7 +100,7 @@ fn has(t: &Transition, u: u8) -> bool
     t.lo <= u && u <= t.hi
 }
 
-/// The state that a sparse state leads to on a byte, by the first range that contains it.
+/// Returns the state that a sparse state leads to on a byte, by the first range that contains it, or none.
 fn sparse_target(transitions: &[Transition], u: u8) -> Option<StateID>
     ensures { result ≡ takes_in (ranges_of transitions.now) u }
 {
@@ -111,14 +112,14 @@ fn sparse_target(transitions: &[Transition], u: u8) -> Option<StateID>
     None
 }
 
-/// Whether the ID is 0, which stands for no edge among the targets of a dense state.
+/// Whether the ID is 0, which as a target of a dense state means that there is no edge.
 fn is_zero(id: StateID) -> bool
     ensures { result ≡ eqb id 0 }
 {
     id.as_usize() == 0
 }
 
-/// The state that a dense state leads to on a byte. Target 0 stands for no edge.
+/// Returns the state that a dense state leads to on a byte, or none. Target 0 means that there is no edge.
 fn dense_target(targets: &[StateID; 256], u: u8) -> Option<StateID>
     ensures { result ≡ takes_in (dense_from 0 targets.now) u }
 {
@@ -127,7 +128,7 @@ fn dense_target(targets: &[StateID; 256], u: u8) -> Option<StateID>
     if is_zero(next) { None } else { Some(next) }
 }
 
-/// The target of the byte edge on a byte.
+/// Returns the state that a state leads to on a byte, or none.
 pub fn target(state: &State, u: u8) -> Option<StateID>
     ensures { result ≡ takes_at (node_of state.now) u }
 {

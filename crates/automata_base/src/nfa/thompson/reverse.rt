@@ -1,4 +1,4 @@
-//! The states of a reversed NFA, and the NFA of them.
+//! The states of a reversed NFA, and the NFA that is built of them.
 ghost use Rattle.std.specs.Prelude.{◌≡◌, ◌<◌, ◌≤◌, ◌+◌, ◌*◌, ◌^◌, ◌++◌, [], ◌∷◌, true, IfOk, Err, length, sum_by};
 ghost use Rattle.automata_base.specs.Retraced.Copies.{IsFit};
 ghost use Rattle.automata_base.specs.Lists.{all_below, Distinct};
@@ -17,7 +17,7 @@ use crate::nfa::thompson::{Flags, NFA, NfaError, ReverseError, State};
 use crate::util::primitives::StateID;
 use std::alloc::Global;
 
-/// Why an NFA cannot be reversed, by why its states cannot be made.
+/// Returns the error of reversing an NFA whose states cannot be made.
 pub fn reverse_error(error: MakeError) -> ReverseError
     ensures large { result ≡ ReverseError.TooLarge → error ≡ MakeError.TooLarge }
     ensures starts { result ≡ ReverseError.Starts → ⊥ }
@@ -28,9 +28,9 @@ pub fn reverse_error(error: MakeError) -> ReverseError
     }
 }
 
-/// The reversed states of what is reached: for each state the union of what its edges are reversed to, and after these
-/// a state for each reversed edge that reads a byte or tests a look. If there are more than 2^27, it fails with
-/// `TooLarge`.
+/// Returns the reversed states of those that are reached: for each state of the NFA, the union of the reversed edges to
+/// it, and after these a state for each reversed edge that reads a byte or tests a look. If there are more than 2^27,
+/// it fails with `TooLarge`.
 fn turned_states(
     alloc: Global,
     states: &[State],
@@ -64,8 +64,8 @@ pub struct Mirror {
     pub root: StateID,
 }
 
-/// Adds the root after the parts of the patterns: a union that goes on to their entries. If there are 2^27 states
-/// before, it fails with `TooLarge`.
+/// Adds the root after the parts of the patterns: the union of their entries. If there are 2^27 states already, it
+/// fails with `TooLarge`.
 fn rooted(alloc: Global, parts: Parts) -> Result<Mirror, MakeError>
     ensures nodes { IfOk result (λ m. nodes_of m.states.items
         ≡ nodes_of parts.states.items ++ Node.Split parts.entries.items ∷ []) }
@@ -91,7 +91,7 @@ fn rooted(alloc: Global, parts: Parts) -> Result<Mirror, MakeError>
     })
 }
 
-/// Makes the states of the reversed NFA of what is reached from the first state.
+/// Makes the states of the reversed NFA, for the states that are reached from `first`.
 pub fn reverse_states(
     alloc: Global,
     states: &[State],
@@ -126,7 +126,7 @@ impl NFA {
     ghost use Rattle.automata_base.specs.Retraced.Copies.{IsFit};
     ghost use Rattle.automata_base.specs.Retraced.ReversedEdges.{AreReversed};
 
-    /// The states of the reversed NFA.
+    /// Returns the states of the reversed NFA.
     pub(super) fn mirror(&self) -> Result<Mirror, ReverseError>
         ensures reversed { IfOk result (λ m. AreReversed self.now.states self.now.start_anchored
             (length self.now.start_pattern) m.states.items m.entries.items m.root) }
@@ -144,8 +144,8 @@ impl NFA {
         }
     }
 
-    /// The reversed NFA of these states with their wide unions folded. It is none if there are not enough free states
-    /// or too many alternates then.
+    /// Returns the reversed NFA of these states with its wide unions folded, or none if there are not enough free
+    /// states, or too many alternates after folding.
     pub(super) fn folded(&self, mirror: Mirror) -> Result<Option<NFA>, ReverseError>
         requires { IsFit
             self.now.states (length self.now.start_pattern) mirror.states.items mirror.entries.items mirror.root }
@@ -177,7 +177,8 @@ impl NFA {
         }
     }
 
-    /// The reversed NFA, if the starts begin alike. If they do not, it fails with `Starts` and asks for no memory.
+    /// Returns the reversed NFA, if the starts begin alike. If they do not, it fails with `Starts` and allocates
+    /// nothing.
     pub(super) fn reversed_if(&self, alike: bool) -> Result<NFA, ReverseError>
         requires { IsTrue alike ↔ BeginsAlike self.now }
         ensures turned { IfOk result (λ reversed. IsReversalOf self.now reversed) }

@@ -1,4 +1,4 @@
-//! Ranges of bytes that lead to states, in a tree, so that a byte finds the states of all ranges that contain it.
+//! A segment tree of byte ranges that lead to states. It gives, for a byte, the states of all ranges that contain it.
 ghost use Rattle.std.specs.Prelude.{ℕ, ◌≡◌, ◌<◌, ◌≤◌, ◌+◌, ◌⊎◌, ◌↔◌, IfOk, OnOk, length};
 ghost use Rattle.automata_base.specs.Retraced.ReversedEdges.{lists_of, no_lists};
 ghost use Rattle.automata_base.specs.Retraced.Segments.{IsOnWay, IsPutFirst, IsPutLast};
@@ -7,17 +7,17 @@ use crate::nfa::thompson::turn::{no_lists, push_at};
 use crate::util::primitives::StateID;
 use std::alloc::{AllocError, Global};
 
-/// How many nodes the tree has, with node 0, which is not used.
+/// The number of nodes of the tree, including node 0, which is not used.
 pub const NODES: usize = 512;
 
-/// How many leaves it has, one for each byte.
+/// The number of leaves of the tree, one for each byte.
 pub const LEAVES: usize = 256;
 
-/// For how many states a node has room at first.
+/// The number of states that a node has room for at first.
 const FIRST: usize = 16;
 
-/// The lists of a segment tree over the bytes, all of them empty: for each node the states to which all bytes below it
-/// lead. Node 1 is its root, the children of a node k are 2k and 2k + 1, and the leaf of a byte u is the node 256 + u.
+/// Returns the lists of an empty segment tree over the bytes. The list of a node is for the states that all bytes below
+/// it lead to. Node 1 is the root, the children of node k are 2k and 2k + 1, and the leaf of byte u is node 256 + u.
 pub fn no_segments(alloc: Global) -> Result<Vec<Vec<StateID>>, AllocError>
     ensures none { IfOk result (λ v. lists_of v.items ≡ no_lists 512) }
     ensures few { IfOk result (λ v. length v.items ≡ 512) }
@@ -25,7 +25,7 @@ pub fn no_segments(alloc: Global) -> Result<Vec<Vec<StateID>>, AllocError>
     no_lists(alloc, NODES)
 }
 
-/// Makes room for some states at a node, if it has none.
+/// Reserves room for some states at a node whose list is empty.
 fn make_room(lists: &mut Vec<Vec<StateID>>, node: usize) -> Result<(), AllocError>
     requires { node < length lists.old.items }
     ensures same { OnOk result (lists_of lists.new.items ≡ lists_of lists.old.items) }
@@ -37,8 +37,8 @@ fn make_room(lists: &mut Vec<Vec<StateID>>, node: usize) -> Result<(), AllocErro
     Ok(())
 }
 
-/// Adds the state to the node where a row of nodes begins, if the node is not the first child of its parent, and gives
-/// where the row then begins.
+/// Adds the state to the first node of a row of nodes, if it is not the first child of its parent, and returns the node
+/// where the rest of the row begins.
 fn put_first(lists: &mut Vec<Vec<StateID>>, left: usize, next: StateID) -> Result<usize, AllocError>
     requires { left < length lists.old.items }
     ensures put { IfOk result
@@ -53,8 +53,8 @@ fn put_first(lists: &mut Vec<Vec<StateID>>, left: usize, next: StateID) -> Resul
     Ok(left + 1)
 }
 
-/// Adds the state to the last node of a row, if the node is the first child of its parent, and gives where the row then
-/// ends: at the node after its last one.
+/// Adds the state to the last node of a row of nodes, if it is the first child of its parent, and returns where the
+/// rest of the row ends: the node after its last one.
 fn put_last(lists: &mut Vec<Vec<StateID>>, end: usize, next: StateID) -> Result<usize, AllocError>
     requires few { end ≤ length lists.old.items }
     ensures put { IfOk result (λ last. IsPutLast (lists_of lists.old.items) (lists_of lists.new.items) end next last) }
@@ -68,8 +68,8 @@ fn put_last(lists: &mut Vec<Vec<StateID>>, end: usize, next: StateID) -> Result<
     Ok(end - 1)
 }
 
-/// Adds that the bytes from `lo` to `hi` lead to a state, to at most sixteen nodes: those below which there are no
-/// other bytes, and whose parents have others.
+/// Adds a state for the bytes from `lo` to `hi`, to at most sixteen nodes: those that have no other bytes below them,
+/// and whose parents do.
 pub fn put_range(
     lists: &mut Vec<Vec<StateID>>,
     lo: u8,

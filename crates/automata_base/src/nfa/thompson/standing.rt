@@ -1,4 +1,4 @@
-//! Whether the states of one NFA stand for lists of those of another one, of which some unions were merged.
+//! A test whether the states of a merged NFA stand for lists of the states of the NFA that it was made from.
 ghost use Rattle.std.specs.Prelude.{ℕ, ◌≡◌, ◌<◌, ◌≤◌, ◌++◌, List, IfOk, IfSome, IsTrue, length, false, ◌+◌, []};
 ghost use Rattle.std.specs.Prelude.{Some};
 ghost use Rattle.automata_base.specs.Lists.{In, cons_some};
@@ -15,17 +15,18 @@ use crate::nfa::thompson::{NFA, State};
 use crate::util::primitives::StateID;
 use std::alloc::AllocError;
 
-/// How many states a list has at most if their targets are read byte by byte, without rows of them.
+/// The greatest length of a list whose targets are compared byte by byte, without making rows.
 const SHORT: usize = 16;
 
-/// What comes in a list after a part of it, if the list begins with that.
+/// Returns what comes after `part` in a list, or none if the list does not begin with it.
 fn after<'a>(part: &[StateID], list: &'a [StateID]) -> Option<&'a [StateID]>
     ensures { IfSome result (λ rest. list.now ≡ part.now ++ rest.now) }
 {
     list.strip_prefix(part)
 }
 
-/// What comes in a list after the states for which the state with this ID stands, if the list begins with those.
+/// Returns what comes in a list after the states that the state with this ID stands for, or none if the list does not
+/// begin with them.
 fn after_stood_for<'a>(
     lists: &[Vec<StateID>],
     count: usize,
@@ -45,7 +46,7 @@ fn after_stood_for<'a>(
     None
 }
 
-/// Whether the state with this ID stands for just these states.
+/// Whether the state with this ID stands for exactly these states.
 pub fn stands_for(lists: &[Vec<StateID>], count: usize, id: StateID, list: &[StateID]) -> bool
     ensures { IsTrue result → stood_for count (lists_of lists.now) id ≡ list.now }
 {
@@ -55,7 +56,7 @@ pub fn stands_for(lists: &[Vec<StateID>], count: usize, id: StateID, list: &[Sta
     }
 }
 
-/// Whether the states with these IDs stand for the parts of a list, one after another.
+/// Whether the states with these IDs stand, in order, for the parts of a list.
 fn stand_for(lists: &[Vec<StateID>], count: usize, ids: &[StateID], list: &[StateID]) -> bool
     ensures { IsTrue result → all_stood_for count (lists_of lists.now) ids.now ≡ list.now }
 {
@@ -69,7 +70,7 @@ fn stand_for(lists: &[Vec<StateID>], count: usize, ids: &[StateID], list: &[Stat
     rest.is_empty()
 }
 
-/// Whether a target stands for just these states. No target stands for none.
+/// Whether a target stands for exactly these states. If there is no target, the list must be empty.
 fn leads_to(lists: &[Vec<StateID>], count: usize, target: Option<StateID>, row: &[StateID]) -> bool
     ensures { IsTrue result → target_for count (lists_of lists.now) target ≡ row.now }
 {
@@ -79,7 +80,7 @@ fn leads_to(lists: &[Vec<StateID>], count: usize, target: Option<StateID>, row: 
     }
 }
 
-/// Whether the state leads on each byte to what stands for the row of the byte.
+/// Whether, on each byte, the state leads to a state that stands for the byte's row.
 fn leads_to_rows(lists: &[Vec<StateID>], count: usize, state: &State, rows: &[Vec<StateID>]) -> bool
     ensures { IsTrue result → (u : ℕ) → u < 256 → (u < length rows.now)
         × (target_for count (lists_of lists.now) (takes_at (node_of state.now) u) ≡ list_at (lists_of rows.now) u) }
@@ -133,7 +134,7 @@ fn are_plain(nfa: &NFA, list: &[StateID]) -> bool
     true
 }
 
-/// A byte below which none of these states leads anywhere.
+/// Returns a byte below which none of these states leads anywhere.
 fn least_byte(nfa: &NFA, list: &[StateID]) -> usize
     requires below { (q : ℕ) → In q list.now → q < length nfa.now.states }
     ensures { (u : ℕ) → u < result → targets (nfa_of nfa.now) (Some u) list.now ≡ [] }
@@ -146,7 +147,7 @@ fn least_byte(nfa: &NFA, list: &[StateID]) -> usize
     least
 }
 
-/// A byte from which on none of these states leads anywhere, or 256.
+/// Returns a byte from which on none of these states leads anywhere, or 256.
 fn last_end(nfa: &NFA, list: &[StateID]) -> usize
     requires below { (q : ℕ) → In q list.now → q < length nfa.now.states }
     ensures few { result ≤ 256 }
@@ -160,7 +161,8 @@ fn last_end(nfa: &NFA, list: &[StateID]) -> usize
     end
 }
 
-/// What is expected of the targets behind that of one state, if this is what is expected of it.
+/// Returns the expected targets that remain after the state's target on a byte, or none if that target is not the first
+/// of them. For a state that leads nowhere, all of them remain.
 fn after_target<'a>(state: &State, u: u8, expected: &'a [StateID]) -> Option<&'a [StateID]>
     ensures { IfSome result (λ rest. expected.now ≡ cons_some (takes_at (node_of state.now) u) rest.now) }
 {
@@ -170,7 +172,7 @@ fn after_target<'a>(state: &State, u: u8, expected: &'a [StateID]) -> Option<&'a
     }
 }
 
-/// Whether these states lead on a byte to just these targets, in order.
+/// Whether these states lead on a byte to exactly the expected targets, in order.
 fn have_targets(nfa: &NFA, list: &[StateID], u: u8, expected: &[StateID]) -> bool
     requires below { (q : ℕ) → In q list.now → q < length nfa.now.states }
     ensures { IsTrue result → expected.now ≡ targets (nfa_of nfa.now) (Some u) list.now }
@@ -186,7 +188,7 @@ fn have_targets(nfa: &NFA, list: &[StateID], u: u8, expected: &[StateID]) -> boo
     rest.is_empty()
 }
 
-/// Whether a state leads on a byte to what stands for the targets of these states.
+/// Whether, on a byte, a state leads to a state that stands for the targets of these states.
 fn leads_on(nfa: &NFA, lists: &[Vec<StateID>], state: &State, list: &[StateID], u: u8) -> bool
     requires below { (q : ℕ) → In q list.now → q < length nfa.now.states }
     ensures { IsTrue result → target_for (length nfa.now.states) (lists_of lists.now) (takes_at (node_of state.now) u)
@@ -204,7 +206,8 @@ fn leads_on(nfa: &NFA, lists: &[Vec<StateID>], state: &State, list: &[StateID], 
     at < lists.len() && have_targets(nfa, list, u, lists[at].as_slice())
 }
 
-/// Whether a state leads on each byte to what stands for the targets of these states, which are few.
+/// Whether, on each byte, a state leads to a state that stands for the targets of these states, of which there should
+/// be few.
 fn leads_for(nfa: &NFA, lists: &[Vec<StateID>], state: &State, list: &[StateID]) -> bool
     requires below { (q : ℕ) → In q list.now → q < length nfa.now.states }
     ensures { IsTrue result → (u : ℕ) → u < 256
@@ -221,7 +224,7 @@ fn leads_for(nfa: &NFA, lists: &[Vec<StateID>], state: &State, list: &[StateID])
     true
 }
 
-/// Whether a state that reads bytes leads on each byte to what stands for the targets of these states.
+/// Whether a state that reads bytes leads, on each byte, to a state that stands for the targets of these states.
 fn reads_for(
     nfa: &NFA,
     lists: &[Vec<StateID>],
@@ -263,7 +266,7 @@ fn further_read(count: usize, merged: &NFA, ids: &[StateID]) -> bool
     true
 }
 
-/// Whether a state of the merged NFA stands for the list of states of the NFA.
+/// Whether a state of the merged NFA stands for this list of states of the NFA.
 fn shows(
     nfa: &NFA,
     merged: &NFA,
@@ -287,7 +290,7 @@ fn shows(
     }
 }
 
-/// Whether two states are the same for searches. Captures are if they lead to the same state.
+/// Whether two states are the same for searches. Two captures are the same if they lead to the same state.
 fn is_same(one: &State, two: &State) -> bool
     ensures { IsTrue result → node_of two.now ≡ node_of one.now }
 {
@@ -326,7 +329,7 @@ fn is_same(one: &State, two: &State) -> bool
     }
 }
 
-/// Whether a state of the NFA is as it was, or was a union, for whose alternates it stands.
+/// Whether a state of the NFA is unchanged, or was a union and now stands for its alternates.
 fn is_old(
     nfa: &NFA,
     merged: &NFA,
@@ -346,7 +349,7 @@ fn is_old(
     }
 }
 
-/// Whether each state of the NFA is as it was, or was a union, for whose alternates it stands.
+/// Whether each state of the NFA is unchanged, or was a union and now stands for its alternates.
 fn are_old(nfa: &NFA, merged: &NFA, lists: &[Vec<StateID>]) -> Result<bool, AllocError>
     ensures { IfOk result (λ b. IsTrue b → (q : ℕ) → q < length nfa.now.states
         → IsMergedNode (nfa_of nfa.now) (nfa_of merged.now) nfa.now.start_anchored (lists_of lists.now)
@@ -365,7 +368,7 @@ fn are_old(nfa: &NFA, merged: &NFA, lists: &[Vec<StateID>]) -> Result<bool, Allo
     Ok(true)
 }
 
-/// Whether each further state stands for its list.
+/// Whether each additional state stands for its list.
 fn are_further(nfa: &NFA, merged: &NFA, lists: &[Vec<StateID>]) -> Result<bool, AllocError>
     ensures { IfOk result (λ b. IsTrue b → (k : ℕ) → k < length lists.now
         → Shows (nfa_of nfa.now) (nfa_of merged.now) nfa.now.start_anchored (lists_of lists.now)
@@ -385,7 +388,7 @@ fn are_further(nfa: &NFA, merged: &NFA, lists: &[Vec<StateID>]) -> Result<bool, 
     Ok(true)
 }
 
-/// Whether the second NFA is the first one, merged, whose further states stand for these lists.
+/// Whether the second NFA is the first with unions merged, and its additional states stand for these lists.
 pub fn is_merged(nfa: &NFA, merged: &NFA, lists: &[Vec<StateID>]) -> Result<bool, AllocError>
     requires terminator { merged.now.flags.line_terminator ≡ nfa.now.flags.line_terminator }
     requires reverse { merged.now.flags.reverse ≡ nfa.now.flags.reverse }

@@ -1,4 +1,4 @@
-//! The edges of an NFA by their targets, as a reversed NFA needs them.
+//! The edges of an NFA, grouped by target, as a reversed NFA needs them.
 ghost use Rattle.std.specs.Prelude.{ℕ, Some, ◌≡◌, ◌<◌, ◌≤◌, ◌+◌, ◌^◌, [], ◌∷◌, ◌++◌, true, IfOk, OnOk, Err, length};
 ghost use Rattle.std.specs.Prelude.{drop, None, slice_index_or, slice_get};
 ghost use Rattle.automata_base.specs.Lists.{all_below};
@@ -16,7 +16,7 @@ use crate::util::look::Look;
 use crate::util::primitives::{PatternID, StateID};
 use std::alloc::{AllocError, Global};
 
-/// The look that holds if the bytes on the two sides are exchanged and the reverse flag is flipped.
+/// Returns the look that holds if the bytes on the two sides are exchanged and the reverse flag is flipped.
 fn flip(look: Look) -> Look
     ensures { result ≡ flip look }
 {
@@ -42,7 +42,7 @@ fn flip(look: Look) -> Look
     }
 }
 
-/// Adds a state after the others of a list.
+/// Appends a state to a list.
 pub fn push_state(states: &mut Vec<State>, state: State) -> Result<(), AllocError>
     ensures items { OnOk result (states.new.items ≡ states.old.items ++ state ∷ []) }
     ensures nodes { OnOk result (nodes_of states.new.items ≡ nodes_of states.old.items ++ node_of state ∷ []) }
@@ -52,7 +52,7 @@ pub fn push_state(states: &mut Vec<State>, state: State) -> Result<(), AllocErro
     Ok(())
 }
 
-/// A number of lists, all of them empty.
+/// Returns `count` empty lists.
 pub fn no_lists(alloc: Global, count: usize) -> Result<Vec<Vec<StateID>>, AllocError>
     ensures none { IfOk result (λ v. lists_of v.items ≡ no_lists count) }
     ensures few { IfOk result (λ v. length v.items ≡ count) }
@@ -64,7 +64,7 @@ pub fn no_lists(alloc: Global, count: usize) -> Result<Vec<Vec<StateID>>, AllocE
     Ok(lists)
 }
 
-/// Adds a state after the others of the list at an index.
+/// Appends a state to the list at an index.
 pub fn push_at(lists: &mut Vec<Vec<StateID>>, at: usize, id: StateID) -> Result<(), AllocError>
     requires { at < length lists.old.items }
     ensures pushed { OnOk result (lists_of lists.new.items ≡ push_at (lists_of lists.old.items) at id) }
@@ -84,7 +84,7 @@ fn ends_in(ids: &[StateID], id: StateID) -> bool
     }
 }
 
-/// Adds a state after the others, unless it is the last of them.
+/// Appends a state to a list, unless it is the last of the list already.
 fn put(ids: &mut Vec<StateID>, id: StateID) -> Result<(), AllocError>
     ensures { OnOk result (ids.new.items ≡ put ids.old.items id) }
 {
@@ -95,7 +95,7 @@ fn put(ids: &mut Vec<StateID>, id: StateID) -> Result<(), AllocError>
     Ok(())
 }
 
-/// Adds a state after the others of the list at an index, unless it is the last of that list.
+/// Appends a state to the list at an index, unless it is the last of that list already.
 fn put_at(lists: &mut Vec<Vec<StateID>>, at: usize, id: StateID) -> Result<(), AllocError>
     requires { at < length lists.old.items }
     ensures put { OnOk result (lists_of lists.new.items ≡ put_at (lists_of lists.old.items) at id) }
@@ -105,7 +105,7 @@ fn put_at(lists: &mut Vec<Vec<StateID>>, at: usize, id: StateID) -> Result<(), A
     Ok(())
 }
 
-/// A copy of the state, if it reads one range of bytes, tests a look or matches, and none otherwise.
+/// Returns a copy of the state if it reads one range of bytes, tests a look or matches, and none otherwise.
 fn same(state: &State) -> Option<State>
     ensures { (other : State) → result ≡ Some other → other ≡ state.now }
 {
@@ -124,8 +124,8 @@ fn same(state: &State) -> Option<State>
     }
 }
 
-/// A copy of the helper that is the only alternate, or none if there is not one alternate alone or it is no helper. The
-/// first helper has the ID `first`.
+/// Returns a copy of the only alternate, or none if there is not exactly one or it is not a helper. The first helper
+/// has the ID `first`.
 fn only_helper(alternates: &[StateID], helpers: &[State], first: usize) -> Option<State>
     ensures { (state : State) → result ≡ Some state
         → (j : ℕ) × (alternates.now ≡ (first + j) ∷ []) × (slice_get helpers.now j ≡ Some state) }
@@ -140,8 +140,8 @@ fn only_helper(alternates: &[StateID], helpers: &[State], first: usize) -> Optio
     same(&helpers[at])
 }
 
-/// The state of these alternates: their union, or the helper itself if it is the only one. The first helper has the ID
-/// `first`.
+/// Returns the state of these alternates: their union, or a copy of the helper if that is the only one. The first
+/// helper has the ID `first`.
 fn head(alternates: Vec<StateID>, helpers: &[State], first: usize) -> State
     ensures { IsHead first helpers.now alternates.items result }
 {
@@ -151,7 +151,7 @@ fn head(alternates: Vec<StateID>, helpers: &[State], first: usize) -> State
     }
 }
 
-/// Whether a dense state leads to the same state on this byte and on the one after it. Byte 255 has none after it.
+/// Whether a dense state leads to the same state on this byte and the next one. It is false for byte 255.
 fn goes_on(targets: &[StateID; 256], byte: usize) -> bool
     requires { byte < 256 }
     ensures { result ≡ starts_with (slice_index_or targets.now byte 0) (drop (byte + 1) targets.now) }
@@ -162,7 +162,7 @@ fn goes_on(targets: &[StateID; 256], byte: usize) -> bool
 /// Why the states of a reversed NFA cannot be made.
 #[derive(Clone, Copy)]
 pub enum MakeError {
-    /// There would be too many.
+    /// There would be too many states.
     TooLarge,
     /// An allocation failed.
     OutOfMemory,
@@ -179,8 +179,8 @@ impl From<AllocError> for MakeError {
     }
 }
 
-/// For each state what leads to it, as alternates: a state, if the edge reads and tests nothing, and otherwise a
-/// helper, a state of its own that stands for the edge. The helpers come after the states.
+/// For each state, the edges that lead to it, as alternates. An edge that reads and tests nothing is represented by the
+/// state where it begins, and any other edge by a helper, a state of its own. The helpers come after the states.
 #[derive(Drop)]
 pub struct EdgesByTarget {
     lists: Vec<Vec<StateID>>,
@@ -188,7 +188,7 @@ pub struct EdgesByTarget {
 }
 
 impl EdgesByTarget {
-    /// The reversed edges of an NFA with so many states, before any edge is reversed.
+    /// Returns the reversed edges of an NFA with this number of states, before any edge is reversed.
     pub fn new(alloc: Global, states: usize) -> Result<EdgesByTarget, AllocError>
         ensures none { IfOk result (λ t. turns_of t ≡ record { lists = no_lists states; helpers = [] }) }
         ensures few { IfOk result (λ t. length t.lists.items ≡ states) }
@@ -200,7 +200,7 @@ impl EdgesByTarget {
         })
     }
 
-    /// The ID of the next helper, or none if there is no ID left.
+    /// Returns the ID of the next helper, or none if there is no ID left.
     fn next_helper(&self) -> Option<StateID>
         ensures some { (id : ℕ) → result ≡ Some id → id ≡ size (turns_of self.now) }
         ensures none { result ≡ None → 2 ^ 27 < size (turns_of self.now) }
@@ -209,7 +209,7 @@ impl EdgesByTarget {
     }
 
     /// Reverses an edge from the state `x` to `to` that reads and tests nothing. The edges of a state are reversed one
-    /// after another, so that it is no alternate twice.
+    /// after another, so that it does not become an alternate twice.
     fn turn_free(&mut self, x: StateID, to: StateID) -> Result<(), AllocError>
         requires { to < length self.old.lists.items }
         ensures turned { OnOk result (turns_of self.new ≡ turn_free (turns_of self.old) x to) }
@@ -280,7 +280,7 @@ impl EdgesByTarget {
         Ok(())
     }
 
-    /// Reverses the edge of the bytes from `lo` to `hi` of a dense state. Target 0 stands for no edge.
+    /// Reverses the edge of the bytes from `lo` to `hi` of a dense state. Target 0 means that there is no edge.
     fn turn_run(&mut self, from: StateID, lo: u8, hi: u8, target: StateID) -> Result<(), MakeError>
         requires { target < length self.old.lists.items }
         ensures turned { OnOk result (turns_of self.new
@@ -409,7 +409,7 @@ impl EdgesByTarget {
         Ok(())
     }
 
-    /// Adds a match as an alternate of the state: backward, paths end where they begin forward.
+    /// Adds a match state as an alternate of `first`: backward, paths end where they begin forward.
     pub fn report(&mut self, first: StateID) -> Result<(), MakeError>
         requires { first < length self.old.lists.items }
         ensures turned { OnOk result (turns_of self.new ≡ turn_by (turns_of self.old) (State.Match 0) first) }
@@ -423,7 +423,7 @@ impl EdgesByTarget {
         self.turn_by(helper, first)
     }
 
-    /// The states: one for each list of alternates, and after these the helpers.
+    /// Returns the states: one for each list of alternates, and after these the helpers.
     pub fn into_states(self, alloc: Global) -> Result<Vec<State>, AllocError>
         ensures { IfOk result (λ states. AreMade (turns_of self) states.items) }
     {

@@ -1,4 +1,4 @@
-//! Whether an NFA reads only valid UTF-8: a walk over its product with a decoder of UTF-8.
+//! A test whether an NFA reads only valid UTF-8: a walk over its product with a UTF-8 decoder.
 ghost use Rattle.std.specs.Prelude.{◌≡◌, ◌<◌, ◌≤◌, ◌^◌, ◌/◌, ◌*◌, ◌↔◌, ℕ, [], ◌∷◌, true, length, IfOk, IsTrue};
 ghost use Rattle.automata_base.specs.Retraced.Decoders.{pair, meets, pairs_in, range_pairs, ranges_pairs, byte_pairs};
 ghost use Rattle.automata_base.specs.Retraced.Decoders.{pairs_at, node_pairs, pairs_of, classes_below};
@@ -17,10 +17,10 @@ use crate::util::determinize::sparse_set::SparseSet;
 use crate::util::primitives::StateID;
 use std::alloc::{AllocError, Global};
 
-/// How many states a decoder has. State 0 is between two characters, and state 1 has failed.
+/// The number of states of a decoder. State 0 is between two characters, and state 1 has failed.
 const STATES: usize = 11;
 
-/// Bytes that a decoder does not distinguish, and where they lead from each of its states.
+/// A class of bytes that a decoder does not distinguish, and the state that they lead to from each of its states.
 #[derive(Clone, Copy)]
 pub struct Class {
     first: u8,
@@ -28,8 +28,9 @@ pub struct Class {
     to: [u8; STATES],
 }
 
-/// Decodes from the first byte to the last. At states 2, 3 and 4 one, two and three bytes of a character are missing.
-/// States 5 to 8 come after 0xE0, 0xED, 0xF0 and 0xF4, which restrict the next byte. States 9 and 10 are not used.
+/// The decoder that reads a character from its first byte to its last. In states 2, 3 and 4, one, two and three bytes
+/// of a character are missing. States 5 to 8 come after 0xE0, 0xED, 0xF0 and 0xF4, which restrict the next byte. States
+/// 9 and 10 are not used.
 #[rattlefmt::skip]
 pub const FORWARD: [Class; 14] = [
     Class { first: 0x00, last: 0x7F, to: [0, 1, 1, 1, 1, 1, 1, 1, 1, 1, 1] },
@@ -48,7 +49,7 @@ pub const FORWARD: [Class; 14] = [
     Class { first: 0xF5, last: 0xFF, to: [1, 1, 1, 1, 1, 1, 1, 1, 1, 1, 1] },
 ];
 
-/// The number of a pair of a state of the NFA and a state of the decoder.
+/// Returns the number of a pair of a state of the NFA and a state of the decoder.
 fn pair(state: StateID, decoder: usize) -> StateID
     requires few { state < 2 ^ 27 }
     requires decoder { decoder < 11 }
@@ -68,7 +69,7 @@ fn add_pair(set: &mut SparseSet, state: StateID, decoder: usize)
     add(set, pair(state, decoder));
 }
 
-/// Adds the pair of each of these states and the decoder's, those that are not members.
+/// Adds the pair of each of these states with the decoder's state, unless it is a member.
 fn add_pairs(set: &mut SparseSet, ids: &[StateID], decoder: usize)
     requires few { set.old.capacity ≤ 2 ^ 27 * 11 }
     requires decoder { decoder < 11 }
@@ -88,7 +89,7 @@ fn meets(class: &Class, range: &Transition) -> bool
     class.first <= range.hi && range.lo <= class.last
 }
 
-/// Adds the pair that a range leads to by the bytes of a class, if they have one in common.
+/// Adds the pair that a range leads to on the bytes of a class, if the two have a byte in common.
 fn add_class(set: &mut SparseSet, range: &Transition, class: &Class, decoder: usize)
     requires few { set.old.capacity ≤ 2 ^ 27 * 11 }
     requires decoder { decoder < 11 }
@@ -131,7 +132,7 @@ fn add_ranges(set: &mut SparseSet, ranges: &[Transition], classes: &[Class], dec
     }
 }
 
-/// Adds the pairs that a dense state leads to on the byte. Target 0 stands for no edge.
+/// Adds the pairs that a dense state leads to on the byte. Target 0 means that there is no edge.
 fn add_target(set: &mut SparseSet, byte: usize, target: StateID, classes: &[Class], decoder: usize)
     requires few { set.old.capacity ≤ 2 ^ 27 * 11 }
     requires decoder { decoder < 11 }
@@ -169,7 +170,7 @@ fn add_targets(set: &mut SparseSet, targets: &[StateID; 256], classes: &[Class],
     }
 }
 
-/// Adds the pairs that epsilon edges lead to, looks taken as true. The decoder's state stays.
+/// Adds the pairs that epsilon edges lead to, with every look taken as true. The decoder's state stays the same.
 fn add_free(set: &mut SparseSet, state: &State, decoder: usize)
     requires few { set.old.capacity ≤ 2 ^ 27 * 11 }
     requires decoder { decoder < 11 }
@@ -242,7 +243,7 @@ fn follow(set: &mut SparseSet, states: &[State], classes: &[Class])
     }
 }
 
-/// Whether the pair is at no match state, or is between two characters.
+/// Whether the pair is between two characters, or its NFA state is not a match state.
 fn is_boundary(states: &[State], id: StateID) -> bool
     requires { id / 11 < length states.now }
     ensures { IsTrue result ↔ IsBoundary states.now id }

@@ -1,4 +1,4 @@
-//! Closures: what epsilon edges reach, in the order of preference.
+//! Closures: the states that epsilon edges reach, in order of preference.
 ghost use Rattle.std.specs.Prelude.{◌≡◌, ◌+◌, ◌<◌, ◌≤◌, ◌∷◌, ◌++◌, List, ℕ, length, reverse, All, vec_len};
 ghost use Rattle.std.specs.Prelude.{vec_capacity, option_to_list, IfSome, IsTrue, IsFalse, [], drop};
 ghost use Rattle.automata_base.specs.Lists.{In};
@@ -18,7 +18,7 @@ use crate::util::determinize::sparse_set::SparseSet;
 use crate::util::look::LookSet;
 use crate::util::primitives::StateID;
 
-/// Puts the states on the stack, the first of them on top. The stack has room for them.
+/// Pushes the states on the stack, the first on top. The stack must have room for them.
 fn push_reversed(stack: &mut Vec<StateID>, states: &[StateID])
     requires { vec_len stack.old + length states.now ≤ vec_capacity stack.old }
     ensures pushed { stack.new.items ≡ stack.old.items ++ reverse states.now }
@@ -43,7 +43,7 @@ fn is_leaf(state: &State) -> bool
     }
 }
 
-/// Visits the states at the front of a list that no epsilon edge leaves, and returns how many these are.
+/// Visits the states at the front of a list that have no epsilon edges, and returns their number.
 fn visit_leaves(nfa: &NFA, list: &[StateID], set: &mut SparseSet) -> usize
     requires below { (q : ℕ) → In q list.now → q < length nfa.now.states }
     requires whole { set.old.capacity ≡ length nfa.now.states }
@@ -65,8 +65,8 @@ fn visit_leaves(nfa: &NFA, list: &[StateID], set: &mut SparseSet) -> usize
     list.len()
 }
 
-/// Returns the first state that an epsilon edge of this one leads to, and puts the others on the stack. States at the
-/// front that no epsilon edge leaves are visited at once. A look leads on if it is among `looks`.
+/// Returns the first state that an epsilon edge of this one leads to, and pushes the others on the stack. Alternates at
+/// the front of a union that have no epsilon edges are visited at once instead. A look is followed if it is in `looks`.
 #[inline(always)]
 fn expand(
     nfa: &NFA,
@@ -114,7 +114,8 @@ fn expand(
     }
 }
 
-/// Whether no state of the set is in the closure. Of a set with more states than the closure it is not tried.
+/// Whether no state of the set is in the closure. It returns false without a test if the set has more states than the
+/// closure.
 fn is_apart(set: &SparseSet, closure: &SparseSet) -> bool
     requires { closure.now.capacity ≡ set.now.capacity }
     ensures { IsTrue result → (q : ℕ) → In q closure.now.items → In q set.now.items → ⊥ }
@@ -131,7 +132,8 @@ fn is_apart(set: &SparseSet, closure: &SparseSet) -> bool
     true
 }
 
-/// Adds a closure to the set if the set has none of its states, and returns whether it did. No edge is followed.
+/// Adds a closure to the set, without following edges, if `is_apart` finds that the set has none of its states. Returns
+/// whether it did.
 #[inline(never)]
 fn append_apart(closure: &SparseSet, set: &mut SparseSet) -> bool
     requires { closure.now.capacity ≡ set.old.capacity }
@@ -147,8 +149,8 @@ fn append_apart(closure: &SparseSet, set: &mut SparseSet) -> bool
     false
 }
 
-/// Adds the closure that the NFA keeps to the set, if there is one, the state is its root, and the set has none of its
-/// states. Returns whether it did.
+/// Adds the NFA's kept closure to the set, if there is one, `id` is its root, and `append_apart` adds it. Returns
+/// whether it did.
 #[inline(always)]
 fn append_at_root(
     nfa: &NFA,
@@ -169,8 +171,8 @@ fn append_at_root(
     }
 }
 
-/// Adds a state to the set, and returns whether its edges are to be followed: whether it is new and not the root of the
-/// kept closure, which is added whole then.
+/// Adds a state to the set, and returns whether its edges must be followed. They need not be if the state is already a
+/// member, or if it is the root of the kept closure and the closure was added whole.
 #[inline(always)]
 fn discover(nfa: &NFA, closure: Option<&KeptClosure>, id: StateID, set: &mut SparseSet) -> bool
     requires closure { IfSome closure (λ c. IsKeptClosure nfa.now c.now) }
@@ -187,8 +189,9 @@ fn discover(nfa: &NFA, closure: Option<&KeptClosure>, id: StateID, set: &mut Spa
     !append_at_root(nfa, closure, id, set) && set.insert(id)
 }
 
-/// Adds what epsilon edges reach from `start` to the set, by the stack, in the order of preference. A look leads on if
-/// it is among `looks`. There may be the closure that the NFA keeps, of whose root no edge is followed.
+/// Adds the states that epsilon edges reach from `start` to the set, in order of preference, using the stack. A look is
+/// followed if it is in `looks`. If a kept closure is given, it is added whole at its root, if the set has none of its
+/// states.
 #[inline(always)]
 fn close_by(
     nfa: &NFA,
@@ -222,8 +225,8 @@ fn close_by(
     }
 }
 
-/// Adds what epsilon edges reach from `start` to the set, by the stack, in the order of preference. A look leads on if
-/// it is among `looks`.
+/// Adds the states that epsilon edges reach from `start` to the set, in order of preference, using the stack. A look is
+/// followed if it is in `looks`.
 #[inline(never)]
 pub fn close_from(
     nfa: &NFA,
@@ -242,8 +245,8 @@ pub fn close_from(
     close_by(nfa, None, start, looks, stack, set);
 }
 
-/// Adds what epsilon edges reach from `start` to the set, as `close_from` does. At the root of the kept closure that is
-/// added whole if the set has none of it.
+/// Adds the states that epsilon edges reach from `start` to the set, as `close_from` does. At the root of the kept
+/// closure, the closure is added whole if the set has none of its states.
 #[inline(never)]
 fn close_with(
     nfa: &NFA,
@@ -264,8 +267,8 @@ fn close_with(
     close_by(nfa, Some(closure), start, looks, stack, set);
 }
 
-/// Adds what epsilon edges reach from `start` to the set. The stack's room is made beforehand, so the call allocates
-/// nothing. Most states have no such edge, and need no stack.
+/// Adds the states that epsilon edges reach from `start` to the set. The stack must have room already, so the call
+/// allocates nothing. Most states have no epsilon edges, and need no stack.
 #[inline(always)]
 pub fn close_one(
     nfa: &NFA,
@@ -291,7 +294,7 @@ pub fn close_one(
     }
 }
 
-/// Adds what epsilon edges reach from the roots to the set, one root after the other.
+/// Adds the states that epsilon edges reach from the roots to the set, one root after another.
 pub fn close_all(
     nfa: &NFA,
     roots: &[StateID],
@@ -311,7 +314,7 @@ pub fn close_all(
     }
 }
 
-/// Makes the set what epsilon edges reach from the roots.
+/// Sets `set` to the states that epsilon edges reach from the roots.
 pub fn close(
     nfa: &NFA,
     roots: &[StateID],

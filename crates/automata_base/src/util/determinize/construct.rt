@@ -47,7 +47,7 @@ fn has_crlf(nfa: &NFA) -> bool
     has_news(nfa.look_set_any(), LookSet::crlf(), LookSet::empty())
 }
 
-/// Whether the set has a look.
+/// Whether the set is not empty.
 pub(crate) fn has_some(looks: LookSet) -> bool
     ensures some { IsTrue result → (look : Look) × (truth_of looks look ≡ true) }
     ensures none { IsFalse result → (look : Look) → truth_of looks look ≡ false }
@@ -55,21 +55,23 @@ pub(crate) fn has_some(looks: LookSet) -> bool
     has_news(looks, looks, LookSet::empty())
 }
 
-/// The known looks that a powerset state has: those given if `some` is true, and none otherwise.
+/// Returns the known looks that a powerset state has: those given if `some` is true, and none otherwise.
 fn pick_known(some: bool, known: LookSet) -> LookSet
     ensures { (look : Look) → truth_of result look ≡ (some && truth_of known look) }
 {
     if some { known } else { LookSet::empty() }
 }
 
-/// Whether a powerset state that has NFA states is after a word byte, and some look of the NFA asks for that.
+/// Whether a powerset state is marked as after a word byte: `prev` is one, the state has NFA states (`full`), and the
+/// NFA has a word look.
 fn is_after_word(nfa: &NFA, full: bool, prev: Option<u8>) -> bool
     ensures { result ≡ (full && any_node is_word_look (nfa_of nfa.now).nodes && is_word prev) }
 {
     full && has_word(nfa) && is_word_unit(prev)
 }
 
-/// Whether a powerset state that has NFA states is half way through a CRLF, and some look of the NFA asks for that.
+/// Whether a powerset state is marked as halfway through a CRLF: `prev` is the first half, the state has NFA states
+/// (`full`), and the NFA has a CRLF look.
 fn is_half_way(nfa: &NFA, full: bool, prev: Option<u8>) -> bool
     ensures { result ≡ (full && any_node is_crlf_look (nfa_of nfa.now).nodes
         && is_byte (first_half nfa.now.flags.reverse) prev) }
@@ -77,15 +79,15 @@ fn is_half_way(nfa: &NFA, full: bool, prev: Option<u8>) -> bool
     full && has_crlf(nfa) && is_unit(first_of(nfa.flags().reverse), prev)
 }
 
-/// Whether the list has a state.
+/// Whether the list is not empty.
 fn has_any(list: &[StateID]) -> bool
     ensures { result ≡ is_full list.now }
 {
     !list.is_empty()
 }
 
-/// Puts the kept states of a list into another, and returns the looks among them. There may be the closure that the NFA
-/// keeps, what is kept of which is copied where the list has it.
+/// Sets `kept` to the states of a list that powerset states keep, and returns the looks among them. If a kept closure
+/// is given and the list contains it, what is kept of it is copied.
 #[inline(always)]
 fn keep_set(
     nfa: &NFA,
@@ -108,7 +110,7 @@ fn keep_set(
     }
 }
 
-/// Makes the powerset state of a closure. The patterns of its parts are set before.
+/// Sets the parts to the powerset state of a closure. Their patterns must be set already.
 #[inline(always)]
 fn fill(
     nfa: &NFA,
@@ -137,7 +139,7 @@ fn fill(
     parts.half = is_half_way(nfa, full, prev);
 }
 
-/// Adds the closure of what a list leads to on the byte to the set.
+/// Adds to the set the closure of the states that a list leads to on the byte `u`.
 fn close_targets(
     nfa: &NFA,
     list: &[StateID],
@@ -158,7 +160,7 @@ fn close_targets(
     }
 }
 
-/// Adds what epsilon edges reach from `start` to the set, if there is a start.
+/// Adds the states that epsilon edges reach from `start` to the set, if there is a start.
 fn close_maybe(
     nfa: &NFA,
     start: Option<StateID>,
@@ -179,7 +181,8 @@ fn close_maybe(
     }
 }
 
-/// Makes the start state of a search that starts at this NFA state, after this look-behind byte or after none.
+/// Sets the parts to the start state of a search that starts at this NFA state, after the look-behind byte `prev` or
+/// after none.
 fn start_at(
     nfa: &NFA,
     start: StateID,
@@ -201,8 +204,8 @@ fn start_at(
     fill(nfa, None, set, known, prev, parts);
 }
 
-/// Makes the start state of an anchored mode, after this look-behind byte or after none. If the mode has no start in
-/// the NFA, it is the dead state.
+/// Sets the parts to the start state of an anchored mode, after the look-behind byte `prev` or after none. If the mode
+/// has no start in the NFA, that is the dead state.
 pub fn start_into(
     nfa: &NFA,
     mode: Anchored,
@@ -232,8 +235,8 @@ pub fn start_into(
     }
 }
 
-/// Reads a list up to its first match state, and returns whether it has one: adds the closure of what the states before
-/// it lead to on the byte to the set, and makes the pattern of that match state the only one.
+/// Reads a list up to its first match state, and returns whether it has one. It adds to the set the closure of what the
+/// states before that lead to on the byte `u`, and sets `patterns` to the match state's pattern, or to none.
 #[inline(always)]
 fn read_first(
     nfa: &NFA,
@@ -271,9 +274,9 @@ fn read_first(
     false
 }
 
-/// Reads what of a list counts under the match kind, and returns whether that was cut, so that what would come after
-/// the list does not count: adds the closure of what it leads to on the byte to the set, and makes its patterns the
-/// only ones.
+/// Reads the part of a list that counts under the match kind, and returns whether the list was cut, so that what would
+/// come after it does not count. It adds to the set the closure of what the part leads to on the byte `u`, and sets
+/// `patterns` to the part's patterns.
 #[inline(always)]
 fn read_kind(
     kind: MatchKind,
@@ -307,8 +310,8 @@ fn read_kind(
     }
 }
 
-/// Reads what of a list counts under the match kind, as `read_kind` does. If it ends with what is kept of the
-/// closure that the NFA keeps, and it is known where that leads on the byte, no state of that end is read.
+/// Reads the part of a list that counts under the match kind, as `read_kind` does. If the list ends with what is kept
+/// of the closure, and the closure has rows, these states are not read: the row of the byte says where they lead.
 #[inline(never)]
 fn read_with(
     kind: MatchKind,
@@ -345,8 +348,8 @@ fn read_with(
     let _cut = read_kind(kind, nfa, list, u, known, stack, set, patterns);
 }
 
-/// Reads what of a list counts under the match kind, with the closure that the NFA keeps if it is there: adds the
-/// closure of what the list leads to on the byte to the set, and makes its patterns the only ones.
+/// Reads the part of a list that counts under the match kind, with the kept closure if it is given. It adds to the set
+/// the closure of what the part leads to on the byte `u`, and sets `patterns` to the part's patterns.
 #[inline(always)]
 fn read_byte(
     kind: MatchKind,
@@ -379,7 +382,8 @@ fn read_byte(
     }
 }
 
-/// Makes the patterns of what of a list counts under the match kind the only ones. The set is empty, and stays so.
+/// Sets `patterns` to the patterns of the part of a list that counts under the match kind. The set must be empty, and
+/// stays empty.
 fn read_end(
     kind: MatchKind,
     nfa: &NFA,
@@ -403,8 +407,8 @@ fn read_end(
     }
 }
 
-/// Reads what of a list counts under the match kind: its patterns, and the closure of what it leads to on the unit, to
-/// which the set is set. On the end of the haystack it leads nowhere.
+/// Reads the part of a list that counts under the match kind: it sets `patterns` to the part's patterns, and the set to
+/// the closure of what the part leads to on the unit. At the end of the haystack, it leads nowhere.
 #[inline(always)]
 fn read_list(
     kind: MatchKind,
@@ -434,8 +438,8 @@ fn read_list(
     }
 }
 
-/// Makes the powerset state that a list of NFA states leads to on the unit. The looks that its states test are decided
-/// before.
+/// Sets the parts to the powerset state that a list of NFA states leads to on the unit. The looks that these states
+/// test must be decided already.
 #[inline(always)]
 fn advance(
     nfa: &NFA,
@@ -472,7 +476,7 @@ fn advance(
     fill(nfa, closure, set, known, unit, parts);
 }
 
-/// Makes the successor of a powerset state on a unit. The list is that of its NFA states.
+/// Sets the parts to the successor of a powerset state on a unit. `list` must be the NFA states of `from`.
 #[inline(always)]
 pub(crate) fn next_into(
     nfa: &NFA,

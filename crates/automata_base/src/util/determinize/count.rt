@@ -18,7 +18,7 @@ impl Model for Count {
 }
 
 impl Count {
-    /// The count of nothing.
+    /// Returns a count of zero.
     pub fn zero() -> Count
         ensures { result.number ≡ 0 }
     {
@@ -27,7 +27,7 @@ impl Count {
         }
     }
 
-    /// The count that is greater by one.
+    /// Returns the count that is greater by one.
     pub fn next(self) -> Count
         ensures { result.number ≡ self.number + 1 }
     {
@@ -37,7 +37,7 @@ impl Count {
         }
     }
 
-    /// Another count with the same number.
+    /// Returns another count with the same number.
     pub fn again(&self) -> Count
         ensures { result.number ≡ self.now.number }
     {

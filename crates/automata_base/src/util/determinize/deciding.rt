@@ -19,7 +19,7 @@ pub fn is_word_u8(u: u8) -> bool
     48 <= u && u <= 57 || 65 <= u && u <= 90 || u == 95 || 97 <= u && u <= 122
 }
 
-/// Whether a unit is an ASCII word byte. The end is not.
+/// Whether a unit is an ASCII word byte. The end of the haystack is not.
 pub fn is_word_unit(u: Option<u8>) -> bool
     ensures { result ≡ is_word u }
 {
@@ -39,14 +39,14 @@ pub fn is_unit(b: u8, u: Option<u8>) -> bool
     }
 }
 
-/// The byte of a CRLF pair that is read first.
+/// Returns the byte of a CRLF pair that is read first.
 pub fn first_of(reverse: bool) -> u8
     ensures { result ≡ first_half reverse }
 {
     if reverse { 10 } else { 13 }
 }
 
-/// The byte of a CRLF pair that is read second.
+/// Returns the byte of a CRLF pair that is read second.
 pub fn second_of(reverse: bool) -> u8
     ensures { result ≡ second_half reverse }
 {
@@ -79,7 +79,7 @@ fn is_always(look: Look, terminator: u8, reverse: bool, prev: Option<u8>) -> boo
     }
 }
 
-/// Whether the look is decided true by the unit. The flags stand for the byte before: whether it is a word byte, and
+/// Whether the unit decides that the look is true. The flags describe the previous byte: whether it is a word byte, and
 /// whether it is the first half of a CRLF.
 fn is_decided(
     look: Look,
@@ -123,7 +123,7 @@ fn is_known(nfa: &NFA, look: Look, prev: Option<u8>) -> bool
     nfa.look_set_any().contains(look) && is_always(look, flags.line_terminator, flags.reverse, prev)
 }
 
-/// The set, with the look added if `passes` is true.
+/// Returns the set, with the look added if `passes` is true.
 fn insert_if(set: LookSet, look: Look, passes: bool) -> LookSet
     ensures { (other : Look) → truth_of result other
         ≡ (eqb (look_index other) (look_index look) && passes || truth_of set other) }
@@ -131,7 +131,7 @@ fn insert_if(set: LookSet, look: Look, passes: bool) -> LookSet
     if passes { set.insert(look) } else { set }
 }
 
-/// The looks of the NFA that hold after `prev` whatever comes next.
+/// Returns the looks of the NFA that hold after `prev` whatever comes next.
 pub fn known_behind(nfa: &NFA, prev: Option<u8>) -> LookSet
     ensures { (look : Look) → truth_of result look ≡ known_looks (nfa_of nfa.now) prev look }
 {
@@ -147,7 +147,7 @@ pub fn known_behind(nfa: &NFA, prev: Option<u8>) -> LookSet
     set
 }
 
-/// The looks that are known to hold, or that the unit decides true. The flags stand for the byte before.
+/// Returns the looks that are known to hold, or that the unit decides to be true. The flags describe the previous byte.
 fn looks_true(nfa: &NFA, known: LookSet, word: bool, half: bool, unit: Option<u8>) -> LookSet
     ensures { (look : Look)
         → truth_of result look ≡ (truth_of known look || decided nfa.now.flags.line_terminator nfa.now.flags.reverse
@@ -170,7 +170,7 @@ fn is_news(needed: LookSet, truth: LookSet, known: LookSet, look: Look) -> bool
     needed.contains(look) && truth.contains(look) && !known.contains(look)
 }
 
-/// Whether a needed look is true and was not known, by going through all looks.
+/// Whether a needed look is true and was not known. It tests each look.
 fn finds_news(needed: LookSet, truth: LookSet, known: LookSet) -> bool
     ensures news { IsTrue result → (look : Look) × (truth_of needed look ≡ true) × (truth_of truth look ≡ true)
         × (truth_of known look ≡ false) }
@@ -185,7 +185,7 @@ fn finds_news(needed: LookSet, truth: LookSet, known: LookSet) -> bool
     false
 }
 
-/// Whether a needed look is true and was not known. Mostly none is needed, which is seen without a call.
+/// Whether a needed look is true and was not known. Usually no look is needed, which is tested without a call.
 #[inline(always)]
 pub fn has_news(needed: LookSet, truth: LookSet, known: LookSet) -> bool
     ensures news { IsTrue result → (look : Look) × (truth_of needed look ≡ true) × (truth_of truth look ≡ true)
@@ -199,7 +199,7 @@ pub fn has_news(needed: LookSet, truth: LookSet, known: LookSet) -> bool
     finds_news(needed, truth, known)
 }
 
-/// The looks that are true at the unit, if one of them is needed by the state and was not known.
+/// Returns the looks that are true at the unit, if the state needs one of them that was not known, and none otherwise.
 pub fn news(nfa: &NFA, from: &State, unit: Option<u8>) -> Option<LookSet>
     ensures truth { IfSome result (λ truth. (look : Look)
         → truth_of truth look ≡ true_looks (nfa_of nfa.now) from.now unit look) }

@@ -1,4 +1,4 @@
-//! The NFA states of a powerset state, read one by one from its bytes.
+//! The NFA states of a powerset state, decoded one by one from its bytes.
 ghost use Rattle.automata_base.specs.Lists.{all_below};
 ghost use Rattle.std.specs.Prelude.{◌≡◌, OnOk};
 ghost use Rattle.std.specs.Iterator.{YieldsFirst, item_count};
@@ -8,7 +8,7 @@ use crate::util::primitives::StateID;
 use std::alloc::AllocError;
 use std::marker::Model;
 
-/// The NFA states that are left.
+/// An iterator over the NFA states of a powerset state: those that remain.
 #[derive(Drop)]
 pub struct Ids<'a> {
     rest: &'a [u8],
@@ -49,7 +49,7 @@ impl<'a> Ids<'a> {
     ghost use Rattle.std.specs.Prelude.{length, ◌≤◌};
     ghost use Rattle.automata_base.specs.Powersets.Code.{ids_of, numbers, AreIds};
 
-    /// The NFA states that these bytes code.
+    /// Returns an iterator over the NFA states that these bytes encode.
     pub fn new(bytes: &'a [u8]) -> Ids<'a>
         requires { AreIds 0 bytes.now }
         ensures { result ≡ ids_of 0 (numbers bytes.now) }
@@ -60,7 +60,7 @@ impl<'a> Ids<'a> {
         }
     }
 
-    /// An upper bound of how many NFA states are left: each takes a byte at least.
+    /// Returns an upper bound on the number of remaining NFA states: each takes at least one byte.
     fn at_most(&self) -> usize
         ensures { length self.now ≤ result }
     {
@@ -79,7 +79,7 @@ pub fn read_ids(ids: Ids<'_>, out: &mut Vec<StateID>) -> Result<(), AllocError>
     Ok(())
 }
 
-/// Sets the list to these NFA states. It makes room for all of them first, so that none asks for its own.
+/// Sets the list to these NFA states. It reserves room for all of them first, so that adding one does not allocate.
 pub(crate) fn list_ids(ids: Ids<'_>, out: &mut Vec<StateID>) -> Result<(), AllocError>
     ensures ok { OnOk result (out.new.items ≡ ids.entry) }
 {
@@ -91,7 +91,7 @@ pub(crate) fn list_ids(ids: Ids<'_>, out: &mut Vec<StateID>) -> Result<(), Alloc
     Ok(())
 }
 
-/// Whether each NFA state is below a length.
+/// Whether each NFA state is below `len`.
 pub(crate) fn are_below(ids: Ids<'_>, len: usize) -> bool
     ensures { result ≡ all_below len ids.entry }
 {

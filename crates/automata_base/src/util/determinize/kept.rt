@@ -1,4 +1,4 @@
-//! Lists of NFA states in which the closure stands that the NFA keeps, or what is kept of it.
+//! Lists of NFA states that contain the NFA's kept closure, or what powerset states keep of it.
 ghost use Rattle.std.specs.Prelude.{◌≡◌, ◌+◌, ◌++◌, ◌<◌, ◌≤◌, ℕ, length, eqb, IfSome, IsTrue, vec_capacity};
 ghost use Rattle.automata_base.specs.Haystacks.LookSets.{truth_of};
 ghost use Rattle.automata_base.specs.Haystacks.Looks.{Look, look_index};
@@ -14,7 +14,7 @@ use crate::util::determinize::lists::{append_kept, keep_states};
 use crate::util::look::LookSet;
 use crate::util::primitives::StateID;
 
-/// Whether a part stands in a list of NFA states from an index on.
+/// Whether a list of NFA states contains `part` from the index `start` on.
 #[inline(always)]
 fn stands_at(list: &[StateID], part: &[StateID], start: usize) -> bool
     requires { start + length part.now ≤ length list.now }
@@ -23,8 +23,8 @@ fn stands_at(list: &[StateID], part: &[StateID], start: usize) -> bool
     &list[start..start + part.len()] == part
 }
 
-/// Where a part stands in a list of NFA states, if it does and has a state: at the end of the list, or else at the
-/// first such place.
+/// Returns an index at which a list of NFA states contains `part`, or none if it does not or `part` is empty: the index
+/// at which `part` ends the list, or else the first one.
 pub(crate) fn place_of(list: &[StateID], part: &[StateID]) -> Option<usize>
     ensures { IfSome result (λ start. IsPartAt list.now part.now start × (0 < length part.now)) }
 {
@@ -43,7 +43,7 @@ pub(crate) fn place_of(list: &[StateID], part: &[StateID]) -> Option<usize>
     None
 }
 
-/// What stands before an end in a list of NFA states, or none if the list does not end so.
+/// Returns what comes before `end` in a list of NFA states, or none if the list does not end with it.
 pub(crate) fn front_of<'a>(list: &'a [StateID], end: &[StateID]) -> Option<&'a [StateID]>
     ensures { IfSome result (λ front. list.now ≡ front.now ++ end.now) }
 {
@@ -57,8 +57,8 @@ pub(crate) fn front_of<'a>(list: &'a [StateID], end: &[StateID]) -> Option<&'a [
     None
 }
 
-/// Puts the kept states of a list into another, and returns the looks among them. Where the list has the closure that
-/// the NFA keeps, what is kept of that is copied.
+/// Sets `kept` to the states of a list that powerset states keep, and returns the looks among them. If the list
+/// contains the NFA's kept closure, what is kept of the closure is copied.
 #[inline(never)]
 pub(crate) fn keep_with(
     nfa: &NFA,

@@ -1,4 +1,4 @@
-//! Keys of a map from powerset states: a state is looked up by its bytes before it is shared.
+//! Keys of maps from powerset states. A state is looked up by its bytes before these are shared.
 ghost use Rattle.std.specs.Prelude.{◌≡◌, IfOk, IfSome};
 ghost use Rattle.automata_base.specs.Powersets.Code.{decoded, IsCode};
 ghost use Rattle.automata_base.specs.Powersets.Key.{ListsItsStates};
@@ -20,7 +20,7 @@ enum Bytes {
 impl Bytes {
     ghost use Rattle.automata_base.specs.Powersets.Key.{bytes_of};
 
-    /// The bytes, whether they are shared or not.
+    /// Returns the bytes, whether they are shared or not.
     fn as_slice(&self) -> &[u8]
         ensures { result.now ≡ bytes_of self.now }
     {
@@ -37,7 +37,7 @@ impl Clone for Bytes {
 
     ghost is_clone = { λ a b. b ≡ Shared (bytes_of a) };
 
-    /// The copy shares its bytes. Bytes that are not shared are copied first.
+    /// Returns a copy that shares its bytes. Bytes that are not shared are copied first.
     fn clone(&self) -> Result<Bytes, AllocError> {
         match self {
             Bytes::Shared(bytes) => {
@@ -53,7 +53,7 @@ impl Clone for Bytes {
     }
 }
 
-/// A key. In the map it shares the bytes of a state; to look a state up that was made, it holds that state.
+/// A map key. In a map it shares the bytes of a state; to look up a state that was just made, it holds that state.
 #[derive(Drop)]
 pub struct Key {
     bytes: Bytes,
@@ -114,7 +114,7 @@ impl Clone for Key {
 }
 
 impl Key {
-    /// A key that shares these bytes.
+    /// Returns a key that shares these bytes.
     pub(crate) fn shared(bytes: SharedBytes) -> Key
         requires { IsCode bytes }
         ensures { result ≡ decoded bytes }
@@ -124,7 +124,7 @@ impl Key {
         }
     }
 
-    /// A key that holds a state which was made. It allocates nothing.
+    /// Returns a key that holds a state that was made. The call allocates nothing.
     pub(crate) fn own(made: Box<MadeState>) -> Key
         requires code { IsCode made.value.bytes.items }
         requires list { ListsItsStates made.value }
@@ -135,14 +135,14 @@ impl Key {
         }
     }
 
-    /// The state of the key, with a copy of its bytes.
+    /// Returns the state of the key, with a copy of its bytes.
     pub fn to_state(&self, alloc: Global) -> Result<State, AllocError>
         ensures { IfOk result (λ state. state ≡ self.now) }
     {
         State::from_bytes(alloc, self.bytes.as_slice())
     }
 
-    /// The state that the key holds, or none if it shares its bytes.
+    /// Returns the state that the key holds, or none if it shares its bytes.
     pub(crate) fn into_made(self) -> Option<Box<MadeState>>
         ensures state { IfSome result (λ made. decoded made.value.bytes.items ≡ self) }
         ensures list { IfSome result (λ made. ListsItsStates made.value) }

@@ -1,4 +1,4 @@
-//! Laws of the bytes of powerset states.
+//! Laws about the encoding of powerset states.
 ghost use Rattle.std.specs.Prelude.{◌≡◌, ◌≤◌, ◌↔◌, IfOk, length};
 ghost use Rattle.automata_base.specs.Lists.{Distinct};
 ghost use Rattle.automata_base.specs.Powersets.Code.{code, decoded};
@@ -8,7 +8,7 @@ ghost use Rattle.automata_base.specs.Powersets.Powerset.{Powerset, IsPowerset, c
 use crate::util::determinize::state::{Parts, State};
 use std::alloc::{AllocError, Global};
 
-/// What is decoded is what was encoded.
+/// Encodes the parts of a powerset state and decodes them, which gives the same powerset state.
 pub fn round_trip(alloc: Global, parts: &Parts) -> Result<Parts, AllocError>
     requires { Distinct parts.now.patterns.items }
     ensures { IfOk result (λ decoded. powerset_of decoded ≡ powerset_of parts.now) }
@@ -17,17 +17,17 @@ pub fn round_trip(alloc: Global, parts: &Parts) -> Result<Parts, AllocError>
     state.decode(alloc)
 }
 
-/// The bytes of a state are read as that state.
+/// Decoding the encoding of a state gives that state.
 pub fn code_is_read()
     ensures { (q : Powerset) → IsPowerset q → decoded (code q) ≡ q }
 {}
 
-/// The bytes of two states are equal exactly if the states are.
+/// The encodings of two states are equal exactly if the states are.
 pub fn one_code()
     ensures { (a b : Powerset) → IsPowerset a → IsPowerset b → (code a ≡ code b) ↔ (a ≡ b) }
 {}
 
-/// The bytes are at most what is counted for a state.
+/// The encoding of a state has at most as many bytes as are accounted for the state.
 pub fn code_within_cost()
     ensures { (q : Powerset) → length (code q) ≤ cost q }
 {}

@@ -20,7 +20,7 @@ use crate::util::determinize::sparse_set::SparseSet;
 use crate::util::look::LookSet;
 use crate::util::primitives::{PatternID, StateID};
 
-/// Adds the state after the others if `passes` is true. The list has room for it.
+/// Appends the state if `passes` is true. The list must have room for it.
 fn push_if(kept: &mut Vec<StateID>, id: StateID, passes: bool)
     requires { vec_len kept.old < vec_capacity kept.old }
     ensures items { kept.new.items ≡ kept.old.items ++ cond passes (id ∷ []) [] }
@@ -31,7 +31,8 @@ fn push_if(kept: &mut Vec<StateID>, id: StateID, passes: bool)
     }
 }
 
-/// Puts the kept states of a list after those of another, and returns the looks among them and those given.
+/// Appends the states of a list that powerset states keep, and returns the looks among them together with the given
+/// ones.
 #[inline(always)]
 pub fn append_kept(
     nfa: &NFA,
@@ -58,7 +59,7 @@ pub fn append_kept(
     all
 }
 
-/// Puts the kept states of a list into another, and returns the looks among them.
+/// Sets `kept` to the states of a list that powerset states keep, and returns the looks among them.
 #[inline(always)]
 pub fn keep_states(nfa: &NFA, states: &[StateID], kept: &mut Vec<StateID>) -> LookSet
     requires below { (q : ℕ) → In q states.now → q < length nfa.now.states }
@@ -73,8 +74,8 @@ pub fn keep_states(nfa: &NFA, states: &[StateID], kept: &mut Vec<StateID>) -> Lo
     append_kept(nfa, states, LookSet::empty(), kept)
 }
 
-/// The patterns of the match states of a list, each once. The set marks those that were found: it is empty before, and
-/// afterwards.
+/// Sets `patterns` to the patterns of the match states of a list, each once. `marks` records those that were found; the
+/// call clears it before and afterwards.
 pub fn read_patterns(
     nfa: &NFA,
     list: &[StateID],
@@ -96,7 +97,7 @@ pub fn read_patterns(
     marks.clear();
 }
 
-/// Adds the pattern after the others, if there is one and the list does not have it. The list has room for it.
+/// Appends the pattern, if there is one and the list does not have it. The list must have room for it.
 fn add_maybe(marks: &mut SparseSet, patterns: &mut Vec<PatternID>, pattern: Option<PatternID>)
     requires room { (p : ℕ) → pattern ≡ Some p → is_in p patterns.old.items ≡ false
         → vec_len patterns.old < vec_capacity patterns.old }
@@ -114,7 +115,8 @@ fn add_maybe(marks: &mut SparseSet, patterns: &mut Vec<PatternID>, pattern: Opti
     }
 }
 
-/// How many states a list has up to its first match state, whose pattern is the one that matches.
+/// Returns the number of states of a list up to and including its first match state, and sets `patterns` to the pattern
+/// of that state. Without a match state, it returns the length of the list, and there are no patterns.
 pub fn cut_first(nfa: &NFA, states: &[StateID], patterns: &mut Vec<PatternID>) -> usize
     requires below { (q : ℕ) → In q states.now → q < length nfa.now.states }
     requires room { length nfa.now.start_pattern ≤ vec_capacity patterns.old }
@@ -136,7 +138,7 @@ pub fn cut_first(nfa: &NFA, states: &[StateID], patterns: &mut Vec<PatternID>) -
     states.len()
 }
 
-/// Whether the two patterns are the same one.
+/// Whether the two patterns are the same.
 fn is_same(p: PatternID, q: PatternID) -> bool
     ensures { result ≡ eqb p q }
 {
@@ -155,8 +157,8 @@ fn has_pattern(patterns: &[PatternID], p: PatternID) -> bool
     false
 }
 
-/// Marks the pattern, and returns whether the list does not have it. One past the numbers of the set, as only an NFA
-/// with fewer states than patterns has it, is looked for in the list.
+/// Marks the pattern, and returns whether the list does not have it. A pattern that is out of range for the marks, as
+/// only an NFA with fewer states than patterns has it, is looked up in the list.
 fn is_new(marks: &mut SparseSet, patterns: &[PatternID], p: PatternID) -> bool
     requires { AreMarks patterns.now marks.old }
     ensures new { result ≡ not (is_in p patterns.now) }
@@ -170,7 +172,7 @@ fn is_new(marks: &mut SparseSet, patterns: &[PatternID], p: PatternID) -> bool
     }
 }
 
-/// Adds the pattern after the others, if the list does not have it. The list has room for it.
+/// Appends the pattern, if the list does not have it. The list must have room for it.
 fn add_pattern(marks: &mut SparseSet, patterns: &mut Vec<PatternID>, p: PatternID)
     requires room { (is_in p patterns.old.items ≡ false) → vec_len patterns.old < vec_capacity patterns.old }
     requires marks { AreMarks patterns.old.items marks.old }

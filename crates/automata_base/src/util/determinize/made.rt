@@ -1,4 +1,4 @@
-//! The powerset state that was made last, whose NFA states need not be read from its bytes.
+//! The last powerset state that was made, whose NFA states need not be decoded.
 ghost use Rattle.std.specs.Prelude.{◌≡◌, ◌≤◌, IfOk, IfSome, OnOk, vec_capacity};
 ghost use Rattle.automata_base.specs.Lists.{Distinct};
 ghost use Rattle.automata_base.specs.Powersets.Code.{decoded, IsCode};
@@ -14,11 +14,11 @@ use crate::util::primitives::StateID;
 use std::alloc::{AllocError, Global};
 use std::mem;
 
-/// How many bytes of a state there is room for from the start.
+/// The initial room for the encoding of a state, in bytes.
 const BYTES_ROOM: usize = 64;
 
-/// A powerset state that was made: its coded bytes, and a list of its NFA states. It lies behind one pointer, which a
-/// key and the buffers of determinization hold in turn.
+/// A powerset state that was made: its encoding, and a list of its NFA states. It is boxed, and a key and the buffers
+/// of determinization own it in turn.
 #[derive(Drop)]
 pub(crate) struct MadeState {
     pub bytes: Vec<u8>,
@@ -26,7 +26,8 @@ pub(crate) struct MadeState {
 }
 
 impl MadeState {
-    /// Room for a powerset state of an NFA with so many states. No state was made in it yet: it has no bytes.
+    /// Allocates room for a powerset state of an NFA of `len` states. It has no bytes, since no state was made in it
+    /// yet.
     #[inline(never)]
     pub fn room(alloc: Global, len: usize) -> Result<Box<MadeState>, AllocError>
         ensures { IfOk result (λ made. ListsItsStates made.value) }
@@ -37,14 +38,14 @@ impl MadeState {
         Ok(made)
     }
 
-    /// The bytes that it takes of the allocator, behind its pointer.
+    /// Returns the memory, in bytes, that the boxed state takes from the allocator.
     pub fn heap_usage(&self) -> usize {
         let lists = block(self.bytes.capacity()).saturating_add(array(self.nfa.capacity(), 4));
         lists.saturating_add(block(size_of::<MadeState>()))
     }
 
-    /// Makes its list that of the NFA states of this state, which are read only if another state was made last.
-    /// The bytes stay, so that after this it may stand for no state.
+    /// Sets the list to the NFA states of `from`, and decodes them only if the state that was made is another one. The
+    /// bytes stay the same, so afterwards the list may not be the one that they encode.
     #[inline(always)]
     pub fn list_states(&mut self, from: &State) -> Result<(), AllocError>
         requires { ListsItsStates self.old }
@@ -56,9 +57,9 @@ impl MadeState {
         list_ids(from.nfa(), &mut self.nfa)
     }
 
-    /// Makes it the state of these parts, of an NFA with so many states. It takes their list of NFA states, and leaves
-    /// its own there, with room for as many. There may be the closure that the NFA keeps, whose bytes are copied.
-    /// After an error it stands for no state.
+    /// Sets it to the state of these parts, for an NFA of `len` states. It takes the parts' list of NFA states, and
+    /// leaves its own in the parts, with room for `len`. If a kept closure is given and the list contains what is kept
+    /// of it, the closure's bytes are copied. After an error it is not a valid state.
     #[inline(always)]
     pub fn set(
         &mut self,

@@ -1,4 +1,4 @@
-//! The powerset construction: what a set of NFA states leads to, one unit at a time.
+//! The powerset construction: the states of a lazy DFA, computed one unit at a time.
 ghost use Rattle.std.specs.Prelude.{◌≡◌, ◌+◌, IfOk};
 ghost use Rattle.automata_base.specs.Powersets.Results.{IsStartMade, IsStepMade};
 ghost use Rattle.automata_base.specs.Paths.Starts.{IsOf};
@@ -28,8 +28,9 @@ pub use scratch::{Scratch, next_key, start_key};
 pub use state::{Parts, State};
 use std::alloc::AllocError;
 
-/// The start state of an anchored mode after this look-behind byte, or after none. For a pattern past the last one it
-/// is the dead state. The only error is out of memory. Either way it counts as one determinization.
+/// Computes the start state of an anchored mode after the look-behind byte `prev`, or after none. For a pattern that
+/// the NFA does not have, it is the dead state. The only error is out of memory. The call counts as one
+/// determinization, even if it fails.
 pub fn start(
     nfa: &NFA,
     scratch: &mut Scratch,
@@ -47,9 +48,9 @@ pub fn start(
     Ok(state)
 }
 
-/// The powerset state that a state of the automaton leads to on a byte, or on the end of the haystack; `State::is_of`
-/// is the test. Its patterns are the NFA's. The only error is out of memory. Either way it counts as one
-/// determinization.
+/// Computes the powerset state that `from` leads to on a byte, or at the end of the haystack if `unit` is none. `from`
+/// must be a state of the NFA; `State::is_of` tests that. The patterns of the result are patterns of the NFA. The only
+/// error is out of memory. The call counts as one determinization, even if it fails.
 pub fn next(
     nfa: &NFA,
     scratch: &mut Scratch,

@@ -1,4 +1,4 @@
-//! Reading the bytes of a powerset state.
+//! Decoding the bytes of a powerset state.
 ghost use Rattle.std.specs.Prelude.{◌≡◌, ◌+◌, ◌<◌, ◌≤◌, ◌^◌, ℕ, List, length};
 ghost use Rattle.std.specs.Prelude.{slice_index, OnOk, nat_lt};
 ghost use Rattle.automata_base.specs.Powersets.Code.{IsFront, IsCode, number_at, id_at, is_set, patterns_of, ids_bytes};
@@ -7,7 +7,7 @@ ghost use Rattle.automata_base.specs.Powersets.Code.{numbers, bit};
 use crate::util::primitives::PatternID;
 use std::alloc::AllocError;
 
-/// The number in the four bytes at a place.
+/// Returns the number in the four bytes at an index, the least significant first.
 pub fn u32_at(bytes: &[u8], place: usize) -> u32
     requires { place + 4 ≤ length bytes.now }
     ensures { result ≡ number_at bytes.now place }
@@ -20,7 +20,7 @@ pub fn u32_at(bytes: &[u8], place: usize) -> u32
     ])
 }
 
-/// The number in groups at the front, and what comes after it, group by group.
+/// Reads the varint at the front, group by group. Returns its number, and the bytes after it.
 fn groups_in(bytes: &[u8]) -> (u64, &[u8])
     requires { (n : ℕ) × (tail : List ℕ) × IsFront bytes.now n tail }
     ensures { (n : ℕ) (tail : List ℕ) → IsFront bytes.now n tail → (result.0 ≡ n) × (result.1.now ≡ tail) }
@@ -37,7 +37,7 @@ fn groups_in(bytes: &[u8]) -> (u64, &[u8])
     }
 }
 
-/// The number in groups at the front of these bytes.
+/// Returns the number of the varint at the front.
 #[inline(never)]
 fn long_number(bytes: &[u8]) -> u64
     requires { (n : ℕ) × (tail : List ℕ) × IsFront bytes.now n tail }
@@ -47,7 +47,7 @@ fn long_number(bytes: &[u8]) -> u64
     number
 }
 
-/// The bytes after the number in groups at the front.
+/// Returns the bytes after the varint at the front.
 #[inline(never)]
 fn after_long(bytes: &[u8]) -> &[u8]
     requires { (n : ℕ) × (tail : List ℕ) × IsFront bytes.now n tail }
@@ -57,8 +57,9 @@ fn after_long(bytes: &[u8]) -> &[u8]
     rest
 }
 
-/// The number in groups at the front, and what comes after it. A number of one group is read in line. For a longer one
-/// two calls return in registers, since room in memory for a pair would be prepared for each number.
+/// Reads the varint at the front. Returns its number, and the bytes after it. A varint of one byte is read inline. For
+/// a longer one, two calls return their results in registers: a single call would return a pair in memory, and that
+/// memory would be prepared for every number.
 #[inline(always)]
 pub fn number_in(bytes: &[u8]) -> (u64, &[u8])
     requires { (n : ℕ) × (tail : List ℕ) × IsFront bytes.now n tail }
@@ -72,7 +73,7 @@ pub fn number_in(bytes: &[u8]) -> (u64, &[u8])
     (long_number(bytes), after_long(bytes))
 }
 
-/// One for the last byte of a number, and none for another.
+/// Returns 1 for the last byte of a varint, and 0 for any other byte.
 fn last_count(byte: u8) -> usize
     ensures value { result ≡ bit (nat_lt byte 128) }
     ensures few { result ≤ 1 }
@@ -80,7 +81,7 @@ fn last_count(byte: u8) -> usize
     if byte < 128 { 1 } else { 0 }
 }
 
-/// How many numbers in groups there are. Each has one last byte, by which it is counted.
+/// Returns the number of varints in the bytes. Each has one last byte, by which it is counted.
 pub fn number_count(bytes: &[u8]) -> usize
     ensures { result ≡ length (numbers bytes.now) }
 {
@@ -91,7 +92,7 @@ pub fn number_count(bytes: &[u8]) -> usize
     count
 }
 
-/// The NFA state at a difference from the one before.
+/// Returns the NFA state with this difference from the previous one.
 pub fn id_from(before: u32, difference: u64) -> u32
     requires bound { difference < 2 ^ 35 }
     requires fits { id_at before difference < 2 ^ 32 }
@@ -121,7 +122,7 @@ fn lists_patterns(bytes: &[u8]) -> bool
     bytes[0] / 2 % 2 == 1
 }
 
-/// How many patterns the powerset state of these bytes has.
+/// Returns the number of patterns of the powerset state of these bytes.
 pub fn pattern_count(bytes: &[u8]) -> usize
     requires { IsCode bytes.now }
     ensures { result ≡ length (patterns_of bytes.now) }
@@ -135,7 +136,7 @@ pub fn pattern_count(bytes: &[u8]) -> usize
     }
 }
 
-/// The pattern at an index of the powerset state of these bytes.
+/// Returns the pattern at an index of the powerset state of these bytes.
 pub fn pattern_at(bytes: &[u8], index: usize) -> PatternID
     requires code { IsCode bytes.now }
     requires index_in { index < length (patterns_of bytes.now) }
@@ -148,7 +149,7 @@ pub fn pattern_at(bytes: &[u8], index: usize) -> PatternID
     }
 }
 
-/// The bytes after the patterns, which code the NFA states of the powerset state.
+/// Returns the bytes after the patterns, which encode the NFA states of the powerset state.
 pub fn ids_in(bytes: &[u8]) -> &[u8]
     requires { IsCode bytes.now }
     ensures { result.now ≡ ids_bytes bytes.now }

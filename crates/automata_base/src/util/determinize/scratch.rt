@@ -24,8 +24,9 @@ use std::marker::Model;
 use std::mem;
 
 /// The buffers of determinization, for an NFA: two sets of its states, the stack of a closure, the parts of a powerset
-/// state, and the state that was made last. A cache accounts for all but the last, which takes its bytes and four bytes
-/// for each NFA state that its list has room for. Clauses also see a count: how often the buffers were used.
+/// state, and the last state that was made. A cache accounts for all of them but that last state, which takes its bytes
+/// and four bytes for each NFA state that its list has room for. Contracts also see a count: how often the buffers were
+/// used.
 pub struct Scratch {
     of: Subject<NFA>,
     alloc: Global,
@@ -37,7 +38,7 @@ pub struct Scratch {
     count: Count,
 }
 
-// One call for an owner, whose proof then has no step for each part.
+// An owner drops this with one call, so that its proof has no step for each field.
 impl Drop for Scratch {
     fn drop(self) {
         let Self {
@@ -66,7 +67,7 @@ impl Model for Scratch {
 impl Clone for Scratch {
     ghost is_clone = { λ a b. b ≡ a };
 
-    /// The copy has buffers of its own, with the same room. The state that was made last stays here.
+    /// Returns a copy with its own buffers, which have the same room, and without a last state.
     fn clone(&self) -> Result<Scratch, AllocError> {
         let alloc = self.alloc;
         Ok(Scratch {
@@ -83,8 +84,8 @@ impl Clone for Scratch {
 }
 
 impl Scratch {
-    /// Buffers for an NFA. Those of the state that is made last come with the first key. The only error is out of
-    /// memory.
+    /// Allocates the buffers for an NFA. Those of the last state are allocated with the first key. The only error is
+    /// out of memory.
     pub fn new(nfa: &NFA) -> Result<Scratch, AllocError>
         ensures of { IfOk result (λ s. s.of ≡ nfa.now) }
         ensures count { IfOk result (λ s. s.count ≡ 0) }
@@ -114,7 +115,7 @@ impl Scratch {
         })
     }
 
-    /// The bytes that the buffers take of the allocator, by their capacities.
+    /// Returns the memory, in bytes, that the buffers take from the allocator, by their capacities.
     pub fn heap_usage(&self) -> usize {
         let sets = self.one.heap_usage().saturating_add(self.two.heap_usage());
         let lists = array(self.stack.capacity(), 4).saturating_add(self.parts.heap_usage());
@@ -125,7 +126,8 @@ impl Scratch {
         sets.saturating_add(lists).saturating_add(made)
     }
 
-    /// Takes back what a key holds. The next key is made in its room, and a step from its state reads no bytes of it.
+    /// Takes back the state that a key holds, if it holds one. The next key reuses its buffers, and a step from this
+    /// state does not decode it.
     pub fn recycle(&mut self, key: Key)
         ensures { self.new ≡ self.old }
     {
@@ -133,7 +135,8 @@ impl Scratch {
     }
 }
 
-/// The state that was made last, or room for one of an NFA with so many states if its key did not come back.
+/// Takes the last state that was made, or allocates the buffers of one for an NFA of `len` states if its key was not
+/// given back.
 #[inline(always)]
 fn take_made(
     alloc: Global,
@@ -150,7 +153,7 @@ fn take_made(
     }
 }
 
-/// The key of the powerset state of these parts, of an NFA with so many states.
+/// Returns a key for the powerset state of these parts, for an NFA of `len` states.
 #[inline(always)]
 fn key_of(
     made: Box<MadeState>,
@@ -170,7 +173,8 @@ fn key_of(
     Ok(Key::own(made))
 }
 
-/// The start state of an anchored mode after a byte, as a key to look it up by.
+/// Computes the start state of an anchored mode after the look-behind byte `prev`, or after none, as a key to look it
+/// up by.
 pub fn start_key(
     nfa: &NFA,
     scratch: &mut Scratch,
@@ -197,8 +201,8 @@ pub fn start_key(
     Ok(key)
 }
 
-/// The successor of a powerset state on a unit, as `next_key` returns it. There may be the closure that the NFA keeps,
-/// with what the step needs of it.
+/// Computes the successor of a powerset state on a unit, as `next_key` does, with the NFA's kept closure if it is
+/// given.
 #[inline(always)]
 fn next_key_of(
     nfa: &NFA,
@@ -235,7 +239,7 @@ fn next_key_of(
     Ok(key)
 }
 
-/// The successor of a powerset state on a unit, as `next_key` returns it, of an NFA that keeps a closure.
+/// Computes the successor of a powerset state on a unit, as `next_key` does, for an NFA that keeps a closure.
 #[inline(never)]
 fn next_key_with(
     nfa: &NFA,
@@ -255,7 +259,8 @@ fn next_key_with(
     next_key_of(nfa, Some(closure), scratch, kind, from, unit)
 }
 
-/// The successor of a powerset state on a unit, none being the end of the haystack, as a key to look it up by.
+/// Computes the successor of a powerset state on a byte, or at the end of the haystack if `unit` is none, as a key to
+/// look it up by.
 pub fn next_key(
     nfa: &NFA,
     scratch: &mut Scratch,

@@ -1,4 +1,5 @@
-//! Bytes that are shared. A few of them lie beside the count of those who share them, so that they take one allocation.
+//! Reference-counted bytes. A short sequence is stored inline, beside the reference count, so that it takes one
+//! allocation.
 ghost use Rattle.std.specs.Prelude.{◌≡◌, ◌≤◌, length, take, IfOk};
 
 use crate::util::heap::block;
@@ -6,13 +7,13 @@ use std::alloc::{AllocError, Global};
 use std::marker::Model;
 use std::sync::Arc;
 
-/// How many bytes are few: so many hold a state of up to 39 NFA states whose numbers are near one another.
+/// The size of the inline buffer, in bytes: enough for a state of up to 39 NFA states with nearby IDs.
 const FEW: usize = 48;
 
-/// How many bytes the count takes of those who share.
+/// The size of the reference count, in bytes.
 const COUNT_SIZE: usize = 8;
 
-/// Bytes, in place if they are few, or in a vector of their own.
+/// Bytes, stored inline if there are at most `FEW`, and in a vector otherwise.
 #[derive(Drop)]
 struct Stored {
     len: usize,
@@ -30,7 +31,7 @@ impl Model for Stored {
 }
 
 impl Stored {
-    /// The bytes, whether they are in place or in the vector.
+    /// Returns the bytes, whether they are inline or in the vector.
     fn as_slice(&self) -> &[u8]
         ensures { result.now ≡ self.now }
     {
@@ -42,7 +43,7 @@ impl Stored {
     }
 }
 
-/// A copy of at most 48 bytes, at the front of an array.
+/// Copies at most 48 bytes to the front of an array.
 fn few_of(bytes: &[u8]) -> [u8; 48]
     requires { length bytes.now ≤ 48 }
     ensures { take (length bytes.now) result ≡ bytes.now }
@@ -52,7 +53,7 @@ fn few_of(bytes: &[u8]) -> [u8; 48]
     few
 }
 
-/// Shared bytes.
+/// Reference-counted bytes.
 #[derive(Drop)]
 pub struct SharedBytes {
     stored: Arc<Stored>,
@@ -76,7 +77,7 @@ impl Clone for SharedBytes {
 }
 
 impl SharedBytes {
-    /// A copy of these bytes, to be shared. The only error is out of memory.
+    /// Copies these bytes, to be shared. The only error is out of memory.
     pub fn from_slice(alloc: Global, bytes: &[u8]) -> Result<SharedBytes, AllocError>
         ensures { IfOk result (λ s. s ≡ bytes.now) }
     {
@@ -93,13 +94,14 @@ impl SharedBytes {
         Ok(SharedBytes { stored })
     }
 
-    /// The bytes that the allocations take: one with the count of those who share it, and one for bytes that are many.
+    /// Returns the memory, in bytes, of the allocations: one with the reference count and the inline bytes, and one for
+    /// bytes that are not inline.
     pub fn heap_usage(&self) -> usize {
         let many = block(self.stored.many.capacity());
         many.saturating_add(block(COUNT_SIZE + size_of::<Stored>()))
     }
 
-    /// The shared bytes.
+    /// Returns the shared bytes.
     pub fn as_slice(&self) -> &[u8]
         ensures value { result.now ≡ self.now }
     {

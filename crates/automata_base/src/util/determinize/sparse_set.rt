@@ -1,4 +1,4 @@
-//! Sets of NFA states that are cleared at once.
+//! Sets of NFA states that are cleared in constant time.
 ghost use Rattle.std.specs.Prelude.{◌≡◌, ◌<◌, ◌≤◌, [], ◌∷◌, ◌++◌, IfOk, IsTrue, IsFalse};
 ghost use Rattle.std.specs.Prelude.{ℕ, length, take, ◌+◌};
 ghost use Rattle.automata_base.specs.Lists.{In, Distinct};
@@ -9,7 +9,7 @@ use crate::util::primitives::StateID;
 use std::alloc::{AllocError, Global};
 use std::marker::Model;
 
-/// A set of numbers below its capacity, which keeps the order in which they came.
+/// A set of numbers below its capacity, which keeps the order in which they were added.
 #[derive(Debug, Drop)]
 pub struct SparseSet {
     len: usize,
@@ -29,7 +29,7 @@ impl Model for SparseSet {
     ghost invariant = { IsSparse };
 }
 
-/// Puts the elements of a list in the place of those of another, from an index on.
+/// Overwrites the elements of `out` from the index `start` on with those of `list`.
 #[inline(always)]
 fn put_from(out: &mut Vec<StateID>, start: usize, list: &[StateID])
     requires { start + length list.now ≤ length out.old.items }
@@ -40,7 +40,7 @@ fn put_from(out: &mut Vec<StateID>, start: usize, list: &[StateID])
 }
 
 impl SparseSet {
-    /// An empty set with room for the numbers below `capacity`.
+    /// Returns an empty set with room for the numbers below `capacity`.
     pub fn new(alloc: Global, capacity: u32) -> Result<Self, AllocError>
         ensures empty { IfOk result (λ set. set.items ≡ []) }
         ensures capacity { IfOk result (λ set. set.capacity ≡ capacity) }
@@ -54,7 +54,7 @@ impl SparseSet {
         })
     }
 
-    /// An empty set with room for the same numbers.
+    /// Returns an empty set with room for the same numbers.
     pub fn emptied(&self, alloc: Global) -> Result<SparseSet, AllocError>
         ensures empty { IfOk result (λ set. set.items ≡ []) }
         ensures capacity { IfOk result (λ set. set.capacity ≡ self.now.capacity) }
@@ -69,13 +69,13 @@ impl SparseSet {
         })
     }
 
-    /// The bytes that its two lists take of the allocator.
+    /// Returns the memory, in bytes, that the two lists of the set take from the allocator.
     pub fn heap_usage(&self) -> usize {
         let dense = array(self.dense.capacity(), 4);
         dense.saturating_add(array(self.sparse.capacity(), 4))
     }
 
-    /// Takes each number out of the set, in constant time.
+    /// Removes all numbers, in constant time.
     pub fn clear(&mut self)
         ensures empty { self.new.items ≡ [] }
         ensures capacity { self.new.capacity ≡ self.old.capacity }
@@ -83,7 +83,7 @@ impl SparseSet {
         self.len = 0;
     }
 
-    /// The numbers that the set has room for are those below this.
+    /// Returns the capacity of the set, which has room for the numbers below it.
     #[inline(always)]
     pub fn capacity(&self) -> usize
         ensures { result ≡ self.now.capacity }
@@ -91,7 +91,7 @@ impl SparseSet {
         self.dense.len()
     }
 
-    /// The numbers of the set, in the order in which they were added.
+    /// Returns the numbers of the set, in the order in which they were added.
     pub fn as_slice(&self) -> &[StateID]
         ensures items { result.now ≡ self.now.items }
         ensures below { (q : ℕ) → In q self.now.items → q < self.now.capacity }
@@ -111,7 +111,7 @@ impl SparseSet {
         i < self.len && self.dense[i] == id
     }
 
-    /// The index of a member among the numbers of the set, from 0.
+    /// Returns the index of a member, in the order in which the numbers were added.
     pub fn place(&self, id: StateID) -> usize
         requires { In id self.now.items }
         ensures place { result ≡ place_in self.now.items id }
@@ -120,7 +120,8 @@ impl SparseSet {
         self.sparse[id.as_usize()] as usize
     }
 
-    /// Adds a number after the others, and returns whether it is new. A number that the set has stays where it is.
+    /// Adds a number after the others, and returns whether it is new. A number that is already a member keeps its
+    /// index.
     pub fn insert(&mut self, id: StateID) -> bool
         requires { id < self.old.capacity }
         ensures new { IsTrue result → In id self.old.items → ⊥ }
@@ -136,7 +137,7 @@ impl SparseSet {
         true
     }
 
-    /// Adds a number that the set does not have after the others.
+    /// Adds a number, which must not be a member, after the others.
     #[inline(always)]
     pub fn push(&mut self, id: StateID)
         requires below { id < self.old.capacity }
@@ -149,7 +150,7 @@ impl SparseSet {
         self.sparse[id.as_usize()] = i as u32;
         self.len = i + 1;
     }
-    /// Adds numbers that the set does not have after the others. None of them may repeat.
+    /// Adds numbers, none of which may be a member or repeat, after the others.
     pub fn append(&mut self, list: &[StateID])
         requires below { (q : ℕ) → In q list.now → q < self.old.capacity }
         requires distinct { Distinct list.now }

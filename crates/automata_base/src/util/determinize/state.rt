@@ -1,4 +1,4 @@
-//! Powerset states as coded bytes, which are shared.
+//! Powerset states as shared encoded bytes.
 ghost use Rattle.std.specs.Prelude.{◌≡◌, ◌≤◌, ◌<◌, [], IfOk, OnOk, IsTrue, ◌↔◌, length, slice_index};
 ghost use Rattle.std.specs.Prelude.{vec_capacity, IfSome};
 ghost use Rattle.automata_base.specs.Lists.{Distinct};
@@ -33,15 +33,15 @@ pub struct Parts {
     pub patterns: Vec<PatternID>,
     /// The looks that are known to hold, as the bits of a `LookSet`.
     pub known: u32,
-    /// The looks that its NFA states test, as the bits of a `LookSet`.
+    /// The looks that the NFA states test, as the bits of a `LookSet`.
     pub needed: u32,
-    /// Whether it is after a word byte.
+    /// Whether the state is after a word byte.
     pub word: bool,
-    /// Whether it is half way through a CRLF.
+    /// Whether the state is halfway through a CRLF.
     pub half: bool,
 }
 
-// One call for an owner, whose proof then has no step for each part.
+// An owner drops this with one call, so that its proof has no step for each field.
 impl Drop for Parts {
     fn drop(self) {
         let Self {
@@ -63,12 +63,12 @@ impl Parts {
         are_distinct(&self.patterns)
     }
 
-    /// The bytes that both lists take of the allocator.
+    /// Returns the memory, in bytes, that the two lists take from the allocator.
     pub fn heap_usage(&self) -> usize {
         array(self.nfa.capacity(), 4).saturating_add(array(self.patterns.capacity(), 4))
     }
 
-    /// Empty parts with room for as many states and patterns.
+    /// Returns empty parts with room for as many states and patterns as these.
     pub fn emptied(&self, alloc: Global) -> Result<Parts, AllocError>
         ensures empty { IfOk result (λ parts. (parts.nfa.items ≡ []) × (parts.patterns.items ≡ [])) }
         ensures nfa { IfOk result (λ parts. vec_capacity self.now.nfa ≤ vec_capacity parts.nfa) }
@@ -84,7 +84,7 @@ impl Parts {
         })
     }
 
-    /// Sets the bytes to those of the state of these parts. The call allocates nothing if there is room.
+    /// Sets `out` to the encoding of the state of these parts. The call allocates nothing if `out` has room.
     pub fn write(&self, out: &mut Vec<u8>) -> Result<(), AllocError>
         requires { Distinct self.now.patterns.items }
         ensures bytes { OnOk result (out.new.items ≡ code (powerset_of self.now)) }
@@ -94,8 +94,8 @@ impl Parts {
         self.write_with(None, out)
     }
 
-    /// Sets the bytes to those of the state of these parts. There may be the closure that the NFA keeps, whose bytes
-    /// are copied where the NFA states have it.
+    /// Sets `out` to the encoding of the state of these parts. If a kept closure is given and the NFA states contain
+    /// what is kept of it, the closure's bytes are copied.
     #[inline(always)]
     pub(crate) fn write_with(
         &self,
@@ -124,12 +124,12 @@ impl Parts {
     }
 }
 
-/// A powerset state as coded bytes, shared. Contracts see the state and not its bytes.
+/// A powerset state as shared encoded bytes. Contracts see the state, not its bytes.
 pub struct State {
     bytes: SharedBytes,
 }
 
-// One call for an owner, whose proof then has no step for each part.
+// An owner drops this with one call, so that its proof has no step for each field.
 impl Drop for State {
     fn drop(self) {
         let Self { bytes: _bytes } = self;
@@ -192,8 +192,8 @@ impl Clone for State {
 impl State {
     ghost use Rattle.automata_base.specs.Powersets.Parts.{powerset_of};
 
-    /// The state of these parts, in which no pattern stands twice: `Parts::is_without_repeats` is the test. The only
-    /// error is out of memory.
+    /// Returns the state of these parts, in which no pattern may repeat; `Parts::is_without_repeats` tests that. The
+    /// only error is out of memory.
     pub fn encode(alloc: Global, parts: &Parts) -> Result<State, AllocError>
         requires { Distinct parts.now.patterns.items }
         ensures { IfOk result (λ s. s ≡ powerset_of parts.now) }
@@ -204,7 +204,7 @@ impl State {
         Ok(State { bytes })
     }
 
-    /// The state of these bytes, as `Parts::write` makes them.
+    /// Returns the state that these bytes encode, as `Parts::write` writes them.
     pub fn from_bytes(alloc: Global, bytes: &[u8]) -> Result<State, AllocError>
         requires { IsCode bytes.now }
         ensures { IfOk result (λ s. s ≡ decoded bytes.now) }
@@ -213,7 +213,7 @@ impl State {
         Ok(State { bytes })
     }
 
-    /// A key of a map for the state, which shares its bytes.
+    /// Returns a map key for the state, which shares the state's bytes.
     pub fn key(&self) -> Result<Key, AllocError>
         ensures { IfOk result (λ key. key ≡ self.now) }
     {
@@ -221,7 +221,7 @@ impl State {
         Ok(Key::shared(bytes))
     }
 
-    /// The coded bytes of the state. The call allocates nothing.
+    /// Returns the encoded bytes of the state. The call allocates nothing.
     pub fn as_bytes(&self) -> &[u8]
         ensures bytes { result.now ≡ code self.now }
         ensures state { IsPowerset self.now }
@@ -230,33 +230,33 @@ impl State {
         self.bytes.as_slice()
     }
 
-    /// The bytes that its allocations take, which those share who clone it.
+    /// Returns the memory, in bytes, of the state's allocations, which its clones share.
     pub fn heap_usage(&self) -> usize {
         self.bytes.heap_usage()
     }
 
-    /// The NFA states of the state, in order of preference. The call allocates nothing.
+    /// Returns an iterator over the NFA states of the state, in order of preference. The call allocates nothing.
     pub fn nfa(&self) -> Ids<'_>
         ensures { result ≡ self.now.nfa }
     {
         Ids::new(ids_in(self.bytes.as_slice()))
     }
 
-    /// How many NFA states the state has. The call does not read them.
+    /// Returns the number of NFA states of the state. The call counts them without decoding them.
     pub fn nfa_len(&self) -> usize
         ensures { result ≡ length self.now.nfa }
     {
         number_count(ids_in(self.bytes.as_slice()))
     }
 
-    /// How many patterns match in the state.
+    /// Returns the number of patterns that match in the state.
     pub fn match_len(&self) -> usize
         ensures { result ≡ length self.now.patterns }
     {
         pattern_count(self.bytes.as_slice())
     }
 
-    /// The matching pattern at an index below `match_len`.
+    /// Returns the matching pattern at an index below `match_len`.
     pub fn match_pattern(&self, index: usize) -> PatternID
         requires { index < length self.now.patterns }
         ensures { result ≡ slice_index self.now.patterns index }
@@ -264,14 +264,14 @@ impl State {
         pattern_at(self.bytes.as_slice(), index)
     }
 
-    /// The looks that are known to hold, as the bits of a `LookSet`.
+    /// Returns the looks that are known to hold, as the bits of a `LookSet`.
     pub fn known(&self) -> u32
         ensures { result ≡ self.now.known }
     {
         u32_at(self.bytes.as_slice(), 1)
     }
 
-    /// The looks that its NFA states test, as the bits of a `LookSet`.
+    /// Returns the looks that the NFA states test, as the bits of a `LookSet`.
     pub fn needed(&self) -> u32
         ensures { result ≡ self.now.needed }
     {
@@ -285,14 +285,14 @@ impl State {
         self.bytes.as_slice()[0] / 4 % 2 == 1
     }
 
-    /// Whether the state is half way through a CRLF.
+    /// Whether the state is halfway through a CRLF.
     pub fn half(&self) -> bool
         ensures { result ≡ self.now.half }
     {
         self.bytes.as_slice()[0] / 8 % 2 == 1
     }
 
-    /// Whether the NFA states are all below the number of states of this NFA. The call allocates nothing.
+    /// Whether all NFA states of the state are states of this NFA. The call allocates nothing.
     pub fn is_of(&self, nfa: &NFA) -> bool
         ensures { IsTrue result ↔ IsOf nfa.now self.now }
     {
@@ -312,7 +312,7 @@ impl State {
         read_ids(self.nfa(), &mut parts.nfa)
     }
 
-    /// The six parts of the state. The only error is out of memory.
+    /// Returns the six parts of the state. The only error is out of memory.
     pub fn decode(&self, alloc: Global) -> Result<Parts, AllocError>
         ensures { IfOk result (λ parts. powerset_of parts ≡ self.now) }
     {

@@ -1,11 +1,11 @@
-//! What the parts of a powerset state have to meet.
+//! The test of the parts of a powerset state: no pattern may repeat.
 ghost use Rattle.std.specs.Prelude.{◌≡◌, IsTrue, ◌↔◌, nat_eq, false};
 ghost use Rattle.std.specs.List.{AllByRecursion};
 ghost use Rattle.automata_base.specs.Lists.{Distinct};
 
 use crate::util::primitives::PatternID;
 
-/// Whether the pattern is none of these.
+/// Whether the pattern is not one of these.
 fn is_apart(id: PatternID, ids: &[PatternID]) -> bool
     ensures { IsTrue result ↔ AllByRecursion (λ other. nat_eq id other ≡ false) ids.now }
 {

@@ -1,4 +1,4 @@
-//! The bytes of a powerset state, appended to a vector.
+//! The encoding of powerset states, appended to a vector of bytes.
 ghost use Rattle.std.specs.Prelude.{◌≡◌, ◌++◌, ◌<◌, ◌≤◌, ◌+◌, ◌^◌, length, All, OnOk, IfSome, vec_len, vec_capacity};
 ghost use Rattle.std.specs.List.{flat_map};
 ghost use Rattle.automata_base.specs.Powersets.Code.{four_bytes, varint, ids_code, code, difference, is_listed};
@@ -12,14 +12,14 @@ use crate::util::determinize::kept::place_of;
 use crate::util::primitives::{PatternID, StateID};
 use std::alloc::AllocError;
 
-/// Appends a number in four bytes, the least first.
+/// Appends a number as four bytes, the least significant first.
 fn push_u32(out: &mut Vec<u8>, n: u32) -> Result<(), AllocError>
     ensures ok { OnOk result (out.new.items ≡ out.old.items ++ four_bytes n) }
 {
     out.extend_from_slice(&n.to_le_bytes())
 }
 
-/// Appends numbers, each in four bytes.
+/// Appends pattern IDs, each as four bytes.
 fn push_u32s(out: &mut Vec<u8>, numbers: &[PatternID]) -> Result<(), AllocError>
     ensures ok { OnOk result (out.new.items ≡ out.old.items ++ flat_map four_bytes numbers.now) }
 {
@@ -29,7 +29,7 @@ fn push_u32s(out: &mut Vec<u8>, numbers: &[PatternID]) -> Result<(), AllocError>
     Ok(())
 }
 
-/// Appends a number in groups of seven bits, the least first.
+/// Appends a number as a varint: in groups of seven bits, the least significant first.
 fn push_number(out: &mut Vec<u8>, n: u64) -> Result<(), AllocError>
     requires { n < 2 ^ 35 }
     ensures ok { OnOk result (out.new.items ≡ out.old.items ++ varint n) }
@@ -43,7 +43,7 @@ fn push_number(out: &mut Vec<u8>, n: u64) -> Result<(), AllocError>
     Ok(())
 }
 
-/// The difference of an NFA state to the one before it, as a number without a sign.
+/// Returns the difference of an NFA state from the previous one, as an unsigned number.
 fn difference_of(before: u32, id: u32) -> u64
     ensures value { result ≡ difference before id }
     ensures bound { result < 2 ^ 35 }
@@ -55,8 +55,8 @@ fn difference_of(before: u32, id: u32) -> u64
     }
 }
 
-/// Appends a number, if there is room for a byte of each number that is left, and leaves room for the others. Most
-/// numbers take one byte.
+/// Appends a number as a varint. There must be room for one byte for each of the `left` numbers that remain, this one
+/// included; afterwards there is room for the others. Most numbers take one byte.
 #[inline(always)]
 fn push_in_room(out: &mut Vec<u8>, n: u64, left: usize) -> Result<(), AllocError>
     requires bound { n < 2 ^ 35 }
@@ -74,7 +74,7 @@ fn push_in_room(out: &mut Vec<u8>, n: u64, left: usize) -> Result<(), AllocError
     Ok(())
 }
 
-/// Appends NFA states that follow another one, each by its difference to the one before.
+/// Appends NFA states that follow the state `before`, each as its difference from the previous one.
 #[inline(always)]
 pub(crate) fn push_ids(out: &mut Vec<u8>, before: u32, ids: &[StateID]) -> Result<(), AllocError>
     ensures ok { OnOk result (out.new.items ≡ out.old.items ++ ids_code before ids.now) }
@@ -92,8 +92,8 @@ pub(crate) fn push_ids(out: &mut Vec<u8>, before: u32, ids: &[StateID]) -> Resul
     Ok(())
 }
 
-/// Appends NFA states, none being before them. Where they have what is kept of the closure, the bytes of all but the
-/// first of these are copied.
+/// Appends a whole list of NFA states. If it contains what is kept of the closure, the bytes of all these states but
+/// the first are copied.
 #[inline(never)]
 fn push_with(out: &mut Vec<u8>, closure: &KeptClosure, ids: &[StateID]) -> Result<(), AllocError>
     requires { IsRestCode closure.now.kept.items closure.now.code.items }
@@ -112,8 +112,8 @@ fn push_with(out: &mut Vec<u8>, closure: &KeptClosure, ids: &[StateID]) -> Resul
     }
 }
 
-/// Appends NFA states, none being before them. There may be the closure that the NFA keeps, whose bytes are copied
-/// where they have it.
+/// Appends a whole list of NFA states. If a kept closure is given and the list contains what is kept of it, the
+/// closure's bytes are copied.
 #[inline(always)]
 fn push_list(
     out: &mut Vec<u8>,
@@ -130,7 +130,7 @@ fn push_list(
     }
 }
 
-/// Whether there are patterns and they are not the list of pattern 0 alone.
+/// Whether the encoding lists the patterns: it does unless there are none, or only pattern 0.
 fn lists(patterns: &[PatternID]) -> bool
     ensures { result ≡ is_listed patterns.now }
 {
@@ -141,7 +141,7 @@ fn lists(patterns: &[PatternID]) -> bool
     }
 }
 
-/// Appends the patterns, if they are listed.
+/// Appends the patterns, if the encoding lists them.
 fn push_patterns(out: &mut Vec<u8>, patterns: &[PatternID]) -> Result<(), AllocError>
     requires { length patterns.now < 2 ^ 32 }
     ensures ok { OnOk result (out.new.items ≡ out.old.items ++ patterns_code patterns.now) }
@@ -153,8 +153,8 @@ fn push_patterns(out: &mut Vec<u8>, patterns: &[PatternID]) -> Result<(), AllocE
     push_u32s(out, patterns)
 }
 
-/// The first byte of a powerset state: whether it has patterns, lists them, is after a word byte, and is half way
-/// through a CRLF.
+/// Returns the first byte of an encoded powerset state: whether it has patterns, lists them, is after a word byte, and
+/// is halfway through a CRLF.
 fn flags_of(patterns: &[PatternID], word: bool, half: bool) -> u8
     ensures { result ≡ flag_byte (has_any patterns.now) (is_listed patterns.now) word half }
 {
@@ -162,8 +162,8 @@ fn flags_of(patterns: &[PatternID], word: bool, half: bool) -> u8
     u8::from(!patterns.is_empty()) + 2 * u8::from(listed) + 4 * u8::from(word) + 8 * u8::from(half)
 }
 
-/// Appends the bytes of a state. There may be the closure that the NFA keeps, whose bytes are copied where its NFA
-/// states have it.
+/// Appends the encoding of a state. If a kept closure is given and the NFA states contain what is kept of it, the
+/// closure's bytes are copied.
 #[inline(always)]
 pub(crate) fn push_state(
     out: &mut Vec<u8>,

@@ -11,7 +11,7 @@ use Rattle.automata_hybrid.proofs.Steps.Steps.{known_answer, moved_answer, unkno
 use Rattle.automata_hybrid.proofs.Searches.Contracts.{is_store}
 use Rattle.automata_hybrid.proofs.search.step.Goals as goal
 
--- a cell whose transition is not cached
+-- the cell of a transition that is not cached is empty
 unread :
     (m : Machine) (id : ℕ) (unit : Option ℕ) (c : CacheView) (cell : ℕ) → cell ≡ known_step m c.store id unit
     → (KnowsStep m c.store id unit → ⊥)

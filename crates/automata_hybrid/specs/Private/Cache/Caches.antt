@@ -11,14 +11,14 @@ use Rattle.automata_hybrid.specs.Cache.Caches.{CacheView}
 abbrev pub counted_in_store : CacheView → CacheView
 counted_in_store c = record { store = c.store; count = c.count + 1 }
 
--- a cache of this DFA: its rows fit together, each start slot has its own start or none yet, and its accounted bytes
--- are within the settings
+-- a cache of this DFA: its rows fit together, each start slot has its own start state or is empty, and its accounted
+-- bytes are within the settings
 pub record IsStoreOf (c : Stored) (m : Machine) : Type 0 where
   -- it belongs to the DFA
   pub of : c.table.of ≡ m
   -- its rows and cells fit each other
   pub rows : RowsFitCells c.table
-  -- each start slot has its own start state, or none yet
+  -- each start slot has its own start state, or is empty
   pub starts : AllStarts c.table c.starts
   -- there are as many start slots as the DFA has
   pub slots : length c.starts ≡ m.slots
@@ -28,5 +28,5 @@ pub record IsStoreOf (c : Stored) (m : Machine) : Type 0 where
   pub small : c.table.of.stride ≤ 512
   -- a new row has as many cells as each row
   pub wide : length c.table.of.template ≡ c.table.of.stride
-  -- the count of clears is a number of 64 bits
+  -- the count of clears fits in 64 bits
   pub clears : c.clears < 2 ^ 64

@@ -1,4 +1,4 @@
--- What a clear keeps of the rows and the slots, one slot after another.
+-- Which rows and start slots a clear keeps, one slot after another.
 use Rattle.std.specs.Prelude.{◌≡◌, ℕ, ◌+◌, ◌<◌, ◌≤◌, List, length, None, Some, slice_index, ◌⊎◌, [], ◌∷◌, ◌++◌}
 use Rattle.std.specs.Prelude.{cond, Option, is_some, slice_get, nat_le, unwrap_or}
 use Rattle.automata_base.specs.Powersets.Powerset.{Powerset}
@@ -11,22 +11,22 @@ use Rattle.automata_base.specs.declared.util.search.Anchored.{Anchored}
 use Rattle.automata_hybrid.specs.Machines.StartSlots.{slot_behind}
 use Rattle.automata_hybrid.specs.Private.Cache.Table.{with_row_in_store}
 
--- an ID leads to the start state of a slot: that of each anchored mode after each look-behind byte that has it
+-- an ID leads to the start state of a slot, for each anchored mode and look-behind byte that have this slot
 abbrev pub LeadsToStart : Rows → ℕ → (slot : ℕ) → Type 0
 LeadsToStart t id slot =
     (q : Powerset) × Leads t id q
     × ((mode : Anchored) (behind : Option ℕ) → slot_behind t.of mode behind ≡ slot
     → q ≡ start_state_of t.of.nfa mode behind)
 
--- what a slot has: unknown, dead for the dead state, or the ID of its start state
+-- the ID in a slot: unknown, dead for the dead state, or the ID of its start state
 abbrev pub IsSlot : Rows → (slot id : ℕ) → Type 0
 IsSlot t slot id = (id ≡ unknown_id) ⊎ LeadsToStart t id slot
 
--- each start slot has what a slot has: unknown, dead, or the ID of its start state
+-- each start slot is unknown, dead, or has the ID of its start state
 abbrev pub AllStarts : Rows → List ℕ → Type 0
 AllStarts t starts = (slot id : ℕ) → slice_get starts slot ≡ Some id → IsSlot t slot id
 
--- a table with this row, unless its state has one
+-- a table with this row, unless its state already has one
 abbrev pub with_row_once : Rows → Row → Rows
 with_row_once t r = cond (is_some (id_of t r.state)) t (with_row_in_store t r)
 
@@ -37,7 +37,7 @@ pub record Kept : Type 0 where
   -- the slots kept so far, each with its new ID
   pub starts : List ℕ
 
--- the row that was found is put there, and its slot has its new ID
+-- rows and slots with the row that was found, and its new ID in the slot
 abbrev pub keep_found : Option Row → Kept → Kept
 keep_found None k = k
 keep_found (Some r) k = record {
@@ -45,13 +45,14 @@ keep_found (Some r) k = record {
   starts = k.starts ++ unwrap_or (id_of (with_row_once k.table r) r.state) unknown_id ∷ [];
 }
 
--- a slot that names a row: the row stays, and the slot has its new ID; another slot stays as it is
+-- rows and slots with one more slot: if it names a row, the row is kept and the slot has its new ID; otherwise it stays
+-- as it is
 abbrev pub keep_slot : Rows → Kept → ℕ → Kept
 keep_slot old k id =
     cond (nat_le fixed_from id) (record { table = k.table; starts = k.starts ++ id ∷ [] })
     (keep_found (row_of old id) k)
 
--- each slot that names a row keeps that row, under its new ID, one slot after another
+-- rows and slots with more slots, one after another: each that names a row keeps that row, with its new ID
 unfoldable pub keep_slots : Rows → Kept → List ℕ → Kept
 keep_slots old k [] = k
 keep_slots old k (id ∷ ids) = keep_slots old (keep_slot old k id) ids
@@ -60,7 +61,7 @@ keep_slots old k (id ∷ ids) = keep_slots old (keep_slot old k id) ids
 abbrev pub kept : Rows → List ℕ → Kept
 kept old starts = keep_slots old (record { table = fresh old.of; starts = [] }) starts
 
--- the row of an ID was put into a table, where it has a new ID
+-- the row of an ID was put into another table, where it has a new ID
 pub record IsPut (old before after : Rows) (id new : ℕ) : Type 0 where
   -- there is a row
   pub row : Row
@@ -71,21 +72,21 @@ pub record IsPut (old before after : Rows) (id new : ℕ) : Type 0 where
   -- the new ID names its state there
   pub named : Names after new row.state
 
--- what keeping one more slot of an old table makes of the rows and the slots that are kept
+-- the effect of keeping one more slot of an old table on the rows and slots that are kept
 pub record KeepsSlot (old : Rows) (id : ℕ) (before after : Kept) : Type 0 where
   -- it is kept as a clear keeps it
   pub value : after ≡ keep_slot old before id
-  -- each slot has its start
+  -- each slot has its start state, or is empty
   pub named : AllStarts after.table after.starts
-  -- there is at most one row more
+  -- there is at most one more row
   pub few : length after.table.rows ≤ length before.table.rows + 1
-  -- there is one slot more
+  -- there is one more slot
   pub slots : length after.starts ≡ length before.starts + 1
-  -- the slots before it are as they were
+  -- the slots before it are unchanged
   pub front : (slot : ℕ) → slot < length before.starts → slice_index after.starts slot ≡ slice_index before.starts slot
   -- if its start state was cached, it is cached
   pub known : id < unknown_id → slice_index after.starts (length before.starts) < unknown_id
-  -- no state is there that neither table had
+  -- it has no state that neither table had
   pub absent : (q : Powerset) → id_of old q ≡ None → id_of before.table q ≡ None → id_of after.table q ≡ None
   -- the rows belong to the same machine
   pub of : after.table.of ≡ before.table.of
@@ -94,15 +95,15 @@ pub record KeepsSlot (old : Rows) (id : ℕ) (before after : Kept) : Type 0 wher
 pub record KeepsAllStarts (old : Rows) (starts : List ℕ) (k : Kept) : Type 0 where
   -- these rows and slots are kept
   pub value : k ≡ kept old starts
-  -- each slot has its start
+  -- each slot has its start state, or is empty
   pub named : AllStarts k.table k.starts
-  -- there are no more rows than slots
+  -- there are at most as many rows as slots
   pub few : length k.table.rows ≤ length starts
   -- there are as many slots as before
   pub slots : length k.starts ≡ length starts
-  -- each start state that was cached is cached
+  -- each start state that was cached still is
   pub known : KeepsStarts starts k.starts
-  -- no state is there that was not there before
+  -- it has no state that the old table did not have
   pub absent : (q : Powerset) → id_of old q ≡ None → id_of k.table q ≡ None
   -- the rows belong to the same machine
   pub of : k.table.of ≡ old.of

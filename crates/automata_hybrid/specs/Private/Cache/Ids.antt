@@ -9,7 +9,7 @@ pub record IsRunTag (tag : ℕ) : Type 0 where
   -- it has none of the bits of an offset
   pub whole : tag % offset_limit ≡ 0
 
--- an ID has this tag and no other
+-- this is the only tag of an ID, or the ID has none if this is 0
 pub record HasOnly (tag id : ℕ) : Type 0 where
   -- the ID is at least the tag
   pub from : tag ≤ id

@@ -1,4 +1,4 @@
--- What a look-up of a state finds.
+-- The result of looking up a state.
 use Rattle.std.specs.Prelude.{◌≡◌}
 use Rattle.automata_base.specs.Powersets.Powerset.{Powerset}
 use Rattle.automata_hybrid.specs.Cache.Table.{Rows, Leads}
@@ -6,7 +6,7 @@ use Rattle.automata_hybrid.specs.Private.Cache.Table.{Lacks}
 use Rattle.automata_hybrid.specs.declared.cache.Found.{Found}
 use Rattle.automata_hybrid.specs.declared.cache.Found.TheVariants.{Known, New}
 
--- what a look-up of a state returns: an ID that leads to it, or the state itself, which no row has
+-- the result of looking up a state: an ID that leads to it, or the state itself, which no row has
 abbrev pub IsLookedUp : Rows → Powerset → Found → Type 0
 IsLookedUp t q (Known id) = Leads t id q
 IsLookedUp t q (New state) = (state ≡ q) × Lacks t q

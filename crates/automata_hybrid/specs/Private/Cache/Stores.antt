@@ -1,4 +1,5 @@
--- What is true of each store, which of its transitions and starts are cached, and stores with one of these written.
+-- Which transitions and start states of a store are cached, stores with one of these written, and the limits of a
+-- cache.
 use Rattle.std.specs.Prelude.{ℕ, ◌<◌, slice_index, slice_set, List}
 use Rattle.automata_config.specs.Options.{minimum_cache_clear_count_of, minimum_bytes_per_state_of}
 use Rattle.automata_hybrid.specs.declared.cache.settings.Settings.{Settings}
@@ -12,7 +13,7 @@ use Rattle.automata_hybrid.specs.Cache.Table.{Rows}
 abbrev pub with_table : Stored → Rows → Stored
 with_table c t = record { table = t; starts = c.starts; clears = c.clears; searched = c.searched }
 
--- each start state that was cached is cached
+-- each start state that was cached still is
 abbrev pub KeepsStarts : List ℕ → List ℕ → Type 0
 KeepsStarts old new = (slot : ℕ) → slice_index old slot < unknown_id → slice_index new slot < unknown_id
 
@@ -24,7 +25,7 @@ IsKnownTransition c id class = cell_of c id class < unknown_id
 abbrev pub with_next : Stored → ℕ → ℕ → ℕ → Stored
 with_next c id class next = with_table c (with_cell c.table id class next)
 
--- a store with a start written
+-- a store with a start slot written
 abbrev pub with_start_in_store : Stored → ℕ → ℕ → Stored
 with_start_in_store c slot id = record {
   table = c.table;
@@ -37,7 +38,7 @@ with_start_in_store c slot id = record {
 abbrev pub IsKnownStart : Stored → ℕ → Type 0
 IsKnownStart c slot = slice_index c.starts slot < unknown_id
 
--- what the cache of a machine is bounded by
+-- the limits of a machine's cache
 abbrev pub cache_settings : Machine → Settings
 cache_settings m = record {
   capacity = m.capacity;

@@ -1,4 +1,4 @@
--- What is true of each table: how its rows, their IDs and their cells fit each other.
+-- What is true of every table: how its rows, their IDs and their cells fit each other.
 use Rattle.std.specs.Prelude.{◌≡◌, ℕ, ◌*◌, ◌≤◌, List, length, Some, slice_get, sum_by, ◌+◌, ◌<◌, [], ◌∷◌, ◌++◌, Option}
 use Rattle.std.specs.Prelude.{None, slice_index, slice_set, take}
 use Rattle.std.specs.HashMap.{HashMap, get}
@@ -18,19 +18,19 @@ use Rattle.automata_base.specs.Retraced.Steps.{successor}
 use Rattle.automata_config.specs.Options.{match_kind_of}
 use Rattle.automata_hybrid.specs.Machines.OwnStates.{IsOwn}
 
--- an ID leads from a state where each unit of a class does
+-- an ID leads to the successor of a state on each unit of a class
 abbrev pub LeadsByClass : Rows → ℕ → Powerset → (class : ℕ) → Type 0
 LeadsByClass t id q class =
     (unit : Option ℕ) → IsUnit unit → unit_class t.of unit ≡ class
     → Leads t id (successor t.of.nfa (match_kind_of t.of.config) q unit)
 
--- what stands in a cell of a state's row: the template says which classes are quit classes
+-- what a cell of a state's row contains; the template says which classes are quit classes
 pub data IsCell (t : Rows) (q : Powerset) (class id : ℕ) : Type 0 where
   -- at a quit class it is the quit ID
   CellQuits : slice_index t.of.template class ≡ quit_id t.of.stride → id ≡ quit_id t.of.stride → IsCell t q class id
-  -- at another class it may be unknown yet
+  -- at any other class it may still be unknown
   CellUnknown : slice_index t.of.template class ≡ unknown_id → id ≡ unknown_id → IsCell t q class id
-  -- else it leads to the next state
+  -- otherwise it leads to the next state
   CellLeads : slice_index t.of.template class ≡ unknown_id → LeadsByClass t id q class → IsCell t q class id
 
 -- each cached cell of a row names the next state of that row's state
@@ -39,7 +39,7 @@ IsStepped t =
     (k class : ℕ) (r : Row) → slice_get t.rows k ≡ Some r → class < t.of.stride
     → IsCell t r.state class (slice_index t.cells ((k + 3) * t.of.stride + class))
 
--- each row is found by its state, so no two rows have one state, and stands below the limit of offsets
+-- each row is found by its state, so no two rows have the same state, and its offset is below the limit
 abbrev pub HasRowIds : Rows → Type 0
 HasRowIds t =
     (k : ℕ) (r : Row) → slice_get t.rows k ≡ Some r
@@ -89,13 +89,13 @@ with_row_in_store t r = record { of = t.of; cells = t.cells ++ t.of.template; ro
 abbrev pub with_cell : Rows → ℕ → ℕ → ℕ → Rows
 with_cell t id class next = record { of = t.of; cells = slice_set t.cells (cell_at id class) next; rows = t.rows }
 
--- a table has got a row, with this ID
+-- a row was added to a table, with this ID
 pub record HasNewRow (old : Rows) (r : Row) (new : Rows) (id : ℕ) : Type 0 where
   -- It has the row after the others.
   pub more : new ≡ with_row_in_store old r
   -- The ID names the state of the row.
   pub named : Names new id r.state
-  -- Each ID names the state that it named.
+  -- Each ID still names the state that it named.
   pub kept : (n : ℕ) (q : Powerset) → Names old n q → Names new n q
 
 -- a copy of the row at an index of a table
@@ -118,13 +118,13 @@ pub record IsKnownState (t : Rows) (q : Powerset) : Type 0 where
 abbrev pub StateMap : Type 0
 StateMap = HashMap Powerset ℕ (BuildHasherDefault FoldHasher)
 
--- what is true of the rows of each table
+-- what is true of the rows of every table
 pub record IsSoundTable (t : Rows) : Type 0 where
   -- rows and cells fit each other
   pub rows : RowsFitCells t
   -- each cell of a new row is quit or unknown
   pub template : IsTemplate t.of.stride t.of.template
-  -- the states cost no more than so many of the dearest
+  -- the states cost no more than as many states of the greatest cost
   pub costs : sum_by row_cost t.rows ≤ length t.rows * t.of.greatest
   -- IDs of rows have no high tag
   pub low : HasLowIds t
@@ -150,16 +150,16 @@ pub record IsNewState (t : Rows) (q : Powerset) : Type 0 where
   -- it is a state of the DFA
   pub own : IsStateOf t.of q
 
--- the parts of a table: its rows fit together, a new row and the length of each are its machine's, the map finds each
+-- the parts of a table: its rows fit together, a new row and the length of a row are the machine's, the map finds each
 -- state's row, and the costs are those of all states
 pub record IsHeld (t : Rows) (s : ℕ) (row : List ℕ) (map : StateMap) (costs : ℕ) : Type 0 where
   -- rows and cells fit each other
   pub rows : RowsFitCells t
   -- each cell of a new row is quit or unknown
   pub cells : IsTemplate t.of.stride t.of.template
-  -- the length of a row is that of the machine
+  -- the length of a row is the machine's
   pub stride : s ≡ t.of.stride
-  -- a new row is that of the machine
+  -- a new row is the machine's
   pub template : row ≡ t.of.template
   -- the map has for each state the ID of its row
   pub mapped : (q : Powerset) → get powerset_eq map q ≡ id_of t q

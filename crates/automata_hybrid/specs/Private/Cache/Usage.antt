@@ -14,8 +14,8 @@ use Rattle.automata_hybrid.specs.Cache.Progress.{saturated, total_len, progress_
 use Rattle.automata_config.specs.Options.{minimum_cache_clear_count_of, minimum_bytes_per_state_of}
 use Rattle.automata_hybrid.specs.Cache.Usage.{row_usage, short_of}
 
--- the accounted bytes: those of the cells and of the slots, of the rows with the three fixed ones, and of their entries
--- in the map, which has one of these three; the costs of all states, and the room for determinization
+-- the accounted bytes: the cells, the start slots, the rows with the three fixed ones, and the map entries, one for
+-- each row and one more; the costs of all states, and the room for determinization
 abbrev pub usage_in_store : Stored → ℕ
 usage_in_store c =
     cell_size * length c.table.cells + cell_size * length c.starts + row_size * (length c.table.rows + 3)
@@ -27,7 +27,7 @@ abbrev pub Fits : Stored → ℕ → Type 0
 Fits c extra =
     (usage_in_store c + row_usage c.table.of + extra ≤ c.table.of.capacity) × (length c.table.cells < offset_limit)
 
--- a clear is allowed up to the limit, and past it only if enough bytes were searched since the last one
+-- no clear is allowed: the limit on clears is reached, and too few bytes were searched since the last one
 abbrev pub refuses_at : Option ℕ → Stored → Bool
 refuses_at None c = false
 refuses_at (Some limit) c =
@@ -38,7 +38,7 @@ refuses_at (Some limit) c =
 abbrev pub refuses_in_store : Stored → Bool
 refuses_in_store c = refuses_at (minimum_cache_clear_count_of c.table.of.config) c
 
--- a clear that keeps the start states
+-- a store after a clear, which keeps the start states
 abbrev pub cleared_in_store : Stored → Stored
 cleared_in_store c = record {
   table = (kept c.table c.starts).table;
@@ -55,18 +55,18 @@ GivesUpInStore c q = Lacks c.table q × (Fits c (cost q) → ⊥) × (refuses_in
 abbrev pub FitsAny : Stored → Type 0
 FitsAny c = (extra : ℕ) → extra ≤ c.table.of.greatest → Fits c extra
 
--- what a clear makes of a cache
+-- the effect of a clear on a store
 pub record IsCleared (old new : Stored) : Type 0 where
   -- the clear rule allows it
   pub allowed : refuses_in_store old ≡ false
-  -- the start states stay, and the progress of searches begins anew
+  -- the start states are kept, and the progress of searches starts again
   pub value : new ≡ cleared_in_store old
   -- each slot is kept, and no other row
   pub kept : KeepsAllStarts old.table old.starts (record { table = new.table; starts = new.starts })
 
 -- the slots name their states, and the accounted bytes are within the capacity; these settings are those of the machine
 pub record IsCache (c : Stored) (settings : Settings) : Type 0 where
-  -- each slot has its own start state, or none yet
+  -- each slot has its own start state, or is empty
   pub named : AllStarts c.table c.starts
   -- the accounted bytes are within the capacity
   pub within : usage_in_store c ≤ c.table.of.capacity
@@ -80,5 +80,5 @@ pub record IsCache (c : Stored) (settings : Settings) : Type 0 where
   pub slots : length c.starts ≡ c.table.of.slots
   -- the settings are those of the machine
   pub same : settings ≡ cache_settings c.table.of
-  -- the capacity is a number of 64 bits
+  -- the capacity fits in 64 bits
   pub bounded : c.table.of.capacity < 2 ^ 64

@@ -33,14 +33,14 @@ abbrev pub byte_in : Direction → List ℕ → ℕ → ℕ
 byte_in Forward bytes k = slice_index bytes k
 byte_in Backward bytes k = slice_index bytes (length bytes - 1 - k)
 
--- the index, among 32 bytes, of the one at a place of a search that reads them in a direction
+-- the index, among 32 bytes, of the byte at a place of a search that reads them in a direction
 abbrev pub lane_of : Direction → ℕ → ℕ
 lane_of Forward k = k
 lane_of Backward k = 31 - k
 
--- an ID's row leads back to it on a byte, which is no quit byte: the transition is cached, at a class that rows have
+-- an ID's row leads back to it on a byte, which is not a quit byte: the transition is cached, at a class that rows have
 pub record LoopsOn (m : Machine) (c : Stored) (id byte : ℕ) : Type 0 where
-  -- the byte is no quit byte
+  -- the byte is not a quit byte
   pub clean : is_quit m.quits byte ≡ false
   -- the transition is cached
   pub known : IsKnownTransition c id (class_in m.classes byte)
@@ -62,7 +62,7 @@ pub record IsKnownLoop (m : Machine) (c : Stored) (id : ℕ) (k : KnownLoop) : T
   -- the row leads back on each byte of the second range
   pub second : IsLoopRange m c id k.second
 
--- an ID's row leads back to it on each byte of a list from a place on, before another
+-- an ID's row leads back to it on each byte of a list from one place to another
 abbrev pub LoopsOver : Machine → Stored → ℕ → Direction → List ℕ → ℕ → ℕ → Type 0
 LoopsOver m c id way bytes from to = (k : ℕ) → from ≤ k → k < to → LoopsOn m c id (byte_in way bytes k)
 

@@ -1,4 +1,4 @@
--- What is true of the numbers and the classes of each lazy DFA.
+-- What is true of the numbers and the classes of every lazy DFA.
 use Rattle.std.specs.Prelude.{ℕ, ◌+◌, ◌*◌, ◌<◌, ◌≤◌, List, true, false, Option, slice_index, length, ◌≡◌, ◌⊎◌}
 use Rattle.automata_base.specs.Powersets.Powerset.{Powerset}
 use Rattle.automata_base.specs.ByteClasses.Classes.{class_in, eoi_class, is_quit, stride_for}
@@ -10,7 +10,7 @@ use Rattle.automata_config.specs.Options.{match_kind_of}
 use Rattle.automata_hybrid.specs.Cache.Ids.{quit_id, unknown_id, offset_limit}
 use Rattle.automata_hybrid.specs.Machines.Machine.{IsSized, Machine, unit_class}
 
--- a row of a stride that is positive, a power of two and at most 512, each cell quit or unknown
+-- the stride is positive, a power of two and at most 512, and each cell of a new row is quit or unknown
 pub record IsTemplate (stride : ℕ) (template : List ℕ) : Type 0 where
   -- a row has at least one cell
   pub positive : 0 < stride
@@ -25,14 +25,14 @@ pub record IsTemplate (stride : ℕ) (template : List ℕ) : Type 0 where
       (class : ℕ) → class < stride → (slice_index template class ≡ quit_id stride)
       ⊎ (slice_index template class ≡ unknown_id)
 
--- what each lazy DFA keeps: its numbers are its own, each byte and the end have a class, whose units step alike, and a
--- fresh cache fits
+-- what is true of every lazy DFA: its numbers are its own, each byte and the end have a class, the units of a class
+-- lead to the same states, and a new cache fits
 pub record IsMachine (m : Machine) : Type 0 where
   -- its numbers are those of its automaton, its settings and its classes
   pub sizes : IsSized m
-  -- a row has at most 512 cells, in number a power of two, and each cell of a new one is quit or unknown
+  -- a row has at most 512 cells, a power of two, and each cell of a new row is quit or unknown
   pub template : IsTemplate m.stride m.template
-  -- a row has a cell for each class, and for that of the end
+  -- a row has a cell for each class, including the class of the end
   pub below : eoi_class m.classes < m.stride
   -- a new row is quit at the class of each quit byte
   pub quit :

@@ -1,4 +1,4 @@
--- What a search in pieces holds between its calls, and how it goes on from that over a cache.
+-- What a search in pieces holds between its calls, and how it continues from that with a cache.
 use Rattle.std.specs.Prelude.{Option, Some, None, Result, Ok, Err, ℕ, ◌+◌, ◌≡◌}
 use Rattle.automata_base.specs.Powersets.Powerset.{Powerset}
 use Rattle.automata_base.specs.Haystacks.Matches.{HalfMatch}
@@ -13,7 +13,8 @@ use Rattle.automata_hybrid.specs.declared.cache.handle.Handle.{Handle}
 use Rattle.automata_hybrid.specs.declared.search.pieces.Pieces.TheInside.{Inside}
 use Rattle.automata_hybrid.specs.Pieces.State.{PiecesView}
 
--- what was found in a piece that begins at an offset, by offsets from the first piece; or what was found before
+-- the match found in a piece that begins at `base`, with its offset counted from the first piece; if there is none, the
+-- one found before
 abbrev pub found_in : Option HalfMatch → (base : ℕ) → (before : Option HalfMatch) → Option HalfMatch
 found_in None base before = before
 found_in (Some half) base before = Some (record { pattern = half.pattern; offset = base + half.offset })
@@ -32,28 +33,28 @@ HasOwnKey (Some handle) = IsHandle handle handle.state
 abbrev pub pieces_view : Inside → PiecesView
 pieces_view s = record { state = held_state s.held; read = s.read; earliest = s.earliest; found = s.found }
 
--- a cache has the row of the state where a search stands, under this ID
+-- a cache has the row of a search's current state, with this ID
 pub record HasResumed (m : Machine) (p : PiecesView) (old new : CacheView) (id : ℕ) : Type 0 where
   -- the state
   pub state : Powerset
-  -- the search stood at it
+  -- it was the current state of the search
   pub stood : p.state ≡ Some state
   -- its row was there, or is put back
   pub back : with_row_back m state (known_of old) ≡ Some (known_of new)
   -- the ID names it
   pub named : Names new.store.table id state
 
--- a cache lacks the row of the state where a search stands, and it is not put back
+-- a cache does not have the row of a search's current state, and it is not put back
 pub record FailsToResume (m : Machine) (p : PiecesView) (old new : CacheView) (e : SearchError) : Type 0 where
   -- the state
   pub state : Powerset
-  -- the search stood at it
+  -- it was the current state of the search
   pub stood : p.state ≡ Some state
   -- why its row is not put back
   pub fails : IsNotBack m state p.read (known_of old) (known_of new) e
 
--- what going on with a search returns: the ID of the state where it stands; none, once its answer stands; or why the
--- row of that state is not put back
+-- what continuing a search returns: the ID of its current state; none once its answer is final; or why the row of that
+-- state is not put back
 abbrev pub IsResumed : Machine → PiecesView → (old new : CacheView) → Result (Option ℕ) SearchError → Type 0
 IsResumed m p old new (Ok None) = (p.state ≡ None) × (known_of new ≡ known_of old)
 IsResumed m p old new (Ok (Some id)) = HasResumed m p old new id

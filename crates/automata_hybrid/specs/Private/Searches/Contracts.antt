@@ -1,4 +1,4 @@
--- What a search returns, and what it has made of what its cache knows then.
+-- What a search returns, and its effect on what its cache knows.
 use Rattle.std.specs.Prelude.{ℕ, ◌≡◌, ◌+◌, ◌-◌, Option, Some, None, option_map, IfSome, Result, Ok, Err}
 use Rattle.automata_base.specs.Haystacks.Input.{Input}
 use Rattle.automata_base.specs.Haystacks.Matches.{HalfMatch}
@@ -16,14 +16,14 @@ abbrev pub halves : Result (Option (HalfMatch × ℕ)) SearchError → Result (O
 halves (Ok found) = Ok (option_map (λ p. p.0) found)
 halves (Err e) = Err e
 
--- what a search that answers has found, and what it has made of what its cache knows
+-- what a search that answers has found, and its effect on what its cache knows
 pub record HasSearched (way : Direction) (m : Machine) (input : Input) (old new : Known)
     (half : Option (HalfMatch × ℕ)) : Type 0 where
   -- it is what the search finds
   pub found : IsFound way m input (based_half half)
   -- the passes over the spans that it tries have ended
   pub effect : IsSearchRun way m input old new None
-  -- forward, it makes no pass after the one over the span that gave its answer
+  -- a forward search makes no pass after the one over the span that gave its answer
   pub upto : way ≡ Forward → IfSome half (λ p. HaveTried Forward m input (p.1 - input.start + 1) old new)
 
 -- what a search returns: what it finds, or why it fails

@@ -1,4 +1,4 @@
--- What the functions under a search return: of a run over cached transitions, of a pass, and of the rest of one.
+-- What the functions of a search return: for a run over cached transitions, for a pass, and for the rest of one.
 use Rattle.std.specs.Prelude.{ℕ, List, Bool, suc, ◌≡◌, ◌-◌, ◌<◌, ◌≤◌, true, false, Option, Some, None, Result, Ok, Err}
 use Rattle.automata_base.specs.Haystacks.Input.{Input, IsAllowed}
 use Rattle.automata_base.specs.Haystacks.Matches.{HalfMatch}
@@ -40,34 +40,33 @@ pub record IsKnownUpto (way : Direction) (m : Machine) (c : Stored) (input : Inp
     (found : Option HalfMatch) : Type 0 where
   -- these units are bytes of the span
   pub within : k ≤ input.end - input.start
-  -- the pass has read them, is in the state of the ID, and has found this
+  -- the pass has read them, is in the ID's state, and has found this
   pub at : IsUnderway way m c.table input k id found
   -- the transition on each of them is cached
   pub known : (j : ℕ) → j < k → HasLearnedUnit way m c input j
 
--- cached transitions led a run on from a place to this stop, each to an ID that has this tag and no other
+-- cached transitions led a run from a place to this stop, each to an ID whose only tag is this one
 pub record FollowsAlong (s : Trace) (way : Direction) (m : Machine) (c : Stored) (input : Input) (tag from : ℕ)
     (to : Stop) : Type 0 where
   -- the stop is in the span
   pub within : to.at ≤ input.end - input.start
-  -- cached transitions led the run there, each to an ID that has this tag and no other
+  -- cached transitions led the run there, each to an ID whose only tag is this one
   pub followed : IsFollowedAlong s way m c input tag from to.at to.id
-  -- the ID that was met next is the one that the next byte leads to, unless it is the unknown one
+  -- the next ID is the one that the next byte leads to, unless it is unknown
   pub met : IsMetAlong s way m c input to.at to.id to.next
 
--- cached transitions led a pass from a place to this stop, each to an ID that has this tag and no other
+-- cached transitions led a pass from a place to this stop, each to an ID whose only tag is this one
 abbrev pub FollowsTo : Direction → Machine → Stored → Input → (tag from : ℕ) → Stop → Type 0
 FollowsTo way m c input tag from to = FollowsAlong (pass_trace way m input) way m c input tag from to
 
--- cached transitions led a run from one place on to another, where it has this ID, has found this, and met this ID
--- next
+-- cached transitions led a run from one place to another, where it has this ID, has found this, and has this next ID
 pub record RunsAlong (s : Trace) (way : Direction) (m : Machine) (c : Stored) (input : Input) (from : ℕ)
     (to : Place) : Type 0 where
   -- cached transitions led the run there
   pub run : HasRun s way m c input from to.at
   -- it has this ID there, and has found this
   pub at : IsAtAlong s way m c.table input to.at to.id to.found
-  -- the ID that was met next is the one that the next byte leads to, unless it is the unknown one
+  -- the next ID is the one that the next byte leads to, unless it is unknown
   pub met : IsMetAlong s way m c input to.at to.id to.next
 
 -- a half match by its parts, if there is one
@@ -83,8 +82,8 @@ pub record IsTakenUp (way : Direction) (m : Machine) (c : Stored) (input : Input
   -- the pass has read its first `k` units by cached transitions
   pub upto : IsKnownUpto way m c input k id found
 
--- cached transitions led a pass to its unit at place `k`, which it reads from a state that this ID names by a cached
--- transition too, and it reads none after it: this is what it answers
+-- cached transitions led a pass to its unit at place `k`, the last that it reads, from the state that this ID names,
+-- also by a cached transition: this is what it answers
 pub record IsKnownEnd (way : Direction) (m : Machine) (c : CacheView) (input : Input) (k id : ℕ)
     (half : Option HalfMatch) : Type 0 where
   -- this was found before
@@ -100,8 +99,8 @@ pub record IsKnownEnd (way : Direction) (m : Machine) (c : CacheView) (input : I
   -- its transition is cached
   pub known : HasLearnedUnit way m c.store input k
 
--- cached transitions led a pass to a place and to what it found: it has ended with the unit there, or goes on from it,
--- where the transition may not be cached
+-- cached transitions led a pass to a place and to what it found: it ended with the unit there, or has to continue from
+-- there, where the transition may not be cached
 abbrev pub IsKnownStop :
     Direction → Machine → CacheView → Input → KnownStop → (k id : ℕ) → Option HalfMatch → Type 0
 IsKnownStop way m c input Ended k id found = IsKnownEnd way m c input k id found
@@ -114,7 +113,7 @@ pub record HasReturned (way : Direction) (m : Machine) (input : Input) (begun ne
     Type 0 where
   -- it is what the pass answers
   pub answer : IsPassAnswer way m input half
-  -- the pass has read its units, and has ended at the last of them
+  -- the pass has read its units, and ended at the last of them
   pub ended : UnitsEnd way m input begun new
 
 -- what the rest of a pass that has begun returns: what it answers, or why it fails at a unit
@@ -123,14 +122,14 @@ abbrev pub IsRest :
 IsRest way m input begun new (Ok half) = HasReturned way m input begun new half
 IsRest way m input begun new (Err e) = FailsAtUnit way m input begun new e
 
--- the unit after the span's bytes is read, the last one of a pass, which returns a half match
+-- the unit after the span's bytes, the last one of a pass, is read, and the pass returns a half match
 pub record HasReadLast (way : Direction) (m : Machine) (input : Input) (old new : Known) (half : Option HalfMatch) :
     Type 0 where
   -- it is what the pass answers
   pub answer : IsPassAnswer way m input half
   -- what the cache knows once the unit is read
   pub mid : Known
-  -- reading it made this
+  -- this is the effect of reading it
   pub read : after_unit (pass_trace way m input) way m input (input.end - input.start) old ≡ Some mid
   -- then the search ends
   pub ended : new ≡ ended (given_up_offset way input (input.end - input.start)) mid

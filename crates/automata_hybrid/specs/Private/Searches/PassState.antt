@@ -1,4 +1,4 @@
--- Where a run is, over which cached transitions it came there, and which ID it met.
+-- Where a run is, which cached transitions led it there, and which ID comes next.
 use Rattle.std.specs.Prelude.{ℕ, suc, ◌≡◌, ◌+◌, ◌-◌, ◌^◌, ◌<◌, ◌≤◌, false, Some}
 use Rattle.automata_base.specs.ByteClasses.Classes.{is_quit}
 use Rattle.automata_base.specs.Haystacks.Input.{Input}
@@ -40,28 +40,28 @@ HasLearnedAlong s way m c input k =
 abbrev pub HasLearnedUnit : Direction → Machine → Stored → Input → ℕ → Type 0
 HasLearnedUnit way m c input k = HasLearnedAlong (pass_trace way m input) way m c input k
 
--- the unit at place `k` is no quit byte, and its cached transition leads to an ID that has this tag and no other
+-- the unit at place `k` is not a quit byte, and its cached transition leads to an ID whose only tag is this one
 pub record IsTaken (s : Trace) (way : Direction) (m : Machine) (c : Stored) (input : Input) (tag k : ℕ) : Type 0 where
-  -- the unit is no quit byte
+  -- the unit is not a quit byte
   pub clean : (byte : ℕ) → next (tape_in way input) k ≡ Some byte → is_quit m.quits byte ≡ false
   -- its transition is cached
   pub known : HasLearnedAlong s way m c input k
-  -- it leads to an ID that has this tag and no other
+  -- it leads to an ID whose only tag is this one
   pub leads : (id : ℕ) × Names c.table id (s.state (suc k)) × HasOnly tag id
 
--- cached transitions led a run from its first `from` units on to this ID after its first `to`, each of them to an ID
--- that has this tag and no other: without a tag, none of them reported anything
+-- cached transitions led a run from its first `from` units to this ID after its first `to`, each of them to an ID whose
+-- only tag is this one: if the tag is 0, none of them reported anything
 pub record IsFollowedAlong (s : Trace) (way : Direction) (m : Machine) (c : Stored) (input : Input)
     (tag from to id : ℕ) : Type 0 where
-  -- the run went on, or stayed where it was
+  -- the run advanced, or stayed where it was
   pub more : from ≤ to
-  -- the ID names the state that it came to
+  -- the ID names the state that it reached
   pub named : Names c.table id (s.state to)
-  -- the transition on each unit between is cached, and leads to an ID that has this tag and no other
+  -- the transition on each unit between is cached, and leads to an ID whose only tag is this one
   pub taken : (k : ℕ) → from ≤ k → k < to → IsTaken s way m c input tag k
 
--- cached transitions led a pass from its first `from` units to this ID after its first `to`, each to an ID with this
--- tag alone
+-- cached transitions led a pass from its first `from` units to this ID after its first `to`, each to an ID whose only
+-- tag is this one
 abbrev pub IsFollowed : Direction → Machine → Stored → Input → (tag from to id : ℕ) → Type 0
 IsFollowed way m c input tag from to id = IsFollowedAlong (pass_trace way m input) way m c input tag from to id
 
@@ -72,7 +72,7 @@ pub record IsOnTrace (s : Trace) (way : Direction) (m : Machine) (t : Rows) (inp
   -- the ID names the state after these units
   pub named : Names t id (s.state k)
 
--- a run along a trace may go on from an ID, to which so many units led it, up to a place
+-- a run along a trace may continue up to a place from the ID to which `at` units led it
 pub record MayFollow (s : Trace) (way : Direction) (m : Machine) (t : Rows) (input : Input) (at end id : ℕ) : Type
     0 where
   -- the ID names the state after these units
@@ -84,70 +84,70 @@ pub record MayFollow (s : Trace) (way : Direction) (m : Machine) (t : Rows) (inp
   -- the place is in the span
   pub upto : end ≤ input.end - input.start
 
--- an ID names the state of a trace after `k` units, and has this tag, none or that of a match, and no other
+-- an ID names the state of a trace after `k` units, and its only tag is this one: none, or the match tag
 pub record IsTagAt (s : Trace) (way : Direction) (m : Machine) (t : Rows) (input : Input) (tag k id : ℕ) :
     Type 0 where
-  -- the tag is none, or that of a match
+  -- the tag is none, or the match tag
   pub kind : IsRunTag tag
-  -- the ID has this tag and no other
+  -- it is the only tag of the ID
   pub only : HasOnly tag id
   -- it names the state of a trace after these units
   pub on : IsOnTrace s way m t input k id
 
--- cached transitions led a run to this ID, which has a tag and no other, as those before it have
+-- cached transitions led a run to this ID, whose only tag is this one, as for the IDs before it
 pub record IsRun (s : Trace) (way : Direction) (m : Machine) (c : Stored) (input : Input) (tag from to id : ℕ) :
     Type 0 where
-  -- cached transitions led the run to this ID, each to an ID that has this tag and no other
+  -- cached transitions led the run to this ID, each to an ID whose only tag is this one
   pub followed : IsFollowedAlong s way m c input tag from to id
-  -- the last ID has this tag and no other too
+  -- this is also the only tag of the last ID
   pub only : HasOnly tag id
 
 -- this was read in the cell of the unit at place `k`, in the row of an ID
 abbrev pub IsNextCell : Direction → Machine → Stored → Input → (k id cell : ℕ) → Type 0
 IsNextCell way m c input k id cell = IsCellRead m c id (next (tape_in way input) k) cell
 
--- the cached transition on the byte at place `k` leads from one ID to another; a run follows it, if that has no tag or
--- the match tag alone
+-- the cached transition on the byte at place `k` leads from one ID to another; a run follows it if that ID has no tag
+-- or only the match tag
 pub record IsNextId (s : Trace) (way : Direction) (m : Machine) (c : Stored) (input : Input) (k id to : ℕ) :
     Type 0 where
   -- the unit at place `k` is a byte of the span
   pub within : k < input.end - input.start
   -- the cached transition on it leads to this ID
   pub cached : to ≡ known_step m c id (next (tape_in way input) k)
-  -- if this ID has no tag or the match tag alone, the run follows the transition
+  -- if this ID has no tag or only the match tag, the run follows the transition
   pub run : (tag : ℕ) → IsRunTag tag → HasOnly tag to → IsRun s way m c input tag k (k + 1) to
 
--- this ID was met after another one: unless it is the unknown one, the transition on the byte at place `k` leads to it
+-- this is the next ID after another one: unless it is unknown, the transition on the byte at place `k` leads to it
 abbrev pub IsMetAlong : Trace → Direction → Machine → Stored → Input → (k id met : ℕ) → Type 0
 IsMetAlong s way m c input k id met = met < unknown_id → IsNextId s way m c input k id met
 
--- a pass met this ID after another one
+-- this is the next ID after another one in a pass
 abbrev pub IsMet : Direction → Machine → Stored → Input → (k id met : ℕ) → Type 0
 IsMet way m c input k id met = IsMetAlong (pass_trace way m input) way m c input k id met
 
--- a run met an ID that has the match tag and no other
+-- the next ID of a run has only the match tag
 pub record MeetsMatch (s : Trace) (way : Direction) (m : Machine) (c : Stored) (input : Input) (k id to : ℕ) :
     Type 0 where
-  -- this ID was met after the other one
+  -- this is the next ID after the other one
   pub met : IsMetAlong s way m c input k id to
-  -- it has the match tag and no other
+  -- its only tag is the match tag
   pub only : HasOnly (2 ^ 27) to
 
--- cached transitions led a run on, over units of its span, to the ID of a state that has patterns
+-- cached transitions led a run, over units of its span, to the ID of a state that has patterns
 pub record IsMatchRun (s : Trace) (way : Direction) (m : Machine) (c : Stored) (input : Input) (from to id : ℕ) :
     Type 0 where
-  -- the run has read at least one unit more
+  -- the run has read at least one more unit
   pub further : from < to
   -- the units are bytes of the span
   pub within : to ≤ input.end - input.start
-  -- cached transitions led the run there, each to an ID that has the match tag and no other
+  -- cached transitions led the run there, each to an ID whose only tag is the match tag
   pub followed : IsFollowedAlong s way m c input (2 ^ 27) from to id
-  -- the ID that it came to has the match tag
+  -- the ID that it reached has the match tag
   pub reports : HasMatchTag id
 
 -- cached transitions led a run from one place to another
 pub record HasRun (s : Trace) (way : Direction) (m : Machine) (c : Stored) (input : Input) (from to : ℕ) : Type 0 where
-  -- the run went on, or stayed where it was
+  -- the run advanced, or stayed where it was
   pub more : from ≤ to
   -- the units are bytes of the span
   pub within : to ≤ input.end - input.start

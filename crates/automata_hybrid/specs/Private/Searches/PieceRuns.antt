@@ -19,7 +19,7 @@ use Rattle.automata_hybrid.specs.declared.search.pieces.PieceEnd.TheVariants.{Ov
 use Rattle.automata_hybrid.specs.Searches.PieceRuns.{piece_input, piece_trace}
 use Rattle.automata_hybrid.specs.Searches.PassState.{IsAtAlong, half_of}
 
--- a run along a trace that has begun is over with the byte at place `k`, whatever comes after it
+-- a run along a trace that has begun ends with the byte at place `k`, whatever comes after it
 pub record IsOverAlong (s : Trace) (m : Machine) (input : Input) (k id : ℕ) (found : Option HalfMatch)
     (begun : Known) (new : CacheView) : Type 0 where
   -- the bytes up to it are read
@@ -42,15 +42,14 @@ abbrev pub IsEndAlong : Trace → Machine → Input → (begun : Known) → (new
 IsEndAlong s m input begun new (Over k id found) = IsOverAlong s m input k id found begun new
 IsEndAlong s m input begun new (At id found) = IsThroughAlong s m input id found begun new
 
--- how a run over a piece ends that begins at the state of an ID
+-- how a run over a piece that begins at the state of an ID ends
 abbrev pub IsPieceEnd :
     Machine → (piece : List ℕ) → (earliest : Bool) → (from : ℕ) → (old new : CacheView) → PieceEnd → Type 0
 IsPieceEnd m piece earliest from old new end =
     (q : Powerset) → Names old.store.table from q
     → IsEndAlong (piece_trace m piece earliest q) m (piece_input piece earliest) (begun 0 (known_of old)) new end
 
--- a run over a piece fails at a byte: the error has the byte's offset, counted from a place so many bytes before the
--- piece
+-- a run over a piece fails at a byte: the error has the byte's offset, counted from `base` bytes before the piece
 abbrev pub PieceFailsAtUnit :
     Machine → (piece : List ℕ) → (earliest : Bool) → (from base : ℕ) → (old new : CacheView) → SearchError → Type 0
 PieceFailsAtUnit m piece earliest from base old new e =
@@ -58,26 +57,26 @@ PieceFailsAtUnit m piece earliest from base old new e =
     → FailsAlong (piece_trace m piece earliest q) m (piece_input piece earliest) base (begun 0 (known_of old))
     (known_of new) e
 
--- what a run over a piece returns that begins at the state of an ID: how it ends, or why it fails
+-- what a run over a piece that begins at the state of an ID returns: how it ends, or why it fails
 abbrev pub IsPieceResult :
     Machine → (piece : List ℕ) → (earliest : Bool) → (from base : ℕ) → (old new : CacheView)
     → Result PieceEnd SearchError → Type 0
 IsPieceResult m piece earliest from base old new (Ok end) = IsPieceEnd m piece earliest from old new end
 IsPieceResult m piece earliest from base old new (Err e) = PieceFailsAtUnit m piece earliest from base old new e
 
--- what a run along a trace returns that has begun: how it ends, or why it fails
+-- what a run along a trace that has begun returns: how it ends, or why it fails
 abbrev pub IsRunResult :
     Trace → Machine → Input → (begun : Known) → (new : CacheView) → Result PieceEnd SearchError → Type 0
 IsRunResult s m input begun new (Ok end) = IsEndAlong s m input begun new end
 IsRunResult s m input begun new (Err e) = FailsAlong s m input input.start begun (known_of new) e
 
--- an error whose offset is counted from so many bytes before
+-- an error with its offset counted from `base` bytes before
 abbrev pub error_from : (base : ℕ) → SearchError → SearchError
 error_from base (search.Match (QuitAt byte offset)) = search.Match (QuitAt byte (base + offset))
 error_from base (search.Match (GaveUp offset)) = search.Match (GaveUp (base + offset))
 error_from base e = e
 
--- the offset of an error, if it has one, is a number of this kind
+-- the offset of an error, if it has one, satisfies `Is`
 abbrev pub HasOffset : (Is : ℕ → Type 0) → SearchError → Type 0
 HasOffset Is (search.Match (QuitAt byte offset)) = Is offset
 HasOffset Is (search.Match (GaveUp offset)) = Is offset

@@ -1,4 +1,4 @@
--- When a trace is one of the units of a span.
+-- When a trace is a trace of the units of a span.
 use Rattle.std.specs.Prelude.{ℕ, suc, ◌≡◌}
 use Rattle.automata_base.specs.Haystacks.Input.{Input}
 use Rattle.automata_base.specs.Paths.Paths.{next}
@@ -15,5 +15,5 @@ pub record IsTrace (way : Direction) (m : Machine) (input : Input) (s : Trace) :
   pub steps :
       (k : ℕ)
       → s.state (suc k) ≡ successor m.nfa (match_kind_of m.config) (s.state k) (next (tape_in way input) k)
-  -- what units report is what the states after them report
+  -- units report what the states after them report
   pub reports : (k : ℕ) → s.reported k ≡ reported_along input.earliest s.state k

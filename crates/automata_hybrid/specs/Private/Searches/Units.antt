@@ -1,4 +1,4 @@
--- Units that a search reads from an ID: the ID that reading one returns, and what it makes of what the cache knows.
+-- Units that a search reads from an ID: the ID that reading one returns, and its effect on what the cache knows.
 use Rattle.std.specs.Prelude.{ℕ, ◌≡◌, false, true, Option, Some, Result, Ok, Err}
 use Rattle.automata_base.specs.Powersets.Powerset.{Powerset, dead}
 use Rattle.automata_base.specs.Retraced.Steps.{successor}
@@ -14,7 +14,7 @@ use Rattle.automata_hybrid.specs.Known.Stores.{known_of}
 use Rattle.automata_hybrid.specs.Machines.Machine.{Machine, quits_on}
 use Rattle.automata_hybrid.specs.Steps.Steps.{IsStepAnswer}
 
--- a step of a search on a unit, to which it has come, makes this of the cache
+-- the effect on a cache of a step of a search on a unit that it has reached
 abbrev pub StepMakes : Machine → Powerset → (unit : Option ℕ) → (at : ℕ) → (old new : CacheView) → Type 0
 StepMakes m q unit at old new =
     after_event m (Step q unit) (moved at (known_of old)) (known_of old) ≡ Some (known_of new)
@@ -32,9 +32,9 @@ pub record HasStepped (m : Machine) (id : ℕ) (unit : Option ℕ) (at : ℕ) (o
 -- a step of a search from an ID fails
 pub record FailsToStep (m : Machine) (id : ℕ) (unit : Option ℕ) (at : ℕ) (old new : CacheView) (e : SearchError) :
     Type 0 where
-  -- the unit is no quit byte
+  -- the unit is not a quit byte
   pub clean : quits_on m unit ≡ false
-  -- it is the step from the state that the ID names, once the search has come to the unit
+  -- it is the step from the state that the ID names, once the search has reached the unit
   pub fails :
       (q : Powerset) → Names old.store.table id q
       → EventFails m (Step q unit) at (moved at (known_of old)) (known_of new) e
@@ -47,7 +47,7 @@ IsStepResult m id unit at old new (Err e) = FailsToStep m id unit at old new e
 
 -- the ID that reading a unit from an ID returns
 pub record IsReadAnswer (m : Machine) (id : ℕ) (unit : Option ℕ) (old new : CacheView) (next : ℕ) : Type 0 where
-  -- the unit is no quit byte
+  -- the unit is not a quit byte
   pub clean : quits_on m unit ≡ false
   -- it leads from a state to its successor
   pub named :

@@ -13,11 +13,11 @@ use Rattle.automata_hybrid.specs.Known.Steps.{IsStartRun, StartFailsAt}
 use Rattle.automata_hybrid.specs.Known.Stores.{known_of}
 use Rattle.automata_hybrid.specs.Steps.Starts.{IsStartAnswer, MayStart}
 
--- a search may start, and this is the slot of its start
+-- a search may start, and this is the slot of its start state
 pub record IsStartSlot (m : Machine) (mode : Anchored) (behind : Option ℕ) (slot : ℕ) : Type 0 where
-  -- the look-behind byte is no quit byte, and the anchored mode is supported
+  -- the look-behind byte is not a quit byte, and the anchored mode is supported
   pub may : MayStart m mode behind
-  -- the slot is that of the anchored mode and of the look-behind byte
+  -- the slot is the one of the anchored mode and the look-behind byte
   pub at : slot ≡ slot_behind m mode behind
   -- there is such a slot
   pub within : slot < m.slots
@@ -32,11 +32,11 @@ pub record HasStarted (m : Machine) (mode : Anchored) (behind : Option ℕ) (old
     Type 0 where
   -- It is what the call answers.
   pub answer : IsStartAnswer m mode behind old new id
-  -- It makes this of what the cache knows.
+  -- This is its effect on what the cache knows.
   pub run : IsStartRun m mode behind (known_of old) (known_of new)
 
--- what a search returns that calls for its start state: the ID, or why it fails, with an error that has the offset of
--- the look-behind byte or of the start
+-- what a search's call for its start state returns: the ID, or why it fails, with an error that has the offset of the
+-- look-behind byte or of the start
 abbrev pub IsStartResult :
     Machine → Anchored → (behind : Option ℕ) → (behind_at start_at : ℕ) → (old new : CacheView)
     → Result ℕ SearchError → Type 0

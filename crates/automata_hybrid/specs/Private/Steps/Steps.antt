@@ -13,7 +13,7 @@ use Rattle.automata_hybrid.specs.Private.Cache.Stores.{IsKnownTransition}
 abbrev pub KnowsStep : Machine → Stored → (id : ℕ) → (unit : Option ℕ) → Type 0
 KnowsStep m c id unit = IsKnownTransition c id (unit_class m unit)
 
--- this was read in the cell of a transition: the ID that it leads to, or the unknown one if it is not cached
+-- this was read in the cell of a transition: the ID that it leads to, or the unknown ID if it is not cached
 abbrev pub IsCellRead : Machine → Stored → (id : ℕ) → (unit : Option ℕ) → (cell : ℕ) → Type 0
 IsCellRead m c id unit cell =
     (cell < unknown_id → cell ≡ known_step m c id unit) × (unknown_id ≤ cell → KnowsStep m c id unit → ⊥)
@@ -22,5 +22,5 @@ IsCellRead m c id unit cell =
 pub record HasTakenStep (m : Machine) (id : ℕ) (unit : Option ℕ) (old new : CacheView) (next : ℕ) : Type 0 where
   -- It is what the step answers.
   pub answer : IsStepAnswer m id unit old new next
-  -- It makes this of what the cache knows.
+  -- This is its effect on what the cache knows.
   pub run : IsStepRun m id unit (known_of old) (known_of new)

@@ -1,4 +1,4 @@
--- Where a walk comes to from its first units on, and how a call of it has gone on.
+-- Where a walk arrives from its first units on, and how a call has advanced it.
 use Rattle.std.specs.Prelude.{ℕ, suc, ◌≡◌, ◌<◌, ◌≤◌, false, length, Option, None, Some}
 use Rattle.automata_base.specs.Answers.Answers.{offset_in}
 use Rattle.automata_base.specs.Haystacks.Input.{Input}
@@ -11,14 +11,14 @@ use Rattle.automata_hybrid.specs.Cache.Table.{Names, Rows}
 use Rattle.automata_hybrid.specs.Walks.State.{Ended, Walk}
 use Rattle.automata_hybrid.specs.Walks.Answers.{IsSilent, WalkMeetsNoQuit, WalkReads}
 
--- from its first `from` units a walk went on, without a quit byte, to a state that reports patterns at a place that is
--- not skipped, and the ID names it
+-- from its first `from` units a walk advanced, without a quit byte, to a state that reports patterns at a place that is
+-- not skipped, and the ID names this state
 pub record Arrives (way : Direction) (m : Machine) (t : Rows) (input : Input) (from id units : ℕ) : Type 0 where
   -- the place of the last unit read
   pub place : ℕ
-  -- the walk stands after this unit
+  -- the walk is after this unit
   pub one_after : units ≡ suc place
-  -- it has read at least one unit more
+  -- it has read at least one more unit
   pub more : from ≤ place
   -- the unit is a byte of the span, or the one after it
   pub within : place ≤ length (tape_in way input).bytes
@@ -28,14 +28,14 @@ pub record Arrives (way : Direction) (m : Machine) (t : Rows) (input : Input) (f
   pub clean : HasReadNoQuit way m input units
   -- the state has patterns
   pub reports : (q : Powerset) → Names t id q → 0 < length q.patterns
-  -- the place is not one that is skipped
+  -- the place is not skipped
   pub unskipped : Skips m → is_split input.haystack (offset_in way input place) ≡ false
   -- the units before the last one report nothing more
   pub silent : IsSilent way m input from place
 
--- from its first `from` units a walk went on, without a quit byte, to its end after `units` of them
+-- from its first `from` units a walk advanced, without a quit byte, to its end after `units` units
 pub record Finishes (way : Direction) (m : Machine) (input : Input) (from units : ℕ) : Type 0 where
-  -- it has read no fewer units than before
+  -- it has read at least as many units as before
   pub more : from ≤ units
   -- it meets no quit byte
   pub clean : WalkMeetsNoQuit way m input
@@ -44,17 +44,17 @@ pub record Finishes (way : Direction) (m : Machine) (input : Input) (from units 
   -- it reads no unit after these
   pub stops : (j : ℕ) → units ≤ j → WalkReads way m input j → ⊥
 
--- a walk went on to a state that reports patterns, if there is an ID, or to its end, if there is none
+-- a walk advanced to a state that reports patterns, if there is an ID, or to its end, if there is none
 abbrev pub IsArrival : Direction → Machine → Rows → Input → (from : ℕ) → Option ℕ → (units : ℕ) → Type 0
 IsArrival way m t input from None units = Finishes way m input from units
 IsArrival way m t input from (Some id) units = Arrives way m t input from id units
 
--- how a call of a walk has gone on
+-- how a call has advanced its walk
 pub data CallGoesOn (old new : Walk) : Type 0 where
   -- it found no match
   FindsNone : new.found ≡ None → CallGoesOn old new
   -- the walk has read more units
   ReadsMore : (new.stage ≡ Ended → ⊥) → old.units < new.units → CallGoesOn old new
-  -- it has read no more, and has reported one pattern more
+  -- it has read no more units, and has reported one more pattern
   ReportsOneMore :
       (new.stage ≡ Ended → ⊥) → new.units ≡ old.units → new.reported ≡ suc old.reported → CallGoesOn old new

@@ -1,4 +1,4 @@
--- What the search for a set joins the set with, by passes and by paths.
+-- What the search for a set adds to the set, by passes and by paths.
 use Rattle.std.specs.Prelude.{◌≡◌, ◌<◌, Bool, List, length, Result, Err, IsOk, OnOk}
 use Rattle.automata_base.specs.Answers.Answers.{ArePatternsFound}
 use Rattle.automata_base.specs.Haystacks.Input.{Input}
@@ -11,12 +11,12 @@ use Rattle.automata_hybrid.specs.Machines.Machine.{Machine, engine}
 use Rattle.automata_hybrid.specs.Searches.Contracts.{IsUnsupported, unsupported_error}
 use Rattle.automata_hybrid.specs.Walks.Contracts.{JoinsReported}
 
--- what a set is joined with, by passes and by paths
+-- what is added to a set, by passes and by paths
 pub record IsSetReported (m : Machine) (input : Input) (old new : List Bool)
     (result : Result (Unit {0}) SearchError) : Type 0 where
   -- for every NFA, the set is joined with the patterns that the walk reports
   pub found : OnOk result (JoinsReported m input old new)
-  -- if the NFA keeps its cycles, those of the ordered paths
+  -- if the NFA keeps its cycles, it is joined with the patterns of the ordered paths
   pub paths :
       KeepsCycles (nfa_of m.nfa)
       → OnOk result (ArePatternsFound (engine m) input (length old) (members old)

@@ -1,4 +1,4 @@
--- Going on with a walk: what the functions under its calls ask, what they answer, and what they make of their cache.
+-- Advancing a walk: what the functions of its calls require, what they answer, and their effect on the cache.
 use Rattle.std.specs.Prelude.{ℕ, suc, ◌≡◌, ◌+◌, ◌-◌, ◌≤◌, false, Some, Result, Ok, Err}
 use Rattle.automata_base.specs.ByteClasses.Classes.{is_quit}
 use Rattle.automata_base.specs.Haystacks.Input.{Input}
@@ -27,51 +27,51 @@ use Rattle.automata_hybrid.specs.Walks.State.{Ids, Keeping, Walk}
 use Rattle.automata_hybrid.specs.Private.Walks.State.{IsHeldAt, IsHeldItself, keeping_of}
 use Rattle.automata_hybrid.specs.declared.search.walk.Held.{Held}
 
--- a walk over this input, and what is held is the state where it stands
+-- this is a walk over this input, and its current state is held
 pub record IsHeldWalk (way : Direction) (m : Machine) (input : Input) (t : Rows) (w : Walk) (held : Held) :
     Type 0 where
   -- it is a walk over this input
   pub reported : IsWalkOf way m input w
-  -- what is held is the state where it stands
+  -- its current state is held
   pub holds : IsHeldAt t w.stage held
 
--- a walk over this input, and what is held is the state itself where it stands
+-- this is a walk over this input, and its current state itself is held
 pub record IsKeptWalk (way : Direction) (m : Machine) (input : Input) (w : Walk) (held : Held) : Type 0 where
   -- it is a walk over this input
   pub reported : IsWalkOf way m input w
-  -- what is held is the state itself where it stands
+  -- its current state itself is held
   pub itself : IsHeldItself w.stage held
 
--- a walk whose next call reads units
+-- this is a walk whose next call reads units
 pub record ReadsNext (way : Direction) (m : Machine) (input : Input) (t : Rows) (w : Walk) (held : Held) :
     Type 0 where
   -- it is a walk over this input
   pub reported : IsWalkOf way m input w
-  -- what is held is the state where it stands
+  -- its current state is held
   pub holds : IsHeldAt t w.stage held
   -- its next call reads units
   pub reads : IsToRead input w.stage w.units w.reported
 
--- what a call makes of what is held: it is the state where the walk stands then, and as much is kept of it
+-- the effect of a call on what is held: it is the state that the walk then has, kept in the same form
 pub record HoldsOn (t : Rows) (next : Walk) (old new : Held) : Type 0 where
-  -- what is held now is the state where the walk stands then
+  -- what is held is the state that the walk then has
   pub holds : IsHeldAt t next.stage new
-  -- as much is kept of it as before: the state itself, or its ID
+  -- it is kept in the same form as before: the state itself, or its ID
   pub keeping : keeping_of new ≡ keeping_of old
 
 -- what a call of a walk answers
 pub record IsCallAnswer (way : Direction) (m : Machine) (input : Input) (walk next : Walk) : Type 0 where
   -- the walk has reported the next pair, or has ended
   pub reports : ReportsNext way m input walk next
-  -- with a match it has read more units or reported one pattern more
+  -- with a match it has read more units or reported one more pattern
   pub goes_on : CallGoesOn walk next
 
--- a call of a walk has answered, and made this of what its cache knows
+-- a call of a walk has answered, with this effect on what its cache knows
 pub record AnswersCall (way : Direction) (m : Machine) (input : Input) (walk next : Walk) (old new : Known) :
     Type 0 where
   -- this is its answer
   pub answer : IsCallAnswer way m input walk next
-  -- and this is what it makes of what its cache knows
+  -- this is its effect on what its cache knows
   pub effect : CallEnds way m input walk next old new
 
 -- what a call of a walk returns: its answer, or why it fails
@@ -81,24 +81,24 @@ abbrev pub IsCallResult :
 IsCallResult keeping way m input walk next old new (Ok unit) = AnswersCall way m input walk next old new
 IsCallResult keeping way m input walk next old new (Err e) = CallFails keeping way m input walk old new e
 
--- a walk goes on from this ID
+-- a walk continues from this ID
 pub record IsResumeAnswer (way : Direction) (m : Machine) (input : Input) (walk : Walk) (old new : CacheView) (id : ℕ) :
     Type 0 where
   -- it leads to the state after the units read
   pub leads : Leads new.store.table id (state_in way m input walk.units)
   -- the walk may start, or has started
   pub may : MayStart m input.anchored (tape_in way input).before
-  -- its state makes this of what the cache knows
+  -- this is the effect of its state on what the cache knows
   pub resumed : after_resume way m input walk.stage (known_of old) ≡ Some (known_of new)
 
--- what a walk gets that is to go on: the ID that it goes on from, or why it lacks it
+-- what a walk that has to continue gets: the ID from which it continues, or why there is none
 abbrev pub IsResumeResult :
     Direction → Machine → Input → Walk → (old new : CacheView) → Result ℕ SearchError → Type 0
 IsResumeResult way m input walk old new (Ok id) = IsResumeAnswer way m input walk old new id
 IsResumeResult way m input walk old new (Err e) =
     IsNotResumed way m input walk.stage walk.units (known_of old) (known_of new) e
 
--- a cache has the row of a state that a walk holds, under this ID
+-- a cache has the row of a state that a walk holds, with this ID
 pub record HasPutBack (m : Machine) (q : Powerset) (old new : CacheView) (id : ℕ) : Type 0 where
   -- the ID names the state
   pub named : Names new.store.table id q
@@ -110,7 +110,7 @@ abbrev pub IsPutBackResult : Machine → Powerset → (old new : CacheView) → 
 IsPutBackResult m q old new (Ok id) = HasPutBack m q old new id
 IsPutBackResult m q old new (Err e) = (at : ℕ) → IsNotBack m q at (known_of old) (known_of new) (step_error e at)
 
--- a walk has read so many units, and at least one is left: the ID names its state there
+-- a walk has read `units` units, and at least one is left: the ID names its state there
 pub record StandsAfterUnits (way : Direction) (m : Machine) (t : Rows) (input : Input) (units id : ℕ) : Type 0 where
   -- the span is not done
   pub undone : input.start ≤ input.end
@@ -124,9 +124,9 @@ pub record HasReadUnit (way : Direction) (m : Machine) (input : Input) (place : 
     Type 0 where
   -- it leads to the state after the unit
   pub leads : Leads new.store.table id (state_in way m input (suc place))
-  -- the unit is no quit byte
+  -- the unit is not a quit byte
   pub clean : (byte : ℕ) → unit_at (tape_in way input) place ≡ Some byte → is_quit m.quits byte ≡ false
-  -- the step over it makes this of what the cache knows
+  -- this is the effect of that step on what the cache knows
   pub read : after_unit (pass_trace way m input) way m input place (known_of old) ≡ Some (known_of new)
 
 -- what reading the unit at a place returns: the ID after it, or why the step on it fails
@@ -135,22 +135,22 @@ abbrev pub IsUnitResult :
 IsUnitResult way m input place old new (Ok id) = HasReadUnit way m input place old new id
 IsUnitResult way m input place old new (Err e) = UnitFails way m input place (known_of old) (known_of new) e
 
--- a walk has gone on over units, and comes to where it reports patterns, or to its end
+-- a walk has advanced over units, and arrives where it reports patterns, or at its end
 pub record HasAdvanced (way : Direction) (m : Machine) (input : Input) (units : ℕ) (old new : CacheView)
     (a : Arrival) : Type 0 where
-  -- it comes there
+  -- it arrives there
   pub arrives : IsArrival way m new.store.table input units a.id a.units
   -- how many units are read before the last
   pub before : ℕ
-  -- they are counted, and the last one too
+  -- they and the last one are counted
   pub counted : a.units ≡ suc (units + before)
   -- the walk reads the last one
   pub reads : WalkReads way m input (units + before)
-  -- they make this of what the cache knows
+  -- this is their effect on what the cache knows
   pub goes :
       after_many (pass_trace way m input) way m input units (suc before) (known_of old) ≡ Some (known_of new)
 
--- what going on over the units of a walk returns: where it comes, or why it fails at one
+-- what advancing over the units of a walk returns: where it arrives, or why it fails at one
 abbrev pub IsAdvanceResult :
     Direction → Machine → Input → (units : ℕ) → (old new : CacheView) → Result Arrival SearchError → Type 0
 IsAdvanceResult way m input units old new (Ok a) = HasAdvanced way m input units old new a

@@ -1,4 +1,4 @@
-//! Following cached transitions, eight a turn: into states that report nothing or into match states, and along
+//! Follows cached transitions, eight per iteration: into states that report nothing or into match states, and along
 //! self-loops.
 ghost use Rattle.std.specs.Prelude.{◌≡◌, ◌+◌, ◌-◌, ◌^◌, ◌<◌, ◌≤◌};
 ghost use Rattle.automata_hybrid.specs.Cache.Caches.{IsCacheOf};
@@ -19,21 +19,21 @@ use crate::search::fast::self_loop::follow_self_loop;
 use crate::search::plain::known::known_step;
 use automata_base::util::search::{Direction, Input};
 
-/// How many bytes are followed before a self-loop is looked for again, if one was looked for in vain. That look reads
-/// up to eight cells, which is little beside so many bytes.
+/// How many bytes are followed before looking for a self-loop again, after none was found. A look reads up to eight
+/// cells, which costs little compared with this many bytes.
 const PATIENCE: usize = 128;
 
-/// Where cached transitions were followed to.
+/// Where a run over cached transitions stopped.
 #[derive(Clone, Copy)]
 pub(crate) struct Stop {
     pub(crate) at: usize,
     pub(crate) id: LazyStateID,
-    /// The ID that comes next, at which this stopped: unknown if none was read.
+    /// The next ID, at which the run stopped; unknown if it was not read.
     pub(crate) next: LazyStateID,
 }
 
-/// Follows cached transitions to IDs that have a tag and no other, up to a place, and a self-loop beyond it. From
-/// an ID that has another tag it follows none.
+/// Follows cached transitions to IDs whose only tag is `tag`, or to untagged IDs if that is 0, up to the place `end`,
+/// and a self-loop beyond it. From an ID with another tag it follows none.
 #[inline(always)]
 pub(crate) fn follow(
     dfa: &DFA,
@@ -88,8 +88,8 @@ pub(crate) fn follow(
     follow_rest(dfa, cache, input, way, at, id, tag, end)
 }
 
-/// The ID that comes next at a place, if that is before another one: unknown if the transition is not cached, and
-/// if the place is not before it.
+/// Returns the next ID at a place before `end`. It is unknown if the transition is not cached, and if the place is not
+/// before `end`.
 #[inline(always)]
 pub(crate) fn next_known(
     dfa: &DFA,
@@ -112,8 +112,7 @@ pub(crate) fn next_known(
     known_step(dfa, cache, id, Some(byte_at(input, way, at)))
 }
 
-/// Follows cached transitions into states that have patterns, from an ID after which one with the match tag alone
-/// was met.
+/// Follows cached transitions into match states. `next` is the ID after `from`, and its only tag is the match tag.
 #[inline(always)]
 pub(crate) fn follow_matches(
     dfa: &DFA,
@@ -147,8 +146,8 @@ pub(crate) fn follow_matches(
     )
 }
 
-/// Follows cached transitions over eight bytes, or over those before the first that does not lead to an ID with the tag
-/// alone.
+/// Follows cached transitions over eight bytes, or up to the first byte that does not lead to an ID whose only tag is
+/// `tag`.
 #[inline(always)]
 fn follow_eight(
     dfa: &DFA,
@@ -191,7 +190,7 @@ fn follow_eight(
     }
 }
 
-/// Follows cached transitions to IDs that have a tag and no other, one by one, up to a place.
+/// Follows cached transitions to IDs whose only tag is `tag`, one by one, up to the place `end`.
 #[inline(always)]
 fn follow_rest(
     dfa: &DFA,
@@ -233,7 +232,8 @@ fn follow_rest(
     }
 }
 
-/// The ID after the byte at a place, or unknown if it is not cached, of an ID that has a tag and no other.
+/// Returns the ID after the byte at a place, which is unknown if the transition is not cached. The only tag of `id` is
+/// `tag`, and its row's offset is `row`.
 fn follow_byte(
     dfa: &DFA,
     cache: &Cache,
@@ -258,7 +258,7 @@ fn follow_byte(
     cache.table().cell_in_row(id, row, class)
 }
 
-/// Follows the self-loop of an ID that may have a tag, if its row has one.
+/// Follows the self-loop of an ID's row, if it has one, and returns the place where it stops. The ID may have tags.
 #[inline(always)]
 fn follow_loop(
     dfa: &DFA,

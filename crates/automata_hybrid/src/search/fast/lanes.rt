@@ -1,4 +1,4 @@
-//! Which of 32 bytes are in a range, or in one of two, all compared at once.
+//! Tests which of 32 bytes are in a range, or in one of two, and compares all of them at once.
 ghost use Rattle.std.specs.Prelude.{◌+◌, ◌<◌, ◌≡◌, ◌≤◌, ◌^◌, ℕ, IsTrue, length, slice_index};
 ghost use Rattle.std.specs.Int.{bit_at};
 ghost use Rattle.automata_hybrid.specs.Private.Fast.SelfLoops.{HasByte, HasEither, steps_above, byte_in, lane_of};
@@ -10,7 +10,7 @@ use std::simd::prelude::*;
 /// How many bytes are compared at once.
 pub(crate) const LANES: usize = 32;
 
-/// A bit for each of the 32 bytes from an offset on: 0 only if the byte is in a range, which has `size` bytes from
+/// Returns a bit for each of the 32 bytes from an offset on: 0 only if the byte is in the range of `size` bytes from
 /// `low` on, where 0 follows 255.
 #[inline(always)]
 fn outside(low: u8, size: u8, bytes: &[u8], from: usize) -> u64
@@ -22,8 +22,8 @@ fn outside(low: u8, size: u8, bytes: &[u8], from: usize) -> u64
     above.simd_ge(u8x32::splat(size)).to_bitmask()
 }
 
-/// A bit for each of the 32 bytes from a place on, of a slice that is read from its front or from its back: 0 only if
-/// the byte is in a range.
+/// Returns a bit for each of the 32 bytes from a place on, in a slice that is read from its front or from its back: 0
+/// only if the byte is in a range.
 #[inline(always)]
 fn outside_at(way: Direction, range: LoopRange, bytes: &[u8], at: usize) -> u64
     requires { at + 32 ≤ length bytes.now }
@@ -38,7 +38,8 @@ fn outside_at(way: Direction, range: LoopRange, bytes: &[u8], at: usize) -> u64
     outside(range.low, range.size, bytes, from)
 }
 
-/// A bit for each of the 32 bytes from a place on, as `outside_at`: 0 only if the byte is in one of two ranges.
+/// Returns a bit for each of the 32 bytes from a place on, as `outside_at` does: 0 only if the byte is in one of two
+/// ranges.
 #[inline(always)]
 fn outside_both(way: Direction, first: LoopRange, second: LoopRange, bytes: &[u8], at: usize) -> u64
     requires { at + 32 ≤ length bytes.now }
@@ -74,7 +75,7 @@ pub(crate) fn are_in_either(
     outside_both(way, first, second, bytes, at) == 0
 }
 
-/// How many of the 32 bytes from a place on come before the first that is in neither of two ranges.
+/// Returns how many of the 32 bytes from a place on come before the first that is in neither of two ranges.
 #[inline(always)]
 pub(crate) fn count_in_either(
     way: Direction,

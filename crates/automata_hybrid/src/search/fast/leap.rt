@@ -1,5 +1,5 @@
-//! Following leaps, which take a few bytes each, and between them cached transitions one by one. It is done without a
-//! tag alone, far in a run.
+//! Follows leaps, which read several bytes each, and between them cached transitions one by one. It starts only from
+//! untagged IDs, far into a run.
 ghost use Rattle.std.specs.Prelude.{ℕ, ◌≡◌, ◌+◌, ◌-◌, ◌*◌, ◌^◌, ◌<◌, ◌≤◌, length};
 ghost use Rattle.automata_base.specs.ByteClasses.Classes.{AreClasses, eoi_class};
 ghost use Rattle.automata_hybrid.specs.Cache.Caches.{IsCacheOf};
@@ -24,36 +24,37 @@ use crate::search::fast::self_loop::byte_at;
 use crate::search::plain::pass::input_of;
 use automata_base::util::search::{Anchored, Direction, Input, Span};
 
-/// Leaps that took fewer bytes than these were short.
+/// Leaps that read fewer bytes than this were short.
 const SHORT: usize = 32;
 
-/// The fewest bytes that are followed one by one after leaps.
+/// The minimum number of bytes that are followed one by one after leaps.
 const FEW: usize = 8;
 
-/// The most bytes that are followed one by one after short leaps.
+/// The maximum number of bytes that are followed one by one after short leaps.
 const MANY: usize = 256;
 
-/// After so many leaps to the same row this is in a self-loop, which other ways are better for.
+/// Leaping stops after this many leaps in succession that lead to the same row: a self-loop is followed faster in other
+/// ways.
 const LOOPS: usize = 32;
 
-/// Where leaps led to.
+/// Where leaps stopped.
 #[derive(Clone, Copy)]
 struct Leapt {
-    /// How many bytes they took.
+    /// The number of bytes that they read.
     len: usize,
-    /// The place of the first cell of the row.
+    /// The index of the row's first cell.
     row: u32,
 }
 
-/// The ID to which leaps led.
+/// The ID at which leaps stopped.
 #[derive(Clone, Copy)]
 struct Landing {
-    /// How many bytes they took.
+    /// The number of bytes that they read.
     len: usize,
     id: LazyStateID,
 }
 
-/// How often in a row leaps have led to the same row.
+/// Returns how many leaps in succession have led to the same row.
 #[inline(always)]
 fn again_after(same: bool, again: usize) -> usize
     requires { again < 32 }
@@ -62,7 +63,8 @@ fn again_after(same: bool, again: usize) -> usize
     if same { again + 1 } else { 0 }
 }
 
-/// How many bytes are followed one by one after leaps over so many: twice as many as before, if these were few.
+/// Returns how many bytes are followed one by one after leaps over `len` bytes: after short leaps twice as many as the
+/// last time, but at most `MANY`; otherwise `FEW`.
 fn wait_after(len: usize, wait: usize) -> usize
     requires some { 8 ≤ wait }
     requires most { wait ≤ 256 }
@@ -72,7 +74,7 @@ fn wait_after(len: usize, wait: usize) -> usize
     if len < SHORT { MANY.min(2 * wait) } else { FEW }
 }
 
-/// Goes on by leaps from a place, if there are some.
+/// Follows leaps from where a run stopped, if there are any.
 #[inline(always)]
 pub(crate) fn leap_on(
     dfa: &DFA,
@@ -109,7 +111,7 @@ pub(crate) fn leap_on(
     }
 }
 
-/// The column of the classes of the bytes from a place on.
+/// Returns the column for the classes of the bytes from a place on.
 #[inline(always)]
 fn column(dfa: &DFA, classes: usize, reach: usize, way: Direction, bytes: &[u8], at: usize) -> usize
     requires rising { AreClasses dfa.now.classes }
@@ -127,7 +129,7 @@ fn column(dfa: &DFA, classes: usize, reach: usize, way: Direction, bytes: &[u8],
     column
 }
 
-/// Leaps as far as leaps lead, or until the same row has come again and again.
+/// Follows leaps from a row as far as they lead, or until too many in succession have led to the same row.
 #[inline(always)]
 fn leap_by(
     dfa: &DFA,
@@ -162,7 +164,7 @@ fn leap_by(
     Leapt { len: at, row }
 }
 
-/// Leaps from a row in a direction that is known, by a loop of its own for each number of bytes that a leap takes.
+/// Follows leaps from a row in a constant direction, with a separate loop for each number of bytes that a leap reads.
 #[inline(always)]
 fn leap_reach(
     dfa: &DFA,
@@ -185,7 +187,7 @@ fn leap_reach(
     }
 }
 
-/// Leaps from a row.
+/// Follows leaps from a row.
 #[inline(never)]
 fn leap(
     dfa: &DFA,
@@ -206,7 +208,7 @@ fn leap(
     }
 }
 
-/// Leaps from an ID without a tag.
+/// Follows leaps from an untagged ID.
 fn leap_from(
     dfa: &DFA,
     cache: &Cache,
@@ -234,7 +236,7 @@ fn leap_from(
     }
 }
 
-/// Leaps, and follows some bytes one by one where leaps do not lead on: the more, the shorter leaps have been.
+/// Follows leaps and, where they stop, some bytes one by one: more of them after short leaps.
 #[inline(always)]
 fn follow_leaps(
     dfa: &DFA,
@@ -282,7 +284,7 @@ fn follow_leaps(
     }
 }
 
-/// Leaps in a direction, by a loop of its own.
+/// Follows leaps with a separate loop for each direction.
 #[inline(always)]
 fn leap_along(
     dfa: &DFA,
@@ -315,8 +317,8 @@ fn leap_along(
     }
 }
 
-/// Makes leaps, if they are due, and goes on by them if there are some. It is given the parts of the input, so that
-/// a search without leaps keeps its numbers in registers.
+/// Makes leaps, if they are due, and follows them if there are any. It takes the parts of the input, so that a search
+/// without leaps keeps them in registers.
 #[inline(never)]
 fn follow_far(
     dfa: &DFA,
@@ -347,7 +349,7 @@ fn follow_far(
     leap_if(dfa, cache, &own, way, start, from)
 }
 
-/// Leaps, if there are leaps and from an ID without a tag.
+/// Follows leaps, if there are any and the ID is untagged.
 #[inline(always)]
 fn leap_if(
     dfa: &DFA,

@@ -10,7 +10,8 @@ use crate::cache::self_loops::LoopRange;
 use crate::dfa::DFA;
 use crate::id::LazyStateID;
 
-/// Whether a row has a cached self-loop on the bytes from one on, before another: on those of each class.
+/// Whether a row has a cached self-loop on each byte from `from` up to, but not including, `to`. It tests each class of
+/// these bytes.
 fn loops_between(dfa: &DFA, cache: &Cache, id: LazyStateID, from: usize, to: usize) -> bool
     requires of { IsCacheOf cache.now dfa.now }
     requires valid { IsRowId cache.now.store.table id }
@@ -48,7 +49,7 @@ pub(crate) fn loops_on_range(dfa: &DFA, cache: &Cache, id: LazyStateID, range: L
     loops_between(dfa, cache, id, from, 256) && loops_between(dfa, cache, id, 0, to - 256)
 }
 
-/// The first byte whose class is not below the given one; 0 if there is none.
+/// Returns the first byte whose class is not below the given one; 0 if there is none.
 fn first_byte(dfa: &DFA, class: usize) -> u8 {
     let mut first = 0u8;
     for half in [128u8, 64, 32, 16, 8, 4, 2, 1, 1] {
@@ -60,8 +61,8 @@ fn first_byte(dfa: &DFA, class: usize) -> u8 {
     first
 }
 
-/// The first of the classes up to one at which a row has a self-loop, and how many they are. There are `end` classes of
-/// bytes, and that of byte 255 comes before that of byte 0.
+/// Returns the first of the consecutive classes up to `class` on which a row has a self-loop, and how many these are.
+/// There are `end` classes of bytes, and the class of byte 255 comes before the class of byte 0.
 #[inline(always)]
 fn classes_upto(cache: &Cache, id: LazyStateID, class: usize, end: usize) -> (usize, u16)
     requires valid { IsRowId cache.now.store.table id }
@@ -82,8 +83,9 @@ fn classes_upto(cache: &Cache, id: LazyStateID, class: usize, end: usize) -> (us
     (first, count)
 }
 
-/// The class after the last one of those from one on at which a row has a self-loop, and how many they are with so many
-/// before. There are `end` classes of bytes, and that of byte 0 comes after that of byte 255.
+/// Returns the class after the last of the consecutive classes from `class` on which a row has a self-loop, and
+/// `before` plus the number of those after `class`. There are `end` classes of bytes, and the class of byte 0 comes
+/// after the class of byte 255.
 #[inline(always)]
 fn classes_from(
     cache: &Cache,
@@ -109,8 +111,8 @@ fn classes_from(
     (after, count)
 }
 
-/// The classes around one at which a row has a self-loop: the first, the one after the last, and how many. The
-/// class of byte 0 follows that of byte 255.
+/// Returns the consecutive classes around `class` on which a row has a self-loop: the first, the one after the last,
+/// and how many there are. The class of byte 0 follows the class of byte 255.
 fn classes_around(dfa: &DFA, cache: &Cache, id: LazyStateID, class: usize) -> (usize, usize, u16)
     requires of { IsCacheOf cache.now dfa.now }
     requires valid { IsRowId cache.now.store.table id }
@@ -122,7 +124,7 @@ fn classes_around(dfa: &DFA, cache: &Cache, id: LazyStateID, class: usize) -> (u
     (first, after, count)
 }
 
-/// The range around a byte on which a row has a cached self-loop.
+/// Returns a range around a byte on which a row has a cached self-loop, or an empty one if the test of the range fails.
 pub(crate) fn range_around(dfa: &DFA, cache: &Cache, id: LazyStateID, byte: u8) -> LoopRange
     requires of { IsCacheOf cache.now dfa.now }
     requires valid { IsRowId cache.now.store.table id }
@@ -131,7 +133,7 @@ pub(crate) fn range_around(dfa: &DFA, cache: &Cache, id: LazyStateID, byte: u8) 
 {
     let (first, after, classes) = classes_around(dfa, cache, id, dfa.class_of(byte));
     let low = first_byte(dfa, first);
-    // All 256 bytes would be size 0: then one of them is left out.
+    // All 256 bytes would have size 0, so one of them is left out.
     let size = match first_byte(dfa, after).wrapping_sub(low) {
         0 => 255,
         size => size,

@@ -1,6 +1,6 @@
-//! Following cached transitions, which changes nothing. `follow` runs over them, and `self_loop` over a row that leads
-//! back to itself, by the ranges of bytes that `loop_range` finds and `lanes` compares; far in a run `leap` takes a few
-//! bytes at once.
+//! Follows cached transitions, which does not change what is cached. `follow` runs over them, and `self_loop` runs over
+//! a row that leads back to itself, by the ranges of bytes that `loop_range` finds and `lanes` compares. Far into a
+//! run, `leap` reads several bytes at once.
 
 pub(crate) mod follow;
 mod lanes;

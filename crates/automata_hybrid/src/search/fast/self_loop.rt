@@ -1,5 +1,5 @@
-//! Following a self-loop: eight bytes at once, and 32 at once if they are in a range on which the row is known to lead
-//! back to itself.
+//! Follows a self-loop eight bytes at a time, and 32 at a time in ranges on which the row is known to lead back to
+//! itself.
 ghost use Rattle.std.specs.Prelude.{◌≡◌, ◌+◌, ◌<◌, ◌≤◌, IsTrue, length};
 ghost use Rattle.automata_base.specs.declared.util.search.Direction.TheVariants.{Backward, Forward};
 ghost use Rattle.automata_hybrid.specs.Cache.Caches.{IsCacheOf};
@@ -16,17 +16,17 @@ use crate::search::fast::loop_range::{loops_on_range, range_around};
 use crate::search::plain::known::known_step;
 use automata_base::util::search::Direction;
 
-/// Where fewer bytes are left, no self-loop is looked for: a look in vain reads up to eight cells, which are read
-/// again.
+/// If fewer bytes than this are left, no self-loop is looked for: if there is none, the look has read up to eight cells
+/// that have to be read again.
 const FEW: usize = 16;
 
-/// How many bytes of a self-loop are followed eight at once before its ranges are looked for.
+/// How many bytes of a self-loop are followed eight at a time before its ranges are looked for.
 const MANY: usize = 256;
 
-/// A scan ends if more than one byte in `LANES` was outside its ranges, counted as if it had read so many bytes more.
+/// A scan stops when more than 1 in `LANES` bytes fell outside its ranges, with this many bytes of credit at its start.
 const MISSES: usize = 256;
 
-/// The byte at a place of a slice that is read from its front or from its back.
+/// Returns the byte at a place of a slice that is read from its front or from its back.
 #[inline(always)]
 pub(crate) fn byte_at(way: Direction, bytes: &[u8], at: usize) -> u8
     requires { at < length bytes.now }
@@ -49,7 +49,7 @@ fn loops_on(dfa: &DFA, cache: &Cache, id: LazyStateID, byte: u8) -> bool
     known_step(dfa, cache, id, Some(byte)) == id
 }
 
-/// Whether a row has a cached self-loop on each of the eight bytes from a place on. No load waits for another.
+/// Whether a row has a cached self-loop on each of the eight bytes from a place on. No load depends on another.
 #[inline(always)]
 fn loops_on_eight(
     dfa: &DFA,
@@ -73,7 +73,7 @@ fn loops_on_eight(
     true
 }
 
-/// The place up to which a self-loop goes, eight bytes at once.
+/// Returns the place up to which a self-loop goes, in steps of eight bytes.
 #[inline(always)]
 fn follow_eights(
     dfa: &DFA,
@@ -102,7 +102,7 @@ fn follow_eights(
     at
 }
 
-/// A row's self-loop, of which a first range is looked for, around a byte.
+/// Looks for the first range of a row's self-loop, around a byte, and stores it for the next run.
 fn find_first(dfa: &DFA, cache: &Cache, id: LazyStateID, byte: u8) -> KnownLoop
     requires of { IsCacheOf cache.now dfa.now }
     requires valid { IsRowId cache.now.store.table id }
@@ -120,7 +120,7 @@ fn find_first(dfa: &DFA, cache: &Cache, id: LazyStateID, byte: u8) -> KnownLoop
     }
 }
 
-/// A row's self-loop, of which a second range is looked for, around a byte that is outside the first.
+/// Looks for the second range of a row's self-loop, around a byte outside the first, and stores both for the next run.
 fn find_second(dfa: &DFA, cache: &Cache, id: LazyStateID, known: KnownLoop, byte: u8) -> KnownLoop
     requires of { IsCacheOf cache.now dfa.now }
     requires valid { IsRowId cache.now.store.table id }
@@ -139,7 +139,7 @@ fn find_second(dfa: &DFA, cache: &Cache, id: LazyStateID, known: KnownLoop, byte
     }
 }
 
-/// What was kept of a row's self-loop, if its ranges are right, or else what is found around a byte.
+/// Returns the stored ranges of a row's self-loop, if they are right; otherwise the range found around a byte.
 #[inline(always)]
 fn tested(dfa: &DFA, cache: &Cache, id: LazyStateID, kept: KnownLoop, byte: u8) -> KnownLoop
     requires of { IsCacheOf cache.now dfa.now }
@@ -159,8 +159,8 @@ fn tested(dfa: &DFA, cache: &Cache, id: LazyStateID, kept: KnownLoop, byte: u8) 
     kept
 }
 
-/// The place up to which a self-loop goes, as many bytes at once as there are lanes: up to where it leads
-/// elsewhere, or few bytes are left, or too many were outside its ranges.
+/// Follows a self-loop `LANES` bytes at a time, and returns the place where it stops: the row leads elsewhere, fewer
+/// than `LANES` bytes are left, or too many bytes were outside the ranges.
 #[inline(always)]
 fn scan(
     dfa: &DFA,
@@ -183,7 +183,7 @@ fn scan(
     let mut found = known;
     let mut misses = 0usize;
     'lanes: while end - at >= LANES {
-        // Branches, and no sum with what is counted: the next bytes are loaded before these are compared.
+        // Branches, rather than adding a count to `at`: the next bytes are loaded before these are compared.
         if are_in(way, found.first, bytes, at) {
             at += LANES;
             continue;
@@ -215,8 +215,8 @@ fn scan(
     at
 }
 
-/// The place up to which a self-loop goes, at most seven bytes less: eight bytes at once, until its ranges are
-/// known.
+/// Returns the place up to which a self-loop goes, or at most seven bytes less. It reads eight bytes at a time until
+/// the ranges are known.
 #[inline(always)]
 fn follow_many(dfa: &DFA, cache: &Cache, id: LazyStateID, way: Direction, bytes: &[u8]) -> usize
     requires of { IsCacheOf cache.now dfa.now }
@@ -243,7 +243,7 @@ fn follow_many(dfa: &DFA, cache: &Cache, id: LazyStateID, way: Direction, bytes:
     follow_eights(dfa, cache, id, way, bytes, many, end)
 }
 
-/// The place up to which a long self-loop goes, over a slice that is read from its front.
+/// Returns what `follow_many` does for a slice that is read from its front.
 #[inline(never)]
 fn follow_many_fwd(dfa: &DFA, cache: &Cache, id: LazyStateID, bytes: &[u8]) -> usize
     requires of { IsCacheOf cache.now dfa.now }
@@ -256,7 +256,7 @@ fn follow_many_fwd(dfa: &DFA, cache: &Cache, id: LazyStateID, bytes: &[u8]) -> u
     follow_many(dfa, cache, id, Direction::Forward, bytes)
 }
 
-/// The place up to which a long self-loop goes, over a slice that is read from its back.
+/// Returns what `follow_many` does for a slice that is read from its back.
 #[inline(never)]
 fn follow_many_rev(dfa: &DFA, cache: &Cache, id: LazyStateID, bytes: &[u8]) -> usize
     requires of { IsCacheOf cache.now dfa.now }
@@ -269,8 +269,8 @@ fn follow_many_rev(dfa: &DFA, cache: &Cache, id: LazyStateID, bytes: &[u8]) -> u
     follow_many(dfa, cache, id, Direction::Backward, bytes)
 }
 
-/// On how many bytes of a slice, which is read from its front or from its back, a row has a self-loop, or some
-/// less: none where few bytes are left.
+/// Returns how many bytes of a slice, which is read from its front or from its back, a row's self-loop reads, or a
+/// smaller number: 0 if few bytes are left.
 #[inline(always)]
 pub(crate) fn follow_self_loop(
     dfa: &DFA,

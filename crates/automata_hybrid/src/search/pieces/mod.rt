@@ -1,6 +1,6 @@
-//! A search forward whose haystack comes in pieces. Between two pieces it holds its powerset state, as a walk does, so
-//! that its cache may serve other searches and be cleared, and another cache of the same DFA may take over. `walk` is
-//! one that stops at each match.
+//! A forward search over a haystack that arrives in pieces. Between two pieces it holds its powerset state, as a walk
+//! does. So its cache may serve other searches and be cleared, and another cache of the same DFA may replace it. `walk`
+//! is a search that stops at each match.
 ghost use Rattle.std.specs.Prelude.{◌≡◌, ◌+◌, ◌-◌, ◌^◌, ◌<◌, ◌≤◌, length, IfOk, IfSome, OnOk, OnErr};
 ghost use Rattle.std.specs.Prelude.{slice_index, Some, None, true, false};
 ghost use Rattle.std.specs.Result.{result_err};
@@ -42,38 +42,38 @@ use std::fmt;
 use std::marker::Model;
 use thiserror::Error;
 
-/// Why a search in pieces does not begin.
+/// Why a search in pieces cannot begin.
 #[derive(Clone, Copy, Debug, PartialEq, Eq, Error)]
 pub enum BeginError {
-    /// The DFA skips ends inside UTF-8 encoded characters (`DFA::skips`). A search skips such an end by searching again
-    /// from one offset later, and the bytes from there on are gone.
+    /// The DFA skips ends inside UTF-8 encoded characters (`DFA::skips`). To skip such an end, a search starts again
+    /// one offset later, and the bytes from there on are no longer available.
     #[error("cannot search in pieces for an NFA in UTF-8 mode that matches the empty string")]
     Skips,
-    /// There is no start state.
+    /// `DFA::start_state` failed.
     #[error("{0}")]
     Start(StartError),
 }
 
-/// How far a search in pieces is. It belongs to one DFA, and goes on with any cache of that DFA: it holds its powerset
-/// state, which a clear cannot take.
+/// The state of a search in pieces. It belongs to one DFA, and continues with any cache of that DFA, since it holds its
+/// powerset state, which a clear cannot drop.
 ///
-/// The haystack comes as pieces of any lengths, the empty one included, in their order. Offsets are counted in bytes
-/// from the first byte of the first piece. You may ask for the answer after each piece, and go on:
+/// Pass the pieces of the haystack in order. They may have any length, including 0. Offsets are counted in bytes from
+/// the first byte of the first piece. You may ask for the answer after each piece, and then continue:
 ///
-/// 1. `DFA::begin_pieces` makes it, for an anchored mode and the byte before the first piece.
-/// 2. `DFA::read_piece` reads the next piece. After an error the search stands where it stood before that piece.
+/// 1. `DFA::begin_pieces` creates it, for an anchored mode and the byte before the first piece.
+/// 2. `DFA::read_piece` reads the next piece. An error leaves the search as it was before that piece.
 /// 3. `DFA::end_pieces` returns the match in the pieces so far, given the byte that follows them.
 pub struct Pieces {
-    /// The state after the bytes that were read; none once nothing that follows can change the answer.
+    /// The state after the bytes read so far; `None` once nothing that follows can change the answer.
     held: Option<Handle>,
-    /// The ID that its row had when the search stood there last.
+    /// The ID of the state's row when the search last stopped there.
     row: LazyStateID,
     read: usize,
     earliest: bool,
     found: Option<HalfMatch>,
 }
 
-// One call for an owner, whose proof then has no step for each part.
+// An owner drops this with one call, so that its proof has no step for each field.
 impl Drop for Pieces {
     fn drop(self) {
         let Self {
@@ -98,15 +98,16 @@ impl Model for Pieces {
 }
 
 impl Pieces {
-    /// The match in the bytes that were read. One that ends where these end is not among it yet, since matches are
-    /// delayed by one byte: `DFA::end_pieces` returns it.
+    /// Returns the match in the bytes read so far. Since matches are delayed by one byte, this does not include a match
+    /// that ends after the last of these bytes; `DFA::end_pieces` returns that one.
     pub fn get_match(&self) -> Option<HalfMatch>
         ensures { result ≡ self.now.found }
     {
         self.found
     }
 
-    /// Whether the answer stands, whatever follows: it is what `get_match` returns, and no further piece is read.
+    /// Whether the answer is final, whatever follows. Then it is what `get_match` returns, and further pieces are not
+    /// read.
     pub fn is_done(&self) -> bool
         ensures yes { result ≡ true → self.now.state ≡ None }
         ensures no { result ≡ false → self.now.state ≡ None → ⊥ }
@@ -114,7 +115,7 @@ impl Pieces {
         self.held.is_none()
     }
 
-    /// How many bytes were read: all that came, or those up to the one after which the answer stands.
+    /// Returns how many bytes were read: all so far, or those up to the byte after which the answer is final.
     pub fn bytes_read(&self) -> usize
         ensures { result ≡ self.now.read }
     {
@@ -128,8 +129,8 @@ impl Pieces {
         self.earliest
     }
 
-    /// How many patterns its state has, if a match was found there; an earliest search stands at no state after one,
-    /// but a walk does.
+    /// Returns how many patterns the current state has, if there is a match, and 0 otherwise. An earliest search has no
+    /// current state after a match, but a walk does.
     pub(crate) fn match_len(&self) -> usize
         ensures { result ≡ length (patterns_here self.now) }
     {
@@ -139,7 +140,7 @@ impl Pieces {
         }
     }
 
-    /// A pattern of the state where the search stands, by its index below `match_len`.
+    /// Returns a pattern of the current state, by its index below `match_len`.
     pub(crate) fn match_pattern(&self, index: usize) -> PatternID
         requires { index < length (patterns_here self.now) }
         ensures { result ≡ slice_index (patterns_here self.now) index }
@@ -150,7 +151,7 @@ impl Pieces {
         }
     }
 
-    /// The search has read so many bytes, and its answer stands.
+    /// Ends the search after `read` bytes, with a final answer.
     pub(crate) fn end(&mut self, read: usize, found: Option<HalfMatch>)
         ensures state { self.new.state ≡ None }
         ensures read { self.new.read ≡ read }
@@ -162,7 +163,7 @@ impl Pieces {
         self.found = found;
     }
 
-    /// The search has read so many bytes, and stands at the state that is held by this handle, which has this ID.
+    /// Moves the search to the state that `handle` holds, after `read` bytes. The state's row has this ID.
     pub(crate) fn stand(
         &mut self,
         handle: Handle,
@@ -183,7 +184,7 @@ impl Pieces {
     }
 }
 
-/// How many bytes it has read and what it has found, and not its state.
+/// Shows how many bytes it has read and what it has found, but not its powerset state.
 impl fmt::Debug for Pieces {
     fn fmt<W: fmt::Write>(&self, f: &mut fmt::Formatter<W>) -> fmt::Result {
         f.debug_struct("Pieces")
@@ -193,7 +194,8 @@ impl fmt::Debug for Pieces {
     }
 }
 
-/// What was found in a piece that begins at an offset, by offsets from the first piece; or what was found before.
+/// Returns the match found in a piece that begins at `base`, with its offset counted from the first piece; if there is
+/// none, what was found before.
 #[inline(always)]
 pub(crate) fn found_in(
     piece: Option<HalfMatch>,
@@ -209,17 +211,17 @@ pub(crate) fn found_in(
     }
 }
 
-/// How a run over a piece has ended.
+/// How a run over a piece ended.
 #[derive(Clone, Copy)]
 pub(crate) enum PieceEnd {
-    /// With the byte at this place: nothing that comes after it can change what is found. The ID leads to the state
-    /// after it.
+    /// With the byte at this place: nothing after it can change what is found. The ID belongs to the state after the
+    /// byte.
     Over(usize, LazyStateID, Option<HalfMatch>),
     /// After the last byte of the piece, at a state.
     At(LazyStateID, Option<HalfMatch>),
 }
 
-/// An error of a run over a piece, its offset counted from `base` bytes before the piece.
+/// Returns the error of a run over a piece, with its offset counted from `base` bytes before the piece.
 fn error_from(base: usize, error: SearchError) -> SearchError
     requires { HasOffset (λ at. base + at < 2 ^ 64) error }
     ensures { result ≡ error_from base error }
@@ -237,11 +239,11 @@ fn error_from(base: usize, error: SearchError) -> SearchError
 }
 
 impl DFA {
-    /// Begins a search whose haystack comes in pieces: for an anchored mode, and after the byte before the first piece,
-    /// if there is one. An earliest search ends at its first match.
+    /// Begins a search over a haystack in pieces, for an anchored mode and the byte before the first piece, if there is
+    /// one. An earliest search ends at its first match.
     ///
-    /// It fails if the DFA skips ends inside characters, and if there is no start state. It reads no byte, and asks the
-    /// cache for its start state alone.
+    /// It fails if the DFA skips ends inside characters (`DFA::skips`), and if `DFA::start_state` fails. It reads no
+    /// bytes, and needs only the start state from the cache.
     pub fn begin_pieces(
         &self,
         cache: &mut Cache,
@@ -258,12 +260,13 @@ impl DFA {
         start_pieces(self, cache, config, earliest)
     }
 
-    /// Reads the next piece, with any cache of the DFA. Once the answer stands (`Pieces::is_done`) it reads nothing.
+    /// Reads the next piece, with any cache of the DFA. Once the answer is final (`Pieces::is_done`), it reads nothing.
     ///
-    /// The error of a quit byte has the byte's offset, counted from the first byte of the first piece; the "gave up"
-    /// error has the offset of the byte that was to be read. For the rule by which a cache gives up, each piece is a
-    /// search of its own. After an error the search stands where it stood before the piece: you may give the piece
-    /// again, say with another cache, or after a reset. If all bytes are more than `usize::MAX`, the search gives up.
+    /// The error for a quit byte has the byte's offset, counted from the first byte of the first piece; the "gave up"
+    /// error has the offset of the byte that was to be read next. For the rule for giving up, each piece counts as a
+    /// search of its own. An error leaves the search as it was before the piece: you can pass the piece again, for
+    /// example with another cache or after a reset. If the pieces have more than `usize::MAX` bytes together, the
+    /// search gives up.
     pub fn read_piece(
         &self,
         cache: &mut Cache,
@@ -296,7 +299,7 @@ impl DFA {
                 let found = found_in(found, base, pieces.get_match());
                 cache.see_bounds();
                 let _state = cache.snapshot(id);
-                // The state is held anew in any case: after a clear the same ID can name another state.
+                // Always take a new handle: after a clear the same ID can name another state.
                 let handle = cache.handle(id)?;
                 pieces.stand(handle, id, after, found);
                 Ok(())
@@ -304,10 +307,11 @@ impl DFA {
         }
     }
 
-    /// The match in the pieces so far, if the haystack ends here, or if this byte follows, which the match does not
-    /// have. The search stands where it stood: more pieces may follow.
+    /// Returns the match in the pieces so far. `look_ahead` is the byte that follows, which the match does not include,
+    /// or `None` if the haystack ends here. The search is unchanged, and more pieces may follow.
     ///
-    /// It is what `try_search_fwd` finds in the whole haystack. A quit byte that follows is an error at its offset.
+    /// The answer is what `try_search_fwd` finds in the whole haystack. A quit byte as `look_ahead` is an error at its
+    /// offset.
     pub fn end_pieces(
         &self,
         cache: &mut Cache,
@@ -379,7 +383,7 @@ pub(crate) fn start_pieces(
     }
 }
 
-/// The ID of the state where a search stands, whose row the cache has then; none once its answer stands.
+/// Returns the ID of a search's current state, whose row the cache then has; `None` once the answer is final.
 #[inline(always)]
 pub(crate) fn resume_pieces(
     dfa: &DFA,
@@ -400,7 +404,8 @@ pub(crate) fn resume_pieces(
     }
 }
 
-/// The ID of the state that is held: the one that it had, if its row is still there.
+/// Returns the ID of a state that is held: its previous ID, if that row still has the state; otherwise a look-up, and
+/// the state is added if the cache does not have it.
 #[inline(always)]
 fn row_of(
     dfa: &DFA,
@@ -421,9 +426,9 @@ fn row_of(
     put_back(dfa, cache, handle)
 }
 
-/// Runs over the bytes of a piece from a row. Errors have offsets of the whole, of which `base` bytes come before
-/// the piece; what is found, one of the piece. The cache counts the piece as a search that begins at 0.
-// It is given the parts of the input, so that it keeps its numbers in registers.
+/// Runs over the bytes of a piece from a row. `base` bytes come before the piece: errors have offsets in the whole
+/// haystack, and what is found has an offset in the piece. The cache counts the piece as a search that begins at 0.
+// It takes the parts of the input, so that they stay in registers.
 #[inline(never)]
 pub(crate) fn run_piece(
     dfa: &DFA,

@@ -1,4 +1,4 @@
-//! A walk over a haystack in pieces: it stops at each offset where patterns match, and goes on from there.
+//! A walk over a haystack in pieces, which stops at each offset where patterns match, and continues from there.
 ghost use Rattle.std.specs.Prelude.{◌≡◌, ◌<◌, IfOk, IfErr, OnOk, OnErr, length, None, Some, slice_index, true, false};
 ghost use Rattle.std.specs.Result.{result_err};
 ghost use Rattle.automata_hybrid.specs.Cache.Caches.{IsCacheOf};
@@ -25,22 +25,22 @@ use automata_config::error::SearchError;
 use std::fmt;
 use std::marker::Model;
 
-/// How far a walk over a haystack in pieces is. It reports each offset at which patterns match, once, with all patterns
-/// that its DFA reports there: build the DFA with `MatchKind::All` for all that match. As `Pieces`, it belongs to one
-/// DFA, and goes on with any cache of that DFA.
+/// The state of a walk over a haystack in pieces. It reports each offset at which patterns match once, with all
+/// patterns that its DFA reports there: build the DFA with `MatchKind::All` to get all that match. Like `Pieces`, it
+/// belongs to one DFA, and continues with any cache of that DFA.
 ///
-/// A piece may have several such offsets, so that several calls read it, each from where the one before has stopped:
+/// A piece may have several such offsets. Then several calls read it, each from where the previous one stopped:
 ///
-/// 1. `DFA::begin_walk` makes it, for an anchored mode and the byte before the first piece.
-/// 2. `DFA::walk_piece` reads the rest of a piece up to the next match. Take the patterns at which the walk stands,
-///    `match_pattern(0)` to `match_pattern(match_len() - 1)`, and call it again, until no rest is left.
+/// 1. `DFA::begin_walk` creates it, for an anchored mode and the byte before the first piece.
+/// 2. `DFA::walk_piece` reads a piece up to the next match. Take the patterns that match there, `match_pattern(0)` to
+///    `match_pattern(match_len() - 1)`, and call it again with the remaining bytes, until there are none.
 /// 3. `DFA::end_walk` returns the patterns that match up to the end of the pieces so far, given the byte that follows.
 pub struct PiecesWalk {
-    /// It ends at its first match, which is where the walk stands.
+    /// An earliest search: it ends at its first match, which is where the walk stops.
     pieces: Pieces,
 }
 
-// One call for an owner, whose proof then has no step for each part.
+// An owner drops this with one call, so that its proof has no step for each field.
 impl Drop for PiecesWalk {
     fn drop(self) {
         let Self { pieces: _pieces } = self;
@@ -59,22 +59,22 @@ impl Model for PiecesWalk {
 }
 
 impl PiecesWalk {
-    /// The match at which it stands: the first pattern that matches there, and the offset where it ends, counted from
-    /// the first byte of the first piece. It is none unless the last call has come to it.
+    /// Returns the match at which the last call stopped: the first pattern that matches there, and the offset where it
+    /// ends, counted from the first byte of the first piece. It is `None` if the last call stopped at no match.
     pub fn get_match(&self) -> Option<HalfMatch>
         ensures { result ≡ self.now.found }
     {
         self.pieces.get_match()
     }
 
-    /// How many patterns match up to the offset of `get_match`: none if there is no match.
+    /// Returns how many patterns match up to the offset of `get_match`, or 0 if there is no match.
     pub fn match_len(&self) -> usize
         ensures { result ≡ length (patterns_here self.now) }
     {
         self.pieces.match_len()
     }
 
-    /// A pattern that matches up to the offset of `get_match`, by its index below `match_len`.
+    /// Returns a pattern that matches up to the offset of `get_match`, by its index below `match_len`.
     pub fn match_pattern(&self, index: usize) -> PatternID
         requires { index < length (patterns_here self.now) }
         ensures { result ≡ slice_index (patterns_here self.now) index }
@@ -82,7 +82,7 @@ impl PiecesWalk {
         self.pieces.match_pattern(index)
     }
 
-    /// Whether nothing that follows can match: no further piece is read.
+    /// Whether nothing that follows can match. Then further pieces are not read.
     pub fn is_done(&self) -> bool
         ensures yes { result ≡ true → self.now.state ≡ None }
         ensures no { result ≡ false → self.now.state ≡ None → ⊥ }
@@ -90,7 +90,7 @@ impl PiecesWalk {
         self.pieces.is_done()
     }
 
-    /// How many bytes were read: all that came, or those up to the one after which nothing can match.
+    /// Returns how many bytes were read: all so far, or those up to the byte after which nothing can match.
     pub fn bytes_read(&self) -> usize
         ensures { result ≡ self.now.read }
     {
@@ -98,7 +98,7 @@ impl PiecesWalk {
     }
 }
 
-/// How many bytes it has read and the match at which it stands, and not its state.
+/// Shows how many bytes it has read and its match, but not its powerset state.
 impl fmt::Debug for PiecesWalk {
     fn fmt<W: fmt::Write>(&self, f: &mut fmt::Formatter<W>) -> fmt::Result {
         f.debug_struct("PiecesWalk")
@@ -110,11 +110,11 @@ impl fmt::Debug for PiecesWalk {
 
 /// The patterns that match up to the end of a walk's haystack.
 pub struct WalkEnd {
-    /// The state after the end; none if nothing matches there.
+    /// The state after the end of the haystack; `None` if that is dead.
     held: Option<Handle>,
 }
 
-// One call for an owner, whose proof then has no step for each part.
+// An owner drops this with one call, so that its proof has no step for each field.
 impl Drop for WalkEnd {
     fn drop(self) {
         let Self { held: _held } = self;
@@ -131,7 +131,7 @@ impl Model for WalkEnd {
 }
 
 impl WalkEnd {
-    /// How many patterns match at the end of the walk's haystack.
+    /// Returns how many patterns match at the end of the walk's haystack.
     pub fn match_len(&self) -> usize
         ensures { result ≡ length self.now }
     {
@@ -141,7 +141,7 @@ impl WalkEnd {
         }
     }
 
-    /// A pattern that matches at the end of the walk's haystack, by its index below `match_len`.
+    /// Returns a pattern that matches at the end of the walk's haystack, by its index below `match_len`.
     pub fn match_pattern(&self, index: usize) -> PatternID
         requires { index < length self.now }
         ensures { result ≡ slice_index self.now index }
@@ -154,9 +154,9 @@ impl WalkEnd {
 }
 
 impl DFA {
-    /// Begins a walk whose haystack comes in pieces, for an anchored mode and after the byte before the first piece, as
-    /// `begin_pieces` begins a search. It fails if the DFA skips ends inside characters, and if there is no start
-    /// state.
+    /// Begins a walk over a haystack in pieces, for an anchored mode and the byte before the first piece, as
+    /// `begin_pieces` begins a search. It fails if the DFA skips ends inside characters (`DFA::skips`), and if
+    /// `DFA::start_state` fails.
     pub fn begin_walk(
         &self,
         cache: &mut Cache,
@@ -176,13 +176,13 @@ impl DFA {
     }
 
     /// Reads a piece up to the next offset at which patterns match, or to its end, and returns how many bytes it has
-    /// read: give the rest of the piece to the next call.
+    /// read. Pass the remaining bytes of the piece to the next call.
     ///
-    /// Matches are delayed by one byte. So an offset is reported once the byte after it is read, and it is the number
-    /// of bytes read less one; `end_walk` reports the end of the haystack itself. Once nothing can match
-    /// (`PiecesWalk::is_done`) the rest is passed over unread.
+    /// Matches are delayed by one byte: an offset is reported once the byte after it is read, so the offset is one less
+    /// than the number of bytes read. `end_walk` reports matches at the end of the haystack. Once nothing can match
+    /// (`PiecesWalk::is_done`), the remaining bytes are skipped.
     ///
-    /// It fails as `read_piece` does, and the walk stands then where it stood before the call, at the same match.
+    /// It fails as `read_piece` does. An error leaves the walk as it was before the call, with the same match.
     pub fn walk_piece(
         &self,
         cache: &mut Cache,
@@ -201,10 +201,10 @@ impl DFA {
         walk_pieces(self, cache, &mut walk.pieces, piece)
     }
 
-    /// The patterns that match up to the end of the pieces so far, if the haystack ends here, or if this byte follows,
-    /// which no match has. The walk stands where it stood: more pieces may follow.
+    /// Returns the patterns that match up to the end of the pieces so far. `look_ahead` is the byte that follows, which
+    /// no match includes, or `None` if the haystack ends here. The walk is unchanged, and more pieces may follow.
     ///
-    /// A quit byte that follows is an error at its offset.
+    /// A quit byte as `look_ahead` is an error at its offset.
     pub fn end_walk(
         &self,
         cache: &mut Cache,
@@ -222,7 +222,7 @@ impl DFA {
     }
 }
 
-/// One call of a walk, by the search that it holds.
+/// Makes one call of a walk, with the search that it holds.
 fn walk_pieces(
     dfa: &DFA,
     cache: &mut Cache,
@@ -263,7 +263,7 @@ fn walk_pieces(
     }
 }
 
-/// The end of a walk, by the search that it holds.
+/// Returns the end of a walk, from the search that it holds.
 fn end_pieces_walk(
     dfa: &DFA,
     cache: &mut Cache,
@@ -290,7 +290,7 @@ fn end_pieces_walk(
     }
 }
 
-/// The patterns of the state to which an ID leads.
+/// Returns the patterns of an ID's state, which has none if it is dead.
 fn end_at(dfa: &DFA, cache: &Cache, id: LazyStateID) -> Result<WalkEnd, SearchError>
     requires of { IsCacheOf cache.now dfa.now }
     requires leads { (q : Powerset) × Leads cache.now.store.table id q }
@@ -305,7 +305,7 @@ fn end_at(dfa: &DFA, cache: &Cache, id: LazyStateID) -> Result<WalkEnd, SearchEr
     Ok(WalkEnd { held: Some(handle) })
 }
 
-/// Holds the state of a row, and stands there after so many bytes.
+/// Moves a search to a row after `read` bytes, and holds the row's state. An error changes nothing.
 fn stand_in_row(
     dfa: &DFA,
     cache: &Cache,

@@ -1,4 +1,5 @@
-//! Searches for one end of a match: one span after another, as long as offsets inside a character are skipped.
+//! Searches for one end of a match. If what is found is skipped because it is inside a character, the next span is
+//! searched.
 ghost use Rattle.std.specs.Prelude.{◌≡◌, ◌+◌, ◌-◌, IfOk, IfSome};
 ghost use Rattle.std.specs.Result.{result_err};
 ghost use Rattle.automata_base.specs.declared.util.search.Direction.TheVariants.{Forward, Backward};
@@ -19,7 +20,7 @@ use automata_base::laws::reported_is_right;
 use automata_base::util::search::{Anchored, Direction, HalfMatch, Input, Span};
 use automata_config::error::SearchError;
 
-/// What a search found, without where its span began.
+/// Returns what a search found, without the start of its span.
 fn without_base(
     found: Result<Option<(HalfMatch, usize)>, SearchError>,
 ) -> Result<Option<HalfMatch>, SearchError>
@@ -33,8 +34,8 @@ fn without_base(
 }
 
 impl DFA {
-    /// The pattern and the end of a match: under `MatchKind::LeftmostFirst` of the first one, under `All` of the one
-    /// that ends last; with an earliest input, of the match that ends first.
+    /// Returns the pattern and the end of a match, if there is one. Under `MatchKind::LeftmostFirst` it is the first
+    /// match, under `MatchKind::All` the match that ends last; with an earliest input it is the match that ends first.
     ///
     /// ```rust
     /// let input = Input::new(line).earliest(true);
@@ -42,13 +43,13 @@ impl DFA {
     /// Ok(found.is_some())
     /// ```
     ///
-    /// The error of a quit byte has the byte's offset; the "gave up" error has the offset of the byte that was to be
-    /// read, or the span's start. An anchored mode that the DFA does not support is an error
-    /// (`Config::starts_for_each_pattern`), and so is out of memory. After an error the cache serves other searches as
+    /// The error for a quit byte has the byte's offset; the "gave up" error has the offset of the byte that was to be
+    /// read next, or the span's start. It also fails if the DFA does not support the anchored mode
+    /// (`Config::starts_for_each_pattern`), and if memory runs out. After an error the cache serves other searches as
     /// before.
     ///
-    /// It takes time linear in the span. Only where empty matches inside a UTF-8 encoded character are skipped it can
-    /// take the square of it, since each such match is skipped by a search from one offset later.
+    /// It takes time linear in the span. Only if empty matches inside UTF-8 encoded characters are skipped can it take
+    /// quadratic time, since each such match is skipped by searching again from one offset later.
     pub fn try_search_fwd(
         &self,
         cache: &mut Cache,
@@ -71,8 +72,8 @@ impl DFA {
         without_base(found)
     }
 
-    /// What `try_search_fwd` returns, and where the span that gave it began: an end inside a UTF-8 encoded character is
-    /// skipped by searching again from one offset later.
+    /// Returns what `try_search_fwd` returns, with the start of the span that gave it: an end inside a UTF-8 encoded
+    /// character is skipped by searching again from one offset later.
     #[inline(always)]
     pub fn try_search_fwd_base(
         &self,
@@ -86,8 +87,8 @@ impl DFA {
         ensures based { IsBased self.now input.now result }
         ensures found { IfOk result (λ o. IsFound Forward self.now input.now (based_half o)) }
 
-        // What it does to the cache, and why it fails; with an answer it makes no pass after the one over the span that
-        // gave it.
+        // What it does to the cache, and why it fails; if it answers, the pass over the span that gave the answer is
+        // its last.
         ensures effect { IsSearchRun Forward self.now input.now (known_of cache.old) (known_of cache.new)
             (result_err result) }
         ensures upto { IfOk result (λ o. IfSome o (λ p. HaveTried Forward self.now input.now
@@ -98,19 +99,19 @@ impl DFA {
         search(self, cache, input, Direction::Forward)
     }
 
-    /// The pattern and the start of the match that a search from the span's end to its start finds: of the longest one
-    /// that ends there under `MatchKind::All`, and with an earliest input of the shortest one.
+    /// Returns the pattern and the start of a match, if a search from the span's end to its start finds one. Under
+    /// `MatchKind::All` it is the longest match that ends there; with an earliest input it is the shortest.
     ///
-    /// Over the DFA of a reversed NFA it is where a match of the NFA itself begins. A start inside a UTF-8 encoded
+    /// With the DFA of a reversed NFA, this is where a match of the NFA itself begins. A start inside a UTF-8 encoded
     /// character is skipped by searching again from one offset before.
     ///
-    /// The error of a quit byte has the byte's offset; the "gave up" error has the offset of the byte that was to be
-    /// read, or the span's end or start. An anchored mode that the DFA does not support is an error
-    /// (`Config::starts_for_each_pattern`), and so is out of memory. After an error the cache serves other searches as
+    /// The error for a quit byte has the byte's offset; the "gave up" error has the offset of the byte that was to be
+    /// read next, or the span's end or start. It also fails if the DFA does not support the anchored mode
+    /// (`Config::starts_for_each_pattern`), and if memory runs out. After an error the cache serves other searches as
     /// before.
     ///
-    /// It takes time linear in the span. Only where empty matches inside a UTF-8 encoded character are skipped it can
-    /// take the square of it, as `try_search_fwd`.
+    /// It takes time linear in the span. Only if empty matches inside UTF-8 encoded characters are skipped can it take
+    /// quadratic time, as `try_search_fwd`.
     #[inline(always)]
     pub fn try_search_rev(
         &self,
@@ -135,7 +136,7 @@ impl DFA {
     }
 }
 
-/// What was found, and the start of the span that gave it. Where no offset is skipped, it is found by one pass.
+/// Returns what was found and the start of the span that gave it. If no offset is skipped, it makes one pass.
 #[inline(always)]
 fn search(
     dfa: &DFA,
@@ -171,8 +172,8 @@ fn search(
     }
 }
 
-/// What a search finds where offsets inside a character are skipped, by one pass after another. It is given the
-/// parts of the input, as `begin_of`.
+/// Searches one span after another, if offsets inside a character are skipped. It takes the parts of the input, as
+/// `begin_of` does.
 #[inline(never)]
 fn search_skipping(
     dfa: &DFA,
@@ -195,7 +196,7 @@ fn search_skipping(
     }
 }
 
-/// Tries one span after another: what was found, and the start of the span that gave it.
+/// Searches one span after another. Returns what was found and the start of the span that gave it.
 #[inline(always)]
 fn search_spans(
     dfa: &DFA,
@@ -209,7 +210,7 @@ fn search_spans(
 {
     let mut later = input.copied();
     while !later.is_done() {
-        // No `?`: it sends each value through memory, also where there is no error.
+        // No `?`: it passes each value through memory, even if there is no error.
         let found = match pass(dfa, cache, &later, way) {
             Ok(found) => found,
             Err(error) => return Err(error),

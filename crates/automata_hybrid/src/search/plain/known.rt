@@ -1,4 +1,4 @@
-//! A run over cached transitions alone: it only reads the cache.
+//! A pass over cached transitions, which only reads the cache.
 ghost use Rattle.std.specs.Prelude.{◌≡◌, ◌-◌, ◌<◌, ◌≤◌, None, true, false};
 ghost use Rattle.automata_base.specs.Paths.Paths.{next};
 ghost use Rattle.automata_hybrid.specs.Known.Stores.{known_of};
@@ -22,34 +22,34 @@ use crate::search::found_at;
 use crate::search::plain::pass::run_to_match;
 use automata_base::util::search::{Direction, HalfMatch, Input};
 
-/// How many bytes a pass follows before it leaves the others to its rest, which looks for leaps. A self-loop is
-/// followed beyond them.
+/// How many bytes this pass reads before it hands over to `rest`, which looks for leaps. A self-loop is followed
+/// further.
 const FIRST_RUN: usize = 1024;
 
 /// Why a pass over cached transitions stopped.
 #[derive(Clone, Copy)]
 enum KnownStop {
-    /// The pass has ended with the unit at the place.
+    /// The pass ended with the unit at the place.
     Ended,
     /// The transition on the byte at the place is not cached.
     Missing,
-    /// It is left to the rest of the pass.
+    /// The rest of the pass has to continue.
     Left,
 }
 
-/// How far cached transitions led a pass.
+/// How far a pass came over cached transitions.
 #[derive(Drop)]
 pub(crate) struct KnownPass {
     stop: KnownStop,
     pub(crate) at: usize,
     /// The ID of the state at the place.
     pub(crate) id: LazyStateID,
-    /// What the pass finds, where it has ended, and else what it has found before the place.
+    /// What the pass finds, if it has ended; otherwise what it has found before the place.
     pub(crate) found: Option<HalfMatch>,
 }
 
 impl KnownPass {
-    /// A pass stopped so at a place.
+    /// Returns a pass that stopped at a place for this reason.
     fn new(stop: KnownStop, at: usize, id: LazyStateID, found: Option<HalfMatch>) -> KnownPass
         ensures { result ≡ record { stop = stop; at = at; id = id; found = found } }
     {
@@ -83,7 +83,7 @@ impl KnownPass {
     }
 }
 
-/// The start state of a search, if it may start and that is cached, and else the unknown ID.
+/// Returns the start state of a search, if it may start and the state is cached; otherwise the unknown ID.
 #[inline(always)]
 pub(crate) fn known_start(
     dfa: &DFA,
@@ -100,7 +100,7 @@ pub(crate) fn known_start(
     dfa.start_state_known(cache, input.get_anchored(), byte_behind(input, way))
 }
 
-/// The ID after a unit, from an ID that may have a tag: the unknown one if the transition is not cached.
+/// Returns the ID after a unit, which is unknown if the transition is not cached. The given ID may have tags.
 #[inline(always)]
 pub(crate) fn known_step(dfa: &DFA, cache: &Cache, id: LazyStateID, unit: Option<u8>) -> LazyStateID
     requires of { IsCacheOf cache.now dfa.now }
@@ -114,8 +114,8 @@ pub(crate) fn known_step(dfa: &DFA, cache: &Cache, id: LazyStateID, unit: Option
     cache.cell(id, dfa.unit_class(unit))
 }
 
-/// The ID after the unit at a place: the one that was met there. At the last place it is looked up, and
-/// unknown if it is not cached.
+/// Returns the ID after the unit at a place: `met`, or at the last place the row's cell. It is unknown if the
+/// transition is not cached.
 #[inline(always)]
 fn known_next(
     dfa: &DFA,
@@ -149,7 +149,7 @@ fn known_next(
     met
 }
 
-/// A pass over cached transitions from its start state, as far as these lead.
+/// Makes a pass over cached transitions from a start state, as far as they lead.
 #[inline(always)]
 pub(crate) fn known_pass(
     dfa: &DFA,
@@ -167,7 +167,7 @@ pub(crate) fn known_pass(
     let run = run_to_match(dfa, cache, input, way, 0, start, None, last.min(FIRST_RUN));
     let next = known_next(dfa, cache, input, way, run.at, run.id, run.next);
     if next.is_unknown() {
-        // Two comparisons: the end of the first run would have to be kept for one.
+        // Two comparisons: with one, the end of the first run would have to be kept.
         if run.at < FIRST_RUN && run.at < last {
             return KnownPass::new(KnownStop::Missing, run.at, run.id, run.found);
         }

@@ -1,4 +1,4 @@
-//! One run over the span of an input, in either direction.
+//! One pass over the span of an input, in either direction.
 ghost use Rattle.std.specs.Prelude.{true, ℕ, ◌≡◌, ◌-◌, ◌<◌, ◌≤◌, Option, None};
 ghost use Rattle.automata_base.specs.Answers.Answers.{offset_in};
 ghost use Rattle.automata_base.specs.Haystacks.Input.{Allows};
@@ -35,20 +35,20 @@ use automata_config::error::SearchError;
 /// How many bytes a pass follows one by one before it looks for leaps again.
 const NEAR: usize = 48;
 
-/// How many bytes a pass follows one by one after a report, into states that report or do not.
+/// How many bytes a pass follows one by one after a match, into match states and other states.
 const SOON: usize = 32;
 
-/// Where a run is: its place, the ID of its state there, and what it found last.
+/// The position of a run: its place, the ID of its state there, and what it found last.
 #[derive(Clone, Copy)]
 pub(crate) struct Place {
     pub(crate) at: usize,
     pub(crate) id: LazyStateID,
     pub(crate) found: Option<HalfMatch>,
-    /// The ID that comes next, where a run stopped at it: unknown where none was read.
+    /// The next ID, if the run stopped at it; unknown if it was not read.
     pub(crate) next: LazyStateID,
 }
 
-/// Whether there is a half match, and its parts.
+/// Returns whether there is a half match, and its parts.
 fn parts_of(found: Option<HalfMatch>) -> (bool, PatternID, usize)
     ensures { half_if result.0 result.1 result.2 ≡ found }
 {
@@ -58,7 +58,7 @@ fn parts_of(found: Option<HalfMatch>) -> (bool, PatternID, usize)
     }
 }
 
-/// A half match of these parts, if there is one.
+/// Returns the half match with these parts, if `has` is true.
 fn half_from(has: bool, pattern: PatternID, offset: usize) -> Option<HalfMatch>
     ensures { result ≡ half_if has pattern offset }
 {
@@ -68,9 +68,9 @@ fn half_from(has: bool, pattern: PatternID, offset: usize) -> Option<HalfMatch>
     None
 }
 
-/// The input of these parts.
-// Functions that are not inlined are given the parts: a lent input, passed by value in their place, was tried, and
-// takes 5 to 11% more instructions in short searches.
+/// Returns the input with these parts.
+// Functions that are not inlined take the parts. An input passed by value in their place was tried: it takes 5 to 11%
+// more instructions in short searches.
 #[inline(always)]
 pub(crate) fn input_of<'h>(
     haystack: &'h [u8],
@@ -87,7 +87,7 @@ pub(crate) fn input_of<'h>(
         .earliest(earliest)
 }
 
-/// The place up to which a run from a place follows cached transitions before it looks for leaps.
+/// Returns the place up to which a run from a place follows cached transitions before it looks for leaps.
 #[inline(always)]
 pub(crate) fn near_end(cache: &Cache, input: &Input<'_>, way: Direction, at: usize) -> usize
     requires open { input.now.start ≤ input.now.end }
@@ -98,11 +98,11 @@ pub(crate) fn near_end(cache: &Cache, input: &Input<'_>, way: Direction, at: usi
     last_place(input).min(at.saturating_add(due.max(NEAR)))
 }
 
-/// One run over the span, which is not done. While all that it reads is cached, it changes nothing, and it counts
-/// its bytes once it has ended.
-// `begin_of` and `rest` are not inlined, so that a search which finds all that it needs cached keeps its numbers
-// in registers. What they are lent and what they return stands in memory, which is cleared first: so they are
-// given the parts of the input and of what was found, and what they return is taken apart.
+/// Makes one pass over the span of an input that is not done. While all that it reads is cached, it changes nothing;
+/// its bytes are counted once it has ended.
+// `begin_of` and `rest` are not inlined, so that a search that finds everything cached keeps its values in registers.
+// What they borrow and what they return is in memory, which is cleared first. So they take the parts of the input and
+// of what was found, and what they return is taken apart.
 #[inline(always)]
 pub(crate) fn pass(
     dfa: &DFA,
@@ -149,7 +149,7 @@ pub(crate) fn pass(
     }
 }
 
-/// A pass whose start state may have to be computed, by a call that is given the parts of the input.
+/// Makes a pass whose start state may have to be computed, with a call that takes the parts of the input.
 #[inline(always)]
 fn begin_by_parts(
     dfa: &DFA,
@@ -176,7 +176,7 @@ fn begin_by_parts(
     }
 }
 
-/// A pass whose start state may have to be computed.
+/// Makes a pass whose start state may have to be computed.
 #[inline(never)]
 fn begin_of(
     dfa: &DFA,
@@ -198,7 +198,7 @@ fn begin_of(
     begin(dfa, cache, &own, way)
 }
 
-/// A pass over a lent input, whose start state may have to be computed.
+/// Makes a pass over a borrowed input, whose start state may have to be computed.
 #[inline(always)]
 fn begin(
     dfa: &DFA,
@@ -241,9 +241,9 @@ fn begin(
     Ok(found)
 }
 
-/// Follows cached transitions as far as they report nothing, and then into states that have patterns: the last of
-/// these is asked for its pattern. An earliest search follows the first ones alone. Up to a place those that report
-/// nothing are followed, and a self-loop beyond it.
+/// Follows cached transitions into states that report nothing, up to the place `end` and along a self-loop beyond it,
+/// and then into match states. It finds what the last of these reports. An earliest search does not follow match
+/// states.
 #[inline(always)]
 pub(crate) fn run_to_match(
     dfa: &DFA,
@@ -292,7 +292,7 @@ pub(crate) fn run_to_match(
     }
 }
 
-/// Runs over the rest of a span, whose search has begun, from a place up to which all was cached.
+/// Runs over the rest of a span, whose search has begun, from a place up to which everything was cached.
 #[inline(never)]
 fn rest(
     dfa: &DFA,
@@ -336,8 +336,8 @@ fn rest(
     }
 }
 
-/// What the rest of a pass finds, from a place that it has reached, in a direction that is known where this is
-/// inlined. It begins with the step at that place, where it has not come to the end of the span.
+/// Returns what the rest of a pass finds, from a place that it has reached. The direction is a constant where this is
+/// inlined. Unless the span is over, its first step is at that place.
 #[inline(always)]
 fn find(
     dfa: &DFA,
@@ -391,9 +391,9 @@ fn find(
     find_end(dfa, cache, input, way, run.id, run.found)
 }
 
-/// Goes on from a match by cached transitions, one by one, into states that report or do not, and asks the last of
-/// those that report for its pattern. It ends before the last byte of the span. While nothing is found it stays
-/// where it is: an earliest search ends at its first report.
+/// Follows cached transitions after a match, one by one, into match states and other states. It finds what the last
+/// match state reports, and stops before the last byte of the span. If nothing is found yet it does not move, so an
+/// earliest search, which ends at its first match, never moves here.
 #[inline(always)]
 fn run_on(dfa: &DFA, cache: &Cache, input: &Input<'_>, way: Direction, from: Place) -> Place
     ghost trace: { Trace }
@@ -436,7 +436,7 @@ fn run_on(dfa: &DFA, cache: &Cache, input: &Input<'_>, way: Direction, from: Pla
     }
 }
 
-/// What was found last: what the state of an ID reported at a place, if there is an ID.
+/// Returns what was found last: what the state of `reported` reports at a place, or `found` if that ID is unknown.
 #[inline(always)]
 fn last_found(
     dfa: &DFA,
@@ -464,8 +464,8 @@ fn last_found(
     Some(HalfMatch::new(first_pattern(dfa, cache, reported), offset))
 }
 
-/// Goes on by leaps, where a run has come to the place where it looks for them; and the place where it looks for
-/// them next.
+/// Follows leaps, if a run has reached `end`, the place where it looks for them. Returns where it stops, and the place
+/// where it looks for leaps next.
 #[inline(always)]
 pub(crate) fn go_far(
     dfa: &DFA,
@@ -508,7 +508,8 @@ pub(crate) fn go_far(
     (run, due)
 }
 
-/// The step at the last place: on the byte after the span, or on the haystack's end.
+/// Takes the step at the last place, on the byte after the span or on the end of the haystack, and returns what the
+/// pass finds.
 #[inline(always)]
 fn find_end(
     dfa: &DFA,

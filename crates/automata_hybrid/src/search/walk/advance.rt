@@ -1,4 +1,4 @@
-//! How a walk goes on, in either direction, to the next state whose patterns match.
+//! Advances a walk, in either direction, to the next state whose patterns match.
 ghost use Rattle.std.specs.Prelude.{◌≡◌, ◌-◌, ◌<◌, ◌≤◌, ◌⊎◌, Some, [], true, false, length};
 ghost use Rattle.automata_base.specs.Answers.Answers.{offset_in};
 ghost use Rattle.automata_base.specs.Powersets.Powerset.{Powerset};
@@ -27,15 +27,16 @@ use automata_config::error::SearchError;
 /// How many bytes a walk follows one by one before it looks for leaps.
 const NEAR: usize = 256;
 
-/// Where a walk has come to: a state whose patterns match, or none at its end; and how many units it has read.
+/// Where a walk has arrived: the ID of a state whose patterns match, or `None` at its end; and how many units it has
+/// read.
 #[derive(Clone, Copy)]
 pub(crate) struct Arrival {
     pub(crate) id: Option<LazyStateID>,
     pub(crate) units: usize,
 }
 
-/// The state after what a walk reads at a place, to which the search moves. `met` is the next ID if the caller has
-/// seen it, and else unknown.
+/// Returns the state after the unit that a walk reads at a place. `met` is the next ID if the caller has read it, and
+/// unknown otherwise.
 #[inline(always)]
 fn read_unit(
     dfa: &DFA,
@@ -59,7 +60,7 @@ fn read_unit(
     read(dfa, cache, id, met, unit_at(input, way, place), quit_at, at)
 }
 
-/// Whether a state's patterns match at a place of a walk that is not skipped.
+/// Whether a state's patterns match at a place of a walk, and the place is not skipped.
 #[inline(always)]
 fn reports(
     dfa: &DFA,
@@ -87,8 +88,8 @@ fn reports(
     !skips_at(dfa, input, place_offset(input, way, place))
 }
 
-/// Follows one cached transition from an ID with a tag to one without, so that a walk goes on from a match as it
-/// does from any other state. From an ID without a tag, it follows none.
+/// Follows one cached transition from a tagged to an untagged ID, so that a walk continues from a match as from any
+/// other state. From an untagged ID it follows none.
 fn leave_tag(
     dfa: &DFA,
     cache: &Cache,
@@ -127,8 +128,8 @@ fn leave_tag(
     }
 }
 
-/// Follows cached transitions to IDs without a tag, up to a place, and a self-loop beyond it: each direction has
-/// its own loop.
+/// Follows cached transitions to untagged IDs up to the place `end`, and a self-loop beyond it. Each direction has its
+/// own loop.
 #[inline(always)]
 fn follow_walk(
     dfa: &DFA,
@@ -174,8 +175,8 @@ fn follow_walk(
     }
 }
 
-/// Goes on by leaps, where a walk has come to the place where it looks for them; and the place where it looks for
-/// them next.
+/// Follows leaps, if a walk has reached `end`, the place where it looks for them. Returns where it stops, and the place
+/// where it looks for leaps next.
 #[inline(always)]
 fn walk_far(
     dfa: &DFA,
@@ -202,8 +203,8 @@ fn walk_far(
     (far, last.min(far.at + NEAR))
 }
 
-/// Goes on with a walk from its state to the next one whose patterns match. The search stays open at the last byte
-/// that is read.
+/// Advances a walk from its state to the next one whose patterns match. Unless there is an error, the search stays
+/// open.
 #[inline(always)]
 pub(crate) fn advance(
     dfa: &DFA,

@@ -1,5 +1,5 @@
-//! How far an overlapping search is, and what it holds between its calls. `advance` takes it to the next match,
-//! `overlapping` is one call, and `which` collects the patterns of all.
+//! The state of an overlapping search, and what it holds between calls. `advance` takes it to the next match,
+//! `overlapping` makes one call, and `which` collects the patterns of all matches.
 ghost use Rattle.std.specs.Prelude.{◌≡◌, ◌+◌, ◌<◌, ◌≤◌, ◌^◌, IfOk, OnOk, OnErr, length, true, false, None};
 ghost use Rattle.automata_base.specs.Powersets.Powerset.{Powerset};
 ghost use Rattle.automata_hybrid.specs.Cache.Table.{IsRowId, Names};
@@ -21,8 +21,8 @@ use std::fmt;
 use std::marker::Model;
 use std::snapshot::Snapshot;
 
-/// What is held of a walk's state: the state itself, or, in a walk that lasts for one call only, the ID of its row.
-/// There is none before the walk begins.
+/// What a walk holds of its powerset state: the state itself, or the ID of its row in a walk that lasts for only one
+/// call. It is `None` before the walk begins.
 #[derive(Drop)]
 pub(crate) enum Held {
     State(Option<Handle>),
@@ -30,7 +30,7 @@ pub(crate) enum Held {
 }
 
 impl Held {
-    /// Holds once more what is held: the state is shared, and an ID is copied.
+    /// Returns a copy of what is held: the powerset state is shared, and an ID is copied.
     fn share(&self) -> Result<Held, AllocError>
         ensures keeping { IfOk result (λ held. keeping_of held ≡ keeping_of self.now) }
         ensures none { IfOk result (λ held. HoldsNone self.now → HoldsNone held) }
@@ -57,7 +57,7 @@ impl Held {
         }
     }
 
-    /// Holds the state of a row in place of its own, in the same way. If that cannot be held, nothing has changed.
+    /// Replaces the held state by the state of a row, held in the same way. An error changes nothing.
     #[inline(always)]
     pub(crate) fn move_to(&mut self, cache: &Cache, id: LazyStateID) -> Result<(), AllocError>
         requires { IsRowId cache.now.store.table id }
@@ -81,7 +81,7 @@ impl Held {
     }
 }
 
-/// Where a walk is. Only contracts know its state.
+/// The stage of a walk. Only contracts know the state in it.
 #[derive(Drop)]
 enum Stage {
     Fresh,
@@ -89,12 +89,12 @@ enum Stage {
     Ended,
 }
 
-/// How far a walk is, without what it holds.
+/// The progress of a walk, without what it holds.
 #[derive(Drop)]
 pub(crate) struct Cursor {
     stage: Stage,
     units: usize,
-    /// How many patterns the state has at which it stands: none where it stands at no state.
+    /// The number of patterns of its current state, or 0 if it has no current state.
     patterns: usize,
     reported: usize,
     found: Option<HalfMatch>,
@@ -112,7 +112,7 @@ impl Model for Cursor {
 }
 
 impl Cursor {
-    /// A walk that has not begun.
+    /// Returns a walk that has not begun.
     pub(crate) fn start() -> Cursor
         ensures { result ≡ fresh_walk }
     {
@@ -125,21 +125,21 @@ impl Cursor {
         }
     }
 
-    /// The match that the last call found.
+    /// Returns the match that the last call found.
     pub(crate) fn get_match(&self) -> Option<HalfMatch>
         ensures { result ≡ self.now.found }
     {
         self.found
     }
 
-    /// How many bytes it has read, the end of the haystack counted as one.
+    /// Returns how many units the walk has read: bytes, and the end of the haystack.
     pub(crate) fn units(&self) -> usize
         ensures { result ≡ self.now.units }
     {
         self.units
     }
 
-    /// Whether it stands at a state that has a pattern more than it has reported.
+    /// Whether its current state has a pattern that it has not reported yet.
     pub(crate) fn has_more(&self) -> bool
         ensures yes { result ≡ true → (q : Powerset) × (self.now.stage ≡ At q)
             × (self.now.reported < length q.patterns) }
@@ -149,7 +149,7 @@ impl Cursor {
         self.reported < self.patterns
     }
 
-    /// How many patterns of its state it has reported.
+    /// Returns how many patterns of its current state it has reported.
     pub(crate) fn reported(&self) -> usize
         ensures { result ≡ self.now.reported }
     {
@@ -178,14 +178,14 @@ impl Cursor {
         }
     }
 
-    /// The walk has no match from here on.
+    /// Drops the match that the last call found.
     pub(crate) fn forget_match(&mut self)
         ensures { self.new ≡ without_match self.old }
     {
         self.found = None;
     }
 
-    /// The walk reports this match, the next pattern of its state.
+    /// Reports a match, which has the next pattern of the current state.
     pub(crate) fn report(&mut self, half: HalfMatch)
         requires { self.old.reported + 1 < 2 ^ 64 }
         ensures { self.new ≡ with_match self.old half }
@@ -194,7 +194,7 @@ impl Cursor {
         self.found = Some(half);
     }
 
-    /// The walk goes to a state with so many patterns, of which it has reported none.
+    /// Moves the walk to a state, of whose patterns it has reported none yet.
     pub(crate) fn go_to(&mut self, state: Snapshot<State>, patterns: usize, units: usize)
         requires { patterns ≡ length state.value.patterns }
         ensures { self.new ≡ record { stage = At state.value; units = units; reported = 0; found = None } }
@@ -206,7 +206,7 @@ impl Cursor {
         self.found = None;
     }
 
-    /// The walk ends, when it has read so many units.
+    /// Ends the walk after `units` units.
     pub(crate) fn end(&mut self, units: usize)
         ensures { self.new ≡ ended_walk self.old units }
     {
@@ -217,7 +217,7 @@ impl Cursor {
         self.found = None;
     }
 
-    /// A copy of it, if its state is held.
+    /// Returns a copy. `held` has to be what the walk holds of its state.
     fn copy(&self, held: &Held) -> Cursor
         requires { IsHeldItself self.now.stage held.now }
         ensures { result ≡ self.now }
@@ -240,10 +240,10 @@ impl Cursor {
     }
 }
 
-/// How far an overlapping search is. It belongs to one DFA, one input and one direction, and goes on with any cache of
-/// that DFA: it holds its powerset state, which a clear cannot take.
+/// The state of an overlapping search. It belongs to one DFA, one input and one direction, and continues with any cache
+/// of that DFA, since it holds its powerset state, which a clear cannot drop.
 ///
-/// Each call of the search goes on from it, and leaves the next match in it:
+/// Each call of the search continues from it, and stores the next match in it:
 ///
 /// ```rust
 /// let mut state = OverlappingState::start();
@@ -256,7 +256,7 @@ pub struct OverlappingState {
     pub(crate) held: Held,
 }
 
-// One call for an owner, whose proof then has no step for each part.
+// An owner drops this with one call, so that its proof has no step for each field.
 impl Drop for OverlappingState {
     fn drop(self) {
         let Self {
@@ -278,7 +278,7 @@ impl Model for OverlappingState {
 }
 
 impl OverlappingState {
-    /// The state of a search that has not begun.
+    /// Returns the state of a search that has not begun.
     pub fn start() -> OverlappingState
         ensures { result ≡ fresh_walk }
     {
@@ -288,7 +288,8 @@ impl OverlappingState {
         }
     }
 
-    /// The match that the last call found; none before the first call, after an error, and once none is left.
+    /// Returns the match that the last call found. It is `None` before the first call, after an error, and once no
+    /// match is left.
     pub fn get_match(&self) -> Option<HalfMatch>
         ensures { result ≡ self.now.found }
     {
@@ -296,7 +297,7 @@ impl OverlappingState {
     }
 }
 
-/// What it found last, and not where it is.
+/// Shows the match that the last call found, but not the powerset state.
 impl fmt::Debug for OverlappingState {
     fn fmt<W: fmt::Write>(&self, f: &mut fmt::Formatter<W>) -> fmt::Result {
         f.debug_struct("OverlappingState")
@@ -308,7 +309,8 @@ impl fmt::Debug for OverlappingState {
 impl Clone for OverlappingState {
     ghost is_clone = { λ a b. b ≡ a };
 
-    /// A clone allocates nothing, since states are shared. It fails only if the state cannot be shared once more.
+    /// Returns a clone, which shares the powerset state, so this does not allocate. It fails only if the state cannot
+    /// be shared once more.
     fn clone(&self) -> Result<OverlappingState, AllocError> {
         let held = self.held.share()?;
         Ok(OverlappingState {

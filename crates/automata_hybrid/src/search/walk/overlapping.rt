@@ -32,9 +32,9 @@ use automata_base::util::search::{Direction, HalfMatch, Input};
 use automata_config::error::{SearchError, StepError};
 
 impl DFA {
-    /// Goes on to the next of all overlapping matches, which `OverlappingState::get_match` returns; when none is left,
-    /// that returns none, then and after each later call. Use the state with one DFA and one input alone, and with any
-    /// cache of that DFA.
+    /// Advances to the next overlapping match, which `OverlappingState::get_match` then returns. When no match is left,
+    /// that returns `None`, after this call and each later one. Use a state with only one DFA and one input, but with
+    /// any cache of that DFA.
     ///
     /// ```rust
     /// let mut state = OverlappingState::start();
@@ -43,10 +43,10 @@ impl DFA {
     /// Ok(state.get_match())
     /// ```
     ///
-    /// The error of a quit byte has the byte's offset; the "gave up" error has the offset of the byte that was to be
-    /// read, or the span's start or end. An anchored mode that the DFA does not support is an error
-    /// (`Config::starts_for_each_pattern`), and so is out of memory. After an error the state is unchanged, except that
-    /// it has no match.
+    /// The error for a quit byte has the byte's offset; the "gave up" error has the offset of the byte that was to be
+    /// read next, or the span's start or end. It also fails if the DFA does not support the anchored mode
+    /// (`Config::starts_for_each_pattern`), and if memory runs out. An error leaves the state unchanged, except that it
+    /// has no match.
     pub fn try_search_overlapping_fwd(
         &self,
         cache: &mut Cache,
@@ -68,8 +68,8 @@ impl DFA {
         self.try_search_overlapping(cache, input, Direction::Forward, state)
     }
 
-    /// Goes on to the next of all overlapping matches from the span's end to its start, as `try_search_overlapping_fwd`
-    /// does to its end: the DFA reads the span backward, so build it of a reversed NFA.
+    /// Advances to the next overlapping match of a reverse search, from the span's end to its start, otherwise as
+    /// `try_search_overlapping_fwd`. The DFA reads the span backward, so build it from a reversed NFA.
     pub fn try_search_overlapping_rev(
         &self,
         cache: &mut Cache,
@@ -91,8 +91,8 @@ impl DFA {
         self.try_search_overlapping(cache, input, Direction::Backward, state)
     }
 
-    /// One call of an overlapping search in a direction, as `try_search_overlapping_fwd` makes it forward and
-    /// `try_search_overlapping_rev` backward.
+    /// Advances to the next overlapping match in a direction: forward as `try_search_overlapping_fwd`, backward as
+    /// `try_search_overlapping_rev`.
     pub fn try_search_overlapping(
         &self,
         cache: &mut Cache,
@@ -112,7 +112,7 @@ impl DFA {
     }
 }
 
-/// The ID of a state that a walk holds, which is added again if the cache lacks it.
+/// Returns the ID of a state that a walk holds. If the cache does not have the state, it is added again.
 pub(crate) fn put_back(
     dfa: &DFA,
     cache: &mut Cache,
@@ -134,7 +134,7 @@ pub(crate) fn put_back(
     Ok(id)
 }
 
-/// The ID of the state that a walk goes on from: its start state, or what is held of its state.
+/// Returns the ID of the state from which a walk continues: its start state, or the state that it holds.
 #[inline(always)]
 fn resume(
     dfa: &DFA,
@@ -162,8 +162,8 @@ fn resume(
     }
 }
 
-/// Goes on with a walk that has reported all patterns of its state, to the next match. Its new state is held before
-/// the search ends.
+/// Advances a walk that has reported all patterns of its state to the next match. Its new state is held before the
+/// search ends.
 #[inline(always)]
 fn walk_on(
     dfa: &DFA,
@@ -204,7 +204,7 @@ fn walk_on(
     Ok(())
 }
 
-/// Takes a walk to a state whose patterns match, and reports the first one.
+/// Moves a walk to a state whose patterns match, and reports the first of them.
 #[inline(always)]
 fn stand(
     dfa: &DFA,
@@ -231,7 +231,7 @@ fn stand(
     walk.report(half);
 }
 
-/// One call of an overlapping search (`go_on`), after which a walk that has ended holds nothing.
+/// Makes one call of an overlapping search (`go_on`). If the walk has ended, it holds nothing afterwards.
 fn call_held(
     dfa: &DFA,
     cache: &mut Cache,
@@ -259,8 +259,8 @@ fn call_held(
     }
 }
 
-/// One call of an overlapping search, given where the walk is and what is held of its state. It leaves what is held as
-/// it is where the walk has ended.
+/// Makes one call of an overlapping search, given the walk and what it holds of its state. If the walk ends, what is
+/// held stays as it is.
 #[inline(always)]
 pub(crate) fn go_on(
     dfa: &DFA,
@@ -298,7 +298,7 @@ pub(crate) fn go_on(
     walk_on(dfa, cache, input, way, walk, held)
 }
 
-/// The pattern that a walk reports next at its state.
+/// Returns the pattern that a walk reports next at its current state, if one is left.
 #[inline(always)]
 fn next_pattern(dfa: &DFA, cache: &Cache, walk: &Cursor, held: &Held) -> Option<PatternID>
     requires on { walk.now.stage ≡ Ended → ⊥ }

@@ -1,4 +1,4 @@
-//! The set of the patterns that match, found by one overlapping search forward.
+//! The set of the patterns that match, found by one forward overlapping search.
 ghost use Rattle.std.specs.Prelude.{◌≤◌, OnOk, length};
 ghost use Rattle.std.specs.Result.{result_err};
 ghost use Rattle.automata_hybrid.specs.Cache.Caches.{IsCacheOf};
@@ -17,8 +17,9 @@ use automata_base::util::search::{Direction, Input};
 use automata_config::error::SearchError;
 
 impl DFA {
-    /// Adds to a set the patterns of all overlapping matches that are below its capacity; with an earliest input, that
-    /// of the first match alone. After an error the set has those that were reported before it.
+    /// Adds the patterns of all overlapping matches to a set; patterns that are not below its capacity are ignored.
+    /// With an earliest input it adds only the pattern of the first match. After an error the set also has the patterns
+    /// that were reported before the error.
     ///
     /// ```rust
     /// let mut found = PatternSet::new(alloc, self.dfa.pattern_len())?;
@@ -36,7 +37,7 @@ impl DFA {
         requires { IsCacheOf cache.old self.now }
         ensures of { IsCacheOf cache.new self.now }
 
-        // What the set is joined with by paths, and by passes, whatever the cache.
+        // What is added to the set, by paths and by passes, whatever the cache.
         ensures which { IsWhich self.now input.now patset.old patset.new result }
         ensures found { OnOk result (JoinsReported self.now input.now patset.old patset.new) }
 
@@ -48,7 +49,8 @@ impl DFA {
     }
 }
 
-/// Takes one match after another, until there is none, the set is full, or an earliest search has one.
+/// Adds the pattern of one match after another, until no match is left, the set is full, or an earliest search has
+/// found one.
 fn collect(
     dfa: &DFA,
     cache: &mut Cache,

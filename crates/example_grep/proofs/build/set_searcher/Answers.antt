@@ -11,7 +11,7 @@ use Rattle.example_grep.specs.Lines.{bytewise}
 use Rattle.example_grep.proofs.Listing.{if_ok}
 use Rattle.example_grep.proofs.build.set_searcher.Goals as goal
 
--- a DFA of that NFA, which reports all matches
+-- a DFA of that NFA that reports all matches
 is_dfa :
     (o : Options) (res : List Re) (nfa : Automaton) (m : Machine) → m.nfa ≡ nfa → match_kind_of m.config ≡ KindAll →
     KeepsUtf8 Forward (engine_of nfa KindAll) → IsJoinedNfa o res nfa → IsDfaOf o res m

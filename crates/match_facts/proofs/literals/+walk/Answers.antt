@@ -12,7 +12,7 @@ on_ok : {A E : Type 0} (P Q : Type 0) (r : Result A E) → (P → Q) → OnOk r 
 on_ok P Q (Ok x) f p = f p
 on_ok P Q (Err e) f p = p
 
--- by what the tree means
+-- a walk over a tree, by what the tree means
 of_tree :
     (h : Hir) (re : Re) (old new : Run) → meaning h ≡ re → ExtendsRun re old new → ExtendsRun (meaning h) old new
 of_tree h re old new e x = subst (λ r. ExtendsRun r old new) (sym e) x

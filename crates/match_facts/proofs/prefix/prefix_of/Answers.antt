@@ -12,7 +12,7 @@ if_ok : {A E : Type 0} (P Q : A → Type 0) (r : Result A E) → ((x : A) → P 
 if_ok P Q (Ok x) f p = f x p
 if_ok P Q (Err e) f p = p
 
--- what `shared` says of the texts that it is given
+-- what `shared` promises of the texts that it is given
 abbrev AllBegin : (bytes : List ℕ) → List (Vec ℕ Global) → Type 0
 AllBegin bytes vs = (n : ℕ) → n < length vs → BeginsWith bytes (needle_at (map (λ v. v.items) vs) n)
 

@@ -11,7 +11,7 @@ use Rattle.regex_hir.proofs.FindLemmas.{IsFirst-of_first_between}
 use Rattle.meaning.specs.Patterns.{find_any}
 use Rattle.patterns.proofs.laws.found_is_match.Goals as goal
 
--- where an attempt ends is the end of a match
+-- the end of an attempt is the end of a match
 ends_match :
     (re : Re) (hay : List ℕ) (i : ℕ) (t : Trace) → attempt hay re accept i ≡ Some t → Matches hay re i t.end
 ends_match re hay i t e =

@@ -31,7 +31,7 @@ pub enum RegexBuildError {
     #[error("a match may be invalid UTF-8, so in UTF-8 mode it might split a character")]
     NotUtf8,
     /// The NFA cannot be reversed: `ReverseError::Starts`.
-    #[error("the starts differ in the empty match, so the reversed NFA would have others")]
+    #[error("only some of the starts match the empty string, so a reversed NFA would match differently")]
     Starts,
     /// The reversed NFA would have more states or alternates than an NFA may have.
     #[error("the reversed NFA would be too large")]
@@ -98,7 +98,7 @@ fn tested_reverse(forward: &NFA) -> Result<NFA, RegexBuildError>
     }
 }
 
-/// Reverses an NFA, by the answer of the test for UTF-8. If it fails, no memory is asked for.
+/// Reverses an NFA if `keeps`, the answer of the test for UTF-8, is true. Otherwise it fails without an allocation.
 fn reverse_if(forward: &NFA, keeps: bool) -> Result<NFA, RegexBuildError>
     requires lazy { SkipsLazily forward.now }
     requires keeps { IsTrue keeps ↔ IsUtf8 forward.now }
@@ -119,7 +119,7 @@ fn reverse_if(forward: &NFA, keeps: bool) -> Result<NFA, RegexBuildError>
     }
 }
 
-/// The error of two DFAs that both cannot be built: that of the first one. If the capacity is too small for both, it
+/// Joins the errors of two DFAs that cannot be built: returns the first one. If the capacity is too small for both, it
 /// names the greater minimum.
 fn joined(first: BuildError, second: BuildError) -> BuildError
     ensures { result ≡ joined_error first second }
@@ -169,7 +169,7 @@ impl Default for Builder {
 impl Builder {
     ghost use Rattle.std.specs.Result.{result_err};
 
-    /// The default settings.
+    /// Returns a builder with the default settings.
     pub fn new() -> Builder
         ensures { result ≡ unset }
     {
@@ -187,8 +187,8 @@ impl Builder {
         self
     }
 
-    /// The regex of two lazy DFAs, which have to be for the same patterns. It asks that they have equally many:
-    /// `DFA::pattern_len` is the test.
+    /// Returns the regex of two lazy DFAs, which must be for the same patterns. It only requires that they have the
+    /// same number of patterns, which `DFA::pattern_len` returns.
     pub fn build_from_dfas(&self, forward: DFA, reverse: DFA) -> Regex
         requires { length forward.nfa.start_pattern ≡ length reverse.nfa.start_pattern }
         ensures { result ≡ record { forward = forward; reverse = reverse } }
@@ -196,15 +196,15 @@ impl Builder {
         Regex { forward, reverse }
     }
 
-    /// The regex of an NFA and of one that reads the same backward. It allocates nothing.
+    /// Builds a regex from an NFA and from one that reads the same backward. It allocates nothing.
     ///
-    /// It fails if the NFAs do not have equally many patterns, if the forward DFA cannot be built, or if the reverse
-    /// one cannot; the error is that of the first test that fails, and does not give the NFAs back. If the capacity is
-    /// too small for both DFAs, the error names the greater minimum, so that a second try with it does not fail for its
-    /// capacity. The reverse DFA has `MatchKind::All`, and its start states are not tagged.
+    /// It fails if the NFAs do not have the same number of patterns, if the forward DFA cannot be built, or if the
+    /// reverse one cannot. It returns the error of the first test that fails, and does not return the NFAs. If the
+    /// capacity is too small for both DFAs, the error names the greater minimum, so that a second try with it does not
+    /// fail for its capacity. The reverse DFA has `MatchKind::All`, and its start states are not tagged.
     ///
-    /// Nothing tests that the second NFA reads what the first one does: if it does not, `find` can return a wrong
-    /// start, or the error that the two are no pair. `build_from_nfa` makes the second NFA itself.
+    /// It does not test that the second NFA reads what the first one does: if it does not, `find` can return a wrong
+    /// start, or the error `SearchError::NotAPair`. `build_from_nfa` makes the second NFA itself.
     pub fn build_from_nfas(&self, forward: NFA, reverse: NFA) -> Result<Regex, BuildError>
         ensures ok { IfOk result (BuildsPair self.now forward reverse) }
         ensures refused { result_err result ≡ pair_error self.now forward reverse }
@@ -219,16 +219,16 @@ impl Builder {
         self.build_both(forward, reverse)
     }
 
-    /// The regex of one NFA. It searches backward with the reversed NFA (`NFA::reversed`).
+    /// Builds a regex from one NFA. It searches backward with the reversed NFA (`NFA::reversed`).
     ///
     /// It tests what the promise of spans needs: that the NFA skips lazily (`NFA::skips_lazily`), and that in UTF-8
     /// mode it keeps UTF-8 (`NFA::keeps_utf8`). If a cycle of epsilon transitions passes a look-around assertion, the
     /// forward lazy DFA keeps unions in its states (`NFA::keeping_unions`). So every regex that it returns is a sound
-    /// pair: `find` and its iterator return the spans that the ordered paths of the NFA define. `build_from_nfas` makes
-    /// a regex without these tests, of the NFAs as they are.
+    /// pair: `find` and `find_iter` return the spans that the ordered paths of the NFA define. `build_from_nfas` builds
+    /// a regex without these tests, from the NFAs as they are.
     ///
-    /// It makes these tests in this order, then reverses the NFA, and then builds both lazy DFAs. The error is that of
-    /// the first that fails. It does not give the NFA back: clone it before.
+    /// It makes these tests in this order, then reverses the NFA, and then builds both lazy DFAs. It returns the first
+    /// error. It does not return the NFA: clone it first if you still need it.
     pub fn build_from_nfa(&self, forward: NFA) -> Result<Regex, RegexBuildError>
         ensures built { IfOk result (BuildsOne self.now forward) }
         ensures sound { IfOk result IsSoundPair }
@@ -243,7 +243,7 @@ impl Builder {
         }
     }
 
-    /// The regex of two NFAs. If neither DFA can be built, the error is that of both (`joined`).
+    /// Builds a regex from two NFAs. If neither DFA can be built, it joins their errors (`joined`).
     fn build_both(&self, forward: NFA, reverse: NFA) -> Result<Regex, BuildError>
         ensures ok { IfOk result (BuildsPair self.now forward reverse) }
         ensures refused { result_err result ≡ error_of_both self.now forward reverse }
@@ -260,7 +260,7 @@ impl Builder {
         }
     }
 
-    /// The builder of the reverse DFA.
+    /// Returns the builder of the reverse DFA.
     fn backward(&self) -> dfa::Builder
         ensures { result ≡ record self.now { match_kind = Some MatchKind.All; specialize_start_states = Some false } }
     {

@@ -18,7 +18,7 @@ pub struct Cache {
     pub(super) reverse: dfa::Cache,
 }
 
-// One call for an owner, whose proof then has no step for each part.
+// With its own `drop`, the proof of an owner has one step for it instead of one for each part.
 impl Drop for Cache {
     fn drop(self) {
         let Self {
@@ -28,7 +28,7 @@ impl Drop for Cache {
     }
 }
 
-/// A clone has rows of its own, and nothing that is done to one shows in the other. The only error is out of memory.
+/// A clone has its own rows: changes to one do not show in the other. The only error is out of memory.
 impl Clone for Cache {
     ghost is_clone = { λ a b. b ≡ a };
 
@@ -40,7 +40,7 @@ impl Clone for Cache {
 }
 
 impl Cache {
-    /// A cache of a regex, with no state yet. It can be used with this regex alone, until it is reset.
+    /// Returns a new cache for a regex, with no states yet. Use it with this regex only, until it is reset.
     pub fn new(regex: &Regex) -> Result<Cache, AllocError>
         ensures { IfOk result (AreFresh regex.now) }
     {
@@ -49,7 +49,7 @@ impl Cache {
         Ok(Cache { forward, reverse })
     }
 
-    /// Makes it a fresh cache of this regex, which may be another one than before. An error changes neither part.
+    /// Makes this a fresh cache for `regex`, which may be a different regex than before. An error changes neither part.
     pub fn reset(&mut self, regex: &Regex) -> Result<(), AllocError>
         ensures ok { OnOk result (AreFresh regex.now self.new) }
         ensures err { OnErr result (self.new ≡ self.old) }
@@ -58,7 +58,7 @@ impl Cache {
         Ok(())
     }
 
-    /// The cache of the forward DFA. Both parts stay as they are.
+    /// Returns the cache of the forward DFA. Both parts stay unchanged.
     pub fn forward(&mut self) -> &dfa::Cache
         ensures* same { sem 𝓛 (StaysSame self.entry) }
         ensures value { result.now ≡ self.old.forward }
@@ -66,7 +66,7 @@ impl Cache {
         &self.forward
     }
 
-    /// The cache of the reverse DFA. Both parts stay as they are.
+    /// Returns the cache of the reverse DFA. Both parts stay unchanged.
     pub fn reverse(&mut self) -> &dfa::Cache
         ensures* same { sem 𝓛 (StaysSame self.entry) }
         ensures value { result.now ≡ self.old.reverse }
@@ -74,7 +74,7 @@ impl Cache {
         &self.reverse
     }
 
-    /// The cache of the forward DFA, for writing.
+    /// Returns the cache of the forward DFA, mutably.
     pub fn forward_mut(&mut self) -> &mut dfa::Cache
         ensures* writes_back { sem 𝓛 (LendsForward self.entry result) }
         ensures value { result.now ≡ self.old.forward }
@@ -82,7 +82,7 @@ impl Cache {
         &mut self.forward
     }
 
-    /// The cache of the reverse DFA, for writing.
+    /// Returns the cache of the reverse DFA, mutably.
     pub fn reverse_mut(&mut self) -> &mut dfa::Cache
         ensures* writes_back { sem 𝓛 (LendsReverse self.entry result) }
         ensures value { result.now ≡ self.old.reverse }
@@ -90,7 +90,7 @@ impl Cache {
         &mut self.reverse
     }
 
-    /// Both caches, the forward one first.
+    /// Returns both caches, the forward one first.
     pub fn as_parts(&self) -> (&dfa::Cache, &dfa::Cache)
         ensures forward { result.0.now ≡ self.now.forward }
         ensures reverse { result.1.now ≡ self.now.reverse }
@@ -98,8 +98,8 @@ impl Cache {
         (&self.forward, &self.reverse)
     }
 
-    /// Both caches for writing, the forward one first. A proof that the prover finds follows one lent part at a time:
-    /// if your proof has to know what was written, call `forward_mut` and then `reverse_mut`.
+    /// Returns both caches mutably, the forward one first. An automatic proof follows one lent part at a time: if your
+    /// proof needs what was written, call `forward_mut` and then `reverse_mut`.
     pub fn as_parts_mut(&mut self) -> (&mut dfa::Cache, &mut dfa::Cache)
         ensures* writes_back { sem 𝓛 (LendsBothParts self.entry result) }
         ensures forward { result.0.now ≡ self.old.forward }
@@ -108,7 +108,7 @@ impl Cache {
         (&mut self.forward, &mut self.reverse)
     }
 
-    /// The accounted bytes of both. If the sum is above the greatest `usize`, it is that number.
+    /// Returns the accounted bytes of both caches. The sum saturates at the greatest `usize`.
     pub fn memory_usage(&self) -> usize
         ensures { result ≡ min (usage (dfa_of self.now.forward) (known_of self.now.forward)
             + usage (dfa_of self.now.reverse) (known_of self.now.reverse)) (2 ^ 64 - 1) }
@@ -118,8 +118,9 @@ impl Cache {
             .saturating_add(self.reverse.memory_usage())
     }
 
-    /// The bytes that the leaps of both take now, beside the accounted ones: by them a search over a long text reads a
-    /// few bytes at a step. Each part keeps its accounted bytes and its leaps within its own capacity.
+    /// Returns the bytes that the leaps of both caches take now, in addition to the accounted ones. With leaps, a
+    /// search over a long text reads a few bytes per step. Each part keeps its accounted bytes and its leaps within its
+    /// own capacity.
     pub fn leap_usage(&self) -> usize
         ensures { usage (dfa_of self.now.forward) (known_of self.now.forward)
             + usage (dfa_of self.now.reverse) (known_of self.now.reverse) + result
@@ -130,8 +131,8 @@ impl Cache {
             .saturating_add(self.reverse.leap_usage())
     }
 
-    /// The bytes that both take: the accounted ones, those of leaps, and all that they hold of the allocator. A sum above
-    /// the greatest `usize` is that number.
+    /// Returns the bytes that both caches take: the accounted ones, those of leaps, and all that they hold from the
+    /// allocator. Sums saturate at the greatest `usize`.
     pub fn footprint(&self) -> Footprint
         ensures accounted { result.accounted ≡ min (usage (dfa_of self.now.forward) (known_of self.now.forward)
             + usage (dfa_of self.now.reverse) (known_of self.now.reverse)) (2 ^ 64 - 1) }

@@ -17,7 +17,7 @@ use automata_base::util::search::{Anchored, Input, Match};
 use automata_config::error::SearchError;
 use std::fmt;
 
-/// The input from a later offset on.
+/// Returns the input with a later start.
 fn from<'h>(input: &Input<'h>, start: usize) -> Input<'h>
     requires { Allows input.now.haystack start input.now.end }
     ensures { result ≡ from start input.now }
@@ -25,7 +25,7 @@ fn from<'h>(input: &Input<'h>, start: usize) -> Input<'h>
     input.copied().range(start..input.end())
 }
 
-/// Whether a match is empty and at the end of the last one.
+/// Whether a match is empty and lies at the end of the last one.
 fn is_empty_at(last: Option<usize>, found: &Match) -> bool
     ensures yes { result ≡ true → IsEmptyAt last found.now }
     ensures no { result ≡ false → IsEmptyAt last found.now → ⊥ }
@@ -34,11 +34,11 @@ fn is_empty_at(last: Option<usize>, found: &Match) -> bool
 }
 
 impl Regex {
-    /// The next match of an iteration that you make yourself. The input is what is left to be searched: it starts at
-    /// `last`, where the last match ended, or `last` is none if there was no match yet. An empty match at `last` is
-    /// replaced by the match of a search from one offset later.
+    /// Returns the next match of an iteration that you drive yourself. The input is the remaining one: it starts at
+    /// `last`, where the last match ended; `last` is none if there was no match yet. An empty match at `last` is
+    /// replaced by the match of a search that starts one offset later.
     ///
-    /// It fails as `try_search` does. `find_iter` makes these calls one after another.
+    /// It returns the errors of `try_search`. `find_iter` makes these calls one after another.
     pub fn next_match(
         &self,
         cache: &mut Cache,
@@ -66,7 +66,7 @@ impl Regex {
         self.try_search(cache, &rest)
     }
 
-    /// The matches of an input, one after another. The iterator itself allocates nothing.
+    /// Returns an iterator over the matches of an input. The iterator itself allocates nothing.
     ///
     /// If a search fails, its error is the last item:
     ///
@@ -104,8 +104,8 @@ impl Regex {
     }
 }
 
-/// An iterator over the matches of an input that are left. An error is its last item. After the last item each call
-/// returns none. If the anchored mode is not supported, its only item is an error, unless the input is done.
+/// An iterator over the remaining matches of an input. An error is its last item. After the last item each call returns
+/// none. If the anchored mode is not supported, its only item is an error, unless the input is done.
 #[derive(Drop)]
 pub struct FindMatches<'r, 'c, 'h> {
     regex: &'r Regex,
@@ -121,7 +121,7 @@ pub struct FindMatches<'r, 'c, 'h> {
     ghost of: { AreCachesOf cache.now regex.now },
 }
 
-/// How far the iteration has come.
+/// Formats the progress of the iteration.
 impl<'r, 'c, 'h> fmt::Debug for FindMatches<'r, 'c, 'h> {
     fn fmt<W: fmt::Write>(&self, f: &mut fmt::Formatter<W>) -> fmt::Result {
         f.debug_struct("FindMatches")
@@ -134,7 +134,7 @@ impl<'r, 'c, 'h> fmt::Debug for FindMatches<'r, 'c, 'h> {
 }
 
 impl<'r, 'c, 'h> FindMatches<'r, 'c, 'h> {
-    /// The input that is left to be searched.
+    /// Returns the remaining input.
     fn input(&self) -> Input<'h>
         ensures { result ≡ input_over self.now.haystack.now self.now.start self.now.end self.now.anchored
             self.now.earliest }

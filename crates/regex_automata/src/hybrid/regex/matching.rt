@@ -11,7 +11,7 @@ use automata_base::util::search::Input;
 use automata_config::error::SearchError;
 
 impl Regex {
-    /// The input of a search for whether there is a match. It is earliest, unless the first match may be skipped.
+    /// Returns the input that `is_match` searches. It is earliest, unless the first match may be skipped.
     fn asked<'h>(&self, input: &Input<'h>) -> Input<'h>
         ensures { IsAsked self.now.forward input.now result }
     {
@@ -19,13 +19,13 @@ impl Regex {
         input.copied().earliest(!skips)
     }
 
-    /// Whether there is a match, whatever the input's earliest flag. It uses the forward DFA alone, and fails as a
-    /// search of it does.
+    /// Whether there is a match, whatever the input's earliest flag. It uses only the forward DFA, and returns the
+    /// errors of its search.
     pub fn is_match(&self, cache: &mut Cache, input: &Input<'_>) -> Result<bool, SearchError>
         requires { AreCachesOf cache.old self.now }
         ensures of { AreCachesOf cache.new self.now }
 
-        // What it returns by paths, and by passes, whatever the caches.
+        // What it returns, by the ordered paths and by the passes, whatever the caches.
         ensures returned { IsTruthOf self.now input.now result }
         ensures found { IfOk result (IsTruthReported self.now.forward input.now) }
 

@@ -1,4 +1,4 @@
-//! A regular expression as two lazy DFAs: one finds where a match ends, and one, reading backward, finds where it
+//! Regular expressions as two lazy DFAs: one finds where a match ends, and one, reading backward, finds where it
 //! starts.
 ghost use Rattle.std.specs.Prelude.{◌≡◌, IfOk, OnOk, OnErr, length};
 ghost use Rattle.automata_config.specs.Options.{unset};
@@ -18,8 +18,8 @@ use std::alloc::AllocError;
 
 /// The two lazy DFAs of a regular expression, for the same patterns.
 ///
-/// It is built from an NFA, or from two of which one reads the same expression backward. It searches over a cache of
-/// its own, which serves one search after another:
+/// It is built from one NFA, or from two, one of which reads the same expression backward. Its searches use a cache
+/// that was made for it, which serves one search after another:
 ///
 /// ```rust
 /// let regex = Regex::builder().build_from_nfa(word(rt.alloc())?)?;
@@ -35,7 +35,7 @@ pub struct Regex {
     reverse: DFA,
 }
 
-// One call for an owner, whose proof then has no step for each part.
+// With its own `drop`, the proof of an owner has one step for it instead of one for each part.
 impl Drop for Regex {
     fn drop(self) {
         let Self {
@@ -46,14 +46,14 @@ impl Drop for Regex {
 }
 
 impl Regex {
-    /// A builder of regexes.
+    /// Returns a builder of regexes, with the default settings.
     pub fn builder() -> Builder
         ensures { result ≡ unset }
     {
         Builder::new()
     }
 
-    /// A cache for its searches, which serves one search after another:
+    /// Returns a new cache for searches with this regex. It serves one search after another:
     ///
     /// ```rust
     /// let regex = Regex::builder().build_from_nfa(word(rt.alloc())?)?;
@@ -67,7 +67,7 @@ impl Regex {
         Cache::new(self)
     }
 
-    /// Makes a cache a fresh one of this regex, whatever regex it belonged to. An error changes neither part.
+    /// Makes `cache` a fresh cache for this regex, whatever regex it belonged to. An error changes neither part.
     pub fn reset_cache(&self, cache: &mut Cache) -> Result<(), AllocError>
         ensures ok { OnOk result (AreFresh self.now cache.new) }
         ensures err { OnErr result (cache.new ≡ cache.old) }
@@ -75,21 +75,22 @@ impl Regex {
         cache.reset(self)
     }
 
-    /// The DFA that finds where matches end. If ends are enough, search with it alone, over `Cache::forward_mut`.
+    /// Returns the DFA that finds where matches end. If you only need ends, search with it alone, over
+    /// `Cache::forward_mut`.
     pub fn forward(&self) -> &DFA
         ensures { result.now ≡ self.now.forward }
     {
         &self.forward
     }
 
-    /// The DFA that finds where matches start, by searches from an end backward.
+    /// Returns the DFA that finds where matches start, by searching backward from an end.
     pub fn reverse(&self) -> &DFA
         ensures { result.now ≡ self.now.reverse }
     {
         &self.reverse
     }
 
-    /// The number of patterns. Their IDs are the numbers below it.
+    /// Returns the number of patterns. Their IDs are the numbers below it.
     pub fn pattern_len(&self) -> usize
         ensures { result ≡ length self.now.forward.nfa.start_pattern }
     {

@@ -16,7 +16,7 @@ use automata_base::laws::{reported_is_right, start_is_right};
 use automata_base::util::search::{Anchored, HalfMatch, Input, Match, Span};
 use automata_config::error::SearchError;
 
-/// The input of a search back: from the base to the match's end, anchored and not earliest.
+/// Returns the input of the reverse search: from the base to the match's end, anchored and not earliest.
 fn backward<'h>(input: &Input<'h>, half: HalfMatch, base: usize) -> Input<'h>
     requires ordered { base ≤ half.offset }
     requires within { half.offset ≤ input.now.end }
@@ -28,11 +28,11 @@ fn backward<'h>(input: &Input<'h>, half: HalfMatch, base: usize) -> Input<'h>
 }
 
 impl Regex {
-    /// The first match, by the match kind of the forward DFA; with an earliest input, the match that ends first. The
-    /// reverse DFA searches back from its end, and finds its start.
+    /// Returns the first match, by the match kind of the forward DFA; for an input with `earliest`, the match that ends
+    /// first. The reverse DFA searches backward from its end to find its start.
     ///
-    /// An error is that of the forward search or of the search back, as these report it. If the search back finds no
-    /// start, the error is that the two DFAs are no pair. After an error the cache serves other searches as before.
+    /// It returns the errors of the forward search and of the reverse search. If the reverse search finds no start, the
+    /// error is `SearchError::NotAPair`. After an error the cache serves other searches as before.
     ///
     /// For all matches call `find_iter`. If you only need to know whether there is a match, call `is_match`.
     pub fn try_search(
@@ -43,7 +43,7 @@ impl Regex {
         requires { AreCachesOf cache.old self.now }
         ensures of { AreCachesOf cache.new self.now }
 
-        // What it returns by paths, and by passes, whatever the caches.
+        // What it returns, by the ordered paths and by the passes, whatever the caches.
         ensures returned { IsSpanOf self.now input.now result }
         ensures found { IfOk result (FindsMatch self.now input.now) }
 
@@ -57,12 +57,12 @@ impl Regex {
         self.search(cache, input)
     }
 
-    /// The first match, found as by `try_search`, which has the same contract.
+    /// Returns the first match, as `try_search` does, with the same contract.
     pub fn find(&self, cache: &mut Cache, input: &Input<'_>) -> Result<Option<Match>, SearchError>
         requires { AreCachesOf cache.old self.now }
         ensures of { AreCachesOf cache.new self.now }
 
-        // What it returns by paths, and by passes, whatever the caches.
+        // What it returns, by the ordered paths and by the passes, whatever the caches.
         ensures returned { IsSpanOf self.now input.now result }
         ensures found { IfOk result (FindsMatch self.now input.now) }
 
@@ -72,8 +72,8 @@ impl Regex {
         self.try_search(cache, input)
     }
 
-    /// Whether a match starts where the span that gave it began, so that no search back is needed: it is empty there,
-    /// or the anchored mode or the NFA anchors the search.
+    /// Whether the match starts at `base`, where the span that gave it begins, so that no reverse search is needed: the
+    /// match is empty, or the anchored mode or the NFA anchors the search.
     fn is_short(&self, input: &Input<'_>, half: HalfMatch, base: usize) -> bool
         ensures yes { result ≡ true → IsShort (forward_engine self.now) input.now (with_base half base) }
         ensures no { result ≡ false → IsShort (forward_engine self.now) input.now (with_base half base) → ⊥ }
@@ -87,7 +87,7 @@ impl Regex {
         self.forward.get_nfa().is_always_start_anchored()
     }
 
-    /// The start of the match whose end a forward search found.
+    /// Returns the start of the match whose end a forward search found, or none if the reverse search finds none.
     fn find_start(
         &self,
         cache: &mut dfa::Cache,
@@ -113,7 +113,7 @@ impl Regex {
         }
     }
 
-    /// The match that the passes of the two DFAs find.
+    /// Returns the match that the passes of both DFAs find.
     fn search(&self, cache: &mut Cache, input: &Input<'_>) -> Result<Option<Match>, SearchError>
         requires { AreCachesOf cache.old self.now }
         ensures of { AreCachesOf cache.new self.now }

@@ -19,7 +19,7 @@ next_key-requires-clause-is_of c =
     subst (λ (u : Machine). IsOwn u.nfa c.state-from.result.now) m c.state-from.ensures.of.own in
     subst (λ (a : Automaton). IsOf a c.state-from.result.now) (sym c.get_nfa.ensures) own.0
 
--- the state of the row that it steps from is one of the DFA
+-- the state of the source row is a state of the DFA
 from_row : (c : goal.In_ok-key) → IsStateOf c.args.dfa.now c.state-from.result.now
 from_row c =
     let m =
@@ -27,7 +27,7 @@ from_row c =
     ∙ (ap (λ (v : CacheView). v.store.table.of) c.self.view_is ∙ c.requires.of) in
     subst (λ (u : Machine). IsStateOf u c.state-from.result.now) m c.state-from.ensures.of
 
--- and its key is the next state
+-- the key is the next state
 next_row :
     (c : goal.In_ok-key)
     → c.in_ok-key.key
@@ -53,7 +53,7 @@ returns-clause-is_of c = record {
       ));
 }
 
--- it steps from the state that the ID names
+-- the source row is the row of the state that the ID names
 from_is :
     (c : goal.In_ok-key) (q : Powerset) → Names c.args.self.now.store.table c.args.id q → c.state-from.result.now ≡ q
 from_is c q n =

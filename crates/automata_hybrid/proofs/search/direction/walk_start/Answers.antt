@@ -6,7 +6,7 @@ use Rattle.automata_hybrid.specs.Known.Steps.{IsStartRun, StartFailsAt}
 use Rattle.automata_hybrid.specs.Private.Steps.Starts.{IsStartResult}
 use Rattle.automata_hybrid.proofs.search.direction.walk_start.Goals as goal
 
--- what a public call for a start state promises, in one
+-- what a public call for a start state ensures, in one clause
 started :
     (m : Machine) (mode : Anchored) (behind : Option ℕ) (behind_at start_at : ℕ) (old new : CacheView)
     (r : Result ℕ SearchError)

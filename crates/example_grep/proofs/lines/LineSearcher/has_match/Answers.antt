@@ -27,7 +27,7 @@ decides m line None has one (Some half, a, e) said = absurd (cc)
 decides m line (Some half) has one (None, a, e) said = absurd (cc)
 decides m line (Some found) has one (Some half, a, e) said = (λ t. record { half = half; answer = a }, λ h. said)
 
--- by what the patterns' texts mean
+-- whether a line has a match, by the meaning of the patterns' texts
 tells :
     (m : Machine) (line : List ℕ) (found : Option HalfMatch) (truth case_insensitive : Bool) (res : List Re)
     → IsSearcherFor case_insensitive res m

@@ -12,13 +12,13 @@ use Rattle.example_grep.specs.Lines.{numbered, one_more}
 use Rattle.example_grep.proofs.Numbers.{count_turn, left, taken}
 use Rattle.example_grep.proofs.lines.LineSearcher.matching.Goals as goal
 
--- whether the line of a turn has a match
+-- whether the current line is taken
 decides :
     (invert : Bool) (m now : Machine) (line : List ℕ) (has : Bool) → now ≡ m
     → (IsTrue has ↔ IsWanted invert (HasMatch now line)) → IsTrue has ↔ IsWanted invert (HasMatch m line)
 decides invert m now line has same h = subst (λ d. IsTrue has ↔ IsWanted invert (HasMatch d line)) same h
 
--- and by what the texts mean
+-- and by the meaning of the patterns' texts
 means :
     (invert : Bool) (m now : Machine) (line : List ℕ) (has : Bool) → now ≡ m
     → ((insensitive : Bool) (res : List Re) → IsSearcherFor insensitive res now
@@ -30,7 +30,7 @@ means invert m now line has same h =
     → IsTrue has ↔ IsWanted invert (HasPart res line))
     same h
 
--- a loop that came to its end has gone through all parts
+-- a loop that has ended has gone through all parts
 gone :
     {S : Type 0} {steps : S → Option (Bor (List ℕ)) → S → Type 0} (s t u : S) (xs : List (Bor (List ℕ)))
     {all : List (List ℕ)} {r : Option (Bor (List ℕ))}

@@ -6,7 +6,7 @@ use Rattle.patterns.specs.declared.error.Fault.{Fault}
 use Rattle.patterns.proofs.Faults.{text_fault}
 use Rattle.patterns.proofs.compile.Draft.read_one.Goals as goal
 
--- what holds after an Ok, of one NFA
+-- a property of an Ok result, for one NFA
 some_nfa : (r : Result Unit Fault) (P Q R : kit_nfa.Nfa → Type 0) (k : kit_nfa.Nfa) → P k → Q k → OnOk r (R k) →
     OnOk r ((x : kit_nfa.Nfa) × P x × Q x × R x)
 some_nfa (Ok u) P Q R k p q r = (k, p, q, r)

@@ -5,7 +5,7 @@ use Rattle.patterns.specs.Patterns.{settings_with}
 use Rattle.patterns.proofs.Building.{of_error, regex_is}
 use Rattle.patterns.proofs.pattern.Pattern.from_nfa_with.Goals as goal
 
--- the settings that the regex is built by
+-- the settings with which the regex is built
 same :
     (c : goal.In_ok-regex)
     → overwritten unset c.unicode_word_boundary-config.result ≡ settings_with c.args.config c.args.options.now

@@ -63,7 +63,7 @@ expand-requires-clause-room c =
     let enough : stack_room c.args.nfa.now.states ≤ vec_capacity c.args.stack.now = c.requires.room.places in
     omega arith
 
--- a new state with a child
+-- A new state with a child.
 followed : (c : goal.In-Some) →
     Walking c.args.nfa.now c.args.looks c.args.set.now.items c.args.start c.expand.new.set.items
     (c.in-Some.next ∷ reverse c.expand.new.stack.items)
@@ -86,7 +86,7 @@ visit-preserved-in-Some c =
     let more : vec_capacity c.visit.stack ≤ vec_capacity c.expand.new.stack = c.in-Some.ensures.capacity in
     ((followed c).0, c.in-Some.ensures.whole ∙ (c.if-discover.ensures.capacity ∙ c.visit.invariant.1), omega arith)
 
--- what a visit without a child leaves, before the next state is taken off the stack
+-- The state of the loop after a visit without a child, before the next state is popped.
 record Visited (a : Automaton) (looks : ℕ) (old : List ℕ) (start : ℕ) (before after : List ℕ) (id capacity : ℕ)
     (was stack : Vec ℕ Global) : Type 0 where
   pub walking : Walking a looks old start after (reverse stack.items)
@@ -103,7 +103,7 @@ next_way a looks old start before after id capacity was stack rest top e v =
     λ s. Walking a looks old start after s × (work a after s < work a before (id ∷ reverse was.items)) in
     subst P (pushed_top stack.items rest.items top e) (v.walking, v.less)
 
--- it was new, and its children took what room there was
+-- The state was new, and its children were visited or pushed.
 new_visit : (a : Automaton) (looks : ℕ) (old : List ℕ) (start : ℕ) (before seen after : List ℕ) (id capacity : ℕ)
     (was stack : Vec ℕ Global) (state : State)
     → IsChecked a → state ≡ get_or a.states id state → (In id before → ⊥) → seen ≡ before ++ id ∷ []
@@ -118,7 +118,7 @@ new_visit a looks old start before seen after id capacity was stack state checke
     grown put walking in
     record { walking = step.0; less = step.1; room = omega arith }
 
--- nothing is left to visit from it
+-- Nothing remains to be visited from the state.
 passed_visit :
     (a : Automaton) (looks : ℕ) (old : List ℕ) (start : ℕ) (before after : List ℕ) (id capacity : ℕ)
     (was : Vec ℕ Global)

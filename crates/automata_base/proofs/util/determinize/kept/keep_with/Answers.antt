@@ -10,7 +10,7 @@ use Rattle.automata_base.proofs.Powersets.Keeping.{kept_few}
 use Rattle.automata_base.proofs.Powersets.Endings.{appended, part_split, kept_of_parts, looks_of_parts}
 use Rattle.automata_base.proofs.util.determinize.kept.keep_with.Goals as goal
 
--- what stands after a part
+-- What follows a part.
 abbrev after : (list part : List ℕ) (start : ℕ) → List ℕ
 after list part start = take (length list - (start + length part)) (drop (start + length part) list)
 

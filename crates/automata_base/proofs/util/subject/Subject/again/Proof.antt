@@ -1,4 +1,4 @@
--- `again` makes a value of no bytes, whose ghost field is the one of the value that it is called on.
+-- `again` returns a zero-sized value with the same ghost field as the value that it is called on.
 use Rattle.std.proofs.Common.{[], ◌∷◌, refl}
 use Rattle.std.proofs.raw_atomic.Walks.{proved}
 use mir.Syntax.{Fn, a_type, named}

@@ -1,4 +1,4 @@
--- `of` makes a value of no bytes, whose ghost field is what the reference shows.
+-- `of` returns a zero-sized value, whose ghost field is what the reference shows.
 use Rattle.std.proofs.Common.{[], ◌∷◌, refl}
 use Rattle.std.proofs.raw_atomic.Walks.{proved}
 use mir.Syntax.{Fn, a_type, named}

@@ -5,7 +5,7 @@ use Rattle.automata_hybrid.proofs.Words.{cell_at, IsCell, Names, offset_limit, P
 use Rattle.automata_hybrid.proofs.Caches.Places.{Names-Placed, Placed-cell, Placed-IsCell}
 use Rattle.automata_hybrid.proofs.cache.table.Table.cell_in_row.Goals as goal
 
--- the cell of a row stands in the table
+-- the cell of a row lies in the table
 cell_inside :
     (t : Rows) (id row class : ℕ) (q : Powerset) (cells : List ℕ) → RowsFitCells t → Names t id q → class < t.of.stride
     → row ≡ id % offset_limit

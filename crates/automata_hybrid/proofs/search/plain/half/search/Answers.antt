@@ -14,7 +14,7 @@ use Rattle.automata_hybrid.proofs.Searches.SpanRuns.{run_after, run_before, run_
 use Rattle.automata_hybrid.proofs.search.plain.half.search.Goals as goal
 use Rattle.automata_hybrid.proofs.search.plain.half.search.Goals.{After-get_earliest, After-pass}
 
--- the parts of the input make it again
+-- rebuilding the input from its parts gives the input
 same :
     (c : After-get_earliest)
     → input_at c.haystack.result.now c.get_span.result c.get_anchored.result c.get_earliest.result ≡ c.args.input.now

@@ -12,7 +12,7 @@ use Rattle.automata_hybrid.proofs.Searches.SpanRuns.{run_after, run_before, run_
 use Rattle.automata_hybrid.proofs.search.plain.half.search_spans.Goals as goal
 use Rattle.automata_hybrid.proofs.search.plain.half.search_spans.Goals.{After-pass, In-Ok}
 
--- the span that is tried begins within the input's
+-- the span that is tried begins within the span of the input
 within :
     (c : After-pass)
     → c.args.input.now.start + skipped c.args.input.now c.loop-later.later ≤ c.args.input.now.end
@@ -21,7 +21,7 @@ within c =
     grind (arith, common_steps, c.loop-later-test.ensures.done) in
     skipped_within c.args.input.now c.loop-later.later c.loop-later.invariant.few ahead
 
--- no other one is tried after it
+-- no span is tried after it
 run_last :
     (c : In-Ok) → c.args.input.now.start + skipped c.args.input.now c.loop-later.later ≤ c.args.input.now.end
     → ((j : ℕ) → suc (skipped c.args.input.now c.loop-later.later) ≤ j

@@ -25,7 +25,7 @@ upto c = record {
   known = λ j below. c.run_to_match-run.ensures.runs.run.known j (omega arith) below;
 }
 
--- no unit is read after the span's last place
+-- no unit is read after the last place of the span
 few :
     (c : After-run_to_match-run)
     → c.run_to_match-run.result.at ≤ length (tape_in c.args.way c.args.input.now).bytes

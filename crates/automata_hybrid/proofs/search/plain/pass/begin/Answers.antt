@@ -12,7 +12,7 @@ use Rattle.automata_hybrid.proofs.Searches.PassState.{clean_start, false_true, s
 use Rattle.automata_hybrid.proofs.search.plain.pass.begin.Goals as goal
 use Rattle.automata_hybrid.proofs.search.plain.pass.begin.Goals.{After-get_earliest, After-rest, After-search_start}
 
--- the parts of the input make it again
+-- rebuilding the input from its parts gives the input
 same :
     (c : After-get_earliest)
     → input_at c.haystack.result.now c.get_span.result c.get_anchored.result c.get_earliest.result ≡ c.args.input.now
@@ -30,7 +30,7 @@ begins c =
     begun_here c.args.way c.args.input.now c.span_offset-first.result c.walk_start.new.cache c.search_start.new.self
     (sym c.span_offset-first.ensures.value) c.search_start.ensures.value
 
--- what its rest returns is what the pass returns
+-- the pass returns what its rest returns
 rest_passed :
     (c : After-rest) (r : Result (Option HalfMatch) SearchError)
     → input_at c.haystack.result.now c.get_span.result c.get_anchored.result c.get_earliest.result ≡ c.args.input.now

@@ -5,7 +5,7 @@ use Rattle.automata_hybrid.proofs.Searches.PassContracts.{same_input}
 use Rattle.automata_hybrid.proofs.search.plain.pass.begin_by_parts.Goals as goal
 use Rattle.automata_hybrid.proofs.search.plain.pass.begin_by_parts.Goals.{After-begin_of}
 
--- the parts of the input make it again
+-- rebuilding the input from its parts gives the input
 same :
     (c : After-begin_of)
     → input_at c.haystack.result.now c.get_span.result c.get_anchored.result c.get_earliest.result ≡ c.args.input.now

@@ -30,7 +30,7 @@ few c =
     let u = units_in c.args.way c.args.input.now c.requires.at.at.undone c.last_place-last.ensures.inside in
     omega (arith, u, c.run_on-met.ensures.within)
 
--- its step is given up at its own offset
+-- the offset of the "gave up" error of its step is its own offset
 given :
     (c : After-byte_at-byte)
     → given_up_offset c.args.way c.args.input.now c.run_on-met.result.at ≡ c.byte_offset-offset.result
@@ -38,7 +38,7 @@ given c =
     span_unit c.args.way c.args.input.now c.run_on-met.result.at c.run_on-met.ensures.within
     ∙ sym c.byte_offset-offset.ensures.unit
 
--- the units before it
+-- the effect of the units before it
 before :
     (c : After-byte_at-byte) → ((j : ℕ) → IsUnit (next (tape_in c.args.way c.args.input.now) j))
     → GoesTo c.args.way c.args.dfa.now c.args.input.now 0 c.run_on-met.result.at (known_of c.args.cache.now)
@@ -49,7 +49,7 @@ before c are =
     c.loop-run.invariant.progress c.run_on-met.ensures.run.more c.run_on-met.ensures.at.clean
     c.run_on-met.ensures.run.known
 
--- and with it
+-- the effect of these units and of the unit itself
 upto :
     (c : In-Ok)
     → given_up_offset c.args.way c.args.input.now c.run_on-met.result.at ≡ c.byte_offset-offset.result
@@ -80,7 +80,7 @@ reads c few =
     at_reads c.args.way c.args.dfa.now c.loop-run.cache.store.table c.args.input.now c.run_on-met.result.at
     c.run_on-met.result.id c.run_on-met.result.found c.run_on-met.ensures.at few c.in-Ok.ensures.read.alive
 
--- where it stands there
+-- the pass is at that place
 underway :
     (c : After-byte_at-byte)
     → IsUnderway c.args.way c.args.dfa.now c.loop-run.cache.store.table c.args.input.now c.run_on-met.result.at

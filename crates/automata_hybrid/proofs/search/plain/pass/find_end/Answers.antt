@@ -7,14 +7,14 @@ use Rattle.automata_hybrid.proofs.Searches.Goes.{ended_here, left_here, taken_he
 use Rattle.automata_hybrid.proofs.search.plain.pass.find_end.Goals as goal
 use Rattle.automata_hybrid.proofs.search.plain.pass.find_end.Goals.{After-unit_at-unit}
 
--- the unit is the one after the span
+-- the unit is the one that follows the span
 unit :
     (c : After-unit_at-unit)
     → next (tape_in c.args.way c.args.input.now) (c.args.input.now.end - c.args.input.now.start) ≡ c.unit_at-unit.result
 unit c =
     sym (c.unit_at-unit.ensures ∙ ap (next (tape_in c.args.way c.args.input.now)) c.last_place-last.ensures.place)
 
--- the step on it is given up at this offset
+-- the "gave up" error of the step on it has this offset
 given :
     (c : After-unit_at-unit)
     → given_up_offset c.args.way c.args.input.now (c.args.input.now.end - c.args.input.now.start)

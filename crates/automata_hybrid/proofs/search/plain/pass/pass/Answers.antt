@@ -19,7 +19,7 @@ use Rattle.automata_hybrid.specs.Private.Searches.PassState.{IsNextCell}
 use Rattle.automata_hybrid.proofs.search.plain.pass.pass.Goals as goal
 use Rattle.automata_hybrid.proofs.search.plain.pass.pass.Goals.{After-get_earliest, After-rest}
 
--- the parts of the input make it again
+-- rebuilding the input from its parts gives the input
 same :
     (c : After-get_earliest)
     → input_at c.haystack.result.now c.get_span.result c.get_anchored.result c.get_earliest.result
@@ -29,7 +29,7 @@ same c =
     c.get_earliest.result c.haystack.ensures.same c.get_span.ensures.start c.get_span.ensures.end
     c.get_anchored.ensures c.get_earliest.ensures
 
--- what its rest returns is what the pass returns
+-- the pass returns what its rest returns
 rest_passed :
     (c : After-rest) (r : Result (Option HalfMatch) SearchError)
     → input_at c.haystack.result.now c.get_span.result c.get_anchored.result c.get_earliest.result

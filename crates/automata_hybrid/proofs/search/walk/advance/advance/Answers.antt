@@ -17,7 +17,7 @@ use Rattle.automata_hybrid.proofs.Walks.Reports.{clean_more, finish_dead, finish
 use Rattle.automata_hybrid.proofs.search.walk.advance.advance.Goals as goal
 use Rattle.automata_hybrid.proofs.search.walk.advance.advance.Goals.{After-walk_far-stop}
 
--- the transitions that were followed up to where the walk stopped
+-- the transitions that were followed to where the walk stopped
 followed :
     (c : After-walk_far-stop)
     → IsFollowed c.args.way c.args.dfa.now c.walk_far-stop.new.cache.store c.args.input.now 0 c.loop-read.read
@@ -30,7 +30,7 @@ followed c =
     (sym c.walk_far-stop.ensures.same) c.follow_walk-near.ensures.followed)
     c.walk_far-stop.ensures.far.followed
 
--- and what the units up to there made of what the cache knows
+-- the effect of the units up to there on what the cache knows
 goes :
     (c : After-walk_far-stop)
     → GoesTo c.args.way c.args.dfa.now c.args.input.now c.args.units c.walk_far-stop.result.0.at

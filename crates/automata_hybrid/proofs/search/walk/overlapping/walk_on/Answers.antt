@@ -32,7 +32,7 @@ returns-in_err-from-clause-called c =
     c.from_residual.ensures.1
     (FailsToGoOn (reads_some input w c.requires.walk.reads) c.in_err-from.ensures.resumed)
 
--- the call goes on, and its search begins
+-- the call resumes the walk, and its search begins
 begun :
     (c : After-see_bounds)
     → after_going_on c.args.way c.args.dfa.now c.args.input.now c.args.walk.now.stage c.args.walk.now.units
@@ -105,7 +105,7 @@ returns-in_err-arrival-clause-called c =
     (begun (goal.at.returns-in_err-arrival-clause-called c).After-see_bounds)
     (call_leaves (keeping_of c.args.held.now) d m input w.units first new c.in_err-arrival.field-0.0 left))
 
--- it has come to where it reports patterns, or to its end
+-- it has reached a state that reports patterns, or its end
 arrived :
     (c : In_ok-arrival)
     → HasAdvanced c.args.way c.args.dfa.now c.args.input.now c.args.walk.now.units c.search_start.new.self

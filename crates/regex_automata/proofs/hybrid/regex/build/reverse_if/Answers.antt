@@ -10,7 +10,7 @@ use Rattle.automata_config.specs.Options.{Options}
 use Rattle.regex_automata.specs.Regexes.Builds.{IsBuildError, PassesTwo, reverse_build_error}
 use Rattle.regex_automata.proofs.hybrid.regex.build.reverse_if.Goals as goal
 
--- an NFA that passes the tests before it is reversed cannot be
+-- an NFA that passes the tests made before the reversal cannot be reversed
 unreversed :
     (o : Options) (a : Automaton) (e : ReverseError) → PassesTwo a → (e ≡ Starts → BeginsAlike a → ⊥)
     → (e ≡ TooLarge → BeginsAlike a) → (e ≡ TooLarge → MayBeTooLarge a) → IsBuildError o a (reverse_build_error e)

@@ -2,7 +2,7 @@ use Rattle.std.proofs.Common.{Result, Ok, Err}
 use Rattle.std.specs.Prelude.{IfOk}
 use Rattle.regex_automata.proofs.hybrid.regex.build.tested_reverse.Goals as goal
 
--- what follows from a fact follows of each Ok
+-- a consequence of a fact holds in each Ok result
 of_each : {A E B C : Type 0} (r : Result A E) → (B → C) → IfOk r (λ x. B) → IfOk r (λ x. C)
 of_each (Ok x) f h = f h
 of_each (Err e) f h = h

@@ -1,4 +1,4 @@
--- `again` makes another value of no bytes, whose ghost field is that of the count it is called on.
+-- `again` returns another zero-sized value with the same ghost field as the count that it is called on.
 use Rattle.std.proofs.Common.{[], ◌∷◌, refl}
 use Rattle.std.proofs.raw_atomic.Walks.{proved}
 use mir.Syntax.{named}

@@ -1,4 +1,4 @@
--- `next` makes another value of no bytes, whose ghost field is one more.
+-- `next` returns another zero-sized value, whose ghost field is one more.
 use Rattle.std.proofs.Common.{[], ◌∷◌, refl, ◌+◌}
 use Rattle.std.proofs.raw_atomic.Walks.{proved}
 use mir.Val.{Val, vstruct, vcons, vnil}

@@ -1,4 +1,4 @@
--- `zero` makes a value of no bytes, whose ghost field is 0.
+-- `zero` returns a zero-sized value, whose ghost field is 0.
 use Rattle.std.proofs.Common.{[], ◌∷◌, refl}
 use Rattle.std.proofs.raw_atomic.Walks.{proved}
 use mir.Val.{Val, vstruct, vcons, vnil}

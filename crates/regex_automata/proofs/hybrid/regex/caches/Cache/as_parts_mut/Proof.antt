@@ -1,4 +1,5 @@
--- Both parts are lent at once: the borrow of the whole is cut in two, and the whole's last value follows theirs.
+-- Both parts are lent at once: the borrow of the whole is split in two, and the last value of the whole follows from
+-- theirs.
 use mathlib.Core.Path.{◌≡◌, refl}
 use mathlib.Core.List.{List, [], ◌∷◌}
 use Prim.Native.Nat.{ℕ, ◌+◌}

@@ -1,0 +1,58 @@
+//! Splits a program of a small language, on standard input, into tokens.
+//!
+//! A line for each token has its line and column, its span in bytes, its kind, and its text. The last line says where
+//! the text ends, or which byte is the first one at which no token begins. `kinds.rt` has the kinds, a pattern each:
+//! names and blanks of whatever language, numbers, strings with escapes, comments and operators.
+//!
+//! It is proved that the tokens tile the text: each begins where the one before it ended and is what the search there
+//! finds, up to the end, or to the offset that is told, at which there is no token (`Lexer::lex`). Lines and columns
+//! are counted by a loop of which nothing is proved but that it is safe.
+#![tactic(auto)]
+
+mod kinds;
+mod place;
+mod tokens;
+
+use self::kinds::{kind_name, kinds_nfa};
+use self::place::Place;
+use self::tokens::{Lexed, Lexer};
+use anyhow::Result;
+use regex_automata::hybrid::regex::Regex;
+use std::alloc::Global;
+use std::fmt::Write;
+use std::io::Read;
+
+/// The lexer of the kinds of tokens.
+fn lexer(alloc: Global) -> Result<Lexer> {
+    let regex = Regex::builder().build_from_nfa(kinds_nfa(alloc)?)?;
+    Ok(Lexer::new(regex)?)
+}
+
+/// What is printed of the tokens of a text, and of its end.
+fn push_tokens(alloc: Global, text: &[u8], lexed: &Lexed<'_>, shown: &mut String) -> Result<()> {
+    let mut place = Place::start();
+    for token in &lexed.tokens {
+        let kind = kind_name(token.pattern().as_usize());
+        let (start, end) = (token.start(), token.end());
+        let bytes = String::from_utf8_lossy(alloc, token.bytes())?;
+        writeln!(shown, "{place} {start}..{end} {kind} {bytes:?}")?;
+        place = place.after_all(token.bytes());
+    }
+    match text.get(lexed.end) {
+        Some(byte) => writeln!(shown, "{place} no token begins with the byte {byte:#04x}")?,
+        None => writeln!(shown, "{place} end")?,
+    }
+    Ok(())
+}
+
+/// Prints the tokens of standard input.
+pub fn main(rt: HostRuntime) -> Result<()> {
+    let mut text = Vec::new(rt.alloc());
+    rt.reader().read_to_end(&mut text)?;
+    let mut lexer = lexer(rt.alloc())?;
+    let lexed = lexer.lex(rt.alloc(), text.as_slice())?;
+    let mut shown = String::new(rt.alloc());
+    push_tokens(rt.alloc(), text.as_slice(), &lexed, &mut shown)?;
+    print!(rt; "{shown}")?;
+    Ok(())
+}
