@@ -1,13 +1,13 @@
 //! Calls of the library over one lazy DFA and two caches of it, walks and sets among them, and what they report.
 
-ghost use Rattle.std.specs.Prelude.{◌<◌, ◌^◌, IfOk, IsTrue};
+ghost use Rattle.std.specs.Prelude.{◌<◌, ◌≡◌, ◌^◌, IfOk, IsTrue};
 ghost use Rattle.lazydfa.specs.Walks.{IsWalkOver};
 ghost use Rattle.regex_automata.specs.Promises.{HoldsRow, IsCacheOf};
 
 use super::Host;
 use super::plans::{Mode, pattern_id};
 use super::reported::{Counted, Reported, letter, prints};
-use super::reports::{Automaton, Caller};
+use super::reports::{Automaton, Caller, Short, Turns, write_reported};
 use regex_automata::hybrid::dfa::{Cache, DFA, OverlappingState};
 use regex_automata::hybrid::{BuildError, LazyStateID, SearchError, StartError, StepError};
 use regex_automata::nfa::thompson::NFA;
@@ -67,7 +67,7 @@ pub enum Call {
     End,
     /// The walk's next match.
     Next,
-    /// Begins the walk again.
+    /// Begins the walk again. Each call above `Next` but `Find` does so too, and each one from `Replace` on.
     Begin,
     /// What the walk has found last.
     Match,
@@ -113,8 +113,8 @@ fn has(set: &PatternSet, number: u8) -> bool {
     set.contains(pattern_id(number))
 }
 
-/// A lazy DFA with two caches, of which calls use the first, the state to which was stepped, a set of patterns, and a
-/// walk with its input.
+/// A lazy DFA with two caches, of which calls use the first, the state to which was stepped, a set of patterns, and
+/// what is walked over.
 #[derive(Drop)]
 pub struct Bench {
     dfa: DFA,
@@ -122,11 +122,9 @@ pub struct Bench {
     other: Cache,
     at: LazyStateID,
     set: PatternSet,
-    input: Input<'static>,
-    walk: OverlappingState,
+    over: Over,
     ghost of: { IsCacheOf cache dfa },
     ghost other_of: { IsCacheOf other dfa },
-    ghost walked: { IsWalkOver dfa input walk },
 }
 
 impl Bench {
@@ -141,15 +139,125 @@ impl Bench {
             other,
             at: LazyStateID::default(),
             set,
-            input: over.input(),
-            walk: OverlappingState::start(),
+            over,
         }
     }
 
-    /// Makes a call, and says what it reports.
+    /// Writes what the calls of a walk over this input report, and those between them.
+    fn report_turns(
+        &mut self,
+        rt: &impl Host,
+        input: &Input<'_>,
+        calls: &[Call],
+        walk: &mut OverlappingState,
+        text: &mut String,
+    )
+        requires { IsWalkOver self.old.dfa input.now walk.old }
+    {
+        for call in calls {
+            write_reported(rt, text, &self.report_of(rt.alloc(), input, *call, walk));
+        }
+    }
+
+    /// Makes the calls of a turn.
+    fn take_turns(
+        &mut self,
+        rt: &impl Host,
+        input: &Input<'_>,
+        row: &Short<On, Call>,
+        walk: &mut OverlappingState,
+        turns: &mut Turns,
+    )
+        requires { IsWalkOver self.old.dfa input.now walk.old }
+    {
+        for call in row.3 {
+            self.hear(rt, input, *call, walk, turns);
+        }
+        turns.lend(rt);
+        for (number, due) in row.4.iter().enumerate() {
+            self.hear(rt, input, due.0, walk, turns);
+            if turns.refuses(rt, number, due.1, row.5) {
+                self.hear(rt, input, due.0, walk, turns);
+            }
+            turns.has_reported(rt, due.1, row.0);
+        }
+    }
+
+    /// Makes a call, whose report is kept.
+    fn hear(
+        &mut self,
+        rt: &impl Host,
+        input: &Input<'_>,
+        call: Call,
+        walk: &mut OverlappingState,
+        turns: &mut Turns,
+    )
+        requires { IsWalkOver self.old.dfa input.now walk.old }
+        ensures { IsWalkOver self.new.dfa input.now walk.new }
+    {
+        turns.hear(rt, &self.report_of(rt.alloc(), input, call, walk));
+    }
+
+    /// What a call reports. A call of the walk may change it, and so may one that begins it again.
+    fn report_of(
+        &mut self,
+        alloc: Global,
+        input: &Input<'_>,
+        call: Call,
+        walk: &mut OverlappingState,
+    ) -> Reported
+        requires { IsWalkOver self.old.dfa input.now walk.old }
+        ensures { IsWalkOver self.new.dfa input.now walk.new }
+    {
+        match call {
+            Call::Next => {
+                let stepped = step(&self.dfa, &mut self.cache, input, walk);
+                reported_of_step(stepped, walk.get_match())
+            }
+            Call::Match => Reported::Half(Ok(walk.get_match())),
+            Call::MatchOfCopy => reported_of_copy(walk),
+            Call::Prints(text) => Reported::of_flag(prints(alloc, walk, text)),
+            Call::Find(_)
+            | Call::Insert(_)
+            | Call::Fill
+            | Call::Switch
+            | Call::Reset
+            | Call::Counts
+            | Call::Room => self.call_beside(alloc, input, call),
+            _ => {
+                let reported = self.call(alloc, call);
+                *walk = OverlappingState::start();
+                reported
+            }
+        }
+    }
+
+    /// A call that leaves the walk as it is.
+    fn call_beside(&mut self, alloc: Global, input: &Input<'_>, call: Call) -> Reported
+        ensures { self.new.dfa ≡ self.old.dfa }
+    {
+        match call {
+            Call::Find(haystack) => {
+                let input = Input::new(haystack.as_bytes());
+                Reported::Half(search(&self.dfa, &mut self.cache, &input))
+            }
+            Call::Insert(pattern) => {
+                Reported::of_flag(self.set.try_insert(pattern_id(pattern)) == Ok(true))
+            }
+            Call::Fill => fill(&self.dfa, &mut self.cache, input, &mut self.set),
+            Call::Switch => {
+                self.switch();
+                Reported::Word("-")
+            }
+            Call::Reset => Reported::of_growth(self.dfa.reset_cache(&mut self.cache)),
+            Call::Counts => self.counts(),
+            _ => Reported::of_flag(Vec::<u8>::with_capacity(alloc, 1).is_ok()),
+        }
+    }
+
+    /// A call that begins the walk again.
     fn call(&mut self, alloc: Global, call: Call) -> Reported {
         match call {
-            Call::Find(haystack) => self.find(&Input::new(haystack.as_bytes())),
             Call::FindEarliest(haystack) => {
                 self.find(&Input::new(haystack.as_bytes()).earliest(true))
             }
@@ -174,39 +282,13 @@ impl Bench {
             Call::Step(byte) => Reported::of_step(self.step(byte)),
             Call::Steps(bytes) => Reported::of_step(self.steps(bytes)),
             Call::End => Reported::of_step(self.end()),
-            _ => self.call_of_walk(alloc, call),
+            _ => self.renew(call),
         }
     }
 
-    /// A call of the walk or of the set.
-    fn call_of_walk(&mut self, alloc: Global, call: Call) -> Reported {
+    /// A call that makes the cache as new, or does not change it.
+    fn renew(&mut self, call: Call) -> Reported {
         match call {
-            Call::Next => self.next(),
-            Call::Match => Reported::Half(Ok(self.walk.get_match())),
-            Call::MatchOfCopy => reported_of_copy(&self.walk),
-            Call::Prints(text) => Reported::of_flag(prints(alloc, &self.walk, text)),
-            Call::Begin => {
-                self.walk = OverlappingState::start();
-                Reported::Word("-")
-            }
-            Call::Insert(pattern) => {
-                Reported::of_flag(self.set.try_insert(pattern_id(pattern)) == Ok(true))
-            }
-            Call::Fill => fill(&self.dfa, &mut self.cache, &self.input, &mut self.set),
-            _ => self.call_of_cache(alloc, call),
-        }
-    }
-
-    /// A call of the caches, or one that looks at what there is.
-    fn call_of_cache(&mut self, alloc: Global, call: Call) -> Reported {
-        match call {
-            Call::Switch => {
-                mem::swap(&mut self.cache, &mut self.other);
-                Reported::Word("-")
-            }
-            Call::Reset => Reported::of_growth(self.dfa.reset_cache(&mut self.cache)),
-            Call::Counts => self.counts(),
-            Call::Room => Reported::of_flag(Vec::<u8>::with_capacity(alloc, 1).is_ok()),
             Call::Replace | Call::ReplaceByNew => {
                 let made = self.made(call);
                 self.replace(made)
@@ -214,22 +296,20 @@ impl Bench {
             Call::ResetByCache => Reported::of_growth(self.cache.reset(&self.dfa)),
             Call::Brief => Reported::Number(self.cache.memory_usage(), letter(self.at)),
             Call::Leaps => Reported::of_flag(self.cache.leap_usage() > 0),
-            _ => {
+            Call::Copies => {
                 let nfa: Result<NFA, AllocError> = self.dfa.get_nfa().clone();
                 let dfa: Result<DFA, AllocError> = self.dfa.clone();
                 Reported::of_flag(nfa.is_ok() && dfa.is_ok())
             }
+            _ => Reported::Word("-"),
         }
     }
 
-    /// The walk's next match. If the call fails, the walk has none.
-    fn next(&mut self) -> Reported {
-        let stepped = step(&self.dfa, &mut self.cache, &self.input, &mut self.walk);
-        match (stepped, self.walk.get_match()) {
-            (Err(_), Some(_)) => Reported::Word("a refusal with a match"),
-            (Err(error), None) => Reported::Half(Err(error)),
-            (Ok(()), found) => Reported::Half(Ok(found)),
-        }
+    /// Puts the other cache first.
+    fn switch(&mut self)
+        ensures { self.new.dfa ≡ self.old.dfa }
+    {
+        mem::swap(&mut self.cache, &mut self.other);
     }
 
     /// Searches in the direction of the NFA.
@@ -381,6 +461,15 @@ fn step(
     }
 }
 
+/// What a call of a walk reports. If it fails, the walk has no match.
+fn reported_of_step(stepped: Result<(), SearchError>, found: Option<HalfMatch>) -> Reported {
+    match stepped {
+        Err(_) if found.is_some() => Reported::Word("a refusal with a match"),
+        Err(error) => Reported::Half(Err(error)),
+        Ok(()) => Reported::Half(Ok(found)),
+    }
+}
+
 /// What a copy of the walk has found last; it shares the state of the walk.
 fn reported_of_copy(walk: &OverlappingState) -> Reported {
     match walk.clone() {
@@ -411,8 +500,21 @@ impl Caller for Bench {
         }
     }
 
+    /// What a call reports that needs no walk.
     fn answer(&mut self, alloc: Global, call: Call) -> Reported {
         self.call(alloc, call)
+    }
+
+    fn report(&mut self, rt: &impl Host, calls: &[Call], text: &mut String) {
+        let input = self.over.input();
+        let mut walk = OverlappingState::start();
+        self.report_turns(rt, &input, calls, &mut walk, text);
+    }
+
+    fn take(&mut self, rt: &impl Host, row: &Short<On, Call>, turns: &mut Turns) {
+        let input = self.over.input();
+        let mut walk = OverlappingState::start();
+        self.take_turns(rt, &input, row, &mut walk, turns);
     }
 }
 

@@ -71,6 +71,28 @@ pub trait Caller: Drop {
 
     /// Makes a call, and says what it reports.
     fn answer(&mut self, alloc: Global, call: Self::Call) -> Reported;
+
+    /// Makes calls, and writes what they report.
+    fn report(&mut self, rt: &impl Host, calls: &[Self::Call], text: &mut String) {
+        for call in calls {
+            write_reported(rt, text, &self.answer(rt.alloc(), *call));
+        }
+    }
+
+    /// Makes the calls of a turn.
+    fn take(&mut self, rt: &impl Host, row: &Short<Self::Of, Self::Call>, turns: &mut Turns) {
+        for call in row.3 {
+            turns.hear(rt, &self.answer(rt.alloc(), *call));
+        }
+        turns.lend(rt);
+        for (number, due) in row.4.iter().enumerate() {
+            turns.hear(rt, &self.answer(rt.alloc(), due.0));
+            if turns.refuses(rt, number, due.1, row.5) {
+                turns.hear(rt, &self.answer(rt.alloc(), due.0));
+            }
+            turns.has_reported(rt, due.1, row.0);
+        }
+    }
 }
 
 /// Makes the calls of each row.
@@ -97,20 +119,13 @@ fn write_calls<T: Caller>(
     text: &mut String,
 ) {
     match T::make(rt, of, options) {
-        Ok(mut caller) => write_answers(rt, &mut caller, calls, text),
+        Ok(mut caller) => caller.report(rt, calls, text),
         Err(error) => write_reported(rt, text, &Reported::Refused(error)),
     }
 }
 
-/// Makes calls, and writes what they report.
-fn write_answers<T: Caller>(rt: &impl Host, caller: &mut T, calls: &[T::Call], text: &mut String) {
-    for call in calls {
-        write_reported(rt, text, &caller.answer(rt.alloc(), *call));
-    }
-}
-
 /// Writes what a call reports after what the others did.
-fn write_reported(rt: &impl Host, text: &mut String, reported: &Reported) {
+pub fn write_reported(rt: &impl Host, text: &mut String, reported: &Reported) {
     let before = if text.is_empty() { "" } else { ", " };
     write!(text, "{before}{reported}").expect(rt, "memory");
 }
@@ -237,18 +252,18 @@ impl Turns {
     }
 
     /// Stops the test unless the last call reported this.
-    fn has_reported(&self, rt: &impl Host, due: &str, shows: &str) {
+    pub fn has_reported(&self, rt: &impl Host, due: &str, shows: &str) {
         same_of(rt, &self.reported.as_str(), &due, &shows);
     }
 
     /// Keeps what a call reports.
-    fn hear(&mut self, rt: &impl Host, reported: &Reported) {
+    pub fn hear(&mut self, rt: &impl Host, reported: &Reported) {
         self.reported.clear();
         write_reported(rt, &mut self.reported, reported);
     }
 
     /// Whether a call that should answer runs out of memory. Then there is memory from here on.
-    fn refuses(&mut self, rt: &impl Host, call: usize, due: &str, named: &[Refusal]) -> bool {
+    pub fn refuses(&mut self, rt: &impl Host, call: usize, due: &str, named: &[Refusal]) -> bool {
         let is_refused = self.reported.as_str().ends_with("memory") && !due.ends_with("memory");
         if is_refused {
             self.blocks.clear();
@@ -338,26 +353,6 @@ fn refuse_in_turn<T: Caller>(rt: &impl Host, row: &Short<T::Of, T::Call>, turns:
 fn take_turn<T: Caller>(rt: &impl Host, row: &Short<T::Of, T::Call>, turns: &mut Turns) {
     turns.release();
     let mut caller = T::make(rt, row.1, row.2).expect(rt, "what is called");
-    for call in row.3 {
-        turns.hear(rt, &caller.answer(rt.alloc(), *call));
-    }
-    turns.lend(rt);
-    call_in_turn(rt, row, &mut caller, turns);
+    caller.take(rt, row, turns);
     turns.release();
-}
-
-/// Makes the calls that are in the memory of a turn, and again with memory if one fails.
-fn call_in_turn<T: Caller>(
-    rt: &impl Host,
-    row: &Short<T::Of, T::Call>,
-    caller: &mut T,
-    turns: &mut Turns,
-) {
-    for (number, due) in row.4.iter().enumerate() {
-        turns.hear(rt, &caller.answer(rt.alloc(), due.0));
-        if turns.refuses(rt, number, due.1, row.5) {
-            turns.hear(rt, &caller.answer(rt.alloc(), due.0));
-        }
-        turns.has_reported(rt, due.1, row.0);
-    }
 }
