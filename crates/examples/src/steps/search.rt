@@ -55,8 +55,8 @@ fn step(
     }
 }
 
-/// Returns the first match in an input's span, found by steps, or that there is none. The outer option is `None` if the
-/// steps stop before that is known.
+/// Returns the first match in an input's span, if there is one, found by steps. The outer option is `None` if the steps
+/// stop before that is known.
 fn first_match(dfa: &DFA, cache: &mut Cache, input: &Input<'_>) -> Option<Option<HalfMatch>>
     requires of { IsCacheOf cache.old dfa.now }
     requires early { input.now.earliest ≡ true }

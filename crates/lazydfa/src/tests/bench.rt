@@ -249,7 +249,7 @@ impl Bench {
         }
     }
 
-    /// Searches a haystack that was made for the call this many times.
+    /// Searches a haystack, which was made for the call, this many times.
     fn find_made(&mut self, made: Result<Vec<u8>, AllocError>, times: usize) -> Reported {
         match made {
             Ok(text) => Reported::Half(self.find_each(text.as_slice(), times)),
