@@ -1,13 +1,13 @@
 #!/usr/bin/env python3
-"""Runs the example programs of `crates/examples`, and compares what each of them prints:
+"""Runs the example programs of `crates/examples`, and compares their output:
 
     tools/examples_test.py [--program FILE].. ['N passed, M failed']
 
-crates/examples/data/NAME has the arguments of the example NAME in `args`, one a line, its standard input in `stdin`,
-and what it has to print in `stdout`. Each runs in the crate's folder, once as each compiler built it: the programs are
-those that `rt ci` left in the crate's out/, unless others are named. One example has no such folder: `rt ci` runs it,
+crates/examples/data/NAME has the arguments of the example NAME in `args`, one per line, its standard input in `stdin`,
+and its expected output in `stdout`. Each example runs in the crate's folder, once for each compiler: the programs are
+the two that `rt ci` left in the crate's out/, unless others are named. One example has no such folder: `rt ci` runs it,
 with the crate's own `args` and `stdout`. An unknown name and missing arguments have to be errors. The last line counts
-these runs too, beside what the given line counts.
+these runs, added to what the given line counts.
 """
 import argparse
 import os
@@ -18,13 +18,13 @@ import sys
 TOP = os.path.dirname(os.path.dirname(os.path.abspath(__file__)))
 CRATE = f"{TOP}/crates/examples"
 PROGRAMS = [f"{CRATE}/out/examples", f"{CRATE}/out/examples.by-rattle"]
-# Arguments that have to be an error.
+# Arguments with which the program has to fail.
 WRONG = [[], ["no such example"], ["fallback"], ["log"], ["rules"]]
 SECONDS = 120
 
 
 def read(path):
-    """Returns what a file has, nothing if it is not there."""
+    """Returns the contents of a file, or nothing if it does not exist."""
     if not os.path.isfile(path):
         return b""
     with open(path, "rb") as it:
@@ -32,12 +32,12 @@ def read(path):
 
 
 def words_of(path):
-    """Returns the words of a file, one a line."""
+    """Returns the words of a file, one per line."""
     return read(path).decode().splitlines()
 
 
 def calls():
-    """Yields the arguments and the standard input of each call, and the status and the output that it has to have."""
+    """Yields the arguments and the standard input of each call, and its expected status and output."""
     for name in sorted(os.listdir(f"{CRATE}/data")):
         data = f"{CRATE}/data/{name}"
         yield [name, *words_of(f"{data}/args")], read(f"{data}/stdin"), 0, read(f"{data}/stdout")
@@ -46,14 +46,14 @@ def calls():
 
 
 def untried():
-    """Returns the examples that `main` names and that nothing runs."""
+    """Returns the examples that `main` names and nothing runs, and those that run and `main` does not name."""
     named = re.findall(r'^ +"(\w+)" =>', read(f"{CRATE}/src/main.rt").decode(), re.M)
     tried = {*os.listdir(f"{CRATE}/data"), *words_of(f"{CRATE}/args")[:1]}
     return sorted({*named} ^ tried)
 
 
 def fault_of(program, words, given, status, printed):
-    """Returns what is wrong with a call of the program."""
+    """Calls the program, and returns what is wrong, if anything."""
     try:
         ran = subprocess.run([program, *words], input=given, capture_output=True, cwd=CRATE, timeout=SECONDS)
     except (OSError, subprocess.TimeoutExpired) as error:

@@ -18,7 +18,7 @@
 # The works of the C library are in measure/from_c.c, and their units in measure/works_c: with all works, and with `c`
 # in place of the works, they are measured after the others, in their own rounds. Those whose names begin with `spans_`
 # or `which_` read what measure/made.py generates: a pattern, and a text that looks like Russian, Chinese, JSON, source
-# code or English. grep counts the lines with a date in a file, in the locale C, and its time is that in user mode, to a
+# code or English. grep counts the lines with a date in a file, in the locale C, and its time is its user time, to a
 # thousandth of a second; the others have the same lines in memory. The crate regex is built by cargo from the sources
 # that Debian's package librust-regex-dev installs, or those in the folder that REGEX_SOURCES names; without cargo or
 # these sources it is left out.

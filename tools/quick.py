@@ -3,12 +3,13 @@
 
     tools/quick.py [--postgres]
 
-Each crate's format is checked. Each program of crates.txt is built by tools/unproved.py, and runs on its `stdin` with
-its `args`, among the files of its `data/`. It has to print its `stdout`, and to pass the tests that the gate has for
-it. A crate's tests are built and run likewise. tools/documents.py runs as it is, and tools/c.py over an archive that
-was built without proof. Parts run side by side, the longest first, one a processor, with ROOM of memory for each.
+It checks the format of each crate. It builds each program of crates.txt with tools/unproved.py, and runs it on its
+`stdin` with its `args`, in a folder with the files of its `data/`: the program has to print its `stdout`, and to pass
+the tests that the gate has for it. It builds and runs the tests of each crate likewise. It runs tools/documents.py
+unchanged, and tools/c.py over an archive that was built without proof. As many of these parts run in parallel as there
+are processors and ROOM of memory; programs come last, the largest first.
 
-What is built stays in crates/NAME/out/ of the copy. What a part wrote is printed if it failed, and the last lines
+What is built stays in crates/NAME/out/ of the copy. The output of a part is printed if it failed, and the last lines
 count what passed and failed. The status is 1 if anything failed.
 """
 import concurrent.futures
@@ -24,17 +25,17 @@ import time
 from libraries import KIT, TOP, crates_used, files_of, processors, text
 from unproved import build
 
-# The memory for a part, in kB: the most that a build took is 0.9 GB.
+# The memory for a part, in kB: builds took at most 0.9 GB.
 ROOM = 1 << 20
-# The tests of a program that the gate calls, which take another program in place of the proved one.
+# The gate's tests of a program, which can run another program in place of the proved one.
 TESTS_OF = {"example_grep": "grep_test.py", "examples": "examples_test.py", "lazydfa": "script_test.py"}
-# A program that is not proved may take all memory, or never end.
+# A program that is not proved may take all memory, or run forever.
 LIMITED = ["sh", "-c", 'ulimit -c 0; ulimit -v 8000000; exec "$@"', ""]
 SECONDS = 300
 
 
 def read(path):
-    """Returns what a file has, nothing if it is not there."""
+    """Returns the contents of a file, or nothing if it does not exist."""
     if not os.path.isfile(path):
         return b""
     with open(path, "rb") as it:
@@ -42,7 +43,7 @@ def read(path):
 
 
 def counted(words):
-    """Runs a tool whose last line counts, and returns what it counted and what it wrote."""
+    """Runs a tool whose last line counts tests. Returns how many passed, how many failed, and the output."""
     ran = subprocess.run(words, cwd=TOP, stdin=subprocess.DEVNULL, stdout=subprocess.PIPE, stderr=subprocess.STDOUT)
     wrote = ran.stdout.decode(errors="replace")
     found = re.search(r"(?:\A|\n)(\d+) passed, (\d+) failed\n\Z", wrote)
@@ -60,7 +61,7 @@ def formatted(name):
 
 
 def fault_of(program, name, room):
-    """Returns what is wrong with a run of the program with its crate's files."""
+    """Runs the program with its crate's files, and returns what is wrong, if anything."""
     crate = f"{TOP}/crates/{name}"
     shutil.copytree(f"{crate}/data", room) if os.path.isdir(f"{crate}/data") else os.mkdir(room)
     words = [*LIMITED, program, *read(f"{crate}/args").decode().splitlines()]
@@ -77,7 +78,7 @@ def fault_of(program, name, room):
 
 
 def try_program(name):
-    """Builds and runs a program, and calls the tests that the gate has for it."""
+    """Builds and runs a program, and runs the tests that the gate has for it."""
     program = f"{TOP}/crates/{name}/out/{name}"
     build(name, program)
     with tempfile.TemporaryDirectory() as room:
@@ -100,7 +101,7 @@ def try_tests(name):
 
 
 def try_archive(name, with_postgres):
-    """Builds a static library, and tests it from C, and from the extension if that is asked for."""
+    """Builds a static library, and tests it from C, and from the extension if requested."""
     archive = f"{TOP}/crates/{name}/out/lib{name}.a"
     build(name, archive)
     passed, failed, wrote = counted([f"{TOP}/tools/c.py", "--archive", archive])
@@ -116,7 +117,7 @@ def has_tests(name):
 
 
 def parts(with_postgres):
-    """Returns the parts, each a name, a function and what it takes: the short ones first, and then the longest."""
+    """Returns the parts, each with a name, a function and its argument. Programs come last, the largest first."""
     uses = crates_used()
     programs = [it for it in uses if os.path.isfile(f"{TOP}/crates/{it}/src/main.rt")]
     every = [("documents", counted, [f"{TOP}/tools/documents.py"])]
@@ -129,7 +130,7 @@ def parts(with_postgres):
 
 
 def work(part):
-    """Runs a part, prints what it wrote if it failed, and returns what it counted."""
+    """Runs a part, prints its output if it failed, and returns how many tests passed and how many failed."""
     name, call, given = part
     began = time.monotonic()
     try:
@@ -142,7 +143,7 @@ def work(part):
 
 
 def lanes():
-    """Returns how many parts run side by side."""
+    """Returns how many parts run in parallel."""
     free = re.search(r"MemAvailable: +(\d+)", text("/proc/meminfo"))
     return max(1, min(processors(), int(free[1]) // ROOM if free else 1))
 

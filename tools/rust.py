@@ -3,9 +3,9 @@
 
     tools/rust.py ['N passed, M failed']
 
-Those of bindings/rust/tests, the examples, and the programs of docs/RUST.md, which are doctests. Cargo needs no network
-and builds in a folder of its own. Without cargo, or with one that is too old for the crate, it says so, and tests
-nothing. The last line counts the tests, added to those that the given line counts.
+These are the tests of bindings/rust/tests, the examples, and the programs of docs/RUST.md, which are doctests. Cargo
+needs no network and builds in a temporary folder. If cargo is missing, or too old for the crate, the script says so and
+tests nothing. The last line counts the tests, added to those that the given line counts.
 """
 import os
 import re
@@ -20,13 +20,13 @@ RESULT = re.compile(r"^test result: \w+\. (\d+) passed; (\d+) failed", re.M)
 
 
 def oldest():
-    """Returns the oldest version of Rust that the crate is for."""
+    """Returns the oldest version of Rust that the crate supports."""
     with open(f"{CRATE}/Cargo.toml", encoding="utf-8") as it:
         return re.search(r'^rust-version = "([\d.]+)"', it.read(), re.M)[1]
 
 
 def why_not():
-    """Returns why nothing can be tested, if that is so."""
+    """Returns why nothing can be tested, or an empty string if the tests can run."""
     if not shutil.which("cargo"):
         return "there is no cargo"
     said = subprocess.run(["cargo", "--version"], capture_output=True, text=True).stdout

@@ -1,11 +1,11 @@
 #!/usr/bin/env python3
-"""Runs the scripts of crates/lazydfa/data, and compares what `lazydfa` writes, and its status:
+"""Runs `lazydfa` on the scripts of crates/lazydfa/data, and compares its output and status:
 
     tools/script_test.py [--program FILE].. ['N passed, M failed']
 
-scripts.txt has scripts with what each prints, and bad_lines.txt has lines that are bad. One script more has a line of
-two mebibytes. The programs are the two that `rt ci` left in the crate's out/, of both compilers, unless others are
-named. The last line counts each script of each program, beside what the given line counts.
+scripts.txt has scripts with their expected output, and bad_lines.txt has bad lines, each a script. One more script has
+a line of two mebibytes. The programs are the two that `rt ci` left in the crate's out/, one for each compiler, unless
+others are named. The last line counts each script for each program, added to what the given line counts.
 """
 import argparse
 import os
@@ -21,7 +21,7 @@ LONG = "a line of two mebibytes", b"regex runs all\nfwd " + b"61" * (1 << 20), (
 
 
 def read_blocks(name):
-    """Yields the lines between empty ones, without comments, each block with its place."""
+    """Yields each block of lines between empty lines and comments, with its file and the number of its first line."""
     with open(f"{CRATE}/data/{name}", "rb") as it:
         lines = [b"", *it.read().split(b"\n")]
     block = []
@@ -39,7 +39,7 @@ def spelled(text):
 
 
 def script_of(lines):
-    """Returns the script of the lines that begin with `> `. A backslash at the end leaves out the line feed."""
+    """Returns the script in the lines that begin with `> `. A backslash at the end omits the line feed."""
     script = b""
     for line in lines:
         text = line[2:]
@@ -48,7 +48,7 @@ def script_of(lines):
 
 
 def cases():
-    """Yields each script: its name, its bytes, and the status and the two outputs that are wanted."""
+    """Yields each script: its name, its bytes, and the expected status, output and error output."""
     for name, lines in read_blocks("scripts.txt"):
         given = [it for it in lines if it.startswith(b">")]
         wanted = [it + b"\n" for it in lines if not it.startswith(b">")]

@@ -1,31 +1,32 @@
 #!/usr/bin/env python3
-"""Tries the mutation tests of the crates, crates/NAME/wrong/*.edit: the prover has to refuse each of these wrong bodies.
+"""Tries the mutation tests of the crates, crates/NAME/wrong/*.edit: each edit has to make a proof fail.
 
     tools/wrong.py [--all] [--write] [--folder wrong] [CRATE ..] [CRATE/EDIT ..] ['N passed, M failed']
 
-`rt must-fail` checks a crate once for each edit; this puts those of different functions in at once (tools/edits.py).
-It prints a verdict on each edit:
+`rt must-fail` checks a crate once for each edit; this script applies edits of different functions at once
+(tools/edits.py). It prints a verdict on each edit:
 
-- REFUSED: a goal of the function that it changes, or a step in that function's proof files, is refused. The clauses are
-  printed whose goals these are. A harmless edit is refused too if the proof, as it is written, does not fit it.
-- PROVED: the function is proved with it, whatever failed beside it.
-- BAD EDIT: it cannot be applied, compiled or read; or all that is refused is a step that uses a name which it took
-  away, so that nothing is seen of what the edit means.
-- NOT TRIED: none of these, and why.
-- RECORDED: crates/NAME/wrong/verdicts has its key (tools/verdicts.py), so all that its verdict rests on is as it was
-  when it was refused. --write records what is refused. A tenth of all edits is tried anyway, other ones at each commit,
-  so that a line which nobody tried is found; --all tries all.
+- REFUSED: a goal of the function that it changes fails, or a step in that function's proof files. The clauses with
+  failed goals are printed. A harmless edit is refused too if the proof, as written, does not fit it.
+- PROVED: the function is proved with it, whatever else failed.
+- BAD EDIT: it cannot be applied, compiled or read; or the only failure is a step that uses a name which the edit
+  removed, which shows nothing about what the edit means.
+- NOT TRIED: none of these, with the reason.
+- RECORDED: crates/NAME/wrong/verdicts has its key (tools/verdicts.py), so everything that its verdict depends on is
+  unchanged since it was refused. --write records the refused edits. A tenth of all edits is tried anyway, a different
+  tenth at each commit, so that a recorded edit that was never tried is found; --all tries all.
 
-docs/index/WRONG_BODIES.md has a row for each edit: what it does and which promise this breaks, as its file says, and what is
-printed after REFUSED at, or `rt ci` for one in must-fail/, which `rt ci` tries. --write writes these rows. A clause of
-the function stands there by its name, or as `ensures` if it has none, and where none is refused each goal by the name
-that a check gives it: `f-requires` is what the call f requires, `loop-i-preserved` the invariant of the loop i,
-`invariant_of-x` that of the type of x.
+docs/index/WRONG_BODIES.md has a row for each edit: what it does and which promise this breaks, from its file, and what
+is printed after REFUSED at, or `rt ci` for an edit in must-fail/, which `rt ci` tries. --write writes these rows. A
+failed clause of the function is given by its name, or as `ensures` if it has none. If no clause failed, each failed
+goal is given by the name that a check prints: `f-requires` is a precondition of the call of f, `loop-i-preserved` the
+invariant of the loop i, and `invariant_of-x` the invariant of the type of x.
 
-It needs the libraries that `rt ci` (or `rt lib`) left in crates/*/out, and begins with what `rt check` kept there, if
-it did: else it proves the functions that are changed and what these call. It changes nothing there. The last line counts
-the edits and the document beside what the given line counts; the status is 1 unless each edit is refused and each row
-is right. What each crate took of the processors stands on standard error. It needs git, the kit's rt and Python 3.
+It needs the libraries that `rt ci` (or `rt lib`) left in crates/*/out, and starts from what `rt check` kept there, if
+anything: without that it proves the changed functions and what they call. It changes nothing there. The last line
+counts the edits and the document, added to what the given line counts; the status is 1 unless each edit is refused and
+each row is right. The processor time of each crate is printed on standard error. It needs git, the kit's rt and Python
+3.
 """
 import argparse
 import concurrent.futures
@@ -41,30 +42,30 @@ from libraries import TOP, crates_used, text
 from verdicts import key_of, record, recorded
 
 DOCUMENT = f"{TOP}/docs/index/WRONG_BODIES.md"
-# The rows of a crate's edits stand below a heading with its name.
+# The rows of a crate's edits are below a heading with its name.
 HEADING, ROW = re.compile(r"### `(\w+)`$"), re.compile(r"\| `(\w+)` \|")
 HEAD = ["| Mutation | What it does | What it breaks | Refused at |", "|---|---|---|---|"]
-# How many of the edits one is drawn of.
+# One in this many edits is drawn.
 ONE_OF = 10
 
 
 def commit():
-    """Returns the commit that is checked out, or a word that is new each time."""
+    """Returns the commit that is checked out, or a random word if there is none."""
     ran = subprocess.run(["git", "rev-parse", "HEAD"], cwd=TOP, capture_output=True, text=True)
     return ran.stdout.strip() if ran.returncode == 0 else os.urandom(8).hex()
 
 
 def drawn(crates):
     """Returns the crates and names of the edits that are tried at this commit, whatever is recorded: a tenth of all,
-    those that follow one another from some edit on. Edits of the same file rest on the proofs of the same functions,
-    so this takes a fraction of the time of as many edits here and there."""
+    consecutive from an edit that depends on the commit. Edits of one file depend on the proofs of the same functions,
+    so this takes a fraction of the time of as many scattered edits."""
     edits = [(crate.name, it.name) for crate in crates for it in sorted(crate.edits, key=lambda it: it.change)]
     first = int(hashlib.sha256(commit().encode()).hexdigest(), 16) % max(1, len(edits))
     return {(edits + edits)[first + it] for it in range(-(-len(edits) // ONE_OF))}
 
 
 def look_up(crate, due):
-    """Finds which edits of a crate are recorded as refused, over all that their verdicts rest on now."""
+    """Finds which edits of a crate are recorded as refused, with everything that their verdicts depend on unchanged."""
     known = recorded(crate.name)
     for edit in crate.edits:
         edit.key = "" if edit.fault else key_of(edit, crate.name, crate.uses)
@@ -73,7 +74,7 @@ def look_up(crate, due):
 
 
 def tried(crates):
-    """Yields each edit of the crates with the verdict on it, crates side by side, those with most edits first."""
+    """Yields each edit of the crates with its verdict. Crates run in parallel, those with the most edits first."""
 
     def work(crate):
         try:
@@ -99,12 +100,12 @@ class Document:
     """The rows of docs/index/WRONG_BODIES.md, and what is wrong with them."""
 
     def __init__(self, crates, refused):
-        """Refused: where edits are refused, by their crate and name."""
+        """`refused` has the clauses at which edits are refused, by crate and name."""
         self.faults = []
         self.rows = {it.name: self.rows_of(it, refused) for it in crates}
 
     def rows_of(self, crate, refused):
-        """Returns the rows of a crate's edits, by their names."""
+        """Returns the rows of a crate's edits, by name."""
         folder = f"{crate.folder}/must-fail"
         names = [it for it in os.listdir(folder) if it.endswith(".edit")] if os.path.isdir(folder) else []
         others = [Edit(f"{folder}/{it}", crate.folder) for it in names]
@@ -116,7 +117,7 @@ class Document:
         return {it.name: f"| `{it.name}` | {it.what} | {it.breaks} | {places[it.name]} |" for it in edits}
 
     def compare(self):
-        """Finds what differs in the document."""
+        """Finds the rows of the document that are wrong or missing."""
         crate, left = "", {(name, it): row for name, rows in self.rows.items() for it, row in rows.items()}
         for line in text(DOCUMENT).splitlines():
             crate = HEADING.match(line)[1] if HEADING.match(line) else "" if line.startswith("#") else crate
@@ -127,7 +128,7 @@ class Document:
         self.faults += [f"{name}/{it}: it has no row: {row}" for (name, it), row in left.items()]
 
     def write(self):
-        """Writes the rows, below the headings of the crates, which follow one another in the document."""
+        """Writes the rows below the headings of the crates, which are consecutive in the document."""
         lines = text(DOCUMENT).split("\n")
         heads = [at for at, line in enumerate(lines) if HEADING.match(line)]
         first = heads[0] if heads else len(lines) - 1
@@ -151,8 +152,8 @@ def arguments():
 
 
 def try_edits(crates, given, names):
-    """Tries the edits of these names, or all if there are none, and returns how many were refused and how many not, and
-    where edits are refused, by their crate and name."""
+    """Tries the edits with these names, or all if there are none. Returns how many were refused and how many were not,
+    and the clauses at which edits are refused, by crate and name."""
     due = {(it.name, edit.name) for it in crates for edit in it.edits} if given.all else drawn(crates)
     wanted = [Crate(it.name, it.uses, given.folder) for it in crates]
     for crate in wanted:

@@ -232,7 +232,7 @@ EDITS = [
     ("stands_never", "lib", "limits()", "limit()", "BAD EDIT: an 'old:' text stands in src/lib.rt 0 times"),
     ("changes_nothing", "lib", "two + two", "two + two", "BAD EDIT: it changes nothing"),
 ]
-# What is changed, the file, its old and new text, and which verdicts are then due: all of the crate, or some. The
+# What is changed, the file, its old and new text, and which verdicts are due afterwards: all of the crate, or some. The
 # verdict on an edit outside of any body depends on everything.
 ALL = {name for name, _, old, new, _ in EDITS} - {"stands_twice", "stands_never", "changes_nothing"}
 LIB = {name for name, file, *_ in EDITS if file == "lib"} & ALL
@@ -272,7 +272,7 @@ FAULTS = [
     "low/half_is_twice: it has no row: | `half_is_twice` | doubles |  | `rt ci` |",
     "low/is_no_edit: a row, and no edit",
 ]
-# What an edit's file says of it.
+# What the file of an edit says about it.
 SAID = "what: does something\nbreaks: something\n"
 
 

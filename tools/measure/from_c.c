@@ -1,6 +1,7 @@
-/* Works by the library for C: for each name of a work what was counted, and the microseconds of the processor, as
-   measure.in prints them. `batch` is `dense` with 1,024 matches a call. Works that begin with `spans_` or `which_` have
-   what made.py writes on standard input. The work `text` writes the lines of `dates` instead, for other programs. */
+/* Measures works of the library for C: prints for each work its name, what it counted, and the microseconds of
+   processor time, as measure.in does. `batch` is `dense` with 1,024 matches per call. Works that begin with `spans_` or
+   `which_` read what made.py writes from standard input. The work `text` writes the lines of `dates` instead, for other
+   programs. */
 #define _POSIX_C_SOURCE 200809L
 #include <lazydfa.h>
 #include <stdio.h>
@@ -26,7 +27,7 @@ static uint32_t below(uint32_t count) {
     return (noise >> 16) * count >> 16;
 }
 
-/* Lines of ten words, of which every tenth ends in a date. */
+/* Returns lines of ten words; every tenth line ends in a date. */
 static char *lines_of(size_t size) {
     char *text = malloc(size + 256);
     size_t length = 0, line = 0;
@@ -59,7 +60,7 @@ static long now(void) {
     return t.tv_sec * 1000000L + t.tv_nsec / 1000;
 }
 
-/* So many bytes of a range, before a state that stands already. */
+/* Adds `count` states that read a byte of a range, before the state `*at`, which becomes the first of them. */
 static lazydfa_status add_bytes(lazydfa_builder *builder, char lo, char hi, int count, lazydfa_state_id *at) {
     lazydfa_status status = { LAZYDFA_OK, 0, 0 };
     for (; count > 0 && status.code == LAZYDFA_OK; count--)
@@ -67,7 +68,7 @@ static lazydfa_status add_bytes(lazydfa_builder *builder, char lo, char hi, int 
     return status;
 }
 
-/* A pattern of as many digits as the text has, and of its other bytes. */
+/* Adds a pattern that matches a text, in which each `0` stands for any digit. */
 static lazydfa_status add_text(lazydfa_builder *builder, const char *text, lazydfa_state_id *start) {
     uint32_t pattern;
     TRY(lazydfa_start_pattern(builder, &pattern));
@@ -79,7 +80,7 @@ static lazydfa_status add_text(lazydfa_builder *builder, const char *text, lazyd
     return lazydfa_finish_pattern(builder, *start, &pattern);
 }
 
-/* [a-z]+ */
+/* Adds the pattern [a-z]+. */
 static lazydfa_status add_word(lazydfa_builder *builder, lazydfa_state_id *start) {
     lazydfa_state_id found, more, alternates[2];
     uint32_t pattern;
@@ -93,7 +94,7 @@ static lazydfa_status add_word(lazydfa_builder *builder, lazydfa_state_id *start
     return lazydfa_finish_pattern(builder, *start, &pattern);
 }
 
-/* Twenty words of five letters, a pattern each. */
+/* Adds twenty words of five letters, each a pattern. */
 static lazydfa_status add_words(lazydfa_builder *builder, lazydfa_state_id *start) {
     lazydfa_state_id starts[WORDS];
     for (int word = 0; word < WORDS; word++) {
@@ -128,7 +129,7 @@ static int is_spans(const char *work) { return !strncmp(work, "spans_", 6); }
 
 static int is_which(const char *work) { return !strncmp(work, "which_", 6); }
 
-/* What standard input has after its first line, which is given too. */
+/* Returns the text of standard input after its first line, and sets `*line` to that line. */
 static char *read_text(char **line) {
     size_t length;
     char *text;
@@ -140,7 +141,7 @@ static char *read_text(char **line) {
     return text;
 }
 
-/* By the pattern of a line, or by its words, a pattern each. */
+/* Makes a cache for the pattern in a line, or for its words, each a pattern. */
 static lazydfa_status open_read(lazydfa_cache *cache, const char *work, const char *line) {
     static lazydfa_text words[MANY];
     lazydfa_regex regex = LAZYDFA_INIT;
@@ -210,7 +211,7 @@ static lazydfa_status count_sets(lazydfa_cache *cache, const uint8_t *text, size
     return status;
 }
 
-/* How many of the words the lines have, line by line. */
+/* Counts the words that each line contains, line by line. */
 static lazydfa_status count_which(lazydfa_cache *cache, const uint8_t *text, size_t length, size_t *count) {
     lazydfa_status status = { LAZYDFA_OK, 0, 0 };
     while (length > 0 && status.code == LAZYDFA_OK) {
@@ -226,7 +227,7 @@ static lazydfa_status count_which(lazydfa_cache *cache, const uint8_t *text, siz
     return status;
 }
 
-/* Not inlined, so that its instructions can be counted by themselves. */
+/* Not inlined, so that its instructions can be counted separately. */
 __attribute__((noinline)) static lazydfa_status count_in(lazydfa_cache *cache, const char *work, const char *text,
                                                          size_t length, size_t *count) {
     const uint8_t *bytes = (const uint8_t *)text;

@@ -1,4 +1,4 @@
-# Draws a table of table.awk as SVG: for each work the time of the twin and of RE2 by ours, as bars.
+# Draws a table of table.awk as SVG: for each work, the times of the twin and of RE2 divided by ours, as bars.
 
 BEGIN { left = 90; right = 60; scale = 90; most = 6; height = 11; step = 46 }
 
@@ -12,7 +12,7 @@ function bar(y, value, colour,    cut) {
         value, cut ? " (cut off)" : ""
 }
 
-# The middle of `MIDDLE (QUARTER-QUARTER)`, at a field of a line of the table.
+# The medians in a line of the table, whose columns are `MEDIAN (QUARTILE-QUARTILE)`.
 $2 ~ /^(byte|match|search|line|state)$/ && $1 !~ /[0-9][KM]?$|room/ || $1 ~ /^(first|whole)20$/ {
     n = 0
     for (i = 3; i <= NF; i++)

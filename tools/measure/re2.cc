@@ -1,4 +1,4 @@
-// The same works by RE2: for each name of a work what was counted, and the microseconds of the processor.
+// Measures the works with RE2: prints for each work its name, what it counted, and the microseconds of processor time.
 #include <re2/re2.h>
 #include <re2/set.h>
 #include <algorithm>
@@ -25,14 +25,14 @@ static long now() {
   return t.tv_sec * 1000000L + t.tv_nsec / 1000;
 }
 
-// As many bytes of a piece, again and again, as fit.
+// Repeats a piece as often as it fits into a size.
 static std::string text_of(const char* piece, size_t size) {
   std::string text;
   for (size_t n = size / strlen(piece); n > 0; n--) text += piece;
   return text;
 }
 
-// Letters that look random, the same ones in each program.
+// Pseudorandom letters, the same in each program.
 struct Noise {
   uint32_t state;
   void step() { state = state * 1664525 + 1013904223; }
@@ -57,19 +57,19 @@ static std::string random_text(size_t size) {
   return text;
 }
 
-// A number below a count.
+// Returns a number below a count.
 static size_t below(Noise& noise, size_t count) {
   noise.step();
   return (noise.state >> 16) * count >> 16;
 }
 
-// Adds so many bytes, each one of these.
+// Adds `count` bytes, each one of `bytes`.
 static void add(std::string& text, Noise& noise, const char* bytes, size_t count) {
   size_t length = strlen(bytes);
   for (; count > 0; count--) text += bytes[below(noise, length)];
 }
 
-// Lines of a log: a time, a level, a name, and words and numbers.
+// Returns lines of a log: a time, a level, a name, and words and numbers.
 static std::string log_text() {
   static const char* const levels[] = {" DEBUG ", " INFO ", " WARN ", " ERROR "};
   static const char digits[] = "0123456789", letters[] = "abcdefghijklmnopqrstuvwxyz";
@@ -105,7 +105,7 @@ static std::string given_text() {
   return given;
 }
 
-// The lines of standard input, in one order after another.
+// Returns the lines of standard input, shuffled again and again.
 static std::string running_text() {
   std::string given = given_text(), text;
   std::vector<std::string> lines(1);
@@ -121,7 +121,7 @@ static std::string running_text() {
   return text;
 }
 
-// The lines of from_c.c: ten words, and every tenth line ends in a date.
+// Returns the lines of from_c.c: ten words each; every tenth line ends in a date.
 static std::string dated_text(size_t size) {
   std::string text;
   Noise noise{5};
@@ -148,7 +148,7 @@ static std::string joined(const std::vector<std::string>& words) {
   return all;
 }
 
-// How often a text of a size is searched.
+// Returns how often a text of a size is searched.
 static size_t turns(size_t size) { return size < kSize ? kSize / size : 1; }
 
 static RE2::Options latin() {
@@ -162,7 +162,7 @@ static void tell(const char* work, long count, long start) {
 }
 
 
-// RE2 has no search for an end alone: it is asked for spans here too.
+// RE2 cannot search for only the end of a match, so it searches for spans here too.
 static void matches_in(const char* work, const std::string& pattern, const std::string& text, size_t size = kSize,
                        const RE2::Options& options = latin()) {
   RE2 re(pattern, options);
@@ -178,7 +178,7 @@ static void matches_in(const char* work, const std::string& pattern, const std::
   tell(work, count, start);
 }
 
-// Lines that have a date.
+// Counts the lines that have a date.
 static void dates(const char* work) {
   std::string text = dated_text(100 << 20);
   RE2 re("[0-9]{4}-[0-9]{2}-[0-9]{2}", latin());
@@ -193,21 +193,21 @@ static void dates(const char* work) {
   tell(work, count, start);
 }
 
-// Text is in UTF-8, and RE2 has as much memory as the others.
+// Returns options for text in UTF-8, with as much memory as the other programs have.
 static RE2::Options with_memory() {
   RE2::Options options;
   options.set_max_mem(1 << 26);
   return options;
 }
 
-// What made.py writes: a line with a pattern, and a text.
+// Counts matches in what made.py writes: a line with a pattern, and a text.
 static void spans_read(const char* work) {
   std::string given = given_text();
   size_t line = given.find('\n');
   matches_in(work, given.substr(0, line), given.substr(line + 1), kSize, with_memory());
 }
 
-// The same after words between bars: which of them the lines have, line by line.
+// The same for a line with words between bars: counts the words that each line of the text contains.
 static void which_read(const char* work) {
   std::string given = given_text();
   size_t at = 0, line = given.find('\n');
@@ -235,12 +235,12 @@ static void ends(const char* work, const char* piece, size_t size = kSize) { mat
 
 static void spans(const char* work, const char* piece, size_t size = kSize) { matches(work, "[a-z]+", piece, size); }
 
-// Not looked into by the compiler, so that a loop keeps each call.
+// Opaque to the compiler, so that a loop keeps each call.
 __attribute__((noipa)) static bool has_byte(const std::string& text) {
   return memchr(text.data(), '#', text.size()) != nullptr;
 }
 
-// The C library's search for a byte that is not there.
+// Measures the C library's search for a byte that the text does not have.
 static void memory(const char* work, size_t size) {
   std::string text = text_of(kOne, size);
   long start = now(), count = 0;
@@ -270,7 +270,7 @@ static void sets(const char* work, const char* line) {
   tell(work, count, start);
 }
 
-// The first search of a new regex, without the time of its program, which stands for our automaton.
+// Measures the first search of a new regex, without the time to compile its program, which corresponds to our NFA.
 static void first(const char* work, const std::string& pattern, const std::string& text, int turns) {
   RE2::Options options = latin();
   options.set_max_mem(1 << 26);
@@ -284,7 +284,7 @@ static void first(const char* work, const std::string& pattern, const std::strin
   printf("%s %ld %ld\n", work, count, time);
 }
 
-// The same with the time of the parse and the program.
+// The same, with the time to parse and compile it.
 static void whole(const char* work, const std::string& pattern) {
   StringPiece text(kShort);
   long count = 0, time = 0;
@@ -297,12 +297,12 @@ static void whole(const char* work, const std::string& pattern) {
   printf("%s %ld %ld\n", work, count, time);
 }
 
-// The first KB searched for a word, a thousand words in all.
+// Measures first searches of 1 KB for any of `words` words, a thousand words in all regexes together.
 static void first_words(const char* work, int words) {
   first(work, joined(random_words(words)), random_text(1 << 10), std::max(1000 / words, 1));
 }
 
-// Which words 256 KB have, or for many words 16 KB, by a set whose program is made before.
+// Finds which words 256 KB have, or 16 KB for 10,000 words or more, with a set that is compiled beforehand.
 static void set_words(const char* work, int words) {
   RE2::Options options = latin();
   options.set_max_mem(1 << 27);
@@ -316,7 +316,7 @@ static void set_words(const char* work, int words) {
   tell(work, v.size(), start);
 }
 
-// 4,096 states over 256 KB. Two thirds of RE2's memory are for the search forward.
+// Searches 256 KB with 4,096 states. RE2 uses two thirds of its memory for the forward search.
 static void room(const char* work, size_t capacity) {
   RE2::Options options = latin();
   options.set_max_mem(capacity / 2 * 3);
@@ -336,7 +336,7 @@ static std::string twenty() {
   return p;
 }
 
-// The works whose pattern and text are on standard input.
+// Runs a work whose pattern and text are on standard input. Returns whether this is one.
 static bool is_read(const char* work) {
   std::string kind(work, strcspn(work, "_"));
   if (kind == "spans") spans_read(work);
@@ -345,7 +345,7 @@ static bool is_read(const char* work) {
   return true;
 }
 
-// The works whose names end in a number, with K or M for 1,024 or 1,048,576 of them.
+// Runs a work whose name ends in a number, with K for 1,024 and M for 1,048,576. Returns whether this is one.
 static bool grow(const char* work) {
   size_t letters = strcspn(work, "0123456789");
   char* unit;

@@ -1,7 +1,7 @@
-# Reads the works with their units, and then a line `ROUND WHO WORK COUNT TIME` for each run. For each work it prints the
-# middle of the rounds in nanoseconds a unit, here, and by the twin, RE2 and the kit's `regex` (or by the programs that
-# `others` names), with the first and the third quarter in brackets; then the others' time by ours, of the same round,
-# likewise. It says where two programs counted different matches.
+# Reads the works with their units, and then a line `ROUND WHO WORK COUNT TIME` for each run. For each work it prints
+# the median of the rounds in nanoseconds per unit, for the library, the twin, RE2 and the kit's `regex` (or the
+# programs that `others` names), with the first and the third quartile in brackets; then, likewise, the others' times
+# divided by the library's time in the same round. It reports where two programs counted different matches.
 
 BEGIN { most = split(others ? others : "twin re2 kit", other, " ") }
 
@@ -29,7 +29,7 @@ function sort(list, n,    i, j, x) {
 
 function shown(x) { return sprintf(x < 0.1 ? "%.3f" : x < 10 ? "%.2f" : x < 100 ? "%.1f" : "%.0f", x) }
 
-# The middle, and the quarters on both sides.
+# Returns the median, with the first and the third quartile in brackets.
 function spread(list, n) {
     if (n == 0) return "-"
     sort(list, n)

@@ -1,5 +1,5 @@
-/* For the test of memory: how many bytes malloc has given out in this backend, without those of the memory contexts of
-   PostgreSQL. */
+/* For the test of memory: returns how many bytes malloc has allocated in this backend, without those of PostgreSQL's
+   memory contexts. */
 #include "postgres.h"
 
 #include <malloc.h>

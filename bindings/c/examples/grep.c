@@ -1,17 +1,17 @@
-/* grep [-cino] -e PATTERN.. FILE..: prints the lines of files that match any of the patterns. -c prints how many they
-   are, -n their numbers too, -o their matches alone, and -i ignores case. The status is 0 if a line matches, 1 if none
-   does, and 2 after an error. A pattern is searched in each line on its own, in bytes. */
+/* grep [-cino] -e PATTERN.. FILE..: prints the lines of files that match any of the patterns. -c prints only how many
+   lines match, -n also prints their numbers, -o prints only their matches, and -i ignores case. The status is 0 if a
+   line matches, 1 if none does, and 2 after an error. Each line is searched by itself, as bytes. */
 #include <lazydfa.h>
 #include <stdio.h>
 #include <stdlib.h>
 #include <string.h>
 
-/* What is shown of the lines that match. */
+/* What is printed of the lines that match. */
 typedef struct {
     int count, numbers, matches, names;
 } shown;
 
-/* The whole of a file, or NULL if it cannot be read. */
+/* Returns the contents of a file, or NULL if it cannot be read. */
 static uint8_t *read_all(const char *name, size_t *length) {
     FILE *file = fopen(name, "rb");
     uint8_t *text = NULL, *larger;
@@ -42,7 +42,7 @@ static void print(const shown *how, const char *name, size_t number, const uint8
     putchar('\n');
 }
 
-/* Shows a line that matches, or each of its matches that is not empty. */
+/* Prints a line that matches, or each of its matches that is not empty. */
 static lazydfa_status show(lazydfa_cache *cache, const shown *how, const char *name, size_t number, const uint8_t *line,
                            size_t length) {
     lazydfa_iteration at = lazydfa_iterate(lazydfa_whole(length));
@@ -78,7 +78,7 @@ static lazydfa_status search(lazydfa_cache *cache, const shown *how, const char 
     return status;
 }
 
-/* Searches a file. Returns whether that went well. */
+/* Searches a file. Returns whether there was no error. */
 static int search_file(lazydfa_cache *cache, const shown *how, const char *name, size_t *found) {
     size_t length = 0, count = 0;
     uint8_t *text = read_all(name, &length);
@@ -96,7 +96,7 @@ static int search_file(lazydfa_cache *cache, const shown *how, const char *name,
     return status.code == LAZYDFA_NONE;
 }
 
-/* Reads the flags and patterns. Returns the index of the first file, or 0 if the arguments are none of the usage. */
+/* Reads the flags and patterns. Returns the index of the first file, or 0 if the arguments do not fit the usage. */
 static int read_arguments(char **argv, shown *how, lazydfa_text_options *options, lazydfa_text *texts, size_t *count) {
     int i;
     for (i = 1; argv[i] && argv[i][0] == '-'; i++) {

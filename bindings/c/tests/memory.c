@@ -1,7 +1,8 @@
 /* Measures the memory that the allocations of caches take, and compares it with what lazydfa_cache_usage reports: after
-   each search of short and long texts with twelve patterns, then with capacities so small that caches are cleared, and
-   for 300 caches that are kept within a limit. The linker gives this file the library's calls of malloc, realloc and
-   free (--wrap). Prints what each cache took, each check that fails, and how many checks there were. */
+   each search of short and long texts with twelve patterns; then with two of these and two others, with capacities so
+   small that caches are cleared; and for 300 caches that are kept within a limit. The linker gives this file the
+   library's calls of malloc, realloc and free (--wrap). Prints what each cache took, each check that fails, and how
+   many checks there were. */
 #include <malloc.h>
 #include <stdio.h>
 #include <stdlib.h>

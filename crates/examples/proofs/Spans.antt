@@ -1,4 +1,4 @@
--- The span that a search of one pattern finds is that of the first match of what its text means.
+-- A search of one pattern finds the span of the first match of what the pattern's text means.
 use Rattle.std.proofs.Common.{◌≡◌, ap, ◌∙◌, ℕ, List, [], ◌∷◌, Option, Some, None, refl, false, length}
 use Rattle.std.specs.Prelude.{option_map}
 use Rattle.regex_hir.specs.Re.{Re}
@@ -12,7 +12,7 @@ use Rattle.regex_automata.specs.Promises.{Match}
 use Rattle.meaning.specs.Patterns.{find_any, numbered_match}
 use Rattle.patterns.specs.Patterns.{AreMeanings, IsMeaning}
 
--- the meanings of one text are one
+-- a list of one text has one meaning
 pub one_meaning :
     (config : Config) (text : List ℕ) (res : List Re) → AreMeanings config (text ∷ []) res
     → (re : Re) × (res ≡ re ∷ []) × IsMeaning config text re
@@ -30,7 +30,7 @@ spans :
 spans res hay None = refl
 spans res hay (Some m) = refl
 
--- what a search found
+-- what a search found is the first match
 pub found_first :
     (re : Re) (res : List Re) (hay : List ℕ) (found : Option Match) → res ≡ re ∷ []
     → found ≡ option_map (numbered_match res hay) (find_any false res hay 0)
@@ -39,7 +39,7 @@ found_first re res hay found one is =
     ap (option_map span_of) is ∙ spans res hay (find_any false res hay 0)
     ∙ ap (λ (r : List Re). option_map span (find_any false r hay 0)) one
 
--- what the simulation found
+-- what the simulation found is the first match
 pub simulated_first :
     (nfa : Nfa) (re : Re) (hay : List ℕ) → Implements nfa re
     → first_match nfa hay (length hay) 0 (length hay) ≡ kit.find re hay 0

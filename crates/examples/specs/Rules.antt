@@ -4,7 +4,7 @@ use Rattle.automata_base.specs.Paths.Selections.{Pair}
 use Rattle.regex_automata.specs.Promises.{AreWalked, Forward, HalfMatch, In, Input, Machine, MatchesIn, No}
 use Rattle.regex_automata.specs.Promises.{half_nth, members}
 
--- a record by itself
+-- the input of a search of a whole record
 abbrev pub record_input : List ℕ → Input
 record_input bytes = record { haystack = bytes; start = 0; end = length bytes; anchored = No; earliest = false }
 

@@ -3,7 +3,7 @@ use Rattle.std.specs.Prelude.{ℕ, ◌≡◌, ◌⊎◌, List, [], ◌∷◌, le
 use Rattle.regex_automata.specs.Promises.{IsNoTokenAt, IsTokenAt, Machine}
 use Rattle.regex_automata.specs.declared.tokens.Token.{Token}
 
--- tokens from one offset to another, without a gap: each is the one where the token before it ended
+-- the tokens from one offset to another, without gaps: each is the token where the previous one ended
 abbrev pub AreTokens : Machine → (text : List ℕ) → (from to : ℕ) → List Token → Type 0
 AreTokens m text from to [] = from ≡ to
 AreTokens m text from to (t ∷ ts) = IsTokenAt m text (length text) from t × AreTokens m text t.span.end to ts

@@ -1,8 +1,8 @@
-//! Prints what is wrong with lists of patterns.
+//! Prints the errors in lists of patterns.
 //!
 //! Each line of standard input is a list: how many bytes the tables of all its patterns may take, and the patterns,
-//! with a blank between two. For a list that has an error, the number of the pattern at fault is printed, counted from
-//! 0, and what is wrong with it, with a caret below each character that the error is about.
+//! separated by spaces. For a list with an error, the program prints the number of the pattern at fault, counted from
+//! 0, and the error, with a caret below each character that it is about.
 #![tactic(auto)]
 
 use anyhow::Result;
@@ -11,7 +11,7 @@ use std::alloc::Global;
 use std::fmt::Write;
 use std::io::Read;
 
-/// Appends what is wrong with patterns of which the tables may take so many bytes.
+/// Appends the error in patterns whose tables may take `size_limit` bytes, or that there is none.
 fn push_error(alloc: Global, size_limit: usize, texts: &[&str], shown: &mut String) -> Result<()> {
     let defaults = Options::default();
     let options = Options {
@@ -28,7 +28,7 @@ fn push_error(alloc: Global, size_limit: usize, texts: &[&str], shown: &mut Stri
     Ok(())
 }
 
-/// Appends what is wrong with the list of a line.
+/// Appends the error in the list of a line, or that there is none.
 fn push_list(alloc: Global, line: &str, shown: &mut String) -> Result<()> {
     let mut words = line.split(' ');
     let size_limit = words.next().unwrap_or("").parse::<usize>()?;
@@ -39,7 +39,7 @@ fn push_list(alloc: Global, line: &str, shown: &mut String) -> Result<()> {
     push_error(alloc, size_limit, texts.as_slice(), shown)
 }
 
-/// Prints what is wrong with each list of standard input.
+/// Prints the error in each list of standard input.
 pub fn main(rt: HostRuntime) -> Result<()> {
     let mut lists = String::new(rt.alloc());
     rt.reader().read_to_string(&mut lists)?;

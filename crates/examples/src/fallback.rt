@@ -2,11 +2,13 @@
 //!
 //!     fallback PATTERN < LINES
 //!
-//! The lazy DFA has a cache of 64 KiB, and gives up where it would clear that once more and has read few bytes since.
-//! Such a line is searched by a simulation of the NFA, which keeps no states: its time hangs on the pattern and the
-//! line alone. The last line says how many lines were searched so.
+//! The lazy DFA has caches of 64 KiB. It gives up when a cache that was already cleared twice is full again, and few
+//! bytes were read for each state that was added. Such a line is searched by a simulation of the NFA, which caches no
+//! states: its time depends only on the pattern and the line. The last line of the output says how many lines were
+//! searched that way.
 //!
-//! It is proved that each line has what the pattern's text means, whoever finds it (`Finder::find`).
+//! It is proved that the match of each line is what the pattern's text means, whichever engine finds it
+//! (`Finder::find`).
 #![tactic(auto)]
 
 mod finder;
@@ -18,7 +20,7 @@ use std::env::{self, Args};
 use std::fmt::Write;
 use std::io::Read;
 
-/// Appends what is printed of a line.
+/// Appends the output for a line.
 fn push_found(found: &Found, shown: &mut String) -> Result<()> {
     match found.span {
         Some((start, end)) => writeln!(shown, "{start}..{end}")?,
@@ -27,7 +29,7 @@ fn push_found(found: &Found, shown: &mut String) -> Result<()> {
     Ok(())
 }
 
-/// What the program prints for a pattern and the lines of a text.
+/// Returns what the program prints for a pattern and the lines of a text.
 fn report(alloc: Global, pattern: &str, lines: &str) -> Result<String> {
     let mut shown = String::new(alloc);
     let mut finder = Finder::new(alloc, pattern)?;
@@ -43,7 +45,7 @@ fn report(alloc: Global, pattern: &str, lines: &str) -> Result<String> {
     Ok(shown)
 }
 
-/// Prints where the pattern that the argument is first matches in each line of standard input.
+/// Prints where the first match of a pattern, the argument, begins and ends in each line of standard input.
 pub fn run(rt: &HostRuntime, mut args: Args) -> Result<()> {
     let Some(pattern) = args.next() else {
         bail!("usage: fallback PATTERN < LINES");
@@ -55,7 +57,7 @@ pub fn run(rt: &HostRuntime, mut args: Args) -> Result<()> {
     Ok(())
 }
 
-/// Runs it as a program of its own, with the arguments after the program's name.
+/// Runs the example as a program of its own, with the arguments after the program's name.
 pub fn main(rt: HostRuntime) -> Result<()> {
     let mut args = env::args(&rt)?;
     let _program = args.next();

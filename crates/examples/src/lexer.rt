@@ -1,12 +1,12 @@
 //! Splits a program of a small language, on standard input, into tokens.
 //!
-//! A line for each token has its line and column, its span in bytes, its kind, and its text. The last line says where
-//! the text ends, or which byte is the first one at which no token begins. `kinds.rt` has the kinds, a pattern each:
-//! names and blanks of whatever language, numbers, strings with escapes, comments and operators.
+//! It prints a line for each token, with its line and column, its span in bytes, its kind, and its text. The last line
+//! says where the text ends, or which byte is the first at which no token begins. `kinds.rt` has a pattern for each
+//! kind: names and whitespace of any language, numbers, strings with escapes, comments and operators.
 //!
-//! It is proved that the tokens tile the text: each begins where the one before it ended and is what the search there
-//! finds, up to the end, or to the offset that is told, at which there is no token (`Lexer::lex`). Lines and columns
-//! are counted by a loop of which nothing is proved but that it is safe.
+//! It is proved that the tokens tile the text: each begins where the previous one ended and is what the search there
+//! finds, up to the end, or to the offset that is reported, at which there is no token (`Lexer::lex`). Of the loop that
+//! counts lines and columns only safety is proved.
 #![tactic(auto)]
 
 mod kinds;
@@ -22,13 +22,13 @@ use std::alloc::Global;
 use std::fmt::Write;
 use std::io::Read;
 
-/// The lexer of the kinds of tokens.
+/// Returns a lexer for the kinds of tokens.
 fn lexer(alloc: Global) -> Result<Lexer> {
     let regex = Regex::builder().build_from_nfa(kinds_nfa(alloc)?)?;
     Ok(Lexer::new(regex)?)
 }
 
-/// What is printed of the tokens of a text, and of its end.
+/// Appends the output for the tokens of a text, and for its end.
 fn push_tokens(alloc: Global, text: &[u8], lexed: &Lexed<'_>, shown: &mut String) -> Result<()> {
     let mut place = Place::start();
     for token in &lexed.tokens {

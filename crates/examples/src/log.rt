@@ -2,12 +2,12 @@
 //!
 //!     log PATTERNS LOG..
 //!
-//! PATTERNS has a pattern on each line. A log is read line by line, and all patterns are searched at once, so that the
-//! memory is that of the longest line and of the cache, however long a log is. A line need not be text: a byte that is
-//! no part of a character matches `(?-u:[\x80-\xFF])`, but no `.`. The log `/dev/stdin` is standard input.
+//! PATTERNS has a pattern on each line. A log is read line by line, and all patterns are searched at once, so the
+//! program needs memory for the longest line and the cache, however long a log is. A line may have any bytes: a byte
+//! that is not part of a UTF-8 encoded character matches `(?-u:[\x80-\xFF])`, but not `.`. The log `/dev/stdin` is
+//! standard input.
 //!
-//! Which patterns match a line is what `RegexSet::which` promises; how lines are read and counted is safe, and no more
-//! is proved.
+//! `RegexSet::which` promises which patterns match a line. Of reading and counting lines only safety is proved.
 #![tactic(auto)]
 
 mod counter;
@@ -20,7 +20,7 @@ use std::env::{self, Args};
 use std::fs::{self, File};
 use std::io::BufReader;
 
-/// The set of the patterns of a text, one on each line. They are searched in bytes.
+/// Returns the set of the patterns of a text, one on each line. They search bytes, not UTF-8.
 fn set_of(alloc: Global, text: &str) -> Result<RegexSet> {
     let mut patterns = Vec::new(alloc);
     for line in text.lines() {
@@ -55,7 +55,7 @@ pub fn run(rt: &HostRuntime, mut args: Args) -> Result<()> {
     Ok(())
 }
 
-/// Runs it as a program of its own, with the arguments after the program's name.
+/// Runs the example as a program of its own, with the arguments after the program's name.
 pub fn main(rt: HostRuntime) -> Result<()> {
     let mut args = env::args(&rt)?;
     let _program = args.next();

@@ -1,9 +1,9 @@
-//! The example programs: the first argument names one, and the others are its own.
+//! The example programs: the first argument names one, and the others are passed to it.
 //!
 //!     examples NAME [ARGUMENT..]
 //!
-//! To begin a program of your own from an example, copy its file as `src/main.rt`, and the files of its folder, if it
-//! has one, beside that: its `main` passes the arguments of your program to `run`, as this one passes those after NAME.
+//! To start a program of your own from an example, copy its file as `src/main.rt`, and the files of its folder, if it
+//! has one, beside that. Its `main` passes the arguments of your program to `run`, as this one passes those after NAME.
 #![tactic(auto)]
 
 mod errors;

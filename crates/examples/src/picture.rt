@@ -2,14 +2,15 @@
 //!
 //!     picture PATTERN.. | dot -Tsvg > nfa.svg
 //!
-//! A state has its ID. An edge that reads a byte is solid, with the bytes that it reads. One that reads none is dashed,
-//! with its rank among the alternates, of which the first is preferred, or with the look that has to hold; one at a
-//! group is dotted. Searches that are not anchored start in a state of their own, whose loop skips bytes.
+//! A state is labelled with its ID. A solid edge reads a byte, and is labelled with the bytes that it can read. The
+//! other edges read no byte: a dashed one is labelled with its rank among the alternates, of which the first is
+//! preferred, or with the look-around assertion that has to hold, and a dotted one begins or ends a group. Unanchored
+//! searches start in a state of their own, whose loop skips bytes.
 //!
-//! After it comes a second graph, if the first argument is `--in=TEXT`: what the cache of a DFA holds once that has
-//! searched the text. A state has its number, its NFA states in order of preference, and the patterns that match there,
-//! delayed by one byte. An edge has the bytes on which the cached transition leads there, and `end` for the haystack's
-//! end. What is not drawn is not cached.
+//! If the first argument is `--in=TEXT`, a second graph follows: the cache of a DFA after a search of the text. A state
+//! is labelled with its number, its NFA states in order of preference, and the patterns that match there, delayed by
+//! one byte. An edge is labelled with the bytes on which the cached transition leads there, and with `end` for the end
+//! of the haystack. What is not drawn is not cached.
 #![tactic(auto)]
 
 mod cached;
@@ -25,7 +26,7 @@ use regex_automata::util::search::Input;
 use std::alloc::Global;
 use std::env::{self, Args};
 
-/// The NFA of these patterns.
+/// Returns the NFA of these patterns.
 fn patterns_nfa(alloc: Global, patterns: &[String]) -> Result<NFA> {
     let mut texts = Vec::new(alloc);
     for pattern in patterns {
@@ -34,7 +35,7 @@ fn patterns_nfa(alloc: Global, patterns: &[String]) -> Result<NFA> {
     Ok(nfa_of(alloc, texts.as_slice(), &Options::default())?)
 }
 
-/// Appends the graph of what a search of a text leaves in a cache.
+/// Appends the graph of the cache after a search of a text.
 fn push_searched(nfa: NFA, text: &str, shown: &mut String) -> Result<()> {
     let dfa = DFA::builder().build_from_nfa(nfa)?;
     let mut cache = dfa.create_cache()?;
@@ -42,7 +43,7 @@ fn push_searched(nfa: NFA, text: &str, shown: &mut String) -> Result<()> {
     push_cached(&dfa, &cache, shown)
 }
 
-/// Prints the graph of the patterns that the arguments name, and that of a search.
+/// Prints the graph of the NFA of the patterns in the arguments, and, if there is a text, the graph of its search.
 pub fn run(rt: &HostRuntime, args: Args) -> Result<()> {
     let mut text = None;
     let mut patterns = Vec::new(rt.alloc());
@@ -62,7 +63,7 @@ pub fn run(rt: &HostRuntime, args: Args) -> Result<()> {
     Ok(())
 }
 
-/// Runs it as a program of its own, with the arguments after the program's name.
+/// Runs the example as a program of its own, with the arguments after the program's name.
 pub fn main(rt: HostRuntime) -> Result<()> {
     let mut args = env::args(&rt)?;
     let _program = args.next();

@@ -1,10 +1,11 @@
-//! Tells which rules match each line of standard input, and how many lines each rule matches:
+//! Prints which rules match each line of standard input, and how many lines each rule matches:
 //!
 //!     rules RULES < RECORDS
 //!
-//! RULES is a file with a pattern on each line; lines that begin with `#` are comments. A rule is known by the number
-//! of its line. One that is no pattern is shown with a caret below its place, and left out. All rules are searched at
-//! once: a record costs one pass, however many rules there are, in memory that is bounded beforehand.
+//! RULES is a file with a pattern on each line; lines that begin with `#` are comments. A rule is identified by its
+//! line number. A rule that is not a valid pattern is shown, with a caret below each character that the error is about,
+//! and left out. All rules are searched at once: a record takes one pass, however many rules there are, in memory whose
+//! bound is known beforehand.
 //!
 //! It is proved that the rules named for a record are exactly those that match it: a rule matches if some path of its
 //! pattern through the record ends in a match (`RuleMatcher::rules_of`).
@@ -22,7 +23,7 @@ use std::fmt::Write;
 use std::fs;
 use std::io::Read;
 
-/// Appends what is printed of a record: the lines of the rules that match it, and the record.
+/// Appends the output for a record: the line numbers of the rules that match it, and the record.
 fn push_record(book: &Book, found: &PatternSet, record: &str, shown: &mut String) -> Result<()> {
     for rule in found.iter() {
         write!(shown, "{} ", book.line(rule.as_usize()))?;
@@ -31,7 +32,7 @@ fn push_record(book: &Book, found: &PatternSet, record: &str, shown: &mut String
     Ok(())
 }
 
-/// Appends what is printed of each record, one on each line.
+/// Appends the output for each record of a text, one on each line.
 fn push_records(alloc: Global, book: &mut Book, records: &str, shown: &mut String) -> Result<()> {
     for record in records.lines() {
         let found = book.rules_of(alloc, record.as_bytes())?;
@@ -40,7 +41,7 @@ fn push_records(alloc: Global, book: &mut Book, records: &str, shown: &mut Strin
     Ok(())
 }
 
-/// What the program prints for the text of a file of rules and the text of the records.
+/// Returns what the program prints for the text of a file of rules and the text of the records.
 fn report(alloc: Global, rules: &str, records: &str) -> Result<String> {
     let mut shown = String::new(alloc);
     let mut book = read_rules(alloc, rules, &mut shown)?;
@@ -62,7 +63,7 @@ pub fn run(rt: &HostRuntime, mut args: Args) -> Result<()> {
     Ok(())
 }
 
-/// Runs it as a program of its own, with the arguments after the program's name.
+/// Runs the example as a program of its own, with the arguments after the program's name.
 pub fn main(rt: HostRuntime) -> Result<()> {
     let mut args = env::args(&rt)?;
     let _program = args.next();

@@ -2,11 +2,11 @@
 //!
 //!     sets PATTERN.. < LINES
 //!
-//! A pattern is known by its place among the arguments, counted from 0. With the patterns `[0-9]+` and `[a-z]+[0-9]` it
-//! prints `0 1 | 1@2 0@2 | a1 b`: both match the line `a1 b`, and a match of each ends after its second byte. Matches
-//! may overlap; of their ends the first ten are printed.
+//! A pattern is identified by its position among the arguments, counted from 0. With the patterns `[0-9]+` and
+//! `[a-z]+[0-9]` it prints `0 1 | 1@2 0@2 | a1 b`: both match the line `a1 b`, and a match of each ends after its
+//! second byte. Matches may overlap; only their first ten ends are printed.
 //!
-//! Which patterns match is what `RegexSet::which` promises; how that is printed is safe, and no more is proved.
+//! `RegexSet::which` promises which patterns match. Of the printing only safety is proved.
 #![tactic(auto)]
 
 ghost use Rattle.regex_automata.specs.Promises.{IsCacheOf};
@@ -20,7 +20,7 @@ use std::env::{self, Args};
 use std::fmt::Write;
 use std::io::Read;
 
-/// Appends which patterns match a line.
+/// Appends the numbers of the patterns that match a line.
 fn push_numbers(
     alloc: Global,
     set: &RegexSet,
@@ -38,7 +38,7 @@ fn push_numbers(
     Ok(())
 }
 
-/// Appends where matches in a line end, the first ten of them, with their patterns.
+/// Appends the ends of the first ten matches in a line, with their patterns.
 fn push_ends(set: &RegexSet, cache: &mut Cache, line: &str, shown: &mut String) -> Result<()>
     requires { IsCacheOf cache.old set.now.dfa }
     ensures { IsCacheOf cache.new set.now.dfa }
@@ -56,7 +56,7 @@ fn push_ends(set: &RegexSet, cache: &mut Cache, line: &str, shown: &mut String) 
     Ok(())
 }
 
-/// Appends what is printed of each line of a text.
+/// Appends the output for each line of a text.
 fn push_lines(alloc: Global, set: &RegexSet, text: &str, shown: &mut String) -> Result<()> {
     let mut cache = set.create_cache()?;
     for line in text.lines() {
@@ -68,7 +68,7 @@ fn push_lines(alloc: Global, set: &RegexSet, text: &str, shown: &mut String) -> 
     Ok(())
 }
 
-/// The set of these patterns.
+/// Returns the set of these patterns.
 fn set_of(alloc: Global, patterns: &[String]) -> Result<RegexSet> {
     let mut texts = Vec::new(alloc);
     for pattern in patterns {
@@ -92,7 +92,7 @@ pub fn run(rt: &HostRuntime, args: Args) -> Result<()> {
     Ok(())
 }
 
-/// Runs it as a program of its own, with the arguments after the program's name.
+/// Runs the example as a program of its own, with the arguments after the program's name.
 pub fn main(rt: HostRuntime) -> Result<()> {
     let mut args = env::args(&rt)?;
     let _program = args.next();

@@ -1,12 +1,12 @@
-//! Prints at which offset of each line of standard input the first match of `[0-9]+` is seen to end, by a search that
-//! takes its own steps.
+//! Prints, for each line of standard input, the least offset at which a match of `[0-9]+` ends, by a search that takes
+//! its own steps.
 //!
-//! The loop of `first_match` asks for one transition after another, and could stop at any byte, for a time limit or for
-//! more input. Here it stops at each `;`, a quit byte of its DFA, and a second DFA of the same NFA searches that line.
-//! The NFA is built state by state, as the compiler of a regex engine of your own would.
+//! The loop of `first_match` requests one transition after another, and could stop at any byte, for a time limit or for
+//! more input. Here it stops at a `;`, a quit byte of its DFA, and a second DFA of the same NFA then searches the line.
+//! The NFA is built state by state, as the compiler of your own regex engine would build it.
 //!
-//! It is proved that both ways find the same: what `find` returns is whatever `try_search_fwd` answers with an earliest
-//! input, and no path of the NFA ends in a match before it (`IsEarliest`).
+//! It is proved that both ways find the same match: `find` returns what `try_search_fwd` returns for an input with
+//! `earliest`, and no path of the NFA ends in a match before it (`IsEarliest`).
 #![tactic(auto)]
 
 mod search;
@@ -19,8 +19,8 @@ use std::alloc::Global;
 use std::fmt::Write;
 use std::io::Read;
 
-/// The NFA of `[0-9]+`: a digit, and then more digits or the match. The prefix skips bytes, for searches that are not
-/// anchored.
+/// Returns the NFA of `[0-9]+`: a digit, and then more digits or the match. The prefix skips bytes in unanchored
+/// searches.
 fn number(alloc: Global) -> Result<NFA> {
     let mut builder = Builder::new(alloc);
     builder.start_pattern()?;
@@ -34,7 +34,7 @@ fn number(alloc: Global) -> Result<NFA> {
     Ok(builder.build(digit, prefix)?)
 }
 
-/// The finder of numbers.
+/// Returns a finder of numbers.
 fn finder(alloc: Global) -> Result<Finder> {
     let nfa = number(alloc)?;
     if nfa.is_utf8() {
@@ -43,7 +43,7 @@ fn finder(alloc: Global) -> Result<Finder> {
     Finder::new(nfa)
 }
 
-/// Appends what is printed of a line: where its first number ends, and the line.
+/// Appends the output for a line: the least offset at which a number ends, and the line.
 fn push_end(finder: &mut Finder, line: &str, shown: &mut String) -> Result<()> {
     match finder.find(line.as_bytes())? {
         Some(half) => writeln!(shown, "ends at {}: {line}", half.offset())?,
@@ -52,7 +52,7 @@ fn push_end(finder: &mut Finder, line: &str, shown: &mut String) -> Result<()> {
     Ok(())
 }
 
-/// Appends what is printed of each line of a text.
+/// Appends the output for each line of a text.
 fn push_ends(alloc: Global, text: &str, shown: &mut String) -> Result<()> {
     let mut finder = finder(alloc)?;
     for line in text.lines() {
@@ -61,7 +61,7 @@ fn push_ends(alloc: Global, text: &str, shown: &mut String) -> Result<()> {
     Ok(())
 }
 
-/// Prints where the first number ends in each line of standard input.
+/// Prints the least offset at which a number ends in each line of standard input.
 pub fn main(rt: HostRuntime) -> Result<()> {
     let mut text = String::new(rt.alloc());
     rt.reader().read_to_string(&mut text)?;

@@ -8,7 +8,7 @@ use regex_automata::nfa::thompson::NFA;
 use regex_automata::util::search::Input;
 use std::alloc::Global;
 
-/// The NFA of a word: a run of letters, of whatever language.
+/// Returns the NFA of a word: a run of letters of any language.
 fn word(alloc: Global) -> Result<NFA> {
     Ok(nfa_of(alloc, &[r"\pL+"], &Options::default())?)
 }

@@ -2,7 +2,7 @@
 use Rattle.std.specs.Prelude.{◌≡◌, true, false}
 use Rattle.regex_automata.specs.Promises.{Backward, Forward, Input, IsWalkOf, Machine, Walk}
 
--- a walk over this input, backward if the NFA is for reverse searches
+-- `w` is a walk over this input, backward if the NFA is for reverse searches
 abbrev pub IsWalkOver : Machine → Input → Walk → Type 0
 IsWalkOver m input w =
     (m.nfa.flags.reverse ≡ false → IsWalkOf Forward m input w)

@@ -1,4 +1,4 @@
-//! Answers a script of searches. It reads the script from standard input, and writes the answers to standard output.
+//! Answers a script of searches: reads it from standard input, and writes the replies to standard output.
 #![tactic(auto)]
 
 use search_script::run;
@@ -8,7 +8,7 @@ use std::process::ExitCode;
 #[cfg(test)]
 mod tests;
 
-/// Answers the script on standard input. An error is written to standard error, and gives the exit status.
+/// Answers the script on standard input. An error is written to standard error, and determines the exit status.
 fn main(rt: HostRuntime) -> ExitCode {
     match run(rt.alloc(), &mut rt.reader(), &mut io::writer(&rt)) {
         Ok(()) => ExitCode::SUCCESS,

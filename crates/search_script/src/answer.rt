@@ -12,12 +12,12 @@ use std::fmt::Write;
 use std::io::Read;
 use std::{io, mem};
 
-/// Answers the script that the input has, with one line of output for each line of the script that is neither empty nor
-/// a comment.
+/// Answers a script that it reads from `input`: writes a line for each line of the script that is neither empty nor a
+/// comment.
 ///
-/// It writes nothing before all lines are read and checked and all answers are known. If there are several faults it
-/// reports the first, in this order: reading, the first bad line, building and answering, writing. Out of memory is
-/// reported where it happens. If a write fails, the beginning of the output may be out.
+/// Nothing is written before all lines are read and checked and all replies are known. If there are several errors, the
+/// first is returned, in this order: reading, the first bad line, building and answering, writing. Out of memory is
+/// returned where it happens. If a write fails, the beginning of the output may already be written.
 pub fn run<R: Read, W: io::Write>(
     alloc: Global,
     input: &mut R,
@@ -33,7 +33,7 @@ pub fn run<R: Read, W: io::Write>(
     output.flush().map_err(RunError::of_io)
 }
 
-/// The replies to all lines of a script.
+/// Returns the replies to all lines of a script, one line each.
 fn replies_to(alloc: Global, script: Script) -> Result<String, RunError> {
     let mut script = script;
     let definitions = mem::replace(&mut script.definitions, Vec::new(alloc));
@@ -47,7 +47,7 @@ fn replies_to(alloc: Global, script: Script) -> Result<String, RunError> {
     Ok(built.text)
 }
 
-/// What the definitions have built, in order, and the replies to them.
+/// The NFAs and regexes that the definitions have built, in order, and the replies so far.
 #[derive(Drop)]
 struct Built {
     nfas: Vec<NFA>,
@@ -56,7 +56,7 @@ struct Built {
 }
 
 impl Built {
-    /// Nothing is built yet.
+    /// Returns the state before the first definition.
     fn new(alloc: Global) -> Built {
         Built {
             nfas: Vec::new(alloc),
@@ -65,7 +65,7 @@ impl Built {
         }
     }
 
-    /// Builds what the definitions say, in their order.
+    /// Builds what the definitions describe, in order.
     fn define_all(&mut self, alloc: Global, definitions: Vec<Definition>) -> Result<(), RunError> {
         for definition in definitions {
             match definition {
@@ -79,7 +79,7 @@ impl Built {
         Ok(())
     }
 
-    /// Keeps an NFA by the next number. One that cannot be built takes none.
+    /// Adds an NFA under the next number. An NFA that could not be built takes no number.
     fn add_nfa(&mut self, nfa: Result<NFA, NfaError>) -> Result<(), RunError> {
         match nfa {
             Ok(nfa) => {
@@ -92,7 +92,7 @@ impl Built {
         Ok(())
     }
 
-    /// Keeps a regex by the next number. One that cannot be built takes none.
+    /// Adds a regex under the next number. A regex that could not be built takes no number.
     fn add_regex(&mut self, regex: Result<Regex, Refusal>) -> Result<(), RunError> {
         match regex {
             Ok(regex) => {
@@ -106,7 +106,7 @@ impl Built {
         Ok(())
     }
 
-    /// The regex that is made of this.
+    /// Builds the regex of a source.
     fn build(&self, alloc: Global, source: Source, config: Config) -> Result<Regex, Refusal> {
         match source {
             Source::Entry(entry) => {
@@ -122,24 +122,24 @@ impl Built {
         }
     }
 
-    /// The NFA with this number, which shares its states.
+    /// Returns a clone of the NFA with this number, which shares its states.
     fn nfa(&self, number: usize) -> Result<NFA, Refusal> {
         let nfa = self.nfas.get(number).ok_or(Refusal::NoNfa)?;
         nfa.clone().map_err(|_| OUT_OF_MEMORY)
     }
 }
 
-/// Why a line builds no regex.
+/// Why a line does not build a regex.
 #[derive(Drop)]
 enum Refusal {
-    /// It names an NFA that there is not.
+    /// The line names an NFA that does not exist.
     NoNfa,
     Build(RegexBuildError),
 }
 
 const OUT_OF_MEMORY: Refusal = Refusal::Build(RegexBuildError::OutOfMemory);
 
-/// An NFA of the catalogue. These are well formed, so only memory can be missing.
+/// Returns an NFA of the catalogue. These NFAs are well formed, so the only error is out of memory.
 fn entry_nfa(nfa: Result<NFA, NfaError>) -> Result<NFA, Refusal> {
     match nfa {
         Ok(nfa) => Ok(nfa),
@@ -147,7 +147,7 @@ fn entry_nfa(nfa: Result<NFA, NfaError>) -> Result<NFA, Refusal> {
     }
 }
 
-/// The regex of a forward and a reverse NFA. These keep unions if they have cycles through looks, so that replies
+/// Builds the regex of a forward and a reverse NFA. NFAs with cycles through looks keep their unions, so that replies
 /// follow the ordered paths.
 fn build_pair(forward: NFA, reverse: NFA, config: Config) -> Result<Regex, Refusal> {
     match Regex::builder()
@@ -159,7 +159,7 @@ fn build_pair(forward: NFA, reverse: NFA, config: Config) -> Result<Regex, Refus
     }
 }
 
-/// The regex of one NFA, which the library reverses.
+/// Builds the regex of one NFA, which the library reverses.
 fn build_made(forward: NFA, config: Config) -> Result<Regex, Refusal> {
     match Regex::builder().dfa(config).build_from_nfa(forward) {
         Ok(regex) => Ok(regex),

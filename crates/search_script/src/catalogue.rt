@@ -36,7 +36,7 @@ pub enum Entry {
     Bound,
     /// A line end, by CRLF.
     Crlf,
-    /// `(?s-u:.)*?`, always anchored, in UTF-8 mode: any bytes, as few as can be.
+    /// `(?s-u:.)*?`, always anchored, in UTF-8 mode: any bytes, as few as possible.
     Any,
     /// `[a-z]+` and `[0-9]+`.
     Runs,
@@ -48,12 +48,12 @@ pub enum Entry {
     Starts,
     /// `(?:\b|a)*`.
     Bounds,
-    /// `x` behind a cycle through `\b`, and `[a-z]`.
+    /// `x` after a cycle through `\b`, and `[a-z]`.
     Knot,
 }
 
 impl Entry {
-    /// The entry with this name, or none if no entry has it.
+    /// Returns the entry with this name, if there is one.
     pub(crate) fn named(name: &[u8]) -> Option<Entry> {
         let (_, entry) = NAMES.iter().find(|(text, _)| *text == name)?;
         Some(*entry)
@@ -71,7 +71,7 @@ impl Entry {
         outline.build(alloc, outline.reverse, true)
     }
 
-    /// The tables of the entry, and whether it is in UTF-8 mode.
+    /// Returns the tables of the entry, and whether it is in UTF-8 mode.
     fn outline(self) -> Outline {
         match self {
             Entry::Ab => Outline::new(&AB, 0, &[0]).reversed(&AB_REVERSED),
@@ -125,7 +125,7 @@ const NAMES: [(&[u8], Entry); 21] = [
     (b"knot", Entry::Knot),
 ];
 
-/// A state as the tables below write it. The last number names the next state; for `Accept` it is the pattern.
+/// A state in the tables below. The last number is the next state, or the pattern for `Accept`.
 #[derive(Clone, Copy)]
 enum Line {
     /// One byte.
@@ -134,7 +134,7 @@ enum Line {
     Range(u8, u8, u8),
     /// An ASCII word byte.
     Word(u8),
-    /// A union: the first state is preferred to the second.
+    /// A union, which prefers the first state to the second.
     Either(u8, u8),
     Assert(Look, u8),
     Accept(u8),
@@ -447,7 +447,8 @@ struct Outline {
 }
 
 impl Outline {
-    /// The outline of an NFA with one table for both directions, its unanchored start, and the starts of its patterns.
+    /// Returns the outline of an NFA with one table for both directions, this unanchored start and these pattern
+    /// starts.
     fn new(lines: &'static [Line], unanchored: u8, patterns: &'static [u8]) -> Outline {
         Outline {
             forward: lines,
@@ -458,7 +459,7 @@ impl Outline {
         }
     }
 
-    /// The outline with another table for the reverse direction.
+    /// Returns the outline with another table for the reverse direction.
     fn reversed(self, lines: &'static [Line]) -> Outline {
         Outline {
             reverse: lines,
@@ -466,7 +467,7 @@ impl Outline {
         }
     }
 
-    /// The outline of an NFA in UTF-8 mode.
+    /// Returns the outline with UTF-8 mode enabled.
     fn utf8(self) -> Outline {
         Outline { utf8: true, ..self }
     }
@@ -484,7 +485,7 @@ impl Outline {
     }
 }
 
-/// The states of a table, in its order.
+/// Returns the states of a table, in order.
 fn states_of(alloc: Global, lines: &[Line]) -> Result<Vec<State>, AllocError> {
     let mut states = Vec::with_capacity(alloc, lines.len())?;
     for line in lines {
@@ -493,7 +494,7 @@ fn states_of(alloc: Global, lines: &[Line]) -> Result<Vec<State>, AllocError> {
     Ok(states)
 }
 
-/// The state that a line of a table writes.
+/// Returns the state that a line of a table describes.
 fn state_of(alloc: Global, line: Line) -> Result<State, AllocError> {
     Ok(match line {
         Line::Byte(byte, next) => State::ByteRange {
@@ -522,7 +523,7 @@ fn state_of(alloc: Global, line: Line) -> Result<State, AllocError> {
     })
 }
 
-/// The transitions on ASCII word bytes, all of them to this state.
+/// Returns the transitions on ASCII word bytes, all to the state `next`.
 fn word_bytes(alloc: Global, next: StateID) -> Result<Vec<Transition>, AllocError> {
     let mut transitions = Vec::with_capacity(alloc, 4)?;
     for (lo, hi) in [(b'0', b'9'), (b'A', b'Z'), (b'_', b'_'), (b'a', b'z')] {
@@ -531,7 +532,7 @@ fn word_bytes(alloc: Global, next: StateID) -> Result<Vec<Transition>, AllocErro
     Ok(transitions)
 }
 
-/// The IDs of the states of these numbers.
+/// Returns the state IDs with these numbers.
 fn ids_of(alloc: Global, numbers: &[u8]) -> Result<Vec<StateID>, AllocError> {
     let mut ids = Vec::with_capacity(alloc, numbers.len())?;
     for number in numbers {
@@ -540,12 +541,12 @@ fn ids_of(alloc: Global, numbers: &[u8]) -> Result<Vec<StateID>, AllocError> {
     Ok(ids)
 }
 
-/// The ID of the state of this number.
+/// Returns the state ID with this number.
 fn id(number: u8) -> StateID {
     StateID::new(usize::from(number)).unwrap()
 }
 
-/// The ID of the pattern of this number.
+/// Returns the pattern ID with this number.
 fn pattern_id(number: u8) -> PatternID {
     PatternID::new(usize::from(number)).unwrap()
 }

@@ -3,7 +3,7 @@ use std::io;
 use std::process::ExitCode;
 use thiserror::Error;
 
-/// Why a script is not answered.
+/// Why a script could not be answered.
 #[derive(Clone, Copy, Debug, PartialEq, Eq, Error)]
 pub enum RunError {
     /// The number of the first bad line, counted from 1.
@@ -16,7 +16,7 @@ pub enum RunError {
 }
 
 impl RunError {
-    /// The error of a script whose input cannot be read, or whose output cannot be written.
+    /// Returns the error of a script whose input cannot be read, or whose output cannot be written.
     pub(crate) fn of_io(error: io::Error) -> RunError {
         match error.kind() {
             io::ErrorKind::OutOfMemory => RunError::OutOfMemory,
@@ -24,7 +24,7 @@ impl RunError {
         }
     }
 
-    /// The exit status of the process: 2 for a bad line, 1 for any other error.
+    /// Returns the exit status of the process: 2 for a bad line, 1 for any other error.
     pub fn status(self) -> ExitCode {
         match self {
             RunError::BadLine(_) => ExitCode::from(2),

@@ -1,8 +1,8 @@
-//! The words in which scripts are written.
+//! The keywords of scripts.
 
 use crate::words::split_once;
 
-/// A word with a meaning of its own.
+/// A keyword.
 #[derive(Clone, Copy)]
 pub enum Keyword {
     All,
@@ -69,14 +69,14 @@ const KEYWORDS: [(&[u8], Keyword); 29] = [
 ];
 
 impl Keyword {
-    /// The keyword with this spelling, or none if the word is no keyword.
+    /// Returns the keyword with this spelling, or none if the word is not a keyword.
     pub fn spelled(word: &[u8]) -> Option<Keyword> {
         let (_, keyword) = KEYWORDS.iter().find(|(text, _)| *text == word)?;
         Some(*keyword)
     }
 }
 
-/// The keyword of an option, and its value if it has one.
+/// Returns the keyword of an option, and its value if it has one. Returns none if its name is not a keyword.
 pub fn option_of(option: &[u8]) -> Option<(Keyword, Option<&[u8]>)> {
     let Some((name, value)) = split_once(option, b'=') else {
         return Some((Keyword::spelled(option)?, None));

@@ -1,7 +1,8 @@
-//! A script of searches, a line for each NFA, regex and request, and the replies to it.
+//! Scripts of searches, with a line for each NFA, regex and request, and the replies to them.
 //!
-//! `run` reads a script, checks all lines, builds the NFAs and regexes, has `replay` answer the requests over one cache,
-//! and writes a line for each. The other items read and print parts of a script, for callers that search by themselves.
+//! `run` reads a script, checks all lines, builds the NFAs and regexes, has `replay` answer the requests over one
+//! cache, and writes a line for each of them. The other items read and print parts of a script, for callers that search
+//! by themselves.
 #![tactic(auto)]
 
 mod answer;

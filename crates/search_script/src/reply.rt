@@ -1,4 +1,4 @@
-//! What is printed for a request.
+//! The line of output for a reply.
 
 use regex_automata::hybrid::SearchError;
 use regex_automata::replay::{Fault, Reply};
@@ -30,7 +30,7 @@ impl<'a> fmt::Display for Line<'a> {
     }
 }
 
-/// Writes a half match as `half PATTERN OFFSET`, its offset in bytes, or `none`, or the words of the error.
+/// Writes a half match as `half PATTERN OFFSET`, with the offset in bytes, or `none`, or the error.
 fn write_half<W: fmt::Write>(
     f: &mut fmt::Formatter<W>,
     found: &Result<Option<HalfMatch>, SearchError>,
@@ -46,7 +46,7 @@ fn write_half<W: fmt::Write>(
     }
 }
 
-/// Writes a match as `match PATTERN START..END`, its offsets in bytes, or `none`, or the words of the error.
+/// Writes a match as `match PATTERN START..END`, with offsets in bytes, or `none`, or the error.
 fn write_span<W: fmt::Write>(
     f: &mut fmt::Formatter<W>,
     found: &Result<Option<Match>, SearchError>,
@@ -61,7 +61,7 @@ fn write_span<W: fmt::Write>(
     }
 }
 
-/// Writes `iter`, the matches of an iteration, and the words of the error that ended it, if one did.
+/// Writes `iter`, the matches of an iteration, and the error that ended it, if there was one.
 fn write_matches<W: fmt::Write>(
     f: &mut fmt::Formatter<W>,
     matches: &[Match],
@@ -72,7 +72,7 @@ fn write_matches<W: fmt::Write>(
     write_end(f, error)
 }
 
-/// Writes `tokens`, the tokens of a span, and the words of the error that ended the list, if one did.
+/// Writes `tokens`, the tokens of a span, and the error that ended the list, if there was one.
 fn write_tokens<W: fmt::Write>(
     f: &mut fmt::Formatter<W>,
     tokens: &[Match],
@@ -87,7 +87,7 @@ fn write_tokens<W: fmt::Write>(
     }
 }
 
-/// Writes each match of a list as `PATTERN START..END`, with a blank before it.
+/// Writes each match of a list as `PATTERN START..END`, preceded by a space.
 fn write_each<W: fmt::Write>(f: &mut fmt::Formatter<W>, matches: &[Match]) -> fmt::Result {
     for found in matches {
         write!(f, " ")?;
@@ -96,7 +96,7 @@ fn write_each<W: fmt::Write>(f: &mut fmt::Formatter<W>, matches: &[Match]) -> fm
     Ok(())
 }
 
-/// Writes a match as `PATTERN START..END`, its offsets in bytes.
+/// Writes a match as `PATTERN START..END`, with offsets in bytes.
 fn write_match<W: fmt::Write>(f: &mut fmt::Formatter<W>, found: &Match) -> fmt::Result {
     let pattern = found.pattern().as_usize();
     let start = found.start();
@@ -104,7 +104,7 @@ fn write_match<W: fmt::Write>(f: &mut fmt::Formatter<W>, found: &Match) -> fmt::
     write!(f, "{pattern} {start}..{end}")
 }
 
-/// Writes `patterns`, the numbers of the patterns, and the words of the error that ended the list, if one did.
+/// Writes `patterns`, the numbers of the patterns, and the error that ended the list, if there was one.
 fn write_patterns<W: fmt::Write>(
     f: &mut fmt::Formatter<W>,
     patterns: &[PatternID],
@@ -117,7 +117,7 @@ fn write_patterns<W: fmt::Write>(
     write_end(f, error)
 }
 
-/// Writes a blank and the words of the error that ended a list, if one did.
+/// Writes a space and the error that ended a list, if there was one.
 fn write_end<W: fmt::Write>(f: &mut fmt::Formatter<W>, error: Option<&SearchError>) -> fmt::Result {
     if let Some(error) = error {
         write!(f, " ")?;
@@ -126,7 +126,7 @@ fn write_end<W: fmt::Write>(f: &mut fmt::Formatter<W>, error: Option<&SearchErro
     Ok(())
 }
 
-/// Writes the words of the error of a search, its offset in bytes.
+/// Writes the error of a search, with its offset in bytes.
 fn write_error<W: fmt::Write>(f: &mut fmt::Formatter<W>, error: &SearchError) -> fmt::Result {
     match error {
         SearchError::Match(error) => match error.kind() {
@@ -139,7 +139,7 @@ fn write_error<W: fmt::Write>(f: &mut fmt::Formatter<W>, error: &SearchError) ->
     }
 }
 
-/// Writes the words of a request that names no regex, no walk, or a walk of another regex.
+/// Writes the fault of a request whose regex or walk does not exist, or whose walk belongs to another regex.
 fn write_fault<W: fmt::Write>(f: &mut fmt::Formatter<W>, fault: Fault) -> fmt::Result {
     match fault {
         Fault::NoRegex => write!(f, "bad regex"),

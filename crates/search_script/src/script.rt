@@ -13,7 +13,7 @@ use regex_automata::util::primitives::PatternID;
 use regex_automata::util::search::{Anchored, Direction, Input, MatchKind, Span};
 use std::alloc::{AllocError, Global};
 
-/// What a script asks for, in the order of its lines.
+/// The definitions and orders of a script, in the order of its lines.
 #[derive(Drop)]
 pub struct Script {
     pub(crate) definitions: Vec<Definition>,
@@ -27,16 +27,16 @@ pub enum Definition {
     Regex { source: Source, config: Config },
 }
 
-/// What a regex is made of. An NFA that the script defines is named by its number.
+/// What a regex is built from. An NFA that the script defines is named by its number.
 #[derive(Clone, Copy)]
 pub enum Source {
     /// Both NFAs of an entry.
     Entry(Entry),
-    /// The forward NFA of an entry, and what the library makes of it for reverse searches.
+    /// The forward NFA of an entry, which the library reverses for reverse searches.
     EntryMade(Entry),
     /// Two NFAs, the second for reverse searches.
     Pair(usize, usize),
-    /// An NFA, and what the library makes of it for reverse searches.
+    /// An NFA, which the library reverses for reverse searches.
     Made(usize),
 }
 
@@ -55,7 +55,7 @@ enum Order {
     Reset(usize),
 }
 
-/// A haystack, and how it is searched.
+/// A haystack, and the options of its search.
 #[derive(Drop)]
 struct Query {
     haystack: Vec<u8>,
@@ -67,7 +67,7 @@ struct Query {
 }
 
 impl Script {
-    /// Reads all lines. If one is bad, the error is the number of the first bad one, counted from 1.
+    /// Reads all lines. If any line is bad, the error has the number of the first bad one, counted from 1.
     pub fn parse(alloc: Global, text: &[u8]) -> Result<Script, RunError> {
         let mut script = Script {
             definitions: Vec::new(alloc),
@@ -86,7 +86,7 @@ impl Script {
         Ok(script)
     }
 
-    /// The requests, over the haystacks that the script owns.
+    /// Returns the requests, over the haystacks that the script owns.
     pub fn requests(&self, alloc: Global) -> Result<Vec<Request<'_>>, AllocError> {
         self.orders
             .iter()
@@ -94,7 +94,7 @@ impl Script {
             .collect(alloc)
     }
 
-    /// Reads a line, which is neither empty nor a comment, and adds the definition or the order that it has.
+    /// Reads a line, which is neither empty nor a comment, and adds its definition or order.
     fn add_line(&mut self, alloc: Global, line: &[u8]) -> Result<(), LineError> {
         let words: Vec<&[u8]> = line.split(|byte| *byte == b' ').collect(alloc)?;
         if words.iter().any(|word| word.is_empty()) {
@@ -120,7 +120,7 @@ impl Script {
         }
     }
 
-    /// Adds a definition. It is a bad line if an order came before it.
+    /// Adds a definition. The line is bad if an order came before it.
     fn add_definition(&mut self, definition: Definition) -> Result<(), LineError> {
         if !self.orders.is_empty() {
             return Err(LineError::Bad);
@@ -147,7 +147,7 @@ impl Definition {
 }
 
 impl Source {
-    /// Reads what a regex is made of, and returns the words after it.
+    /// Reads what a regex is built from, and returns the remaining words too.
     fn parse<'a, 'b>(words: &'a [&'b [u8]]) -> Option<(Source, &'a [&'b [u8]])> {
         let (first, rest) = words.split_first()?;
         match (Entry::named(*first), after_made(rest)) {
@@ -163,7 +163,7 @@ impl Source {
     }
 }
 
-/// The words after the one that has the library make the reverse NFA, if it stands first.
+/// Returns the words after `made`, by which the library builds the reverse NFA, if that is the first word.
 fn after_made<'a, 'b>(words: &'a [&'b [u8]]) -> Option<&'a [&'b [u8]]> {
     let (first, rest) = words.split_first()?;
     match Keyword::spelled(*first)? {
@@ -172,7 +172,7 @@ fn after_made<'a, 'b>(words: &'a [&'b [u8]]) -> Option<&'a [&'b [u8]]> {
     }
 }
 
-/// The fault of a line, by its number.
+/// Returns the error of the line with this number.
 fn fault_at(number: usize, error: LineError) -> RunError {
     match error {
         LineError::Bad => RunError::BadLine(number),
@@ -181,7 +181,7 @@ fn fault_at(number: usize, error: LineError) -> RunError {
 }
 
 impl Order {
-    /// Reads an order, by its keyword and the words after it.
+    /// Reads an order, given its keyword and the words after it.
     fn parse(alloc: Global, keyword: Keyword, words: &[&[u8]]) -> Result<Order, LineError> {
         let order = match keyword {
             Keyword::Forward => Order::SearchFwd(Query::parse(alloc, words)?),
@@ -219,7 +219,7 @@ impl Order {
         Ok(Order::Which { capacity, query })
     }
 
-    /// The request of the order, over the haystack that the order owns.
+    /// Returns the request of the order, over the haystack that the order owns.
     fn request(&self) -> Request<'_> {
         match self {
             Order::SearchFwd(query) => Request::SearchFwd(query.input()),
@@ -242,7 +242,7 @@ impl Order {
     }
 }
 
-/// The settings with one more option.
+/// Returns the settings with one more option set, or none if the word is not an option.
 pub fn configured(config: Config, option: &[u8]) -> Option<Config> {
     Some(match option_of(option)? {
         (Keyword::All, None) => config.match_kind(MatchKind::All),
@@ -260,7 +260,7 @@ pub fn configured(config: Config, option: &[u8]) -> Option<Config> {
 }
 
 impl Query {
-    /// The input of a search: the haystack, and the options of the query.
+    /// Returns the input of the search.
     fn input(&self) -> Input<'_> {
         Input::new(self.haystack.as_slice())
             .span(self.span)
@@ -288,7 +288,7 @@ impl Query {
         Ok(query)
     }
 
-    /// Sets an option of the search. It returns none if the word is no option.
+    /// Sets an option of the search. Returns none if the word is not an option.
     fn set(&mut self, option: &[u8]) -> Option<()> {
         match option_of(option)? {
             (Keyword::Anchored, None) => self.anchored = Anchored::Yes,
@@ -303,8 +303,8 @@ impl Query {
         Some(())
     }
 
-    /// Sets the span, in bytes, to the one that the text `START..END` writes. It returns none if the text has another
-    /// form, or if the input does not allow the span.
+    /// Sets the span from the text `START..END`, in bytes. Returns none if the text has another form, or if the input
+    /// does not allow the span.
     fn set_span(&mut self, value: &[u8]) -> Option<()> {
         let (start, rest) = split_once(value, b'.')?;
         let (before, end) = split_once(rest, b'.')?;
@@ -321,7 +321,7 @@ impl Query {
     }
 }
 
-/// The bytes that pairs of hexadecimal digits spell; `-` is no byte at all.
+/// Returns the bytes that pairs of hexadecimal digits spell; `-` is the empty haystack.
 fn haystack_of(alloc: Global, word: &[u8]) -> Result<Vec<u8>, LineError> {
     let mut haystack = Vec::new(alloc);
     if word != b"-".as_slice() {

@@ -7,7 +7,7 @@ use regex_automata::util::look::Look;
 use regex_automata::util::primitives::{PatternID, StateID};
 use std::alloc::{AllocError, Global};
 
-/// What a line says of an NFA. Whether its states, starts and patterns fit together is not known yet.
+/// An NFA as a line describes it. Whether its states, starts and patterns fit together is not checked yet.
 #[derive(Drop)]
 pub struct Outline {
     states: Vec<State>,
@@ -18,7 +18,7 @@ pub struct Outline {
 }
 
 impl Outline {
-    /// Reads the words of a line: the starts, and then flags and states, each state numbered by its place among the
+    /// Reads the words of a line: the starts, and then flags and states, each state numbered by its position among the
     /// states.
     pub fn parse(alloc: Global, words: &[&[u8]]) -> Result<Outline, LineError> {
         let mut outline = Outline {
@@ -32,7 +32,7 @@ impl Outline {
         Ok(outline)
     }
 
-    /// The NFA, or why the parts do not fit together.
+    /// Builds the NFA, or returns why its parts do not fit together.
     pub fn build(self, alloc: Global) -> Result<NFA, NfaError> {
         let (anchored, unanchored) = (self.anchored, self.unanchored);
         NFA::from_states(
@@ -58,7 +58,7 @@ impl Outline {
         Ok(())
     }
 
-    /// Reads the anchored and the unanchored start, and those of the patterns.
+    /// Reads the anchored start, the unanchored start, and the starts of the patterns.
     fn set_starts(&mut self, word: &[u8]) -> Result<(), LineError> {
         let (anchored, rest) = split_once(word, b'/').ok_or(LineError::Bad)?;
         let (unanchored, patterns) = match split_once(rest, b',') {
@@ -73,7 +73,7 @@ impl Outline {
         }
     }
 
-    /// The flags with one more, if this word is one.
+    /// Returns the flags with one more set, or none if the word is not a flag.
     fn flags_with(&self, word: &[u8]) -> Option<Flags> {
         let mut flags = self.flags;
         match option_of(word)? {
@@ -85,13 +85,13 @@ impl Outline {
         Some(flags)
     }
 
-    /// Adds a state behind the others.
+    /// Adds a state after the others.
     fn add(&mut self, state: State) -> Result<(), LineError> {
         Ok(self.states.push(state).map_err(AllocError::from)?)
     }
 }
 
-/// The state that a word writes: a letter for its kind, and what it holds.
+/// Reads a state: a letter for its kind, and then its contents.
 fn state_of(alloc: Global, word: &[u8]) -> Result<State, LineError> {
     let (kind, rest) = word.split_first().ok_or(LineError::Bad)?;
     match *kind {
@@ -102,7 +102,7 @@ fn state_of(alloc: Global, word: &[u8]) -> Result<State, LineError> {
     }
 }
 
-/// A state that takes no memory of its own.
+/// Reads a state that needs no allocation. Returns none if the word is not such a state.
 fn small_state(kind: u8, rest: &[u8]) -> Option<State> {
     Some(match kind {
         b'B' => {
@@ -128,7 +128,7 @@ fn small_state(kind: u8, rest: &[u8]) -> Option<State> {
     })
 }
 
-/// A capture state of the first slot.
+/// Returns a capture state of the first slot.
 fn captured(next: StateID) -> State {
     State::Capture {
         next,
@@ -138,7 +138,7 @@ fn captured(next: StateID) -> State {
     }
 }
 
-/// A union of the states that a list names.
+/// Reads a union of the states in a list.
 fn union_of(alloc: Global, word: &[u8]) -> Result<State, LineError> {
     let mut alternates = Vec::new(alloc);
     if !word.is_empty() {
@@ -147,7 +147,7 @@ fn union_of(alloc: Global, word: &[u8]) -> Result<State, LineError> {
     Ok(State::Union { alternates })
 }
 
-/// A dense state. A byte that no range has leads to state 0, which is no transition.
+/// Reads a dense state. A byte in none of the ranges leads to state 0, which stands for no transition.
 fn dense_state(alloc: Global, word: &[u8]) -> Result<State, LineError> {
     let ranges = ranges_of(alloc, word)?;
     let targets = targets_of(ranges.as_slice());
@@ -155,7 +155,7 @@ fn dense_state(alloc: Global, word: &[u8]) -> Result<State, LineError> {
     Ok(State::Dense(targets))
 }
 
-/// Where each byte leads, by the last range that has it.
+/// Returns the target of each byte: that of the last range that contains it.
 fn targets_of(ranges: &[Transition]) -> [StateID; 256] {
     let mut targets = [StateID::ZERO; 256];
     for range in ranges {
@@ -166,7 +166,7 @@ fn targets_of(ranges: &[Transition]) -> [StateID; 256] {
     targets
 }
 
-/// The transitions that a list of ranges writes.
+/// Reads a list of ranges as transitions.
 fn ranges_of(alloc: Global, word: &[u8]) -> Result<Vec<Transition>, LineError> {
     let mut ranges = Vec::new(alloc);
     if !word.is_empty() {
@@ -175,7 +175,7 @@ fn ranges_of(alloc: Global, word: &[u8]) -> Result<Vec<Transition>, LineError> {
     Ok(ranges)
 }
 
-/// Adds the transitions that a list of ranges writes.
+/// Appends the transitions of a list of ranges.
 fn push_ranges(ranges: &mut Vec<Transition>, word: &[u8]) -> Result<(), LineError> {
     for part in word.split(|byte| *byte == b',') {
         let range = transition(part).ok_or(LineError::Bad)?;
@@ -184,7 +184,7 @@ fn push_ranges(ranges: &mut Vec<Transition>, word: &[u8]) -> Result<(), LineErro
     Ok(())
 }
 
-/// Adds the states that a list names.
+/// Appends the states in a list.
 fn push_ids(ids: &mut Vec<StateID>, word: &[u8]) -> Result<(), LineError> {
     for part in word.split(|byte| *byte == b',') {
         let id = state_id(part).ok_or(LineError::Bad)?;
@@ -193,7 +193,7 @@ fn push_ids(ids: &mut Vec<StateID>, word: &[u8]) -> Result<(), LineError> {
     Ok(())
 }
 
-/// A byte or a range of bytes, and the state to which it leads.
+/// Reads a transition: a byte or a range of bytes, and the state to which it leads.
 fn transition(word: &[u8]) -> Option<Transition> {
     let (range, next) = split_once(word, b':')?;
     let (lo, hi) = split_once(range, b'-').unwrap_or((range, range));
@@ -204,7 +204,7 @@ fn transition(word: &[u8]) -> Option<Transition> {
     })
 }
 
-/// The state that a decimal number names.
+/// Reads a state ID, a decimal number.
 fn state_id(word: &[u8]) -> Option<StateID> {
     StateID::new(number(word)?)
 }
@@ -230,7 +230,7 @@ const LOOKS: [(&[u8], Look); 18] = [
     (b"WordEndHalfUnicode", Look::WordEndHalfUnicode),
 ];
 
-/// The look-around assertion with this name.
+/// Returns the look-around assertion with this name, if there is one.
 fn look_named(name: &[u8]) -> Option<Look> {
     let (_, look) = LOOKS.iter().find(|(text, _)| *text == name)?;
     Some(*look)

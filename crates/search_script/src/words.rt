@@ -1,10 +1,10 @@
-//! What single words of a script spell.
+//! Reads single words of a script.
 
 ghost use Rattle.std.specs.Prelude.{◌<◌, IfSome};
 
 use std::alloc::AllocError;
 
-/// Why a line is bad.
+/// Why a line could not be read.
 #[derive(Clone, Copy, Debug)]
 pub enum LineError {
     Bad,
@@ -17,7 +17,7 @@ impl From<AllocError> for LineError {
     }
 }
 
-/// The number that is the only word of a line.
+/// Returns the number that is the only word of a line.
 pub fn only_number(words: &[&[u8]]) -> Result<usize, LineError> {
     match words {
         [word] => number(*word).ok_or(LineError::Bad),
@@ -25,13 +25,13 @@ pub fn only_number(words: &[&[u8]]) -> Result<usize, LineError> {
     }
 }
 
-/// The bytes before and after the first such byte.
+/// Splits a word at its first `separator`, which is in neither part. Returns none if there is no such byte.
 pub fn split_once(word: &[u8], separator: u8) -> Option<(&[u8], &[u8])> {
     let at = word.iter().position(|byte| *byte == separator)?;
     Some((&word[..at], &word[at + 1..]))
 }
 
-/// The number that 1 to 20 decimal digits write, if it fits.
+/// Returns the number that 1 to 20 decimal digits spell, if it fits a `usize`.
 pub fn number(word: &[u8]) -> Option<usize> {
     if word.is_empty() || word.len() > 20 {
         return None;
@@ -44,7 +44,7 @@ pub fn number(word: &[u8]) -> Option<usize> {
     Some(value)
 }
 
-/// The byte that two hexadecimal digits write.
+/// Returns the byte that two hexadecimal digits spell.
 pub fn hexadecimal_byte(word: &[u8]) -> Option<u8> {
     match word {
         [high, low] => Some(digit_of(*high)? * 16 + digit_of(*low)?),
@@ -52,7 +52,7 @@ pub fn hexadecimal_byte(word: &[u8]) -> Option<u8> {
     }
 }
 
-/// The value of a hexadecimal digit in either case.
+/// Returns the value of a hexadecimal digit, in upper or lower case.
 fn digit_of(byte: u8) -> Option<u8>
     ensures { IfSome result (λ digit. digit < 16) }
 {

@@ -1,4 +1,5 @@
-//! A search that does not give up: a lazy DFA, and where its cache is too small a simulation of the same pattern's NFA.
+//! A search that does not give up: a lazy DFA, and, when its cache is too small, a simulation of the same pattern's
+//! NFA.
 ghost use Rattle.std.specs.Prelude.{◌≡◌, ◌∷◌, [], IfOk, List, ℕ, vec_len};
 ghost use Rattle.regex_automata.specs.Promises.{AreCachesOf};
 ghost use Rattle.patterns.specs.Patterns.{IsRegexOfTexts, config_of as syntax_of};
@@ -14,19 +15,19 @@ use regex_syntax::{Config, Flags};
 use regex_vm::PikeVm;
 use std::alloc::Global;
 
-/// The bytes that each of the two caches of a regex may take.
+/// The capacity of each of the two caches of a regex, in bytes.
 const CAPACITY: usize = 64 << 10;
 
 /// How often a cache is cleared before a search may give up.
 const CLEARS: usize = 2;
 
-/// A search goes on as long as it reads as many bytes for each state that it makes.
+/// A search continues as long as it reads at least this many bytes for each state that it adds.
 const BYTES_PER_STATE: usize = 10;
 
-/// The bytes that the tables of the simulated NFA may take.
+/// How many bytes the tables of the simulated NFA may take.
 const SIZE_LIMIT: usize = 10 << 20;
 
-/// The first match in a line, and who looked for it.
+/// The first match in a line, and which engine searched for it.
 #[derive(Clone, Copy)]
 pub struct Found {
     /// Where the match begins and ends, in bytes, if there is one.
@@ -35,7 +36,7 @@ pub struct Found {
     pub simulated: bool,
 }
 
-/// The lazy DFAs of a pattern and the NFA that is simulated where they give up, with what both write to.
+/// The lazy DFAs of a pattern, the NFA that is simulated when they give up, and the memory that both write to.
 pub struct Finder {
     pattern: Pattern,
     cache: Cache,
@@ -45,7 +46,7 @@ pub struct Finder {
     ghost room: { simulation.states ≡ vec_len nfa.states },
 }
 
-// One call for an owner, whose proof then has no step for each part.
+// With this, dropping the value is one call in the proof of a caller, not a step for each field.
 impl Drop for Finder {
     fn drop(self) {
         let Self {
@@ -57,7 +58,7 @@ impl Drop for Finder {
     }
 }
 
-/// The lazy DFAs of a pattern, which give up.
+/// Returns the lazy DFAs of a pattern, whose searches may give up.
 fn pattern_of(alloc: Global, text: &str) -> Result<Pattern>
     ensures { IfOk result (λ pattern. IsRegexOfTexts in_bytes (text.now ∷ []) pattern.regex) }
 {
@@ -73,7 +74,7 @@ fn pattern_of(alloc: Global, text: &str) -> Result<Pattern>
     Ok(Pattern::from_nfa_with(nfa, &options, config)?)
 }
 
-/// How the kit's parser reads a text, as `nfa_of` has it read under the options above.
+/// Returns the configuration of the kit's parser that `nfa_of` uses for the options above.
 fn syntax() -> Config
     ensures { result ≡ syntax_of in_bytes }
 {
@@ -93,7 +94,7 @@ fn syntax() -> Config
     }
 }
 
-/// The NFA that is simulated.
+/// Returns the NFA that is simulated.
 fn simulated_of(alloc: Global, text: &str) -> Result<Nfa>
     ensures { IfOk result (IsSimulated text.now) }
 {
@@ -112,7 +113,7 @@ fn simulated_of(alloc: Global, text: &str) -> Result<Nfa>
 impl Finder {
     ghost use Rattle.examples.specs.Finders.{IsFinderOf};
 
-    /// What finds the matches of a pattern.
+    /// Returns a finder of the matches of a pattern.
     pub fn new(alloc: Global, text: &str) -> Result<Finder>
         ensures { IfOk result (IsFinderOf text.now) }
     {
@@ -128,7 +129,7 @@ impl Finder {
         })
     }
 
-    /// The first match in a line, by the simulation.
+    /// Returns the first match in a line, found by the simulation.
     fn simulate(&mut self, line: &[u8]) -> Option<(usize, usize)>
         ensures found { (text : List ℕ) → IsSimulated text self.old.nfa → IsFirstIn text line.now result }
         ensures pattern { self.new.pattern ≡ self.old.pattern }
@@ -138,7 +139,7 @@ impl Finder {
         self.simulation.find(&self.nfa, line, 0, end, end, &mut [])
     }
 
-    /// The first match in a line. The only error is that memory ran out.
+    /// Returns the first match in a line. The only error is out of memory.
     pub fn find(&mut self, line: &[u8]) -> Result<Found, SearchError>
         ensures found { (text : List ℕ) → IsFinderOf text self.old
             → IfOk result (λ found. IsFirstIn text line.now found.span) }

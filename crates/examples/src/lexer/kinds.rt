@@ -4,7 +4,7 @@ use patterns::{Options, nfa_of};
 use regex_automata::nfa::thompson::NFA;
 use std::alloc::Global;
 
-/// The kinds, with a pattern each. Where two match, the first one is preferred: a comment is no operator.
+/// The kinds, each with its pattern. If two match, the first one is preferred: a comment is not an operator.
 const KINDS: [(&str, &str); 6] = [
     ("blank", r"\s+"),
     ("comment", r"//[^\n]*|/\*(?s:.)*?\*/"),
@@ -14,7 +14,7 @@ const KINDS: [(&str, &str); 6] = [
     ("operator", r"[-+*/%=<>!&|]=?|[(){}\[\];,.]"),
 ];
 
-/// The NFA whose pattern k is that of kind k.
+/// Returns the NFA whose pattern k is the pattern of kind k.
 pub fn kinds_nfa(alloc: Global) -> Result<NFA> {
     let mut patterns = Vec::new(alloc);
     for (_, pattern) in KINDS {
@@ -23,7 +23,7 @@ pub fn kinds_nfa(alloc: Global) -> Result<NFA> {
     Ok(nfa_of(alloc, patterns.as_slice(), &Options::default())?)
 }
 
-/// The name of the kind of this number.
+/// Returns the name of the kind with this number.
 pub fn kind_name(kind: usize) -> &'static str {
     match KINDS.get(kind) {
         Some((name, _)) => name,

@@ -1,7 +1,7 @@
-//! Where a byte stands in a text.
+//! The line and column of a byte in a text.
 use std::fmt;
 
-/// A line and a column, counted from 1. Columns are characters.
+/// A line and a column, counted from 1. A column is one character.
 #[derive(Clone, Copy)]
 pub struct Place {
     line: u64,
@@ -9,12 +9,12 @@ pub struct Place {
 }
 
 impl Place {
-    /// The place of the first byte: line 1, column 1.
+    /// Returns the place of the first byte: line 1, column 1.
     pub fn start() -> Place {
         Place { line: 1, column: 1 }
     }
 
-    /// The place after a byte.
+    /// Returns the place after a byte.
     fn after(self, byte: u8) -> Place {
         let Place { line, column } = self;
         match byte {
@@ -22,7 +22,7 @@ impl Place {
                 line: line.saturating_add(1),
                 column: 1,
             },
-            // A byte inside a character, after its first.
+            // A byte of a character after its first one.
             0x80..=0xBF => self,
             _ => Place {
                 line,
@@ -31,7 +31,7 @@ impl Place {
         }
     }
 
-    /// The place after these bytes.
+    /// Returns the place after these bytes.
     pub fn after_all(self, bytes: &[u8]) -> Place {
         let mut place = self;
         for byte in bytes {

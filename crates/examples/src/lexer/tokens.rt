@@ -17,7 +17,7 @@ pub struct Lexer {
     ghost of: { AreCachesOf caches regex },
 }
 
-// One call for an owner, whose proof then has no step for each part.
+// With this, dropping the value is one call in the proof of a caller, not a step for each field.
 impl Drop for Lexer {
     fn drop(self) {
         let Self {
@@ -34,7 +34,7 @@ pub struct Lexed<'t> {
     pub end: usize,
 }
 
-/// The offset, in bytes, at which there is no token. The error of a search is returned as it is.
+/// Returns the offset, in bytes, at which there is no token. The error of a search is returned unchanged.
 fn missing(error: TokenError) -> Result<usize, SearchError>
     ensures { IfOk result (λ at. error ≡ NoToken at) }
 {
@@ -45,7 +45,7 @@ fn missing(error: TokenError) -> Result<usize, SearchError>
 }
 
 impl Lexer {
-    /// A lexer over fresh caches of the regex.
+    /// Returns a lexer over fresh caches of the regex.
     pub fn new(regex: Regex) -> Result<Lexer, AllocError>
         ensures { IfOk result (λ lexer. lexer.regex ≡ regex) }
     {
@@ -53,7 +53,7 @@ impl Lexer {
         Ok(Lexer { regex, caches })
     }
 
-    /// The tokens of a text, up to its end or to the offset where there is none.
+    /// Returns the tokens of a text, up to its end or to the first offset at which there is none.
     pub fn lex<'t>(&mut self, alloc: Global, text: &'t [u8]) -> Result<Lexed<'t>, SearchError>
         ensures same { self.new.regex ≡ self.old.regex }
         ensures tokens { IfOk result (λ lexed.

@@ -18,7 +18,7 @@ pub struct Counter {
     ghost of: { IsCacheOf cache set.dfa },
 }
 
-// One call for an owner, whose proof then has no step for each part.
+// With this, dropping the value is one call in the proof of a caller, not a step for each field.
 impl Drop for Counter {
     fn drop(self) {
         let Self {
@@ -29,7 +29,7 @@ impl Drop for Counter {
     }
 }
 
-/// A zero for each pattern.
+/// Returns a zero for each pattern.
 fn zeros(alloc: Global, patterns: usize) -> Result<Vec<u64>> {
     let mut counts = Vec::new(alloc);
     for _ in 0..patterns {
@@ -48,7 +48,7 @@ fn add(found: &PatternSet, counts: &mut Vec<u64>) {
 }
 
 impl Counter {
-    /// A counter that has counted no line.
+    /// Returns a counter that has not counted any line.
     pub fn new(alloc: Global, set: RegexSet) -> Result<Counter> {
         let cache = set.create_cache()?;
         let counts = zeros(alloc, set.dfa.pattern_len())?;
@@ -80,7 +80,7 @@ impl Counter {
         Ok(true)
     }
 
-    /// Counts the lines of a log, of which it keeps one at a time.
+    /// Counts the lines of a log, and keeps one of them in memory at a time.
     pub fn count_lines(&mut self, alloc: Global, log: &mut BufReader<File>) -> Result<()> {
         let mut line = Vec::new(alloc);
         for _ in 0..u64::MAX {

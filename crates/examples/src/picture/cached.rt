@@ -1,4 +1,4 @@
-//! The states that a cache holds, as a graph.
+//! The states of a cache, as a graph.
 use super::graph::push_byte;
 use anyhow::Result;
 use regex_automata::hybrid::LazyStateID;
@@ -8,13 +8,13 @@ use regex_automata::util::determinize::State;
 use regex_automata::util::look::{Look, LookSet};
 use std::fmt::Write;
 
-/// How many looks there are.
+/// How many look-around assertions there are.
 const LOOKS: u32 = 18;
 
 /// How many start states a group has.
 const GROUP: usize = 6;
 
-/// What comes before each of a group's start states.
+/// Returns what comes before a start state, by its index in its group.
 fn before(kind: usize) -> &'static str {
     match kind {
         0 => "another byte",
@@ -26,7 +26,7 @@ fn before(kind: usize) -> &'static str {
     }
 }
 
-/// Which searches the start states of a group serve.
+/// Returns which searches use the start states of a group.
 fn group(number: usize) -> &'static str {
     match number {
         0 => "unanchored",
@@ -35,7 +35,7 @@ fn group(number: usize) -> &'static str {
     }
 }
 
-/// Appends the name of the state that has an ID: its number in the cache.
+/// Appends the name of the state with this ID: `dead`, `quit`, or its number in the cache.
 fn push_name(cache: &Cache, id: LazyStateID, shown: &mut String) -> Result<()> {
     if id.is_dead() {
         return Ok(shown.push_str("dead")?);
@@ -51,13 +51,13 @@ fn push_name(cache: &Cache, id: LazyStateID, shown: &mut String) -> Result<()> {
     Ok(())
 }
 
-/// The ID to which a state's transition on a byte leads.
+/// Returns the ID to which a state's transition on a byte leads.
 fn target(state: &CachedState<'_>, classes: &ByteClasses, byte: u8) -> Option<LazyStateID> {
     let class = usize::from(classes.get(byte));
     state.transitions().get(class).copied()
 }
 
-/// Appends what a transition is on, after what was appended before.
+/// Appends a part of a label, after a comma if it is not the first.
 fn push_part(part: &str, label: &mut String) -> Result<()> {
     if !label.is_empty() {
         label.push_str(", ")?;
@@ -65,7 +65,7 @@ fn push_part(part: &str, label: &mut String) -> Result<()> {
     Ok(label.push_str(part)?)
 }
 
-/// Appends a range of bytes, after what was appended before.
+/// Appends a range of bytes to a label, after a comma if it is not the first part.
 fn push_bytes(lo: u8, hi: u8, label: &mut String) -> Result<()> {
     push_part("", label)?;
     push_byte(lo, label)?;
@@ -76,7 +76,7 @@ fn push_bytes(lo: u8, hi: u8, label: &mut String) -> Result<()> {
     Ok(())
 }
 
-/// Appends the bytes on which a state leads to another one.
+/// Appends the bytes on which a state leads to another one, as ranges.
 fn push_on(
     state: &CachedState<'_>,
     classes: &ByteClasses,
@@ -99,12 +99,13 @@ fn push_on(
     Ok(())
 }
 
-/// Whether an ID stands among these before a place.
+/// Whether an ID is among the first `place` of these.
 fn stands_before(ids: &[LazyStateID], place: usize, id: LazyStateID) -> bool {
     ids.iter().take(place).any(|other| *other == id)
 }
 
-/// Appends the edge from a state to another one, with the bytes on which it leads there, and the end.
+/// Appends the edge from a state to another one, labelled with the bytes on which it leads there, and with `end` if the
+/// end of the haystack does.
 fn push_edge(
     dfa: &DFA,
     cache: &Cache,
@@ -124,7 +125,7 @@ fn push_edge(
     Ok(writeln!(shown, " [label=\"{label}\"]")?)
 }
 
-/// Appends the edges of a state: those transitions that are cached, joined by the state that they lead to.
+/// Appends the edges of a state: its cached transitions, one edge for each state that they lead to.
 fn push_edges(
     dfa: &DFA,
     cache: &Cache,
@@ -142,7 +143,7 @@ fn push_edges(
     Ok(())
 }
 
-/// Appends what is known of the byte before a state, where its NFA states ask for that.
+/// Appends what is known of the byte before a state, if its NFA states depend on that.
 fn push_before(state: &State, shown: &mut String) -> Result<()> {
     let known = LookSet::from_bits(state.known());
     for index in 0..LOOKS {
@@ -160,7 +161,7 @@ fn push_before(state: &State, shown: &mut String) -> Result<()> {
     Ok(())
 }
 
-/// Appends a state: its number, its NFA states in order of preference, what is known of the byte before, and the
+/// Appends a state: its number, its NFA states in order of preference, what is known of the byte before it, and the
 /// patterns that match there.
 fn push_state(at: usize, state: &CachedState<'_>, shown: &mut String) -> Result<()> {
     write!(shown, "    {at} [")?;
@@ -180,7 +181,7 @@ fn push_state(at: usize, state: &CachedState<'_>, shown: &mut String) -> Result<
     Ok(shown.push_str("\"]\n")?)
 }
 
-/// Appends the start states that are cached.
+/// Appends the cached start states.
 fn push_starts(cache: &Cache, shown: &mut String) -> Result<()> {
     for (slot, id) in cache.starts().iter().enumerate() {
         if !id.is_unknown() {
@@ -197,7 +198,7 @@ fn push_starts(cache: &Cache, shown: &mut String) -> Result<()> {
     Ok(())
 }
 
-/// Appends the states that a cache holds.
+/// Appends the states of a cache.
 fn push_states(cache: &Cache, shown: &mut String) -> Result<()> {
     for (at, state) in (0..usize::MAX).zip(cache.states()) {
         push_state(at, &state, shown)?;
@@ -205,7 +206,7 @@ fn push_states(cache: &Cache, shown: &mut String) -> Result<()> {
     Ok(())
 }
 
-/// Appends the transitions that are cached.
+/// Appends the cached transitions.
 fn push_transitions(dfa: &DFA, cache: &Cache, shown: &mut String) -> Result<()> {
     for (at, state) in (0..usize::MAX).zip(cache.states()) {
         push_edges(dfa, cache, at, &state, shown)?;
@@ -213,7 +214,7 @@ fn push_transitions(dfa: &DFA, cache: &Cache, shown: &mut String) -> Result<()> 
     Ok(())
 }
 
-/// Appends the graph of the states that a cache of a DFA holds, in the language of Graphviz.
+/// Appends the graph of the states in a cache of a DFA, in the language of Graphviz.
 pub fn push_cached(dfa: &DFA, cache: &Cache, shown: &mut String) -> Result<()> {
     shown.push_str("digraph states {\n    rankdir=LR\n    node [shape=box]\n")?;
     push_starts(cache, shown)?;

@@ -4,7 +4,7 @@ use regex_automata::nfa::thompson::{NFA, State, Transition};
 use regex_automata::util::primitives::StateID;
 use std::fmt::Write;
 
-/// How an edge is drawn that reads a byte, that reads none, and that reads none and begins or ends a group.
+/// The style of an edge: solid if it reads a byte, dotted if it begins or ends a group, and otherwise dashed.
 #[derive(Clone, Copy)]
 enum Line {
     Solid,
@@ -13,7 +13,7 @@ enum Line {
 }
 
 impl Line {
-    /// Its name in the graph's language.
+    /// Returns the name of the style in the language of Graphviz.
     fn name(self) -> &'static str {
         match self {
             Line::Solid => "solid",
@@ -23,7 +23,7 @@ impl Line {
     }
 }
 
-/// Appends a byte: the character if it is one that can be seen, and otherwise its number.
+/// Appends a byte: its character if that is visible and needs no escape, and otherwise its number.
 pub fn push_byte(byte: u8, text: &mut String) -> Result<()> {
     if byte.is_ascii_graphic() && byte != b'"' && byte != b'\\' {
         text.push(char::from(byte))?;
@@ -33,7 +33,7 @@ pub fn push_byte(byte: u8, text: &mut String) -> Result<()> {
     Ok(())
 }
 
-/// Appends the beginning of an edge's line, up to what stands at it.
+/// Appends the beginning of an edge's line, up to its label.
 fn begin_edge(from: usize, to: StateID, line: Line, shown: &mut String) -> Result<()> {
     let style = line.name();
     Ok(write!(
@@ -54,7 +54,7 @@ fn push_range(from: usize, edge: Transition, shown: &mut String) -> Result<()> {
     Ok(shown.push_str("\"]\n")?)
 }
 
-/// Appends the edges that read a byte, by their ranges.
+/// Appends the edges that read a byte, one for each range.
 fn push_ranges(from: usize, edges: &[Transition], shown: &mut String) -> Result<()> {
     for edge in edges {
         push_range(from, *edge, shown)?;
@@ -62,7 +62,7 @@ fn push_ranges(from: usize, edges: &[Transition], shown: &mut String) -> Result<
     Ok(())
 }
 
-/// Appends the edges that read a byte, by the targets of all bytes.
+/// Appends the edges that read a byte, one for each byte with a target.
 fn push_targets(from: usize, targets: &[StateID], shown: &mut String) -> Result<()> {
     for (byte, next) in (0..=u8::MAX).zip(targets.iter()) {
         if *next != StateID::ZERO {
@@ -73,7 +73,7 @@ fn push_targets(from: usize, targets: &[StateID], shown: &mut String) -> Result<
     Ok(())
 }
 
-/// Appends an edge to the alternate of a union that is the one of this rank.
+/// Appends an edge to the alternate of a union with this rank.
 fn push_alternate(from: usize, to: StateID, rank: usize, shown: &mut String) -> Result<()> {
     begin_edge(from, to, Line::Dashed, shown)?;
     Ok(writeln!(shown, "{rank}\"]")?)
@@ -87,7 +87,7 @@ fn push_alternates(from: usize, alternates: &[StateID], shown: &mut String) -> R
     Ok(())
 }
 
-/// Appends the edges of a state, and what it is if it has none.
+/// Appends the edges of a state, or its label if it is a match or a fail state.
 fn push_state(at: usize, state: &State, shown: &mut String) -> Result<()> {
     match state {
         State::ByteRange { lo, hi, next } => {

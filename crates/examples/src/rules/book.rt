@@ -13,13 +13,13 @@ struct Rule {
     count: u64,
 }
 
-/// A matcher, whose pattern k is rule k.
+/// The rules of a file, and a matcher whose pattern k is rule k.
 pub struct Book {
     matcher: RuleMatcher,
     rules: Vec<Rule>,
 }
 
-// One call for an owner, whose proof then has no step for each part.
+// With this, dropping the value is one call in the proof of a caller, not a step for each field.
 impl Drop for Book {
     fn drop(self) {
         let Self {
@@ -29,12 +29,12 @@ impl Drop for Book {
     }
 }
 
-/// Whether a line of the file is to be a rule: it is neither empty nor a comment.
+/// Whether a line of the file is a rule, which is neither empty nor a comment.
 fn is_rule(line: &str) -> bool {
     !line.is_empty() && !line.starts_with('#')
 }
 
-/// Whether a line is a pattern. If it is none, that is shown.
+/// Whether a line is a valid pattern. If it is not, its error is appended.
 fn is_pattern(alloc: Global, line: u64, text: &str, shown: &mut String) -> Result<bool> {
     match nfa_of(alloc, &[text], &Options::default()) {
         Ok(_) => Ok(true),
@@ -49,7 +49,7 @@ fn is_pattern(alloc: Global, line: u64, text: &str, shown: &mut String) -> Resul
     }
 }
 
-/// The rules of a file. What is no pattern is shown, and left out.
+/// Reads the rules of a file. A rule that is not a valid pattern is shown with its error, and left out.
 pub fn read_rules(alloc: Global, text: &str, shown: &mut String) -> Result<Book> {
     let mut patterns = Vec::new(alloc);
     let mut rules = Vec::new(alloc);
@@ -67,7 +67,7 @@ pub fn read_rules(alloc: Global, text: &str, shown: &mut String) -> Result<Book>
 }
 
 impl Book {
-    /// The number of a rule's line in the file, counted from 1.
+    /// Returns the line number of a rule in the file, counted from 1.
     pub fn line(&self, rule: usize) -> u64 {
         match self.rules.get(rule) {
             Some(rule) => rule.line,
@@ -75,7 +75,7 @@ impl Book {
         }
     }
 
-    /// The rules that match a record, which are counted.
+    /// Returns the rules that match a record, and counts them.
     pub fn rules_of(&mut self, alloc: Global, record: &[u8]) -> Result<PatternSet> {
         let found = self.matcher.rules_of(alloc, record)?;
         for rule in found.iter() {

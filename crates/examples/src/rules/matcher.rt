@@ -22,7 +22,7 @@ pub struct RuleMatcher {
     ghost all: { match_kind_of dfa.config ≡ KindAll },
 }
 
-// One call for an owner, whose proof then has no step for each part.
+// With this, dropping the value is one call in the proof of a caller, not a step for each field.
 impl Drop for RuleMatcher {
     fn drop(self) {
         let Self {
@@ -33,7 +33,7 @@ impl Drop for RuleMatcher {
 }
 
 impl RuleMatcher {
-    /// A matcher of the NFA's patterns over a fresh cache. Its DFA reports all matches.
+    /// Returns a matcher of the NFA's patterns over a fresh cache. Its DFA reports all matches.
     pub fn new(nfa: NFA) -> Result<RuleMatcher>
         ensures { IfOk result (λ matcher. matcher.dfa.nfa ≡ nfa) }
     {
@@ -44,7 +44,7 @@ impl RuleMatcher {
         Ok(RuleMatcher { dfa, cache })
     }
 
-    /// The rules that match a record.
+    /// Returns the rules that match a record.
     pub fn rules_of(&mut self, alloc: Global, bytes: &[u8]) -> Result<PatternSet>
         ensures same { self.new.dfa ≡ self.old.dfa }
         ensures named { IfOk result (IsNamed self.old.dfa bytes.now) }
@@ -58,7 +58,7 @@ impl RuleMatcher {
         Ok(found)
     }
 
-    /// The first of all matches in a record, which may overlap: the end of it, and its rule.
+    /// Returns the end and the rule of the first of all matches in a record, which may overlap.
     pub fn first_match(&mut self, bytes: &[u8]) -> Result<Option<HalfMatch>, SearchError>
         ensures same { self.new.dfa ≡ self.old.dfa }
         ensures first { IfOk result (IsFirst self.old.dfa bytes.now) }
@@ -70,7 +70,7 @@ impl RuleMatcher {
         Ok(state.get_match())
     }
 
-    /// How many bytes the cache accounts for.
+    /// Returns how many bytes the cache accounts for.
     pub fn memory_usage(&self) -> usize
         ensures usage { result ≡ usage (dfa_of self.now.cache) (known_of self.now.cache) }
         ensures within { result ≤ (dfa_of self.now.cache).capacity }

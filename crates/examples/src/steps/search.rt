@@ -1,4 +1,4 @@
-//! Where the first match ends, by steps, and by a search if these stop.
+//! Finds where the first match ends, by steps, or by a search if the steps stop.
 ghost use Rattle.std.specs.Prelude.{◌≡◌, ◌≤◌, IfOk, IfSome, false, true};
 ghost use Rattle.regex_automata.specs.Promises.{HoldsRow, IsCacheOf, IsFirstMatch, IsStepAt, StandsAt, match_kind_of};
 ghost use Rattle.examples.specs.Steps.{IsEarliest};
@@ -23,7 +23,7 @@ pub struct Finder {
     ghost bytes: { fast.nfa.flags.utf8 ≡ false },
 }
 
-// One call for an owner, whose proof then has no step for each part.
+// With this, dropping the value is one call in the proof of a caller, not a step for each field.
 impl Drop for Finder {
     fn drop(self) {
         let Self {
@@ -35,7 +35,7 @@ impl Drop for Finder {
     }
 }
 
-/// A step over the unit at an offset: a byte of the haystack, or its end.
+/// Takes the step on the unit at an offset: a byte of the haystack, or its end.
 fn step(
     dfa: &DFA,
     cache: &mut Cache,
@@ -55,7 +55,8 @@ fn step(
     }
 }
 
-/// The first match in an input's span, by steps; nothing, if they stop before it is known whether there is one.
+/// Returns the first match in an input's span, if there is one, found by steps. The outer option is `None` if the steps
+/// stop before that is known.
 fn first_match(dfa: &DFA, cache: &mut Cache, input: &Input<'_>) -> Option<Option<HalfMatch>>
     requires of { IsCacheOf cache.old dfa.now }
     requires early { input.now.earliest ≡ true }
@@ -87,7 +88,7 @@ fn first_match(dfa: &DFA, cache: &mut Cache, input: &Input<'_>) -> Option<Option
 }
 
 impl Finder {
-    /// A finder over fresh caches of two DFAs of the NFA.
+    /// Returns a finder over fresh caches of two DFAs of the NFA.
     pub fn new(nfa: NFA) -> Result<Finder>
         requires { nfa.flags.utf8 ≡ false }
         ensures { IfOk result (λ finder. finder.sure.nfa ≡ nfa) }
@@ -107,7 +108,7 @@ impl Finder {
         })
     }
 
-    /// The end of the first match of a text: by steps, or if these stop, by a search.
+    /// Returns the end of the first match in a text, found by steps, or by a search if the steps stop.
     pub fn find(&mut self, text: &[u8]) -> Result<Option<HalfMatch>, SearchError>
         ensures same { self.new.sure ≡ self.old.sure }
         ensures found { IfOk result (IsEarliest self.old.sure text.now) }

@@ -1,4 +1,4 @@
-//! Calls of the library over one lazy DFA and two caches of it, walks and sets among them, and what they report.
+//! Calls of one lazy DFA over two of its caches, among them walks and sets, and what they report.
 
 ghost use Rattle.std.specs.Prelude.{◌<◌, ◌≡◌, ◌^◌, IfOk, IsTrue};
 ghost use Rattle.lazydfa.specs.Walks.{IsWalkOver};
@@ -16,17 +16,17 @@ use regex_automata::util::start;
 use std::alloc::{AllocError, Global};
 use std::mem;
 
-/// What walks and sets are over.
+/// The input of walks and sets.
 #[derive(Clone, Copy)]
 pub enum Over {
     Nothing,
     Text(&'static str),
-    /// A haystack from an offset to an offset.
+    /// A span of a haystack.
     Span(&'static str, usize, usize),
 }
 
 impl Over {
-    /// The input that is walked over.
+    /// Returns the input.
     pub fn input(self) -> Input<'static> {
         match self {
             Over::Nothing => Input::new(b""),
@@ -36,7 +36,7 @@ impl Over {
     }
 }
 
-/// An NFA, and what its walks and sets are over.
+/// An NFA, and the input of its walks and sets.
 #[derive(Clone, Copy)]
 pub struct On(pub Automaton, pub Over);
 
@@ -46,40 +46,41 @@ pub enum Call {
     /// Searches a haystack, in the direction of the NFA.
     Find(&'static str),
     FindEarliest(&'static str),
-    /// Searches a haystack from an offset to an offset.
+    /// Searches a span of a haystack.
     FindIn(&'static str, usize, usize),
-    /// As `FindIn`, forward, with the offset where the last of its spans began.
+    /// Like `FindIn`, forward, and also reports where the last of its spans began.
     FindBased(&'static str, usize, usize),
-    /// Searches a piece that is repeated so often.
+    /// Searches a piece that is repeated this many times.
     FindRepeated(&'static str, usize),
-    /// Searches it so often, each time from the last end on: what the last search found.
+    /// Repeats a piece this many times and searches it as often, each time from the end of the previous match. Reports
+    /// the last result.
     FindEach(&'static str, usize),
-    /// Searches a mebibyte of letters `a` and `b` of a fixed generator.
+    /// Searches a mebibyte of letters `a` and `b` from a fixed generator.
     FindLetters,
-    /// The start of a search of a haystack, and whether it has a tag.
+    /// Moves to the start of a search of a haystack, and reports whether it is tagged.
     StartOn(Mode, &'static str),
-    /// The unanchored start after this byte.
+    /// Moves to the unanchored start after this byte.
     Start(Option<u8>),
-    /// The start of an anchored mode.
+    /// Moves to the start of an anchored mode.
     StartIn(Mode, Option<u8>),
     Step(u8),
     Steps(&'static str),
     End,
-    /// The walk's next match.
+    /// Advances the walk to its next match.
     Next,
     /// Begins the walk again. Each call above `Next` but `Find` does so too, and each one from `Replace` on.
     Begin,
-    /// What the walk has found last.
+    /// Reports the walk's last match.
     Match,
-    /// What a copy of the walk has found last.
+    /// Reports the last match of a copy of the walk.
     MatchOfCopy,
-    /// Whether the walk is printed so for debugging.
+    /// Whether `Debug` prints the walk like this.
     Prints(&'static str),
-    /// Adds a pattern to a set that is kept.
+    /// Adds a pattern to the set.
     Insert(u8),
-    /// Adds the patterns of all matches to that set.
+    /// Adds the patterns of all matches to the set.
     Fill,
-    /// Goes on over the other cache.
+    /// Continues with the other cache.
     Switch,
     Reset,
     /// How often the cache was cleared, its memory, the bytes searched, and whether a search is in progress.
@@ -90,17 +91,17 @@ pub enum Call {
     Leaps,
     /// Replaces the cache by a new one.
     Replace,
-    /// Replaces it by `Cache::new`.
+    /// Replaces the cache by `Cache::new`.
     ReplaceByNew,
-    /// Resets it by `Cache::reset`.
+    /// Resets the cache by `Cache::reset`.
     ResetByCache,
-    /// The memory, and the tags of the state to which was stepped.
+    /// The memory of the cache, and a letter for the current state.
     Brief,
-    /// Whether the NFA and the DFA can be copied.
+    /// Whether the NFA and the DFA can be cloned.
     Copies,
 }
 
-/// The first three patterns of a set as 1, 10 and 100, and each other one as 1000.
+/// Returns a number for a set: patterns 0, 1 and 2 count as 1, 10 and 100, and each other one, up to four, as 1000.
 fn digits_of(set: &PatternSet) -> usize {
     let [zero, one, two] = [has(set, 0), has(set, 1), has(set, 2)];
     let (zero, one, two) = (usize::from(zero), usize::from(one), usize::from(two));
@@ -128,7 +129,7 @@ pub struct Bench {
 }
 
 impl Bench {
-    /// Before any call.
+    /// Returns a bench before any call.
     fn new(rt: &impl Host, dfa: DFA, over: Over) -> Bench {
         let cache = dfa.create_cache().expect(rt, "a cache");
         let other = dfa.create_cache().expect(rt, "a cache");
@@ -317,7 +318,7 @@ impl Bench {
         Reported::Half(search(&self.dfa, &mut self.cache, input))
     }
 
-    /// Searches forward, with the offset where the last span began.
+    /// Searches forward, and reports where the last span began.
     fn find_based(&mut self, input: &Input<'_>) -> Reported {
         match self.dfa.try_search_fwd_base(&mut self.cache, input) {
             Ok(Some((half, place))) => {
@@ -328,7 +329,7 @@ impl Bench {
         }
     }
 
-    /// Searches a haystack that was made for the call, so often.
+    /// Searches a haystack, which was made for the call, this many times.
     fn find_made(&mut self, made: Result<Vec<u8>, AllocError>, times: usize) -> Reported {
         match made {
             Ok(text) => Reported::Half(self.find_each(text.as_slice(), times)),
@@ -336,7 +337,8 @@ impl Bench {
         }
     }
 
-    /// Searches so often, each time from the end of the match before: what the last search found.
+    /// Searches this many times, each time from the end of the previous match, and returns the result of the last
+    /// search.
     fn find_each(&mut self, text: &[u8], times: usize) -> Result<Option<HalfMatch>, SearchError> {
         let mut found = Ok(None);
         let mut start = 0usize;
@@ -350,7 +352,7 @@ impl Bench {
         found
     }
 
-    /// The start of a search of an input, and whether it has a tag.
+    /// Moves to the start of a search of an input, and reports whether it is tagged.
     fn start_on(&mut self, input: &Input<'_>) -> Reported {
         match self.begin(input) {
             Ok(()) => Reported::of_flag(self.at.is_tagged()),
@@ -359,14 +361,14 @@ impl Bench {
         }
     }
 
-    /// Goes to the start of a mode after a byte.
+    /// Moves to the start of an anchored mode after a byte.
     fn start(&mut self, mode: Anchored, behind: Option<u8>) -> Result<(), StartError> {
         let config = start::Config::new().anchored(mode).look_behind(behind);
         self.at = self.dfa.start_state(&mut self.cache, &config)?;
         Ok(())
     }
 
-    /// Whether the cache still has the state. A clear can end it.
+    /// Whether the cache still has the current state, which a clear can drop.
     fn has_state(&self) -> bool
         ensures row { IsTrue result → HoldsRow self.now.cache self.now.at }
         ensures low { IsTrue result → self.now.at < 2 ^ 31 }
@@ -374,7 +376,7 @@ impl Bench {
         !self.at.is_unknown() && self.cache.is_valid(self.at)
     }
 
-    /// The step on a byte, from a state that the cache has.
+    /// Steps on a byte, if the cache still has the current state.
     fn step(&mut self, byte: u8) -> Result<(), StepError> {
         if self.has_state() {
             self.at = self.dfa.next_state(&mut self.cache, self.at, byte)?;
@@ -382,7 +384,7 @@ impl Bench {
         Ok(())
     }
 
-    /// The steps on some bytes.
+    /// Steps on these bytes.
     fn steps(&mut self, bytes: &str) -> Result<(), StepError> {
         for byte in bytes.as_bytes() {
             self.step(*byte)?;
@@ -390,7 +392,7 @@ impl Bench {
         Ok(())
     }
 
-    /// The step on the haystack's end, from a state that the cache has.
+    /// Steps on the end of the haystack, if the cache still has the current state.
     fn end(&mut self) -> Result<(), StepError> {
         if self.has_state() {
             self.at = self.dfa.next_eoi_state(&mut self.cache, self.at)?;
@@ -398,7 +400,7 @@ impl Bench {
         Ok(())
     }
 
-    /// What is counted of the cache, and whether a search is in progress.
+    /// Reports the counts of the cache, and whether a search is in progress.
     fn counts(&self) -> Reported {
         let behind = if self.cache.in_progress() {
             " open"
@@ -408,7 +410,7 @@ impl Bench {
         Reported::Counts(counted(&self.cache), behind)
     }
 
-    /// The start of a search of an input.
+    /// Moves to the start of a search of an input.
     fn begin(&mut self, input: &Input<'_>) -> Result<(), SearchError> {
         self.at = if self.dfa.get_nfa().is_reverse() {
             self.dfa.start_state_reverse(&mut self.cache, input)?
@@ -418,7 +420,7 @@ impl Bench {
         Ok(())
     }
 
-    /// A cache to take the place of this one.
+    /// Returns a new cache to replace the current one.
     fn made(&self, call: Call) -> Result<Cache, AllocError>
         ensures { IfOk result (λ made. IsCacheOf made self.now.dfa) }
     {
@@ -428,7 +430,7 @@ impl Bench {
         }
     }
 
-    /// Puts a cache that was made in the place of this one.
+    /// Replaces the cache by a new one, or reports that it could not be made.
     fn replace(&mut self, made: Result<Cache, AllocError>) -> Reported
         requires { IfOk made (λ made. IsCacheOf made self.old.dfa) }
     {
@@ -442,7 +444,7 @@ impl Bench {
     }
 }
 
-/// A call of a walk in the direction of the NFA.
+/// Advances a walk in the direction of the NFA.
 fn step(
     dfa: &DFA,
     cache: &mut Cache,
@@ -478,7 +480,7 @@ fn reported_of_copy(walk: &OverlappingState) -> Reported {
     }
 }
 
-/// Adds the patterns of all matches to a set. It reports those that the set has then, and why it has no more.
+/// Adds the patterns of all matches to a set. Reports the set, and the error if the search failed.
 fn fill(dfa: &DFA, cache: &mut Cache, input: &Input<'_>, set: &mut PatternSet) -> Reported
     requires { IsCacheOf cache.old dfa.now }
     ensures { IsCacheOf cache.new dfa.now }
@@ -534,7 +536,7 @@ pub fn search(
     }
 }
 
-/// A text that is repeated so often.
+/// Returns a piece repeated this many times.
 pub fn repeated(alloc: Global, piece: &str, count: usize) -> Result<Vec<u8>, AllocError> {
     let mut text = Vec::new(alloc);
     for _ in 0..count {
@@ -543,7 +545,7 @@ pub fn repeated(alloc: Global, piece: &str, count: usize) -> Result<Vec<u8>, All
     Ok(text)
 }
 
-/// A mebibyte of the letters that a linear congruential generator gives.
+/// Returns a mebibyte of letters from a linear congruential generator.
 fn letters(alloc: Global) -> Result<Vec<u8>, AllocError> {
     let mut text = Vec::new(alloc);
     let mut rolled = 0u64;
@@ -557,13 +559,13 @@ fn letters(alloc: Global) -> Result<Vec<u8>, AllocError> {
     Ok(text)
 }
 
-/// How often a cache was cleared, its memory, and the bytes searched.
+/// Returns how often a cache was cleared, its memory, and the bytes searched.
 pub fn counted(cache: &Cache) -> Counted {
     let (memory, searched) = (cache.memory_usage(), cache.search_total_len());
     (cache.clear_count(), memory, searched)
 }
 
-/// An input over a part of a haystack, or over all of it if it has no such part.
+/// Returns an input over a span of a haystack, or over all of it if the span is out of range.
 pub fn within(haystack: &[u8], start: usize, end: usize) -> Input<'_> {
     let input = Input::new(haystack);
     if input.allows(start, end) {

@@ -1,4 +1,4 @@
-//! Allocations that fail, by rows. Each test is a process of its own, so it may use up all memory.
+//! Rows of calls whose allocations fail. Each test is a process of its own, so it may use up all memory.
 
 use super::bench::{Bench, Call, On, Over};
 use super::plans::Mode;
@@ -50,13 +50,13 @@ const KNOWN: &[Lazy] = &[
         &[(StartOn(Every, AS), "false"), (Counts, "1 19288 3")], &[]),
 ];
 
-/// Calls that allocate nothing answer in no memory.
+/// Calls that allocate nothing succeed without memory.
 #[test]
 fn goes_known_ways_without_memory(rt: HostRuntime) {
     refuse_each::<Bench>(&rt, KNOWN);
 }
 
-/// A fresh cache of a small NFA, made by each call that makes one.
+/// Calls that make a fresh cache of a small NFA.
 #[rattlefmt::skip]
 const FRESH: &[Lazy] = &[
     ("create_cache", AB, "", &[], &[(Replace, "-"), (Counts, "0 335 0")], &[]),
@@ -66,10 +66,10 @@ const FRESH: &[Lazy] = &[
         &[]),
 ];
 
-/// How much memory is lent for it, in bytes.
+/// How much memory is lent for a fresh cache, in bytes.
 const LITTLE: usize = 1 << 13;
 
-/// A fresh cache takes no more than a few KB.
+/// A fresh cache takes at most a few KB.
 #[test]
 fn makes_fresh_caches_in_little_memory(rt: HostRuntime) {
     answer_within::<Bench>(&rt, LITTLE, FRESH);
@@ -96,14 +96,14 @@ const CALLS: &[Lazy] = &[
         &[Start(None), Steps("aaaaaaaaaaaaa")], &[(Start(Some(b'a')), "-"), (Counts, "1 10965 0")], ONCE),
 ];
 
-/// Caches, searches and steps answer right after each allocation that failed.
+/// Caches, searches and steps answer correctly after each failed allocation.
 #[test]
 fn calls_after_each_refused_growth(rt: HostRuntime) {
     refuse_each::<Bench>(&rt, CALLS);
 }
 
-/// Starts by each call and in each anchored mode, each with a step that is dead or not. Past the last pattern none
-/// fails.
+/// Starts by each call and in each anchored mode, each with a step that leads to the dead state or not. For a pattern
+/// that is out of range no call fails.
 #[rattlefmt::skip]
 const STARTS: &[Lazy] = &[
     ("at each place", WORDS, "starts", &[], &[(StartIn(Every, None), "-"), (Brief, "753"), (Step(b'@'), "-"),
@@ -128,7 +128,7 @@ const STARTS: &[Lazy] = &[
     ("in reverse, of none", WORDS_BACK, "starts", &[], &[(StartOn(Of(2), "@"), "true"), (Brief, "625d")], &[]),
 ];
 
-/// Start states answer right after each allocation that failed.
+/// Starts are computed correctly after each failed allocation.
 #[test]
 fn starts_after_each_refused_growth(rt: HostRuntime) {
     refuse_each::<Bench>(&rt, STARTS);
@@ -136,11 +136,11 @@ fn starts_after_each_refused_growth(rt: HostRuntime) {
 
 const OVER_WORDS: On = On(Forward(Entry::Words), Text("@a b"));
 
-/// No byte at all, and eleven bytes `a`, whose match needs more rows than a new cache has room for.
+/// The empty string, and eleven bytes `a`, whose match needs more rows than a new cache has room for.
 const NONE_OR_ELEVEN: &str =
     "0/0,0,0 E1,2 M1 B61:3 B61:4 B61:5 B61:6 B61:7 B61:8 B61:9 B61:10 B61:11 B61:12 B61:13 M0";
 
-/// If memory runs out, a call has no match, and the next call has the one that was due.
+/// If memory runs out, a call reports no match, and the next call reports the one that was due.
 #[rattlefmt::skip]
 const WALKS: &[Lazy] = &[
     ("over known transitions a walk takes no memory", On(Forward(Entry::Aa), Text("aa")), "all", &[Next, Next,
@@ -173,7 +173,7 @@ const WALKS: &[Lazy] = &[
         "all", &[Insert(2)], &[(Fill, "set 111")], &[(0, "set 100 memory"), (0, "set 110 memory")]),
 ];
 
-/// Walks and sets answer right after each allocation that failed.
+/// Walks and sets answer correctly after each failed allocation.
 #[test]
 fn walks_after_each_refused_growth(rt: HostRuntime) {
     refuse_each::<Bench>(&rt, WALKS);
@@ -181,12 +181,12 @@ fn walks_after_each_refused_growth(rt: HostRuntime) {
 
 const FOO: &[u8] = b"@foo bar";
 
-/// Each of its items needs a new state, and so does the end.
+/// A haystack of which each item needs a new state, and so does the end.
 const ITEMS: &[u8] = b"\xE2xaaa\xE2 a";
 
 const ITEMS_REPORTED: &str = "0 0..0; 1 1..2; 0 3..3; 0 4..4; 0 6..6";
 
-/// Each of its tokens needs a new state. The last offset has none.
+/// A haystack of which each token needs a new state. At the last offset there is no token.
 const TOKENS: &[u8] = b"1a23bc!";
 
 const TOKENS_REPORTED: &str = "1 0..1; 0 1..2; 1 2..4; 0 4..6; no token at 6";
@@ -237,7 +237,7 @@ const REGEXES: &[Regex] = &[
         &[(0, "1 0..1; 0 1..2; 1 2..4; memory")]),
 ];
 
-/// Regexes, iterations and tokens answer right after each allocation that failed.
+/// Regexes, iterations and tokens answer correctly after each failed allocation.
 #[test]
 fn asks_after_each_refused_growth(rt: HostRuntime) {
     refuse_each::<RegexBench>(&rt, REGEXES);

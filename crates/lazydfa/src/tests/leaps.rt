@@ -7,14 +7,14 @@ use regex_automata::hybrid::dfa::DFA;
 use regex_automata::util::search::Input;
 use search_script::Entry;
 
-/// A search of this caches all transitions that a search of it, repeated, uses.
+/// A piece whose search caches all transitions that a search of the repeated piece uses.
 const PIECE: &str = "0 0 ";
 
-/// So often repeated it is long enough for leaps.
+/// Repeated this many times, the piece is long enough for leaps.
 const TIMES: usize = 1 << 16;
 
-/// Searches a text in the memory of a turn, over a cache that has all that it uses: the bytes of the leaps that were
-/// made. The answer and the accounted bytes are the same in any memory.
+/// Searches a text in the memory of a turn, over a cache that has all transitions it uses, and returns the bytes of the
+/// leaps that were built. The result and the accounted bytes have to be the same in any memory.
 fn leaps_in_turn(rt: &impl Host, dfa: &DFA, text: &[u8], turns: &mut Turns) -> usize {
     let mut cache = dfa.create_cache().expect(rt, "a cache");
     let short = dfa.try_search_fwd(&mut cache, &Input::new(PIECE.as_bytes()));
@@ -28,8 +28,8 @@ fn leaps_in_turn(rt: &impl Host, dfa: &DFA, text: &[u8], turns: &mut Turns) -> u
     leaps
 }
 
-/// Takes turns until leaps are made. The first one lends nothing. While they are made, less than they take stands
-/// beside them.
+/// Takes turns, the first one without memory, until leaps are built. They have to be built in less than twice the
+/// memory that they take.
 fn leaps_at_last(rt: &impl Host, dfa: &DFA, text: &[u8], turns: &mut Turns) {
     same_of(
         rt,
@@ -47,8 +47,8 @@ fn leaps_at_last(rt: &impl Host, dfa: &DFA, text: &[u8], turns: &mut Turns) {
     check(rt, false);
 }
 
-/// A search answers the same whichever allocation of its leaps fails, and makes them in little more memory than they
-/// take.
+/// A search answers the same whichever allocation of its leaps fails, and builds them in less than twice the memory
+/// that they take.
 #[test]
 fn answers_after_each_refused_leap(rt: HostRuntime) {
     let dfa = Automaton::Forward(Entry::Date)

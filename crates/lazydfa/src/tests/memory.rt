@@ -7,14 +7,14 @@ use regex_automata::hybrid::BuildError;
 use search_script::{RunError, run};
 use std::alloc::Global;
 
-/// A script, and an output that has room.
+/// A script, and an output that has room for what it writes.
 #[derive(Drop)]
 struct Runner {
     script: &'static str,
     output: Sink,
 }
 
-/// What an output reports.
+/// Outputs, and what is reported for each.
 #[rattlefmt::skip]
 const HEARD: &[(&str, &str)] = &[
     ("refused out of memory\n", "regex memory"), ("regex 0\nmemory\n", "request memory"),
@@ -54,9 +54,9 @@ impl Caller for Runner {
     }
 }
 
-/// A failed allocation is reported, or the regex or the request in which it failed says so; no other answer changes. A
-/// regex that could not be built shows itself without a request: the memory that it gives back does not help the next
-/// request.
+/// A failed allocation is an error of the run, or of the regex or the request in which it failed; no other reply
+/// changes. The regex that cannot be built has a script without requests, so that the memory which it frees does not
+/// help one.
 #[rattlefmt::skip]
 const RUNS: &[Short<&'static str, ()>] = &[
     ("forward", "regex date\nfwd 323031382D31322D3234\n", "", &[], &[((), "half 0 10")],
@@ -66,7 +66,7 @@ const RUNS: &[Short<&'static str, ()>] = &[
     ("a regex", "regex words\n", "", &[], &[((), "regex 0")], &[(0, "run memory"), (0, "regex memory")]),
 ];
 
-/// A script says which allocation failed.
+/// Each failed allocation is reported.
 #[test]
 fn reports_each_refused_growth(rt: HostRuntime) {
     refuse_each::<Runner>(&rt, RUNS);

@@ -1,11 +1,11 @@
-//! Merged and folded unions: that they are merged and folded, which no contract says.
+//! Unions are merged and folded, which no contract promises.
 
 use super::plans::plan;
 use super::{Host, Text, same_of};
 use regex_automata::nfa::thompson::{NFA, State};
 use std::fmt::Write;
 
-/// NFAs, as lines of a script have them, and what becomes of them if their unions are merged.
+/// NFAs in the form of a script's lines, before and after their unions are merged.
 const MERGES: &[(Text, Text)] = &[
     // the words aa, ab, .. ah: their beginnings become one state, and so do their ends
     (
@@ -21,21 +21,21 @@ const MERGES: &[(Text, Text)] = &[
         "0/0,0 U18,4,19 B61:9 B61:10 B61:11 C17 B61:13 B61:14 B61:15 B61:16 \
          B61:17 B62:17 B63:17 B64:17 B65:17 B66:17 B67:17 B68:17 M0 S61:20 S61:21 S61-63:17 S65-68:17",
     ),
-    // of seven words nothing is merged
+    // seven words are not merged
     (
         "0/0,0 U1,2,3,4,5,6,7 B61:8 B61:8 B61:8 B61:8 B61:8 B61:8 B61:8 M0",
         "0/0,0 U1,2,3,4,5,6,7 B61:8 B61:8 B61:8 B61:8 B61:8 B61:8 B61:8 M0",
     ),
 ];
 
-/// The NFA as `Debug` prints it.
+/// Returns the NFA as `Debug` prints it.
 fn printed(rt: &impl Host, nfa: &NFA) -> String {
     let mut text = String::new(rt.alloc());
     write!(text, "{nfa:?}").expect(rt, "memory");
     text
 }
 
-/// Wide unions become states that read.
+/// The alternates of wide unions are merged into sparse states.
 #[test]
 fn merges_wide_unions(rt: HostRuntime) {
     for (before, after) in MERGES {
@@ -49,7 +49,7 @@ fn merges_wide_unions(rt: HostRuntime) {
     }
 }
 
-/// The NFA of pairs of bytes: so many first ones from 40 on, and from 80 to BF the second.
+/// Returns the NFA of pairs of bytes: `count` first bytes from 40 on, each before a byte from 80 to BF.
 fn pairs(rt: &impl Host, count: usize) -> NFA {
     let mut text = String::new(rt.alloc());
     write!(text, "0/0,0 S").expect(rt, "memory");
@@ -67,7 +67,7 @@ fn pairs(rt: &impl Host, count: usize) -> NFA {
     plan(rt, text.as_str())
 }
 
-/// How many states of the reversed NFA read several ranges, of which an NFA that is reversed edge by edge has none.
+/// Returns how many sparse states the reversed NFA has. An NFA that is reversed edge by edge has none.
 fn folded(rt: &impl Host, nfa: &NFA) -> usize {
     let reversed = nfa.reversed().expect(rt, "a reversed NFA");
     let mut count = 0usize;

@@ -1,4 +1,4 @@
-//! What no contract says: the answers of worked examples, texts, and how a script runs.
+//! Tests of what no contract promises: the results of worked examples, texts, and how a script runs.
 
 use std::alloc::Global;
 use std::fmt::Debug;
@@ -26,12 +26,12 @@ mod walks;
 /// A text in a row of a table.
 type Text = &'static str;
 
-/// What a helper needs: it ends the process if something fails, and it allocates.
+/// What the helpers need: ending the process if something fails, and allocation.
 trait Host: Abort + AllocGlobal {}
 
 impl<R: Abort + AllocGlobal> Host for R {}
 
-/// A reader over memory that takes few bytes a call and fails at a chosen call, counted from 1.
+/// A reader over memory that reads a few bytes per call and fails at a chosen call, counted from 1.
 #[derive(Drop)]
 struct Source<'a> {
     rest: &'a [u8],
@@ -41,7 +41,7 @@ struct Source<'a> {
 }
 
 impl<'a> Source<'a> {
-    /// A reader of three bytes a call that never fails.
+    /// Returns a reader of three bytes per call that never fails.
     fn new(text: &'a [u8]) -> Source<'a> {
         Source {
             rest: text,
@@ -65,7 +65,8 @@ impl<'a> Read for Source<'a> {
     }
 }
 
-/// A writer to memory that takes few bytes a call and fails at a chosen call, counted from 1.
+/// A writer to memory that takes a few bytes per call and fails at a chosen call, counted from 1. A flush is a call
+/// too.
 #[derive(Drop)]
 struct Sink {
     bytes: Vec<u8>,
@@ -75,7 +76,7 @@ struct Sink {
 }
 
 impl Sink {
-    /// A writer of five bytes a call that never fails.
+    /// Returns a writer of five bytes per call that never fails.
     fn new(alloc: Global) -> Sink {
         Sink {
             bytes: Vec::new(alloc),
@@ -106,7 +107,7 @@ impl Write for Sink {
     }
 }
 
-/// Stops the test unless what was found is what was expected, and names what the values belong to.
+/// Stops the test unless `found` is equal to `expected`. The message has `of`, which says what the values belong to.
 fn same_of<T: PartialEq + Debug, D: Debug>(rt: &impl Host, found: &T, expected: &T, of: &D) {
     assert_eq!(rt; found, expected, "{of:?}");
 }
@@ -116,7 +117,7 @@ fn check(rt: &impl Host, is_right: bool) {
     assert!(rt; is_right, "another answer");
 }
 
-/// Takes all memory that is left, and keeps it: from here on each allocation fails.
+/// Takes all remaining memory and keeps it, so that each later allocation fails.
 fn exhaust(alloc: Global) {
     let mut size = 1usize << 46;
     for _ in 0..u64::MAX {

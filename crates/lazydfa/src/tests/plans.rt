@@ -1,4 +1,4 @@
-//! NFAs that are not in the catalogue, as lines of a script have them, and which searches a start is for.
+//! NFAs that are not in the catalogue, in the form of a script's lines, and the anchored modes of starts.
 
 use super::{Host, Text};
 use regex_automata::nfa::thompson::NFA;
@@ -7,19 +7,19 @@ use regex_automata::util::search::Anchored;
 use search_script::Outline;
 use std::fmt::Write;
 
-/// Which searches a start is for.
+/// The anchored mode of a start.
 #[derive(Clone, Copy)]
 pub enum Mode {
-    /// Searches that begin at each place.
+    /// Searches that may begin at each offset.
     Every,
-    /// Searches that begin at the first place alone.
+    /// Searches that begin only at the start of the span.
     First,
-    /// Searches for one pattern.
+    /// Anchored searches for one pattern.
     Of(u8),
 }
 
 impl Mode {
-    /// The anchored mode of the search.
+    /// Returns the mode as an `Anchored`.
     pub fn anchored(self) -> Anchored {
         match self {
             Mode::Every => Anchored::No,
@@ -29,7 +29,7 @@ impl Mode {
     }
 }
 
-/// The NFA that these words of a line define.
+/// Returns the NFA that a line with these words defines.
 pub fn plan(rt: &impl Host, text: &str) -> NFA {
     let words = text.as_bytes().split(|byte| *byte == b' ');
     let words: Vec<&[u8]> = words.collect(rt.alloc()).expect(rt, "memory");
@@ -37,8 +37,8 @@ pub fn plan(rt: &impl Host, text: &str) -> NFA {
     outline.build(rt.alloc()).expect(rt, "an automaton")
 }
 
-/// A state, and after it so many states, of which each but the last, the one match, reads an `a`. All starts are at the
-/// first.
+/// Returns a chain: the state `first`, and after it `length` states, of which the last is the only match state and each
+/// other one reads an `a`. All starts are at the first state.
 pub fn chain(rt: &impl Host, first: Text, length: usize) -> NFA {
     let mut text = String::new(rt.alloc());
     write!(text, "0/0,0 {first}").expect(rt, "memory");
@@ -49,7 +49,7 @@ pub fn chain(rt: &impl Host, first: Text, length: usize) -> NFA {
     plan(rt, text.as_str())
 }
 
-/// States by their numbers.
+/// Returns the state IDs with these numbers.
 pub fn ids_of(rt: &impl Host, numbers: &[u8]) -> Vec<StateID> {
     let mut ids = Vec::new(rt.alloc());
     for number in numbers {
@@ -58,12 +58,12 @@ pub fn ids_of(rt: &impl Host, numbers: &[u8]) -> Vec<StateID> {
     ids
 }
 
-/// A state by its number.
+/// Returns the state ID with this number.
 pub fn id(number: u8) -> StateID {
     StateID::new(usize::from(number)).unwrap()
 }
 
-/// A pattern by its number.
+/// Returns the pattern ID with this number.
 pub fn pattern_id(number: u8) -> PatternID {
     PatternID::new(usize::from(number)).unwrap()
 }

@@ -1,4 +1,4 @@
-//! The calls of a regex over one cache, by rows with what they report.
+//! Rows of calls of a regex over one cache, with what they report.
 
 use super::regex_bench::{Ask, Pair, Printed, RegexBench, Row};
 use super::reports::reports_all;
@@ -18,7 +18,7 @@ const WORDS: &[u8] = b"@foo bar";
 /// Three times sixteen bytes.
 const SIXTEENS: &[u8] = b"aaaaaaaaaaaaaaaaaaaaaaaaaaaaaaaaaaaaaaaaaaaaaaaa";
 
-/// Calls of a cache and of its parts, and the memory and the bytes searched that are counted then.
+/// Calls of a cache and of its parts, and the clears, memory and bytes searched that are counted afterwards.
 #[rattlefmt::skip]
 const PARTS: &[Row] = &[
     ("Cache::reset", Of(Entry::Ab), "", &[ReplaceByNew, Find(b"ab"), Counts, ResetByCache, Counts],
@@ -46,7 +46,7 @@ const PARTS: &[Row] = &[
         "true, (0, 965, 1) (0, 577, 0)"),
 ];
 
-/// What is printed for debugging: how much a cache has, and how far an iteration has come.
+/// What `Debug` prints: how much a cache has, and how far an iteration has come.
 #[rattlefmt::skip]
 const PRINTED: &[Row] = &[
     ("a cache, in one part the states of `ab` and in the other none", Of(Entry::Ab), "", &[Find(b"ab"),
@@ -65,14 +65,14 @@ const PRINTED: &[Row] = &[
         last: "Tokens { start: 2, end: 4, failed: true, .. }" })], "true"),
 ];
 
-/// Caches and their parts, and what is printed for debugging.
+/// Caches and their parts, and what `Debug` prints, report their rows.
 #[test]
 fn regexes_report_their_rows(rt: HostRuntime) {
     reports_all::<RegexBench>(&rt, PARTS);
     reports_all::<RegexBench>(&rt, PRINTED);
 }
 
-/// A token is kept when the iterator that gave it, its cache and its regex are gone.
+/// A token outlives the iterator that returned it, its cache and its regex.
 #[test]
 fn keeps_tokens_behind_their_cache(rt: HostRuntime) {
     let haystack = b"12ab3";
@@ -82,7 +82,7 @@ fn keeps_tokens_behind_their_cache(rt: HostRuntime) {
     same_of(&rt, &token.bytes(), &&haystack[2..4], &"a kept token");
 }
 
-/// The second token of a haystack, by a regex that ends here.
+/// Returns the second token of a haystack, from a regex that is dropped here.
 fn second_token<'h>(rt: &impl Host, haystack: &'h [u8]) -> Option<Token<'h>> {
     let mut bench = RegexBench::new(rt, Of(Entry::Runs).regex(rt, ""));
     bench.second_token(haystack)

@@ -1,4 +1,4 @@
-//! Calls of the library over one regex and its cache, and what they report.
+//! Calls of one regex over its cache, and what they report.
 
 ghost use Rattle.std.specs.Prelude.{◌≡◌, IfOk};
 ghost use Rattle.regex_automata.specs.Promises.{AreCachesOf, IsSoundPair};
@@ -17,17 +17,17 @@ use regex_automata::util::search::{Input, Match};
 use search_script::Entry;
 use std::alloc::{AllocError, Global};
 
-/// What a regex is made of.
+/// What a regex is built from.
 #[derive(Clone, Copy)]
 pub enum Pair {
     /// Both NFAs of an entry.
     Of(Entry),
-    /// A forward NFA, and the reverse of it.
+    /// A forward NFA, which the library reverses.
     Turned(Automaton),
 }
 
 impl Pair {
-    /// The regex with these options, or why it cannot be built.
+    /// Builds the regex with these options, or returns why it cannot be built.
     pub fn build(self, rt: &impl Host, options: &str) -> Result<Regex, BuildError> {
         match self {
             Pair::Of(entry) => {
@@ -40,26 +40,26 @@ impl Pair {
         }
     }
 
-    /// The regex, which can be built.
+    /// Builds the regex with these options. Ends the process if it cannot be built.
     pub fn regex(self, rt: &impl Host, options: &str) -> Regex {
         self.build(rt, options).expect(rt, "a regex")
     }
 }
 
-/// The regex of one NFA.
+/// Builds the regex of one NFA, with these options.
 fn turned(rt: &impl Host, forward: Automaton, options: &str) -> Regex {
     let built = alone(forward.nfa(rt), config(rt, options));
     built.expect(rt, "a regex")
 }
 
-/// The regex of one NFA. By its contract it finds the spans of the NFA's ordered paths.
+/// Builds the regex of one NFA. By the contract, it finds the spans of the NFA's ordered paths.
 pub fn alone(nfa: NFA, config: Config) -> Result<Regex, RegexBuildError>
     ensures { IfOk result IsSoundPair }
 {
     Regex::builder().dfa(config).build_from_nfa(nfa)
 }
 
-/// How an iteration is printed: at first, after one item, and after two more calls.
+/// What `Debug` prints for an iteration: at first, after one item, and after two more calls.
 #[derive(Clone, Copy)]
 pub struct Printed {
     pub first: &'static str,
@@ -71,34 +71,34 @@ pub struct Printed {
 #[derive(Clone, Copy)]
 pub enum Ask {
     Find(&'static [u8]),
-    /// Searches from each of these offsets on, anchored or not.
+    /// Searches from each of these offsets, in an anchored mode.
     Learn(&'static [u8], &'static [usize], Mode),
     /// Whether there is a match.
     Is(&'static [u8]),
     /// The first eight items of an iteration.
     Items(&'static [u8]),
-    /// The first eight tokens from an offset on.
+    /// The first eight tokens from an offset.
     Tokens(&'static [u8], usize),
-    /// A search by a part of the cache that is lent for writing.
+    /// Searches with a part of the cache that is borrowed mutably.
     Forward(&'static [u8]),
     Reverse(&'static [u8]),
-    /// What is counted of both parts of a clone, lent at once, after a search by each.
+    /// The counts of both parts of a clone, borrowed mutably at once, after a search with each.
     Both(&'static [u8]),
-    /// The cache is replaced by a new one.
+    /// Replaces the cache by a new one.
     Replace,
     ReplaceByNew,
-    /// A clone takes the cache's place.
+    /// Replaces the cache by a clone.
     ReplaceByClone,
-    /// It is reset.
+    /// Resets the cache.
     Reset,
     ResetByCache,
     ResetForward,
     ResetReverse,
     /// How often each part was cleared, its memory, and the bytes searched.
     Counts,
-    /// Whether the cache is printed so for debugging.
+    /// Whether `Debug` prints the cache like this.
     Prints(&'static str),
-    /// Whether an iteration is printed so at first, after one item, and after two more calls; and one of tokens.
+    /// Whether `Debug` prints an iteration over matches, or one over tokens, like this.
     ItemsPrint(&'static [u8], Printed),
     TokensPrint(&'static [u8], Printed),
 }
@@ -106,7 +106,7 @@ pub enum Ask {
 /// A row of calls over a regex and its cache.
 pub type Row = RowOf<Pair, Ask>;
 
-/// An item in the form of a token.
+/// Returns an item of an iteration in the form of a token.
 fn item_of(item: Option<Result<Match, SearchError>>) -> Item {
     match item {
         Some(Ok(found)) => Some(Ok((found.pattern().as_usize(), found.start(), found.end()))),
@@ -115,7 +115,7 @@ fn item_of(item: Option<Result<Match, SearchError>>) -> Item {
     }
 }
 
-/// The next token as an item. A token whose bytes are not those of its span is reported as none.
+/// Returns the next token as an item. A token whose bytes are not the bytes of its span is reported as `NoToken`.
 fn next_token(tokens: &mut Tokens<'_, '_, '_>, haystack: &[u8]) -> Item
     ensures same_cache { tokens.new.cache.ghost_name ≡ tokens.old.cache.ghost_name }
     ensures regex { tokens.new.regex.now ≡ tokens.old.regex.now }
@@ -127,7 +127,7 @@ fn next_token(tokens: &mut Tokens<'_, '_, '_>, haystack: &[u8]) -> Item
     }
 }
 
-/// The pattern and the span of a token, whose bytes have to be those of the span.
+/// Returns the pattern and the span of a token, or `NoToken` if its bytes are not the bytes of its span.
 fn match_of(token: &Token<'_>, haystack: &[u8]) -> Result<(usize, usize, usize), TokenError> {
     let range = token.range();
     let (start, end) = (range.start, range.end);
@@ -146,13 +146,13 @@ pub struct RegexBench {
 }
 
 impl RegexBench {
-    /// Before any call.
+    /// Returns a bench before any call.
     pub fn new(rt: &impl Host, regex: Regex) -> RegexBench {
         let cache = regex.create_cache().expect(rt, "a cache");
         RegexBench { regex, cache }
     }
 
-    /// What a call reports, whatever it changes.
+    /// Makes a call, and returns what it reports.
     fn call(&mut self, alloc: Global, ask: Ask) -> Reported {
         match ask {
             Ask::Find(haystack) => self.find(&Input::new(haystack)),
@@ -171,7 +171,7 @@ impl RegexBench {
         }
     }
 
-    /// A call that makes a cache or a part of it as new.
+    /// Makes a call that replaces or resets the cache or a part of it.
     fn renew(&mut self, ask: Ask) -> Reported {
         match ask {
             Ask::Replace | Ask::ReplaceByNew | Ask::ReplaceByClone => {
@@ -185,7 +185,7 @@ impl RegexBench {
         }
     }
 
-    /// A cache to take the place of this one.
+    /// Returns a new cache to replace the current one.
     fn made(&self, ask: Ask) -> Result<Cache, AllocError>
         ensures { IfOk result (λ made. AreCachesOf made self.now.regex) }
     {
@@ -196,7 +196,7 @@ impl RegexBench {
         }
     }
 
-    /// Puts a cache that was made in the place of this one.
+    /// Replaces the cache by a new one, or reports that it could not be made.
     fn replace(&mut self, made: Result<Cache, AllocError>) -> Reported
         requires { IfOk made (λ made. AreCachesOf made self.old.regex) }
     {
@@ -209,7 +209,7 @@ impl RegexBench {
         }
     }
 
-    /// Searches from each of these offsets on.
+    /// Searches from each of these offsets.
     fn learn(&mut self, haystack: &[u8], places: &[usize], mode: Mode) -> Reported {
         for place in places {
             let input = from(haystack, *place).anchored(mode.anchored());
@@ -223,7 +223,7 @@ impl RegexBench {
         self.regex.is_match(&mut self.cache, input)
     }
 
-    /// The first eight items of an iteration.
+    /// Returns the first eight items of an iteration.
     #[rattlefmt::skip]
     fn first_items(&mut self, input: Input<'_>) -> [Item; 8] {
         let mut it = self.regex.find_iter(&mut self.cache, input);
@@ -233,7 +233,7 @@ impl RegexBench {
         ]
     }
 
-    /// The first eight tokens from an offset on.
+    /// Returns the first eight tokens from an offset.
     #[rattlefmt::skip]
     fn first_tokens(&mut self, haystack: &[u8], start: usize) -> [Item; 8] {
         let mut tokens = self.regex.tokens(&mut self.cache, from(haystack, start));
@@ -245,7 +245,7 @@ impl RegexBench {
         ]
     }
 
-    /// Whether an iteration is printed so, at first and later.
+    /// Whether `Debug` prints an iteration like this, at first and later.
     fn items_print(&mut self, alloc: Global, haystack: &[u8], texts: Printed) -> Reported {
         let mut it = self.regex.find_iter(&mut self.cache, Input::new(haystack));
         let first = prints(alloc, &it, texts.first);
@@ -256,7 +256,7 @@ impl RegexBench {
         Reported::of_flag(first && second && prints(alloc, &it, texts.last))
     }
 
-    /// Whether an iteration over tokens is printed so, at first and later.
+    /// Whether `Debug` prints an iteration over tokens like this, at first and later.
     fn tokens_print(&mut self, alloc: Global, haystack: &[u8], texts: Printed) -> Reported {
         let mut tokens = self.regex.tokens(&mut self.cache, Input::new(haystack));
         let first = prints(alloc, &tokens, texts.first);
@@ -272,19 +272,19 @@ impl RegexBench {
         Reported::Span(self.regex.find(&mut self.cache, input))
     }
 
-    /// Searches by the forward part.
+    /// Searches with the forward part.
     fn forward(&mut self, input: &Input<'_>) -> Reported {
         let dfa = self.regex.forward();
         Reported::Half(dfa.try_search_fwd(self.cache.forward_mut(), input))
     }
 
-    /// Searches by the reverse part.
+    /// Searches with the reverse part.
     fn reverse(&mut self, input: &Input<'_>) -> Reported {
         let dfa = self.regex.reverse();
         Reported::Half(dfa.try_search_rev(self.cache.reverse_mut(), input))
     }
 
-    /// By a clone of the cache.
+    /// Searches with both parts of a clone of the cache, and reports their counts.
     fn both(&self, input: &Input<'_>) -> Reported {
         match self.made(Ask::ReplaceByClone) {
             Ok(mut cache) => Reported::Parts(halves(&self.regex, &mut cache, input)),
@@ -307,7 +307,7 @@ impl RegexBench {
         self.regex.reset_cache(&mut self.cache)
     }
 
-    /// The second token of a haystack.
+    /// Returns the second token of a haystack.
     pub fn second_token<'h>(&mut self, haystack: &'h [u8]) -> Option<Token<'h>> {
         let mut tokens = self.regex.tokens(&mut self.cache, Input::new(haystack));
         let _ = tokens.next();
@@ -317,7 +317,7 @@ impl RegexBench {
         }
     }
 
-    /// What is counted of each part.
+    /// Returns the counts of each part.
     fn counts(&self) -> [Counted; 2] {
         let (forward, reverse) = self.cache.as_parts();
         [counted(forward), counted(reverse)]
@@ -341,7 +341,7 @@ impl Caller for RegexBench {
     }
 }
 
-/// What is counted of both parts after a search by each.
+/// Returns the counts of both parts after a search with each.
 fn halves(regex: &Regex, cache: &mut Cache, input: &Input<'_>) -> [Counted; 2]
     requires { AreCachesOf cache.old regex.now }
 {
@@ -351,7 +351,7 @@ fn halves(regex: &Regex, cache: &mut Cache, input: &Input<'_>) -> [Counted; 2]
     [counted(forward), counted(reverse)]
 }
 
-/// A haystack from an offset on.
+/// Returns an input over a haystack from an offset on, or over all of it if the offset is out of range.
 fn from<'h>(haystack: &'h [u8], start: usize) -> Input<'h> {
     let input = Input::new(haystack);
     if !input.allows(start, haystack.len()) {

@@ -1,7 +1,7 @@
 //! A long script whose allocations fail in turn. Each test may use up all memory.
 //!
-//! By the contract of `replay` each request that is answered is answered right, and an error is one that its call may
-//! give. What is seen here is that requests run out of memory one by one, and that the others are answered.
+//! By the contract of `replay`, each reply is right or an error that its call may return. These tests show that
+//! requests run out of memory one by one, and that the others are answered.
 
 use super::regex_bench::Pair;
 use super::reports::{Automaton, Turns};
@@ -16,10 +16,11 @@ const DIGITS: Pair = Pair::Turned(Automaton::Planned(
     "0/23,0 B30-39:1 B30-39:2 B30-39:3 B30-39:4 B30-39:5 B30-39:6 B30-39:7 B30-39:8 B30-39:9 B30-39:10 B30-39:11 B30-39:12 B30-39:13 B30-39:14 B30-39:15 B30-39:16 B30-39:17 B30-39:18 B30-39:19 B30-39:20 B30-39:21 B30-39:22 M0 E0,24 B00-ff:23",
 ));
 
-/// How many requests stand in front of the one in the middle.
+/// How many requests come before the one in the middle.
 const MIDDLE: usize = 20;
 
-/// Requests of every kind. They end over caches of regex 0 that have cached the transitions of `20`.
+/// Requests of every kind. After them, the cache belongs to regex 0, and has the transitions of `20` in both
+/// directions.
 #[rattlefmt::skip]
 const BEFORE: &[Text] = &[
     "walk fwd 30303030303030303030303030303030303030303030", "walk fwd 303030303030303030303030",
@@ -29,7 +30,7 @@ const BEFORE: &[Text] = &[
     "step 1", "walk fwd 6131", "step 3", "reset 0", "fwd 3230", "rev 3230",
 ];
 
-/// Requests that each need the most memory if they stand in the middle.
+/// Requests that each need the most memory of all when they are in the middle.
 #[rattlefmt::skip]
 const NEEDS: &[Text] = &[
     "fwd 30303030303030303030303030303030303030303030", "rev 30303030303030303030303030303030303030303030",
@@ -38,14 +39,14 @@ const NEEDS: &[Text] = &[
     "step 0",
 ];
 
-/// Requests that need no more than those in front.
+/// Requests that need no more memory than those before the middle.
 #[rattlefmt::skip]
 const BEHIND: &[Text] = &[
     "fwd 303030303030303030303030", "find 3230", "iter 3230", "which 2 3230", "step 2", "reset 1", "iter 6131",
     "rev 6131", "step 3", "reset 0", "is 3230",
 ];
 
-/// The requests of the script that has this one in its middle.
+/// Returns the requests of the script that has this one in its middle.
 fn rows_around(middle: Text) -> [Text; 32] {
     let mut rows = [middle; 32];
     put_rows(&mut rows, 0, BEFORE);
@@ -53,7 +54,7 @@ fn rows_around(middle: Text) -> [Text; 32] {
     rows
 }
 
-/// Puts rows at a place and behind it, as far as there is room.
+/// Writes rows from the index `first` on, as far as there is room.
 fn put_rows(rows: &mut [Text], first: usize, put: &[Text]) {
     for (number, row) in put.iter().enumerate() {
         if let Some(place) = rows.get_mut(first.saturating_add(number)) {
@@ -62,7 +63,7 @@ fn put_rows(rows: &mut [Text], first: usize, put: &[Text]) {
     }
 }
 
-/// The script of these requests.
+/// Returns the script of these requests.
 fn script_of(rt: &impl Host, rows: &[Text]) -> Script {
     let mut text = String::new(rt.alloc());
     for row in rows {
@@ -74,14 +75,14 @@ fn script_of(rt: &impl Host, rows: &[Text]) -> Script {
 /// The regexes, and the requests of a script.
 type Asked<'a> = (&'a [Regex], &'a [Request<'a>]);
 
-/// Whether a request ran out of memory, if only after a part of its reply.
+/// Whether a request ran out of memory, even if only after a part of its reply.
 fn is_refused(rt: &impl Host, reply: &Reply) -> bool {
     let text = format!(in rt.alloc(); "{}", Line(reply)).expect(rt, "memory");
     text.as_str().ends_with("memory")
 }
 
-/// What ran out of memory in the turns of a script: the list of the replies, the request in the middle, and that one
-/// alone.
+/// What ran out of memory in the turns of a script: the list of the replies, the request in the middle, and only that
+/// request.
 #[derive(Clone, Copy)]
 struct Seen {
     script: bool,
@@ -90,7 +91,7 @@ struct Seen {
 }
 
 impl Seen {
-    /// Notes the requests of one turn that ran out of memory, and returns how many these are.
+    /// Records the requests of one turn that ran out of memory, and returns how many there were.
     fn note(&mut self, rt: &impl Host, replies: &[Reply]) -> usize {
         let mut count = 0usize;
         let mut is_middle = false;
@@ -106,7 +107,8 @@ impl Seen {
     }
 }
 
-/// One turn: how many requests ran out of memory, if the list of the replies did not.
+/// Takes one turn. Returns how many requests ran out of memory, or none if the list of the replies could not be
+/// allocated.
 fn replay_short(
     rt: &impl Host,
     asked: Asked<'_>,
@@ -122,7 +124,7 @@ fn replay_short(
     }
 }
 
-/// Replays turn by turn, each with so many bytes more, until nothing runs out of memory.
+/// Replays in turns, each with `step` bytes more than the previous one, until nothing runs out of memory.
 fn refuse_in_turn(rt: &impl Host, asked: Asked<'_>, turns: &mut Turns, step: usize) -> Seen {
     let mut seen = Seen {
         script: false,
@@ -141,7 +143,7 @@ fn refuse_in_turn(rt: &impl Host, asked: Asked<'_>, turns: &mut Turns, step: usi
     seen
 }
 
-/// Replays turn by turn the script that has this request in its middle.
+/// Replays in turns the script that has this request in its middle.
 fn refuse(rt: &impl Host, regexes: &[Regex], middle: Text, turns: &mut Turns, step: usize) -> Seen {
     turns.release();
     let script = script_of(rt, &rows_around(middle));
@@ -149,8 +151,8 @@ fn refuse(rt: &impl Host, regexes: &[Regex], middle: Text, turns: &mut Turns, st
     refuse_in_turn(rt, (regexes, requests.as_slice()), turns, step)
 }
 
-/// Replays around each request of `NEEDS`, and counts those that run out of memory alone in some turn. Each runs out
-/// of memory in some turn, and so does the list of the replies.
+/// Replays around each request of `NEEDS`, and returns how many of these are the only one to run out of memory in some
+/// turn. Each has to run out of memory in some turn, and so does the list of the replies.
 fn refuse_each(rt: &impl Host, options: &str, step: usize) -> usize {
     let mut regexes = Vec::new(rt.alloc());
     for pair in [DIGITS, Pair::Of(Entry::Runs)] {
@@ -159,7 +161,7 @@ fn refuse_each(rt: &impl Host, options: &str, step: usize) -> usize {
     count_alone(rt, regexes.as_slice(), step)
 }
 
-/// How many of `NEEDS` run out of memory alone in some turn.
+/// Returns how many requests of `NEEDS` are the only one to run out of memory in some turn.
 fn count_alone(rt: &impl Host, regexes: &[Regex], step: usize) -> usize {
     let mut turns = Turns::new(rt);
     let mut alone = 0usize;
@@ -173,14 +175,14 @@ fn count_alone(rt: &impl Host, regexes: &[Regex], step: usize) -> usize {
     alone
 }
 
-/// Rows are large, so in some turns the growth of a table fails alone, and all requests after it are answered.
+/// Rows are large, so in some turns only the growth of one table fails, and all requests after it are answered.
 #[test]
 fn replays_around_a_refused_request(rt: HostRuntime) {
     let alone = refuse_each(&rt, "all noclasses", 512);
     check(&rt, alone >= 3);
 }
 
-/// Rows are small, and the memory that is lent rises by thirty-two bytes a turn, the least that an allocation takes.
+/// Rows are small, and the memory that is lent grows by thirty-two bytes per turn, the least that an allocation takes.
 #[test]
 fn replays_in_ever_more_memory(rt: HostRuntime) {
     refuse_each(&rt, "all", 32);

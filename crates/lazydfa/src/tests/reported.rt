@@ -1,4 +1,4 @@
-//! What calls report, in words.
+//! What calls report, as text.
 
 use regex_automata::hybrid::{BuildError, LazyStateID, SearchError, StartError, StepError};
 use regex_automata::replay::Reply;
@@ -11,7 +11,7 @@ use std::fmt;
 /// An item of an iteration, or a token: its pattern, its start and its end.
 pub type Item = Option<Result<(usize, usize, usize), TokenError>>;
 
-/// What is counted of a cache: clears, memory, and bytes searched.
+/// The counts of a cache: clears, memory, and bytes searched.
 pub type Counted = (usize, usize, usize);
 
 /// What a call reports.
@@ -23,7 +23,7 @@ pub enum Reported {
     /// The match of a regex.
     Span(Result<Option<Match>, SearchError>),
     Truth(Result<bool, SearchError>),
-    /// Patterns, and why there are no more.
+    /// A number for the patterns of a set, and the error if the search failed.
     Set(usize, Result<(), SearchError>),
     NoStart(StartError),
     NoStep(StepError),
@@ -34,19 +34,19 @@ pub enum Reported {
     Based(usize, usize, usize),
     /// Three numbers, with text after them.
     Counts(Counted, &'static str),
-    /// Three numbers of each part.
+    /// The counts of each part.
     Parts([Counted; 2]),
     /// Items or tokens.
     Items([Item; 8]),
 }
 
 impl Reported {
-    /// Whether something holds.
+    /// Reports whether something holds.
     pub fn of_flag(yes: bool) -> Reported {
         Reported::Word(if yes { "true" } else { "false" })
     }
 
-    /// Whether there is a start.
+    /// Reports that there is a start, or why not.
     pub fn of_start(started: Result<(), StartError>) -> Reported {
         match started {
             Ok(()) => Reported::Word("-"),
@@ -54,7 +54,7 @@ impl Reported {
         }
     }
 
-    /// Whether a step was taken.
+    /// Reports that a step was taken, or why not.
     pub fn of_step(stepped: Result<(), StepError>) -> Reported {
         match stepped {
             Ok(()) => Reported::Word("-"),
@@ -62,7 +62,7 @@ impl Reported {
         }
     }
 
-    /// Whether there was memory.
+    /// Reports whether there was memory.
     pub fn of_growth(grown: Result<(), AllocError>) -> Reported {
         match grown {
             Ok(()) => Reported::Word("-"),
@@ -97,12 +97,12 @@ impl fmt::Display for Reported {
     }
 }
 
-/// Writes a reply as the script's line has it.
+/// Writes a reply in the form of a script's output.
 fn write_reply<W: fmt::Write>(f: &mut fmt::Formatter<W>, reply: Reply) -> fmt::Result {
     write!(f, "{}", Line(&reply))
 }
 
-/// The items before the end, if any. What comes after the end or an error is reported apart.
+/// Writes the items before the end, or `-` if there are none. An item after the end or after an error is marked.
 fn write_items<W: fmt::Write>(f: &mut fmt::Formatter<W>, items: &[Item; 8]) -> fmt::Result {
     if items[0].is_none() {
         write!(f, "-")?;
@@ -122,7 +122,7 @@ fn write_items<W: fmt::Write>(f: &mut fmt::Formatter<W>, items: &[Item; 8]) -> f
     Ok(())
 }
 
-/// Writes an item or a token, or why there is none.
+/// Writes an item or a token, or its error.
 fn write_item<W: fmt::Write>(
     f: &mut fmt::Formatter<W>,
     item: Result<(usize, usize, usize), TokenError>,
@@ -134,7 +134,7 @@ fn write_item<W: fmt::Write>(
     }
 }
 
-/// Whether a value is printed so for debugging.
+/// Whether `Debug` prints a value like this.
 pub fn prints<T: fmt::Debug>(alloc: Global, value: &T, text: &str) -> bool {
     match format!(in alloc; "{value:?}") {
         Ok(printed) => printed.as_str() == text,
@@ -142,7 +142,7 @@ pub fn prints<T: fmt::Debug>(alloc: Global, value: &T, text: &str) -> bool {
     }
 }
 
-/// What an ID says of its state.
+/// Returns a letter for the kind of an ID, or an empty text for an untagged one.
 pub fn letter(id: LazyStateID) -> &'static str {
     if id.is_unknown() {
         "u"

@@ -1,5 +1,5 @@
-//! Rows of calls over one cache, with what they report: in ample memory, and while the memory that is left rises, so
-//! that each allocation fails in some turn. A test that takes turns uses up all memory.
+//! Rows of calls over one cache, with what they report: with ample memory, and in turns with ever more memory, so that
+//! each allocation fails in some turn. A test that takes turns uses up all memory.
 
 use super::plans::{chain, plan};
 use super::reported::Reported;
@@ -16,17 +16,18 @@ use std::fmt::Write;
 pub enum Automaton {
     Forward(Entry),
     Reverse(Entry),
-    /// One that is not in the catalogue, as a line of a script has it.
+    /// An NFA that is not in the catalogue, in the form of a script's line.
     Planned(Text),
-    /// A state, and after it so many states, of which each but the last, the one match, reads an `a`.
+    /// A state, and after it this many states, of which the last is the only match state and each other one reads an
+    /// `a`.
     Chain(Text, usize),
-    /// Those of `DFA::always_match` and `DFA::never_match`.
+    /// The NFAs of `DFA::always_match` and `DFA::never_match`.
     Always,
     Never,
 }
 
 impl Automaton {
-    /// The NFA, which can be made.
+    /// Returns the NFA. Ends the process if the library builds it.
     pub fn nfa(self, rt: &impl Host) -> NFA {
         match self {
             Automaton::Forward(entry) => kept(rt, entry.forward(rt.alloc())),
@@ -37,7 +38,7 @@ impl Automaton {
         }
     }
 
-    /// A lazy DFA with these options, or why it cannot be built.
+    /// Builds a lazy DFA with these options, or returns why it cannot be built.
     pub fn build(self, rt: &impl Host, options: &str) -> Result<DFA, BuildError> {
         let config = config(rt, options);
         match self {
@@ -50,26 +51,26 @@ impl Automaton {
     }
 }
 
-/// The NFA of an entry, which keeps unions if it has a look cycle.
+/// Returns the NFA of an entry, which keeps its unions if it has a look cycle.
 fn kept(rt: &impl Host, nfa: Result<NFA, NfaError>) -> NFA {
     nfa.expect(rt, "an entry").keeping_unions()
 }
 
-/// What the row shows, what is called, its options as a script has them, the calls, and what they report, or why what
-/// is called cannot be built.
+/// A row: what it shows, what is called, its options in the form of a script, the calls, and what they report, or why
+/// what is called cannot be built.
 pub type RowOf<O, C> = (Text, O, Text, &'static [C], Text);
 
-/// What is called, with a cache of its own.
+/// Something that is called, with a cache of its own.
 pub trait Caller: Drop {
-    /// What it is made of.
+    /// What it is built from.
     type Of: Copy;
 
     type Call: Copy;
 
-    /// Before any call.
+    /// Builds it, before any call.
     fn make(rt: &impl Host, of: Self::Of, options: &str) -> Result<Self, BuildError>;
 
-    /// Makes a call, and says what it reports.
+    /// Makes a call, and returns what it reports.
     fn answer(&mut self, alloc: Global, call: Self::Call) -> Reported;
 
     /// Makes calls, and writes what they report.
@@ -95,7 +96,7 @@ pub trait Caller: Drop {
     }
 }
 
-/// Makes the calls of each row.
+/// Makes the calls of each row, and compares what they report.
 pub fn reports_all<T: Caller>(rt: &impl Host, rows: &[RowOf<T::Of, T::Call>]) {
     for row in rows {
         let text = text_of::<T>(rt, row.1, row.2, row.3);
@@ -103,7 +104,7 @@ pub fn reports_all<T: Caller>(rt: &impl Host, rows: &[RowOf<T::Of, T::Call>]) {
     }
 }
 
-/// What the calls report, or why what is called cannot be built.
+/// Returns what the calls report, or why what is called cannot be built.
 pub fn text_of<T: Caller>(rt: &impl Host, of: T::Of, options: &str, calls: &[T::Call]) -> String {
     let mut text = String::with_capacity(rt.alloc(), 1 << 10).expect(rt, "memory");
     write_calls::<T>(rt, of, options, calls, &mut text);
@@ -130,7 +131,7 @@ pub fn write_reported(rt: &impl Host, text: &mut String, reported: &Reported) {
     write!(text, "{before}{reported}").expect(rt, "memory");
 }
 
-/// The settings of these options.
+/// Returns the settings of these options.
 pub fn config(rt: &impl Host, options: &str) -> Config {
     let mut config = Config::new();
     for option in options.as_bytes().split(|byte| *byte == b' ') {
@@ -141,18 +142,19 @@ pub fn config(rt: &impl Host, options: &str) -> Config {
     config
 }
 
-/// How many bytes of memory a block of the room has.
+/// The size of the first blocks, in bytes.
 const ROOM: usize = 1 << 16;
 
 /// A call, and what it reports once there is memory.
 pub type Owed<C> = (C, &'static str);
 
-/// A call that fails, by its number, and what it reports. What comes before the word `memory` was done all the same.
+/// The number of a call that fails, and what it reports. What comes before the word `memory` was done before the
+/// failure.
 pub type Refusal = (usize, &'static str);
 
-/// What a row shows, what is called, its options as a script has them, calls in ample memory, calls in the memory of a
-/// turn, and the failures that are seen. A call that fails is made again with memory. If no failure is named, none
-/// comes, though no memory is left.
+/// A row: what it shows, what is called, its options in the form of a script, calls with ample memory, calls in the
+/// memory of a turn, and the failures that have to be seen. A call that fails is repeated with memory. If no failure is
+/// named, no call may fail, even without memory.
 #[rattlefmt::skip]
 pub type Short<O, C> = (Text, O, Text, &'static [C], &'static [Owed<C>], &'static [Refusal]);
 
@@ -170,7 +172,7 @@ pub struct Turns {
 }
 
 impl Turns {
-    /// Takes all memory but these blocks.
+    /// Allocates the first blocks, and takes all other memory.
     pub fn new(rt: &impl Host) -> Turns {
         let blocks = first_blocks(rt);
         let reported = String::with_capacity(rt.alloc(), 1 << 10).expect(rt, "memory");
@@ -184,28 +186,28 @@ impl Turns {
         }
     }
 
-    /// From here on there is memory.
+    /// Frees the blocks, so that there is memory.
     pub fn release(&mut self) {
         self.blocks.clear();
     }
 
-    /// The next turn lends so many bytes, and nothing has failed.
+    /// Makes the next turn lend this many bytes, and forgets the failures that were seen.
     pub fn lend_from(&mut self, lent: usize) {
         self.lent = lent;
         self.seen = [false; 8];
     }
 
-    /// How much a turn lends.
+    /// Returns how many bytes a turn lends.
     pub fn lent(&self) -> usize {
         self.lent
     }
 
-    /// The next turn lends more.
+    /// Makes the next turn lend 16 bytes more.
     pub fn lend_more(&mut self) {
         self.lent = self.lent.saturating_add(16);
     }
 
-    /// Takes all memory, and then lends some.
+    /// Takes all memory, and then frees as much as the turn lends.
     pub fn lend(&mut self, rt: &impl Host) {
         self.blocks.clear();
         self.is_refused = false;
@@ -221,7 +223,7 @@ impl Turns {
         drop(lent);
     }
 
-    /// Takes blocks of a size while there are any.
+    /// Takes blocks of a size until an allocation fails.
     fn take(&mut self, alloc: Global, size: usize) {
         for _ in 0..u64::MAX {
             let Ok(block) = Vec::with_capacity(alloc, size) else {
@@ -233,14 +235,14 @@ impl Turns {
         }
     }
 
-    /// Whether so many failures were seen.
+    /// Stops the test unless this many of the named failures were seen.
     fn have_seen(&self, rt: &impl Host, count: usize, shows: &str) {
         for at in 0..count.min(8) {
             same_of(rt, &self.seen[at], &true, &(shows, at));
         }
     }
 
-    /// Whether the first turn, which lends nothing, has seen the first failure, or none if none is named.
+    /// Stops the test unless the first turn, which lends nothing, has seen the first failure, or none if none is named.
     fn has_begun(&self, rt: &impl Host, shows: &str, refusals: &[Refusal]) {
         let expected = !refusals.is_empty();
         same_of(
@@ -274,7 +276,7 @@ impl Turns {
         is_refused
     }
 
-    /// Whether this failure is named. It has been seen from here on.
+    /// Whether this failure is named. If so, it is recorded as seen.
     fn sees(&mut self, number: usize, refusals: &[Refusal]) -> bool {
         match place_of(number, self.reported.as_str(), refusals) {
             Some(place) => {
@@ -286,7 +288,7 @@ impl Turns {
     }
 }
 
-/// The blocks that turns hand back and forth, with room for more of them.
+/// Returns the blocks that turns free and take again, with room for more of them.
 fn first_blocks(rt: &impl Host) -> Vec<Vec<u8>> {
     let mut blocks = Vec::with_capacity(rt.alloc(), 1 << 14).expect(rt, "memory");
     for _ in 0..512u32 {
@@ -296,7 +298,7 @@ fn first_blocks(rt: &impl Host) -> Vec<Vec<u8>> {
     blocks
 }
 
-/// Where a failure is named.
+/// Returns the position of a failure among those named.
 fn place_of(number: usize, reported: &str, refusals: &[Refusal]) -> Option<usize> {
     let mut place = 0usize;
     for refusal in refusals {
@@ -308,7 +310,7 @@ fn place_of(number: usize, reported: &str, refusals: &[Refusal]) -> Option<usize
     None
 }
 
-/// Whether it reports nothing but out of memory, or that after a beginning of what is due.
+/// Whether the report is only that memory ran out, or that after a beginning of what is due.
 fn is_beginning(reported: &str, due: &str) -> bool {
     let done = reported.strip_suffix("memory").unwrap_or("no refusal");
     let done = done.strip_suffix("out of ").unwrap_or(done).trim_end();
@@ -324,7 +326,7 @@ pub fn refuse_each<T: Caller>(rt: &impl Host, rows: &[Short<T::Of, T::Call>]) {
     }
 }
 
-/// Takes one turn with each row, which lends so much memory. No call fails then.
+/// Takes one turn with each row, which lends `lent` bytes. No call may fail.
 pub fn answer_within<T: Caller>(rt: &impl Host, lent: usize, rows: &[Short<T::Of, T::Call>]) {
     let mut turns = Turns::new(rt);
     turns.lend_from(lent);
@@ -334,8 +336,8 @@ pub fn answer_within<T: Caller>(rt: &impl Host, lent: usize, rows: &[Short<T::Of
     }
 }
 
-/// Calls turn by turn until nothing fails, and checks that the named failures were seen, the first one when no memory
-/// was lent.
+/// Takes turns with a row until nothing fails, and checks that the named failures were seen, the first one when no
+/// memory was lent.
 fn refuse_in_turn<T: Caller>(rt: &impl Host, row: &Short<T::Of, T::Call>, turns: &mut Turns) {
     take_turn::<T>(rt, row, turns);
     turns.has_begun(rt, row.0, row.5);
@@ -349,7 +351,7 @@ fn refuse_in_turn<T: Caller>(rt: &impl Host, row: &Short<T::Of, T::Call>, turns:
     check(rt, false);
 }
 
-/// One turn, over a cache of its own.
+/// Takes one turn with a row, over a cache of its own.
 fn take_turn<T: Caller>(rt: &impl Host, row: &Short<T::Of, T::Call>, turns: &mut Turns) {
     turns.release();
     let mut caller = T::make(rt, row.1, row.2).expect(rt, "what is called");

@@ -1,4 +1,4 @@
-//! Calls of the lazy DFA over one cache, by rows with what they report and count.
+//! Rows of calls of a lazy DFA over one cache, with what they report and count.
 
 use super::Text;
 use super::bench::{Bench, Call, On, Over};
@@ -31,7 +31,7 @@ const A16_BACK: On = On(Reverse(Entry::A16), Nothing);
 /// Sixteen bytes.
 const AS: &str = "aaaaaaaaaaaaaaaa";
 
-/// `(?:\b|%)+`, as the entry of the catalogue, but its unions are not kept.
+/// `(?:\b|%)+`, like the entry of the catalogue, but without kept unions.
 const PERCENTS: Text = "0/5,0 E1,2 LWordAscii:3 B25:3 E0,4 M0 E0,6 B00-ff:5";
 
 #[rattlefmt::skip]
@@ -43,7 +43,7 @@ const SEARCHED: &[Row] = &[
     ("DFA::never_match", On(Never, Nothing), "", DULL, "none, none, 0 217 0, none"),
     ("paths in another order, over a look cycle whose unions are not kept, so that answers by paths need them",
         On(Planned(PERCENTS), Nothing), "", &[FindIn("z%", 1, 2)], "half 0 2"),
-    // The bytes searched, by each way out of a search, and that no search is in progress after it.
+    // For each way in which a search ends: the bytes searched, and that no search is in progress afterwards.
     ("at a quit byte", AB, "quit=63", &[Find("abc"), Counts], "quit 63 2, 0 593 2"),
     ("at a quit byte behind the span", AB, "quit=63", &[FindIn("abc", 0, 2), Counts], "quit 63 2, 0 593 2"),
     ("at the byte behind the span", AB, "", &[FindIn("xabz", 1, 3), Counts], "half 0 3, 0 678 2"),
@@ -55,7 +55,7 @@ const SEARCHED: &[Row] = &[
     ("at the first match", WORDS_BACK, "all", &[FindEarliest("@foo bar"), Counts], "half 0 7, 0 989 1"),
 ];
 
-/// Searches by spans, one inside a character, the memory, and a search of a byte.
+/// Searches of two spans, the second inside a character, the counts, and a search of one byte.
 const DULL: &[Call] = &[
     FindIn("abc", 1, 2),
     FindIn("\u{2603}", 1, 2),
@@ -63,7 +63,8 @@ const DULL: &[Call] = &[
     Find("a"),
 ];
 
-/// In reverse under leftmost-first, which no script can ask for: the first path, and the one of the nearest start.
+/// Reverse searches with `MatchKind::LeftmostFirst`, which no script can request: the start of the first path, and with
+/// `earliest` the nearest start.
 #[rattlefmt::skip]
 const BACK: &[Row] = &[
     ("", On(Reverse(Entry::Crlf), Nothing), "", &[Find("a\r\n"), FindEarliest("a\r\n")], "half 0 3, half 0 3"),
@@ -85,7 +86,7 @@ const BACK: &[Row] = &[
 const TWELFTH: Text =
     "0/0,0 E1,2 B00-ff:0 B61:3 B00-ff:4 B00-ff:5 B00-ff:6 B00-ff:7 B00-ff:8 B00-ff:9 B00-ff:10 B00-ff:11 B00-ff:12 B00-ff:13 B00-ff:14 M0";
 
-/// That, and a `c` after it, so that no state matches over letters `a` and `b`.
+/// The same, and a `c` after it, so that no state matches over letters `a` and `b`.
 const TWELFTH_THEN_C: Text =
     "0/0,0 E1,2 B00-ff:0 B61:3 B00-ff:4 B00-ff:5 B00-ff:6 B00-ff:7 B00-ff:8 B00-ff:9 B00-ff:10 B00-ff:11 B00-ff:12 B00-ff:13 B00-ff:14 B63:15 M0";
 
@@ -118,7 +119,7 @@ const WALKED: &[Row] = &[
         Step(b'b'), Brief, End, Brief], "-, 577, -, 678, -, 763m, -, 763q, -, 763q, -, 763q"),
 ];
 
-/// Twenty bytes `a` from a word boundary on, so that the starts differ by the look-behind byte.
+/// A word boundary and nineteen bytes `a`, so that the starts differ by the look-behind byte.
 const WORD: On = On(Chain("LWordAscii:1", 20), Nothing);
 
 const TWO_SEARCHES: &[Call] = &[Counts, Find(AS), Counts, Find(AS), Counts];
@@ -140,8 +141,8 @@ const CLEARED: &[Row] = &[
         "-, -, lazy DFA cache has been cleared too many times, error computing start state because of cache inefficiency, 0 36189 0"),
 ];
 
-/// What is counted after a search: no clear, the memory, and the bytes searched. The first row shows also that a second
-/// search adds no state, and that a reset drops all.
+/// The counts after a search: no clear, the memory, and the bytes searched. The first row also shows that a second
+/// search adds no state, and that a reset drops all states.
 #[rattlefmt::skip]
 const COUNTED: &[Row] = &[
     ("", AB, "", &[Counts, Find("ab"), Counts, Find("ab"), Counts, Reset, Counts, Find("ab"), Counts],
@@ -163,7 +164,7 @@ const COUNTED: &[Row] = &[
     ("", On(Reverse(Entry::Crlf), Nothing), "all", &[Find("a\r\n"), Counts], "half 0 1, 0 646 2"),
 ];
 
-/// Searches of both kinds, and what is counted after them.
+/// Searches with both match kinds, and the counts after them, report their rows.
 #[test]
 fn searches_report_their_rows(rt: HostRuntime) {
     reports_all::<Bench>(&rt, SEARCHED);
@@ -172,13 +173,13 @@ fn searches_report_their_rows(rt: HostRuntime) {
     reports_all::<Bench>(&rt, COUNTED);
 }
 
-/// Searches of long haystacks.
+/// Searches of long haystacks report their rows.
 #[test]
 fn long_searches_report_their_rows(rt: HostRuntime) {
     reports_all::<Bench>(&rt, LONG);
 }
 
-/// Steps by hand, with the memory after each.
+/// Single steps, and the memory after each, report their rows.
 #[test]
 fn steps_report_their_rows(rt: HostRuntime) {
     reports_all::<Bench>(&rt, WALKED);

@@ -3,10 +3,11 @@
 use super::{Host, Sink, Source, same_of};
 use search_script::{RunError, run};
 
-/// Why a script is not answered, if it is not.
+/// The error of a run, if it failed.
 type Fault = Option<RunError>;
 
-/// What a script writes, and its fault, if one call of the reader or the writer fails, counted from 1.
+/// Runs a script whose reader and writer fail at these calls, counted from 1, or never for 0. Returns the output and
+/// the error.
 fn fail_at(rt: &impl Host, script: &str, (read, write): (usize, usize)) -> (Vec<u8>, Fault) {
     let mut input = Source::new(script.as_bytes());
     input.fails_at = read;
@@ -16,7 +17,7 @@ fn fail_at(rt: &impl Host, script: &str, (read, write): (usize, usize)) -> (Vec<
     (output.bytes, fault)
 }
 
-/// `Failed` up to the last of these calls, and then none.
+/// Returns `Failed` if `call` is at most `calls`, and otherwise none.
 fn failed_upto(calls: usize, call: usize) -> Fault {
     if call > calls {
         None
@@ -25,11 +26,11 @@ fn failed_upto(calls: usize, call: usize) -> Fault {
     }
 }
 
-/// A script, and the calls that read it, three bytes a call.
+/// Scripts, and how many calls read each, three bytes per call.
 #[rattlefmt::skip]
 const READ: &[(&str, usize)] = &[("regex ab\n", 4), ("regex ab\nwalk fwd 6162\nstep 0\nreset 0", 14)];
 
-/// Each read fails in turn.
+/// Each failed read is reported.
 #[test]
 fn reports_failed_reads(rt: HostRuntime) {
     fail_reads(&rt, READ);
@@ -44,14 +45,14 @@ fn fail_reads(rt: &impl Host, rows: &[(&'static str, usize)]) {
     }
 }
 
-/// Nothing is written if a read fails.
+/// Checks that nothing is written if a read fails.
 fn fails_to_read(rt: &impl Host, script: &str, call: usize, expected: Fault) {
     let (written, fault) = fail_at(rt, script, (call, 0));
     let found = (fault, written.is_empty());
     same_of(rt, &found, &(expected, expected.is_some()), &call);
 }
 
-/// A script, its output, and the calls that write it, five bytes a call and a flush.
+/// A script, its output, and how many calls write that: five bytes per call, and a flush.
 type Written = (&'static str, &'static str, usize);
 
 #[rattlefmt::skip]
@@ -60,7 +61,7 @@ const WRITTEN: &[Written] = &[
     ("regex ab\nwalk fwd 6162\nstep 0\nreset 0\n", "regex 0\nwalk 0\nhalf 0 2\nok\n", 7),
 ];
 
-/// Each write and the flush fail in turn.
+/// Each failed write is reported, and so is a failed flush.
 #[test]
 fn reports_failed_writes(rt: HostRuntime) {
     fail_writes(&rt, WRITTEN);
@@ -75,7 +76,7 @@ fn fail_writes(rt: &impl Host, rows: &[Written]) {
     }
 }
 
-/// A beginning of the output is out if a write fails.
+/// Checks that a beginning of the output was written if a write fails.
 fn fails_to_write(rt: &impl Host, row: Written, call: usize, expected: Fault) {
     let (written, fault) = fail_at(rt, row.0, (0, call));
     let is_beginning = row.1.as_bytes().starts_with(written.as_slice());
@@ -89,7 +90,7 @@ fn reports_faults_in_order(rt: HostRuntime) {
     writes_nothing(&rt, (2, 1), RunError::Failed);
 }
 
-/// Runs a bad script, which prints nothing.
+/// Checks that a bad script writes nothing.
 fn writes_nothing(rt: &impl Host, fails: (usize, usize), expected: RunError) {
     let (written, fault) = fail_at(rt, "bad\n", fails);
     let found = (fault, written.is_empty());

@@ -1,4 +1,4 @@
-//! The texts of errors, and those of values that are printed for debugging.
+//! The texts of errors, and what `Debug` prints.
 
 use super::plans::{pattern_id, plan};
 use super::reported::prints;
@@ -32,7 +32,7 @@ const STARTS: [(StartError, Text); 4] = [
         "error computing start state because anchored searches are not supported or enabled"),
 ];
 
-/// Bytes behind which a start is refused, as its text shows them: as a string literal has them.
+/// Look-behind bytes for which a start fails, and how its text shows them: escaped as in a string literal.
 #[rattlefmt::skip]
 const QUITS: &[(u8, Text)] = &[
     (0x20, "' '"), (0x09, "\\t"), (0x0A, "\\n"), (0x0D, "\\r"), (0x27, "\\'"), (0x22, "\\\""), (0x5C, "\\\\"),
@@ -121,7 +121,7 @@ fn prints_errors_of_nfas(rt: HostRuntime) {
     print_misfit(&rt);
 }
 
-/// Compares the texts of starts that are refused behind a byte.
+/// Compares the texts of starts that fail because of the look-behind byte.
 fn print_quits(rt: &impl Host) {
     for (byte, shown) in QUITS.iter().copied() {
         let printed = StartError::Quit { byte }
@@ -134,7 +134,7 @@ fn print_quits(rt: &impl Host) {
     }
 }
 
-/// Compares the text of a pattern that does not fit into a set.
+/// Compares the text of the error for a pattern that does not fit into a set.
 fn print_misfit(rt: &impl Host) {
     match misfit(rt) {
         Err(error) => print(rt, &error, MISFIT),
@@ -144,7 +144,7 @@ fn print_misfit(rt: &impl Host) {
 
 const MISFIT: Text = "failed to insert pattern 5 into a set of capacity 3";
 
-/// The error of a pattern that is not below a set's capacity, which the set alone makes.
+/// Returns the error for a pattern that is not below a set's capacity. Only a set can make it.
 fn misfit(rt: &impl Host) -> Result<bool, PatternSetInsertError> {
     let mut set = PatternSet::new(rt.alloc(), 3).expect(rt, "memory");
     set.try_insert(pattern_id(5))

@@ -1,4 +1,4 @@
-//! Overlapping walks: the worked rows that no script can show.
+//! Overlapping walks: worked rows that no script can show.
 
 use super::bench::{Bench, Call, On, Over};
 use super::reports::{Automaton, RowOf, reports_all};
@@ -15,7 +15,7 @@ const AS: &str = "aaaaaaaaaaaaaaaa";
 
 const MORE: &str = "aaaaaaaaaaaaaaaaaaa";
 
-/// No byte at all, or nineteen bytes `a`.
+/// The empty string, or nineteen bytes `a`.
 const FORK: Automaton = Automaton::Chain("E1,20", 20);
 
 const OVER_FORK: On = On(FORK, Text(MORE));
@@ -24,7 +24,7 @@ const OVER_AS: On = On(Forward(Entry::A16), Text(AS));
 
 const OVER_AA: On = On(Forward(Entry::Aa), Text("aa"));
 
-/// In reverse under leftmost-first, which no script can ask for.
+/// Reverse walks with `MatchKind::LeftmostFirst`, which no script can request.
 #[rattlefmt::skip]
 const BACK: &[Row] = &[
     ("the chosen path alone", On(Reverse(Entry::Aa), Text("aa")), "", &[Next, Next, Next], "half 0 1, none, none"),
@@ -41,7 +41,7 @@ const BACK: &[Row] = &[
     ("", On(Reverse(Entry::Empty), Text("a\u{2603}")), "", &[Next, Next], "half 0 4, none"),
 ];
 
-/// A walk belongs to no cache: each cache of its DFA will do, whatever it was used for.
+/// A walk does not belong to a cache: it can continue over any cache of its DFA, whatever that was used for.
 #[rattlefmt::skip]
 const CACHES: &[Row] = &[
     ("at the least capacity", OVER_AA, "all capacity=1895", &[Next, Next, Next, Next, Counts, Next],
@@ -59,7 +59,7 @@ const CACHES: &[Row] = &[
         Counts, Next, Next, Counts, Next], "half 0 1, half 1 1, -, 0 383 0, half 0 2, half 1 2, 0 554 0, none"),
 ];
 
-/// Over caches that are full.
+/// Walks over full caches.
 #[rattlefmt::skip]
 const CLEARED: &[Row] = &[
     ("a clear inside a call", OVER_AS, "all noclasses capacity=37281", &[Next, Counts, Next, Counts, Next],
@@ -91,7 +91,7 @@ const CLEARED: &[Row] = &[
         "half 0 0, none, half 0 19, gaveup 16, gaveup 0, none, none, 2 36198 12 open"),
 ];
 
-/// What a walk prints for debugging: the match that its last call found.
+/// What `Debug` prints for a walk: the match of its last call.
 #[rattlefmt::skip]
 const PRINTED: &[Row] = &[
     ("before the first match", OVER_AA, "all", &[Prints("OverlappingState { match: None, .. }")], "true"),
@@ -102,7 +102,7 @@ const PRINTED: &[Row] = &[
         "half 0 1, half 1 1, half 0 2, true, half 1 2, true, none, true"),
 ];
 
-/// Walks over one cache and over several.
+/// Walks over one cache and over several report their rows.
 #[test]
 fn walks_report_their_rows(rt: HostRuntime) {
     reports_all::<Bench>(&rt, BACK);

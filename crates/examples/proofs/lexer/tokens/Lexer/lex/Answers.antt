@@ -5,7 +5,7 @@ use Rattle.regex_automata.specs.declared.tokens.Token.{Token}
 use Rattle.examples.specs.Tokens.{AreTokens}
 use Rattle.examples.proofs.lexer.tokens.Lexer.lex.Goals as goal
 
--- one token more
+-- one more token leaves no gap
 more :
     (m : Machine) (text : List ℕ) (from to : ℕ) (ts : List Token) (t : Token)
     → AreTokens m text from to ts → IsTokenAt m text (length text) to t
@@ -13,7 +13,7 @@ more :
 more m text from to [] t e at = (subst (λ k. IsTokenAt m text (length text) k t) (sym e) at, refl)
 more m text from to (x ∷ ts) t (first, rest) at = (first, more m text x.span.end to ts t rest at)
 
--- no item comes at the end of the text
+-- an iteration that has no next item, and has not failed, is at the end of the text
 at_end :
     (failed : Bool) (end place size : ℕ) → (failed ≡ true) ⊎ (end ≤ place) → failed ≡ false → end ≡ size → place ≤ size
     → place ≡ size

@@ -7,7 +7,7 @@ use Rattle.regex_automata.specs.Promises.{match_kind_of, members}
 use Rattle.examples.specs.Rules.{IsNamed, Matches, record_input}
 use Rattle.examples.proofs.rules.matcher.RuleMatcher.rules_of.Goals as goal
 
--- a set that was empty, with room for each rule, has the rules that match
+-- a set that was empty, with room for each rule, has exactly the rules that match
 names :
     (m : Machine) (bytes : List ℕ) (old new : List Bool)
     → SetsHaveMatching m → match_kind_of m.config ≡ KindAll → IsHaystack bytes → members old ≡ []

@@ -7,7 +7,7 @@ use Rattle.regex_automata.specs.Promises.{match_kind_of, without_base}
 use Rattle.examples.specs.Steps.{IsEarliest, earliest}
 use Rattle.examples.proofs.steps.search.Finder.find.Goals as goal
 
--- what a search answers is the first match
+-- the result of a search is the first match
 searched :
     (m : Machine) (text : List ℕ) (found : Option HalfMatch) → AnswersAgree
     → IsHalf Forward m (earliest text) (Ok found)
@@ -19,7 +19,7 @@ searched m text found agree half first = record {
   nearest = half.nearest refl;
 }
 
--- and so is what steps find by another DFA of the NFA
+-- and so is what steps with another DFA of the NFA find
 stepped :
     (fast sure : Machine) (text : List ℕ) (found : Option HalfMatch) → AnswersAgree → FirstMatchIsFound fast
     → fast.nfa ≡ sure.nfa → match_kind_of fast.config ≡ match_kind_of sure.config → fast.nfa.flags.utf8 ≡ false
