@@ -1,26 +1,26 @@
 #!/usr/bin/env python3
-"""Compares the excerpts of README.md, of pages of docs/ and of the docstrings with the files that they are from, and looks
-for definitions without a sentence:
+"""Compares the excerpts of README.md, of pages of docs/ and of the docstrings with the files that they are from, and
+looks for definitions without a sentence:
 
     tools/documents.py [--write] ['N passed, M failed']
 
 Each block of Rattle or of antt in a document has to stand in the file that the line before it names, as
 `crates/examples/src/words.rt`, line for line but for how far it is indented. A block after a line that ends in
 "prints:" has to be what the program writes, the file stdout of the crate that was named last. A block of Rattle in a
-docstring of the settings, the lazy DFA or the regex has to stand in some file of the example crates. Above each definition
-in specs/, and above each field of a record, stands a comment. The pictures docs/nfa.svg and docs/states.svg have the states
-and the edges of the two graphs that the example `picture` prints. The plots docs/words.svg, docs/sets.svg and
-docs/capacity.svg are what tools/plots.py draws of the tables of docs/PERFORMANCE.md.
+docstring of the settings, the lazy DFA or the regex has to stand in some file of the example crates. Above each
+definition in specs/, and above each field of a record, is a comment. The pictures docs/nfa.svg and docs/states.svg
+have the states and the edges of the two graphs that the example `picture` prints. The plots docs/words.svg,
+docs/sets.svg and docs/capacity.svg are what tools/plots.py draws of the tables of docs/PERFORMANCE.md.
 
-docs/index has each definition, by crate, and docs/READING.md how many there are in each tier: both have to be what
-tools/index.py finds. docs/index/CALLS.md has each public call, and docs/index/CLAUSES.md what is proved of it: these have
-to be what tools/calls.py finds. --write writes them all. Each link of a document to a file of the repository has to lead
-to one, and to a heading or an anchor in it. In specs/Private of the lazy DFA stands what no
-contract of a public call reaches, and nothing else. No two definitions have one name, and no line of specs/ and proofs/
-has more than 120 signs. READING has each sign that specs/ use, and each name of the standard library.
+docs/index has each definition, by crate, and docs/READING.md how many there are in each tier: tools/index.py finds
+both. docs/index/CALLS.md has each public call, and docs/index/CLAUSES.md what is proved of it: tools/calls.py finds
+both. All of these pages are compared; --write writes them. Each link of a document to a file of the repository has to
+lead to one, and to a heading or an anchor in it. specs/Private of the lazy DFA has exactly what no contract of a
+public call reaches. No two definitions have the same name, and no line of specs/ and proofs/ has more than 120
+characters. READING has each sign that specs/ use, and each name of the standard library.
 
-The last line counts each of these, beside what the given line counts, the last one of `rt ci`, which proves and runs the
-programs themselves. It needs Python 3 alone.
+The last line counts each of these, beside what the given line counts, the last one of `rt ci`, which proves and runs
+the programs themselves. It needs Python 3 alone.
 """
 import html
 import os
@@ -102,7 +102,8 @@ def docstring_faults():
     sources = [bare(read(path).split("\n")) for it in crates for path in below(f"crates/{it}/src", ".rt")]
     faults = []
     for path in [it for crate in DOCSTRINGS for it in below(f"crates/{crate}/src", ".rt")]:
-        lines = [it.strip().removeprefix("///").strip() if it.strip().startswith("///") else "" for it in read(path).split("\n")]
+        stripped = [it.strip() for it in read(path).split("\n")]
+        lines = [it.removeprefix("///").strip() if it.startswith("///") else "" for it in stripped]
         for _, language, number, block in blocks(lines):
             if language == "rust" and not any(bare(block) in source for source in sources):
                 faults.append(f"{path}:{number} stands in no example")
@@ -187,9 +188,9 @@ def link_faults(path):
         if "://" in target or os.path.exists(f"{TOP}/{there}") and not anchor:
             continue
         if not os.path.exists(f"{TOP}/{there}"):
-            faults.append(f"{target} is no file")
+            faults.append(f"there is no file {target}")
         elif anchor not in known.setdefault(there, anchors(there)):
-            faults.append(f"{target} is no heading")
+            faults.append(f"there is no heading {target}")
     return faults
 
 
@@ -198,7 +199,8 @@ def homonym_faults(specs):
     where = {}
     for module, name in specs.text:
         where.setdefault(name, []).append(module)
-    return [f"{' and '.join(sorted(modules))} define {name}" for name, modules in sorted(where.items()) if len(modules) > 1]
+    several = [(name, sorted(modules)) for name, modules in sorted(where.items()) if len(modules) > 1]
+    return [f"{' and '.join(modules)} define {name}" for name, modules in several]
 
 
 def width_faults():
@@ -233,8 +235,7 @@ def main(words):
     named = index.calls(specs)
     tier = index.tiers(specs, named)
     found["generated"] = generated_faults(generated(specs, named, tier), write), "each page is that of the sources"
-    linked = documents()
-    found["links"] = [f"{page}: {it}" for page in linked for it in link_faults(page)], "each leads somewhere"
+    found["links"] = [f"{page}: {it}" for page in documents() for it in link_faults(page)], "each leads somewhere"
     found["Private"] = index.misplaced(specs, tier), "it has what no public contract reaches"
     found["names"] = homonym_faults(specs), "no two definitions have one"
     found["lines"] = width_faults(), "none of specs and proofs has more than 120 signs"
