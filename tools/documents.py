@@ -17,7 +17,8 @@ both. docs/index/CALLS.md has each public call, and docs/index/CLAUSES.md what i
 both. All of these pages are compared; --write writes them. Each link of a document to a file of the repository has to
 lead to one, and to a heading or an anchor in it. specs/Private of the lazy DFA has exactly what no contract of a
 public call reaches. No two definitions have the same name, and no line of specs/ and proofs/ has more than 120
-characters. READING has each sign that specs/ use, and each name of the standard library.
+characters. READING has each sign that specs/ use, and each name of the standard library. No crate's modules use each
+other in a circle, and the pictures of layers in ARCHITECTURE are right (tools/layers.py).
 
 The last line counts each of these, beside what the given line counts, the last one of `rt ci`, which proves and runs
 the programs themselves. It needs Python 3 alone.
@@ -29,13 +30,16 @@ import sys
 
 sys.dont_write_bytecode = True
 
-import calls  # of this folder, as index and plots are
+import calls  # of this folder, as index, layers and plots are
 import index
+import layers
 import plots
 
 TOP = os.path.dirname(os.path.dirname(os.path.abspath(__file__)))
 DOCUMENTS = ["README.md", "docs/ARCHITECTURE.md", "docs/CALLING.md", "docs/PATTERNS.md", "docs/READING.md"]
 PICTURES, GRAPHS = ["docs/nfa.svg", "docs/states.svg"], "crates/examples/data/picture/stdout"
+# A picture of the layers of a crate, after a line that names the crate and ends in "layers:".
+LAYERED, LAYERS = "docs/ARCHITECTURE.md", re.compile(r"`(\w+)`[^\n]* layers:\n\n```text\n(.*?)```", re.S)
 READING, TIERS = "docs/READING.md", re.compile(r"(?<=<!-- tiers -->\n)(?:\|.*\n)*")
 CALLS, CLAUSES = "docs/index/CALLS.md", "docs/index/CLAUSES.md"
 # The folders of documents.
@@ -222,6 +226,20 @@ def sign_faults():
     return [f"{it} has no row in {READING}" for it in sorted(index.signs()) if it != "[]" and it not in known]
 
 
+def layer_faults():
+    """Returns which modules use each other in a circle, and what contradicts the pictures of layers. A line of such a
+    picture begins with the modules of a layer, before two spaces and a sentence."""
+    faults = []
+    for crate in sorted(os.listdir(f"{TOP}/crates")):
+        circle = layers.circles(crate)
+        faults += [f"modules of {crate} use each other in a circle: {' '.join(circle)}"] if circle else []
+    for crate, picture in LAYERS.findall(read(LAYERED)):
+        rows = [re.match(r" ([\w:]+(?:, [\w:]+)*)  ", f"{line}  ") for line in picture.splitlines()]
+        found = layers.layer_faults(crate, [it[1].split(", ") for it in rows if it])
+        faults += [f"{LAYERED}, {crate}: {it}" for it in found]
+    return faults
+
+
 def main(words):
     write = "--write" in words
     words = [it for it in words if it != "--write"]
@@ -239,6 +257,7 @@ def main(words):
     found["Private"] = index.misplaced(specs, tier), "it has what no public contract reaches"
     found["names"] = homonym_faults(specs), "no two definitions have one"
     found["lines"] = width_faults(), "none of specs and proofs has more than 120 signs"
+    found["layers"] = layer_faults(), "no modules use each other in a circle, and the pictures are right"
     found["signs"] = sign_faults(), f"each is in {READING}"
     for picture, graph in zip(PICTURES, read(GRAPHS).split("digraph ")[1:], strict=True):
         found[picture] = picture_faults(picture, graph), "it is that of the example picture"

@@ -49,6 +49,28 @@ impl<'p, 'c, 'h> Matches<'p, 'c, 'h> {
     }
 }
 
+impl Pattern {
+    /// Returns an iterator over the matches of the haystack. It skips an empty match at the end of the previous one.
+    ///
+    /// If a search fails, its error is the last item; the items before it are the first matches. Afterwards the cache
+    /// serves other searches as before.
+    pub fn find_iter<'p, 'c, 'h>(
+        &'p self,
+        cache: &'c mut Cache,
+        hay: &'h [u8],
+    ) -> Matches<'p, 'c, 'h>
+        requires { AreCachesOf cache.old self.now.regex }
+        ensures same_cache { result.cache.ghost_name ≡ cache.entry.ghost_name }
+        ensures cache { result.cache.now ≡ cache.old }
+        ensures pattern { result.pattern.now ≡ self.now }
+        ensures haystack { result.haystack.now ≡ hay.now }
+        ensures last { result.last ≡ None }
+        ensures ended { result.ended ≡ false }
+    {
+        Matches::new(self, cache, hay)
+    }
+}
+
 impl<'p, 'c, 'h> Iterator for Matches<'p, 'c, 'h> {
     type Item = Result<Match, SearchError>;
 

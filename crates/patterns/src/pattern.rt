@@ -1,5 +1,5 @@
 //! Patterns to search for.
-ghost use Rattle.std.specs.Prelude.{◌≡◌, ◌≤◌, List, [], ◌∷◌, IfErr, IfOk, IfSome, None, Some, false, is_some};
+ghost use Rattle.std.specs.Prelude.{◌≡◌, ◌≤◌, List, [], ◌∷◌, IfErr, IfOk, IfSome, is_some};
 ghost use Rattle.std.specs.Prelude.{length, map, option_map};
 ghost use Rattle.std.specs.Option.{unwrap_or};
 ghost use Rattle.std.specs.Result.{result_err};
@@ -21,7 +21,6 @@ ghost use Rattle.patterns.specs.declared.compile.Options as options;
 
 use crate::compile::{Options, nfa_of};
 use crate::error::{Fault, PatternError};
-use crate::matches::Matches;
 use regex_automata::hybrid::SearchError;
 use regex_automata::hybrid::dfa::{Config, DFA};
 use regex_automata::hybrid::regex::{Cache, Regex, RegexBuildError};
@@ -217,25 +216,5 @@ impl Pattern {
         let input = rest(hay, last.unwrap_or(0));
         let _haystack = input.haystack();
         self.regex.next_match(cache, &input, last)
-    }
-
-    /// Returns an iterator over the matches of the haystack. It skips an empty match at the end of the previous one.
-    ///
-    /// If a search fails, its error is the last item; the items before it are the first matches. Afterwards the cache
-    /// serves other searches as before.
-    pub fn find_iter<'p, 'c, 'h>(
-        &'p self,
-        cache: &'c mut Cache,
-        hay: &'h [u8],
-    ) -> Matches<'p, 'c, 'h>
-        requires { AreCachesOf cache.old self.now.regex }
-        ensures same_cache { result.cache.ghost_name ≡ cache.entry.ghost_name }
-        ensures cache { result.cache.now ≡ cache.old }
-        ensures pattern { result.pattern.now ≡ self.now }
-        ensures haystack { result.haystack.now ≡ hay.now }
-        ensures last { result.last ≡ None }
-        ensures ended { result.ended ≡ false }
-    {
-        Matches::new(self, cache, hay)
     }
 }

@@ -3,7 +3,7 @@ use Rattle.std.proofs.Common.{◌≡◌, ◌∙◌, ◌≤◌, ◌⊎◌, ℕ, l
 use Rattle.automata_hybrid.proofs.Words.{AddsNext, AddsRow, CacheView, cleared_in_store, cost, Fits, grown, id_of}
 use Rattle.automata_hybrid.proofs.Words.{IsNewState, IsStateOf, KeepsStarts, Lacks, Machine, Powerset, put_found, Row}
 use Rattle.automata_hybrid.proofs.Words.{row_of, Rows, Stored, with_table}
-use Rattle.automata_hybrid.specs.declared.cache.Found.{Found}
+use Rattle.automata_hybrid.specs.declared.cache.add.Found.{Found}
 use Rattle.automata_hybrid.specs.Private.Cache.Changes.{ClearsFirst, JustGrows}
 use Rattle.automata_hybrid.specs.Private.Cache.Changes.{cleared_saving_in_store, HasGrown, HasSavedRow}
 use Rattle.automata_hybrid.specs.Private.Cache.LookUps.{IsLookedUp}

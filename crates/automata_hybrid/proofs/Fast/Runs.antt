@@ -10,7 +10,7 @@ use Rattle.automata_hybrid.specs.Private.Searches.PassState.{HasLearnedAlong, Is
 use Rattle.automata_hybrid.specs.Private.Searches.PassState.{IsNextCell, IsOnTrace, IsRun, IsTagAt, IsTaken}
 use Rattle.automata_hybrid.specs.Private.Searches.PassContracts.{FollowsAlong, RunsAlong}
 use Rattle.automata_hybrid.specs.declared.search.fast.follow.Stop.{Stop}
-use Rattle.automata_hybrid.specs.declared.search.plain.pass.Place.{Place}
+use Rattle.automata_hybrid.specs.declared.search.fast.run.Place.{Place}
 use Rattle.automata_hybrid.specs.Walks.Answers.{IsSilent}
 use Rattle.automata_hybrid.proofs.Steps.Steps.{cell_read}
 use Rattle.automata_hybrid.proofs.Caches.Places.{Names-silent}

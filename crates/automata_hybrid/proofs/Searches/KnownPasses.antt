@@ -13,8 +13,8 @@ use Rattle.automata_hybrid.specs.Cache.Ids.{HasQuitTag}
 use Rattle.automata_hybrid.specs.Known.Known as known
 use Rattle.automata_hybrid.specs.Searches.PassContracts.{IsPassAnswer}
 use Rattle.automata_hybrid.specs.Private.Searches.PassContracts.{IsKnownEnd, IsKnownStop, IsKnownUpto}
-use Rattle.automata_hybrid.specs.declared.search.plain.known.KnownStop.{KnownStop}
-use Rattle.automata_hybrid.specs.declared.search.plain.known.KnownStop.TheVariants.{Ended, Left, Missing}
+use Rattle.automata_hybrid.specs.declared.search.pass.KnownStop.{KnownStop}
+use Rattle.automata_hybrid.specs.declared.search.pass.KnownStop.TheVariants.{Ended, Left, Missing}
 use Rattle.automata_hybrid.specs.Private.Searches.PassState.{HasLearnedUnit}
 use Rattle.automata_hybrid.specs.Private.Searches.Units.{IsReadAnswer}
 use Rattle.automata_hybrid.proofs.Searches.PassContracts.{dead_answer, dead_stops, first_answer, first_stops}

@@ -7,51 +7,41 @@
 //! limits (`settings`). `clears` has what a clear keeps. For searches a cache has the ranges of a row's self-loop
 //! (`self_loops`), leaps (`leaps`) and handles on the states that walks hold (`handle`). `states` gives read access to
 //! the cached states, and `footprint` is the number of bytes that a cache takes.
-ghost use Rattle.std.specs.Prelude.{ℕ, ◌≡◌, ◌*◌, ◌%◌, ◌<◌, ◌≤◌, IfOk, IfErr, OnOk, OnErr, slice_index, All, length};
-ghost use Rattle.std.specs.Prelude.{is_some, IfSome, IsSome, IsTrue, ◌+◌, ◌↔◌, ◌⊎◌, false, None, Option};
-ghost use Rattle.automata_base.specs.Powersets.Powerset.{Powerset, cost, dead};
-ghost use Rattle.automata_base.specs.Retraced.Steps.{successor, start_state_of};
-ghost use Rattle.automata_base.specs.Powersets.Passes.{IsUnit};
-ghost use Rattle.automata_hybrid.specs.Private.Cache.Clears.{IsSlot, LeadsToStart};
-ghost use Rattle.automata_hybrid.specs.Machines.Reachable.{IsStateOf};
-ghost use Rattle.automata_hybrid.specs.Machines.OwnStates.{IsOwn};
-ghost use Rattle.automata_hybrid.specs.Machines.Machine.{quits_on, unit_class};
+ghost use Rattle.std.specs.Prelude.{ℕ, ◌≡◌, ◌*◌, ◌%◌, ◌<◌, ◌≤◌, IfOk, OnOk, OnErr, slice_index, All, length, is_some};
+ghost use Rattle.std.specs.Prelude.{IfSome, IsSome, IsTrue, ◌+◌, ◌↔◌, ◌⊎◌, None, Option};
+ghost use Rattle.automata_base.specs.Powersets.Powerset.{Powerset};
+ghost use Rattle.automata_base.specs.declared.util.search.Anchored.{Anchored};
+ghost use Rattle.automata_hybrid.specs.Cache.Caches.{HoldsRow, IsCacheOf, fresh_cache, with_store};
 ghost use Rattle.automata_hybrid.specs.Cache.Ids.{dead_id, unknown_id, offset_limit};
-ghost use Rattle.automata_hybrid.specs.Cache.Table.{id_of, Names, IsRowId, HasItsMatchTag, IsRowState};
-ghost use Rattle.automata_hybrid.specs.Private.Cache.Table.{IsCell, IsSoundTable, LeadsByClass, HasState, IsNewState};
-ghost use Rattle.automata_hybrid.specs.Private.Cache.Leaps.{AreLeaps, IsShapeOf, making_bytes};
-ghost use Rattle.automata_hybrid.specs.Private.Cache.Stores.{with_next, with_start_in_store};
-ghost use Rattle.automata_hybrid.specs.Cache.Stores.{cell_of, with_searched};
-ghost use Rattle.automata_hybrid.specs.Private.Cache.Usage.{usage_in_store, Fits};
-ghost use Rattle.automata_hybrid.specs.Cache.Caches.{HoldsRow, IsCacheOf, dfa_of, fresh_cache};
-ghost use Rattle.automata_hybrid.specs.Private.Cache.Caches.{counted_in_store};
-ghost use Rattle.automata_hybrid.specs.Cache.Caches.{with_store};
-ghost use Rattle.automata_hybrid.specs.Private.Cache.Caches.{IsStoreOf};
-ghost use Rattle.automata_hybrid.specs.Known.Events.{usage};
-ghost use Rattle.automata_hybrid.specs.Known.Stores.{known_of};
-ghost use Rattle.automata_hybrid.specs.Private.Cache.Growth.{AddFails, HasAdded, HasAddedNext};
-ghost use Rattle.automata_hybrid.specs.Private.Steps.Starts.{IsStartSlot};
-ghost use Rattle.automata_hybrid.specs.Private.Walks.State.{IsHandle};
 ghost use Rattle.automata_hybrid.specs.Cache.Progress.{progress_finished, progress_started, progress_updated};
 ghost use Rattle.automata_hybrid.specs.Cache.Progress.{saturated, total_len};
 ghost use Rattle.automata_hybrid.specs.Cache.States.{IsHeldState, LeadsAsStart, held_states};
-ghost use Rattle.automata_base.specs.declared.util.search.Anchored.{Anchored};
-ghost use Rattle.automata_config.specs.Options.{match_kind_of};
+ghost use Rattle.automata_hybrid.specs.Cache.Stores.{cell_of, with_searched};
+ghost use Rattle.automata_hybrid.specs.Cache.Table.{Names, IsRowId, HasItsMatchTag};
+ghost use Rattle.automata_hybrid.specs.Known.Stores.{known_of};
+ghost use Rattle.automata_hybrid.specs.Machines.OwnStates.{IsOwn};
+ghost use Rattle.automata_hybrid.specs.Private.Cache.Caches.{IsStoreOf};
+ghost use Rattle.automata_hybrid.specs.Private.Cache.Clears.{IsSlot};
+ghost use Rattle.automata_hybrid.specs.Private.Cache.Leaps.{AreLeaps, IsShapeOf, making_bytes};
+ghost use Rattle.automata_hybrid.specs.Private.Cache.Table.{IsCell, IsSoundTable, HasState};
+ghost use Rattle.automata_hybrid.specs.Private.Cache.Usage.{usage_in_store};
 
+mod add;
 pub(crate) mod clears;
 pub mod footprint;
 pub(crate) mod handle;
 pub(crate) mod leaps;
 pub(crate) mod progress;
+mod restore;
 pub(crate) mod row;
 pub(crate) mod self_loops;
 pub(crate) mod settings;
+mod start;
 pub mod states;
+mod step;
 pub(crate) mod store;
 pub(crate) mod table;
 
-use crate::cache::footprint::Footprint;
-use crate::cache::handle::Handle;
 use crate::cache::leaps::{Leaping, Leaps, Shape};
 use crate::cache::self_loops::KnownLoop;
 use crate::cache::states::States;
@@ -59,24 +49,12 @@ use crate::cache::store::Store;
 use crate::cache::table::Table;
 use crate::dfa::DFA;
 use crate::id::LazyStateID;
-use automata_base::util::determinize::{Key, Scratch, State, next_key, start_key};
+use automata_base::util::determinize::Scratch;
 use automata_base::util::primitives::PatternID;
 use automata_base::util::search::Anchored;
-use automata_config::error::{CacheError, StepError};
 use std::alloc::AllocError;
 use std::cell::Cell;
-use std::fmt;
 use std::marker::Model;
-use std::snapshot::Snapshot;
-
-/// The result of looking up a state.
-#[derive(Drop)]
-pub(crate) enum Found {
-    /// The ID of its row, or the dead ID.
-    Known(LazyStateID),
-    /// The state itself, which no row has.
-    New(State),
-}
 
 /// The states that a lazy DFA has determinized, their transitions, and the buffers for determinizing more. Its
 /// accounted bytes (`memory_usage`) never exceed the capacity in the DFA's settings, or the minimum capacity if the
@@ -127,26 +105,13 @@ impl Clone for Cache {
     }
 }
 
-/// Shows how much is in the cache, not its contents.
-impl fmt::Debug for Cache {
-    fn fmt<W: fmt::Write>(&self, f: &mut fmt::Formatter<W>) -> fmt::Result {
-        f.debug_struct("Cache")
-            .field("states", &self.store.table.len())
-            .field("memory_usage", &self.memory_usage())
-            .field("clear_count", &self.clear_count())
-            .finish_non_exhaustive()
-    }
-}
-
 impl Cache {
-    ghost use Rattle.automata_hybrid.specs.Private.Cache.LookUps.{IsLookedUp};
-
     /// Returns a cache for a DFA, with no states yet. Until it is reset, it can be used only with this DFA.
     pub fn new(dfa: &DFA) -> Result<Cache, AllocError>
         ensures { IfOk result (λ c. c ≡ fresh_cache dfa.now) }
     {
         let scratch = Scratch::new(dfa.get_nfa())?;
-        let store = dfa.fresh_store()?;
+        let store = Store::fresh(dfa)?;
         Ok(Cache {
             store,
             scratch,
@@ -163,99 +128,6 @@ impl Cache {
     {
         *self = Cache::new(dfa)?;
         Ok(())
-    }
-
-    /// Determinizes the state after a unit, and returns it as a key.
-    pub(crate) fn determinize(
-        &mut self,
-        dfa: &DFA,
-        id: LazyStateID,
-        unit: Option<u8>,
-    ) -> Result<Key, AllocError>
-        requires of { IsCacheOf self.old dfa.now }
-        requires valid { IsRowId self.old.store.table id }
-        requires unit { IsUnit unit }
-        requires clean { quits_on dfa.now unit ≡ false }
-        ensures value { IfOk result (λ k. (q : Powerset) → Names self.old.store.table id q
-            → k ≡ successor dfa.now.nfa (match_kind_of dfa.now.config) q unit) }
-        ensures alike { IfOk result (λ k. (q : Powerset) → Names self.old.store.table id q → (other : Option ℕ)
-            → IsUnit other → unit_class dfa.now other ≡ unit_class dfa.now unit
-            → k ≡ successor dfa.now.nfa (match_kind_of dfa.now.config) q other) }
-        ensures cost { IfOk result (λ k. cost k ≤ dfa.now.greatest) }
-        ensures is_of { IfOk result (λ k. IsStateOf dfa.now k) }
-        ensures counted { self.new ≡ counted_in_store self.old }
-    {
-        dfa.see_machine();
-        let from = self.store.table.state(id);
-        let kind = dfa.get_config().get_match_kind();
-        let key = next_key(dfa.get_nfa(), &mut self.scratch, kind, from, unit)?;
-        Ok(key)
-    }
-
-    /// Looks up the state of a key: returns its ID, or, if no row has it, the state itself, to be added. The key's
-    /// buffer is used again.
-    #[inline(always)]
-    pub(crate) fn resolve(&mut self, dfa: &DFA, key: Key) -> Result<Found, AllocError>
-        ensures found { IfOk result (IsLookedUp self.old.store.table key) }
-        ensures same { self.new ≡ self.old }
-    {
-        if let Some(id) = self.store.table.get(&key) {
-            self.scratch.recycle(key);
-            return Ok(Found::Known(id));
-        }
-        let made = key.to_state(dfa.get_nfa().alloc());
-        self.scratch.recycle(key);
-        let state = made?;
-        if row::is_dead(&state) {
-            return Ok(Found::Known(self.dead()));
-        }
-        Ok(Found::New(state))
-    }
-
-    /// Returns the ID of a state, if the cache has it.
-    // Not inlined: if `resume` contains it, the search for a set takes 3% longer, although that never calls it.
-    #[inline(never)]
-    pub(crate) fn find(&self, key: &Key) -> Option<LazyStateID>
-        ensures { result ≡ id_of self.now.store.table key.now }
-    {
-        self.store.table.get(key)
-    }
-
-    /// Returns a handle on the state of a row. This does not allocate; it fails only if the state cannot be shared once
-    /// more.
-    pub(crate) fn handle(&self, id: LazyStateID) -> Result<Handle, AllocError>
-        requires { IsRowId self.now.store.table id }
-        ensures { IfOk result (λ handle. (q : Powerset) → Names self.now.store.table id q → IsHandle handle q) }
-    {
-        Handle::of(self.store.table.state(id))
-    }
-
-    /// Returns the state of a row, for contracts only.
-    pub(crate) fn snapshot(&self, id: LazyStateID) -> Snapshot<State>
-        requires { IsRowId self.now.store.table id }
-        ensures state { (q : Powerset) → Names self.now.store.table id q → result.value ≡ q }
-        ensures row { IsRowState self.now.store.table.of result.value }
-    {
-        self.see_bounds();
-        Snapshot::of(self.store.table.state(id))
-    }
-
-    /// Adds the state of a walk that a clear has dropped, or that the walk got from another cache. The "gave up" error
-    /// comes before the state is shared. An error changes nothing.
-    pub(crate) fn add_again(&mut self, dfa: &DFA, state: &State) -> Result<LazyStateID, StepError>
-        requires dfa { IsCacheOf self.old dfa.now }
-        requires new { IsNewState self.old.store.table state.now }
-        ensures of { IsCacheOf self.new dfa.now }
-        ensures added { IfOk result (HasAdded self.old self.new (record { state = state.now; started = false })) }
-        ensures refused { IfErr result (AddFails self.old self.new state.now) }
-    {
-        self.see_bounds();
-        if self.store.gives_up(state) {
-            return Err(StepError::Cache(CacheError));
-        }
-        let state = state.clone()?;
-        let id = self.add_start(dfa, state, false)?;
-        Ok(id)
     }
 
     /// Whether some row of the cache has exactly this ID now, tags included. A clear can invalidate an ID, so check it
@@ -332,71 +204,6 @@ impl Cache {
         self.store.table.cell_in_row(id, row, class)
     }
 
-    /// Writes a transition. If it overwrites a cached one, leaps are dropped.
-    pub(crate) fn set_next(&mut self, id: LazyStateID, class: usize, next: LazyStateID)
-        requires row { IsRowId self.old.store.table id }
-        requires class { class < self.old.store.table.of.stride }
-        requires free { slice_index self.old.store.table.of.template class ≡ unknown_id }
-        requires next { (q : Powerset) × Names self.old.store.table id q
-            × LeadsByClass self.old.store.table next q class }
-        ensures { self.new ≡ with_store self.old (with_next self.old.store id class next) }
-    {
-        let old = self
-            .store
-            .table
-            .cell_in_row(id, id.offset() as usize, class);
-        self.leaping.keep_if(old.is_unknown(), &self.store.searched);
-        self.store.table.set_cell(id, class, next);
-    }
-
-    /// Adds a state that is not cached and that a step from a row leads to; clears first if it does not fit. Returns
-    /// the current ID of that row, and the ID of the new one. An error changes nothing.
-    pub(crate) fn add_next(
-        &mut self,
-        dfa: &DFA,
-        from: LazyStateID,
-        state: State,
-    ) -> Result<(LazyStateID, LazyStateID), StepError>
-        requires dfa { IsCacheOf self.old dfa.now }
-        requires valid { IsRowId self.old.store.table from }
-        requires new { IsNewState self.old.store.table state }
-        ensures added { IfOk result (λ p. HasAddedNext self.old self.new from state p.0 p.1) }
-        ensures refused { IfErr result (AddFails self.old self.new state) }
-    {
-        let bytes = self.store.cost_of(&state);
-        if self.store.fits(bytes) {
-            self.leaping.drop_leaps(&self.store.searched);
-            let to = self.store.add_row(state, false, bytes)?;
-            return Ok((from, to));
-        }
-        self.clear_and_add_next(dfa, from, state, bytes)
-    }
-
-    /// Clears the cache, keeping the row that a step is from, and adds the state that the step leads to.
-    // Not inlined, so that only this function sets up the stack space that a clear needs.
-    #[inline(never)]
-    fn clear_and_add_next(
-        &mut self,
-        dfa: &DFA,
-        from: LazyStateID,
-        state: State,
-        bytes: usize,
-    ) -> Result<(LazyStateID, LazyStateID), StepError>
-        requires dfa { IsCacheOf self.old dfa.now }
-        requires valid { IsRowId self.old.store.table from }
-        requires new { IsNewState self.old.store.table state }
-        requires bytes { bytes ≡ cost state }
-        requires full { Fits self.old.store (cost state) → ⊥ }
-        ensures added { IfOk result (λ p. HasAddedNext self.old self.new from state p.0 p.1) }
-        ensures refused { IfErr result (AddFails self.old self.new state) }
-    {
-        let mut fresh = self.store.cleared(dfa)?;
-        let from = fresh.keep_saved(&self.store.table, from)?;
-        self.leaping = Leaping::new();
-        let to = self.store.replace(fresh, state, false, bytes)?;
-        Ok((from, to))
-    }
-
     /// Returns the ID in a start slot, which is unknown if the start state is not cached.
     pub(crate) fn start_slot(&self, slot: usize) -> LazyStateID
         requires { slot < length self.now.store.starts }
@@ -406,78 +213,6 @@ impl Cache {
     {
         self.see_bounds();
         self.store.starts[slot]
-    }
-
-    /// Determinizes the start state of an anchored mode after a look-behind byte, and returns it as a key.
-    pub(crate) fn determinize_start(
-        &mut self,
-        dfa: &DFA,
-        mode: Anchored,
-        prev: Option<u8>,
-    ) -> Result<Key, AllocError>
-        requires of { IsCacheOf self.old dfa.now }
-        requires slot { (slot : ℕ) × IsStartSlot dfa.now mode prev slot }
-        ensures value { IfOk result (λ k. k ≡ start_state_of dfa.now.nfa mode prev) }
-        ensures cost { IfOk result (λ k. cost k ≤ dfa.now.greatest) }
-        ensures is_of { IfOk result (λ k. IsStateOf dfa.now k) }
-        ensures counted { self.new ≡ counted_in_store self.old }
-    {
-        dfa.see_machine();
-        let key = start_key(dfa.get_nfa(), &mut self.scratch, mode, prev)?;
-        Ok(key)
-    }
-
-    /// Writes a start slot.
-    pub(crate) fn set_start(&mut self, slot: usize, id: LazyStateID)
-        requires slot { slot < length self.old.store.starts }
-        requires leads { LeadsToStart self.old.store.table id slot }
-        ensures value { self.new ≡ with_store self.old (with_start_in_store self.old.store slot id) }
-        ensures written { slice_index self.new.store.starts slot ≡ id }
-    {
-        self.store.starts[slot] = id;
-    }
-
-    /// Adds a start state that is not cached; clears first if it does not fit. An error changes nothing.
-    pub(crate) fn add_start(
-        &mut self,
-        dfa: &DFA,
-        state: State,
-        started: bool,
-    ) -> Result<LazyStateID, StepError>
-        requires dfa { IsCacheOf self.old dfa.now }
-        requires new { IsNewState self.old.store.table state }
-        ensures added { IfOk result (HasAdded self.old self.new (record { state = state; started = started })) }
-        ensures refused { IfErr result (AddFails self.old self.new state) }
-    {
-        let bytes = self.store.cost_of(&state);
-        if self.store.fits(bytes) {
-            self.leaping.drop_leaps(&self.store.searched);
-            let id = self.store.add_row(state, started, bytes)?;
-            return Ok(id);
-        }
-        self.clear_and_add_start(dfa, state, started, bytes)
-    }
-
-    /// Clears the cache, and adds a start state. An error changes nothing.
-    #[inline(never)]
-    fn clear_and_add_start(
-        &mut self,
-        dfa: &DFA,
-        state: State,
-        started: bool,
-        bytes: usize,
-    ) -> Result<LazyStateID, StepError>
-        requires dfa { IsCacheOf self.old dfa.now }
-        requires new { IsNewState self.old.store.table state }
-        requires bytes { bytes ≡ cost state }
-        requires full { Fits self.old.store (cost state) → ⊥ }
-        ensures added { IfOk result (HasAdded self.old self.new (record { state = state; started = started })) }
-        ensures refused { IfErr result (AddFails self.old self.new state) }
-    {
-        let fresh = self.store.cleared(dfa)?;
-        self.leaping = Leaping::new();
-        let id = self.store.replace(fresh, state, started, bytes)?;
-        Ok(id)
     }
 
     /// Returns the ID of the dead state.
@@ -683,56 +418,6 @@ impl Cache {
         ensures table { self.new.store.table ≡ self.old.store.table }
     {
         self.store.searched.count(bytes);
-    }
-
-    /// Returns the number of accounted bytes: rows of cells, states, start slots and the buffers for determinization.
-    /// It never exceeds the capacity, or the minimum capacity if the capacity was raised to it.
-    ///
-    /// ```rust
-    /// self.cache.memory_usage()
-    /// ```
-    pub fn memory_usage(&self) -> usize
-        ensures usage { result ≡ usage (dfa_of self.now) (known_of self.now) }
-        ensures within { result ≤ (dfa_of self.now).capacity }
-    {
-        self.see_bounds();
-        self.store.memory_usage()
-    }
-
-    /// Returns the number of bytes that leaps take now, in addition to the accounted bytes. With leaps, a search over a
-    /// long haystack reads several bytes per step. Together with the accounted bytes they never exceed the capacity, or
-    /// the minimum capacity if the capacity was raised to it. Leaps are made if there is room for them, and dropped
-    /// when a state is added or the cache is cleared.
-    pub fn leap_usage(&self) -> usize
-        ensures { usage (dfa_of self.now) (known_of self.now) + result ≤ (dfa_of self.now).capacity }
-    {
-        self.see_bounds();
-        match &self.leaping.leaps {
-            Some(leaps) => leaps.shape.bytes(),
-            None => 0,
-        }
-    }
-
-    /// Returns how many bytes the cache takes: the accounted bytes, those of leaps, and all that it holds from the
-    /// allocator.
-    pub fn footprint(&self) -> Footprint
-        ensures accounted { result.accounted ≡ usage (dfa_of self.now) (known_of self.now) }
-        ensures within { result.accounted + result.leaps ≤ (dfa_of self.now).capacity }
-        ensures held { result.accounted + result.leaps ≤ result.held }
-    {
-        let _capacity = self.store.capacity();
-        let accounted = self.memory_usage();
-        let leaps = self.leap_usage();
-        let lists = self
-            .store
-            .heap_usage()
-            .saturating_add(self.leaping.heap_usage());
-        let held = lists.saturating_add(self.scratch.heap_usage());
-        Footprint {
-            accounted,
-            leaps,
-            held: held.max(accounted + leaps),
-        }
     }
 
     /// Shows a proof what is true of every cache, for example that it is within the settings of its DFA. It does

@@ -1,29 +1,29 @@
 //! What a clear replaces: the table of states, the start slots, the count of clears and the progress of searches. The
 //! rules of the settings are here: what a state costs, whether it fits, and whether a search gives up instead of
 //! clearing the cache.
-ghost use Rattle.std.specs.Prelude.{◌≡◌, ◌+◌, ◌*◌, ◌<◌, ◌≤◌, ◌↔◌, None, IfOk, IfErr, OnOk, OnErr, length, IsTrue};
-ghost use Rattle.std.specs.Prelude.{true};
-ghost use Rattle.automata_base.specs.Powersets.Powerset.{cost};
+ghost use Rattle.std.specs.Prelude.{◌≡◌, ◌+◌, ◌*◌, ◌<◌, ◌≤◌, ◌↔◌, IfOk, IfErr, OnOk, OnErr, length, IsTrue, true};
 ghost use Rattle.automata_base.specs.Powersets.Accounting.{minimum_capacity};
+ghost use Rattle.automata_base.specs.Powersets.Powerset.{cost};
 ghost use Rattle.automata_hybrid.specs.Cache.Ids.{offset_limit};
-ghost use Rattle.automata_hybrid.specs.Private.Machines.Machine.{IsTemplate};
-ghost use Rattle.automata_hybrid.specs.Cache.Table.{IsRowId};
-ghost use Rattle.automata_hybrid.specs.Private.Cache.Table.{IsNewState};
 ghost use Rattle.automata_hybrid.specs.Cache.Stores.{IsCacheError, fresh_store};
-ghost use Rattle.automata_hybrid.specs.Private.Cache.Stores.{cache_settings};
-ghost use Rattle.automata_hybrid.specs.Private.Cache.Usage.{usage_in_store, Fits, refuses_in_store, FitsAny, IsCleared};
+ghost use Rattle.automata_hybrid.specs.Cache.Table.{IsRowId, fresh};
 ghost use Rattle.automata_hybrid.specs.Private.Cache.Changes.{HasGrown, HasSavedRow};
+ghost use Rattle.automata_hybrid.specs.Private.Cache.Stores.{cache_settings};
+ghost use Rattle.automata_hybrid.specs.Private.Cache.Table.{IsNewState};
+ghost use Rattle.automata_hybrid.specs.Private.Cache.Usage.{usage_in_store, Fits, refuses_in_store, FitsAny};
+ghost use Rattle.automata_hybrid.specs.Private.Cache.Usage.{IsCleared};
+ghost use Rattle.automata_hybrid.specs.Private.Machines.Machine.{IsTemplate};
 
 use crate::cache::clears::{keep_row, keep_starts};
 use crate::cache::progress::Searched;
 use crate::cache::row;
 use crate::cache::settings::Settings;
-use crate::cache::table::Table;
+use crate::cache::table::{Table, new_row};
 use crate::dfa::DFA;
 use crate::id::LazyStateID;
 use automata_base::util::determinize::State;
 use automata_base::util::heap::array;
-use automata_config::accounting::{CELL_SIZE, ENTRY_SIZE, FIXED_ROWS_COST, ROW_SIZE};
+use automata_config::accounting::{CELL_SIZE, ENTRY_SIZE, FIXED_ROWS_COST, ROW_SIZE, start_slots};
 use automata_config::error::{CacheError, StepError};
 use std::alloc::AllocError;
 use std::marker::Model;
@@ -69,8 +69,22 @@ impl Clone for Store {
 }
 
 impl Store {
-    /// Returns a store with only the fixed rows, and with empty start slots.
-    pub fn new(
+    /// Returns the store of a new cache for a DFA, with only the fixed rows and with empty start slots.
+    #[inline(always)]
+    pub fn fresh(dfa: &DFA) -> Result<Store, AllocError>
+        ensures { IfOk result (λ c. c ≡ fresh_store dfa.now) }
+    {
+        dfa.see_machine();
+        let nfa = dfa.get_nfa();
+        let stride = dfa.byte_classes().stride();
+        let slots = start_slots(nfa, dfa.get_config().get_starts_for_each_pattern());
+        let template = new_row(nfa.alloc(), dfa.byte_classes(), dfa.quit_set(), stride)?;
+        let store = Store::new(dfa, stride, template, slots, Settings::of(dfa))?;
+        Ok(store)
+    }
+
+    /// Returns a store with only the fixed rows, and with empty start slots, for a DFA with these values.
+    fn new(
         dfa: &DFA,
         stride: usize,
         template: Vec<LazyStateID>,

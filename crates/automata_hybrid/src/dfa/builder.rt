@@ -39,6 +39,22 @@ impl Default for Builder {
     }
 }
 
+impl DFA {
+    /// Returns a builder of lazy DFAs, with the default settings.
+    ///
+    /// ```rust
+    /// let mut builder = DFA::builder();
+    /// let config = DFA::config().match_kind(MatchKind::All);
+    /// let dfa = builder.configure(config).build_from_nfa(nfa)?;
+    /// let cache = dfa.create_cache()?;
+    /// ```
+    pub fn builder() -> Builder
+        ensures { result ≡ unset }
+    {
+        Builder::new()
+    }
+}
+
 impl Builder {
     ghost use Rattle.std.specs.Result.{result_err};
 

@@ -1,34 +1,25 @@
-//! The lazy DFA itself: its NFA, settings, byte classes and quit bytes. Its states are not in it, but in a `Cache`.
-//! `start` and `step` find an ID in the cache, or determinize its state and add a row. `builder` builds DFAs, with the
-//! limits of their caches.
-ghost use Rattle.std.specs.Prelude.{◌≡◌, ◌<◌, ◌≤◌, IfOk, OnOk, OnErr, Some, None, true, false, slice_index};
-ghost use Rattle.std.specs.Prelude.{length};
+//! The lazy DFA itself: its NFA, settings, byte classes and quit bytes. Its states are not in it, but in a `Cache`. This
+//! file knows no cache. The modules in it have what a DFA does with one: `caches` makes caches, and `start` and `step`
+//! have the searches by steps. `builder` builds DFAs.
+ghost use Rattle.std.specs.Prelude.{◌≡◌, ◌<◌, ◌≤◌, true, false, slice_index, length};
 ghost use Rattle.automata_base.specs.ByteClasses.Classes.{AreClasses, class_in, eoi_class, is_quit};
 ghost use Rattle.automata_base.specs.Powersets.Passes.{IsUnit};
-ghost use Rattle.automata_base.specs.Powersets.Accounting.{start_slots};
-ghost use Rattle.automata_hybrid.specs.Cache.Ids.{quit_id, unknown_id};
-ghost use Rattle.automata_hybrid.specs.Private.Machines.Machine.{IsMachine};
-ghost use Rattle.automata_config.specs.Settling.{IsSettled};
 ghost use Rattle.automata_config.specs.Options.{unset};
-ghost use Rattle.automata_hybrid.specs.Cache.Caches.{fresh_cache};
+ghost use Rattle.automata_config.specs.Settling.{IsSettled};
+ghost use Rattle.automata_hybrid.specs.Cache.Ids.{quit_id, unknown_id};
 ghost use Rattle.automata_hybrid.specs.Machines.Builds.{built_machine};
-ghost use Rattle.automata_hybrid.specs.Cache.Stores.{fresh_store};
-ghost use Rattle.automata_hybrid.specs.Private.Cache.Stores.{cache_settings};
 ghost use Rattle.automata_hybrid.specs.Machines.Machine.{quits_on, unit_class};
+ghost use Rattle.automata_hybrid.specs.Private.Machines.Machine.{IsMachine};
+ghost use Rattle.automata_hybrid.specs.Searches.Passes.{Skips};
 
 pub mod builder;
-pub(crate) mod start;
-pub(crate) mod step;
+mod caches;
+mod start;
+mod step;
 
-use crate::cache::Cache;
-use crate::cache::settings::Settings;
-use crate::cache::store::Store;
-use crate::cache::table::new_row;
-use crate::dfa::builder::Builder;
 use automata_base::nfa::thompson::NFA;
 use automata_base::util::alphabet::ByteClasses;
 use automata_base::util::byte_set::ByteSet;
-use automata_config::accounting::{fixed_cost, start_slots};
 use automata_config::config::{Config, Settled};
 use std::alloc::AllocError;
 use std::marker::Model;
@@ -93,20 +84,6 @@ impl DFA {
         Config::new()
     }
 
-    /// Returns a builder of lazy DFAs, with the default settings.
-    ///
-    /// ```rust
-    /// let mut builder = DFA::builder();
-    /// let config = DFA::config().match_kind(MatchKind::All);
-    /// let dfa = builder.configure(config).build_from_nfa(nfa)?;
-    /// let cache = dfa.create_cache()?;
-    /// ```
-    pub fn builder() -> Builder
-        ensures { result ≡ unset }
-    {
-        Builder::new()
-    }
-
     /// Returns the DFA of an NFA, its settings, and the byte classes, quit set and capacity that they settle for this
     /// NFA.
     pub(crate) fn of_settled(nfa: NFA, config: Config, settled: Settled) -> DFA
@@ -123,22 +100,6 @@ impl DFA {
             quits: *settled.quit_set(),
             capacity: settled.capacity(),
         }
-    }
-
-    /// Returns a new cache for searches with this DFA. It serves one search after another. To use it with another DFA,
-    /// reset it (`Cache::reset`).
-    pub fn create_cache(&self) -> Result<Cache, AllocError>
-        ensures { IfOk result (λ c. c ≡ fresh_cache self.now) }
-    {
-        Cache::new(self)
-    }
-
-    /// Resets a cache to a new one for this DFA. An error changes nothing.
-    pub fn reset_cache(&self, cache: &mut Cache) -> Result<(), AllocError>
-        ensures ok { OnOk result (cache.new ≡ fresh_cache self.now) }
-        ensures err { OnErr result (cache.new ≡ cache.old) }
-    {
-        cache.reset(self)
     }
 
     /// Returns the classes of bytes that the DFA distinguishes.
@@ -168,6 +129,19 @@ impl DFA {
         ensures { result.now ≡ self.now.nfa }
     {
         &self.nfa
+    }
+
+    /// Whether matches at offsets inside a character are skipped, which is so if the NFA is in UTF-8 mode and matches
+    /// the empty string.
+    pub fn skips(&self) -> bool
+        ensures yes { result ≡ true → Skips self.now }
+        ensures no { result ≡ false → Skips self.now → ⊥ }
+    {
+        let nfa = self.get_nfa();
+        if !nfa.is_utf8() {
+            return false;
+        }
+        nfa.has_empty()
     }
 
     /// Returns the number of patterns.
@@ -217,35 +191,33 @@ impl DFA {
         }
     }
 
+    /// Returns the quit bytes.
+    pub(crate) fn quit_set(&self) -> &ByteSet
+        ensures { result.now ≡ self.now.quits }
+    {
+        &self.quits
+    }
+
+    /// Whether a byte is a quit byte.
+    #[inline(always)]
+    pub(crate) fn quits(&self, byte: u8) -> bool
+        ensures { result ≡ is_quit self.now.quits byte }
+    {
+        self.quits.contains(byte)
+    }
+
+    /// Returns the capacity of the DFA's caches.
+    pub(crate) fn capacity(&self) -> usize
+        ensures { result ≡ self.now.capacity }
+    {
+        self.capacity
+    }
+
     /// Shows a proof what is true of every DFA. It does nothing.
     pub(crate) fn see_machine(&self)
         ensures machine { IsMachine self.now }
         ensures rising { AreClasses self.now.classes }
     {
         let _len = self.classes.alphabet_len();
-    }
-
-    /// Returns a store with only the fixed rows.
-    #[inline(always)]
-    pub(crate) fn fresh_store(&self) -> Result<Store, AllocError>
-        ensures { IfOk result (λ c. c ≡ fresh_store self.now) }
-    {
-        let stride = self.classes.stride();
-        let slots = start_slots(&self.nfa, self.config.get_starts_for_each_pattern());
-        let template = new_row(self.nfa.alloc(), &self.classes, &self.quits, stride)?;
-        let store = Store::new(self, stride, template, slots, self.settings())?;
-        Ok(store)
-    }
-
-    /// Returns the limits of the DFA's caches.
-    fn settings(&self) -> Settings
-        ensures { result ≡ cache_settings self.now }
-    {
-        Settings {
-            capacity: self.capacity,
-            fixed: fixed_cost(&self.nfa),
-            minimum_clear_count: self.config.get_minimum_cache_clear_count(),
-            minimum_bytes_per_state: self.config.get_minimum_bytes_per_state(),
-        }
     }
 }

@@ -1,95 +1,24 @@
 //! Steps: the ID of the state after a byte or after the end of the haystack, either cached or determinized now; and the
 //! patterns that match at a state.
 ghost use Rattle.std.specs.Prelude.{◌≡◌, ◌<◌, None, Some, IfOk, IfErr, OnOk, length, slice_index, true, false};
+ghost use Rattle.automata_base.specs.ByteClasses.Classes.{class_in, is_quit};
 ghost use Rattle.automata_base.specs.Powersets.Powerset.{Powerset};
 ghost use Rattle.automata_base.specs.Retraced.Steps.{successor};
-ghost use Rattle.automata_hybrid.specs.Cache.Table.{Names, IsRowId, Leads, HasItsMatchTag};
-ghost use Rattle.automata_hybrid.specs.Cache.Stores.{cell_of};
+ghost use Rattle.automata_config.specs.Options.{match_kind_of};
 ghost use Rattle.automata_hybrid.specs.Cache.Caches.{HoldsRow, IsCacheOf};
 ghost use Rattle.automata_hybrid.specs.Cache.Ids.{quit_id, unknown_id, offset_limit, HasMatchTag};
-ghost use Rattle.automata_base.specs.ByteClasses.Classes.{class_in, is_quit};
-ghost use Rattle.automata_hybrid.specs.Steps.BySteps.{StepsOn};
+ghost use Rattle.automata_hybrid.specs.Cache.Stores.{cell_of};
+ghost use Rattle.automata_hybrid.specs.Cache.Table.{Names, Leads, HasItsMatchTag};
 ghost use Rattle.automata_hybrid.specs.Known.Steps.{IsStepRun, StepFails};
 ghost use Rattle.automata_hybrid.specs.Known.Stores.{known_of};
+ghost use Rattle.automata_hybrid.specs.Steps.BySteps.{StepsOn};
 ghost use Rattle.automata_hybrid.specs.Steps.Steps.{IsStepAnswer};
-ghost use Rattle.automata_hybrid.specs.Private.Steps.Steps.{HasTakenStep, KnowsStep};
-ghost use Rattle.automata_hybrid.specs.Machines.Machine.{quits_on};
-ghost use Rattle.automata_config.specs.Options.{match_kind_of};
 
-use crate::cache::{Cache, Found};
+use crate::cache::Cache;
 use crate::dfa::DFA;
 use crate::id::LazyStateID;
 use automata_base::util::primitives::PatternID;
 use automata_config::error::StepError;
-
-impl Cache {
-    /// Returns the ID of the state after a byte or the end of the haystack. Dead leads to dead, and quit to quit. If
-    /// the transition is cached, this does not allocate.
-    #[inline(always)]
-    fn next(
-        &mut self,
-        dfa: &DFA,
-        id: LazyStateID,
-        unit: Option<u8>,
-    ) -> Result<LazyStateID, StepError>
-        requires of { IsCacheOf self.old dfa.now }
-        requires row { HoldsRow self.old id }
-        ensures of { IsCacheOf self.new dfa.now }
-        ensures answer { IfOk result (IsStepAnswer dfa.now id unit self.old self.new) }
-        ensures refusal { IfErr result (StepFails dfa.now id unit (known_of self.old) (known_of self.new)) }
-        ensures run { OnOk result (IsStepRun dfa.now id unit (known_of self.old) (known_of self.new)) }
-        ensures stands { IfOk result (StepsOn dfa.now self.old self.new id unit) }
-    {
-        dfa.see_machine();
-        self.see_bounds();
-        if id.is_fixed() {
-            return Ok(id);
-        }
-        let class = dfa.unit_class(unit);
-        let cell = self.cell(id, class);
-        if !cell.is_unknown() {
-            return Ok(cell);
-        }
-        let next = self.compute_next(dfa, id, unit)?;
-        self.see_bounds();
-        Ok(next)
-    }
-
-    /// Computes a transition that is not cached.
-    #[inline(never)]
-    pub(crate) fn compute_next(
-        &mut self,
-        dfa: &DFA,
-        id: LazyStateID,
-        unit: Option<u8>,
-    ) -> Result<LazyStateID, StepError>
-        requires of { IsCacheOf self.old dfa.now }
-        requires valid { IsRowId self.old.store.table id }
-        requires clean { quits_on dfa.now unit ≡ false }
-        requires unknown { KnowsStep dfa.now self.old.store id unit → ⊥ }
-        ensures of { IsCacheOf self.new dfa.now }
-        ensures taken { IfOk result (HasTakenStep dfa.now id unit self.old self.new) }
-        ensures refusal { IfErr result (StepFails dfa.now id unit (known_of self.old) (known_of self.new)) }
-    {
-        dfa.see_machine();
-        self.see_bounds();
-        let class = dfa.unit_class(unit);
-        let key = self.determinize(dfa, id, unit)?;
-        match self.resolve(dfa, key)? {
-            Found::Known(to) => {
-                self.set_next(id, class, to);
-                self.see_bounds();
-                Ok(to)
-            }
-            Found::New(state) => {
-                let (from, to) = self.add_next(dfa, id, state)?;
-                self.set_next(from, class, to);
-                self.see_bounds();
-                Ok(to)
-            }
-        }
-    }
-}
 
 impl DFA {
     /// Returns the ID of the state after a byte. The given ID has to be valid and must not be the unknown one, which

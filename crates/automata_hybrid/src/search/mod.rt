@@ -1,30 +1,31 @@
 //! Searches. This file has the step of a search over one unit, and `direction` has everything in which the two
-//! directions differ. `plain` has the searches for one end of a match, `walk` has overlapping searches, and `pieces`
-//! has those over a haystack that arrives in pieces. `fast` follows cached transitions for all of them.
-ghost use Rattle.std.specs.Prelude.{◌≡◌, slice_index, ◌<◌, Some, None, true, false};
-ghost use Rattle.automata_base.specs.Powersets.Powerset.{Powerset};
-ghost use Rattle.automata_hybrid.specs.Cache.Caches.{IsCacheOf};
+//! directions differ. `fast` follows cached transitions. Over these, `half` has the searches for one end of a match,
+//! which make one `pass` over a span after another; `walk` has overlapping searches, and `pieces` has those over a
+//! haystack that arrives in pieces.
+ghost use Rattle.std.specs.Prelude.{◌≡◌, slice_index, ◌<◌, true, false};
 ghost use Rattle.automata_base.specs.Haystacks.Tapes.{is_split};
-ghost use Rattle.automata_hybrid.specs.Searches.PassState.{half_at};
+ghost use Rattle.automata_base.specs.Powersets.Powerset.{Powerset};
+ghost use Rattle.automata_base.specs.declared.util.search.MatchErrorKind.TheVariants.{Quit as QuitAt};
+ghost use Rattle.automata_hybrid.specs.Cache.Caches.{IsCacheOf};
+ghost use Rattle.automata_hybrid.specs.Cache.Ids.{unknown_id, HasMatchTag};
+ghost use Rattle.automata_hybrid.specs.Cache.Table.{IsRowId, Leads, Names};
 ghost use Rattle.automata_hybrid.specs.Private.Searches.PassState.{step_error};
 ghost use Rattle.automata_hybrid.specs.Private.Searches.Units.{IsRead, IsStepResult};
-ghost use Rattle.automata_hybrid.specs.Searches.Passes.{Skips};
-ghost use Rattle.automata_base.specs.declared.util.search.MatchErrorKind.TheVariants.{Quit as QuitAt};
-ghost use Rattle.automata_hybrid.specs.Cache.Ids.{unknown_id, HasMatchTag};
-ghost use Rattle.automata_hybrid.specs.Steps.Steps.{known_step};
 ghost use Rattle.automata_hybrid.specs.Private.Steps.Steps.{IsCellRead};
-ghost use Rattle.automata_hybrid.specs.Cache.Table.{IsRowId, Leads, Names};
+ghost use Rattle.automata_hybrid.specs.Searches.PassState.{half_at};
+ghost use Rattle.automata_hybrid.specs.Searches.Passes.{Skips};
+ghost use Rattle.automata_hybrid.specs.Steps.Steps.{known_step};
 
 mod direction;
 mod fast;
+mod half;
+mod pass;
 pub mod pieces;
-mod plain;
 pub mod walk;
 
 use crate::cache::Cache;
 use crate::dfa::DFA;
 use crate::id::LazyStateID;
-use crate::search::plain::known::known_step;
 use automata_base::util::primitives::PatternID;
 use automata_base::util::search::{HalfMatch, Input, MatchError};
 use automata_config::error::{SearchError, StepError};
@@ -53,21 +54,6 @@ fn splits(input: &Input<'_>, offset: usize) -> bool
     match input.haystack().get(offset) {
         Some(byte) => 0x80 <= *byte && *byte <= 0xBF,
         None => false,
-    }
-}
-
-impl DFA {
-    /// Whether matches at offsets inside a character are skipped, which is so if the NFA is in UTF-8 mode and matches
-    /// the empty string.
-    pub fn skips(&self) -> bool
-        ensures yes { result ≡ true → Skips self.now }
-        ensures no { result ≡ false → Skips self.now → ⊥ }
-    {
-        let nfa = self.get_nfa();
-        if !nfa.is_utf8() {
-            return false;
-        }
-        nfa.has_empty()
     }
 }
 
@@ -162,7 +148,7 @@ fn met_or_cell(
     ensures { IsCellRead dfa.now cache.now.store id unit result }
 {
     if met.is_unknown() {
-        return known_step(dfa, cache, id, unit);
+        return cache.known_step(dfa, id, unit);
     }
     met
 }

@@ -14,9 +14,9 @@ use Rattle.automata_hybrid.specs.Private.Searches.PassState.{HasLearnedUnit, Has
 use Rattle.automata_hybrid.specs.Private.Searches.PassState.{IsNextCell}
 use Rattle.automata_hybrid.specs.Searches.Traces.{Trace, pass_trace}
 use Rattle.automata_hybrid.specs.declared.search.fast.follow.Stop.{Stop}
-use Rattle.automata_hybrid.specs.declared.search.plain.known.KnownStop.{KnownStop}
-use Rattle.automata_hybrid.specs.declared.search.plain.known.KnownStop.TheVariants.{Ended, Left, Missing}
-use Rattle.automata_hybrid.specs.declared.search.plain.pass.Place.{Place}
+use Rattle.automata_hybrid.specs.declared.search.pass.KnownStop.{KnownStop}
+use Rattle.automata_hybrid.specs.declared.search.pass.KnownStop.TheVariants.{Ended, Left, Missing}
+use Rattle.automata_hybrid.specs.declared.search.fast.run.Place.{Place}
 use Rattle.automata_hybrid.specs.Cache.Stores.{Stored}
 use Rattle.automata_hybrid.specs.Known.Known.{Known, ended}
 use Rattle.automata_hybrid.specs.Known.Passes.{FailsAtUnit, PassEnds, PassFails, UnitFails, UnitsEnd, after_unit}

@@ -106,9 +106,9 @@ pub record HasPutBack (m : Machine) (q : Powerset) (old new : CacheView) (id : �
   pub back : with_row_back m q (known_of old) ≡ Some (known_of new)
 
 -- what putting back a state that a walk holds returns: its ID, or why it has no row, with an error at any offset
-abbrev pub IsPutBackResult : Machine → Powerset → (old new : CacheView) → Result ℕ StepError → Type 0
-IsPutBackResult m q old new (Ok id) = HasPutBack m q old new id
-IsPutBackResult m q old new (Err e) = (at : ℕ) → IsNotBack m q at (known_of old) (known_of new) (step_error e at)
+abbrev pub IsRestoreResult : Machine → Powerset → (old new : CacheView) → Result ℕ StepError → Type 0
+IsRestoreResult m q old new (Ok id) = HasPutBack m q old new id
+IsRestoreResult m q old new (Err e) = (at : ℕ) → IsNotBack m q at (known_of old) (known_of new) (step_error e at)
 
 -- a walk has read `units` units, and at least one is left: the ID names its state there
 pub record StandsAfterUnits (way : Direction) (m : Machine) (t : Rows) (input : Input) (units id : ℕ) : Type 0 where

@@ -1,22 +1,22 @@
 //! Follows cached transitions, eight per iteration: into states that report nothing or into match states, and along
 //! self-loops.
 ghost use Rattle.std.specs.Prelude.{◌≡◌, ◌+◌, ◌-◌, ◌^◌, ◌<◌, ◌≤◌};
+ghost use Rattle.automata_base.specs.Paths.Paths.{next};
 ghost use Rattle.automata_hybrid.specs.Cache.Caches.{IsCacheOf};
 ghost use Rattle.automata_hybrid.specs.Cache.Ids.{fixed_from};
+ghost use Rattle.automata_hybrid.specs.Cache.Table.{IsRowId};
 ghost use Rattle.automata_hybrid.specs.Private.Cache.Ids.{HasOnly, IsRunTag};
+ghost use Rattle.automata_hybrid.specs.Private.Fast.SelfLoops.{IsSelfLoop};
 ghost use Rattle.automata_hybrid.specs.Private.Searches.PassContracts.{FollowsAlong};
 ghost use Rattle.automata_hybrid.specs.Private.Searches.PassState.{IsMatchRun, IsMetAlong, IsNextCell, IsOnTrace};
 ghost use Rattle.automata_hybrid.specs.Private.Searches.PassState.{IsRun, IsTagAt, MayFollow, MeetsMatch};
 ghost use Rattle.automata_hybrid.specs.Searches.Traces.{Trace};
-ghost use Rattle.automata_hybrid.specs.Private.Fast.SelfLoops.{IsSelfLoop};
-ghost use Rattle.automata_hybrid.specs.Cache.Table.{IsRowId};
 
 use crate::cache::Cache;
 use crate::dfa::DFA;
 use crate::id::LazyStateID;
 use crate::search::direction::{byte_at, bytes_from, last_place};
 use crate::search::fast::self_loop::follow_self_loop;
-use crate::search::plain::known::known_step;
 use automata_base::util::search::{Direction, Input};
 
 /// How many bytes are followed before looking for a self-loop again, after none was found. A look reads up to eight
@@ -109,7 +109,7 @@ pub(crate) fn next_known(
     if at >= end {
         return LazyStateID::UNKNOWN;
     }
-    known_step(dfa, cache, id, Some(byte_at(input, way, at)))
+    cache.known_step(dfa, id, Some(byte_at(input, way, at)))
 }
 
 /// Follows cached transitions into match states. `next` is the ID after `from`, and its only tag is the match tag.

@@ -1,27 +1,27 @@
 //! Follows leaps, which read several bytes each, and between them cached transitions one by one. It starts only from
 //! untagged IDs, far into a run.
-ghost use Rattle.std.specs.Prelude.{ℕ, ◌≡◌, ◌+◌, ◌-◌, ◌*◌, ◌^◌, ◌<◌, ◌≤◌, length};
+ghost use Rattle.std.specs.Prelude.{ℕ, ◌≡◌, ◌+◌, ◌-◌, ◌^◌, ◌<◌, ◌≤◌, length};
 ghost use Rattle.automata_base.specs.ByteClasses.Classes.{AreClasses, eoi_class};
 ghost use Rattle.automata_hybrid.specs.Cache.Caches.{IsCacheOf};
 ghost use Rattle.automata_hybrid.specs.Cache.Ids.{offset_limit};
+ghost use Rattle.automata_hybrid.specs.Cache.Table.{IsRowId};
 ghost use Rattle.automata_hybrid.specs.Private.Cache.Ids.{HasOnly};
 ghost use Rattle.automata_hybrid.specs.Private.Cache.Leaps.{AreLeaps};
-ghost use Rattle.automata_hybrid.specs.Cache.Table.{IsRowId};
 ghost use Rattle.automata_hybrid.specs.Private.Fast.Leaps.{IsLeapt, LeadsIds, column_of};
-ghost use Rattle.automata_hybrid.specs.Private.Searches.PassContracts.{FollowsAlong, MayBegin, input_at};
-ghost use Rattle.automata_hybrid.specs.Private.Searches.PassState.{IsMetAlong, IsNextCell, IsOnTrace, IsRun, MayFollow};
 ghost use Rattle.automata_hybrid.specs.Private.Fast.SelfLoops.{byte_in};
-ghost use Rattle.automata_hybrid.specs.Searches.Traces.{Trace};
+ghost use Rattle.automata_hybrid.specs.Private.Searches.PassContracts.{FollowsAlong, MayBegin, input_at};
+ghost use Rattle.automata_hybrid.specs.Private.Searches.PassState.{IsMetAlong, IsNextCell, IsOnTrace, IsRun};
+ghost use Rattle.automata_hybrid.specs.Private.Searches.PassState.{MayFollow};
 ghost use Rattle.automata_hybrid.specs.Private.Searches.Traces.{IsTrace};
+ghost use Rattle.automata_hybrid.specs.Searches.Traces.{Trace};
 
 use crate::cache::Cache;
 use crate::cache::leaps::{Leaps, MARK};
 use crate::dfa::DFA;
 use crate::id::LazyStateID;
-use crate::search::direction::{bytes_from, last_place, span_offset};
+use crate::search::direction::{bytes_from, input_of, last_place, span_offset};
 use crate::search::fast::follow::{Stop, follow, next_known};
 use crate::search::fast::self_loop::byte_at;
-use crate::search::plain::pass::input_of;
 use automata_base::util::search::{Anchored, Direction, Input, Span};
 
 /// Leaps that read fewer bytes than this were short.
@@ -76,7 +76,7 @@ fn wait_after(len: usize, wait: usize) -> usize
 
 /// Follows leaps from where a run stopped, if there are any.
 #[inline(always)]
-pub(crate) fn leap_on(
+pub(crate) fn follow_any_leaps(
     dfa: &DFA,
     cache: &mut Cache,
     input: &Input<'_>,

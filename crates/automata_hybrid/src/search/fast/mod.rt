@@ -6,4 +6,5 @@ pub(crate) mod follow;
 mod lanes;
 pub(crate) mod leap;
 mod loop_range;
+pub(crate) mod run;
 pub(crate) mod self_loop;

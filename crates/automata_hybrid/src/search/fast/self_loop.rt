@@ -4,8 +4,8 @@ ghost use Rattle.std.specs.Prelude.{◌≡◌, ◌+◌, ◌<◌, ◌≤◌, IsTr
 ghost use Rattle.automata_base.specs.declared.util.search.Direction.TheVariants.{Backward, Forward};
 ghost use Rattle.automata_hybrid.specs.Cache.Caches.{IsCacheOf};
 ghost use Rattle.automata_hybrid.specs.Cache.Ids.{fixed_from};
-ghost use Rattle.automata_hybrid.specs.Private.Fast.SelfLoops.{IsKnownLoop, IsLoopRun, LoopsOn, LoopsOver, byte_in};
 ghost use Rattle.automata_hybrid.specs.Cache.Table.{IsRowId};
+ghost use Rattle.automata_hybrid.specs.Private.Fast.SelfLoops.{IsKnownLoop, IsLoopRun, LoopsOn, LoopsOver, byte_in};
 
 use crate::cache::Cache;
 use crate::cache::self_loops::{AGAIN, KnownLoop, LoopRange};
@@ -13,7 +13,6 @@ use crate::dfa::DFA;
 use crate::id::LazyStateID;
 use crate::search::fast::lanes::{LANES, are_in, are_in_either, count_in_either};
 use crate::search::fast::loop_range::{loops_on_range, range_around};
-use crate::search::plain::known::known_step;
 use automata_base::util::search::Direction;
 
 /// If fewer bytes than this are left, no self-loop is looked for: if there is none, the look has read up to eight cells
@@ -46,7 +45,7 @@ fn loops_on(dfa: &DFA, cache: &Cache, id: LazyStateID, byte: u8) -> bool
     requires plain { id < fixed_from }
     ensures { IsTrue result → LoopsOn dfa.now cache.now.store id byte }
 {
-    known_step(dfa, cache, id, Some(byte)) == id
+    cache.known_step(dfa, id, Some(byte)) == id
 }
 
 /// Whether a row has a cached self-loop on each of the eight bytes from a place on. No load depends on another.

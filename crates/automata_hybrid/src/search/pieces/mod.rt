@@ -1,26 +1,25 @@
 //! A forward search over a haystack that arrives in pieces. Between two pieces it holds its powerset state, as a walk
 //! does. So its cache may serve other searches and be cleared, and another cache of the same DFA may replace it. `walk`
 //! is a search that stops at each match.
-ghost use Rattle.std.specs.Prelude.{◌≡◌, ◌+◌, ◌-◌, ◌^◌, ◌<◌, ◌≤◌, length, IfOk, IfSome, OnOk, OnErr};
-ghost use Rattle.std.specs.Prelude.{slice_index, Some, None, true, false};
+ghost use Rattle.std.specs.Prelude.{◌≡◌, ◌+◌, ◌^◌, ◌<◌, ◌≤◌, length, IfOk, IfSome, OnOk, OnErr, slice_index, Some};
+ghost use Rattle.std.specs.Prelude.{None, true, false};
 ghost use Rattle.std.specs.Result.{result_err};
 ghost use Rattle.automata_base.specs.declared.util.search.Direction.TheVariants.{Forward};
 ghost use Rattle.automata_hybrid.specs.Cache.Caches.{IsCacheOf};
 ghost use Rattle.automata_hybrid.specs.Cache.Table.{IsRowId, IsRowState};
-ghost use Rattle.automata_hybrid.specs.Pieces.Answers.{EndsHere, HasBegun, ReadsOn};
 ghost use Rattle.automata_hybrid.specs.Known.Known.{begun};
 ghost use Rattle.automata_hybrid.specs.Known.Pieces.{IsAnswerRun, IsBeginRun, IsPieceRun};
 ghost use Rattle.automata_hybrid.specs.Known.Stores.{known_of};
+ghost use Rattle.automata_hybrid.specs.Pieces.Answers.{EndsHere, HasBegun, ReadsOn};
 ghost use Rattle.automata_hybrid.specs.Pieces.State.{IsPiecesOf};
-ghost use Rattle.automata_hybrid.specs.Private.Pieces.State.{IsResumed, found_in};
 ghost use Rattle.automata_hybrid.specs.Pieces.Walks.{HasBegunWalk, patterns_here};
-ghost use Rattle.automata_hybrid.specs.Private.Searches.PassState.{IsOnTrace, step_error};
-ghost use Rattle.automata_hybrid.specs.Private.Searches.PieceRuns.{HasOffset, IsPieceResult, IsRunResult};
-ghost use Rattle.automata_hybrid.specs.Private.Searches.PieceRuns.{error_from};
+ghost use Rattle.automata_hybrid.specs.Private.Pieces.State.{IsResumed, found_in};
+ghost use Rattle.automata_hybrid.specs.Private.Searches.PassState.{IsOnTrace};
+ghost use Rattle.automata_hybrid.specs.Private.Searches.PieceRuns.{HasOffset, IsPieceResult, IsRunResult, error_from};
+ghost use Rattle.automata_hybrid.specs.Private.Walks.Parts.{IsRestoreResult};
+ghost use Rattle.automata_hybrid.specs.Private.Walks.State.{IsHandle};
 ghost use Rattle.automata_hybrid.specs.Searches.Passes.{given_up_offset};
 ghost use Rattle.automata_hybrid.specs.Searches.Traces.{Trace};
-ghost use Rattle.automata_hybrid.specs.Private.Walks.Parts.{IsPutBackResult};
-ghost use Rattle.automata_hybrid.specs.Private.Walks.State.{IsHandle};
 
 pub mod walk;
 
@@ -30,8 +29,7 @@ use crate::dfa::DFA;
 use crate::id::LazyStateID;
 use crate::search::direction::{byte_at, byte_offset, last_place, place_offset, span_offset};
 use crate::search::fast::follow::next_known;
-use crate::search::plain::pass::{Place, go_far, near_end, run_to_match};
-use crate::search::walk::overlapping::put_back;
+use crate::search::fast::run::{Place, follow_with_leaps, near_end, run_to_match};
 use crate::search::{found_at, read, read_met, step_error};
 use automata_base::laws::reported_is_right;
 use automata_base::util::primitives::PatternID;
@@ -417,13 +415,13 @@ fn row_of(
     requires key { handle.now.key ≡ handle.now.state }
     requires state { IsRowState dfa.now handle.now.state }
     ensures of { IsCacheOf cache.new dfa.now }
-    ensures back { IsPutBackResult dfa.now handle.now.state cache.old cache.new result }
+    ensures back { IsRestoreResult dfa.now handle.now.state cache.old cache.new result }
 {
     let table = cache.table();
     if table.has_row(row) && *table.state(row) == handle.state {
         return Ok(row);
     }
-    put_back(dfa, cache, handle)
+    cache.restore(dfa, handle)
 }
 
 /// Runs over the bytes of a piece from a row. `base` bytes come before the piece: errors have offsets in the whole
@@ -505,7 +503,7 @@ fn run_span(
             return Ok(PieceEnd::Over(run.at, next, found));
         }
         let near = run_to_match(dfa, cache, input, way, run.at + 1, next, found, end);
-        let (far, due) = go_far(dfa, cache, input, way, near, end);
+        let (far, due) = follow_with_leaps(dfa, cache, input, way, near, end);
         run = far;
         end = due;
     }

@@ -253,11 +253,11 @@ fn walk_pieces(
                 return Ok(piece.len());
             }
             let found = found_in(found, base, None);
-            stand_in_row(dfa, cache, pieces, id, base + at + 1, found)?;
+            hold_row(dfa, cache, pieces, id, base + at + 1, found)?;
             Ok(at + 1)
         }
         PieceEnd::At(id, _) => {
-            stand_in_row(dfa, cache, pieces, id, after, None)?;
+            hold_row(dfa, cache, pieces, id, after, None)?;
             Ok(piece.len())
         }
     }
@@ -306,7 +306,7 @@ fn end_at(dfa: &DFA, cache: &Cache, id: LazyStateID) -> Result<WalkEnd, SearchEr
 }
 
 /// Moves a search to a row after `read` bytes, and holds the row's state. An error changes nothing.
-fn stand_in_row(
+fn hold_row(
     dfa: &DFA,
     cache: &Cache,
     pieces: &mut Pieces,

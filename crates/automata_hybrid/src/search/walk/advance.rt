@@ -1,14 +1,14 @@
 //! Advances a walk, in either direction, to the next state whose patterns match.
-ghost use Rattle.std.specs.Prelude.{◌≡◌, ◌-◌, ◌<◌, ◌≤◌, ◌⊎◌, Some, [], true, false, length};
+ghost use Rattle.std.specs.Prelude.{◌≡◌, ◌-◌, ◌<◌, ◌≤◌, ◌⊎◌, [], true, false, length};
 ghost use Rattle.automata_base.specs.Answers.Answers.{offset_in};
-ghost use Rattle.automata_base.specs.Powersets.Powerset.{Powerset};
 ghost use Rattle.automata_base.specs.Haystacks.Tapes.{is_split};
+ghost use Rattle.automata_base.specs.Powersets.Powerset.{Powerset};
 ghost use Rattle.automata_hybrid.specs.Cache.Caches.{IsCacheOf};
+ghost use Rattle.automata_hybrid.specs.Cache.Table.{IsRowId, Names};
 ghost use Rattle.automata_hybrid.specs.Private.Searches.PassContracts.{FollowsTo};
 ghost use Rattle.automata_hybrid.specs.Private.Searches.PassState.{IsFollowed, IsMet};
 ghost use Rattle.automata_hybrid.specs.Private.Walks.Parts.{IsAdvanceResult, IsUnitResult, StandsAfterUnits};
-ghost use Rattle.automata_hybrid.specs.Searches.Passes.{HasReadNoQuit, Skips, state_in, unit_offset};
-ghost use Rattle.automata_hybrid.specs.Cache.Table.{IsRowId, Names};
+ghost use Rattle.automata_hybrid.specs.Searches.Passes.{HasReadNoQuit, Skips, state_in};
 ghost use Rattle.automata_hybrid.specs.Walks.Answers.{WalkReads};
 
 use crate::cache::Cache;
@@ -18,8 +18,7 @@ use crate::search::direction::{
     byte_at, last_place, place_offset, span_offset, unit_at, unit_offset,
 };
 use crate::search::fast::follow::{Stop, follow};
-use crate::search::fast::leap::leap_on;
-use crate::search::plain::known::known_step;
+use crate::search::fast::leap::follow_any_leaps;
 use crate::search::{read, skips_at};
 use automata_base::util::search::{Direction, Input};
 use automata_config::error::SearchError;
@@ -113,7 +112,7 @@ fn leave_tag(
             next: LazyStateID::UNKNOWN,
         };
     }
-    let next = known_step(dfa, cache, from, Some(byte_at(input, way, start)));
+    let next = cache.known_step(dfa, from, Some(byte_at(input, way, start)));
     if next.has_only(0) {
         return Stop {
             at: start + 1,
@@ -178,7 +177,7 @@ fn follow_walk(
 /// Follows leaps, if a walk has reached `end`, the place where it looks for them. Returns where it stops, and the place
 /// where it looks for leaps next.
 #[inline(always)]
-fn walk_far(
+fn walk_with_leaps(
     dfa: &DFA,
     cache: &mut Cache,
     input: &Input<'_>,
@@ -199,7 +198,7 @@ fn walk_far(
     if near.at < end || near.at >= last {
         return (near, end);
     }
-    let far = leap_on(dfa, cache, input, way, near);
+    let far = follow_any_leaps(dfa, cache, input, way, near);
     (far, last.min(far.at + NEAR))
 }
 
@@ -229,7 +228,7 @@ pub(crate) fn advance(
     let mut end = last.min(read + NEAR);
     while read <= last {
         let near = follow_walk(dfa, cache, input, way, read, id, end);
-        let (stop, due) = walk_far(dfa, cache, input, way, near, end);
+        let (stop, due) = walk_with_leaps(dfa, cache, input, way, near, end);
         end = due;
         let next = read_unit(dfa, cache, input, way, stop.id, stop.next, stop.at)?;
         cache.see_bounds();

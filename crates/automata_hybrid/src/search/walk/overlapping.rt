@@ -1,25 +1,23 @@
 //! Overlapping searches: each call reports the next match, with any cache of the DFA.
-ghost use Rattle.std.specs.Prelude.{ℕ, ◌≡◌, ◌+◌, ◌-◌, ◌<◌, ◌≤◌, ◌^◌, IfNone, IfSome, OnOk, OnErr, Some};
-ghost use Rattle.std.specs.Prelude.{length, slice_index};
+ghost use Rattle.std.specs.Prelude.{ℕ, ◌≡◌, ◌+◌, ◌<◌, ◌≤◌, ◌^◌, IfNone, IfSome, OnOk, OnErr, length, slice_index};
 ghost use Rattle.std.specs.Result.{result_err};
 ghost use Rattle.automata_base.specs.Powersets.Powerset.{Powerset};
 ghost use Rattle.automata_base.specs.declared.util.search.Direction.TheVariants.{Forward, Backward};
 ghost use Rattle.automata_hybrid.specs.Cache.Caches.{IsCacheOf};
-ghost use Rattle.automata_hybrid.specs.Walks.Contracts.{IsWalkCall};
-ghost use Rattle.automata_hybrid.specs.Private.Walks.Parts.{HoldsOn, IsCallResult, IsHeldWalk, IsKeptWalk};
-ghost use Rattle.automata_hybrid.specs.Private.Walks.Parts.{IsPutBackResult, IsResumeResult, ReadsNext};
+ghost use Rattle.automata_hybrid.specs.Cache.Table.{Names};
 ghost use Rattle.automata_hybrid.specs.Known.Stores.{known_of};
 ghost use Rattle.automata_hybrid.specs.Known.Walks.{IsWalkRun};
+ghost use Rattle.automata_hybrid.specs.Private.Walks.Answers.{Arrives};
+ghost use Rattle.automata_hybrid.specs.Private.Walks.Parts.{HoldsOn, IsCallResult, IsHeldWalk, IsKeptWalk};
+ghost use Rattle.automata_hybrid.specs.Private.Walks.Parts.{IsResumeResult, ReadsNext};
+ghost use Rattle.automata_hybrid.specs.Private.Walks.State.{IsHeldAt, keeping_of};
 ghost use Rattle.automata_hybrid.specs.Searches.Passes.{tape_in};
 ghost use Rattle.automata_hybrid.specs.Steps.Starts.{MayStart};
-ghost use Rattle.automata_hybrid.specs.Cache.Table.{IsRowState, Names};
 ghost use Rattle.automata_hybrid.specs.Walks.Answers.{HasReported, HasReportedBy, IsWalkOf, ReportsNext};
-ghost use Rattle.automata_hybrid.specs.Private.Walks.Answers.{Arrives};
+ghost use Rattle.automata_hybrid.specs.Walks.Contracts.{IsWalkCall};
 ghost use Rattle.automata_hybrid.specs.Walks.State.{At, Ended, States, without_match};
-ghost use Rattle.automata_hybrid.specs.Private.Walks.State.{IsHeldAt, keeping_of};
 
 use crate::cache::Cache;
-use crate::cache::handle::Handle;
 use crate::dfa::DFA;
 use crate::id::LazyStateID;
 use crate::search::direction::{last_place, place_offset, span_offset, walk_start};
@@ -29,7 +27,7 @@ use crate::search::walk::{Cursor, Held, OverlappingState};
 use automata_base::laws::walk_is_right;
 use automata_base::util::primitives::PatternID;
 use automata_base::util::search::{Direction, HalfMatch, Input};
-use automata_config::error::{SearchError, StepError};
+use automata_config::error::SearchError;
 
 impl DFA {
     /// Advances to the next overlapping match, which `OverlappingState::get_match` then returns. When no match is left,
@@ -112,28 +110,6 @@ impl DFA {
     }
 }
 
-/// Returns the ID of a state that a walk holds. If the cache does not have the state, it is added again.
-pub(crate) fn put_back(
-    dfa: &DFA,
-    cache: &mut Cache,
-    handle: &Handle,
-) -> Result<LazyStateID, StepError>
-    requires of { IsCacheOf cache.old dfa.now }
-    requires key { handle.now.key ≡ handle.now.state }
-    requires state { IsRowState dfa.now handle.now.state }
-    ensures of { IsCacheOf cache.new dfa.now }
-    ensures back { IsPutBackResult dfa.now handle.now.state cache.old cache.new result }
-{
-    dfa.see_machine();
-    cache.see_bounds();
-    if let Some(id) = cache.find(&handle.key) {
-        return Ok(id);
-    }
-    let id = cache.add_again(dfa, &handle.state)?;
-    cache.see_bounds();
-    Ok(id)
-}
-
 /// Returns the ID of the state from which a walk continues: its start state, or the state that it holds.
 #[inline(always)]
 fn resume(
@@ -154,7 +130,7 @@ fn resume(
     }
     match held {
         Held::Row(Some(id)) => Ok(*id),
-        Held::State(Some(handle)) => match put_back(dfa, cache, handle) {
+        Held::State(Some(handle)) => match cache.restore(dfa, handle) {
             Ok(id) => Ok(id),
             Err(error) => Err(step_error(error, span_offset(input, way, walk.units()))),
         },
@@ -165,7 +141,7 @@ fn resume(
 /// Advances a walk that has reported all patterns of its state to the next match. Its new state is held before the
 /// search ends.
 #[inline(always)]
-fn walk_on(
+fn search_next(
     dfa: &DFA,
     cache: &mut Cache,
     input: &Input<'_>,
@@ -200,13 +176,13 @@ fn walk_on(
     };
     held.move_to(cache, id)?;
     cache.end_search(last);
-    stand(dfa, cache, input, way, walk, id, arrival.units);
+    arrive(dfa, cache, input, way, walk, id, arrival.units);
     Ok(())
 }
 
 /// Moves a walk to a state whose patterns match, and reports the first of them.
 #[inline(always)]
-fn stand(
+fn arrive(
     dfa: &DFA,
     cache: &Cache,
     input: &Input<'_>,
@@ -231,7 +207,7 @@ fn stand(
     walk.report(half);
 }
 
-/// Makes one call of an overlapping search (`go_on`). If the walk has ended, it holds nothing afterwards.
+/// Makes one call of an overlapping search (`report_next`). If the walk has ended, it holds nothing afterwards.
 fn call_held(
     dfa: &DFA,
     cache: &mut Cache,
@@ -250,7 +226,7 @@ fn call_held(
 {
     walk_is_right(dfa.get_nfa());
     let _haystack = input.haystack();
-    match go_on(dfa, cache, input, way, walk, held) {
+    match report_next(dfa, cache, input, way, walk, held) {
         Ok(()) => {
             held.release(walk);
             Ok(())
@@ -262,7 +238,7 @@ fn call_held(
 /// Makes one call of an overlapping search, given the walk and what it holds of its state. If the walk ends, what is
 /// held stays as it is.
 #[inline(always)]
-pub(crate) fn go_on(
+pub(crate) fn report_next(
     dfa: &DFA,
     cache: &mut Cache,
     input: &Input<'_>,
@@ -295,7 +271,7 @@ pub(crate) fn go_on(
         walk.end(walk.units());
         return Ok(());
     }
-    walk_on(dfa, cache, input, way, walk, held)
+    search_next(dfa, cache, input, way, walk, held)
 }
 
 /// Returns the pattern that a walk reports next at its current state, if one is left.

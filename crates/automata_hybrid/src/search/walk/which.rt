@@ -9,7 +9,7 @@ ghost use Rattle.automata_hybrid.specs.Known.Walks.{IsSetRun};
 
 use crate::cache::Cache;
 use crate::dfa::DFA;
-use crate::search::walk::overlapping::go_on;
+use crate::search::walk::overlapping::report_next;
 use crate::search::walk::{Cursor, Held};
 use automata_base::laws::walk_is_right;
 use automata_base::util::pattern_set::PatternSet;
@@ -69,7 +69,7 @@ fn collect(
     let mut walk = Cursor::start();
     let mut held = Held::Row(None);
     'walk: loop {
-        go_on(dfa, cache, input, Direction::Forward, &mut walk, &mut held)?;
+        report_next(dfa, cache, input, Direction::Forward, &mut walk, &mut held)?;
         let Some(half) = walk.get_match() else {
             return Ok(());
         };

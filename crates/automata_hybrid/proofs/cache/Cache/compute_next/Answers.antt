@@ -2,7 +2,7 @@ use Rattle.std.proofs.Common.{◌≡◌, ◌∙◌, ◌<◌, ◌^◌, ap, sym, s
 use Rattle.automata_hybrid.proofs.Words.{CacheView, counted_in_store, GivesUpInStore, IsNewState, Leads, LeadsToNamed}
 use Rattle.automata_hybrid.proofs.Words.{Names, Powerset}
 use Rattle.automata_hybrid.specs.Private.Cache.LookUps.{IsLookedUp}
-use Rattle.automata_hybrid.specs.declared.cache.Found.TheVariants.{Known, New}
+use Rattle.automata_hybrid.specs.declared.cache.add.Found.TheVariants.{Known, New}
 use Rattle.automata_config.specs.declared.error.StepError.TheVariants as step
 use Rattle.automata_hybrid.proofs.Caches.Additions.{looked_up, new_state}
 use Rattle.automata_hybrid.proofs.Known.Calls.{failed_run, made_run}

@@ -106,8 +106,8 @@ run_to_match-near-requires g c =
       ),
     )
 
-pub go_far-far-requires : goal.go_far-far-requires
-go_far-far-requires g c =
+pub follow_with_leaps-far-requires : goal.follow_with_leaps-far-requires
+follow_with_leaps-far-requires g c =
     let near = c.run_to_match-near.ensures.runs in (
       c.in-Ok.ensures.of,
       (
@@ -126,17 +126,17 @@ loop-run-preserved g c =
     let inside : c.loop-run.run.at < c.args.input.now.end - c.args.input.now.start =
     omega (arith, c.loop-run-test.true, c.last_place-last.ensures.place) in
     let more : suc c.loop-run.run.at ≡ c.loop-run.run.at + 1 = omega arith in
-    let same = c.go_far-far.ensures.same in
+    let same = c.follow_with_leaps-far.ensures.same in
     let units : (j : ℕ) → IsUnit (unit_at (tape_in Forward c.args.input.now) j) =
     units_in Forward c.args.input.now (c.haystack-haystack.ensures.bytes, c.last_place-last.ensures.inside)
     c.requires.1.1 in
-    let sound : IsStoreOf c.go_far-far.new.cache.store c.args.dfa.now =
+    let sound : IsStoreOf c.follow_with_leaps-far.new.cache.store c.args.dfa.now =
     subst (λ (v : CacheView). IsStoreOf v.store c.args.dfa.now) (sym same)
     (is_store c.read_met.new.cache.store c.args.dfa.now c.in-Ok.ensures.of c.see_bounds.ensures.bounds) in
     let first : Known = begun (given_up_offset Forward c.args.input.now 0) (known_of c.args.cache.now) in
     let behind :
     GoesToAlong g.trace Forward c.args.dfa.now c.args.input.now 0 (c.loop-run.run.at + 1) first
-    (known_of c.go_far-far.new.cache) =
+    (known_of c.follow_with_leaps-far.new.cache) =
     subst
     (λ (v : CacheView). GoesToAlong g.trace Forward c.args.dfa.now c.args.input.now 0 (c.loop-run.run.at + 1) first
     (known_of v))
@@ -146,22 +146,22 @@ loop-run-preserved g c =
     more
     (goes_on c.requires.1.0.trace c.loop-run.cache c.loop-run.invariant.at c.byte_at-byte.ensures inside
     c.byte_offset-offset.ensures.unit c.loop-run.invariant.progress c.in-Ok.ensures.read)) in
-    let far = c.go_far-far.ensures.runs (c.loop-run.run.at + 1) c.run_to_match-near.ensures.runs in
+    let far = c.follow_with_leaps-far.ensures.runs (c.loop-run.run.at + 1) c.run_to_match-near.ensures.runs in
     record {
       of = subst (λ (v : CacheView). IsCacheOf v c.args.dfa.now) (sym same) c.in-Ok.ensures.of;
       within = omega (arith, far.run.within, c.last_place-last.ensures.place);
-      upto = c.go_far-far.ensures.upto;
+      upto = c.follow_with_leaps-far.ensures.upto;
       at = far.at;
-      read = c.go_far-far.ensures.read;
+      read = c.follow_with_leaps-far.ensures.read;
       progress =
           goes_known Forward c.args.dfa.now c.args.input.now 0 first c.see_machine.ensures.machine units
-          (c.loop-run.run.at + 1) c.go_far-far.result.0.at c.go_far-far.new.cache sound behind far.run.more far.at.clean
+          (c.loop-run.run.at + 1) c.follow_with_leaps-far.result.0.at c.follow_with_leaps-far.new.cache sound behind far.run.more far.at.clean
           far.run.known;
     }
 
 pub loop-run-smaller : goal.loop-run-smaller
 loop-run-smaller g c =
-    let more = (c.go_far-far.ensures.runs (c.loop-run.run.at + 1) c.run_to_match-near.ensures.runs).run.more in
+    let more = (c.follow_with_leaps-far.ensures.runs (c.loop-run.run.at + 1) c.run_to_match-near.ensures.runs).run.more in
     omega (arith, more, c.loop-run-test.true)
 
 pub returns-in-Err-clause-ran : goal.returns-in-Err-clause-ran

@@ -10,8 +10,8 @@ ghost-next_known g a = g.trace
 abbrev pub ghost-run_to_match : goal.ghost-run_to_match
 ghost-run_to_match g a = g.trace
 
-abbrev pub ghost-go_far : goal.ghost-go_far
-ghost-go_far g a = g.trace
+abbrev pub ghost-follow_with_leaps : goal.ghost-follow_with_leaps
+ghost-follow_with_leaps g a = g.trace
 
 abbrev pub invariant-loop-run : goal.invariant-loop-run
 invariant-loop-run g l = record {

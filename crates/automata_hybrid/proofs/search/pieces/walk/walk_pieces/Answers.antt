@@ -79,93 +79,93 @@ found_in-found-requires c =
     c.args.piece.now c.bytes_read-base.result c.in-Over.found over.reported
     (let l = over.upto.reads.0 in omega (arith, l)) (let e = c.in-Some-checked_add.ensures in omega (arith, e))
 
-pub returns-in_err-stand_in_row-in-Over-clause-walk : goal.returns-in_err-stand_in_row-in-Over-clause-walk
-returns-in_err-stand_in_row-in-Over-clause-walk c =
-    let same = c.in_err-stand_in_row-in-Over.ensures.fails.1 in (
+pub returns-in_err-hold_row-in-Over-clause-walk : goal.returns-in_err-hold_row-in-Over-clause-walk
+returns-in_err-hold_row-in-Over-clause-walk c =
+    let same = c.in_err-hold_row-in-Over.ensures.fails.1 in (
       subst (λ (p : PiecesView). IsPiecesOf p c.args.dfa.now) (sym same) c.requires.pieces,
       subst (λ (p : PiecesView). IsPiecesWalk p) (sym same) c.requires.walk,
     )
 
-pub returns-in_err-stand_in_row-in-Over-clause-effect : goal.returns-in_err-stand_in_row-in-Over-clause-effect
-returns-in_err-stand_in_row-in-Over-clause-effect c =
+pub returns-in_err-hold_row-in-Over-clause-effect : goal.returns-in_err-hold_row-in-Over-clause-effect
+returns-in_err-hold_row-in-Over-clause-effect c =
     let on = rw c.in-Some.is at c.in_ok-from.ensures.resumed in
     let over =
     run_upto on c.args.piece.now c.run_piece.new.cache (sym c.requires.walk.early) c.in_ok-at.field-0
     c.in_ok-at.ensures.ran c.in-Over.is in
-    at_err c.from_residual-in_err-stand_in_row-in-Over.result _
-    (λ r. IsWalkCallRun c.args.dfa.now c.args.piece.now c.args.pieces.now c.stand_in_row.new.pieces
+    at_err c.from_residual-in_err-hold_row-in-Over.result _
+    (λ r. IsWalkCallRun c.args.dfa.now c.args.piece.now c.args.pieces.now c.hold_row.new.pieces
     (known_of c.args.cache.now) (known_of c.run_piece.new.cache) (result_err r))
-    c.from_residual-in_err-stand_in_row-in-Over.ensures.1
-    (NotHeldAt on.state _ c.in-Over.at (goes_on on 0) over.upto c.in_err-stand_in_row-in-Over.ensures.fails.0)
+    c.from_residual-in_err-hold_row-in-Over.ensures.1
+    (NotHeldAt on.state _ c.in-Over.at (goes_on on 0) over.upto c.in_err-hold_row-in-Over.ensures.fails.0)
 
-pub returns-in_err-stand_in_row-in-At-clause-walk : goal.returns-in_err-stand_in_row-in-At-clause-walk
-returns-in_err-stand_in_row-in-At-clause-walk c =
-    let same = c.in_err-stand_in_row-in-At.ensures.fails.1 in (
+pub returns-in_err-hold_row-in-At-clause-walk : goal.returns-in_err-hold_row-in-At-clause-walk
+returns-in_err-hold_row-in-At-clause-walk c =
+    let same = c.in_err-hold_row-in-At.ensures.fails.1 in (
       subst (λ (p : PiecesView). IsPiecesOf p c.args.dfa.now) (sym same) c.requires.pieces,
       subst (λ (p : PiecesView). IsPiecesWalk p) (sym same) c.requires.walk,
     )
 
-pub returns-in_err-stand_in_row-in-At-clause-effect : goal.returns-in_err-stand_in_row-in-At-clause-effect
-returns-in_err-stand_in_row-in-At-clause-effect c =
+pub returns-in_err-hold_row-in-At-clause-effect : goal.returns-in_err-hold_row-in-At-clause-effect
+returns-in_err-hold_row-in-At-clause-effect c =
     let on = rw c.in-Some.is at c.in_ok-from.ensures.resumed in
     let through =
     run_through on c.args.piece.now c.run_piece.new.cache (sym c.requires.walk.early) c.in_ok-at.field-0
     c.in_ok-at.ensures.ran c.in-At.is in
-    at_err c.from_residual-in_err-stand_in_row-in-At.result _
-    (λ r. IsWalkCallRun c.args.dfa.now c.args.piece.now c.args.pieces.now c.stand_in_row-in-At.new.pieces
+    at_err c.from_residual-in_err-hold_row-in-At.result _
+    (λ r. IsWalkCallRun c.args.dfa.now c.args.piece.now c.args.pieces.now c.hold_row-in-At.new.pieces
     (known_of c.args.cache.now) (known_of c.run_piece.new.cache) (result_err r))
-    c.from_residual-in_err-stand_in_row-in-At.ensures.1
-    (AsSearch (NotHeld on.state _ (goes_on on 0) through.all c.in_err-stand_in_row-in-At.ensures.fails.0))
+    c.from_residual-in_err-hold_row-in-At.ensures.1
+    (AsSearch (NotHeld on.state _ (goes_on on 0) through.all c.in_err-hold_row-in-At.ensures.fails.0))
 
-pub returns-in_ok-stand_in_row-in-Over-clause-walked : goal.returns-in_ok-stand_in_row-in-Over-clause-walked
-returns-in_ok-stand_in_row-in-Over-clause-walked c =
+pub returns-in_ok-hold_row-in-Over-clause-walked : goal.returns-in_ok-hold_row-in-Over-clause-walked
+returns-in_ok-hold_row-in-Over-clause-walked c =
     let on = rw c.in-Some.is at c.in_ok-from.ensures.resumed in
     let over =
     run_upto on c.args.piece.now c.run_piece.new.cache (sym c.requires.walk.early) c.in_ok-at.field-0
     c.in_ok-at.ensures.ran c.in-Over.is in
     let some = some_is c.in-Over.found (sym (c.is_none.ensures ∙ ap not c.if-is_none.false)) in
     let more : suc c.in-Over.at ≡ c.in-Over.at + 1 = omega arith in
-    subst (λ n. IsWalked c.args.dfa.now c.args.piece.now c.args.pieces.now c.stand_in_row.new.pieces n) more
-    (walks_match c.args.dfa.now on.state c.args.piece.now c.args.pieces.now c.stand_in_row.new.pieces on.stood
+    subst (λ n. IsWalked c.args.dfa.now c.args.piece.now c.args.pieces.now c.hold_row.new.pieces n) more
+    (walks_match c.args.dfa.now on.state c.args.piece.now c.args.pieces.now c.hold_row.new.pieces on.stood
     c.requires.walk.early c.in-Over.at c.in-Over.found (begun 0 (known_of c.resume_pieces.new.cache))
     (known_of c.run_piece.new.cache) over.upto over.reported c.run_piece.new.cache.store.table c.in-Over.id some
-    (stands_as c.run_piece.new.cache.store.table c.in-Over.id _ _ _ _ c.args.pieces.now c.stand_in_row.new.pieces
-    c.in_ok-stand_in_row-in-Over.ensures.stands.1 (let e = c.bytes_read-base.ensures in omega (arith, e))
+    (stands_as c.run_piece.new.cache.store.table c.in-Over.id _ _ _ _ c.args.pieces.now c.hold_row.new.pieces
+    c.in_ok-hold_row-in-Over.ensures.stands.1 (let e = c.bytes_read-base.ensures in omega (arith, e))
     (c.found_in-found.ensures ∙ ap (λ b. found_in c.in-Over.found b None) c.bytes_read-base.ensures))
-    (named_upto c.args.dfa.now on.state c.args.piece.now c.args.pieces.now c.stand_in_row.new.pieces on.stood
+    (named_upto c.args.dfa.now on.state c.args.piece.now c.args.pieces.now c.hold_row.new.pieces on.stood
     c.requires.walk.early c.in-Over.at c.in-Over.found (begun 0 (known_of c.resume_pieces.new.cache))
     (known_of c.run_piece.new.cache) over.upto over.reported c.run_piece.new.cache.store.table c.in-Over.id some
     over.leads))
 
-pub returns-in_ok-stand_in_row-in-Over-clause-effect : goal.returns-in_ok-stand_in_row-in-Over-clause-effect
-returns-in_ok-stand_in_row-in-Over-clause-effect c =
+pub returns-in_ok-hold_row-in-Over-clause-effect : goal.returns-in_ok-hold_row-in-Over-clause-effect
+returns-in_ok-hold_row-in-Over-clause-effect c =
     let on = rw c.in-Some.is at c.in_ok-from.ensures.resumed in
     let over =
     run_upto on c.args.piece.now c.run_piece.new.cache (sym c.requires.walk.early) c.in_ok-at.field-0
     c.in_ok-at.ensures.ran c.in-Over.is in
     WalksUpto on.state _ c.in-Over.at (goes_on on 0) over.upto
-    (let e = c.bytes_read-base.ensures in let r = c.in_ok-stand_in_row-in-Over.ensures.stands.1.read in
+    (let e = c.bytes_read-base.ensures in let r = c.in_ok-hold_row-in-Over.ensures.stands.1.read in
     omega (arith, e, r))
 
-pub returns-in_ok-stand_in_row-in-At-clause-walked : goal.returns-in_ok-stand_in_row-in-At-clause-walked
-returns-in_ok-stand_in_row-in-At-clause-walked c =
+pub returns-in_ok-hold_row-in-At-clause-walked : goal.returns-in_ok-hold_row-in-At-clause-walked
+returns-in_ok-hold_row-in-At-clause-walked c =
     let on = rw c.in-Some.is at c.in_ok-from.ensures.resumed in
     let through =
     run_through on c.args.piece.now c.run_piece.new.cache (sym c.requires.walk.early) c.in_ok-at.field-0
     c.in_ok-at.ensures.ran c.in-At.is in
-    walks_through c.args.dfa.now on.state c.args.piece.now c.args.pieces.now c.stand_in_row-in-At.new.pieces on.stood
+    walks_through c.args.dfa.now on.state c.args.piece.now c.args.pieces.now c.hold_row-in-At.new.pieces on.stood
     c.requires.walk.early c.run_piece.new.cache.store.table c.in-At.id c.in-At.field-1
     (stands_as c.run_piece.new.cache.store.table c.in-At.id _ _ _ _ c.args.pieces.now
-    c.stand_in_row-in-At.new.pieces c.in_ok-stand_in_row-in-At.ensures.stands.1
+    c.hold_row-in-At.new.pieces c.in_ok-hold_row-in-At.ensures.stands.1
     (let e = c.bytes_read-base.ensures in let a = c.in-Some-checked_add.ensures in omega (arith, e, a)) refl)
     through.at
 
-pub returns-in_ok-stand_in_row-in-At-clause-effect : goal.returns-in_ok-stand_in_row-in-At-clause-effect
-returns-in_ok-stand_in_row-in-At-clause-effect c =
+pub returns-in_ok-hold_row-in-At-clause-effect : goal.returns-in_ok-hold_row-in-At-clause-effect
+returns-in_ok-hold_row-in-At-clause-effect c =
     let on = rw c.in-Some.is at c.in_ok-from.ensures.resumed in
     let through =
     run_through on c.args.piece.now c.run_piece.new.cache (sym c.requires.walk.early) c.in_ok-at.field-0
     c.in_ok-at.ensures.ran c.in-At.is in
     WalksThrough on.state _ (goes_on on 0) through.all
-    (let e = c.bytes_read-base.ensures in let r = c.in_ok-stand_in_row-in-At.ensures.stands.1.read in
+    (let e = c.bytes_read-base.ensures in let r = c.in_ok-hold_row-in-At.ensures.stands.1.read in
     let a = c.in-Some-checked_add.ensures in omega (arith, e, r, a))

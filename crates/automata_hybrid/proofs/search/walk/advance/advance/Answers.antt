@@ -15,32 +15,32 @@ use Rattle.automata_hybrid.proofs.Steps.Ids.{dead_tagged}
 use Rattle.automata_hybrid.proofs.Walks.Progress.{call_stopped, goes_followed, has_advanced}
 use Rattle.automata_hybrid.proofs.Walks.Reports.{clean_more, finish_dead, finish_read, silent_same, silent_step}
 use Rattle.automata_hybrid.proofs.search.walk.advance.advance.Goals as goal
-use Rattle.automata_hybrid.proofs.search.walk.advance.advance.Goals.{After-walk_far-stop}
+use Rattle.automata_hybrid.proofs.search.walk.advance.advance.Goals.{After-walk_with_leaps-stop}
 
 -- the transitions that were followed to where the walk stopped
 followed :
-    (c : After-walk_far-stop)
-    → IsFollowed c.args.way c.args.dfa.now c.walk_far-stop.new.cache.store c.args.input.now 0 c.loop-read.read
-    c.walk_far-stop.result.0.at c.walk_far-stop.result.0.id
+    (c : After-walk_with_leaps-stop)
+    → IsFollowed c.args.way c.args.dfa.now c.walk_with_leaps-stop.new.cache.store c.args.input.now 0 c.loop-read.read
+    c.walk_with_leaps-stop.result.0.at c.walk_with_leaps-stop.result.0.id
 followed c =
     followed_on
     (subst
     (λ (v : CacheView). IsFollowed c.args.way c.args.dfa.now v.store c.args.input.now 0 c.loop-read.read
     c.follow_walk-near.result.at c.follow_walk-near.result.id)
-    (sym c.walk_far-stop.ensures.same) c.follow_walk-near.ensures.followed)
-    c.walk_far-stop.ensures.far.followed
+    (sym c.walk_with_leaps-stop.ensures.same) c.follow_walk-near.ensures.followed)
+    c.walk_with_leaps-stop.ensures.far.followed
 
 -- the effect of the units up to there on what the cache knows
 goes :
-    (c : After-walk_far-stop)
-    → GoesTo c.args.way c.args.dfa.now c.args.input.now c.args.units c.walk_far-stop.result.0.at
-    (known_of c.args.cache.now) (known_of c.walk_far-stop.new.cache)
+    (c : After-walk_with_leaps-stop)
+    → GoesTo c.args.way c.args.dfa.now c.args.input.now c.args.units c.walk_with_leaps-stop.result.0.at
+    (known_of c.args.cache.now) (known_of c.walk_with_leaps-stop.new.cache)
 goes c =
     goes_followed c.args.way c.args.dfa.now c.args.input.now c.args.units (known_of c.args.cache.now)
-    c.loop-read.read c.walk_far-stop.result.0.at c.walk_far-stop.result.0.id c.loop-read.cache
-    c.walk_far-stop.new.cache c.see_machine.ensures.machine
+    c.loop-read.read c.walk_with_leaps-stop.result.0.at c.walk_with_leaps-stop.result.0.id c.loop-read.cache
+    c.walk_with_leaps-stop.new.cache c.see_machine.ensures.machine
     (c.haystack-haystack.ensures.bytes, c.haystack-haystack.ensures.within.1) c.requires.from.undone
-    c.loop-read.invariant.sound c.walk_far-stop.ensures.same c.loop-read.invariant.progress (followed c)
+    c.loop-read.invariant.sound c.walk_with_leaps-stop.ensures.same c.loop-read.invariant.progress (followed c)
     c.loop-read.invariant.clean
 
 pub loop-read-init : goal.loop-read-init
@@ -62,8 +62,8 @@ loop-read-init c =
 pub loop-read-preserved : goal.loop-read-preserved
 loop-read-preserved c =
     let d : Direction = c.args.way in
-    let k : ℕ = c.walk_far-stop.result.0.at in
-    let p = (goal.at.loop-read-preserved c).After-walk_far-stop in
+    let k : ℕ = c.walk_with_leaps-stop.result.0.at in
+    let p = (goal.at.loop-read-preserved c).After-walk_with_leaps-stop in
     let f = followed p in
     let more : suc k ≡ k + 1 = omega arith in
     let named : Names c.read_unit.new.cache.store.table c.in_ok-next.next
@@ -84,7 +84,7 @@ loop-read-preserved c =
           is_store c.read_unit.new.cache.store c.args.dfa.now c.in_ok-next.ensures.of
           c.see_bounds-in-loop-read.ensures.bounds;
       from = omega (arith, c.loop-read.invariant.from, f.more);
-      within = omega (arith, c.walk_far-stop.ensures.far.within);
+      within = omega (arith, c.walk_with_leaps-stop.ensures.far.within);
       named =
           subst (λ n. Names c.read_unit.new.cache.store.table c.in_ok-next.next
           (state_in d c.args.dfa.now c.args.input.now n)) more named;
@@ -96,15 +96,15 @@ loop-read-preserved c =
           (known_of c.read_unit.new.cache))
           more
           (goes_more d c.args.dfa.now c.args.input.now c.args.units (known_of c.args.cache.now) k
-          (known_of c.walk_far-stop.new.cache) (known_of c.read_unit.new.cache) (goes p)
+          (known_of c.walk_with_leaps-stop.new.cache) (known_of c.read_unit.new.cache) (goes p)
           c.in_ok-next.ensures.unit.read);
       reads = λ less. (k, sym more, c.in_ok-next.ensures.reads);
-      upto = c.walk_far-stop.ensures.upto;
+      upto = c.walk_with_leaps-stop.ensures.upto;
     }
 
 pub reports-requires-clause-valid : goal.reports-requires-clause-valid
 reports-requires-clause-valid c = (
-  state_in c.args.way c.args.dfa.now c.args.input.now (suc c.walk_far-stop.result.0.at),
+  state_in c.args.way c.args.dfa.now c.args.input.now (suc c.walk_with_leaps-stop.result.0.at),
   (dead_tagged c.read_unit.new.cache.store.table c.in_ok-next.next
       (c.see_bounds-in-loop-read.ensures.sound.low c.in_ok-next.next) c.see_bounds-in-loop-read.ensures.bounds.small _
       c.in_ok-next.ensures.unit.leads).1
@@ -114,21 +114,21 @@ reports-requires-clause-valid c = (
 pub returns-in_err-next-clause-advanced : goal.returns-in_err-next-clause-advanced
 returns-in_err-next-clause-advanced c =
     let d : Direction = c.args.way in
-    let k : ℕ = c.walk_far-stop.result.0.at in
-    let p = (goal.at.returns-in_err-next-clause-advanced c).After-walk_far-stop in
+    let k : ℕ = c.walk_with_leaps-stop.result.0.at in
+    let p = (goal.at.returns-in_err-next-clause-advanced c).After-walk_with_leaps-stop in
     at_err c.from_residual.result _
     (λ (r : Result Arrival SearchError). IsAdvanceResult d c.args.dfa.now c.args.input.now c.args.units
     c.args.cache.now c.read_unit.new.cache r) c.from_residual.ensures.1
     (call_stopped d c.args.dfa.now c.args.input.now c.args.units k (known_of c.args.cache.now)
-    (known_of c.walk_far-stop.new.cache) (known_of c.read_unit.new.cache) c.in_err-next.field-0.0
+    (known_of c.walk_with_leaps-stop.new.cache) (known_of c.read_unit.new.cache) c.in_err-next.field-0.0
     c.in_err-next.ensures.reads (followed_clean (followed p) c.loop-read.invariant.clean)
     (followed_silent (followed p) c.loop-read.invariant.silent) (goes p) c.in_err-next.ensures.unit)
 
 pub returns-then-is_dead-clause-advanced : goal.returns-then-is_dead-clause-advanced
 returns-then-is_dead-clause-advanced c =
     let d : Direction = c.args.way in
-    let k : ℕ = c.walk_far-stop.result.0.at in
-    let p = (goal.at.returns-then-is_dead-clause-advanced c).After-walk_far-stop in
+    let k : ℕ = c.walk_with_leaps-stop.result.0.at in
+    let p = (goal.at.returns-then-is_dead-clause-advanced c).After-walk_with_leaps-stop in
     let f = followed p in
     let units : c.args.input.now.end - c.args.input.now.start ≡ length (tape_in d c.args.input.now).bytes =
     units_in d c.args.input.now c.requires.from.undone c.last_place-last.ensures.inside in
@@ -140,17 +140,17 @@ returns-then-is_dead-clause-advanced c =
     c.args.cache.now c.read_unit.new.cache (omega (arith, c.loop-read.invariant.from, f.more)) (omega arith)
     c.in_ok-next.ensures.reads
     (goes_more d c.args.dfa.now c.args.input.now c.args.units (known_of c.args.cache.now) k
-    (known_of c.walk_far-stop.new.cache) (known_of c.read_unit.new.cache) (goes p) c.in_ok-next.ensures.unit.read)
+    (known_of c.walk_with_leaps-stop.new.cache) (known_of c.read_unit.new.cache) (goes p) c.in_ok-next.ensures.unit.read)
     (finish_dead d c.args.dfa.now c.args.input.now c.args.units k _ (omega (arith, c.loop-read.invariant.from, f.more))
-    (omega (arith, units, c.walk_far-stop.ensures.far.within)) (omega arith)
+    (omega (arith, units, c.walk_with_leaps-stop.ensures.far.within)) (omega arith)
     (clean_more d c.args.dfa.now c.args.input.now k (followed_clean f c.loop-read.invariant.clean)
     c.in_ok-next.ensures.unit.clean) dies (followed_silent f c.loop-read.invariant.silent))
 
 pub returns-then-reports-clause-advanced : goal.returns-then-reports-clause-advanced
 returns-then-reports-clause-advanced c =
     let d : Direction = c.args.way in
-    let k : ℕ = c.walk_far-stop.result.0.at in
-    let p = (goal.at.returns-then-reports-clause-advanced c).After-walk_far-stop in
+    let k : ℕ = c.walk_with_leaps-stop.result.0.at in
+    let p = (goal.at.returns-then-reports-clause-advanced c).After-walk_with_leaps-stop in
     let f = followed p in
     let units : c.args.input.now.end - c.args.input.now.start ≡ length (tape_in d c.args.input.now).bytes =
     units_in d c.args.input.now c.requires.from.undone c.last_place-last.ensures.inside in
@@ -165,12 +165,12 @@ returns-then-reports-clause-advanced c =
     (record { id = Some c.in_ok-next.next; units = k + 1 }) c.args.cache.now c.read_unit.new.cache
     (omega (arith, c.loop-read.invariant.from, f.more)) (omega arith) c.in_ok-next.ensures.reads
     (goes_more d c.args.dfa.now c.args.input.now c.args.units (known_of c.args.cache.now) k
-    (known_of c.walk_far-stop.new.cache) (known_of c.read_unit.new.cache) (goes p) c.in_ok-next.ensures.unit.read)
+    (known_of c.walk_with_leaps-stop.new.cache) (known_of c.read_unit.new.cache) (goes p) c.in_ok-next.ensures.unit.read)
     (record {
       place = k;
       one_after = sym more;
       more = omega (arith, c.loop-read.invariant.from, f.more);
-      within = omega (arith, units, c.walk_far-stop.ensures.far.within);
+      within = omega (arith, units, c.walk_with_leaps-stop.ensures.far.within);
       named =
           subst (λ n. Names c.read_unit.new.cache.store.table c.in_ok-next.next
           (state_in d c.args.dfa.now c.args.input.now n)) more named;
@@ -203,7 +203,7 @@ returns-clause-advanced c =
     (finish_read d c.args.dfa.now c.args.input.now c.args.units c.loop-read.read all c.loop-read.invariant.from
     c.loop-read.invariant.clean c.loop-read.invariant.silent)
 
-pub walk_far-stop-requires-clause-near : goal.walk_far-stop-requires-clause-near
-walk_far-stop-requires-clause-near c =
+pub walk_with_leaps-stop-requires-clause-near : goal.walk_with_leaps-stop-requires-clause-near
+walk_with_leaps-stop-requires-clause-near c =
     follows_none c.follow_walk-near.result c.follow_walk-near.ensures.within c.follow_walk-near.ensures.followed.named
     c.follow_walk-near.ensures.met

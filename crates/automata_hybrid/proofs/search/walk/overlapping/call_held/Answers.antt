@@ -14,8 +14,8 @@ use Rattle.automata_hybrid.proofs.Walks.Calls.{still_walk}
 use Rattle.automata_hybrid.proofs.Walks.Bounds.{reported_lies}
 use Rattle.automata_hybrid.proofs.search.walk.overlapping.call_held.Goals as goal
 
-pub go_on-requires-clause-walk : goal.go_on-requires-clause-walk
-go_on-requires-clause-walk c =
+pub report_next-requires-clause-walk : goal.report_next-requires-clause-walk
+report_next-requires-clause-walk c =
     record {
       reported = c.requires.walk.reported;
       holds =
@@ -24,7 +24,7 @@ go_on-requires-clause-walk c =
 
 pub release-requires : goal.release-requires
 release-requires c =
-    itself_held c.go_on.new.cache.store.table c.go_on.new.walk.stage c.go_on.new.held c.in-Ok.ensures.held.holds
+    itself_held c.report_next.new.cache.store.table c.report_next.new.walk.stage c.report_next.new.held c.in-Ok.ensures.held.holds
     (c.in-Ok.ensures.held.keeping
     ∙ (held_itself c.args.cache.now.store.table c.args.walk.now.stage c.args.held.now c.requires.walk.itself).1)
 
@@ -54,7 +54,7 @@ returns-in-Ok-clause-call c =
       within =
           reported_lies d m input (subst WalksAreReported c.get_nfa.ensures c.walk_is_right.ensures.reported)
           (subst WalkLiesWithin c.get_nfa.ensures c.walk_is_right.ensures.within) haystack.within.1
-          c.args.walk.now c.go_on.new.walk answered c.requires.walk.reported reports tt;
+          c.args.walk.now c.report_next.new.walk answered c.requires.walk.reported reports tt;
       ended = λ over. elim c.in-Ok.ensures.called.answer.goes_on [
         | FindsNone none ↦ none
         | ReadsMore on more ↦ absurd (on over)
@@ -63,7 +63,7 @@ returns-in-Ok-clause-call c =
       refused = tt;
       unsupported =
           λ fresh u. absurd
-          (supported_call d m input c.args.walk.now c.go_on.new.walk c.requires.walk.reported reports u);
+          (supported_call d m input c.args.walk.now c.report_next.new.walk c.requires.walk.reported reports u);
       free = λ f. tt;
       ready = λ none. tt;
     }
@@ -77,10 +77,10 @@ returns-in-Err-clause-walk c =
     record {
       reported =
           still_walk c.args.way c.args.dfa.now c.args.input.now c.args.walk.now SearchError (Err c.in-Err.error)
-          c.go_on.new.walk
+          c.report_next.new.walk
           c.requires.walk.reported tt c.in-Err.ensures.err.0;
       itself =
-          subst (λ (h : Held). IsHeldItself c.go_on.new.walk.stage h) (sym c.in-Err.ensures.err.1)
+          subst (λ (h : Held). IsHeldItself c.report_next.new.walk.stage h) (sym c.in-Err.ensures.err.1)
           (subst (λ (w : Walk). IsHeldItself w.stage c.args.held.now) (sym c.in-Err.ensures.err.0)
           c.requires.walk.itself);
     }
@@ -89,7 +89,7 @@ pub returns-in-Err-clause-effect : goal.returns-in-Err-clause-effect
 returns-in-Err-clause-effect c =
     subst
     (λ k. CallFails k c.args.way c.args.dfa.now c.args.input.now c.args.walk.now (known_of c.args.cache.now)
-    (known_of c.go_on.new.cache) c.in-Err.error)
+    (known_of c.report_next.new.cache) c.in-Err.error)
     (held_itself c.args.cache.now.store.table c.args.walk.now.stage c.args.held.now c.requires.walk.itself).1
     c.in-Err.ensures.called
 
@@ -99,7 +99,7 @@ returns-in-Err-clause-call c =
     let m = c.args.dfa.now in
     let input = c.args.input.now in
     let old : Known = known_of c.args.cache.now in
-    let new : Known = known_of c.go_on.new.cache in
+    let new : Known = known_of c.report_next.new.cache in
     let left : CallFails States d m input c.args.walk.now old new c.in-Err.error =
     subst (λ k. CallFails k d m input c.args.walk.now old new c.in-Err.error)
     (held_itself c.args.cache.now.store.table c.args.walk.now.stage c.args.held.now c.requires.walk.itself).1
@@ -112,7 +112,7 @@ returns-in-Err-clause-call c =
       within =
           reported_lies d m input (subst WalksAreReported c.get_nfa.ensures c.walk_is_right.ensures.reported)
           (subst WalkLiesWithin c.get_nfa.ensures c.walk_is_right.ensures.within) haystack.within.1
-          c.args.walk.now c.go_on.new.walk refused c.requires.walk.reported tt c.in-Err.ensures.err.0;
+          c.args.walk.now c.report_next.new.walk refused c.requires.walk.reported tt c.in-Err.ensures.err.0;
       ended = λ over. ap (λ (w : Walk). w.found) c.in-Err.ensures.err.0;
       refused = c.in-Err.ensures.err.0;
       unsupported = λ fresh u.

@@ -20,17 +20,17 @@ use Rattle.automata_hybrid.proofs.Walks.Sets.{joins_full, joined_more, joins_mor
 use Rattle.automata_hybrid.proofs.Walks.Sets.{patterns_of, stands_well, steps_less, reported_undone}
 use Rattle.automata_hybrid.proofs.search.walk.which.collect.Goals as goal
 
-pub returns-in_err-go_on-clause-reported : goal.returns-in_err-go_on-clause-reported
-returns-in_err-go_on-clause-reported c =
+pub returns-in_err-report_next-clause-reported : goal.returns-in_err-report_next-clause-reported
+returns-in_err-report_next-clause-reported c =
     let m : Machine = c.args.dfa.now in
     let input : Input = c.args.input.now in
     let walk : Walk = c.walk.walk in
     let v = c.walk.invariant in
-    let left : CallFails Ids Forward m input walk (known_of c.walk.cache) (known_of c.go_on.new.cache)
-    c.in_err-go_on.field-0.0 =
-    subst (λ k. CallFails k Forward m input walk (known_of c.walk.cache) (known_of c.go_on.new.cache)
-    c.in_err-go_on.field-0.0) v.keeping
-    c.in_err-go_on.ensures.called in
+    let left : CallFails Ids Forward m input walk (known_of c.walk.cache) (known_of c.report_next.new.cache)
+    c.in_err-report_next.field-0.0 =
+    subst (λ k. CallFails k Forward m input walk (known_of c.walk.cache) (known_of c.report_next.new.cache)
+    c.in_err-report_next.field-0.0) v.keeping
+    c.in_err-report_next.ensures.called in
     at_err c.from_residual.result _
     (λ (x : Result (Unit {0}) SearchError). IsSetReported m input c.args.patset.now c.walk.patset x)
     c.from_residual.ensures.1
@@ -41,30 +41,30 @@ returns-in_err-go_on-clause-reported c =
       unsupported =
           λ u. (
             ap Err
-                (unsupported_call Ids Forward m input walk (known_of c.walk.cache) (known_of c.go_on.new.cache)
-                c.in_err-go_on.field-0.0 (v.begins u).0 u left),
+                (unsupported_call Ids Forward m input walk (known_of c.walk.cache) (known_of c.report_next.new.cache)
+                c.in_err-report_next.field-0.0 (v.begins u).0 u left),
             (v.begins u).1,
           );
       done =
           λ past. absurd
-          (left_reads Ids Forward m input walk (known_of c.walk.cache) (known_of c.go_on.new.cache)
-          c.in_err-go_on.field-0.0 left (HasNoneLeft (omega (arith, past))));
+          (left_reads Ids Forward m input walk (known_of c.walk.cache) (known_of c.report_next.new.cache)
+          c.in_err-report_next.field-0.0 left (HasNoneLeft (omega (arith, past))));
     })
 
-pub returns-in_err-go_on-clause-effect : goal.returns-in_err-go_on-clause-effect
-returns-in_err-go_on-clause-effect c =
+pub returns-in_err-report_next-clause-effect : goal.returns-in_err-report_next-clause-effect
+returns-in_err-report_next-clause-effect c =
     let m : Machine = c.args.dfa.now in
     let input : Input = c.args.input.now in
     let mid : Known = known_of c.walk.cache in
-    let new : Known = known_of c.go_on.new.cache in
+    let new : Known = known_of c.report_next.new.cache in
     let walk : Walk = c.walk.walk in
     let v = c.walk.invariant in
     let j = v.joins.0 in
-    let left : CallFails Ids Forward m input walk (known_of c.walk.cache) (known_of c.go_on.new.cache)
-    c.in_err-go_on.field-0.0 =
-    subst (λ k. CallFails k Forward m input walk (known_of c.walk.cache) (known_of c.go_on.new.cache)
-    c.in_err-go_on.field-0.0) v.keeping
-    c.in_err-go_on.ensures.called in
+    let left : CallFails Ids Forward m input walk (known_of c.walk.cache) (known_of c.report_next.new.cache)
+    c.in_err-report_next.field-0.0 =
+    subst (λ k. CallFails k Forward m input walk (known_of c.walk.cache) (known_of c.report_next.new.cache)
+    c.in_err-report_next.field-0.0) v.keeping
+    c.in_err-report_next.ensures.called in
     at_err c.from_residual.result _
     (λ (r : Result (Unit {0}) SearchError). IsSetRun m input c.args.patset.now c.walk.patset (known_of c.args.cache.now)
     new (result_err r)) c.from_residual.ensures.1
@@ -87,12 +87,12 @@ returns-in_default-clause-reported c =
     let set : List Bool = c.walk.patset in
     let v = c.walk.invariant in
     let j = v.joins.0 in
-    let reports = c.in_ok-go_on.ensures.called.answer.reports in
+    let reports = c.in_ok-report_next.ensures.called.answer.reports in
     let reported : WalksAreReported m.nfa = subst WalksAreReported c.get_nfa.ensures c.walk_is_right.ensures.reported in
     let list : (pairs : List Pair) × AreWalked Forward m input pairs =
     reported Forward (match_kind_of m.config) input in
     let found =
-    joins_all m input old c.walk.walk c.go_on.new.walk set j reports list
+    joins_all m input old c.walk.walk c.report_next.new.walk set j reports list
     (sym c.get_match.ensures ∙ c.in_default.«is») in
     record {
       found = found;
@@ -100,7 +100,7 @@ returns-in_default-clause-reported c =
           (c.haystack-haystack.ensures.bytes, c.haystack-haystack.ensures.within.1) old set free found;
       capacity = j.capacity;
       unsupported =
-          λ u. absurd (supported_call Forward m input c.walk.walk c.go_on.new.walk (j.k, j.reported) reports u);
+          λ u. absurd (supported_call Forward m input c.walk.walk c.report_next.new.walk (j.k, j.reported) reports u);
       done = λ past. (refl, v.done past);
     }
 
@@ -109,15 +109,15 @@ returns-in_default-clause-effect c =
     let m : Machine = c.args.dfa.now in
     let input : Input = c.args.input.now in
     let mid : Known = known_of c.walk.cache in
-    let new : Known = known_of c.go_on.new.cache in
+    let new : Known = known_of c.report_next.new.cache in
     let walk : Walk = c.walk.walk in
-    let next : Walk = c.go_on.new.walk in
+    let next : Walk = c.report_next.new.walk in
     let v = c.walk.invariant in
     let j = v.joins.0 in
     let reported : WalksAreReported m.nfa = subst WalksAreReported c.get_nfa.ensures c.walk_is_right.ensures.reported in
     let list : (pairs : List Pair) × AreWalked Forward m input pairs =
     reported Forward (match_kind_of m.config) input in
-    let a = c.in_ok-go_on.ensures.called.answer in
+    let a = c.in_ok-report_next.ensures.called.answer in
     let after = (a.reports j.k j.reported).1 list.0 list.1 in
     let last : next.stage ≡ Ended =
     after.1 (half_none list.0 j.k (sym after.0 ∙ (sym c.get_match.ensures ∙ c.in_default.«is»))) in
@@ -127,7 +127,7 @@ returns-in_default-clause-effect c =
       called =
           OneMore j.k walk next mid new v.joins.1 (open_after m input walk c.args.patset.now c.walk.patset j) v.there
           a.reports
-          c.in_ok-go_on.ensures.called.effect;
+          c.in_ok-report_next.ensures.called.effect;
       last = inl last;
     }
 
@@ -139,9 +139,9 @@ returns-then-is_full-clause-reported c =
     let before : List Bool = c.walk.patset in
     let half = c.in-Some.half in
     let walk : Walk = c.walk.walk in
-    let next : Walk = c.go_on.new.walk in
+    let next : Walk = c.report_next.new.walk in
     let j = c.walk.invariant.joins.0 in
-    let a = c.in_ok-go_on.ensures.called.answer in
+    let a = c.in_ok-report_next.ensures.called.answer in
     let reported : WalksAreReported m.nfa = subst WalksAreReported c.get_nfa.ensures c.walk_is_right.ensures.reported in
     let list : (pairs : List Pair) × AreWalked Forward m input pairs =
     reported Forward (match_kind_of m.config) input in
@@ -172,12 +172,12 @@ returns-then-is_full-clause-effect c =
     let m : Machine = c.args.dfa.now in
     let input : Input = c.args.input.now in
     let mid : Known = known_of c.walk.cache in
-    let new : Known = known_of c.go_on.new.cache in
+    let new : Known = known_of c.report_next.new.cache in
     let walk : Walk = c.walk.walk in
-    let next : Walk = c.go_on.new.walk in
+    let next : Walk = c.report_next.new.walk in
     let v = c.walk.invariant in
     let j = v.joins.0 in
-    let a = c.in_ok-go_on.ensures.called.answer in
+    let a = c.in_ok-report_next.ensures.called.answer in
     let found : next.found ≡ Some c.in-Some.half = sym c.get_match.ensures ∙ c.in-Some.«is» in
     record {
       calls = suc j.k;
@@ -185,7 +185,7 @@ returns-then-is_full-clause-effect c =
       called =
           OneMore j.k walk next mid new v.joins.1 (open_after m input walk c.args.patset.now c.walk.patset j) v.there
           a.reports
-          c.in_ok-go_on.ensures.called.effect;
+          c.in_ok-report_next.ensures.called.effect;
       last = inr (λ pairs walked.
           closes input c.args.patset.now (set c.walk.patset c.in-Some.half.pattern true) pairs j.k c.in-Some.half
           (sym ((a.reports j.k j.reported).1 pairs walked).0 ∙ found)
@@ -205,9 +205,9 @@ returns-then-get_earliest-clause-reported c =
     let before : List Bool = c.walk.patset in
     let half = c.in-Some.half in
     let walk : Walk = c.walk.walk in
-    let next : Walk = c.go_on.new.walk in
+    let next : Walk = c.report_next.new.walk in
     let j = c.walk.invariant.joins.0 in
-    let a = c.in_ok-go_on.ensures.called.answer in
+    let a = c.in_ok-report_next.ensures.called.answer in
     let reported : WalksAreReported m.nfa = subst WalksAreReported c.get_nfa.ensures c.walk_is_right.ensures.reported in
     let list : (pairs : List Pair) × AreWalked Forward m input pairs =
     reported Forward (match_kind_of m.config) input in
@@ -238,12 +238,12 @@ returns-then-get_earliest-clause-effect c =
     let m : Machine = c.args.dfa.now in
     let input : Input = c.args.input.now in
     let mid : Known = known_of c.walk.cache in
-    let new : Known = known_of c.go_on.new.cache in
+    let new : Known = known_of c.report_next.new.cache in
     let walk : Walk = c.walk.walk in
-    let next : Walk = c.go_on.new.walk in
+    let next : Walk = c.report_next.new.walk in
     let v = c.walk.invariant in
     let j = v.joins.0 in
-    let a = c.in_ok-go_on.ensures.called.answer in
+    let a = c.in_ok-report_next.ensures.called.answer in
     let found : next.found ≡ Some c.in-Some.half = sym c.get_match.ensures ∙ c.in-Some.«is» in
     record {
       calls = suc j.k;
@@ -251,7 +251,7 @@ returns-then-get_earliest-clause-effect c =
       called =
           OneMore j.k walk next mid new v.joins.1 (open_after m input walk c.args.patset.now c.walk.patset j) v.there
           a.reports
-          c.in_ok-go_on.ensures.called.effect;
+          c.in_ok-report_next.ensures.called.effect;
       last = inr (λ pairs walked.
           closes input c.args.patset.now (set c.walk.patset c.in-Some.half.pattern true) pairs j.k c.in-Some.half
           (sym ((a.reports j.k j.reported).1 pairs walked).0 ∙ found)
@@ -263,14 +263,14 @@ returns-then-get_earliest-clause-effect c =
 
 pub walk-smaller : goal.walk-smaller
 walk-smaller c =
-    let found : c.go_on.new.walk.found ≡ Some c.in-Some.half = sym c.get_match.ensures ∙ c.in-Some.«is» in
+    let found : c.report_next.new.walk.found ≡ Some c.in-Some.half = sym c.get_match.ensures ∙ c.in-Some.«is» in
     let put : c.try_insert.new.self ≡ set c.walk.patset c.in-Some.half.pattern true =
     c.try_insert.ensures.inserted ∙ ap (λ n. set c.walk.patset n true) c.pattern.ensures in
-    let on = on_found c.walk.walk c.go_on.new.walk c.in-Some.half c.in_ok-go_on.ensures.called.answer.goes_on found in
+    let on = on_found c.walk.walk c.report_next.new.walk c.in-Some.half c.in_ok-report_next.ensures.called.answer.goes_on found in
     let j = c.walk.invariant.joins.0 in
-    steps_less c.args.dfa.now c.args.input.now c.haystack-haystack.ensures.within.1 c.walk.walk c.go_on.new.walk
-    (stands_well c.args.dfa.now c.args.input.now c.haystack-haystack.ensures.within.1 c.go_on.new.walk j.k
-    (c.in_ok-go_on.ensures.called.answer.reports j.k j.reported).0 on.0) on.1
+    steps_less c.args.dfa.now c.args.input.now c.haystack-haystack.ensures.within.1 c.walk.walk c.report_next.new.walk
+    (stands_well c.args.dfa.now c.args.input.now c.haystack-haystack.ensures.within.1 c.report_next.new.walk j.k
+    (c.in_ok-report_next.ensures.called.answer.reports j.k j.reported).0 on.0) on.1
 
 pub walk-init : goal.walk-init
 walk-init c = record {
@@ -292,46 +292,46 @@ walk-preserved c =
     subst WalksAreReported c.get_nfa.ensures c.walk_is_right.ensures.reported in
     let list : (pairs : List Pair) × AreWalked Forward c.args.dfa.now c.args.input.now pairs =
     reported Forward (match_kind_of c.args.dfa.now.config) c.args.input.now in
-    let found : c.go_on.new.walk.found ≡ Some c.in-Some.half = sym c.get_match.ensures ∙ c.in-Some.«is» in
+    let found : c.report_next.new.walk.found ≡ Some c.in-Some.half = sym c.get_match.ensures ∙ c.in-Some.«is» in
     let put : c.try_insert.new.self ≡ set c.walk.patset c.in-Some.half.pattern true =
     c.try_insert.ensures.inserted ∙ ap (λ n. set c.walk.patset n true) c.pattern.ensures in
-    let on = on_found c.walk.walk c.go_on.new.walk c.in-Some.half c.in_ok-go_on.ensures.called.answer.goes_on found in
+    let on = on_found c.walk.walk c.report_next.new.walk c.in-Some.half c.in_ok-report_next.ensures.called.answer.goes_on found in
     let j = c.walk.invariant.joins.0 in
     let lacks : IsLacking (set c.walk.patset c.in-Some.half.pattern true) = lacking _ 0 (λ full.
     let whole : IsTrue c.is_full.result =
     c.is_full.ensures.1 (subst (λ (s : List Bool). length (members s) ≡ length s) (sym put) full) in
     false_true (sym c.if-is_full.false ∙ whole)) in
     record {
-      of = c.in_ok-go_on.ensures.of;
+      of = c.in_ok-report_next.ensures.of;
       there =
-          held_there c.go_on.new.cache c.go_on.new.walk.stage c.go_on.new.held c.in_ok-go_on.ensures.held.holds
-          (c.in_ok-go_on.ensures.held.keeping ∙ c.walk.invariant.keeping);
+          held_there c.report_next.new.cache c.report_next.new.walk.stage c.report_next.new.held c.in_ok-report_next.ensures.held.holds
+          (c.in_ok-report_next.ensures.held.keeping ∙ c.walk.invariant.keeping);
       on = on.0;
-      holds = c.in_ok-go_on.ensures.held.holds;
-      keeping = c.in_ok-go_on.ensures.held.keeping ∙ c.walk.invariant.keeping;
+      holds = c.in_ok-report_next.ensures.held.holds;
+      keeping = c.in_ok-report_next.ensures.held.keeping ∙ c.walk.invariant.keeping;
       done = λ past. (
           let undone =
-          reported_undone c.args.dfa.now c.args.input.now c.go_on.new.walk j.k
-          (c.in_ok-go_on.ensures.called.answer.reports j.k j.reported).0 on.0 in
+          reported_undone c.args.dfa.now c.args.input.now c.report_next.new.walk j.k
+          (c.in_ok-report_next.ensures.called.answer.reports j.k j.reported).0 on.0 in
           absurd (omega (arith, past, undone)));
       begins =
           λ u. absurd
-          (supported_call Forward c.args.dfa.now c.args.input.now c.walk.walk c.go_on.new.walk (j.k, j.reported)
-          c.in_ok-go_on.ensures.called.answer.reports u);
+          (supported_call Forward c.args.dfa.now c.args.input.now c.walk.walk c.report_next.new.walk (j.k, j.reported)
+          c.in_ok-report_next.ensures.called.answer.reports u);
       joins =
-          subst (λ (s : List Bool). (i : Joins c.args.dfa.now c.args.input.now c.go_on.new.walk c.args.patset.now s)
+          subst (λ (s : List Bool). (i : Joins c.args.dfa.now c.args.input.now c.report_next.new.walk c.args.patset.now s)
           × HaveCalled c.args.dfa.now c.args.input.now c.args.patset.now (known_of c.args.cache.now) i.k
-          c.go_on.new.walk (known_of c.go_on.new.cache)) (sym put) (
-            joins_more c.args.dfa.now c.args.input.now c.args.patset.now c.walk.walk c.go_on.new.walk c.walk.patset
-                c.walk.invariant.joins.0 c.in_ok-go_on.ensures.called.answer.reports list c.in-Some.half found
+          c.report_next.new.walk (known_of c.report_next.new.cache)) (sym put) (
+            joins_more c.args.dfa.now c.args.input.now c.args.patset.now c.walk.walk c.report_next.new.walk c.walk.patset
+                c.walk.invariant.joins.0 c.in_ok-report_next.ensures.called.answer.reports list c.in-Some.half found
                 (sym c.get_earliest.ensures ∙ c.if-get_earliest.false) lacks,
-            calls_more c.args.dfa.now c.args.input.now c.args.patset.now c.walk.walk c.go_on.new.walk c.walk.patset
-                c.walk.invariant.joins.0 c.in_ok-go_on.ensures.called.answer.reports list c.in-Some.half found
+            calls_more c.args.dfa.now c.args.input.now c.args.patset.now c.walk.walk c.report_next.new.walk c.walk.patset
+                c.walk.invariant.joins.0 c.in_ok-report_next.ensures.called.answer.reports list c.in-Some.half found
                 (sym c.get_earliest.ensures ∙ c.if-get_earliest.false) lacks (known_of c.args.cache.now)
-                (known_of c.go_on.new.cache)
-                (OneMore j.k c.walk.walk c.go_on.new.walk (known_of c.walk.cache) (known_of c.go_on.new.cache)
+                (known_of c.report_next.new.cache)
+                (OneMore j.k c.walk.walk c.report_next.new.walk (known_of c.walk.cache) (known_of c.report_next.new.cache)
                 c.walk.invariant.joins.1
                 (open_after c.args.dfa.now c.args.input.now c.walk.walk c.args.patset.now c.walk.patset j)
-                c.walk.invariant.there c.in_ok-go_on.ensures.called.answer.reports c.in_ok-go_on.ensures.called.effect),
+                c.walk.invariant.there c.in_ok-report_next.ensures.called.answer.reports c.in_ok-report_next.ensures.called.effect),
           );
     }

@@ -1,0 +1,177 @@
+use Rattle.std.proofs.Common.{ℕ, suc, ◌≡◌, ◌∙◌, ◌+◌, ◌-◌, ◌<◌, ◌≤◌, ◌^◌, None, true, length, subst, sym, refl, rules}
+use Rattle.std.proofs.Common.{arith}
+use Rattle.std.proofs.lemmas.Grind.{common_steps}
+use Rattle.automata_hybrid.proofs.Words.{Direction, tape_in}
+use Rattle.automata_hybrid.specs.Private.Searches.PassContracts.{IsKnownStop, IsKnownUpto}
+use Rattle.automata_hybrid.specs.declared.search.pass.KnownPass.{KnownPass}
+use Rattle.automata_hybrid.proofs.Searches.Directions.{units_in}
+use Rattle.automata_hybrid.proofs.Searches.KnownPasses.{known_dead, known_first, known_last, known_leads, known_more}
+use Rattle.automata_hybrid.proofs.Searches.PassState.{false_true, none_is, some_is}
+use Rattle.automata_hybrid.proofs.Steps.Ids.{dead_clear}
+use Rattle.automata_hybrid.proofs.Searches.Traces.{pass_is_trace}
+use Rattle.automata_hybrid.proofs.search.pass.known_pass.Goals as goal
+use Rattle.automata_hybrid.proofs.search.pass.known_pass.Goals.{else-get_earliest-via-then-get_earliest+else-is_some}
+use Rattle.automata_hybrid.proofs.search.pass.known_pass.Goals.{After-run_to_match-run}
+use Rattle.automata_hybrid.proofs.search.pass.known_pass.Goals.{else-get_earliest-via-else-get_earliest}
+
+-- cached transitions led the pass there
+upto :
+    (c : After-run_to_match-run)
+    → IsKnownUpto c.args.way c.args.dfa.now c.args.cache.now.store c.args.input.now c.run_to_match-run.result.at
+    c.run_to_match-run.result.id c.run_to_match-run.result.found
+upto c = record {
+  within = c.run_to_match-run.ensures.runs.run.within;
+  at = record { undone = c.requires.at.undone; may = c.requires.at.may; at = c.run_to_match-run.ensures.runs.at };
+  known = λ j below. c.run_to_match-run.ensures.runs.run.known j (omega arith) below;
+}
+
+-- no unit is read after the last place of the span
+few :
+    (c : After-run_to_match-run)
+    → c.run_to_match-run.result.at ≤ length (tape_in c.args.way c.args.input.now).bytes
+few c =
+    let u = units_in c.args.way c.args.input.now c.requires.at.undone c.last_place-last.ensures.inside in
+    omega (arith, u, (upto c).within)
+
+pub found_at-found-requires-clause-leads : goal.found_at-found-requires-clause-leads
+found_at-found-requires-clause-leads c =
+    let d : Direction = c.args.way in
+    let k : ℕ = c.run_to_match-run.result.at in
+    let low : c.known_next-next.result < 2 ^ 31 = grind (arith, common_steps, c.if-is_unknown.ensures.size) in
+    let past = (goal.at.found_at-found-requires-clause-leads c).After-run_to_match-run in
+    let upto = upto past in
+    let few = few past in (
+      _,
+      known_leads d c.args.dfa.now c.args.input.now k c.run_to_match-run.result.id c.args.cache.now
+          c.run_to_match-run.result.found
+          c.known_next-next.result c.requires.of c.see_bounds.ensures.sound upto few
+          (subst (λ n. n < 2 ^ 31) (c.known_next-next.ensures.value low) low) (c.known_next-next.ensures.answer low)
+          (c.known_next-next.ensures.below low) (λ b. false_true (c.if-is_quit.ensures.1 b)),
+    )
+
+pub returns-then-is_dead : goal.returns-then-is_dead
+returns-then-is_dead c =
+    let d : Direction = c.args.way in
+    let k : ℕ = c.run_to_match-run.result.at in
+    let low : c.known_next-next.result < 2 ^ 31 = grind (arith, common_steps, c.if-is_unknown.ensures.size) in
+    let past = (goal.at.returns-then-is_dead c).After-run_to_match-run in
+    let upto = upto past in
+    let few = few past in
+    subst (λ (r : KnownPass). IsKnownStop d c.args.dfa.now c.args.cache.now c.args.input.now r.stop r.at r.id r.found)
+    (sym c.new-then-is_dead.ensures)
+    (known_dead d c.args.dfa.now c.args.input.now k c.run_to_match-run.result.id c.args.cache.now
+    c.run_to_match-run.result.found
+    c.known_next-next.result c.requires.of c.see_bounds.ensures.sound upto few
+    (subst (λ n. n < 2 ^ 31) (c.known_next-next.ensures.value low) low) (c.known_next-next.ensures.answer low)
+    (c.known_next-next.ensures.below low)
+    (dead_clear c.args.cache.now c.known_next-next.result (c.known_next-next.ensures.answer low).row
+    (c.see_bounds.ensures.sound.low c.known_next-next.result) c.see_bounds.ensures.bounds.small
+    (c.if-is_dead.ensures.0 refl)) (c.if-is_dead.ensures.0 refl))
+
+pub returns-then-run-last-2 : goal.returns-then-run-last-2
+returns-then-run-last-2 c =
+    let d : Direction = c.args.way in
+    let k : ℕ = c.run_to_match-run.result.at in
+    let low : c.known_next-next.result < 2 ^ 31 = grind (arith, common_steps, c.if-is_unknown.ensures.size) in
+    let past = (goal.at.returns-then-run-last-2 c).After-run_to_match-run in
+    let upto = upto past in
+    let few = few past in
+    subst (λ (r : KnownPass). IsKnownStop d c.args.dfa.now c.args.cache.now c.args.input.now r.stop r.at r.id r.found)
+    (sym c.new-then-run-last-2.ensures)
+    (known_last d c.args.dfa.now c.args.input.now k c.run_to_match-run.result.id c.args.cache.now
+    c.run_to_match-run.result.found
+    c.known_next-next.result c.requires.of c.see_bounds.ensures.sound upto few
+    (subst (λ n. n < 2 ^ 31) (c.known_next-next.ensures.value low) low) (c.known_next-next.ensures.answer low)
+    (c.known_next-next.ensures.below low) (λ b. false_true (c.if-is_quit.ensures.1 b)) c.found_at-found.result
+    c.place_offset.result c.place_offset.ensures.value c.found_at-found.ensures
+    (let u = units_in d c.args.input.now c.requires.at.undone c.last_place-last.ensures.inside in
+    omega (arith, u, upto.within, c.if-run-last-2.true, c.last_place-last.ensures.place)))
+
+pub returns-then-is_some : goal.returns-then-is_some
+returns-then-is_some c =
+    let d : Direction = c.args.way in
+    let k : ℕ = c.run_to_match-run.result.at in
+    let low : c.known_next-next.result < 2 ^ 31 = grind (arith, common_steps, c.if-is_unknown.ensures.size) in
+    let past = (goal.at.returns-then-is_some c).After-run_to_match-run in
+    let upto = upto past in
+    let few = few past in
+    subst (λ (r : KnownPass). IsKnownStop d c.args.dfa.now c.args.cache.now c.args.input.now r.stop r.at r.id r.found)
+    (sym c.new-then-is_some.ensures)
+    (known_first d c.args.dfa.now c.args.input.now k c.run_to_match-run.result.id c.args.cache.now
+    c.run_to_match-run.result.found
+    c.known_next-next.result c.requires.of c.see_bounds.ensures.sound upto few
+    (subst (λ n. n < 2 ^ 31) (c.known_next-next.ensures.value low) low) (c.known_next-next.ensures.answer low)
+    (c.known_next-next.ensures.below low) (λ b. false_true (c.if-is_quit.ensures.1 b)) c.found_at-found.result
+    c.place_offset.result c.place_offset.ensures.value c.found_at-found.ensures
+    (sym c.get_earliest.ensures ∙ c.if-get_earliest.true) (some_is c.found_at-found.result c.if-is_some.ensures))
+
+pub returns : goal.returns
+returns c =
+    let d : Direction = c.args.way in
+    let k : ℕ = c.run_to_match-run.result.at in
+    let low : c.known_next-next.result < 2 ^ 31 = grind (arith, common_steps, c.if-is_unknown.ensures.size) in
+    let past = (goal.at.returns c).After-run_to_match-run in
+    let upto = upto past in
+    let few = few past in
+    let less : k < c.args.input.now.end - c.args.input.now.start =
+    omega (arith, c.if-run-last-2.false, c.last_place-last.ensures.place) in
+    let more : suc k ≡ c.run_to_match-run.result.at + 1 = omega arith in
+    let first : c.args.input.now.earliest ≡ true → c.found_at-found.result ≡ None =
+    elim c.else-get_earliest.branch [
+      | else-get_earliest-via-then-get_earliest+else-is_some w ↦ λ e. none_is c.found_at-found.result
+          (sym w.is_some.ensures ∙ w.if-is_some.false)
+      | else-get_earliest-via-else-get_earliest w ↦ λ e. absurd
+          (false_true (sym w.if-get_earliest.false ∙ (c.get_earliest.ensures ∙ e)))
+    ] in
+    subst (λ (r : KnownPass). IsKnownStop d c.args.dfa.now c.args.cache.now c.args.input.now r.stop r.at r.id r.found)
+    (sym c.new-2.ensures)
+    (subst
+    (λ n. IsKnownUpto d c.args.dfa.now c.args.cache.now.store c.args.input.now n c.known_next-next.result
+    c.found_at-found.result) more
+    (known_more d c.args.dfa.now c.args.input.now k c.run_to_match-run.result.id c.args.cache.now
+    c.run_to_match-run.result.found
+    c.known_next-next.result c.requires.of c.see_bounds.ensures.sound upto few
+    (subst (λ n. n < 2 ^ 31) (c.known_next-next.ensures.value low) low) (c.known_next-next.ensures.answer low)
+    (c.known_next-next.ensures.below low) (λ b. false_true (c.if-is_quit.ensures.1 b)) c.found_at-found.result
+    c.place_offset.result c.place_offset.ensures.value c.found_at-found.ensures
+    (λ b. false_true (c.if-is_dead.ensures.1 b)) first less))
+
+pub returns-then-is_unknown : goal.returns-then-is_unknown
+returns-then-is_unknown c =
+    let d : Direction = c.args.way in
+    let past = (goal.at.returns-then-is_unknown c).After-run_to_match-run in
+    let upto = upto past in
+    subst (λ (r : KnownPass). IsKnownStop d c.args.dfa.now c.args.cache.now c.args.input.now r.stop r.at r.id r.found)
+    (sym c.new-then-is_unknown.ensures) upto
+
+pub returns-then-run-last : goal.returns-then-run-last
+returns-then-run-last c =
+    let d : Direction = c.args.way in
+    let past = (goal.at.returns-then-run-last c).After-run_to_match-run in
+    let upto = upto past in
+    subst (λ (r : KnownPass). IsKnownStop d c.args.dfa.now c.args.cache.now c.args.input.now r.stop r.at r.id r.found)
+    (sym c.new.ensures)
+    (upto, search rules)
+
+pub returns-then-is_quit : goal.returns-then-is_quit
+returns-then-is_quit c =
+    let d : Direction = c.args.way in
+    let past = (goal.at.returns-then-is_quit c).After-run_to_match-run in
+    let upto = upto past in
+    subst (λ (r : KnownPass). IsKnownStop d c.args.dfa.now c.args.cache.now c.args.input.now r.stop r.at r.id r.found)
+    (sym c.new-then-is_quit.ensures) upto
+
+pub run_to_match-run-requires : goal.run_to_match-run-requires
+run_to_match-run-requires c =
+    let trace = pass_is_trace c.args.way c.args.dfa.now c.args.input.now in (
+      c.requires.of,
+      (
+        record {
+          on = record { trace = trace; named = c.requires.at.at.named };
+          undone = c.requires.at.undone;
+          within = omega arith;
+          upto = omega (arith, c.min.ensures, c.last_place-last.ensures.place);
+        },
+        c.requires.at.at,
+      ),
+    )
