@@ -73,7 +73,6 @@ impl LineSearcher {
     {
         start_is_right();
         cycles_are_kept();
-        let _haystack = Input::new(line).haystack();
         let input = Input::new(line).earliest(true);
         let found = self.dfa.try_search_fwd(&mut self.cache, &input)?;
         Ok(found.is_some())

@@ -6,6 +6,7 @@ ghost use Rattle.std.specs.Result.{result_err};
 ghost use Rattle.regex_hir.specs.Re.{Re};
 ghost use Rattle.regex_automata.specs.Spans.Errors.{IsNextError};
 ghost use Rattle.regex_automata.specs.Spans.Iteration.{GoesPast};
+ghost use Rattle.automata_base.specs.Haystacks.Input.{IsValidInput};
 ghost use Rattle.automata_config.specs.Options.{overwritten, unset};
 ghost use Rattle.regex_automata.specs.Promises.{AreCachesOf, Forward, IsHalf, IsSoundPair, IsSpanOf, IsTruthOf};
 ghost use Rattle.regex_automata.specs.Promises.{IsSearchRun, IsSpanRun, IsTruthRun, known_of};
@@ -57,7 +58,8 @@ fn regex_of(nfa: NFA, config: Config) -> Result<Regex, RegexBuildError>
 /// Returns the input for the haystack from an offset on.
 fn rest<'h>(hay: &'h [u8], start: usize) -> Input<'h>
     requires { start ≤ length hay.now }
-    ensures { result ≡ span_input hay.now start (length hay.now) }
+    ensures input { result ≡ span_input hay.now start (length hay.now) }
+    ensures valid { IsValidInput result }
 {
     Input::new(hay).range(start..hay.len())
 }
@@ -142,7 +144,6 @@ impl Pattern {
             (result_err result) }
     {
         let input = Input::new(hay);
-        let _haystack = input.haystack();
         self.regex.is_match(cache, &input)
     }
 
@@ -165,7 +166,6 @@ impl Pattern {
             (result_err result) }
     {
         let input = rest(hay, start);
-        let _haystack = input.haystack();
         self.regex.find(cache, &input)
     }
 
@@ -189,7 +189,6 @@ impl Pattern {
         ensures reverse { cache.new.reverse ≡ cache.old.reverse }
     {
         let left = rest(hay, start);
-        let _haystack = left.haystack();
         self.regex
             .forward()
             .try_search_fwd(cache.forward_mut(), &left)
@@ -214,7 +213,6 @@ impl Pattern {
         matches_are_spans(&self.regex);
         spans_follow(&self.regex);
         let input = rest(hay, last.unwrap_or(0));
-        let _haystack = input.haystack();
         self.regex.next_match(cache, &input, last)
     }
 }

@@ -120,7 +120,6 @@ impl RegexSet {
         sets_have_matching(&self.dfa);
         let mut found = PatternSet::new(alloc, self.dfa.pattern_len())?;
         let input = Input::new(hay);
-        let _haystack = input.haystack();
         match self
             .dfa
             .try_which_overlapping_matches(cache, &input, &mut found)
@@ -142,7 +141,6 @@ impl RegexSet {
     {
         walk_is_right(self.dfa.get_nfa());
         let input = Input::new(hay);
-        let _haystack = input.haystack();
         let mut state = OverlappingState::start();
         match self
             .dfa

@@ -1,6 +1,7 @@
 -- An input as contracts see it.
-use Rattle.std.specs.Prelude.{ℕ, ◌+◌, ◌≤◌, ◌++◌, Bool, List, length, codes}
+use Rattle.std.specs.Prelude.{ℕ, ◌+◌, ◌^◌, ◌<◌, ◌≤◌, ◌++◌, Bool, List, length, codes}
 use Rattle.std.specs.Fmt.{decimal}
+use Rattle.automata_base.specs.Haystacks.Tapes.{IsHaystack}
 use Rattle.automata_base.specs.declared.util.search.Anchored.{Anchored}
 use Rattle.automata_base.specs.declared.util.search.Anchored.TheVariants.{No, Yes, Pattern}
 
@@ -25,6 +26,15 @@ Allows haystack start end = (start ≤ end + 1) × (end ≤ length haystack)
 -- The span of an input is one that may be set.
 abbrev pub IsAllowed : Input → Type 0
 IsAllowed input = Allows input.haystack input.start input.end
+
+-- What holds of every input.
+pub record IsValidInput (input : Input) : Type 0 where
+  -- its haystack consists of bytes
+  pub bytes : IsHaystack input.haystack
+  -- its span is one that may be set
+  pub within : IsAllowed input
+  -- its haystack has fewer than 2^63 bytes
+  pub bound : length input.haystack < 2 ^ 63
 
 -- The name of an anchored mode in the text of an error.
 abbrev pub mode_text : Anchored → List ℕ

@@ -327,19 +327,20 @@ impl<'h> Model for Input<'h> {
 }
 
 impl<'h> Input<'h> {
-    ghost use Rattle.std.specs.Prelude.{◌≡◌, ◌<◌, ◌≤◌, ◌^◌, ◌↔◌, IsTrue, length, false};
-    ghost use Rattle.automata_base.specs.Haystacks.Input.{Allows, IsAllowed};
-    ghost use Rattle.automata_base.specs.Haystacks.Tapes.{IsHaystack, is_split};
+    ghost use Rattle.std.specs.Prelude.{◌≡◌, ◌<◌, ◌≤◌, ◌↔◌, IsTrue, length, false};
+    ghost use Rattle.automata_base.specs.Haystacks.Input.{Allows, IsValidInput};
+    ghost use Rattle.automata_base.specs.Haystacks.Tapes.{is_split};
 
     /// Returns an input whose span is the whole haystack, neither anchored nor earliest.
     pub fn new(haystack: &'h [u8]) -> Input<'h>
-        ensures { result ≡ record {
+        ensures input { result ≡ record {
           haystack = haystack.now;
           start = 0;
           end = length haystack.now;
           anchored = Anchored.No;
           earliest = false;
         } }
+        ensures valid { IsValidInput result }
     {
         Input {
             haystack,
@@ -385,7 +386,8 @@ impl<'h> Input<'h> {
 
     /// Returns a copy of the input. Unlike `clone`, it cannot fail.
     pub fn copied(&self) -> Input<'h>
-        ensures { result ≡ self.now }
+        ensures same { result ≡ self.now }
+        ensures valid { IsValidInput result }
     {
         Input {
             haystack: self.haystack,
@@ -474,9 +476,7 @@ impl<'h> Input<'h> {
     /// Returns the whole haystack, not only the span: looks see the bytes beside the span.
     pub fn haystack(&self) -> &'h [u8]
         ensures same { result.now ≡ self.now.haystack }
-        ensures bytes { IsHaystack self.now.haystack }
-        ensures within { IsAllowed self.now }
-        ensures bound { length self.now.haystack < 2 ^ 63 }
+        ensures valid { IsValidInput self.now }
     {
         self.haystack
     }
@@ -484,7 +484,7 @@ impl<'h> Input<'h> {
     /// Returns the offset in the haystack, in bytes, where the span starts.
     pub fn start(&self) -> usize
         ensures start { result ≡ self.now.start }
-        ensures within { IsAllowed self.now }
+        ensures valid { IsValidInput self.now }
     {
         self.span.start
     }
@@ -492,7 +492,7 @@ impl<'h> Input<'h> {
     /// Returns the offset in the haystack, in bytes, where the span ends.
     pub fn end(&self) -> usize
         ensures end { result ≡ self.now.end }
-        ensures within { IsAllowed self.now }
+        ensures valid { IsValidInput self.now }
     {
         self.span.end
     }
@@ -501,7 +501,7 @@ impl<'h> Input<'h> {
     pub fn get_span(&self) -> Span
         ensures start { result.start ≡ self.now.start }
         ensures end { result.end ≡ self.now.end }
-        ensures within { IsAllowed self.now }
+        ensures valid { IsValidInput self.now }
     {
         self.span
     }
@@ -510,7 +510,7 @@ impl<'h> Input<'h> {
     pub fn get_range(&self) -> Range<usize>
         ensures start { result.start ≡ self.now.start }
         ensures end { result.end ≡ self.now.end }
-        ensures within { IsAllowed self.now }
+        ensures valid { IsValidInput self.now }
     {
         self.span.start..self.span.end
     }
@@ -532,7 +532,7 @@ impl<'h> Input<'h> {
     /// Whether there is nothing left to search, not even the empty string: the start is after the end.
     pub fn is_done(&self) -> bool
         ensures done { IsTrue result ↔ (self.now.end < self.now.start) }
-        ensures within { IsAllowed self.now }
+        ensures valid { IsValidInput self.now }
     {
         self.span.start > self.span.end
     }

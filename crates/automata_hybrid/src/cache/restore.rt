@@ -6,6 +6,7 @@ ghost use Rattle.automata_hybrid.specs.Cache.Caches.{IsCacheOf};
 ghost use Rattle.automata_hybrid.specs.Cache.Table.{IsRowId, IsRowState, Names, id_of};
 ghost use Rattle.automata_hybrid.specs.Private.Cache.Growth.{AddFails, HasAdded};
 ghost use Rattle.automata_hybrid.specs.Private.Cache.Table.{IsNewState};
+ghost use Rattle.automata_hybrid.specs.Private.Walks.Parts.{IsRestoreResult};
 ghost use Rattle.automata_hybrid.specs.Private.Walks.State.{IsHandle};
 
 use crate::cache::Cache;

@@ -231,18 +231,14 @@ impl DFA {
             (byte_before input.now.haystack input.now.start) (known_of cache.old) (known_of cache.new)) }
         ensures stands { IfOk result (StartsAt self.now cache.new input.now) }
     {
-        let _haystack = input.haystack();
+        let at = input.start();
         let config = start::Config::from_input_forward(input);
         match self.start_state(cache, &config) {
             Ok(id) => {
                 cache.see_bounds();
                 Ok(id)
             }
-            Err(error) => Err(start_search_error(
-                error,
-                input.start().saturating_sub(1),
-                input.start(),
-            )),
+            Err(error) => Err(start_search_error(error, at.saturating_sub(1), at)),
         }
     }
 

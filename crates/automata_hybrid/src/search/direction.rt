@@ -2,7 +2,7 @@
 //! offset is a position in the haystack.
 ghost use Rattle.std.specs.Prelude.{ℕ, ◌≡◌, ◌+◌, ◌-◌, ◌^◌, ◌<◌, ◌≤◌, Some, true, false, length};
 ghost use Rattle.automata_base.specs.Answers.Answers.{later, offset_in};
-ghost use Rattle.automata_base.specs.Haystacks.Input.{Allows};
+ghost use Rattle.automata_base.specs.Haystacks.Input.{Allows, IsValidInput};
 ghost use Rattle.automata_base.specs.Paths.Paths.{next};
 ghost use Rattle.automata_hybrid.specs.Cache.Caches.{IsCacheOf};
 ghost use Rattle.automata_hybrid.specs.Cache.Progress.{distance};
@@ -41,7 +41,7 @@ pub(crate) fn input_of<'h>(
 pub(crate) fn last_place(input: &Input<'_>) -> usize
     requires { input.now.start ≤ input.now.end }
     ensures place { result ≡ input.now.end - input.now.start }
-    ensures inside { input.now.end ≤ length input.now.haystack }
+    ensures valid { IsValidInput input.now }
 {
     input.end() - input.start()
 }
@@ -51,9 +51,8 @@ pub(crate) fn place_offset(input: &Input<'_>, way: Direction, place: usize) -> u
     requires open { input.now.start ≤ input.now.end }
     requires within { place ≤ input.now.end - input.now.start }
     ensures value { result ≡ offset_in way input.now place }
-    ensures inside { input.now.end ≤ length input.now.haystack }
+    ensures valid { IsValidInput input.now }
 {
-    let _haystack = input.haystack();
     match way {
         Direction::Forward => input.start() + place,
         Direction::Backward => input.end() - place,
@@ -67,7 +66,6 @@ pub(crate) fn byte_offset(input: &Input<'_>, way: Direction, place: usize) -> us
     ensures from { input.now.start ≤ result }
     ensures within { result < input.now.end }
 {
-    let _haystack = input.haystack();
     match way {
         Direction::Forward => input.start() + place,
         Direction::Backward => input.end() - 1 - place,
@@ -146,7 +144,7 @@ pub(crate) fn span_offset(input: &Input<'_>, way: Direction, place: usize) -> us
     requires open { input.now.start ≤ input.now.end }
     requires within { place ≤ input.now.end - input.now.start }
     ensures value { result ≡ given_up_offset way input.now place }
-    ensures inside { input.now.end ≤ length input.now.haystack }
+    ensures valid { IsValidInput input.now }
 {
     let at = place_offset(input, way, place);
     match way {
@@ -191,7 +189,6 @@ pub(crate) fn begin_later(input: &mut Input<'_>, way: Direction) -> bool
     ensures shorter { result ≡ true → input.new.end + 2 - input.new.start ≡ input.old.end + 1 - input.old.start }
     ensures over { result ≡ false → input.old.end < input.old.start + 1 }
 {
-    let _haystack = input.haystack();
     match way {
         Direction::Forward => {
             input.set_start(input.start() + 1);

@@ -2,6 +2,7 @@
 //! searched.
 ghost use Rattle.std.specs.Prelude.{◌≡◌, ◌+◌, ◌-◌, IfOk, IfSome};
 ghost use Rattle.std.specs.Result.{result_err};
+ghost use Rattle.automata_base.specs.Haystacks.Input.{IsValidInput};
 ghost use Rattle.automata_base.specs.declared.util.search.Direction.TheVariants.{Forward, Backward};
 ghost use Rattle.automata_hybrid.specs.Cache.Caches.{IsCacheOf};
 ghost use Rattle.automata_hybrid.specs.Known.Passes.{HaveTried, IsSearchRun};
@@ -67,7 +68,6 @@ impl DFA {
             (result_err result) }
     {
         reported_is_right(self.get_nfa());
-        let _haystack = input.haystack();
         let found = search(self, cache, input, Direction::Forward);
         without_base(found)
     }
@@ -93,9 +93,9 @@ impl DFA {
             (result_err result) }
         ensures upto { IfOk result (λ o. IfSome o (λ p. HaveTried Forward self.now input.now
             (p.1 - input.now.start + 1) (known_of cache.old) (known_of cache.new))) }
+        ensures valid { IsValidInput input.now }
     {
         reported_is_right(self.get_nfa());
-        let _haystack = input.haystack();
         search(self, cache, input, Direction::Forward)
     }
 
@@ -130,7 +130,6 @@ impl DFA {
             (result_err result) }
     {
         reported_is_right(self.get_nfa());
-        let _haystack = input.haystack();
         let found = search(self, cache, input, Direction::Backward);
         without_base(found)
     }
@@ -147,6 +146,7 @@ fn search(
     requires { IsCacheOf cache.old dfa.now }
     ensures of { IsCacheOf cache.new dfa.now }
     ensures searched { IsSearchResult way dfa.now input.now (known_of cache.old) (known_of cache.new) result }
+    ensures valid { IsValidInput input.now }
 {
     if dfa.skips() {
         return match search_skipping(

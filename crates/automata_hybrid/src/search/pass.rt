@@ -1,7 +1,7 @@
 //! One pass over the span of an input, in either direction. First it follows cached transitions and only reads the
 //! cache; what is not cached is left to functions that determinize.
 ghost use Rattle.std.specs.Prelude.{true, ◌≡◌, ◌-◌, ◌<◌, ◌≤◌, None, false};
-ghost use Rattle.automata_base.specs.Haystacks.Input.{Allows};
+ghost use Rattle.automata_base.specs.Haystacks.Input.{Allows, IsValidInput};
 ghost use Rattle.automata_base.specs.Paths.Paths.{next};
 ghost use Rattle.automata_base.specs.Powersets.Powerset.{Powerset, dead};
 ghost use Rattle.automata_hybrid.specs.Cache.Caches.{IsCacheOf};
@@ -132,7 +132,6 @@ pub(crate) fn pass(
 {
     dfa.see_machine();
     cache.see_bounds();
-    let _haystack = input.haystack();
     let start = known_start(dfa, cache, input, way);
     if start.is_fixed() {
         return begin_by_parts(dfa, cache, input, way);
@@ -319,7 +318,6 @@ fn find(
 {
     dfa.see_machine();
     cache.see_bounds();
-    let _haystack = input.haystack();
     let last = last_place(input);
     let mut run = from;
     let mut end = near_end(cache, input, way, run.at);
@@ -409,7 +407,8 @@ fn known_pass(
 ) -> KnownPass
     requires of { IsCacheOf cache.now dfa.now }
     requires at { IsUnderway way dfa.now cache.now.store.table input.now 0 start None }
-    ensures { IsKnownStop way dfa.now cache.now input.now result.stop result.at result.id result.found }
+    ensures stop { IsKnownStop way dfa.now cache.now input.now result.stop result.at result.id result.found }
+    ensures valid { IsValidInput input.now }
 {
     cache.see_bounds();
     let last = last_place(input);

@@ -52,7 +52,6 @@ impl RuleMatcher {
         sets_have_matching(&self.dfa);
         let mut found = PatternSet::new(alloc, self.dfa.pattern_len())?;
         let input = Input::new(bytes);
-        let _haystack = input.haystack();
         self.dfa
             .try_which_overlapping_matches(&mut self.cache, &input, &mut found)?;
         Ok(found)

@@ -116,7 +116,6 @@ impl Finder {
         answers_agree();
         first_match_is_found(&self.fast);
         let input = Input::new(text).earliest(true);
-        let _haystack = input.haystack();
         match first_match(&self.fast, &mut self.fast_cache, &input) {
             Some(found) => Ok(found),
             None => self.sure.try_search_fwd(&mut self.sure_cache, &input),

@@ -1,5 +1,6 @@
 //! The matches of an input, one after another, as a list.
 ghost use Rattle.std.specs.Prelude.{◌≡◌, [], IfSome, None, Some};
+ghost use Rattle.automata_base.specs.Haystacks.Input.{IsValidInput};
 ghost use Rattle.automata_base.specs.declared.util.search.Direction.TheVariants.{Forward};
 ghost use Rattle.automata_hybrid.specs.Cache.Caches.{IsCacheOf};
 ghost use Rattle.automata_hybrid.specs.Searches.Contracts.{IsMemory, IsUnsupported, unsupported_error};
@@ -34,7 +35,6 @@ pub fn matches_upto(
     reported_is_right(regex.forward().get_nfa());
     reported_is_right(regex.reverse().get_nfa());
     start_is_right();
-    let _haystack = input.haystack();
     take_matches(alloc, regex, cache, input)
 }
 
@@ -53,9 +53,9 @@ fn take_matches(
     ensures unsupported { IsUnsupported Forward regex.now.forward input.entry
         → (result.0.items ≡ []) × (result.1 ≡ Some (unsupported_error input.entry)) }
     ensures made { AreSearched regex.now cache.old cache.new input.entry None result.0.items result.1 }
+    ensures valid { IsValidInput input.entry }
 {
     spans_follow(regex);
-    let _haystack = input.haystack();
     let mut found = Vec::new(alloc);
     for item in regex.find_iter(cache, input) {
         match item {

@@ -25,7 +25,6 @@ pub fn tokens_upto(
     ensures made { AreTokensSearched regex.now.forward input.entry.haystack input.entry.end input.entry.start
         cache.old cache.new result.0.items result.1 }
 {
-    let _haystack = input.haystack();
     take_tokens(alloc, regex, cache, input)
 }
 

@@ -54,7 +54,6 @@ pub(crate) fn follow(
         → IsNextCell way dfa.now cache.now.store input.now result.at result.id result.next }
     ensures only { HasOnly tag from → HasOnly tag result.id }
 {
-    let _haystack = input.haystack();
     if !from.has_only(tag) {
         return Stop {
             at: start,
@@ -62,13 +61,14 @@ pub(crate) fn follow(
             next: next_known(dfa, cache, input, way, start, from, end),
         };
     }
-    if start + 8 > end {
+    if end < 8 {
         return follow_rest(dfa, cache, input, way, start, from, tag, end);
     }
+    let last_eight = end - 8;
     let mut at = start;
     let mut id = from;
     let mut again = start;
-    'eights: while at + 8 <= end {
+    'eights: while at <= last_eight {
         let eight = follow_eight(dfa, cache, input, way, at, id, tag);
         if eight.at != at + 8 {
             return eight;

@@ -468,7 +468,6 @@ fn run_span(
         (begun (given_up_offset Forward input.now 0) (known_of cache.old)) cache.new result }
 {
     dfa.see_machine();
-    let _haystack = input.haystack();
     let way = Direction::Forward;
     let last = last_place(input);
     cache.search_start(span_offset(input, way, 0));

@@ -193,7 +193,6 @@ fn walk_with_leaps(
     ensures far { FollowsTo way dfa.now cache.new.store input.now 0 near.at result.0 }
     ensures upto { result.1 ≤ input.now.end - input.now.start }
 {
-    let _haystack = input.haystack();
     let last = last_place(input);
     if near.at < end || near.at >= last {
         return (near, end);
@@ -220,7 +219,6 @@ pub(crate) fn advance(
     ensures advanced { IsAdvanceResult way dfa.now input.now units cache.old cache.new result }
 {
     dfa.see_machine();
-    let _haystack = input.haystack();
     cache.see_bounds();
     let last = last_place(input);
     let mut id = from;

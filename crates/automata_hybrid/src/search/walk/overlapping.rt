@@ -1,6 +1,7 @@
 //! Overlapping searches: each call reports the next match, with any cache of the DFA.
 ghost use Rattle.std.specs.Prelude.{ℕ, ◌≡◌, ◌+◌, ◌<◌, ◌≤◌, ◌^◌, IfNone, IfSome, OnOk, OnErr, length, slice_index};
 ghost use Rattle.std.specs.Result.{result_err};
+ghost use Rattle.automata_base.specs.Haystacks.Input.{IsValidInput};
 ghost use Rattle.automata_base.specs.Powersets.Powerset.{Powerset};
 ghost use Rattle.automata_base.specs.declared.util.search.Direction.TheVariants.{Forward, Backward};
 ghost use Rattle.automata_hybrid.specs.Cache.Caches.{IsCacheOf};
@@ -225,7 +226,6 @@ fn call_held(
         (known_of cache.old) (known_of cache.new) (result_err result) }
 {
     walk_is_right(dfa.get_nfa());
-    let _haystack = input.haystack();
     match report_next(dfa, cache, input, way, walk, held) {
         Ok(()) => {
             held.release(walk);
@@ -253,12 +253,14 @@ pub(crate) fn report_next(
     ensures err { OnErr result ((walk.new ≡ without_match walk.old) × (held.new ≡ held.old)) }
     ensures called { IsCallResult (keeping_of held.old) way dfa.now input.now walk.old walk.new
         (known_of cache.old) (known_of cache.new) result }
+    ensures valid { IsValidInput input.now }
 {
+    let past = input.is_done();
     walk.forget_match();
     if walk.has_ended() {
         return Ok(());
     }
-    if input.is_done() {
+    if past {
         walk.end(walk.units());
         return Ok(());
     }

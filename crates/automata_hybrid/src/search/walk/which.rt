@@ -24,7 +24,6 @@ impl DFA {
     /// ```rust
     /// let mut found = PatternSet::new(alloc, self.dfa.pattern_len())?;
     /// let input = Input::new(bytes);
-    /// let _haystack = input.haystack();
     /// self.dfa
     ///     .try_which_overlapping_matches(&mut self.cache, &input, &mut found)?;
     /// ```
@@ -62,10 +61,9 @@ fn collect(
     ensures reported { IsSetReported dfa.now input.now patset.old patset.new result }
     ensures effect { IsSetRun dfa.now input.now patset.old patset.new (known_of cache.old) (known_of cache.new)
         (result_err result) }
-    ensures inside { input.now.end ≤ length input.now.haystack }
+    ensures valid { IsValidInput input.now }
 {
     walk_is_right(dfa.get_nfa());
-    let _haystack = input.haystack();
     let mut walk = Cursor::start();
     let mut held = Held::Row(None);
     'walk: loop {

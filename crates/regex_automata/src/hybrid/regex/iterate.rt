@@ -55,7 +55,6 @@ impl Regex {
         ensures effect { IsNextRun self.now input.now last cache.old cache.new (result_err result) }
     {
         matches_agree();
-        let _haystack = input.haystack();
         let Some(found) = self.try_search(cache, input)? else {
             return Ok(None);
         };
@@ -89,6 +88,7 @@ impl Regex {
             ≡ input.entry }
         ensures last { result.last ≡ None }
         ensures ended { result.ended ≡ false }
+        ensures valid { IsValidInput input.entry }
     {
         FindMatches {
             regex: self,

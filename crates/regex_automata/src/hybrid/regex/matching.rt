@@ -1,5 +1,6 @@
 ghost use Rattle.std.specs.Prelude.{IfOk};
 ghost use Rattle.std.specs.Result.{result_err};
+ghost use Rattle.automata_base.specs.Haystacks.Input.{IsValidInput};
 ghost use Rattle.regex_automata.specs.Spans.IsMatch.{IsAsked};
 ghost use Rattle.regex_automata.specs.Spans.Contracts.{IsTruthOf, IsTruthReported};
 ghost use Rattle.regex_automata.specs.Spans.Runs.{IsTruthRun};
@@ -13,7 +14,8 @@ use automata_config::error::SearchError;
 impl Regex {
     /// Returns the input that `is_match` searches. It is earliest, unless the first match may be skipped.
     fn asked<'h>(&self, input: &Input<'h>) -> Input<'h>
-        ensures { IsAsked self.now.forward input.now result }
+        ensures asked { IsAsked self.now.forward input.now result }
+        ensures valid { IsValidInput input.now }
     {
         let skips = self.forward.skips();
         input.copied().earliest(!skips)
@@ -33,7 +35,6 @@ impl Regex {
         ensures effect { IsTruthRun self.now input.now cache.old cache.new (result_err result) }
     {
         reported_is_right(self.forward.get_nfa());
-        let _haystack = input.haystack();
         let asked = self.asked(input);
         let found = self.forward.try_search_fwd(&mut cache.forward, &asked)?;
         Ok(found.is_some())

@@ -1,6 +1,7 @@
 ghost use Rattle.std.specs.Prelude.{◌≡◌, ◌≤◌, IfOk, IfSome, false, true};
 ghost use Rattle.std.specs.Result.{result_err};
 ghost use Rattle.automata_base.specs.Answers.Spans.{IsShort, back};
+ghost use Rattle.automata_base.specs.Haystacks.Input.{IsValidInput};
 ghost use Rattle.automata_hybrid.specs.Cache.Caches.{IsCacheOf};
 ghost use Rattle.automata_hybrid.specs.Searches.Passes.{with_base};
 ghost use Rattle.automata_hybrid.specs.Searches.Bounds.{LiesPast};
@@ -53,7 +54,6 @@ impl Regex {
         reported_is_right(self.forward.get_nfa());
         reported_is_right(self.reverse.get_nfa());
         start_is_right();
-        let _haystack = input.haystack();
         self.search(cache, input)
     }
 
@@ -119,6 +119,7 @@ impl Regex {
         ensures of { AreCachesOf cache.new self.now }
         ensures reported { IsSpanReported self.now input.now result }
         ensures effect { IsSpanRun self.now input.now cache.old cache.new (result_err result) }
+        ensures valid { IsValidInput input.now }
     {
         let Some(front) = self.forward.try_search_fwd_base(&mut cache.forward, input)? else {
             return Ok(None);

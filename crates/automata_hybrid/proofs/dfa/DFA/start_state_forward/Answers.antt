@@ -21,7 +21,7 @@ pub returns-in-Err-clause-refusal : goal.returns-in-Err-clause-refusal
 returns-in-Err-clause-refusal c =
     let e = c.in-Err.error in
     let behind : c.saturating_sub.result ≡ c.args.input.now.start - 1 =
-    c.saturating_sub.ensures ∙ ap (λ (n : ℕ). n - 1) c.start.ensures.start in
+    c.saturating_sub.ensures ∙ ap (λ (n : ℕ). n - 1) c.start-at.ensures.start in
     record {
       error = e;
       fails =
@@ -30,8 +30,8 @@ returns-in-Err-clause-refusal c =
           c.from_input_forward-config.ensures c.in-Err.ensures.refusal;
       reported =
           c.start_search_error.ensures
-          ∙ (ap (λ (n : ℕ). start_search_error e n c.start-in-Err.result) behind
-          ∙ ap (start_search_error e (c.args.input.now.start - 1)) c.start-in-Err.ensures.start);
+          ∙ (ap (λ (n : ℕ). start_search_error e n c.start-at.result) behind
+          ∙ ap (start_search_error e (c.args.input.now.start - 1)) c.start-at.ensures.start);
     }
 
 pub returns-in-Ok-clause-stands : goal.returns-in-Ok-clause-stands
@@ -42,7 +42,7 @@ returns-in-Ok-clause-stands c = λ early undone.
       low = c.see_bounds.ensures.sound.low;
       small = c.see_bounds.ensures.bounds.small;
     })
-    early undone c.haystack-haystack.ensures.within.1
+    early undone c.start-at.ensures.valid.within.1
     (subst (λ (s : StartConfig). IsStartAnswer c.args.self.now s.anchored s.look_behind c.args.cache.now
     c.start_state.new.cache c.in-Ok.id)
     c.from_input_forward-config.ensures c.in-Ok.ensures.answer)

@@ -12,7 +12,7 @@ returns-clause-which c =
       done = s.reported.done;
       free = λ f.
           set_memory c.args.self.now c.args.input.now c.args.patset.now c.collect.new.patset
-          (known_of c.args.cache.now) (known_of c.collect.new.cache) c.collect.result s.inside f s.effect;
+          (known_of c.args.cache.now) (known_of c.collect.new.cache) c.collect.result s.valid.within.1 f s.effect;
     }
 
 pub returns-clause-found : goal.returns-clause-found

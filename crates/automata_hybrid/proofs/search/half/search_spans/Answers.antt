@@ -38,7 +38,7 @@ run_last c inside =
 pub loop-later-init : goal.loop-later-init
 loop-later-init c =
     let d : Direction = c.args.way in
-    let whole : c.copied-later.result ≡ c.args.input.now = c.copied-later.ensures in
+    let whole : c.copied-later.result ≡ c.args.input.now = c.copied-later.ensures.same in
     let none : 0 ≡ skipped c.args.input.now c.copied-later.result =
     subst (λ (i : Input). 0 ≡ skipped c.args.input.now i) (sym whole) (omega arith) in
     record {

@@ -69,7 +69,7 @@ rest-requires-clause-at c =
             c.see_bounds-2.ensures.bounds.small (λ b. false_true (c.if-is_dead.ensures.1 b))));
       };
     } in record {
-      allowed = subst (λ (i : Input). Allows i.haystack i.start i.end) (sym same) c.get_span.ensures.within;
+      allowed = subst (λ (i : Input). Allows i.haystack i.start i.end) (sym same) c.get_span.ensures.valid.within;
       upto =
           subst (λ (i : Input). IsKnownUpto d m c.search_start.new.self.store i 0 c.in-Ok.start None) (sym same) at;
     }

@@ -22,12 +22,12 @@ use Rattle.automata_hybrid.proofs.search.pass.find.Goals.{else-get_earliest-via-
 are_units : (c : After-last_place-last) → (j : ℕ) → IsUnit (next (tape_in c.args.way c.args.input.now) j)
 are_units c =
     units.units_in c.args.way c.args.input.now
-    (c.haystack-haystack.ensures.bytes, c.haystack-haystack.ensures.within.1) c.requires.at.at.undone
+    (c.last_place-last.ensures.valid.bytes, c.last_place-last.ensures.valid.within.1) c.requires.at.at.undone
 
 -- the unit that is read is at a place of the span
 few : (c : After-byte_at-byte) → c.follow_reports-met.result.at ≤ length (tape_in c.args.way c.args.input.now).bytes
 few c =
-    let u = units_in c.args.way c.args.input.now c.requires.at.at.undone c.last_place-last.ensures.inside in
+    let u = units_in c.args.way c.args.input.now c.requires.at.at.undone c.last_place-last.ensures.valid.within.1 in
     omega (arith, u, c.follow_reports-met.ensures.within)
 
 -- the offset of the "gave up" error of its step is its own offset
@@ -301,7 +301,7 @@ returns-clause-rest c =
     (λ k. IsAt c.args.way m c.loop-run.cache.store.table c.args.input.now k c.loop-run.run.id c.loop-run.run.found)
     same c.loop-run.invariant.at in
     let units : k ≡ length (tape_in c.args.way c.args.input.now).bytes =
-    units_in c.args.way c.args.input.now c.requires.at.at.undone c.last_place-last.ensures.inside in
+    units_in c.args.way c.args.input.now c.requires.at.at.undone c.last_place-last.ensures.valid.within.1 in
     let reads : Reads c.args.way m c.args.input.now k =
     at_reads c.args.way m c.loop-run.cache.store.table c.args.input.now k c.loop-run.run.id c.loop-run.run.found at
     (omega (arith, units)) c.find_end.ensures.alive in

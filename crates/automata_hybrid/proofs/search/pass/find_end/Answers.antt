@@ -51,7 +51,7 @@ returns-clause-last c =
           c.in-Ok.ensures.read.answer c.place_offset.result place
           (λ q l. c.found_at.ensures q
           (subst (λ (t : Rows). Leads t c.in-Ok.next q) (sym c.end_search.ensures.table) l))
-          (units_in d c.args.input.now c.requires.at.undone c.last_place-last.ensures.inside);
+          (units_in d c.args.input.now c.requires.at.undone c.last_place-last.ensures.valid.within.1);
       mid = known_of c.read.new.cache;
       read =
           taken_here d c.args.dfa.now c.args.input.now k c.args.id c.span_offset-at.result c.unit_at-unit.result

@@ -30,7 +30,7 @@ few :
     (c : After-run_to_match-run)
     → c.run_to_match-run.result.at ≤ length (tape_in c.args.way c.args.input.now).bytes
 few c =
-    let u = units_in c.args.way c.args.input.now c.requires.at.undone c.last_place-last.ensures.inside in
+    let u = units_in c.args.way c.args.input.now c.requires.at.undone c.last_place-last.ensures.valid.within.1 in
     omega (arith, u, (upto c).within)
 
 pub found_at-found-requires-clause-leads : goal.found_at-found-requires-clause-leads
@@ -49,12 +49,12 @@ found_at-found-requires-clause-leads c =
           (c.known_next-next.ensures.below low) (λ b. false_true (c.if-is_quit.ensures.1 b)),
     )
 
-pub returns-then-is_dead : goal.returns-then-is_dead
-returns-then-is_dead c =
+pub returns-then-is_dead-clause-stop : goal.returns-then-is_dead-clause-stop
+returns-then-is_dead-clause-stop c =
     let d : Direction = c.args.way in
     let k : ℕ = c.run_to_match-run.result.at in
     let low : c.known_next-next.result < 2 ^ 31 = grind (arith, common_steps, c.if-is_unknown.ensures.size) in
-    let past = (goal.at.returns-then-is_dead c).After-run_to_match-run in
+    let past = (goal.at.returns-then-is_dead-clause-stop c).After-run_to_match-run in
     let upto = upto past in
     let few = few past in
     subst (λ (r : KnownPass). IsKnownStop d c.args.dfa.now c.args.cache.now c.args.input.now r.stop r.at r.id r.found)
@@ -68,12 +68,12 @@ returns-then-is_dead c =
     (c.see_bounds.ensures.sound.low c.known_next-next.result) c.see_bounds.ensures.bounds.small
     (c.if-is_dead.ensures.0 refl)) (c.if-is_dead.ensures.0 refl))
 
-pub returns-then-run-last-2 : goal.returns-then-run-last-2
-returns-then-run-last-2 c =
+pub returns-then-run-last-2-clause-stop : goal.returns-then-run-last-2-clause-stop
+returns-then-run-last-2-clause-stop c =
     let d : Direction = c.args.way in
     let k : ℕ = c.run_to_match-run.result.at in
     let low : c.known_next-next.result < 2 ^ 31 = grind (arith, common_steps, c.if-is_unknown.ensures.size) in
-    let past = (goal.at.returns-then-run-last-2 c).After-run_to_match-run in
+    let past = (goal.at.returns-then-run-last-2-clause-stop c).After-run_to_match-run in
     let upto = upto past in
     let few = few past in
     subst (λ (r : KnownPass). IsKnownStop d c.args.dfa.now c.args.cache.now c.args.input.now r.stop r.at r.id r.found)
@@ -84,15 +84,15 @@ returns-then-run-last-2 c =
     (subst (λ n. n < 2 ^ 31) (c.known_next-next.ensures.value low) low) (c.known_next-next.ensures.answer low)
     (c.known_next-next.ensures.below low) (λ b. false_true (c.if-is_quit.ensures.1 b)) c.found_at-found.result
     c.place_offset.result c.place_offset.ensures.value c.found_at-found.ensures
-    (let u = units_in d c.args.input.now c.requires.at.undone c.last_place-last.ensures.inside in
+    (let u = units_in d c.args.input.now c.requires.at.undone c.last_place-last.ensures.valid.within.1 in
     omega (arith, u, upto.within, c.if-run-last-2.true, c.last_place-last.ensures.place)))
 
-pub returns-then-is_some : goal.returns-then-is_some
-returns-then-is_some c =
+pub returns-then-is_some-clause-stop : goal.returns-then-is_some-clause-stop
+returns-then-is_some-clause-stop c =
     let d : Direction = c.args.way in
     let k : ℕ = c.run_to_match-run.result.at in
     let low : c.known_next-next.result < 2 ^ 31 = grind (arith, common_steps, c.if-is_unknown.ensures.size) in
-    let past = (goal.at.returns-then-is_some c).After-run_to_match-run in
+    let past = (goal.at.returns-then-is_some-clause-stop c).After-run_to_match-run in
     let upto = upto past in
     let few = few past in
     subst (λ (r : KnownPass). IsKnownStop d c.args.dfa.now c.args.cache.now c.args.input.now r.stop r.at r.id r.found)
@@ -105,12 +105,12 @@ returns-then-is_some c =
     c.place_offset.result c.place_offset.ensures.value c.found_at-found.ensures
     (sym c.get_earliest.ensures ∙ c.if-get_earliest.true) (some_is c.found_at-found.result c.if-is_some.ensures))
 
-pub returns : goal.returns
-returns c =
+pub returns-clause-stop : goal.returns-clause-stop
+returns-clause-stop c =
     let d : Direction = c.args.way in
     let k : ℕ = c.run_to_match-run.result.at in
     let low : c.known_next-next.result < 2 ^ 31 = grind (arith, common_steps, c.if-is_unknown.ensures.size) in
-    let past = (goal.at.returns c).After-run_to_match-run in
+    let past = (goal.at.returns-clause-stop c).After-run_to_match-run in
     let upto = upto past in
     let few = few past in
     let less : k < c.args.input.now.end - c.args.input.now.start =
@@ -136,27 +136,27 @@ returns c =
     c.place_offset.result c.place_offset.ensures.value c.found_at-found.ensures
     (λ b. false_true (c.if-is_dead.ensures.1 b)) first less))
 
-pub returns-then-is_unknown : goal.returns-then-is_unknown
-returns-then-is_unknown c =
+pub returns-then-is_unknown-clause-stop : goal.returns-then-is_unknown-clause-stop
+returns-then-is_unknown-clause-stop c =
     let d : Direction = c.args.way in
-    let past = (goal.at.returns-then-is_unknown c).After-run_to_match-run in
+    let past = (goal.at.returns-then-is_unknown-clause-stop c).After-run_to_match-run in
     let upto = upto past in
     subst (λ (r : KnownPass). IsKnownStop d c.args.dfa.now c.args.cache.now c.args.input.now r.stop r.at r.id r.found)
     (sym c.new-then-is_unknown.ensures) upto
 
-pub returns-then-run-last : goal.returns-then-run-last
-returns-then-run-last c =
+pub returns-then-run-last-clause-stop : goal.returns-then-run-last-clause-stop
+returns-then-run-last-clause-stop c =
     let d : Direction = c.args.way in
-    let past = (goal.at.returns-then-run-last c).After-run_to_match-run in
+    let past = (goal.at.returns-then-run-last-clause-stop c).After-run_to_match-run in
     let upto = upto past in
     subst (λ (r : KnownPass). IsKnownStop d c.args.dfa.now c.args.cache.now c.args.input.now r.stop r.at r.id r.found)
     (sym c.new.ensures)
     (upto, search rules)
 
-pub returns-then-is_quit : goal.returns-then-is_quit
-returns-then-is_quit c =
+pub returns-then-is_quit-clause-stop : goal.returns-then-is_quit-clause-stop
+returns-then-is_quit-clause-stop c =
     let d : Direction = c.args.way in
-    let past = (goal.at.returns-then-is_quit c).After-run_to_match-run in
+    let past = (goal.at.returns-then-is_quit-clause-stop c).After-run_to_match-run in
     let upto = upto past in
     subst (λ (r : KnownPass). IsKnownStop d c.args.dfa.now c.args.cache.now c.args.input.now r.stop r.at r.id r.found)
     (sym c.new-then-is_quit.ensures) upto

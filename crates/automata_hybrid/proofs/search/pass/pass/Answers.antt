@@ -76,7 +76,7 @@ returns-then-has_ended-clause-passed c =
     let end =
     subst
     (λ (s : KnownStop). IsKnownStop d c.args.dfa.now old c.args.input.now s known.at known.id known.found)
-    (c.has_ended.ensures.yes c.if-has_ended.true) c.known_pass-known.ensures in
+    (c.has_ended.ensures.yes c.if-has_ended.true) c.known_pass-known.ensures.stop in
     let counted =
     subst
     (λ n. c.count_search.new.self ≡ with_store old
@@ -92,7 +92,7 @@ returns-then-has_ended-clause-passed c =
             known_ended d c.args.dfa.now c.args.input.now c.known_pass-known.result.at c.known_pass-known.result.id
             old c.known_pass-known.result.found c.count_search.new.self c.see_machine.ensures.machine
             (units_in d c.args.input.now
-            (c.haystack-haystack.ensures.bytes, c.haystack-haystack.ensures.within.1) c.requires.«open»)
+            (c.known_pass-known.ensures.valid.bytes, c.known_pass-known.ensures.valid.within.1) c.requires.«open»)
             end (is_store old.store c.args.dfa.now c.requires.of c.see_bounds.ensures.bounds) counted;
       };
     }
@@ -104,7 +104,7 @@ rest-requires-clause-at c =
     let known = c.known_pass-known.result in
     let k : IsKnownUpto d m c.args.cache.now.store c.args.input.now known.at known.id known.found =
     known_upto d m c.args.cache.now c.args.input.now known.stop known.at known.id known.found
-    (c.has_ended.ensures.no c.if-has_ended.false) c.known_pass-known.ensures in
+    (c.has_ended.ensures.no c.if-has_ended.false) c.known_pass-known.ensures.stop in
     let same = same (goal.at.rest-requires-clause-at c).After-get_earliest in
     let upto =
     subst
@@ -114,7 +114,7 @@ rest-requires-clause-at c =
     (λ (v : CacheView). IsKnownUpto d m v.store c.args.input.now known.at known.id known.found)
     (sym c.search_start.ensures.value) (record { within = k.within; at = k.at; known = k.known })) in
     record {
-      allowed = subst (λ (i : Input). Allows i.haystack i.start i.end) (sym same) c.get_span.ensures.within;
+      allowed = subst (λ (i : Input). Allows i.haystack i.start i.end) (sym same) c.get_span.ensures.valid.within;
       upto =
           subst
           (λ (i : Input). IsKnownUpto d m c.search_start.new.self.store i known.at known.id
@@ -131,7 +131,7 @@ rest-requires-clause-missing c = λ missing.
     let cell =
     (subst
     (λ (s : KnownStop). IsKnownStop d m c.args.cache.now c.args.input.now s known.at known.id known.found)
-    (c.is_missing.ensures missing) c.known_pass-known.ensures).1 in
+    (c.is_missing.ensures missing) c.known_pass-known.ensures.stop).1 in
     subst (λ (i : Input). IsNextCell d m c.search_start.new.self.store i known.at known.id unknown_id) (sym same)
     (subst (λ (v : CacheView). IsNextCell d m v.store c.args.input.now known.at known.id unknown_id)
     (sym c.search_start.ensures.value) (cell.0, cell.1))

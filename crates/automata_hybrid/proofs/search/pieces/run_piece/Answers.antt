@@ -13,7 +13,7 @@ pub run_span-requires : goal.run_span-requires
 run_span-requires c =
     let m : Machine = c.args.dfa.now in
     let same : c.earliest-own.result ≡ piece_input c.args.piece.now c.args.earliest =
-    c.earliest-own.ensures ∙ ap (λ (i : Input). record i { earliest = c.args.earliest }) c.new.ensures in
+    c.earliest-own.ensures ∙ ap (λ (i : Input). record i { earliest = c.args.earliest }) c.new.ensures.input in
     let positive : 0 < c.args.cache.now.store.table.of.stride =
     subst (λ (d : Machine). 0 < d.stride) (sym c.requires.of) c.see_machine.ensures.machine.template.positive in
     let q : Powerset = state_named c.args.cache.now.store.table c.args.from in
@@ -39,7 +39,7 @@ pub returns-in-Ok-clause-ran : goal.returns-in-Ok-clause-ran
 returns-in-Ok-clause-ran c = λ q named.
     let m : Machine = c.args.dfa.now in
     let same : c.earliest-own.result ≡ piece_input c.args.piece.now c.args.earliest =
-    c.earliest-own.ensures ∙ ap (λ (i : Input). record i { earliest = c.args.earliest }) c.new.ensures in
+    c.earliest-own.ensures ∙ ap (λ (i : Input). record i { earliest = c.args.earliest }) c.new.ensures.input in
     let positive : 0 < c.args.cache.now.store.table.of.stride =
     subst (λ (d : Machine). 0 < d.stride) (sym c.requires.of) c.see_machine.ensures.machine.template.positive in
     subst
@@ -56,7 +56,7 @@ pub error_from-requires : goal.error_from-requires
 error_from-requires c =
     let m : Machine = c.args.dfa.now in
     let same : c.earliest-own.result ≡ piece_input c.args.piece.now c.args.earliest =
-    c.earliest-own.ensures ∙ ap (λ (i : Input). record i { earliest = c.args.earliest }) c.new.ensures in
+    c.earliest-own.ensures ∙ ap (λ (i : Input). record i { earliest = c.args.earliest }) c.new.ensures.input in
     let fails : FailsAlong (piece_trace m c.args.piece.now c.args.earliest (state_named c.args.cache.now.store.table
     c.args.from)) m (piece_input c.args.piece.now c.args.earliest) 0 (begun 0 (known_of c.args.cache.now))
     (known_of c.run_span.new.cache) c.in-Err.error =
@@ -72,7 +72,7 @@ pub returns-in-Err-clause-ran : goal.returns-in-Err-clause-ran
 returns-in-Err-clause-ran c = λ q named.
     let m : Machine = c.args.dfa.now in
     let same : c.earliest-own.result ≡ piece_input c.args.piece.now c.args.earliest =
-    c.earliest-own.ensures ∙ ap (λ (i : Input). record i { earliest = c.args.earliest }) c.new.ensures in
+    c.earliest-own.ensures ∙ ap (λ (i : Input). record i { earliest = c.args.earliest }) c.new.ensures.input in
     let positive : 0 < c.args.cache.now.store.table.of.stride =
     subst (λ (d : Machine). 0 < d.stride) (sym c.requires.of) c.see_machine.ensures.machine.template.positive in
     let fails : FailsAlong (piece_trace m c.args.piece.now c.args.earliest q) m

@@ -128,7 +128,7 @@ loop-run-preserved g c =
     let more : suc c.loop-run.run.at ≡ c.loop-run.run.at + 1 = omega arith in
     let same = c.follow_with_leaps-far.ensures.same in
     let units : (j : ℕ) → IsUnit (unit_at (tape_in Forward c.args.input.now) j) =
-    units_in Forward c.args.input.now (c.haystack-haystack.ensures.bytes, c.last_place-last.ensures.inside)
+    units_in Forward c.args.input.now (c.last_place-last.ensures.valid.bytes, c.last_place-last.ensures.valid.within.1)
     c.requires.1.1 in
     let sound : IsStoreOf c.follow_with_leaps-far.new.cache.store c.args.dfa.now =
     subst (λ (v : CacheView). IsStoreOf v.store c.args.dfa.now) (sym same)

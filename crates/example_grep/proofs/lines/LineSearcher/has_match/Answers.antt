@@ -46,9 +46,9 @@ tells m line found truth case_insensitive res is bytes (answer, a, e) t =
 pub returns-clause-meant : goal.returns-clause-meant
 returns-clause-meant c = λ case_insensitive res is.
     let same : c.earliest-input.result ≡ whole_line c.args.line.now =
-    c.earliest-input.ensures ∙ ap (λ (i : Input). record i { earliest = true }) c.new-2.ensures in
+    c.earliest-input.ensures ∙ ap (λ (i : Input). record i { earliest = true }) c.new.ensures.input in
     tells c.args.self.now.dfa c.args.line.now c.in_ok-found.found c.is_some.result case_insensitive res is
-    (subst (λ (i : Input). IsHaystack i.haystack) c.new.ensures c.haystack-haystack.ensures.bytes)
+    (subst (λ (i : Input). IsHaystack i.haystack) c.new.ensures.input c.new.ensures.valid.bytes)
     (subst (λ i. WithoutBase (IsAnswer Forward (engine c.args.self.now.dfa) i) c.in_ok-found.found)
     same (c.in_ok-found.ensures.half.answer
     (c.cycles_are_kept.ensures.acyclic (nfa_of c.args.self.now.dfa.nfa) c.args.self.now.ordered)))
@@ -57,7 +57,7 @@ returns-clause-meant c = λ case_insensitive res is.
 pub returns-clause-found : goal.returns-clause-found
 returns-clause-found c =
     let same : c.earliest-input.result ≡ whole_line c.args.line.now =
-    c.earliest-input.ensures ∙ ap (λ (i : Input). record i { earliest = true }) c.new-2.ensures in
+    c.earliest-input.ensures ∙ ap (λ (i : Input). record i { earliest = true }) c.new.ensures.input in
     decides c.args.self.now.dfa c.args.line.now c.in_ok-found.found c.is_some.result
     (c.start_is_right.ensures.one.answer Forward (engine c.args.self.now.dfa) (whole_line c.args.line.now))
     (subst (λ i. WithoutBase (IsAnswer Forward (engine c.args.self.now.dfa) i) c.in_ok-found.found)

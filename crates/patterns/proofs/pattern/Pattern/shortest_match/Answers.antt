@@ -9,14 +9,14 @@ use Rattle.patterns.proofs.pattern.Pattern.shortest_match.Goals as goal
 pub returns-clause-found : goal.returns-clause-found
 returns-clause-found c =
     end_found c.args.self.now.regex c.args.hay.now c.args.start c.rest-left.result c.try_search_fwd.result
-    c.rest-left.ensures
-    c.haystack-haystack.ensures.bytes
+    c.rest-left.ensures.input
+    c.rest-left.ensures.valid.bytes
     (subst (λ (m : Machine). IsHalf Forward m c.rest-left.result c.try_search_fwd.result) c.forward.ensures
     c.try_search_fwd.ensures.half)
 
 pub returns-clause-returned : goal.returns-clause-returned
 returns-clause-returned c =
-    subst (λ v. IsHalf Forward c.args.self.now.regex.forward v c.try_search_fwd.result) c.rest-left.ensures
+    subst (λ v. IsHalf Forward c.args.self.now.regex.forward v c.try_search_fwd.result) c.rest-left.ensures.input
     (subst (λ (m : Machine). IsHalf Forward m c.rest-left.result c.try_search_fwd.result) c.forward.ensures
     c.try_search_fwd.ensures.half)
 
@@ -27,6 +27,6 @@ returns-clause-effect c =
     subst (λ (m : Machine). IsSearchRun Forward m (span_input c.args.hay.now c.args.start (length c.args.hay.now))
     (known_of c.args.cache.now.forward) new error) c.forward.ensures
     (subst (λ (i : Input). IsSearchRun Forward c.forward.result.now i (known_of c.args.cache.now.forward) new error)
-    c.rest-left.ensures
+    c.rest-left.ensures.input
     (subst (λ (old : CacheView). IsSearchRun Forward c.forward.result.now c.rest-left.result (known_of old) new error)
     c.forward_mut.ensures.value c.try_search_fwd.ensures.effect))

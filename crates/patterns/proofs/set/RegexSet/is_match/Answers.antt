@@ -10,7 +10,7 @@ returns-in-Ok-clause-returned c = record {
   reported = λ pairs walked. c.is_some.ensures ∙ ap is_some (c.get_match.ensures
       ∙ first_match c.args.self.now.dfa c.args.hay.now c.new-input.result c.start-state.result
       c.try_search_overlapping_fwd.new.state
-      c.new-input.ensures c.start-state.ensures c.in-Ok.ensures.call.reports pairs walked);
+      c.new-input.ensures.input c.start-state.ensures c.in-Ok.ensures.call.reports pairs walked);
   free = λ unhindered. tt;
 }
 
@@ -19,9 +19,9 @@ returns-in-Ok-clause-found c = λ o res is for.
     let m = c.args.self.now.dfa in
     c.is_some.ensures ∙ ap is_some c.get_match.ensures
     ∙ any_means m o res is c.args.hay.now for
-    (subst (λ (v : Input). IsHaystack v.haystack) c.new-input.ensures c.haystack-haystack.ensures.bytes)
+    (subst (λ (v : Input). IsHaystack v.haystack) c.new-input.ensures.input c.new-input.ensures.valid.bytes)
     (subst (λ (a : Automaton). WalksAreReported a) c.get_nfa.ensures c.walk_is_right.ensures.reported)
     (subst (λ (a : Automaton). AllPairsAreReported a) c.get_nfa.ensures c.walk_is_right.ensures.all)
     c.try_search_overlapping_fwd.new.state.found
     (first_match m c.args.hay.now c.new-input.result c.start-state.result c.try_search_overlapping_fwd.new.state
-    c.new-input.ensures c.start-state.ensures c.in-Ok.ensures.call.reports)
+    c.new-input.ensures.input c.start-state.ensures c.in-Ok.ensures.call.reports)

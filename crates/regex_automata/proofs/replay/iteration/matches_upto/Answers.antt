@@ -21,7 +21,7 @@ returns-clause-returned c =
     let s = c.take_matches.ensures in
     let ms = c.take_matches.result.0.items in
     let error = c.take_matches.result.1 in
-    let within = c.haystack-haystack.ensures.within.1 in
+    let within = c.take_matches.ensures.valid.within.1 in
     let front =
     subst (λ (a : Automaton). ReportedIsRight a) (c.get_nfa.ensures ∙ ap (λ (m : Machine). m.nfa) c.forward.ensures)
     c.reported_is_right.ensures.answer in
@@ -33,13 +33,13 @@ returns-clause-returned c =
     (c.get_nfa-2.ensures ∙ ap (λ (m : Machine). m.nfa) c.reverse.ensures) c.reported_is_right-2.ensures.ends in
     let right = λ (sound : IsSoundPair p). collected_right (FindsMatch p) (IsSpan (forward_engine p)) input
     (λ start o f. match_right p front ends c.start_is_right.ensures.starts sound (from start input)
-    (c.haystack-haystack.ensures.bytes, within) o f)
+    (c.take_matches.ensures.valid.bytes, within) o f)
     ms error s.found in
     let first = collected_first p input within ms error s.found in
     record {
       answers = λ cycles. collected_right (FindsMatch p) (TryFinds (forward_engine p) (reverse_engine p)) input
           (λ start o f. outcome_right p front rear (from start input) (Found o) cycles
-          (c.haystack-haystack.ensures.bytes, within) f)
+          (c.take_matches.ensures.valid.bytes, within) f)
           ms error s.found;
       spans = right;
       beginning =

@@ -4,7 +4,7 @@ use Rattle.automata_hybrid.specs.Private.Searches.PassContracts.{RunsAlong}
 use Rattle.automata_hybrid.proofs.Fast.Runs.{follows_none, runs_on}
 use Rattle.automata_hybrid.proofs.search.fast.run.follow_with_leaps.Goals as goal
 
-pub follow_any_leaps-far-requires : goal.leap-far-requires
+pub follow_any_leaps-far-requires : goal.follow_any_leaps-far-requires
 follow_any_leaps-far-requires g c =
     let may = c.requires.1.0 in
     let near =

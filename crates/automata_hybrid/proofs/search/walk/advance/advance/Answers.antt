@@ -39,7 +39,7 @@ goes c =
     goes_followed c.args.way c.args.dfa.now c.args.input.now c.args.units (known_of c.args.cache.now)
     c.loop-read.read c.walk_with_leaps-stop.result.0.at c.walk_with_leaps-stop.result.0.id c.loop-read.cache
     c.walk_with_leaps-stop.new.cache c.see_machine.ensures.machine
-    (c.haystack-haystack.ensures.bytes, c.haystack-haystack.ensures.within.1) c.requires.from.undone
+    (c.last_place-last.ensures.valid.bytes, c.last_place-last.ensures.valid.within.1) c.requires.from.undone
     c.loop-read.invariant.sound c.walk_with_leaps-stop.ensures.same c.loop-read.invariant.progress (followed c)
     c.loop-read.invariant.clean
 
@@ -131,7 +131,7 @@ returns-then-is_dead-clause-advanced c =
     let p = (goal.at.returns-then-is_dead-clause-advanced c).After-walk_with_leaps-stop in
     let f = followed p in
     let units : c.args.input.now.end - c.args.input.now.start ≡ length (tape_in d c.args.input.now).bytes =
-    units_in d c.args.input.now c.requires.from.undone c.last_place-last.ensures.inside in
+    units_in d c.args.input.now c.requires.from.undone c.last_place-last.ensures.valid.within.1 in
     let dies : state_in d c.args.dfa.now c.args.input.now (suc k) ≡ dead =
     (dead_tagged c.read_unit.new.cache.store.table c.in_ok-next.next
     (c.see_bounds-in-loop-read.ensures.sound.low c.in_ok-next.next) c.see_bounds-in-loop-read.ensures.bounds.small _
@@ -153,7 +153,7 @@ returns-then-reports-clause-advanced c =
     let p = (goal.at.returns-then-reports-clause-advanced c).After-walk_with_leaps-stop in
     let f = followed p in
     let units : c.args.input.now.end - c.args.input.now.start ≡ length (tape_in d c.args.input.now).bytes =
-    units_in d c.args.input.now c.requires.from.undone c.last_place-last.ensures.inside in
+    units_in d c.args.input.now c.requires.from.undone c.last_place-last.ensures.valid.within.1 in
     let more : suc k ≡ k + 1 = omega arith in
     let named : Names c.read_unit.new.cache.store.table c.in_ok-next.next
     (state_in d c.args.dfa.now c.args.input.now (suc k)) =
@@ -187,7 +187,7 @@ pub returns-clause-advanced : goal.returns-clause-advanced
 returns-clause-advanced c =
     let d : Direction = c.args.way in
     let units : c.args.input.now.end - c.args.input.now.start ≡ length (tape_in d c.args.input.now).bytes =
-    units_in d c.args.input.now c.requires.from.undone c.last_place-last.ensures.inside in
+    units_in d c.args.input.now c.requires.from.undone c.last_place-last.ensures.valid.within.1 in
     let all : c.loop-read.read ≡ suc (length (tape_in d c.args.input.now).bytes) =
     omega (arith, units, c.loop-read-test.false, c.last_place-last.ensures.place, c.loop-read.invariant.within) in
     let less : c.args.units < c.loop-read.read =

@@ -20,7 +20,7 @@ returns-clause-unit c =
 pub returns-clause-reads : goal.returns-clause-reads
 returns-clause-reads c =
     let d : Direction = c.args.way in
-    let units = units_in d c.args.input.now c.requires.at.undone c.span_offset-at.ensures.inside in (
+    let units = units_in d c.args.input.now c.requires.at.undone c.span_offset-at.ensures.valid.within.1 in (
       omega (arith, units, c.requires.at.left),
       read_alive c.args.dfa.now c.args.id c.unit_at.result c.unit_offset-quit_at.result c.span_offset-at.result
           c.args.cache.now c.read.new.cache c.read.result

@@ -24,7 +24,8 @@ report_next-requires-clause-walk c =
 
 pub release-requires : goal.release-requires
 release-requires c =
-    itself_held c.report_next.new.cache.store.table c.report_next.new.walk.stage c.report_next.new.held c.in-Ok.ensures.held.holds
+    itself_held c.report_next.new.cache.store.table c.report_next.new.walk.stage c.report_next.new.held
+    c.in-Ok.ensures.held.holds
     (c.in-Ok.ensures.held.keeping
     ∙ (held_itself c.args.cache.now.store.table c.args.walk.now.stage c.args.held.now c.requires.walk.itself).1)
 
@@ -43,7 +44,7 @@ returns-in-Ok-clause-call c =
     let input = c.args.input.now in
     let reports = c.in-Ok.ensures.called.answer.reports in
     let answered : Result (Unit {0}) SearchError = Ok tt in
-    let haystack = c.haystack-haystack.ensures in
+    let haystack = c.in-Ok.ensures.valid in
     let law : OverlappingIsReported m.nfa =
     subst OverlappingIsReported c.get_nfa.ensures c.walk_is_right.ensures.overlapping in
     record {
@@ -105,7 +106,7 @@ returns-in-Err-clause-call c =
     (held_itself c.args.cache.now.store.table c.args.walk.now.stage c.args.held.now c.requires.walk.itself).1
     c.in-Err.ensures.called in
     let refused : Result (Unit {0}) SearchError = Err c.in-Err.error in
-    let haystack = c.haystack-haystack.ensures in
+    let haystack = c.in-Err.ensures.valid in
     record {
       reports = tt;
       paths = λ free k pairs reported overlapping. tt;

@@ -30,11 +30,11 @@ returns-then-has_ended-clause-called c =
           (ap (λ (v : Walk). v.units) c.forget_match.ensures) refl;
     }
 
-pub returns-then-is_done-clause-called : goal.returns-then-is_done-clause-called
-returns-then-is_done-clause-called c =
+pub returns-then-past-clause-called : goal.returns-then-past-clause-called
+returns-then-past-clause-called c =
     let d : Direction = c.args.way in
     let w : Walk = c.args.walk.now in
-    let done : c.args.input.now.end < c.args.input.now.start = c.is_done.ensures.done.0 c.if-is_done.true in
+    let done : c.args.input.now.end < c.args.input.now.start = c.is_done-past.ensures.done.0 c.if-past.true in
     let same : c.end.new.self ≡ ended_walk w w.units =
     c.end.ensures ∙ ap (ended_walk w) (c.units.ensures ∙ ap (λ (v : Walk). v.units) c.forget_match.ensures) in
     record {
@@ -94,9 +94,9 @@ returns-then-units-last_place-clause-called c =
     let input : Input = c.args.input.now in
     let w : Walk = c.args.walk.now in
     let open_span : input.start ≤ input.end =
-    undone c.is_done.result input.start input.end c.is_done.ensures.done c.if-is_done.false in
+    undone c.is_done-past.result input.start input.end c.is_done-past.ensures.done c.if-past.false in
     let units : input.end - input.start ≡ length (tape_in d input).bytes =
-    units_in d input open_span c.is_done.ensures.within.1 in
+    units_in d input open_span c.is_done-past.ensures.valid.within.1 in
     let past : length (tape_in d input).bytes < c.forget_match.new.self.units =
     omega (arith, units, c.units-2.ensures, c.last_place.ensures.place, c.if-units-last_place.true) in
     let same : c.end-then-units-last_place.new.self ≡ ended_walk w w.units =

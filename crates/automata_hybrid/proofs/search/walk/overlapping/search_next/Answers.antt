@@ -62,7 +62,7 @@ returns-then-is_dead-clause-called c =
     (c.see_bounds.ensures.sound.low c.in_ok-from.from) c.see_bounds.ensures.bounds.small _ leads).0
     (c.if-is_dead.ensures.0 refl) in
     let units : input.end - input.start ≡ length (tape_in d input).bytes =
-    units_in d input r.undone c.span_offset-place.ensures.inside in
+    units_in d input r.undone c.span_offset-place.ensures.valid.within.1 in
     let clean : HasReadNoQuit d m input w.units =
     clean_here d m input w c.requires.walk.reported.0 c.requires.walk.reported.1 r.on in
     let ends : Finishes d m input w.units w.units =

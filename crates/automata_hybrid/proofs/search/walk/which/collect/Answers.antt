@@ -97,7 +97,7 @@ returns-in_default-clause-reported c =
     record {
       found = found;
       paths = λ free. patterns_of m input (subst WalkIsRight c.get_nfa.ensures c.walk_is_right.ensures.right)
-          (c.haystack-haystack.ensures.bytes, c.haystack-haystack.ensures.within.1) old set free found;
+          (c.in_ok-report_next.ensures.valid.bytes, c.in_ok-report_next.ensures.valid.within.1) old set free found;
       capacity = j.capacity;
       unsupported =
           λ u. absurd (supported_call Forward m input c.walk.walk c.report_next.new.walk (j.k, j.reported) reports u);
@@ -158,7 +158,8 @@ returns-then-is_full-clause-reported c =
     record {
       found = found;
       paths = λ free. patterns_of m input (subst WalkIsRight c.get_nfa.ensures c.walk_is_right.ensures.right)
-          (c.haystack-haystack.ensures.bytes, c.haystack-haystack.ensures.within.1) old c.try_insert.new.self free
+          (c.in_ok-report_next.ensures.valid.bytes, c.in_ok-report_next.ensures.valid.within.1) old
+          c.try_insert.new.self free
           found;
       capacity = ap length put ∙ (length-set before half.pattern true ∙ j.capacity);
       unsupported = λ u. absurd (supported_call Forward m input walk next (j.k, j.reported) a.reports u);
@@ -224,7 +225,8 @@ returns-then-get_earliest-clause-reported c =
     record {
       found = found;
       paths = λ free. patterns_of m input (subst WalkIsRight c.get_nfa.ensures c.walk_is_right.ensures.right)
-          (c.haystack-haystack.ensures.bytes, c.haystack-haystack.ensures.within.1) old c.try_insert.new.self free
+          (c.in_ok-report_next.ensures.valid.bytes, c.in_ok-report_next.ensures.valid.within.1) old
+          c.try_insert.new.self free
           found;
       capacity = ap length put ∙ (length-set before half.pattern true ∙ j.capacity);
       unsupported = λ u. absurd (supported_call Forward m input walk next (j.k, j.reported) a.reports u);
@@ -268,8 +270,9 @@ walk-smaller c =
     c.try_insert.ensures.inserted ∙ ap (λ n. set c.walk.patset n true) c.pattern.ensures in
     let on = on_found c.walk.walk c.report_next.new.walk c.in-Some.half c.in_ok-report_next.ensures.called.answer.goes_on found in
     let j = c.walk.invariant.joins.0 in
-    steps_less c.args.dfa.now c.args.input.now c.haystack-haystack.ensures.within.1 c.walk.walk c.report_next.new.walk
-    (stands_well c.args.dfa.now c.args.input.now c.haystack-haystack.ensures.within.1 c.report_next.new.walk j.k
+    steps_less c.args.dfa.now c.args.input.now c.in_ok-report_next.ensures.valid.within.1 c.walk.walk
+    c.report_next.new.walk
+    (stands_well c.args.dfa.now c.args.input.now c.in_ok-report_next.ensures.valid.within.1 c.report_next.new.walk j.k
     (c.in_ok-report_next.ensures.called.answer.reports j.k j.reported).0 on.0) on.1
 
 pub walk-init : goal.walk-init

@@ -34,10 +34,10 @@ names m bytes old new law kind haystack empty room which = record { rules = λ r
 
 pub returns-clause-named : goal.returns-clause-named
 returns-clause-named c =
-    let same : c.new-input.result ≡ record_input c.args.bytes.now = c.new-input.ensures in
+    let same : c.new-input.result ≡ record_input c.args.bytes.now = c.new-input.ensures.input in
     names c.args.self.now.dfa c.args.bytes.now c.in_ok-found.found c.try_which_overlapping_matches.new.patset
     c.sets_have_matching.ensures
-    c.args.self.now.all (subst (λ (i : Input). IsHaystack i.haystack) same c.haystack-haystack.ensures.bytes)
+    c.args.self.now.all (subst (λ (i : Input). IsHaystack i.haystack) same c.new-input.ensures.valid.bytes)
     c.in_ok-found.ensures.empty
     (ap length c.in_ok-found.ensures.capacity ∙ (length-replicate c.pattern_len.result false ∙ c.pattern_len.ensures))
     (subst (λ i. JoinsReported c.args.self.now.dfa i c.in_ok-found.found c.try_which_overlapping_matches.new.patset)

@@ -52,16 +52,16 @@ either m text input (Err e) agree same half first = tt
 pub returns-in-Some-clause-found : goal.returns-in-Some-clause-found
 returns-in-Some-clause-found c =
     let same : c.earliest-input.result ≡ earliest c.args.text.now =
-    c.earliest-input.ensures ∙ ap (λ (i : Input). record i { earliest = true }) c.new.ensures in
+    c.earliest-input.ensures ∙ ap (λ (i : Input). record i { earliest = true }) c.new.ensures.input in
     stepped c.args.self.now.fast c.args.self.now.sure c.args.text.now c.in-Some.found c.answers_agree.ensures
     c.first_match_is_found.ensures
     c.args.self.now.nfa c.args.self.now.kind c.args.self.now.bytes
-    (subst (λ (i : Input). IsHaystack i.haystack) same c.haystack-haystack.ensures.bytes)
+    (subst (λ (i : Input). IsHaystack i.haystack) c.new.ensures.input c.new.ensures.valid.bytes)
     (subst (λ i. IsFirstMatch c.args.self.now.fast i c.in-Some.found) same c.in-Some.ensures.found)
 
 pub returns-in-None-clause-found : goal.returns-in-None-clause-found
 returns-in-None-clause-found c =
     let same : c.earliest-input.result ≡ earliest c.args.text.now =
-    c.earliest-input.ensures ∙ ap (λ (i : Input). record i { earliest = true }) c.new.ensures in
+    c.earliest-input.ensures ∙ ap (λ (i : Input). record i { earliest = true }) c.new.ensures.input in
     either c.args.self.now.sure c.args.text.now c.earliest-input.result c.try_search_fwd.result c.answers_agree.ensures
     same c.try_search_fwd.ensures.half c.try_search_fwd.ensures.found

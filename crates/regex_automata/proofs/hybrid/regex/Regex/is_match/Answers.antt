@@ -38,30 +38,30 @@ returns-in_err-found-clause-returned c =
     → supports c.args.self.now.forward i.anchored ≡ false
     → ◌≡◌ {A = Result (Option HalfMatch) SearchError} (Err c.in_err-found.field-0.0)
     (Err (search.Match (UnsupportedMode i.anchored))))
-    c.args.self.now.forward c.args.input.now c.asked-asked.result c.asked-asked.ensures (λ x. x) (λ x. x)
+    c.args.self.now.forward c.args.input.now c.asked-asked.result c.asked-asked.ensures.asked (λ x. x) (λ x. x)
     (λ undone clear mode. c.in_err-found.ensures.half.unsupported
     (record { undone = undone; behind = clear; mode = mode })) ahead behind mode)))
     (λ reach mode free. if_err c.from_residual.result _ _ c.from_residual.ensures.1
     (c.in_err-found.ensures.half.free (record {
       reach =
           asked_from (NoQuitInReach c.args.self.now.forward) c.args.self.now.forward c.args.input.now
-          c.asked-asked.result c.asked-asked.ensures reach reach;
+          c.asked-asked.result c.asked-asked.ensures.asked reach reach;
       supported =
           asked_from (λ (i : Input). supports c.args.self.now.forward i.anchored ≡ true) c.args.self.now.forward
-          c.args.input.now c.asked-asked.result c.asked-asked.ensures mode mode;
+          c.args.input.now c.asked-asked.result c.asked-asked.ensures.asked mode mode;
       clears = free;
     })))
     (λ past. absurd
     (err_ok (asked_to
     (λ (i : Input). i.end < i.start
     → ◌≡◌ {A = Result (Option HalfMatch) SearchError} (Err c.in_err-found.field-0.0) (Ok None)) c.args.self.now.forward
-    c.args.input.now c.asked-asked.result c.asked-asked.ensures (λ x. x) (λ x. x)
+    c.args.input.now c.asked-asked.result c.asked-asked.ensures.asked (λ x. x) (λ x. x)
     (λ l. c.in_err-found.ensures.half.done l) past)))
 
 pub returns-in_err-found-clause-effect : goal.returns-in_err-found-clause-effect
 returns-in_err-found-clause-effect c = record {
   asked = c.asked-asked.result;
-  is = c.asked-asked.ensures;
+  is = c.asked-asked.ensures.asked;
   run =
       subst (IsSearchRun Forward c.args.self.now.forward c.asked-asked.result (known_of c.args.cache.now.forward)
       (known_of c.try_search_fwd.new.cache))
@@ -76,15 +76,15 @@ returns-clause-of c =
 pub returns-clause-returned : goal.returns-clause-returned
 returns-clause-returned c =
     let reported =
-    truth_reported c.args.self.now.forward c.args.input.now c.asked-asked.result c.asked-asked.ensures
+    truth_reported c.args.self.now.forward c.args.input.now c.asked-asked.result c.asked-asked.ensures.asked
     c.in_ok-found.found c.is_some.result c.in_ok-found.ensures.found c.is_some.ensures in
     truth_returned c.args.self.now c.args.input.now (Ok c.is_some.result)
     (λ cycles. match_right c.args.self.now.forward
     (subst (λ (a : Automaton). ReportedIsRight a) c.get_nfa.ensures c.reported_is_right.ensures.answer) c.args.input.now
-    c.is_some.result cycles (c.haystack-haystack.ensures.bytes, c.haystack-haystack.ensures.within.1)
-    (truth_reported c.args.self.now.forward c.args.input.now c.asked-asked.result c.asked-asked.ensures
+    c.is_some.result cycles (c.asked-asked.ensures.valid.bytes, c.asked-asked.ensures.valid.within.1)
+    (truth_reported c.args.self.now.forward c.args.input.now c.asked-asked.result c.asked-asked.ensures.asked
     c.in_ok-found.found c.is_some.result c.in_ok-found.ensures.found c.is_some.ensures))
-    (truth_nearest c.args.self.now.forward c.args.input.now c.asked-asked.result c.asked-asked.ensures
+    (truth_nearest c.args.self.now.forward c.args.input.now c.asked-asked.result c.asked-asked.ensures.asked
     c.in_ok-found.found c.is_some.result c.in_ok-found.ensures.half.nearest c.is_some.ensures)
     (λ ahead behind mode. absurd (ok_err
     (asked_to
@@ -92,14 +92,14 @@ returns-clause-returned c =
     → supports c.args.self.now.forward i.anchored ≡ false
     → ◌≡◌ {A = Result (Option HalfMatch) SearchError} (Ok c.in_ok-found.found)
     (Err (search.Match (UnsupportedMode i.anchored))))
-    c.args.self.now.forward c.args.input.now c.asked-asked.result c.asked-asked.ensures (λ x. x) (λ x. x)
+    c.args.self.now.forward c.args.input.now c.asked-asked.result c.asked-asked.ensures.asked (λ x. x) (λ x. x)
     (λ undone clear mode. c.in_ok-found.ensures.half.unsupported
     (record { undone = undone; behind = clear; mode = mode })) ahead behind mode)))
     (λ reach mode free. tt)
     (λ past.
     let past' =
     asked_from (λ (i : Input). i.end < i.start) c.args.self.now.forward c.args.input.now c.asked-asked.result
-    c.asked-asked.ensures past past in
+    c.asked-asked.ensures.asked past past in
     ap (λ (b : Bool). Ok b) (c.is_some.ensures ∙ ap is_some (same_ok (c.in_ok-found.ensures.half.done past'))))
 
 pub returns-in_err-found-clause-found : goal.returns-in_err-found-clause-found
@@ -109,17 +109,17 @@ returns-in_err-found-clause-found c =
 pub returns-clause-found : goal.returns-clause-found
 returns-clause-found c = record {
   found =
-      truth_found c.args.self.now.forward c.args.input.now c.asked-asked.result c.asked-asked.ensures
+      truth_found c.args.self.now.forward c.args.input.now c.asked-asked.result c.asked-asked.ensures.asked
       c.in_ok-found.found c.is_some.result c.in_ok-found.ensures.found c.is_some.ensures;
   reported =
-      truth_reported c.args.self.now.forward c.args.input.now c.asked-asked.result c.asked-asked.ensures
+      truth_reported c.args.self.now.forward c.args.input.now c.asked-asked.result c.asked-asked.ensures.asked
       c.in_ok-found.found c.is_some.result c.in_ok-found.ensures.found c.is_some.ensures;
 }
 
 pub returns-clause-effect : goal.returns-clause-effect
 returns-clause-effect c = record {
   asked = c.asked-asked.result;
-  is = c.asked-asked.ensures;
+  is = c.asked-asked.ensures.asked;
   run = c.in_ok-found.ensures.effect;
   reverse = refl;
 }

@@ -77,15 +77,15 @@ overflow_add-start c =
     let lies =
     some_of c.in_ok-found.field-0 c.in-Some.found (MatchLiesIn c.args.self.now c.args.input.now)
     c.in_ok-found.ensures.returned.within c.in-Some.is in
-    let few = c.haystack-haystack.ensures.within.1 in
-    omega (arith, lies.0, lies.1, lies.2, few, c.haystack-haystack.ensures.bound, c.start.ensures.start)
+    let few = c.start.ensures.valid.within.1 in
+    omega (arith, lies.0, lies.1, lies.2, few, c.start.ensures.valid.bound, c.start.ensures.start)
 
 pub from-rest-requires : goal.from-rest-requires
 from-rest-requires c =
     let lies =
     some_of c.in_ok-found.field-0 c.in-Some.found (MatchLiesIn c.args.self.now c.args.input.now)
     c.in_ok-found.ensures.returned.within c.in-Some.is in
-    let few = c.haystack-haystack.ensures.within.1 in
+    let few = c.start.ensures.valid.within.1 in
     (omega (arith, lies.0, lies.1, lies.2, c.start.ensures.start), few)
 
 pub returns-clause-next : goal.returns-clause-next

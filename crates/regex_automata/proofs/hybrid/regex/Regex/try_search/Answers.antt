@@ -23,15 +23,15 @@ returns-clause-returned c =
     s.reported
     (λ cycles. IfOk-weaker c.search.result _ _
     (λ o found. outcome_right c.args.self.now front rear c.args.input.now (Found o) cycles
-    (c.haystack-haystack.ensures.bytes, c.haystack-haystack.ensures.within.1) found)
+    (s.valid.bytes, s.valid.within.1) found)
     s.reported.found)
     (λ sound. IfOk-weaker c.search.result _ _
     (match_right c.args.self.now front ends c.start_is_right.ensures.starts sound c.args.input.now
-    (c.haystack-haystack.ensures.bytes, c.haystack-haystack.ensures.within.1))
+    (s.valid.bytes, s.valid.within.1))
     s.reported.found)
     (refusals c.args.self.now front rear ends c.start_is_right.ensures.starts c.start_is_right.ensures.quits
     c.args.cache.now c.search.new.cache c.args.input.now
-    (c.haystack-haystack.ensures.bytes, c.haystack-haystack.ensures.within.1) (result_err c.search.result)
+    (s.valid.bytes, s.valid.within.1) (result_err c.search.result)
     (span_refused c.args.self.now c.args.input.now c.args.cache.now c.search.new.cache (result_err c.search.result)
     s.effect.run))
 

@@ -25,7 +25,7 @@ returns-clause-at c = λ h a. record {
       (record {
         regex = a.current;
         way = refl;
-        input = c.copied.ensures;
+        input = c.copied.ensures.same;
         reported = λ r at. fresh_answered c.args.way
             (dfa_in c.args.way r) c.copied.result c.start.result c.start.ensures;
       }));
