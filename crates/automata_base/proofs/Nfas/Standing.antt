@@ -17,10 +17,10 @@ use Rattle.automata_base.specs.Nfas.Nodes.{Automaton, node_of, nodes_of, nfa_of}
 use Rattle.automata_base.specs.Nfas.KeptClosure.{AreRows}
 use Rattle.automata_base.specs.Powersets.Cuts.{has_match, targets}
 use Rattle.automata_base.specs.Retraced.ReversedEdges.{lists_of, list_at}
-use Rattle.automata_base.specs.contracts.nfa.thompson.TransitionPartialEq.TheImpl.{ghosts as ranges}
+use Rattle.automata_base.specs.contracts.nfa.thompson.state.TransitionPartialEq.TheImpl.{ghosts as ranges}
 use Rattle.automata_base.specs.contracts.util.primitives.StateIDPartialEq.TheImpl.{ghosts}
-use Rattle.automata_base.specs.declared.nfa.thompson.Transition.{Transition}
-use Rattle.automata_base.specs.declared.nfa.thompson.State.{State}
+use Rattle.automata_base.specs.declared.nfa.thompson.state.Transition.{Transition}
+use Rattle.automata_base.specs.declared.nfa.thompson.state.State.{State}
 use Rattle.automata_base.proofs.Nfas.Mirrors.Lists.{list_item, lists_length}
 use Rattle.automata_base.proofs.Powersets.Walking.{node_at, nodes_length}
 

@@ -1,8 +1,8 @@
 -- The edges of a dense state as ranges: adjacent bytes that lead to the same state are one range.
 use Rattle.std.specs.Prelude.{ℕ, zero, suc, Bool, false, cond, eqb, List, [], ◌∷◌, ◌++◌}
-use Rattle.automata_base.specs.declared.nfa.thompson.State.{State}
-use Rattle.automata_base.specs.declared.nfa.thompson.State.TheVariants as is
-use Rattle.automata_base.specs.declared.nfa.thompson.Transition.{Transition}
+use Rattle.automata_base.specs.declared.nfa.thompson.state.State.{State}
+use Rattle.automata_base.specs.declared.nfa.thompson.state.State.TheVariants as is
+use Rattle.automata_base.specs.declared.nfa.thompson.state.Transition.{Transition}
 use Rattle.automata_base.specs.Nfas.Nfa.{Nfa, Node, Read}
 use Rattle.automata_base.specs.Nfas.Nodes.{Automaton, node_of, ranges_of}
 

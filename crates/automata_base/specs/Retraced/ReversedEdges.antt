@@ -1,9 +1,9 @@
 -- How the code reverses edges: for each state, what leads to it, and the states that stand for edges.
 use Rattle.std.specs.Prelude.{ℕ, zero, suc, ◌+◌, ◌≡◌, List, [], ◌∷◌, ◌++◌, length, slice_index_or, cond, eqb, Some}
 use Rattle.std.specs.Prelude.{Option, None, map, ◌↔◌, Bool, false, slice_get, ◌-◌, ◌<◌, ◌≤◌}
-use Rattle.automata_base.specs.declared.nfa.thompson.State.{State}
-use Rattle.automata_base.specs.declared.nfa.thompson.State.TheVariants as is
-use Rattle.automata_base.specs.declared.nfa.thompson.Transition.{Transition}
+use Rattle.automata_base.specs.declared.nfa.thompson.state.State.{State}
+use Rattle.automata_base.specs.declared.nfa.thompson.state.State.TheVariants as is
+use Rattle.automata_base.specs.declared.nfa.thompson.state.Transition.{Transition}
 use Rattle.automata_base.specs.declared.nfa.thompson.turn.EdgesByTarget.{EdgesByTarget}
 use Rattle.automata_base.specs.Nfas.Mirrors.{flip}
 use Rattle.automata_base.specs.Nfas.Nfa.{Node, Split, Assert, Read, Accept, accepts_at}

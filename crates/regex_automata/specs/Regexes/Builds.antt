@@ -7,8 +7,8 @@ use Rattle.automata_base.specs.Nfas.ReversedSizes.{MayBeTooLarge}
 use Rattle.automata_base.specs.declared.util.search.Direction.TheVariants.{Forward}
 use Rattle.automata_base.specs.Nfas.Unions.{IsKeepingUnions}
 use Rattle.automata_base.specs.Nfas.Utf8.{ReadsUtf8}
-use Rattle.automata_base.specs.declared.nfa.thompson.ReverseError.{ReverseError}
-use Rattle.automata_base.specs.declared.nfa.thompson.ReverseError.TheVariants as reverse
+use Rattle.automata_base.specs.declared.nfa.thompson.reverse.ReverseError.{ReverseError}
+use Rattle.automata_base.specs.declared.nfa.thompson.reverse.ReverseError.TheVariants as reverse
 use Rattle.automata_base.specs.declared.util.search.MatchKind.TheVariants.{All}
 use Rattle.automata_config.specs.Options.{Options}
 use Rattle.automata_config.specs.Settling as settling

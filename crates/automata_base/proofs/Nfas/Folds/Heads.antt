@@ -5,7 +5,7 @@ use Rattle.std.proofs.Common.{sym, ap, ◌∙◌, subst, arith, length, append_a
 use Rattle.std.specs.Prelude.{slice_get}
 use Rattle.std.proofs.lemmas.Bool.{cases_lt}
 use Rattle.std.proofs.lemmas.Option.{slice_get_read}
-use Rattle.automata_base.specs.declared.nfa.thompson.State.{State}
+use Rattle.automata_base.specs.declared.nfa.thompson.state.State.{State}
 use Rattle.automata_base.specs.Nfas.Nodes.{nodes_of}
 use Rattle.automata_base.proofs.Powersets.Walking.{nodes_length}
 use Rattle.automata_base.specs.Lists.{In, cons_some}

@@ -8,8 +8,8 @@ use Rattle.std.proofs.lemmas.Option.{slice_get_read}
 use Rattle.automata_base.specs.Retraced.ReversedEdges.{list_at, no_lists}
 use Rattle.automata_base.proofs.Nfas.Mirrors.Lists.{none_at}
 use Rattle.std.specs.Prelude.{slice_get}
-use Rattle.automata_base.specs.declared.nfa.thompson.State.{State}
-use Rattle.automata_base.specs.declared.nfa.thompson.Transition.{Transition}
+use Rattle.automata_base.specs.declared.nfa.thompson.state.State.{State}
+use Rattle.automata_base.specs.declared.nfa.thompson.state.Transition.{Transition}
 use Rattle.automata_base.specs.Lists.{In}
 use Rattle.automata_base.specs.Retraced.Folds.{range_read, ReadsRange, SomeReads, StaysOrReads}
 use Rattle.automata_base.specs.Retraced.Folds.{KeepsAlternate, ReadsARange}

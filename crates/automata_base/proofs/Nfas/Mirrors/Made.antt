@@ -1,6 +1,6 @@
 -- `NFA::reversed` returns the reversed NFA.
 use Rattle.std.proofs.Common.{ℕ, ◌≡◌, List, length, refl, sym, subst}
-use Rattle.automata_base.specs.declared.nfa.thompson.State.{State}
+use Rattle.automata_base.specs.declared.nfa.thompson.state.State.{State}
 use Rattle.automata_base.specs.Nfas.Automata.{automaton}
 use Rattle.automata_base.specs.Nfas.Accepted.{IsChecked}
 use Rattle.automata_base.specs.Nfas.Mirrors.{IsReversed, reversed_flags}

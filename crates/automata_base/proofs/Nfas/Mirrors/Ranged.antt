@@ -1,7 +1,7 @@
 -- An NFA has the same ways if the edges of each dense state are written as ranges.
 use Rattle.std.proofs.Common.{ℕ, suc, ◌≡◌, List, [], ◌∷◌, get_or, inl, inr, refl, sym, ap, ◌∙◌}
-use Rattle.automata_base.specs.declared.nfa.thompson.State.{State}
-use Rattle.automata_base.specs.declared.nfa.thompson.State.TheVariants as is
+use Rattle.automata_base.specs.declared.nfa.thompson.state.State.{State}
+use Rattle.automata_base.specs.declared.nfa.thompson.state.State.TheVariants as is
 use Rattle.automata_base.specs.Nfas.Nfa.{Truth, hop, hop_at, takes, takes_at, accepts, accepts_at}
 use Rattle.automata_base.specs.Nfas.Nodes.{Automaton, nfa_of, node_of}
 use Rattle.automata_base.specs.Retraced.DenseRuns.{ranged, ranged_nfa}

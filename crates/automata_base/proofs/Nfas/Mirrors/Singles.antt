@@ -4,9 +4,9 @@ use Rattle.std.proofs.Common.{◌++◌, ◌&&◌, length, length-append, get_or,
 use Rattle.std.proofs.Common.{◌∙◌, subst, arith}
 use Rattle.std.proofs.lemmas.Bool.{and_parts, leb-true}
 use Rattle.std.specs.Prelude.{slice_get}
-use Rattle.automata_base.specs.declared.nfa.thompson.State.{State}
-use Rattle.automata_base.specs.declared.nfa.thompson.State.TheVariants as is
-use Rattle.automata_base.specs.declared.nfa.thompson.Transition.{Transition}
+use Rattle.automata_base.specs.declared.nfa.thompson.state.State.{State}
+use Rattle.automata_base.specs.declared.nfa.thompson.state.State.TheVariants as is
+use Rattle.automata_base.specs.declared.nfa.thompson.state.Transition.{Transition}
 use Rattle.automata_base.specs.Lists.{In, Distinct}
 use Rattle.automata_base.specs.Nfas.Mirrors.{flip}
 use Rattle.automata_base.specs.Nfas.Errors.{ordered_from, state_ordered}

@@ -9,7 +9,7 @@ ghost use Rattle.automata_base.specs.Nfas.Errors.{is_small, is_narrow, starts_be
 ghost use Rattle.std.specs.Prelude.{false, true, None, IsTrue, IsOk, IfOk, IfSome, OnSome};
 
 use crate::nfa::thompson::reading::add_look;
-use crate::nfa::thompson::{NfaError, State, Transition};
+use crate::nfa::thompson::state::{NfaError, State, Transition};
 use crate::util::look::LookSet;
 use crate::util::primitives::{PatternID, StateID};
 

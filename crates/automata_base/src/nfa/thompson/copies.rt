@@ -9,13 +9,14 @@ ghost use Rattle.automata_base.specs.Nfas.Errors.{states_below};
 ghost use Rattle.automata_base.specs.Retraced.ReversedEdges.{copied, copies, copy_of, lists_of, list_at, list_match};
 ghost use Rattle.automata_base.specs.Retraced.ReversedEdges.{matches_in, HaveCopies};
 
-use crate::nfa::thompson::State;
 use crate::nfa::thompson::checks::MAX_STATES;
 use crate::nfa::thompson::reach::{Edges, walk};
 use crate::nfa::thompson::reading::pattern_of;
-use crate::nfa::thompson::turn::{MakeError, no_lists, push_at, push_state};
-use crate::util::determinize::sparse_set::SparseSet;
+use crate::nfa::thompson::state::State;
+use crate::nfa::thompson::turn::{MakeError, push_state};
+use crate::util::id_lists::{no_lists, push_at};
 use crate::util::primitives::{PatternID, StateID};
+use crate::util::sparse_set::SparseSet;
 use std::alloc::{AllocError, Global};
 
 /// Returns the ID of a member's copy, if the copies of the set's members begin at `base`.

@@ -15,7 +15,7 @@ ghost use Rattle.automata_base.specs.Retraced.Folds.{StandsFor, StandsIfAny};
 ghost use Rattle.automata_base.specs.Retraced.Folds.{range_read, ReadsRange, SomeReads, StaysOrReads};
 ghost use Rattle.automata_base.specs.Retraced.Folds.{is_large, IsFoldOf};
 ghost use Rattle.automata_base.specs.Retraced.Folds.{IsFoldedFrom, IsFoldedState, IsUnionOf, IsUnionBelow};
-ghost use Rattle.automata_base.specs.declared.nfa.thompson.Transition.{Transition};
+ghost use Rattle.automata_base.specs.declared.nfa.thompson.state.Transition.{Transition};
 ghost use Rattle.automata_base.specs.Retraced.Reach.{node_in, targets_of};
 ghost use Rattle.automata_base.specs.Retraced.ReversedEdges.{lists_of, list_at};
 ghost use Rattle.automata_base.specs.Retraced.Segments.{IsOnWay, leaf_head, head_or_none};
@@ -23,10 +23,10 @@ ghost use Rattle.automata_base.specs.Retraced.Segments.{IsOnWay, leaf_head, head
 use crate::nfa::thompson::copies::push_id;
 use crate::nfa::thompson::reach::{Edges, add, add_ids, add_targets, set_for};
 use crate::nfa::thompson::segments::{LEAVES, NODES, no_segments, put_range};
+use crate::nfa::thompson::state::{State, Transition};
 use crate::nfa::thompson::turn::{MakeError, push_state};
-use crate::nfa::thompson::{State, Transition};
-use crate::util::determinize::sparse_set::SparseSet;
 use crate::util::primitives::StateID;
+use crate::util::sparse_set::SparseSet;
 use std::alloc::{AllocError, Global};
 
 /// The least number of alternates of a union that is folded. At least one union must have this many alternates that

@@ -12,9 +12,10 @@ ghost use Rattle.automata_base.specs.Nfas.MergedNfas.{BeginsAs, IsMergedNfa, Kee
 ghost use Rattle.automata_base.specs.Powersets.Cuts.{MatchKind};
 
 use crate::laws::merged_answers_alike;
+use crate::nfa::thompson::NFA;
 use crate::nfa::thompson::standing::{is_merged, is_plain, stands_for};
-use crate::nfa::thompson::turn::no_lists;
-use crate::nfa::thompson::{NFA, NfaError, State, Transition};
+use crate::nfa::thompson::state::{NfaError, State, Transition};
+use crate::util::id_lists::no_lists;
 use crate::util::primitives::StateID;
 use std::alloc::{AllocError, Global};
 use std::mem;

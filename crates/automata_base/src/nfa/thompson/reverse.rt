@@ -8,14 +8,43 @@ ghost use Rattle.automata_base.specs.Nfas.Errors.{states_below, states_ordered};
 ghost use Rattle.automata_base.specs.Nfas.ReversedSizes.{asking_edges};
 ghost use Rattle.automata_base.specs.Retraced.ReversedEdges.{AreTurned, AreReversed};
 
-use crate::nfa::thompson::checks::MAX_STATES;
+use crate::nfa::thompson::NFA;
+use crate::nfa::thompson::checks::{MAX_STATES, totals_of};
 use crate::nfa::thompson::copies::{Parts, parts_of};
 use crate::nfa::thompson::folding::{fold, has_wide};
-use crate::nfa::thompson::reach::{Edges, reach};
+use crate::nfa::thompson::reach::{Edges, reach, reaches_match};
+use crate::nfa::thompson::state::{Flags, NfaError, State};
 use crate::nfa::thompson::turn::{EdgesByTarget, MakeError, push_state};
-use crate::nfa::thompson::{Flags, NFA, NfaError, ReverseError, State};
 use crate::util::primitives::StateID;
-use std::alloc::Global;
+use crate::util::search::MatchKind;
+use std::alloc::{AllocError, Global};
+use thiserror::Error;
+
+/// Why an NFA cannot be reversed.
+#[derive(Clone, Copy, Debug, PartialEq, Eq, Error)]
+pub enum ReverseError {
+    /// The empty match is reached from the start of some pattern and not from the anchored start, or the other way
+    /// round.
+    #[error("only some of the starts match the empty string, so a reversed NFA would match differently")]
+    Starts,
+    /// The reversed NFA might have more states or alternates than an NFA may have, by a bound on its size.
+    #[error("the reversed NFA would be too large")]
+    TooLarge,
+    /// An allocation failed.
+    #[error("out of memory")]
+    OutOfMemory,
+}
+
+impl From<AllocError> for ReverseError {
+    ghost use Rattle.std.specs.Prelude.{◌≡◌};
+    ghost use Rattle.automata_base.specs.declared.nfa.thompson.reverse.ReverseError.TheVariants.{OutOfMemory};
+
+    ghost from_gives = { λ _ e. e ≡ OutOfMemory };
+
+    fn from(_e: AllocError) -> ReverseError {
+        ReverseError::OutOfMemory
+    }
+}
 
 /// Returns the error of reversing an NFA whose states cannot be made.
 pub fn reverse_error(error: MakeError) -> ReverseError
@@ -118,13 +147,100 @@ pub fn reverse_states(
 }
 
 impl NFA {
-    ghost use Rattle.std.specs.Prelude.{◌≡◌, ◌<◌, ◌≤◌, ◌+◌, ◌*◌, ◌^◌, ◌↔◌, IsTrue, length, sum_by, Err, IfOk, IfSome};
+    ghost use Rattle.std.specs.Prelude.{◌≡◌, ◌<◌, ◌≤◌, ◌+◌, ◌*◌, ◌^◌, ◌↔◌, IsTrue, length, Err, IfOk, IfSome, None};
+    ghost use Rattle.std.specs.Prelude.{Some};
     ghost use Rattle.automata_base.specs.Nfas.Accepted.{IsChecked};
     ghost use Rattle.automata_base.specs.Nfas.Automata.{automaton};
     ghost use Rattle.automata_base.specs.Nfas.Mirrors.{BeginsAlike, IsReversalOf, ReadsAlike, reversed_flags};
-    ghost use Rattle.automata_base.specs.Nfas.ReversedSizes.{MayBeTooLarge, most_states};
+    ghost use Rattle.automata_base.specs.Nfas.Mirrors.{IsReversedByPattern};
+    ghost use Rattle.automata_base.specs.Nfas.ReversedSizes.{MayBeTooLarge, most_states, most_alternates};
     ghost use Rattle.automata_base.specs.Retraced.Copies.{IsFit};
     ghost use Rattle.automata_base.specs.Retraced.ReversedEdges.{AreReversed};
+    ghost use Rattle.automata_base.specs.Powersets.Cuts.{MatchKind};
+    ghost use Rattle.automata_base.specs.Nfas.Engines.{engine_of};
+    ghost use Rattle.automata_base.specs.Nfas.Getters.{SkipsLazily};
+    ghost use Rattle.automata_base.specs.Answers.TruePairs.{IsTruePair};
+
+    /// Returns the reversed NFA. Reading backward, it accepts what this NFA accepts from its anchored start: each part
+    /// of a haystack, by the same patterns. A regex uses it to find where a match starts;
+    /// `regex::Builder::build_from_nfa` makes both at once.
+    ///
+    /// It is meant for anchored searches under `MatchKind::All`, and its anchored and unanchored starts are the same
+    /// state. With it, a search for pattern k accepts what this NFA accepts by pattern k. Its reverse flag is flipped,
+    /// and its other flags are the same. Reversing takes time linear in the sizes of both NFAs.
+    ///
+    /// For each pattern, the reversed NFA has states for what is reached from the anchored start and leads to a match
+    /// of the pattern: one for each such state, and one for each edge that reads a byte or tests a look. So it has at
+    /// most `(P + 1) * (n + r + 2)` states, where P is the number of patterns, n of states, and r of such edges.
+    /// Adjacent bytes of a `Dense` state that lead to the same state count as one edge.
+    ///
+    /// Where many edges that read bytes lead to one state, as to the match of a large class of characters, a single
+    /// state reads in place of the states of these edges, and some of those are reused for the sets of states that a
+    /// byte leads to. The number of states stays the same.
+    ///
+    /// It fails if the empty match is reached from the start of a pattern and not from the anchored start, or the other
+    /// way round, since then the two would not omit the same empty matches in UTF-8 mode; if by that bound, or a
+    /// similar one for alternates, the reversed NFA might be too large; and if an allocation fails. A regex of the two
+    /// also needs this NFA to skip lazily (`skips_lazily`).
+    ///
+    /// ```text
+    /// let reverse = forward.reversed()?;
+    /// let regex = Regex::builder().build_from_nfas(forward, reverse)?;
+    /// ```
+    pub fn reversed(&self) -> Result<NFA, ReverseError>
+        ensures turned { IfOk result (λ reversed. IsReversalOf self.now reversed) }
+        ensures pair { IfOk result (λ reversed. SkipsLazily self.now
+            → (kind : MatchKind) → IsTruePair (engine_of self.now kind) (engine_of reversed MatchKind.All)) }
+        ensures patterns { IfOk result (λ reversed. IsReversedByPattern self.now reversed) }
+        ensures alike { IfOk result (λ reversed. BeginsAlike self.now) }
+        ensures starts { result ≡ Err ReverseError.Starts → BeginsAlike self.now → ⊥ }
+        ensures size { IfOk result (λ reversed. length reversed.states ≤ most_states self.now) }
+        ensures tested { result ≡ Err ReverseError.TooLarge → BeginsAlike self.now }
+        ensures large { result ≡ Err ReverseError.TooLarge → MayBeTooLarge self.now }
+    {
+        let alike = self.begins_alike()?;
+        let reversed = self.reversed_if(alike)?;
+        Ok(reversed)
+    }
+
+    /// Whether the empty match is reached from the start of some pattern exactly if it is reached from the anchored
+    /// start.
+    fn begins_alike(&self) -> Result<bool, AllocError>
+        ensures { IfOk result (λ alike. IsTrue alike ↔ BeginsAlike self.now) }
+    {
+        let begins = reaches_match(self.alloc, self.states(), &[self.start_anchored()])?;
+        Ok(begins == self.has_empty())
+    }
+
+    /// Builds the reversed NFA of these states, with the reverse flag flipped and the other flags of this NFA
+    /// unchanged. If its unions have too many alternates, it fails with `TooLarge`.
+    fn mirrored(&self, mirror: Mirror) -> Result<NFA, ReverseError>
+        requires fit { IsFit
+            self.now.states (length self.now.start_pattern) mirror.states.items mirror.entries.items mirror.root }
+        requires few { length mirror.entries.items ≡ length self.now.start_pattern }
+        ensures same { IfOk result (λ nfa. nfa ≡ automaton
+            mirror.states.items mirror.root mirror.root mirror.entries.items (reversed_flags self.now.flags)) }
+        ensures large { result ≡ Err ReverseError.TooLarge → 2 ^ 31 < most_alternates self.now }
+        ensures starts { result ≡ Err ReverseError.Starts → ⊥ }
+    {
+        let Mirror {
+            states,
+            entries,
+            root,
+        } = mirror;
+        let Some(totals) = totals_of(states.as_slice()) else {
+            return Err(ReverseError::TooLarge);
+        };
+        let given = self.flags();
+        let flags = Flags {
+            reverse: !given.reverse,
+            ..given
+        };
+        match NFA::make(self.alloc, states, root, root, entries, flags, totals) {
+            Ok(nfa) => Ok(nfa),
+            Err(_) => Err(ReverseError::OutOfMemory),
+        }
+    }
 
     /// Returns the states of the reversed NFA.
     pub(super) fn mirror(&self) -> Result<Mirror, ReverseError>

@@ -3,7 +3,7 @@ ghost use Rattle.std.specs.Prelude.{ℕ, ◌≡◌, ◌<◌, ◌≤◌, ◌+◌,
 ghost use Rattle.automata_base.specs.Retraced.ReversedEdges.{lists_of, no_lists};
 ghost use Rattle.automata_base.specs.Retraced.Segments.{IsOnWay, IsPutFirst, IsPutLast};
 
-use crate::nfa::thompson::turn::{no_lists, push_at};
+use crate::util::id_lists::{no_lists, push_at};
 use crate::util::primitives::StateID;
 use std::alloc::{AllocError, Global};
 

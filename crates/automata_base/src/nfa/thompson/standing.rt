@@ -10,8 +10,9 @@ ghost use Rattle.automata_base.specs.Powersets.Cuts.{has_match, targets};
 ghost use Rattle.automata_base.specs.Retraced.ReversedEdges.{lists_of, list_at};
 
 use crate::nfa::thompson::kept_closure::{byte_end, first_byte, higher, lower, rows_of};
-use crate::nfa::thompson::reading::{state_at, target};
-use crate::nfa::thompson::{NFA, State};
+use crate::nfa::thompson::reading::target;
+use crate::nfa::thompson::state::State;
+use crate::nfa::thompson::{NFA, state_at};
 use crate::util::primitives::StateID;
 use std::alloc::AllocError;
 

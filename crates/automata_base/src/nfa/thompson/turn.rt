@@ -6,12 +6,12 @@ ghost use Rattle.automata_base.specs.Nfas.Mirrors.{flip};
 ghost use Rattle.automata_base.specs.Nfas.Nodes.{node_of, nodes_of};
 ghost use Rattle.automata_base.specs.Nfas.Errors.{transitions_below, state_below, states_below};
 ghost use Rattle.automata_base.specs.Retraced.DenseRuns.{starts_with, run_of, runs_from};
-ghost use Rattle.automata_base.specs.Retraced.ReversedEdges.{lists_of, turns_of, push_at, no_lists, turn_free, turn_by};
-ghost use Rattle.automata_base.specs.Retraced.ReversedEdges.{ends_in, put, put_at, turn_all};
-ghost use Rattle.automata_base.specs.Retraced.ReversedEdges.{turn_ranges, turn_state, turn_states, size, IsHead};
-ghost use Rattle.automata_base.specs.Retraced.ReversedEdges.{AreMade};
+ghost use Rattle.automata_base.specs.Retraced.ReversedEdges.{lists_of, turns_of, push_at, no_lists, turn_free};
+ghost use Rattle.automata_base.specs.Retraced.ReversedEdges.{turn_by, ends_in, put, put_at, turn_all, turn_ranges};
+ghost use Rattle.automata_base.specs.Retraced.ReversedEdges.{turn_state, turn_states, size, IsHead, AreMade};
 
-use crate::nfa::thompson::{State, Transition};
+use crate::nfa::thompson::state::{State, Transition};
+use crate::util::id_lists::{no_lists, push_at};
 use crate::util::look::Look;
 use crate::util::primitives::{PatternID, StateID};
 use std::alloc::{AllocError, Global};
@@ -49,28 +49,6 @@ pub fn push_state(states: &mut Vec<State>, state: State) -> Result<(), AllocErro
     ensures more { OnOk result (length states.new.items ≡ length states.old.items + 1) }
 {
     states.push(state)?;
-    Ok(())
-}
-
-/// Returns `count` empty lists.
-pub fn no_lists(alloc: Global, count: usize) -> Result<Vec<Vec<StateID>>, AllocError>
-    ensures none { IfOk result (λ v. lists_of v.items ≡ no_lists count) }
-    ensures few { IfOk result (λ v. length v.items ≡ count) }
-{
-    let mut lists = Vec::new(alloc);
-    for i in 0..count {
-        lists.push(Vec::new(alloc))?;
-    }
-    Ok(lists)
-}
-
-/// Appends a state to the list at an index.
-pub fn push_at(lists: &mut Vec<Vec<StateID>>, at: usize, id: StateID) -> Result<(), AllocError>
-    requires { at < length lists.old.items }
-    ensures pushed { OnOk result (lists_of lists.new.items ≡ push_at (lists_of lists.old.items) at id) }
-    ensures few { OnOk result (length lists.new.items ≡ length lists.old.items) }
-{
-    lists[at].push(id)?;
     Ok(())
 }
 

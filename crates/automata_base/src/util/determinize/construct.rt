@@ -18,20 +18,21 @@ ghost use Rattle.automata_base.specs.Paths.Starts.{IsOf};
 ghost use Rattle.automata_base.specs.Haystacks.LookSets.{truth_of};
 ghost use Rattle.automata_base.specs.Powersets.Closure.{IsUnderWay};
 
-use crate::nfa::thompson::NFA;
-use crate::nfa::thompson::kept_closure::KeptClosure;
-use crate::nfa::thompson::reading::{pattern_of, state_at, target};
-use crate::util::determinize::closure::{close, close_all, close_one};
+use crate::nfa::thompson::closure::{close, close_all, close_one};
+use crate::nfa::thompson::keeping::keep_states;
+use crate::nfa::thompson::kept::KeptClosure;
+use crate::nfa::thompson::reading::{pattern_of, target};
+use crate::nfa::thompson::{NFA, state_at};
 use crate::util::determinize::deciding::{
     first_of, has_news, is_unit, is_word_unit, known_behind, news,
 };
 use crate::util::determinize::kept::{front_of, keep_with};
-use crate::util::determinize::lists::{cut_first, keep_states, read_patterns};
-use crate::util::determinize::sparse_set::SparseSet;
+use crate::util::determinize::lists::{cut_first, read_patterns};
 use crate::util::determinize::state::{Parts, State};
 use crate::util::look::LookSet;
 use crate::util::primitives::{PatternID, StateID};
 use crate::util::search::{Anchored, MatchKind};
+use crate::util::sparse_set::SparseSet;
 
 /// Whether the NFA has a word look.
 fn has_word(nfa: &NFA) -> bool

@@ -9,8 +9,8 @@ ghost use Rattle.automata_base.specs.Nfas.KeptClosure.{IsKeptClosure, IsPartAt};
 ghost use Rattle.automata_base.specs.Retraced.Computed.{any_state};
 
 use crate::nfa::thompson::NFA;
-use crate::nfa::thompson::kept_closure::KeptClosure;
-use crate::util::determinize::lists::{append_kept, keep_states};
+use crate::nfa::thompson::keeping::{append_kept, keep_states};
+use crate::nfa::thompson::kept::KeptClosure;
 use crate::util::look::LookSet;
 use crate::util::primitives::StateID;
 

@@ -153,3 +153,13 @@ impl Key {
         }
     }
 }
+
+impl State {
+    /// Returns a map key for the state, which shares the state's bytes.
+    pub fn key(&self) -> Result<Key, AllocError>
+        ensures { IfOk result (λ key. key ≡ self.now) }
+    {
+        let bytes = self.shared_bytes()?;
+        Ok(Key::shared(bytes))
+    }
+}

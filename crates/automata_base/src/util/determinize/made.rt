@@ -6,7 +6,7 @@ ghost use Rattle.automata_base.specs.Nfas.KeptClosure.{IsRestCode};
 ghost use Rattle.automata_base.specs.Powersets.Key.{ListsItsStates};
 ghost use Rattle.automata_base.specs.Powersets.Parts.{powerset_of};
 
-use crate::nfa::thompson::kept_closure::KeptClosure;
+use crate::nfa::thompson::kept::KeptClosure;
 use crate::util::determinize::ids::list_ids;
 use crate::util::determinize::state::{Parts, State};
 use crate::util::heap::{array, block};

@@ -3,7 +3,6 @@ ghost use Rattle.std.specs.Prelude.{◌≡◌, ◌+◌, IfOk};
 ghost use Rattle.automata_base.specs.Powersets.Results.{IsStartMade, IsStepMade};
 ghost use Rattle.automata_base.specs.Paths.Starts.{IsOf};
 
-pub(crate) mod closure;
 pub(crate) mod construct;
 mod count;
 pub(crate) mod deciding;
@@ -16,7 +15,6 @@ mod made;
 mod read;
 mod scratch;
 mod shared;
-pub(crate) mod sparse_set;
 mod state;
 mod valid;
 pub(crate) mod write;

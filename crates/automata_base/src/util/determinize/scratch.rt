@@ -8,16 +8,16 @@ ghost use Rattle.automata_base.specs.Powersets.Parts.{powerset_of};
 ghost use Rattle.automata_base.specs.Paths.Starts.{IsOf};
 
 use crate::nfa::thompson::NFA;
-use crate::nfa::thompson::kept_closure::KeptClosure;
+use crate::nfa::thompson::kept::KeptClosure;
 use crate::util::determinize::construct::{next_into, start_into};
 use crate::util::determinize::count::Count;
 use crate::util::determinize::key::Key;
 use crate::util::determinize::made::MadeState;
-use crate::util::determinize::sparse_set::SparseSet;
 use crate::util::determinize::state::{Parts, State};
 use crate::util::heap::array;
 use crate::util::primitives::StateID;
 use crate::util::search::{Anchored, MatchKind};
+use crate::util::sparse_set::SparseSet;
 use crate::util::subject::Subject;
 use std::alloc::{AllocError, Global};
 use std::marker::Model;

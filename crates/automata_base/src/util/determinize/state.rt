@@ -9,9 +9,8 @@ ghost use Rattle.automata_base.specs.Powersets.Parts.{powerset_of};
 ghost use Rattle.automata_base.specs.Paths.Starts.{IsOf};
 
 use crate::nfa::thompson::NFA;
-use crate::nfa::thompson::kept_closure::KeptClosure;
+use crate::nfa::thompson::kept::KeptClosure;
 use crate::util::determinize::ids::{Ids, are_below, read_ids};
-use crate::util::determinize::key::Key;
 use crate::util::determinize::read::{
     ids_in, number_count, pattern_at, pattern_count, read_patterns, u32_at,
 };
@@ -213,12 +212,12 @@ impl State {
         Ok(State { bytes })
     }
 
-    /// Returns a map key for the state, which shares the state's bytes.
-    pub fn key(&self) -> Result<Key, AllocError>
-        ensures { IfOk result (λ key. key ≡ self.now) }
+    /// Returns the encoded bytes of the state, shared with it.
+    pub(crate) fn shared_bytes(&self) -> Result<SharedBytes, AllocError>
+        ensures code { IfOk result (λ bytes. IsCode bytes) }
+        ensures state { IfOk result (λ bytes. decoded bytes ≡ self.now) }
     {
-        let bytes = self.bytes.clone()?;
-        Ok(Key::shared(bytes))
+        self.bytes.clone()
     }
 
     /// Returns the encoded bytes of the state. The call allocates nothing.

@@ -1,6 +1,6 @@
 use Rattle.std.proofs.Common.{List, [], ◌∷◌, ◌≡◌, ◌↔◌, true, length, sym, subst}
 use Rattle.std.specs.Prelude.{IsTrue}
-use Rattle.automata_base.specs.declared.nfa.thompson.State.{State}
+use Rattle.automata_base.specs.declared.nfa.thompson.state.State.{State}
 use Rattle.automata_base.specs.Retraced.Reach.{ReachesMatch}
 use Rattle.automata_base.specs.Nfas.Errors.{states_below}
 use Rattle.automata_base.proofs.Nfas.Reach.InRange.{checked_below}

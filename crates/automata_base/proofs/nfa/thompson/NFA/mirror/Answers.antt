@@ -1,5 +1,5 @@
 use Rattle.std.proofs.Common.{List, ◌≡◌, true, length, sym, subst}
-use Rattle.automata_base.specs.declared.nfa.thompson.State.{State}
+use Rattle.automata_base.specs.declared.nfa.thompson.state.State.{State}
 use Rattle.automata_base.specs.Nfas.Errors.{states_below, states_ordered}
 use Rattle.automata_base.proofs.Nfas.Reach.InRange.{checked_below}
 use Rattle.automata_base.proofs.nfa.thompson.NFA.mirror.Goals as goal

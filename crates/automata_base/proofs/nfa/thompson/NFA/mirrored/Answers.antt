@@ -1,5 +1,5 @@
 use Rattle.std.proofs.Common.{List, ◌≡◌, ◌≤◌, ◌^◌, true, false, length, subst, arith}
-use Rattle.automata_base.specs.declared.nfa.thompson.State.{State}
+use Rattle.automata_base.specs.declared.nfa.thompson.state.State.{State}
 use Rattle.automata_base.specs.Nfas.Nodes.{Automaton}
 use Rattle.automata_base.specs.Nfas.Errors.{is_narrow}
 use Rattle.automata_base.proofs.Nfas.Mirrors.Fits.{fit_passes, fit_large}

@@ -1,5 +1,5 @@
 use Rattle.std.proofs.Common.{List, ◌≡◌, true, length, refl, sym, subst, arith}
-use Rattle.automata_base.specs.declared.nfa.thompson.State.{State}
+use Rattle.automata_base.specs.declared.nfa.thompson.state.State.{State}
 use Rattle.automata_base.specs.Nfas.Automata.{automaton}
 use Rattle.automata_base.specs.Nfas.Errors.{states_below}
 use Rattle.automata_base.specs.Nfas.Mirrors.{ReadsAlike, reversed_flags}

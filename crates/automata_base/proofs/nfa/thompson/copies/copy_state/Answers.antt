@@ -1,5 +1,5 @@
 use Rattle.std.proofs.Common.{ℕ, List, [], sym, subst, inl, refl}
-use Rattle.automata_base.specs.declared.nfa.thompson.State.{State}
+use Rattle.automata_base.specs.declared.nfa.thompson.state.State.{State}
 use Rattle.automata_base.specs.declared.nfa.thompson.reach.Edges.TheVariants.{Every}
 use Rattle.automata_base.specs.Lists.{In}
 use Rattle.automata_base.specs.Nfas.Nodes.{node_of}

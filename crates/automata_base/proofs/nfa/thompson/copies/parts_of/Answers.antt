@@ -1,5 +1,5 @@
 use Rattle.std.proofs.Common.{List, ℕ, ◌≡◌, ◌≤◌, [], ◌∷◌, ◌+◌, length, length-append, refl, sym, ap, ◌∙◌, subst, arith}
-use Rattle.automata_base.specs.declared.nfa.thompson.State.{State}
+use Rattle.automata_base.specs.declared.nfa.thompson.state.State.{State}
 use Rattle.automata_base.specs.Retraced.Copies.{AreParts, IsPartAdded}
 use Rattle.automata_base.specs.Lists.{all_below}
 use Rattle.automata_base.specs.Nfas.Nodes.{nodes_of}

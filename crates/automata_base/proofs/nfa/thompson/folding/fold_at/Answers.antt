@@ -1,5 +1,5 @@
 use Rattle.std.proofs.Common.{◌<◌, List, length, refl, sym, subst}
-use Rattle.automata_base.specs.declared.nfa.thompson.State.{State}
+use Rattle.automata_base.specs.declared.nfa.thompson.state.State.{State}
 use Rattle.automata_base.specs.Nfas.Nodes.{node_of, nodes_of}
 use Rattle.automata_base.specs.Retraced.Folds.{IsFoldOf, SomeReads, IsNotFree}
 use Rattle.automata_base.proofs.Nfas.Folds.Parts.{state_at}

@@ -1,6 +1,6 @@
 use Rattle.std.proofs.Common.{◌≤◌, ◌+◌, length, ap, sym, ◌∙◌, subst, arith}
 use Rattle.std.specs.Prelude.{sum_by}
-use Rattle.automata_base.specs.declared.nfa.thompson.State.TheVariants.{Match}
+use Rattle.automata_base.specs.declared.nfa.thompson.state.State.TheVariants.{Match}
 use Rattle.automata_base.specs.Nfas.ReversedSizes.{asking_edges}
 use Rattle.automata_base.specs.Retraced.ReversedEdges.{AreTurned, Turns, turn_by, turn_states, turns_of, size}
 use Rattle.automata_base.proofs.Nfas.Mirrors.Lists.{err_is}

@@ -2,7 +2,7 @@ use Rattle.std.proofs.Common.{ℕ, List, ap, sym, ◌∙◌}
 use Rattle.std.proofs.lemmas.Slice.Eq.{slice_eq-Decides}
 use Rattle.automata_base.specs.Nfas.Nfa.{Split, Read}
 use Rattle.automata_base.specs.Nfas.Nodes.{node_of, dense_from, ranges_of}
-use Rattle.automata_base.specs.declared.nfa.thompson.Transition.{Transition}
+use Rattle.automata_base.specs.declared.nfa.thompson.state.Transition.{Transition}
 use Rattle.automata_base.proofs.Nfas.Standing.{same_id, same_range}
 use Rattle.automata_base.proofs.nfa.thompson.standing.is_same.Goals as goal
 

@@ -1,5 +1,5 @@
 use Rattle.std.proofs.Common.{ap, ◌∙◌}
-use Rattle.automata_base.specs.declared.nfa.thompson.Flags.{Flags}
+use Rattle.automata_base.specs.declared.nfa.thompson.state.Flags.{Flags}
 use Rattle.automata_base.specs.Powersets.Passes.{decided}
 use Rattle.automata_base.specs.Haystacks.LookSets.{truth_of}
 use Rattle.automata_base.proofs.Powersets.LookBits.{sofar_next}

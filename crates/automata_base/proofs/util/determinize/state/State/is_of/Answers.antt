@@ -1,5 +1,5 @@
 use Rattle.std.proofs.Common.{◌≡◌, ◌∙◌, length, ap, sym, List}
-use Rattle.automata_base.specs.declared.nfa.thompson.State.{State}
+use Rattle.automata_base.specs.declared.nfa.thompson.state.State.{State}
 use Rattle.automata_base.specs.Lists.{all_below}
 use Rattle.automata_base.proofs.Powersets.Belows.{all_below_from}
 use Rattle.automata_base.proofs.Paths.Checked.{below_in}
