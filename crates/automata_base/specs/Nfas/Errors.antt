@@ -2,7 +2,8 @@
 use Rattle.std.specs.Prelude.{ℕ, ◌+◌, ◌^◌, Option, Some, None, sum_by, length, map, Bool, true, ◌&&◌, ltb, leb}
 use Rattle.std.specs.Prelude.{if◌then◌else◌, List, [], ◌∷◌}
 use Rattle.automata_base.specs.declared.nfa.thompson.state.NfaError.{NfaError}
-use Rattle.automata_base.specs.declared.nfa.thompson.state.NfaError.TheVariants.{TooLarge, StartRange, StateRange, Ranges}
+use Rattle.automata_base.specs.declared.nfa.thompson.state.NfaError.TheVariants.{TooLarge, StartRange, StateRange}
+use Rattle.automata_base.specs.declared.nfa.thompson.state.NfaError.TheVariants.{Ranges}
 use Rattle.automata_base.specs.declared.nfa.thompson.state.NfaError.TheVariants.{PatternRange}
 use Rattle.automata_base.specs.declared.nfa.thompson.state.State.{State}
 use Rattle.automata_base.specs.declared.nfa.thompson.state.Transition.{Transition}

@@ -7,7 +7,8 @@ use Rattle.std.proofs.lemmas.Bool.{leb-true, ltb-true}
 use Rattle.std.proofs.lemmas.List.{length-map}
 use Rattle.std.proofs.lemmas.List.Sums.{sum_by-cons}
 use Rattle.automata_base.specs.declared.nfa.thompson.state.NfaError.{NfaError}
-use Rattle.automata_base.specs.declared.nfa.thompson.state.NfaError.TheVariants.{TooLarge, StartRange, StateRange, Ranges}
+use Rattle.automata_base.specs.declared.nfa.thompson.state.NfaError.TheVariants.{TooLarge, StartRange, StateRange}
+use Rattle.automata_base.specs.declared.nfa.thompson.state.NfaError.TheVariants.{Ranges}
 use Rattle.automata_base.specs.declared.nfa.thompson.state.NfaError.TheVariants.{PatternRange}
 use Rattle.automata_base.specs.declared.nfa.thompson.state.State.{State}
 use Rattle.automata_base.specs.declared.nfa.thompson.checks.Totals.{Totals}

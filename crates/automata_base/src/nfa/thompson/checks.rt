@@ -14,7 +14,7 @@ use crate::util::look::LookSet;
 use crate::util::primitives::{PatternID, StateID};
 
 // 2^27: the most states, and the most patterns, of an NFA.
-pub(super) const MAX_STATES: usize = 134_217_728;
+pub const MAX_STATES: usize = 134_217_728;
 
 // 2^31: the most alternates, in all unions together.
 const MAX_ALTERNATES: usize = 2_147_483_648;

@@ -53,7 +53,7 @@ fn push_in_room(out: &mut Vec<u8>, n: u64, left: usize) -> Result<(), AllocError
 
 /// Appends NFA states that follow the state `before`, each as its difference from the previous one.
 #[inline(always)]
-pub(crate) fn push_ids(out: &mut Vec<u8>, before: u32, ids: &[StateID]) -> Result<(), AllocError>
+pub fn push_ids(out: &mut Vec<u8>, before: u32, ids: &[StateID]) -> Result<(), AllocError>
     ensures ok { OnOk result (out.new.items ≡ out.old.items ++ ids_code before ids.now) }
     ensures ids { OnOk result (All IsId ids.now) }
 {

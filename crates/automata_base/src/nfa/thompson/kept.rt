@@ -6,7 +6,7 @@ use crate::util::sparse_set::SparseSet;
 /// The closure of an NFA's root, which is the unanchored start, with what a step needs of it. Most powerset states end
 /// with this closure.
 #[derive(Drop)]
-pub(crate) struct KeptClosure {
+pub struct KeptClosure {
     /// The state whose closure this is.
     pub root: StateID,
     /// The states of the closure, in the order of preference.

@@ -73,7 +73,7 @@ fn code_of(alloc: Global, kept: &[StateID]) -> Result<Vec<u8>, AllocError>
 }
 
 /// Returns the lower of two numbers.
-pub(super) fn lower(a: usize, b: usize) -> usize
+pub fn lower(a: usize, b: usize) -> usize
     ensures first { result ≤ a }
     ensures second { result ≤ b }
 {
@@ -81,7 +81,7 @@ pub(super) fn lower(a: usize, b: usize) -> usize
 }
 
 /// Returns the higher of two numbers.
-pub(super) fn higher(a: usize, b: usize) -> usize
+pub fn higher(a: usize, b: usize) -> usize
     ensures first { a ≤ result }
     ensures second { b ≤ result }
     ensures one { (result ≡ a) ⊎ (result ≡ b) }
@@ -113,7 +113,7 @@ fn end_of(ranges: &[Transition]) -> usize
 }
 
 /// Returns a byte below which the state leads nowhere.
-pub(super) fn first_byte(state: &State) -> usize
+pub fn first_byte(state: &State) -> usize
     ensures { (u : ℕ) → u < result → takes_at (node_of state.now) u ≡ None }
 {
     match state {
@@ -124,7 +124,7 @@ pub(super) fn first_byte(state: &State) -> usize
 }
 
 /// Returns a byte from which on the state leads nowhere, or 256.
-pub(super) fn byte_end(state: &State) -> usize
+pub fn byte_end(state: &State) -> usize
     ensures few { result ≤ 256 }
     ensures none { (u : ℕ) → u < 256 → result ≤ u → takes_at (node_of state.now) u ≡ None }
 {
@@ -172,7 +172,7 @@ fn are_plain(nfa: &NFA, kept: &[StateID]) -> bool
 }
 
 /// Returns, for each byte, the states that these states lead to on it, in order.
-pub(super) fn rows_of(nfa: &NFA, kept: &[StateID]) -> Result<Vec<Vec<StateID>>, AllocError>
+pub fn rows_of(nfa: &NFA, kept: &[StateID]) -> Result<Vec<Vec<StateID>>, AllocError>
     requires below { (q : ℕ) → In q kept.now → q < length nfa.now.states }
     requires plain { has_match (nfa_of nfa.now) kept.now ≡ false }
     ensures { IfOk result (λ rows. AreRows (nfa_of nfa.now) kept.now rows.items) }

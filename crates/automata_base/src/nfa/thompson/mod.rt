@@ -5,27 +5,20 @@ ghost use Rattle.automata_base.specs.Nfas.Accepted.{IsChecked};
 mod apart;
 mod builder;
 mod building;
-mod checks;
-pub(crate) mod closure;
-mod copies;
+pub mod checks;
+pub mod closure;
 mod cycles;
 mod debug;
 mod finishing;
-mod folding;
 mod from_states;
-pub(crate) mod ids_code;
-pub(crate) mod keeping;
-pub(crate) mod kept;
-pub(crate) mod kept_closure;
-mod merging;
-mod reach;
-pub(crate) mod reading;
-mod reverse;
-mod segments;
+pub mod ids_code;
+pub mod keeping;
+pub mod kept;
+pub mod kept_closure;
+pub mod reach;
+pub mod reading;
 mod skipping;
-mod standing;
 mod state;
-mod turn;
 mod utf8;
 
 use crate::nfa::thompson::kept::KeptClosure;
@@ -35,7 +28,6 @@ use crate::util::primitives::{PatternID, StateID};
 use crate::util::search::{Anchored, MatchKind};
 pub use builder::Builder;
 pub use building::BuildError;
-pub use reverse::ReverseError;
 pub use state::{Flags, NfaError, State, Transition};
 use std::alloc::{AllocError, Global};
 use std::marker::Model;
@@ -193,7 +185,7 @@ impl NFA {
 
     /// Returns the kept closure, with what powerset states keep of it, or none if the NFA does not keep one.
     #[inline(always)]
-    pub(crate) fn kept_closure(&self) -> Option<&KeptClosure>
+    pub fn kept_closure(&self) -> Option<&KeptClosure>
         ensures { IfSome result (λ kept. IsKeptClosure self.now kept.now) }
     {
         match &self.kept_closure {
@@ -380,7 +372,7 @@ impl NFA {
 
 /// Returns the state with this ID, which must be below the number of states. A loop gets `states` once, before it
 /// begins, so that it reads each state with one load.
-pub(crate) fn state_at<'a>(nfa: &NFA, states: &'a [State], id: StateID) -> &'a State
+pub fn state_at<'a>(nfa: &NFA, states: &'a [State], id: StateID) -> &'a State
     requires states { states.now ≡ nfa.now.states }
     requires id { id < length states.now }
     ensures same { slice_get nfa.now.states id ≡ Some result.now }
