@@ -4,7 +4,7 @@
 ghost use Rattle.std.specs.Prelude.{◌≡◌, ◌+◌, ◌*◌, ◌<◌, ◌≤◌, ◌↔◌, None, IfOk, IfErr, OnOk, OnErr, length, IsTrue};
 ghost use Rattle.std.specs.Prelude.{true};
 ghost use Rattle.automata_base.specs.Powersets.Powerset.{cost};
-ghost use Rattle.automata_base.specs.Powersets.Accounting.{minimum_capacity};
+ghost use Rattle.automata_determinize.specs.Powersets.Accounting.{minimum_capacity};
 ghost use Rattle.automata_hybrid.specs.Cache.Ids.{offset_limit};
 ghost use Rattle.automata_hybrid.specs.Private.Machines.Machine.{IsTemplate};
 ghost use Rattle.automata_hybrid.specs.Cache.Table.{IsRowId};
@@ -21,10 +21,10 @@ use crate::cache::settings::Settings;
 use crate::cache::table::Table;
 use crate::dfa::DFA;
 use crate::id::LazyStateID;
-use automata_base::util::determinize::State;
 use automata_base::util::heap::array;
 use automata_config::accounting::{CELL_SIZE, ENTRY_SIZE, FIXED_ROWS_COST, ROW_SIZE};
 use automata_config::error::{CacheError, StepError};
+use automata_determinize::determinize::State;
 use std::alloc::AllocError;
 use std::marker::Model;
 

@@ -3,10 +3,10 @@
 //! the state's ID.
 ghost use Rattle.std.specs.Prelude.{◌≡◌, ◌+◌, ◌-◌, ◌*◌, ◌^◌, ◌<◌, ◌≤◌, ◌↔◌, IfOk, IfErr, OnOk, IfSome, IfNone, Err};
 ghost use Rattle.std.specs.Prelude.{Some, slice_get, false};
-ghost use Rattle.automata_base.specs.ByteClasses.LookBehind.{behind_of};
+ghost use Rattle.automata_determinize.specs.ByteClasses.LookBehind.{behind_of};
 ghost use Rattle.automata_base.specs.Powersets.Powerset.{dead};
 ghost use Rattle.automata_base.specs.ByteClasses.Classes.{is_quit};
-ghost use Rattle.automata_base.specs.Retraced.Steps.{start_state_of};
+ghost use Rattle.automata_determinize.specs.Retraced.Steps.{start_state_of};
 ghost use Rattle.automata_base.specs.Haystacks.Tapes.{byte_before};
 ghost use Rattle.automata_hybrid.specs.Steps.Starts.{quit_behind, start_search_error, IsStartAnswer};
 ghost use Rattle.automata_hybrid.specs.Private.Steps.Starts.{HasStarted, IsStartSlot, start_error};

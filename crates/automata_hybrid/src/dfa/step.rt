@@ -2,7 +2,7 @@
 //! patterns that match at a state.
 ghost use Rattle.std.specs.Prelude.{◌≡◌, ◌<◌, None, Some, IfOk, IfErr, OnOk, length, slice_index, true, false};
 ghost use Rattle.automata_base.specs.Powersets.Powerset.{Powerset};
-ghost use Rattle.automata_base.specs.Retraced.Steps.{successor};
+ghost use Rattle.automata_determinize.specs.Retraced.Steps.{successor};
 ghost use Rattle.automata_hybrid.specs.Cache.Table.{Names, IsRowId, Leads, HasItsMatchTag};
 ghost use Rattle.automata_hybrid.specs.Cache.Stores.{cell_of};
 ghost use Rattle.automata_hybrid.specs.Cache.Caches.{HoldsRow, IsCacheOf};
