@@ -7,7 +7,8 @@ set -eu
 top=$(cd "$(dirname "$0")/.." && pwd)
 copy=${BUILDING_COPY:-$(mktemp -d)}
 (cd "$top" && git ls-files -z | tar -c --null -T -) | tar -x -C "$copy"
-for crate in automata_base automata_config automata_hybrid regex_automata; do
+for crate in automata_base automata_determinize automata_transform automata_config automata_hybrid \
+    regex_automata; do
     if [ -d "$top/crates/$crate/out" ] && [ ! -d "$copy/crates/$crate/out" ]; then
         cp -r "$top/crates/$crate/out" "$copy/crates/$crate/out"
     fi

@@ -28,7 +28,8 @@ rounds=${1:-7}
 top=$(cd "$(dirname "$0")/.." && pwd)
 copy=${MEASURE_COPY:-$(mktemp -d)}
 (cd "$top" && git ls-files -z | tar -c --null -T -) | tar -x -C "$copy"
-for crate in automata_base automata_config automata_hybrid regex_automata lazydfa_c; do
+for crate in automata_base automata_determinize automata_transform automata_config automata_hybrid \
+    regex_automata lazydfa_c; do
     if [ -d "$top/crates/$crate/out" ] && [ ! -d "$copy/crates/$crate/out" ]; then
         cp -r "$top/crates/$crate/out" "$copy/crates/$crate/out"
     fi

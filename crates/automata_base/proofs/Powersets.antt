@@ -1,9 +1,6 @@
 pub mod Code
-pub mod Alike
 pub mod Appending
-pub mod AlikeBytes
 pub mod AlikeClasses
-pub mod AlikeUnits
 pub mod Belows
 pub mod LookBits
 pub mod Dense
@@ -12,17 +9,11 @@ pub mod Endings
 pub mod Holding
 pub mod Keeping
 pub mod Leaves
-pub mod Made
 pub mod Making
 pub mod Sound
 pub mod KeptClosures
 pub mod Sparsely
-pub mod Stepping
-pub mod PassReports
 pub mod ReportsAreRight
-pub mod ReportedPairs
-pub mod WalkReports
 pub mod ListTests
-pub mod Marks
 pub mod Walking
 pub mod KeepingUnions

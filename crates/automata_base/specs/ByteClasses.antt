@@ -1,4 +1,3 @@
 pub mod ByteSets
 pub mod Classes
-pub mod LookBehind
 pub mod WordsBack

@@ -11,7 +11,3 @@ pub mod Accepted
 pub mod Drafts
 pub mod Unions
 pub mod Utf8
-pub mod Merges
-pub mod MergedNfas
-pub mod Mirrors
-pub mod ReversedSizes

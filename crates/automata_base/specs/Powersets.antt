@@ -1,15 +1,8 @@
 pub mod Powerset
-pub mod Parts
 pub mod Passes
-pub mod Results
 pub mod Closure
 pub mod Cuts
-pub mod Accounting
-pub mod Equal
-pub mod Key
 pub mod Code
-pub mod Scratch
-pub mod Shared
 pub mod Members
 pub mod Rooms
 pub mod SparseSet

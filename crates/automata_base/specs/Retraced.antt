@@ -1,15 +1,9 @@
-pub mod Steps
-pub mod Passes
 pub mod Computed
 pub mod Once
 pub mod Expanding
 pub mod Boundaries
 pub mod DepthFirst
 pub mod ReversedEdges
-pub mod Copies
-pub mod DenseRuns
 pub mod Decoders
 pub mod Reach
 pub mod Apart
-pub mod Folds
-pub mod Segments

@@ -2,8 +2,8 @@
 use Rattle.std.specs.Prelude.{ℕ, ◌≡◌, ◌+◌, ◌*◌, ◌<◌, ◌≤◌, Bool, not, ◌&&◌, ◌||◌, nat_le, nat_lt, eqb, if◌then◌else◌}
 use Rattle.std.specs.Prelude.{List, [], ◌∷◌, map, Option, Some, None}
 use Rattle.std.specs.List.{list_all, list_any, range_with_len}
-use Rattle.automata_base.specs.Powersets.Accounting.{start_slots, max_cost, fixed_cost, minimum_capacity}
-use Rattle.automata_base.specs.Powersets.Accounting.{effective_capacity}
+use Rattle.automata_determinize.specs.Powersets.Accounting.{start_slots, max_cost, fixed_cost, minimum_capacity}
+use Rattle.automata_determinize.specs.Powersets.Accounting.{effective_capacity}
 use Rattle.automata_base.specs.ByteClasses.Classes.{is_quit, class_of, class_in, stride_for}
 use Rattle.automata_base.specs.Nfas.Nfa.{any_node}
 use Rattle.automata_base.specs.Haystacks.Looks.{look_index}

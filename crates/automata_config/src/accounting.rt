@@ -1,6 +1,6 @@
 //! The accounted bytes of a cache, and the minimum capacity that it needs.
 ghost use Rattle.std.specs.Prelude.{◌≡◌, ◌≤◌, ◌+◌, ◌*◌, ◌^◌, length};
-ghost use Rattle.automata_base.specs.Powersets.Accounting as bytes;
+ghost use Rattle.automata_determinize.specs.Powersets.Accounting as bytes;
 
 use automata_base::nfa::thompson::NFA;
 

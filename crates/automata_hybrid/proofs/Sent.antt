@@ -5,9 +5,9 @@ use Rattle.std.proofs.MapsCrossing as maps
 use denote.Struct.Field.{Field}
 use denote.Param.Send.{IsSend, sendable, view_send}
 use denote.Param.SendFields.{FieldsHave, as_row_send, declared_send}
-use Rattle.automata_base.specs.contracts.util.determinize.key.Key.{the_row as key_row}
-use Rattle.automata_base.specs.contracts.util.determinize.scratch.Scratch.{the_row as scratch_row}
-use Rattle.automata_base.specs.contracts.util.determinize.scratch.Scratch.TheInside as scratch
+use Rattle.automata_determinize.specs.contracts.determinize.key.Key.{the_row as key_row}
+use Rattle.automata_determinize.specs.contracts.determinize.scratch.Scratch.{the_row as scratch_row}
+use Rattle.automata_determinize.specs.contracts.determinize.scratch.Scratch.TheInside as scratch
 use Rattle.automata_hybrid.specs.contracts.cache.Cache.{the_row as cache_row}
 use Rattle.automata_hybrid.specs.contracts.cache.Cache.TheInside as cache
 use Rattle.automata_hybrid.specs.contracts.cache.row.Row.{the_row as row_row}

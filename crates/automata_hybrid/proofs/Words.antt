@@ -8,27 +8,27 @@ pub use Rattle.std.specs.Prelude.{◌||◌, ◌↔◌}
 pub use Rattle.std.specs.Result.{result_err}
 pub use Rattle.automata_base.specs.Answers.Answers.{AreUnsplit, Half, HasPattern, IsFirstSpan, IsInput, KeepsSplit}
 pub use Rattle.automata_base.specs.Answers.Answers.{later, offset_in, SkipsSplit, Tries}
-pub use Rattle.automata_base.specs.Answers.OfPasses.{ReportedEndsAreRight, ReportedIsRight}
-pub use Rattle.automata_base.specs.Answers.Within.{ReportedLiesWithin, StatesReportOwn, WalkLiesWithin}
+pub use Rattle.automata_determinize.specs.Answers.OfPasses.{ReportedEndsAreRight, ReportedIsRight}
+pub use Rattle.automata_determinize.specs.Answers.Within.{ReportedLiesWithin, StatesReportOwn, WalkLiesWithin}
 pub use Rattle.automata_base.specs.ByteClasses.Classes.{class_in, eoi_class, is_quit}
-pub use Rattle.automata_base.specs.ByteClasses.LookBehind.{behind_of}
+pub use Rattle.automata_determinize.specs.ByteClasses.LookBehind.{behind_of}
 pub use Rattle.automata_base.specs.Haystacks.Input.{Input}
 pub use Rattle.automata_base.specs.Haystacks.Matches.{HalfMatch}
 pub use Rattle.automata_base.specs.Haystacks.PatternSet.{members}
 pub use Rattle.automata_base.specs.Haystacks.Tapes.{byte_before, is_split}
-pub use Rattle.automata_base.specs.Laws.Walks.{WalksAreReported}
+pub use Rattle.automata_determinize.specs.Laws.Walks.{WalksAreReported}
 pub use Rattle.automata_base.specs.Lists.{In}
 pub use Rattle.automata_base.specs.Nfas.Nodes.{Automaton, nfa_of}
 pub use Rattle.automata_base.specs.Paths.Paths.{next}
 pub use Rattle.automata_base.specs.Paths.Selections.{Pair}
-pub use Rattle.automata_base.specs.Powersets.Accounting.{cell_size, entry_size, fixed_rows_cost, max_cost}
-pub use Rattle.automata_base.specs.Powersets.Accounting.{minimum_capacity, row_size, start_slots}
-pub use Rattle.automata_base.specs.Powersets.Equal.{powerset_eq, powerset_eq-Decides}
-pub use Rattle.automata_base.specs.Powersets.Passes.{IsUnit}
+pub use Rattle.automata_determinize.specs.Powersets.Accounting.{cell_size, entry_size, fixed_rows_cost, max_cost}
+pub use Rattle.automata_determinize.specs.Powersets.Accounting.{minimum_capacity, row_size, start_slots}
+pub use Rattle.automata_determinize.specs.Powersets.Equal.{powerset_eq, powerset_eq-Decides}
+pub use Rattle.automata_determinize.specs.Powersets.Passes.{IsUnit}
 pub use Rattle.automata_base.specs.Powersets.Powerset.{cost, dead, Powerset}
-pub use Rattle.automata_base.specs.Retraced.Passes.{earlier_or, first_among, pair_at, reported_at, reported_upto}
-unfoldable pub use Rattle.automata_base.specs.Retraced.Passes.{first_reported}
-unfoldable pub use Rattle.automata_base.specs.Retraced.Steps.{start_state_of, successor}
+pub use Rattle.automata_determinize.specs.Retraced.Passes.{earlier_or, first_among, pair_at, reported_at, reported_upto}
+unfoldable pub use Rattle.automata_determinize.specs.Retraced.Passes.{first_reported}
+unfoldable pub use Rattle.automata_determinize.specs.Retraced.Steps.{start_state_of, successor}
 pub use Rattle.automata_base.specs.declared.util.search.Anchored.{Anchored}
 pub use Rattle.automata_base.specs.declared.util.search.Anchored.TheVariants.{No}
 pub use Rattle.automata_base.specs.declared.util.search.Direction.{Direction}

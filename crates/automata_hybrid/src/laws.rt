@@ -17,7 +17,9 @@ ghost use Rattle.automata_hybrid.specs.Steps.BySteps.{FirstMatchIsFound};
 
 use crate::cache::Cache;
 use crate::dfa::DFA;
-use automata_base::laws::{passes_report_paths, reported_is_right, steps_are_right, walk_is_right};
+use automata_determinize::laws::{
+    passes_report_paths, reported_is_right, steps_are_right, walk_is_right,
+};
 
 /// Answers do not depend on earlier searches or on the size of the cache: two searches with the same automaton, match
 /// kind and input find the same if neither fails.

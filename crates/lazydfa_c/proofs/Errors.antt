@@ -1,6 +1,6 @@
 -- A status determines what is reported of its error.
 use Rattle.std.proofs.Common.{◌≡◌, ◌==◌, ◌<◌, if◌then◌else◌, ap, refl, arith}
-use Rattle.automata_base.specs.declared.nfa.thompson.NfaError.TheVariants as nfa
+use Rattle.automata_base.specs.declared.nfa.thompson.state.NfaError.TheVariants as nfa
 use Rattle.automata_base.specs.declared.nfa.thompson.building.BuildError.{BuildError as BuilderError}
 use Rattle.automata_base.specs.declared.nfa.thompson.building.BuildError.TheVariants as builder
 use Rattle.automata_base.specs.declared.util.search.Anchored.TheVariants.{No}

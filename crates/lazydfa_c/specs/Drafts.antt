@@ -10,8 +10,8 @@ use Rattle.automata_base.specs.Nfas.Drafts.{built, outline, prefix_of, started, 
 use Rattle.automata_base.specs.Nfas.Nodes.{Automaton}
 use Rattle.automata_base.specs.Nfas.Shapes.{Shape, patched, EmptyShape, RangeShape, SparseShape, LookShape, UnionShape}
 use Rattle.automata_base.specs.Nfas.Shapes.{UnionReverseShape, CaptureShape, FailShape, MatchShape}
-use Rattle.automata_base.specs.declared.nfa.thompson.NfaError.{NfaError}
-use Rattle.automata_base.specs.declared.nfa.thompson.Transition.{Transition}
+use Rattle.automata_base.specs.declared.nfa.thompson.state.NfaError.{NfaError}
+use Rattle.automata_base.specs.declared.nfa.thompson.state.Transition.{Transition}
 use Rattle.automata_base.specs.declared.nfa.thompson.building.BuildError.{BuildError}
 use Rattle.automata_base.specs.declared.nfa.thompson.building.BuildError.TheVariants.{NoPattern, UnfinishedPattern}
 use Rattle.automata_base.specs.declared.nfa.thompson.building.BuildError.TheVariants.{StateRange, SparsePatch, TooLarge}

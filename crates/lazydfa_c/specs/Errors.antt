@@ -1,6 +1,6 @@
 -- What a status reports of an error: all of it, except for values that the caller gave, and errors that share a code.
 use Rattle.std.specs.Prelude.{◌≡◌, ◌<◌}
-use Rattle.automata_base.specs.declared.nfa.thompson.NfaError.TheVariants as nfa
+use Rattle.automata_base.specs.declared.nfa.thompson.state.NfaError.TheVariants as nfa
 use Rattle.automata_base.specs.declared.nfa.thompson.building.BuildError.{BuildError as BuilderError}
 use Rattle.automata_base.specs.declared.nfa.thompson.building.BuildError.TheVariants as builder
 use Rattle.automata_base.specs.declared.util.search.Anchored.TheVariants.{No}

@@ -1,7 +1,7 @@
 -- The sizes of the tables of regexes.
 use Rattle.std.specs.Prelude.{ℕ, ◌≡◌, ◌+◌, ◌*◌, ◌-◌, ◌^◌, List, length, min, sum_by, Result, Ok, Err}
-use Rattle.automata_base.specs.declared.nfa.thompson.State.{State}
-use Rattle.automata_base.specs.declared.nfa.thompson.State.TheVariants as is
+use Rattle.automata_base.specs.declared.nfa.thompson.state.State.{State}
+use Rattle.automata_base.specs.declared.nfa.thompson.state.State.TheVariants as is
 use Rattle.lazydfa_c.specs.Calls.{ReadsHandle}
 use Rattle.lazydfa_c.specs.Statuses.{plain}
 use Rattle.lazydfa_c.specs.declared.code.Code.TheVariants as code

@@ -8,8 +8,8 @@ use Rattle.regex_nfa.specs.declared.state.State as kit_state
 use Rattle.regex_nfa.specs.declared.state.Transition as kit_transition
 use Rattle.automata_base.specs.Nfas.Nfa.{Node}
 use Rattle.automata_base.specs.Nfas.Nodes as ours
-use Rattle.automata_base.specs.declared.nfa.thompson.State as our_state
-use Rattle.automata_base.specs.declared.nfa.thompson.Transition as our_transition
+use Rattle.automata_base.specs.declared.nfa.thompson.state.State as our_state
+use Rattle.automata_base.specs.declared.nfa.thompson.state.Transition as our_transition
 use Rattle.meaning.specs.Translated as kits
 use Rattle.meaning.specs.Translated.{size_of, nodes_of, nodes_of_all, starts_of}
 

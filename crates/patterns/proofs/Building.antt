@@ -7,12 +7,12 @@ use Rattle.regex_nfa.specs.declared.nfa.Nfa as kit_nfa
 use Rattle.automata_base.specs.Laws.Walks.{IsAccepted}
 use Rattle.automata_base.specs.Nfas.Accepted.{IsChecked}
 use Rattle.automata_base.specs.Nfas.Engines.{Engine}
-use Rattle.automata_base.specs.Nfas.MergedNfas.{IsMergedNfa}
+use Rattle.automata_transform.specs.Nfas.MergedNfas.{IsMergedNfa}
 use Rattle.automata_base.specs.Nfas.Nodes.{Automaton}
 use Rattle.automata_base.specs.Nfas.Unions.{IsKeepingUnions}
 use Rattle.automata_config.specs.Options as settings
 use Rattle.automata_hybrid.specs.Machines.Machine.{Machine}
-use Rattle.automata_base.proofs.Answers.Merged.{merged_acyclic, merged_alike, merged_pairs, merged_utf8}
+use Rattle.automata_transform.proofs.Answers.Merged.{merged_acyclic, merged_alike, merged_pairs, merged_utf8}
 use Rattle.automata_base.proofs.Powersets.ReportsAreRight.{start_below}
 use Rattle.regex_automata.specs.Promises.{Forward, IsLookAcyclic, IsSoundPair, LeftmostFirst, No, engine_of}
 use Rattle.regex_automata.specs.Regexes.Builds.{BuildsOne}

@@ -15,8 +15,8 @@ use Rattle.automata_base.specs.Nfas.Engines.{Engine, any_byte, engine_of}
 use Rattle.automata_base.specs.Nfas.Nfa.{Node, Split}
 use Rattle.automata_base.specs.Nfas.Nodes as ours
 use Rattle.automata_base.specs.Nfas.Nodes.{Automaton}
-use Rattle.automata_base.specs.declared.nfa.thompson.Flags.{Flags}
-use Rattle.automata_base.specs.declared.nfa.thompson.State.{State}
+use Rattle.automata_base.specs.declared.nfa.thompson.state.Flags.{Flags}
+use Rattle.automata_base.specs.declared.nfa.thompson.state.State.{State}
 use Rattle.automata_base.specs.declared.util.search.MatchKind.TheVariants.{LeftmostFirst}
 use Rattle.meaning.specs.Agreeing.{Each, HasMeaning, HasNoUnicodeLook, ImplementAll}
 use Rattle.meaning.specs.Translated.{joined_engine, joined_nfa, nodes_of, nodes_of_all, size_of, starts_of}

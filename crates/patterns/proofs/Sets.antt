@@ -8,7 +8,8 @@ use Rattle.regex_hir.specs.Re.{Re}
 use Rattle.automata_base.specs.Haystacks.Matches.{HalfMatch}
 use Rattle.automata_base.specs.Haystacks.PatternSet.{has, members}
 use Rattle.automata_base.specs.Haystacks.Tapes.{IsHaystack}
-use Rattle.automata_base.specs.Laws.Walks.{AllPairsAreReported, AreReported, InPairs, IsAccepted, WalksAreReported}
+use Rattle.automata_determinize.specs.Laws.Walks.{AllPairsAreReported, AreReported, InPairs, WalksAreReported}
+use Rattle.automata_base.specs.Laws.Walks.{IsAccepted}
 use Rattle.automata_base.specs.Lists.{In}
 use Rattle.automata_base.specs.Answers.TruePairs.{KeepsUtf8}
 use Rattle.automata_base.specs.Nfas.Engines.{Engine}

@@ -5,7 +5,7 @@ use Rattle.regex_nfa.specs.declared.nfa.Nfa as kit_nfa
 use Rattle.regex_hir.specs.Re.{Re}
 use Rattle.regex_syntax.specs.declared.Config.{Config}
 use Rattle.automata_base.specs.Nfas.Accepted.{IsChecked}
-use Rattle.automata_base.specs.Nfas.MergedNfas.{IsMergedNfa}
+use Rattle.automata_transform.specs.Nfas.MergedNfas.{IsMergedNfa}
 use Rattle.automata_base.specs.Nfas.Nodes as ours
 use Rattle.regex_automata.specs.Promises.{LeftmostFirst, engine_of}
 use Rattle.meaning.specs.Agreeing.{HasMeaning, HasNoUnicodeLook}

@@ -10,7 +10,7 @@ use Rattle.regex_syntax.specs.declared.Config.{Config}
 use Rattle.regex_syntax.specs.declared.error.Error as syntax_error
 use Rattle.regex_syntax.specs.declared.error.ErrorKind.TheVariants as parsing
 use Rattle.automata_base.specs.Nfas.Nodes.{Automaton}
-use Rattle.automata_base.specs.declared.nfa.thompson.NfaError.TheVariants as nfa_error
+use Rattle.automata_base.specs.declared.nfa.thompson.state.NfaError.TheVariants as nfa_error
 use Rattle.regex_automata.specs.Regexes.Builds.{IsBuildError}
 use Rattle.regex_automata.specs.declared.hybrid.regex.build.RegexBuildError.{RegexBuildError}
 use Rattle.meaning.specs.Agreeing.{HasNoUnicodeLook}

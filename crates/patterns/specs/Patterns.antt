@@ -7,7 +7,7 @@ use Rattle.regex_hir.specs.declared.hir.Hir as kit_hir
 use Rattle.regex_nfa.specs.declared.nfa.Nfa as kit_nfa
 use Rattle.regex_syntax.specs.declared.Config.{Config}
 use Rattle.regex_syntax.specs.Verdict.{Reads}
-use Rattle.automata_base.specs.Answers.Alike.{AnswerAlike}
+use Rattle.automata_transform.specs.Answers.Alike.{AnswerAlike}
 use Rattle.automata_base.specs.Answers.TruePairs.{KeepsUtf8}
 use Rattle.automata_base.specs.Laws.Walks.{IsAccepted}
 use Rattle.automata_base.specs.Nfas.Nodes.{Automaton}

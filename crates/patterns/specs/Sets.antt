@@ -8,7 +8,7 @@ use Rattle.regex_hir.specs.Re.{Re}
 use Rattle.automata_base.specs.Answers.TruePairs.{KeepsUtf8}
 use Rattle.automata_base.specs.Haystacks.Input.{Input}
 use Rattle.automata_base.specs.Haystacks.Tapes.{IsHaystack, is_split}
-use Rattle.automata_base.specs.Laws.Walks.{InPairs}
+use Rattle.automata_determinize.specs.Laws.Walks.{InPairs}
 use Rattle.automata_base.specs.Nfas.Nodes.{Automaton}
 use Rattle.automata_base.specs.Paths.Selections.{Pair}
 use Rattle.automata_config.specs.Options as settings

@@ -13,7 +13,7 @@ ghost use Rattle.patterns.specs.Patterns.{HasNoLookCycle, IsNfaOf, IsWithinLimit
 
 use crate::error::{Fault, PatternError};
 use crate::translate::{Origin, has_unicode_look, id_of, push_states, shifted};
-use regex_automata::nfa::thompson::{Flags, NFA, NfaError, State};
+use regex_automata::nfa::thompson::{Flags, NFA, NfaError, State, merged};
 use regex_automata::util::primitives::{PatternID, StateID};
 use regex_nfa::Nfa;
 use regex_syntax::{Config, Flags as SyntaxFlags, Parsed};
@@ -283,7 +283,7 @@ fn merged_within(nfa: NFA, limit: usize) -> Result<NFA, AllocError>
     ensures { IfOk result (IsMergedWithin limit nfa) }
 {
     let _states = nfa.states();
-    match nfa.merged() {
+    match merged(&nfa) {
         Ok(merged) if merged.states().len() <= limit / STATE_BYTES => Ok(merged),
         Ok(_) => Ok(nfa),
         Err(error) => Err(error),
@@ -294,7 +294,7 @@ fn merged_within(nfa: NFA, limit: usize) -> Result<NFA, AllocError>
 /// text that is not a valid pattern, or that makes the patterns too large.
 ///
 /// After the states of the patterns come a union of their starts and a loop that skips bytes, even for one pattern. For
-/// eight patterns or more that union is merged where `NFA::merged` does so, if the size limit leaves room for 12 bytes
+/// eight patterns or more that union is merged where `merged` does so, if the size limit leaves room for 12 bytes
 /// per state: states that read bytes for several patterns at once come after the loop. No cycle of epsilon transitions
 /// passes a look-around assertion, whatever the patterns.
 pub fn nfa_of(alloc: Global, texts: &[&str], options: &Options) -> Result<NFA, PatternError>

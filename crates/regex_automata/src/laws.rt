@@ -6,9 +6,9 @@ ghost use Rattle.regex_automata.specs.Spans.OfPaths.{LoopsCollect, MatchesAreSpa
 ghost use Rattle.regex_automata.specs.Tokens.{TokensAreSpans};
 
 use crate::hybrid::regex::{Cache, Regex};
-pub use automata_base::laws::{
-    cycles_are_kept, passes_report_paths, reported_is_right, start_is_right, steps_are_right,
-    walk_is_right,
+pub use automata_base::laws::cycles_are_kept;
+pub use automata_determinize::laws::{
+    passes_report_paths, reported_is_right, start_is_right, steps_are_right, walk_is_right,
 };
 pub use automata_hybrid::laws::{
     answers_agree, cache_is_known, calls_follow, first_match_is_found, known_stays,

@@ -5,7 +5,7 @@ use Rattle.automata_base.specs.Lists.{cons_some}
 use Rattle.automata_base.specs.Nfas.Nfa.{Nfa, Node, node, takes, takes_at, takes_in}
 use Rattle.automata_base.specs.Nfas.Nodes.{ranges_of}
 use Rattle.automata_base.specs.Powersets.Cuts.{targets}
-use Rattle.automata_base.specs.declared.nfa.thompson.Transition.{Transition}
+use Rattle.automata_base.specs.declared.nfa.thompson.state.Transition.{Transition}
 use Rattle.automata_base.proofs.Powersets.Keeping.{pick_next}
 
 -- If the ranges from index `i` on do not take byte `u`, none of the ranges does.

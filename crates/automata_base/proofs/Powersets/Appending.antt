@@ -8,7 +8,7 @@ use Rattle.std.proofs.lemmas.List.{get_or_default}
 use Rattle.automata_base.specs.Lists.{In, Distinct}
 use Rattle.automata_base.specs.Powersets.Members.{Members}
 use Rattle.automata_base.specs.Powersets.SparseSet.{members_of, IsSparse}
-use Rattle.automata_base.specs.declared.util.determinize.sparse_set.SparseSet.TheInside.{Inside}
+use Rattle.automata_base.specs.declared.util.sparse_set.SparseSet.TheInside.{Inside}
 use Rattle.automata_base.proofs.Powersets.Distinct.{In-get_or, distinct_append, distinct_below}
 use Rattle.automata_base.proofs.Powersets.Holding.{members_below, members_distinct}
 use Rattle.automata_base.proofs.Paths.Walks.{in_either}

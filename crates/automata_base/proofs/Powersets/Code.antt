@@ -1,4 +1,1 @@
-pub mod Distinct
 pub mod Groups
-pub mod Inverse
-pub mod Reading

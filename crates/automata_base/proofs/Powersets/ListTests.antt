@@ -10,10 +10,11 @@ use Rattle.automata_base.specs.Haystacks.Looks.{Look}
 use Rattle.automata_base.specs.Nfas.Nfa.{node_or_fail, accepts_at, looks_at, any_node}
 use Rattle.automata_base.specs.Lists.{all_below}
 use Rattle.automata_base.proofs.Paths.Checks.{node_below, nodes_below, ranges_below}
-use Rattle.automata_base.specs.declared.nfa.thompson.State.{State}
-use Rattle.automata_base.specs.declared.nfa.thompson.State.TheVariants.{ByteRange, Sparse, Dense, Look as LookState}
-use Rattle.automata_base.specs.declared.nfa.thompson.State.TheVariants.{Union, BinaryUnion, Capture, Fail, Match}
-use Rattle.automata_base.specs.declared.nfa.thompson.Transition.{Transition}
+use Rattle.automata_base.specs.declared.nfa.thompson.state.State.{State}
+use Rattle.automata_base.specs.declared.nfa.thompson.state.State.TheVariants.{ByteRange, Sparse, Dense}
+use Rattle.automata_base.specs.declared.nfa.thompson.state.State.TheVariants.{Look as LookState}
+use Rattle.automata_base.specs.declared.nfa.thompson.state.State.TheVariants.{Union, BinaryUnion, Capture, Fail, Match}
+use Rattle.automata_base.specs.declared.nfa.thompson.state.Transition.{Transition}
 use Rattle.automata_base.specs.Nfas.Nodes.{node_of, nodes_of, ranges_of, dense_from, extra_of, stack_room}
 use Rattle.automata_base.specs.Nfas.Nodes.{Automaton, nfa_of}
 use Rattle.std.specs.Prelude.{All}

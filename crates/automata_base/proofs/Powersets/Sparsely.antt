@@ -7,7 +7,7 @@ use Rattle.automata_base.specs.Lists.{In}
 use Rattle.automata_base.specs.Powersets.Members.{Members}
 use Rattle.automata_base.specs.Powersets.SparseSet.{members_of, IsSparse}
 use Rattle.automata_base.specs.Retraced.ReversedEdges.{place_in}
-use Rattle.automata_base.specs.declared.util.determinize.sparse_set.SparseSet.TheInside.{Inside}
+use Rattle.automata_base.specs.declared.util.sparse_set.SparseSet.TheInside.{Inside}
 use Rattle.automata_base.proofs.Powersets.Distinct.{In-get_or}
 use Rattle.automata_base.proofs.Powersets.Holding.{has_room, below_set, back_set}
 

@@ -7,9 +7,9 @@ use Rattle.std.proofs.lemmas.Option.{get_or_from_slice_get}
 use Rattle.std.proofs.lemmas.Bool.{cond_both}
 use Rattle.std.proofs.lemmas.List.{take_all, reverse-append, length-reverse}
 use Rattle.std.proofs.lemmas.List.Sums.{sum_by_more}
-use Rattle.automata_base.specs.declared.nfa.thompson.State.{State}
-use Rattle.automata_base.specs.declared.nfa.thompson.State.TheVariants.{ByteRange, Sparse, Dense, Look, Union}
-use Rattle.automata_base.specs.declared.nfa.thompson.State.TheVariants.{BinaryUnion, Capture, Fail, Match}
+use Rattle.automata_base.specs.declared.nfa.thompson.state.State.{State}
+use Rattle.automata_base.specs.declared.nfa.thompson.state.State.TheVariants.{ByteRange, Sparse, Dense, Look, Union}
+use Rattle.automata_base.specs.declared.nfa.thompson.state.State.TheVariants.{BinaryUnion, Capture, Fail, Match}
 use Rattle.automata_base.specs.Nfas.Nodes.{Automaton, nfa_of, nodes_of, node_of, extra_of, stack_room}
 use Rattle.automata_base.specs.Haystacks.LookSets.{truth_of}
 use Rattle.automata_base.specs.Nfas.Accepted.{IsChecked}

@@ -1,9 +1,9 @@
 -- Classes of bytes: the greatest intervals of bytes without a boundary inside.
 use Rattle.std.specs.Prelude.{ℕ, zero, suc, ◌≡◌, ◌+◌, ◌-◌, ◌<◌, ◌≤◌, Bool, false, not, ◌||◌, eqb, nat_le, if◌then◌else◌}
 use Rattle.std.specs.Prelude.{List, [], ◌∷◌, length, slice_index, slice_index_or}
-use Rattle.automata_base.specs.declared.nfa.thompson.State.{State}
-use Rattle.automata_base.specs.declared.nfa.thompson.State.TheVariants as is
-use Rattle.automata_base.specs.declared.nfa.thompson.Transition.{Transition}
+use Rattle.automata_base.specs.declared.nfa.thompson.state.State.{State}
+use Rattle.automata_base.specs.declared.nfa.thompson.state.State.TheVariants as is
+use Rattle.automata_base.specs.declared.nfa.thompson.state.Transition.{Transition}
 use Rattle.automata_base.specs.Haystacks.Looks.{Look, differ, Start, End, StartLF, EndLF, StartCRLF, EndCRLF}
 use Rattle.automata_base.specs.Nfas.Nodes.{Automaton}
 

@@ -1,56 +1,12 @@
--- What the pass of an overlapping walk reports, for every NFA, and the statements that the ordered paths report the
--- same.
-use Rattle.std.specs.Prelude.{ℕ, ◌≡◌, ◌≤◌, ◌⊎◌, ◌↔◌, suc, false, List, [], ◌∷◌, length, Some}
-use Rattle.automata_base.specs.Answers.Answers.{IsInput, IsOverlapping, Walks, offset_in}
-use Rattle.automata_base.specs.Powersets.Cuts.{MatchKind, All}
+-- The pairs of accepting paths.
+use Rattle.std.specs.Prelude.{ℕ, ◌≡◌, ◌≤◌, false, List, length}
+use Rattle.automata_base.specs.Answers.Answers.{offset_in}
+use Rattle.automata_base.specs.Powersets.Cuts.{All}
 use Rattle.automata_base.specs.Nfas.Engines.{IsSkipping, engine_of}
 use Rattle.automata_base.specs.Haystacks.Input.{Input}
 use Rattle.automata_base.specs.Nfas.Nodes.{Automaton, nfa_of}
-use Rattle.automata_base.specs.Paths.Paths.{KeepsCycles}
 use Rattle.automata_base.specs.Paths.Selections.{Accepts, Pair}
-use Rattle.automata_base.specs.Paths.Starts.{mode_start}
 use Rattle.automata_base.specs.Haystacks.Tapes.{Direction, is_split, tape_of}
-use Rattle.automata_base.specs.Retraced.Passes.{pairs_reported}
-
--- what the pass over the span of an input that is not done reports; places are counted from where the search begins
-abbrev pub SpanReports : Direction → Automaton → MatchKind → Input → List Pair → Type 0
-SpanReports way a kind input pairs =
-    pairs ≡ pairs_reported a kind input.anchored (tape_of way input.haystack input.start input.end)
-    (suc (length (tape_of way input.haystack input.start input.end).bytes))
-
--- the whole list of a walk: what its pass reports, by offsets, without the split places if they are skipped
-abbrev pub AreReported : Direction → Automaton → MatchKind → Input → List Pair → Type 0
-AreReported way a kind input found = Walks (SpanReports way a kind) (IsSkipping (engine_of a kind)) way input found
-
--- each walk has such a list
-abbrev pub WalksAreReported : Automaton → Type 0
-WalksAreReported a =
-    (way : Direction) (kind : MatchKind) (input : Input) → (found : List Pair) × AreReported way a kind input found
-
--- a walk has at most one such list
-abbrev pub WalksAreOne : Type 0
-WalksAreOne =
-    (way : Direction) (a : Automaton) (kind : MatchKind) (input : Input) (first second : List Pair)
-    → AreReported way a kind input first → AreReported way a kind input second → first ≡ second
-
--- if the NFA keeps its cycles, the list of a walk is the list of the ordered paths
-abbrev pub WalkIsRight : Automaton → Type 0
-WalkIsRight a =
-    (way : Direction) (kind : MatchKind) (input : Input) (found : List Pair)
-    → KeepsCycles (nfa_of a) → IsInput input → AreReported way a kind input found
-    → IsOverlapping way (engine_of a kind) input found
-
--- if the NFA keeps its cycles, each list of the ordered paths is the list of a walk
-abbrev pub OverlappingIsReported : Automaton → Type 0
-OverlappingIsReported a =
-    (way : Direction) (kind : MatchKind) (input : Input) (found : List Pair)
-    → KeepsCycles (nfa_of a) → IsInput input → IsOverlapping way (engine_of a kind) input found
-    → AreReported way a kind input found
-
--- the pair is in the list
-abbrev pub InPairs : Pair → List Pair → Type 0
-InPairs pair [] = ⊥
-InPairs pair (x ∷ xs) = (pair ≡ x) ⊎ InPairs pair xs
 
 -- some path of this pattern from the start ends at the place of this offset, which is not skipped
 pub record IsAccepted (way : Direction) (a : Automaton) (input : Input) (start : ℕ) (pair : Pair) : Type 0 where
@@ -66,11 +22,3 @@ pub record IsAccepted (way : Direction) (a : Automaton) (input : Input) (start :
   pub offset : pair.place ≡ offset_in way input place
   -- it is not split, if split places are skipped
   pub whole : IsSkipping (engine_of a All) → is_split input.haystack pair.place ≡ false
-
--- for every NFA a walk under `MatchKind::All` reports the pairs of all accepting paths
-abbrev pub AllPairsAreReported : Automaton → Type 0
-AllPairsAreReported a =
-    (way : Direction) (input : Input) (found : List Pair) (start : ℕ)
-    → IsInput input → input.start ≤ input.end → mode_start a input.anchored ≡ Some start
-    → AreReported way a All input found
-    → (pair : Pair) → InPairs pair found ↔ IsAccepted way a input start pair

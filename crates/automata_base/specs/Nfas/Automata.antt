@@ -1,8 +1,8 @@
 -- The data of an NFA, as contracts see it.
 use Rattle.std.specs.Prelude.{ℕ, Bool, false, ◌≡◌, ◌↔◌, IsTrue, List}
 use Rattle.automata_base.specs.declared.nfa.thompson.Data.{Data}
-use Rattle.automata_base.specs.declared.nfa.thompson.Flags.{Flags}
-use Rattle.automata_base.specs.declared.nfa.thompson.State.{State}
+use Rattle.automata_base.specs.declared.nfa.thompson.state.Flags.{Flags}
+use Rattle.automata_base.specs.declared.nfa.thompson.state.State.{State}
 use Rattle.automata_base.specs.Nfas.Nodes.{Automaton, nfa_of, stack_room}
 use Rattle.automata_base.specs.Paths.Paths.{IsLookAcyclic}
 use Rattle.automata_base.specs.Nfas.Accepted.{IsChecked, IsLooks}

@@ -1,14 +1,14 @@
 -- A builder of NFAs, as contracts see it.
 use Rattle.std.specs.Prelude.{ℕ, ◌≡◌, ◌+◌, ◌≤◌, ◌<◌, List, [], ◌∷◌, ◌++◌, length, map, Option, Some, None, false}
 use Rattle.std.specs.Prelude.{Result, Err, IfOk, OnOk, OnErr, IsOkUnless}
-use Rattle.automata_base.specs.declared.nfa.thompson.Flags.{Flags}
-use Rattle.automata_base.specs.declared.nfa.thompson.State.{State}
+use Rattle.automata_base.specs.declared.nfa.thompson.state.Flags.{Flags}
+use Rattle.automata_base.specs.declared.nfa.thompson.state.State.{State}
 use Rattle.automata_base.specs.declared.nfa.thompson.builder.Builder.TheInside.{Inside}
 use Rattle.automata_base.specs.declared.nfa.thompson.building.BuildError.{BuildError}
 use Rattle.automata_base.specs.declared.nfa.thompson.building.BuildError.TheVariants.{TooLarge, OutOfMemory}
 use Rattle.automata_base.specs.declared.nfa.thompson.building.BuildError.TheVariants.{NoPattern, NFA}
-use Rattle.automata_base.specs.declared.nfa.thompson.NfaError.{NfaError}
-use Rattle.automata_base.specs.declared.nfa.thompson.NfaError.TheVariants as nfa_error
+use Rattle.automata_base.specs.declared.nfa.thompson.state.NfaError.{NfaError}
+use Rattle.automata_base.specs.declared.nfa.thompson.state.NfaError.TheVariants as nfa_error
 use Rattle.automata_base.specs.Nfas.Accepted.{IsChecked}
 use Rattle.automata_base.specs.Nfas.Errors.{shapes_error}
 use Rattle.automata_base.specs.Nfas.Getters.{SkipsLazily}

@@ -1,11 +1,12 @@
 -- The tests of `NFA::from_states`. They depend only on the shapes of states.
 use Rattle.std.specs.Prelude.{ℕ, ◌+◌, ◌^◌, Option, Some, None, sum_by, length, map, Bool, true, ◌&&◌, ltb, leb}
 use Rattle.std.specs.Prelude.{if◌then◌else◌, List, [], ◌∷◌}
-use Rattle.automata_base.specs.declared.nfa.thompson.NfaError.{NfaError}
-use Rattle.automata_base.specs.declared.nfa.thompson.NfaError.TheVariants.{TooLarge, StartRange, StateRange, Ranges}
-use Rattle.automata_base.specs.declared.nfa.thompson.NfaError.TheVariants.{PatternRange}
-use Rattle.automata_base.specs.declared.nfa.thompson.State.{State}
-use Rattle.automata_base.specs.declared.nfa.thompson.Transition.{Transition}
+use Rattle.automata_base.specs.declared.nfa.thompson.state.NfaError.{NfaError}
+use Rattle.automata_base.specs.declared.nfa.thompson.state.NfaError.TheVariants.{TooLarge, StartRange, StateRange}
+use Rattle.automata_base.specs.declared.nfa.thompson.state.NfaError.TheVariants.{Ranges}
+use Rattle.automata_base.specs.declared.nfa.thompson.state.NfaError.TheVariants.{PatternRange}
+use Rattle.automata_base.specs.declared.nfa.thompson.state.State.{State}
+use Rattle.automata_base.specs.declared.nfa.thompson.state.Transition.{Transition}
 use Rattle.automata_base.specs.Lists.{all_below}
 use Rattle.automata_base.specs.Nfas.Shapes.{Shape, EmptyShape, RangeShape, SparseShape, DenseShape, LookShape}
 use Rattle.automata_base.specs.Nfas.Shapes.{UnionShape, UnionReverseShape, BinaryUnionShape, CaptureShape, FailShape}

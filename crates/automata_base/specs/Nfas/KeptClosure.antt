@@ -14,7 +14,7 @@ use Rattle.automata_base.specs.Powersets.Members.{Members}
 use Rattle.automata_base.specs.Powersets.Powerset.{IsId}
 use Rattle.automata_base.specs.Retraced.Computed.{any_state}
 use Rattle.automata_base.specs.Retraced.ReversedEdges.{lists_of, list_at}
-use Rattle.automata_base.specs.declared.nfa.thompson.kept_closure.KeptClosure.{KeptClosure}
+use Rattle.automata_base.specs.declared.nfa.thompson.kept.KeptClosure.{KeptClosure}
 
 -- The states visited from a root, in order, whichever looks hold.
 pub record IsVisited (a : Automaton) (root : ℕ) (closure : Members) : Type 0 where

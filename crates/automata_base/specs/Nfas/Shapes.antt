@@ -1,8 +1,8 @@
 -- The shape of a state: its kind and its parts, vectors as lists.
 use Rattle.std.specs.Prelude.{ℕ, List, [], ◌∷◌, ◌++◌, reverse, Option, Some, None}
-use Rattle.automata_base.specs.declared.nfa.thompson.State.{State}
-use Rattle.automata_base.specs.declared.nfa.thompson.State.TheVariants as is
-use Rattle.automata_base.specs.declared.nfa.thompson.Transition.{Transition}
+use Rattle.automata_base.specs.declared.nfa.thompson.state.State.{State}
+use Rattle.automata_base.specs.declared.nfa.thompson.state.State.TheVariants as is
+use Rattle.automata_base.specs.declared.nfa.thompson.state.Transition.{Transition}
 use Rattle.automata_base.specs.declared.nfa.thompson.building.Added.{Added}
 use Rattle.automata_base.specs.declared.nfa.thompson.building.Added.TheVariants as was
 use Rattle.automata_base.specs.Haystacks.Looks.{Look}

@@ -1,6 +1,6 @@
 -- Totals over the states of an NFA.
 use Rattle.std.specs.Prelude.{◌≡◌, eqb, List}
-use Rattle.automata_base.specs.declared.nfa.thompson.State.{State}
+use Rattle.automata_base.specs.declared.nfa.thompson.state.State.{State}
 use Rattle.automata_base.specs.declared.nfa.thompson.checks.Totals.{Totals}
 use Rattle.automata_base.specs.Haystacks.Looks.{Look, look_index}
 use Rattle.automata_base.specs.Haystacks.LookSets.{truth_of}

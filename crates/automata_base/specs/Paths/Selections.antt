@@ -1,4 +1,4 @@
--- The answers of a search and a walk, by paths; and what a pass reports.
+-- The answers of a search and a walk, by paths.
 use Rattle.std.specs.Prelude.{ℕ, zero, suc, ◌≡◌, ◌<◌, Bool, true, false, List, [], ◌∷◌, ◌++◌, length, Option}
 use Rattle.std.specs.Prelude.{Some, None}
 use Rattle.automata_base.specs.Paths.Order.{Before, Upto}
@@ -6,8 +6,6 @@ use Rattle.automata_base.specs.Lists.{IsListOf}
 use Rattle.automata_base.specs.Nfas.Nfa.{Nfa, accepts}
 use Rattle.automata_base.specs.Paths.Paths.{Tape, IsPath}
 use Rattle.automata_base.specs.Powersets.Cuts.{MatchKind, All, LeftmostFirst}
-use Rattle.automata_base.specs.Powersets.Passes.{IsPass}
-use Rattle.automata_base.specs.Powersets.Powerset.{Powerset}
 
 -- The path ends at place `i`, in a match state of the pattern.
 abbrev pub Accepts : Nfa → Tape → ℕ → ℕ → ℕ → List ℕ → Type 0
@@ -94,10 +92,6 @@ Pairs At (suc i) pairs = AddsPlace (Pairs At i) (At i) i pairs
 -- The whole list of a walk, by paths.
 abbrev pub IsOverlappingOn : MatchKind → Nfa → Tape → ℕ → List Pair → Type 0
 IsOverlappingOn kind n t start pairs = Pairs (ArePatternsAt kind n t start) (suc (length t.bytes)) pairs
-
--- What the pass reports at place `i`: the patterns of the state that the unit there leads to.
-abbrev pub Reports : MatchKind → Nfa → Tape → ℕ → ℕ → List ℕ → Type 0
-Reports kind n t start i patterns = (Q : Powerset) × IsPass n kind start t (suc i) Q × (Q.patterns ≡ patterns)
 
 -- A path is preferred to another by its place, or at the same place by its edges. `better` says that its place is
 -- preferred.

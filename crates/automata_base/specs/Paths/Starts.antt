@@ -1,34 +1,11 @@
--- The state where the paths of an anchored mode start, and the powerset state where its searches start.
-use Rattle.std.specs.Prelude.{ℕ, ◌≡◌, ◌<◌, length, slice_get, true, Option, Some, None}
+-- The state where the paths of an anchored mode start.
+use Rattle.std.specs.Prelude.{ℕ, slice_get, Option, Some}
 use Rattle.automata_base.specs.declared.util.search.Anchored.{Anchored}
 use Rattle.automata_base.specs.declared.util.search.Anchored.TheVariants.{No, Yes, Pattern}
-use Rattle.automata_base.specs.Nfas.Nodes.{Automaton, nfa_of}
-use Rattle.automata_base.specs.Haystacks.Looks.{Look}
-use Rattle.automata_base.specs.Haystacks.LookSets.{truth_of}
-use Rattle.automata_base.specs.Lists.{In}
-use Rattle.automata_base.specs.Nfas.Nfa.{Nfa}
-use Rattle.automata_base.specs.Powersets.Passes.{IsStart, Occurs}
-use Rattle.automata_base.specs.Powersets.Powerset.{Powerset, dead}
+use Rattle.automata_base.specs.Nfas.Nodes.{Automaton}
 
 -- The state where the paths of an anchored mode start; none past the last pattern.
 abbrev pub mode_start : Automaton → Anchored → Option ℕ
 mode_start a No = Some a.start_unanchored
 mode_start a Yes = Some a.start_anchored
 mode_start a (Pattern p) = slice_get a.start_pattern p
-
--- The start state for a first state, or the dead state if there is none.
-abbrev pub IsStartAt : Nfa → Option ℕ → Option ℕ → Powerset → Type 0
-IsStartAt n None prev Q = Q ≡ dead
-IsStartAt n (Some start) prev Q = IsStart n start prev Q
-
--- The start state of an anchored mode; past the last pattern, the dead state.
-abbrev pub IsStartOf : Automaton → Anchored → Option ℕ → Powerset → Type 0
-IsStartOf a mode prev Q = IsStartAt (nfa_of a) (mode_start a mode) prev Q
-
--- Every NFA state of the powerset state is a state of the NFA.
-abbrev pub IsOf : Automaton → Powerset → Type 0
-IsOf a q = (s : ℕ) → In s q.nfa → s < length a.states
-
--- The looks that a powerset state needs are looks of the automaton.
-abbrev pub NeedsOwnLooks : Automaton → Powerset → Type 0
-NeedsOwnLooks a q = (look : Look) → truth_of q.needed look ≡ true → Occurs (nfa_of a) look

@@ -1,7 +1,7 @@
 -- How a sparse set holds its members.
 use Rattle.std.specs.Prelude.{◌≡◌, ◌<◌, ◌≤◌, ◌^◌, ℕ, length, take, slice_index}
 use Rattle.automata_base.specs.Powersets.Members.{Members}
-use Rattle.automata_base.specs.declared.util.determinize.sparse_set.SparseSet.TheInside.{Inside}
+use Rattle.automata_base.specs.declared.util.sparse_set.SparseSet.TheInside.{Inside}
 
 -- the members of a sparse set, the oldest first, and the bound that they are below
 abbrev pub members_of : Inside → Members

@@ -1,7 +1,7 @@
 -- The states of an NFA that edges reach from some of its states.
 use Rattle.std.specs.Prelude.{ℕ, ◌≡◌, cond, eqb, List, [], ◌∷◌, ◌++◌, map, Option, Some, None}
 use Rattle.std.specs.Prelude.{slice_get}
-use Rattle.automata_base.specs.declared.nfa.thompson.State.{State}
+use Rattle.automata_base.specs.declared.nfa.thompson.state.State.{State}
 use Rattle.automata_base.specs.declared.nfa.thompson.reach.Edges.{Edges}
 use Rattle.automata_base.specs.declared.nfa.thompson.reach.Edges.TheVariants.{Epsilon, Every}
 use Rattle.automata_base.specs.Lists.{In}

@@ -6,10 +6,11 @@ use Rattle.automata_hybrid.proofs.Words.{match_kind_of, minimum_capacity, Powers
 use Rattle.automata_hybrid.proofs.Words.{successor, unit_class}
 use Rattle.std.proofs.lemmas.Bool.{cases_lt, cases_eq}
 use Rattle.std.proofs.lemmas.List.{length-replicate, get_or-replicate, get_or-set_same, get_or-set_other}
-use Rattle.automata_base.specs.Powersets.Accounting.{effective_capacity}
+use Rattle.automata_determinize.specs.Powersets.Accounting.{effective_capacity}
 use Rattle.automata_base.specs.ByteClasses.Classes.{is_boundary, boundary_count, class_of}
 use Rattle.automata_base.specs.ByteClasses.Classes.{alphabet_length, stride_of, stride_for}
-use Rattle.automata_base.proofs.Powersets.AlikeClasses.{class_step, class_quits}
+use Rattle.automata_determinize.proofs.Powersets.AlikeClasses.{class_step}
+use Rattle.automata_base.proofs.Powersets.AlikeClasses.{class_quits}
 use Rattle.automata_config.specs.Options.{starts_for_each_pattern_of, byte_classes_of, cache_capacity_of}
 use Rattle.automata_config.specs.Settled.{Settled}
 use Rattle.automata_config.specs.Settling.{IsSettled, settled_minimum, greatest_offset}

@@ -12,9 +12,10 @@ use Rattle.automata_base.specs.Nfas.Nfa.{Nfa, Truth, accepts, keep}
 use Rattle.automata_base.specs.Paths.Starts.{mode_start}
 use Rattle.automata_base.specs.Powersets.Closure.{children}
 use Rattle.automata_base.specs.Powersets.Cuts.{cut_for, targets}
-use Rattle.automata_base.specs.Retraced.Computed.{closure_of, decide, first_visits, is_in, known_looks, once_past}
-use Rattle.automata_base.specs.Retraced.Computed.{visits_with}
-use Rattle.automata_base.specs.Retraced.Steps.{start_or_dead}
+use Rattle.automata_determinize.specs.Retraced.Computed.{closure_of, decide, first_visits, known_looks, once_past}
+use Rattle.automata_base.specs.Retraced.Computed.{is_in}
+use Rattle.automata_determinize.specs.Retraced.Computed.{visits_with}
+use Rattle.automata_determinize.specs.Retraced.Steps.{start_or_dead}
 use Rattle.automata_hybrid.proofs.Searches.PassState.{false_true}
 
 -- a closure has at most as many states as its fuel

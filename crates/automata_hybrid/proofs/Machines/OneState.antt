@@ -4,8 +4,8 @@ use Rattle.std.proofs.Common.{None, refl, sym, ap, subst, arith}
 use Rattle.std.proofs.lemmas.Bool.{le-ltb}
 use Rattle.automata_hybrid.proofs.Words.{Automaton}
 use Rattle.automata_base.specs.Nfas.Nodes.{stack_room}
-use Rattle.automata_base.specs.declared.nfa.thompson.State.{State}
-use Rattle.automata_base.specs.declared.nfa.thompson.State.TheVariants.{Match, Fail}
+use Rattle.automata_base.specs.declared.nfa.thompson.state.State.{State}
+use Rattle.automata_base.specs.declared.nfa.thompson.state.State.TheVariants.{Match, Fail}
 use Rattle.automata_config.specs.Options.{quits_of, unicode_word_boundary_of, unset}
 use Rattle.automata_config.specs.Settling.{greatest_offset, has_unicode_word, holds_non_ascii, is_too_small}
 use Rattle.automata_config.specs.Settling.{is_unsupported, settling_error, settled_minimum, settled_stride}

@@ -6,7 +6,7 @@ use Rattle.automata_hybrid.proofs.Words.{Anchored, Automaton, behind_of, dead, M
 use Rattle.automata_hybrid.proofs.Words.{start_state_of}
 use Rattle.automata_base.specs.Haystacks.Looks.{is_word_byte}
 use Rattle.automata_base.specs.declared.util.search.Anchored.TheVariants.{Yes, Pattern}
-use Rattle.automata_base.proofs.Powersets.Alike.{behind_alike}
+use Rattle.automata_determinize.proofs.Powersets.Alike.{behind_alike}
 use Rattle.automata_hybrid.specs.Machines.StartSlots.{group_of}
 
 -- there are six kinds of look-behind

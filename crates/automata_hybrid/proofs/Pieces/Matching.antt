@@ -4,9 +4,9 @@ use Rattle.automata_base.specs.Lists.{IsSet}
 use Rattle.automata_base.specs.Nfas.Accepted.{IsChecked}
 use Rattle.automata_hybrid.proofs.Words.{Forward, Machine, MatchKind, nfa_of, reported_at, tape_in}
 use Rattle.automata_base.specs.declared.util.search.MatchKind.TheVariants.{All as KindAll}
-use Rattle.automata_base.proofs.Answers.Total.{tape_units}
-use Rattle.automata_base.proofs.Paths.Finals.{set_right}
-use Rattle.automata_base.proofs.Powersets.PassReports.{reported_is}
+use Rattle.automata_determinize.proofs.Answers.Total.{tape_units}
+use Rattle.automata_determinize.proofs.Paths.Finals.{set_right}
+use Rattle.automata_determinize.proofs.Powersets.PassReports.{reported_is}
 use Rattle.automata_base.proofs.Powersets.ReportsAreRight.{start_below}
 use Rattle.automata_hybrid.specs.Pieces.Matching.{MatchesAt, StatesHaveMatching}
 use Rattle.automata_hybrid.proofs.Searches.Units.{forward_units}

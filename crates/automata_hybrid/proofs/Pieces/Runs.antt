@@ -7,7 +7,7 @@ use Rattle.automata_hybrid.proofs.Words.{HasReadNoQuit, IfSome, Input, is_quit, 
 use Rattle.automata_hybrid.proofs.Words.{pair_at, Powerset, reported_at, reported_in, reported_upto, slice_get}
 use Rattle.automata_hybrid.proofs.Words.{state_in, successor, tape_in}
 use Rattle.automata_base.specs.Haystacks.Tapes.{forward_tape}
-use Rattle.automata_base.specs.Retraced.Passes.{last_among, last_reported}
+use Rattle.automata_determinize.specs.Retraced.Passes.{last_among, last_reported}
 use Rattle.automata_base.proofs.Answers.Bytes.{forward_next, nth_between}
 use Rattle.automata_hybrid.specs.Pieces.Answers.{IsPieceAt, from_first}
 use Rattle.automata_hybrid.specs.Private.Pieces.State.{found_in}

@@ -1,8 +1,8 @@
 -- A search has one answer, and walks over an input report one list.
 use Rattle.std.proofs.Common.{◌∙◌, List, sym, subst}
 use Rattle.automata_hybrid.proofs.Words.{Automaton, Machine, match_kind_of, MatchKind, Pair, WalksAreReported}
-use Rattle.automata_base.specs.Answers.OfPasses.{IsReported, ReportedIsOne}
-use Rattle.automata_base.specs.Laws.Walks.{AreReported}
+use Rattle.automata_determinize.specs.Answers.OfPasses.{IsReported, ReportedIsOne}
+use Rattle.automata_determinize.specs.Laws.Walks.{AreReported}
 use Rattle.automata_hybrid.specs.Searches.Agreement.{AnswersAgree, WalksAgree}
 use Rattle.automata_hybrid.specs.Walks.Answers.{AreWalked}
 use Rattle.automata_hybrid.proofs.Searches.Skips.{found_reported}

@@ -7,8 +7,8 @@ use Rattle.automata_hybrid.specs.Searches.Passes.{without_base}
 use Rattle.automata_hybrid.specs.Searches.Bounds.{LiesIn, LiesPast}
 use Rattle.automata_hybrid.proofs.Searches.Skips.{found_reported}
 use Rattle.automata_base.proofs.Paths.Orders.{some_inj, some_none}
-use Rattle.automata_base.proofs.Answers.Within.{reported_within}
-use Rattle.automata_base.specs.Answers.Within.{IsInSpan}
+use Rattle.automata_determinize.proofs.Answers.Within.{reported_within}
+use Rattle.automata_determinize.specs.Answers.Within.{IsInSpan}
 
 -- what is found lies in the span, at or after the start of the span that the pass was made over
 pub found_within :

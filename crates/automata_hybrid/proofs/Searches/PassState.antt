@@ -6,9 +6,9 @@ use Rattle.automata_hybrid.proofs.Words.{half_of, HalfMatch, IfErr, Input, is_qu
 use Rattle.automata_hybrid.proofs.Words.{match_kind_of, MatchKind, Names, next, offset_in, Ok, Pair, pair_at, Powerset}
 use Rattle.automata_hybrid.proofs.Words.{quit_behind, Reads, reported_at, reported_in, reported_upto, Result, Rows}
 use Rattle.automata_hybrid.proofs.Words.{start_state_of, state_in, successor, tape_in}
-use Rattle.automata_base.specs.Retraced.Passes.{state_after}
+use Rattle.automata_determinize.specs.Retraced.Passes.{state_after}
 use Rattle.automata_base.specs.Paths.Paths.{Tape}
-use Rattle.automata_base.proofs.Powersets.Alike.{dead_stays}
+use Rattle.automata_determinize.proofs.Powersets.Alike.{dead_stays}
 use Rattle.std.specs.Result.{IsErrAnd}
 use Rattle.automata_hybrid.specs.Searches.PassState.{found_over}
 use Rattle.automata_hybrid.specs.Searches.Passes.{MeetsNoQuit}

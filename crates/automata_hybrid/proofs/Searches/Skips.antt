@@ -6,8 +6,8 @@ use Rattle.automata_hybrid.proofs.Words.{Machine, match_kind_of, No, offset_in, 
 use Rattle.automata_base.specs.Answers.Answers.{IsSplit, SpanIsDone, SpanReportsNone}
 use Rattle.automata_base.specs.Answers.Answers.{StopsAtSplit}
 use Rattle.automata_base.specs.Answers.Answers.{SkipsToIt}
-use Rattle.automata_base.specs.Answers.OfPasses.{ReportsOver, IsReported, reported_over}
-use Rattle.automata_base.proofs.Answers.Turning.{turn_answers}
+use Rattle.automata_determinize.specs.Answers.OfPasses.{ReportsOver, IsReported, reported_over}
+use Rattle.automata_determinize.proofs.Answers.Turning.{turn_answers}
 use Rattle.automata_hybrid.specs.Searches.PassState.{found_over}
 use Rattle.automata_hybrid.specs.Searches.Passes.{MeetsNoQuit}
 use Rattle.automata_hybrid.proofs.Searches.PassState.{false_true}

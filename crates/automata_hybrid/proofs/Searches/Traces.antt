@@ -7,8 +7,8 @@ use Rattle.automata_hybrid.proofs.Words.{half_at, half_of, HalfMatch, Input, is_
 use Rattle.automata_hybrid.proofs.Words.{Machine, match_kind_of, MatchKind, Names, next, offset_in, Pair, pair_at}
 use Rattle.automata_hybrid.proofs.Words.{pass_trace, Powerset, reported_upto, Rows, successor, tape_in, Trace}
 use Rattle.automata_base.specs.Paths.Paths.{Tape}
-use Rattle.automata_base.specs.Retraced.Passes.{last_among, last_reported}
-use Rattle.automata_base.specs.Retraced.Passes.{state_after}
+use Rattle.automata_determinize.specs.Retraced.Passes.{last_among, last_reported}
+use Rattle.automata_determinize.specs.Retraced.Passes.{state_after}
 use Rattle.automata_hybrid.specs.Searches.Traces.{reported_along}
 
 pass_reports :

@@ -4,7 +4,7 @@ use Rattle.std.proofs.Common.{ap₂, ◌∙◌, arith, get_or}
 use Rattle.std.proofs.lemmas.Option.{slice_get-get_or}
 use Rattle.automata_hybrid.proofs.Words.{Backward, byte_before, Direction, Forward, Input, IsInput, IsUnit, next}
 use Rattle.automata_hybrid.proofs.Words.{slice_get, tape_in}
-use Rattle.automata_base.proofs.Answers.Total.{tape_units}
+use Rattle.automata_determinize.proofs.Answers.Total.{tape_units}
 use Rattle.automata_base.proofs.Answers.Bytes.{forward_next, forward_length, reverse_next, tape_length}
 
 -- forward, the unit at an offset is the byte there

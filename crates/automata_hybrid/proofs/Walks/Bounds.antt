@@ -4,7 +4,7 @@ use Rattle.std.proofs.Common.{sym, ap}
 use Rattle.automata_hybrid.proofs.Words.{Direction, Err, HalfMatch, IfSome, Input, Machine, match_kind_of, Ok, OnOk}
 use Rattle.automata_hybrid.proofs.Words.{Pair, Result, WalkLiesWithin, WalksAreReported}
 use Rattle.std.specs.Prelude.{OnErr}
-use Rattle.automata_base.specs.Laws.Walks.{InPairs}
+use Rattle.automata_determinize.specs.Laws.Walks.{InPairs}
 use Rattle.automata_hybrid.specs.Walks.Answers.{IsWalkOf, ReportsNext, half_nth}
 use Rattle.automata_hybrid.specs.Walks.State.{Walk, without_match}
 use Rattle.automata_hybrid.specs.Searches.Bounds.{LiesIn}

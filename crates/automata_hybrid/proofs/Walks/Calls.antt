@@ -8,8 +8,8 @@ use Rattle.automata_hybrid.proofs.Words.{Powerset, Result, Rows, Skips, SkipsSpl
 use Rattle.std.specs.Prelude.{IsTrue, OnErr}
 use Rattle.automata_base.specs.Answers.Answers.{WalksNoSpan}
 use Rattle.automata_base.specs.Paths.Selections.{at_place}
-use Rattle.automata_base.specs.Retraced.Passes.{pairs_reported}
-use Rattle.automata_base.proofs.Powersets.WalkReports.{walks_one}
+use Rattle.automata_determinize.specs.Retraced.Passes.{pairs_reported}
+use Rattle.automata_determinize.proofs.Powersets.WalkReports.{walks_one}
 use Rattle.automata_hybrid.specs.Walks.Answers.{AreWalked, HasReported, HasReportedAll, HasReportedAt, HasReportedBy}
 use Rattle.automata_hybrid.specs.Walks.Answers.{StandsAtState, ReportsNext, WalkMeetsNoQuit, half_nth, MetNoQuit}
 use Rattle.automata_hybrid.specs.Walks.Answers.{WasDone}

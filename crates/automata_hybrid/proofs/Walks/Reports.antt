@@ -8,7 +8,7 @@ use Rattle.automata_hybrid.proofs.Words.{state_in, tape_in}
 use Rattle.automata_base.specs.Answers.Answers.{WalksNoSpan, WalksSpan}
 use Rattle.automata_base.specs.Answers.Answers.{with_offsets, without_split}
 use Rattle.automata_base.specs.Paths.Selections.{at_place}
-use Rattle.automata_base.specs.Retraced.Passes.{pairs_reported}
+use Rattle.automata_determinize.specs.Retraced.Passes.{pairs_reported}
 use Rattle.automata_hybrid.specs.Walks.Answers.{AreWalked, HasReportedBy, IsSilent, WalkMeetsNoQuit, half_nth}
 use Rattle.automata_hybrid.specs.Walks.Answers.{pairs_reported_in}
 use Rattle.automata_hybrid.specs.Private.Walks.Answers.{Finishes}

@@ -10,7 +10,7 @@ use Rattle.automata_base.specs.Answers.Answers.{ArePatterns, ArePatternsFound, I
 use Rattle.automata_base.specs.Answers.Answers.{IsGivenPattern, IsReportedPattern, first_alone}
 use Rattle.automata_base.specs.Paths.Paths.{KeepsCycles}
 use Rattle.automata_base.specs.Haystacks.PatternSet.{has, members_from}
-use Rattle.automata_base.specs.Laws.Walks.{WalkIsRight}
+use Rattle.automata_determinize.specs.Laws.Walks.{WalkIsRight}
 use Rattle.automata_base.proofs.ByteClasses.PatternsInSets.{members-few}
 use Rattle.automata_hybrid.specs.Known.Walks.{HaveCalled, NoCall}
 use Rattle.automata_hybrid.specs.Walks.Cached.{IsOpen, LacksOne, NoPair}

@@ -5,7 +5,7 @@ use Rattle.automata_hybrid.proofs.Words.{Forward, HasPattern, In, Input, IsInput
 use Rattle.automata_hybrid.proofs.Words.{members, Pair, WalkLiesWithin, WalksAreReported, ◌↔◌}
 use Rattle.automata_base.specs.Answers.Answers.{IsGivenPattern, IsInSet, IsReportedPattern, first_alone}
 use Rattle.automata_base.specs.Paths.Starts.{mode_start}
-use Rattle.automata_base.specs.Laws.Walks.{AllPairsAreReported, AreReported, InPairs}
+use Rattle.automata_determinize.specs.Laws.Walks.{AllPairsAreReported, AreReported, InPairs}
 use Rattle.automata_base.specs.declared.util.search.MatchKind.TheVariants.{All as KindAll}
 use Rattle.automata_hybrid.specs.Walks.SetsByPaths.{MatchesIn, SetsHaveMatching}
 use Rattle.automata_hybrid.specs.Walks.Contracts.{JoinsReported}

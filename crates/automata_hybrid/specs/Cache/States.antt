@@ -1,7 +1,7 @@
 -- The states that a cache holds, one by one, as a picture of the cache needs them.
 use Rattle.std.specs.Prelude.{ℕ, ◌≡◌, ◌+◌, ◌*◌, ◌<◌, ◌⊎◌, List, [], ◌∷◌, take, drop, length, slice_index, Option}
-use Rattle.automata_base.specs.Powersets.Passes.{IsUnit}
-use Rattle.automata_base.specs.Retraced.Steps.{start_state_of, successor}
+use Rattle.automata_determinize.specs.Powersets.Passes.{IsUnit}
+use Rattle.automata_determinize.specs.Retraced.Steps.{start_state_of, successor}
 use Rattle.automata_base.specs.declared.util.search.Anchored.{Anchored}
 use Rattle.automata_config.specs.Options.{match_kind_of}
 use Rattle.automata_hybrid.specs.Cache.Ids.{quit_id, unknown_id}

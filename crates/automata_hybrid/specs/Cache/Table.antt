@@ -2,7 +2,7 @@
 use Rattle.std.specs.Prelude.{◌≡◌, ℕ, ◌+◌, ◌*◌, ◌%◌, ◌<◌, ◌≤◌, ◌↔◌, List, [], ◌∷◌, ◌++◌, length, Bool, cond}
 use Rattle.std.specs.Prelude.{nat_lt, Option, None, Some, replicate, ◌-◌, ◌/◌, slice_get}
 use Rattle.automata_base.specs.Powersets.Powerset.{Powerset, cost, dead}
-use Rattle.automata_base.specs.Powersets.Equal.{powerset_eq}
+use Rattle.automata_determinize.specs.Powersets.Equal.{powerset_eq}
 use Rattle.automata_hybrid.specs.declared.cache.row.Row.{Row}
 use Rattle.automata_hybrid.specs.Cache.Ids.{tags, dead_id, quit_id, unknown_id, offset_limit, HasMatchTag}
 use Rattle.automata_hybrid.specs.Machines.Machine.{Machine}

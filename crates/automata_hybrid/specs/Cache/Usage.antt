@@ -1,7 +1,7 @@
 -- The bytes that a new row takes, and when too few bytes were searched.
 use Rattle.std.specs.Prelude.{ℕ, ◌+◌, ◌*◌, Bool, true, Option, None, Some}
 use Rattle.std.specs.Prelude.{nat_lt}
-use Rattle.automata_base.specs.Powersets.Accounting.{cell_size, entry_size, row_size}
+use Rattle.automata_determinize.specs.Powersets.Accounting.{cell_size, entry_size, row_size}
 use Rattle.automata_hybrid.specs.Machines.Machine.{Machine}
 use Rattle.automata_hybrid.specs.Cache.Progress.{saturated}
 

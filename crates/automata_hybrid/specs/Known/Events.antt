@@ -2,10 +2,10 @@
 -- gives up.
 use Rattle.std.specs.Prelude.{ℕ, ◌+◌, ◌*◌, length, sum_by, Bool, true, false, cond, nat_eq, nat_lt, nat_le, ◌&&◌, ◌||◌}
 use Rattle.std.specs.Prelude.{Option, None, Some, is_some, option_map, unwrap_or, slice_get, slice_set}
-use Rattle.automata_base.specs.Powersets.Accounting.{cell_size, entry_size, fixed_rows_cost, row_size}
-use Rattle.automata_base.specs.Powersets.Equal.{powerset_eq}
+use Rattle.automata_determinize.specs.Powersets.Accounting.{cell_size, entry_size, fixed_rows_cost, row_size}
+use Rattle.automata_determinize.specs.Powersets.Equal.{powerset_eq}
 use Rattle.automata_base.specs.Powersets.Powerset.{Powerset, cost}
-use Rattle.automata_base.specs.Retraced.Steps.{start_state_of, successor}
+use Rattle.automata_determinize.specs.Retraced.Steps.{start_state_of, successor}
 use Rattle.automata_config.specs.Options.{match_kind_of, minimum_bytes_per_state_of, minimum_cache_clear_count_of}
 use Rattle.automata_hybrid.specs.Cache.Ids.{offset_limit}
 use Rattle.automata_hybrid.specs.Cache.Progress.{total_len}

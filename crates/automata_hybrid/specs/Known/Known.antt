@@ -2,7 +2,7 @@
 -- cells that hold it.
 use Rattle.std.specs.Prelude.{ℕ, ◌+◌, List, [], ◌∷◌, ◌++◌, Bool, false, cond, ◌||◌, fold, find, Option, None, Some}
 use Rattle.std.specs.Prelude.{is_some, option_and_then}
-use Rattle.automata_base.specs.Powersets.Equal.{powerset_eq}
+use Rattle.automata_determinize.specs.Powersets.Equal.{powerset_eq}
 use Rattle.automata_base.specs.Powersets.Powerset.{Powerset, dead}
 use Rattle.automata_hybrid.specs.Cache.Progress.{progress_cleared, progress_finished, progress_started}
 use Rattle.automata_hybrid.specs.Cache.Progress.{progress_updated, saturated}

@@ -2,10 +2,10 @@
 use Rattle.std.specs.Prelude.{ℕ, ◌≡◌, List, [], ◌∷◌, false}
 use Rattle.automata_base.specs.Nfas.Automata.{automaton}
 use Rattle.automata_base.specs.Nfas.Nodes.{Automaton}
-use Rattle.automata_base.specs.declared.nfa.thompson.State.{State}
-use Rattle.automata_base.specs.declared.nfa.thompson.State.TheVariants.{Match, Fail}
+use Rattle.automata_base.specs.declared.nfa.thompson.state.State.{State}
+use Rattle.automata_base.specs.declared.nfa.thompson.state.State.TheVariants.{Match, Fail}
 use Rattle.automata_base.specs.ByteClasses.Classes.{stride_of}
-use Rattle.automata_base.specs.Powersets.Accounting.{fixed_cost, max_cost, start_slots}
+use Rattle.automata_determinize.specs.Powersets.Accounting.{fixed_cost, max_cost, start_slots}
 use Rattle.automata_config.specs.Options.{Options, starts_for_each_pattern_of}
 use Rattle.automata_config.specs.Settled.{Settled}
 use Rattle.automata_config.specs.Settling.{IsSettled}

@@ -3,7 +3,7 @@ use Rattle.std.specs.Prelude.{ℕ, zero, suc, List, Bool, false, cond, Option, N
 use Rattle.automata_base.specs.Nfas.Nodes.{Automaton}
 use Rattle.automata_base.specs.Nfas.Engines.{Engine, engine_of}
 use Rattle.automata_base.specs.ByteClasses.Classes.{class_in, eoi_class, is_quit, stride_of}
-use Rattle.automata_base.specs.Powersets.Accounting.{max_cost, start_slots, fixed_cost}
+use Rattle.automata_determinize.specs.Powersets.Accounting.{max_cost, start_slots, fixed_cost}
 use Rattle.automata_config.specs.Options.{Options, match_kind_of, starts_for_each_pattern_of}
 use Rattle.automata_hybrid.specs.Cache.Ids.{quit_id, unknown_id}
 

@@ -1,7 +1,7 @@
 -- The states of a lazy DFA: those that a search can reach.
 use Rattle.std.specs.Prelude.{ℕ, zero, suc, ◌≡◌, ◌<◌, false, Option}
 use Rattle.automata_base.specs.Powersets.Powerset.{Powerset}
-use Rattle.automata_base.specs.Retraced.Steps.{successor, start_state_of}
+use Rattle.automata_determinize.specs.Retraced.Steps.{successor, start_state_of}
 use Rattle.automata_base.specs.declared.util.search.Anchored.{Anchored}
 use Rattle.automata_config.specs.Options.{match_kind_of}
 use Rattle.automata_hybrid.specs.Machines.Machine.{Machine, quits_on}

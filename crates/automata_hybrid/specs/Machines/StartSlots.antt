@@ -1,6 +1,6 @@
 -- The start slots: one for each anchored mode and each kind of look-behind.
 use Rattle.std.specs.Prelude.{ℕ, suc, ◌+◌, ◌*◌, Bool, true, Option}
-use Rattle.automata_base.specs.ByteClasses.LookBehind.{behind_of}
+use Rattle.automata_determinize.specs.ByteClasses.LookBehind.{behind_of}
 use Rattle.automata_hybrid.specs.Machines.Machine.{Machine}
 use Rattle.automata_base.specs.declared.util.search.Anchored.{Anchored}
 use Rattle.automata_base.specs.declared.util.search.Anchored.TheVariants.{No, Yes, Pattern}

@@ -5,7 +5,7 @@ use Rattle.automata_base.specs.Haystacks.Input.{Input}
 use Rattle.automata_base.specs.Haystacks.Matches.{HalfMatch}
 use Rattle.automata_base.specs.Paths.Selections.{Pair}
 use Rattle.automata_base.specs.declared.util.search.Direction.{Direction}
-use Rattle.automata_base.specs.Answers.OfPasses.{reported_over}
+use Rattle.automata_determinize.specs.Answers.OfPasses.{reported_over}
 use Rattle.automata_hybrid.specs.Machines.Machine.{Machine}
 use Rattle.automata_hybrid.specs.Cache.Table.{Rows, Names}
 use Rattle.automata_hybrid.specs.Searches.Passes.{HasReadNoQuit}

@@ -12,8 +12,8 @@ use Rattle.automata_base.specs.Paths.Selections.{Pair}
 use Rattle.automata_base.specs.Haystacks.Tapes.{tape_of}
 use Rattle.automata_base.specs.declared.util.search.Direction.{Direction}
 use Rattle.automata_base.specs.declared.util.search.Direction.TheVariants.{Forward, Backward}
-use Rattle.automata_base.specs.Retraced.Passes.{state_after, reported_upto}
-use Rattle.automata_base.specs.Answers.OfPasses.{reported_over}
+use Rattle.automata_determinize.specs.Retraced.Passes.{state_after, reported_upto}
+use Rattle.automata_determinize.specs.Answers.OfPasses.{reported_over}
 use Rattle.automata_hybrid.specs.Machines.Machine.{Machine, engine}
 use Rattle.automata_hybrid.specs.Steps.Starts.{quit_behind}
 use Rattle.automata_config.specs.Options.{match_kind_of}

@@ -5,7 +5,7 @@ use Rattle.std.specs.Prelude.{ℕ, suc, Bool, true, false, Option}
 use Rattle.automata_base.specs.Haystacks.Input.{Input}
 use Rattle.automata_base.specs.Paths.Selections.{Pair}
 use Rattle.automata_base.specs.Powersets.Powerset.{Powerset}
-use Rattle.automata_base.specs.Retraced.Passes.{first_among, last_among}
+use Rattle.automata_determinize.specs.Retraced.Passes.{first_among, last_among}
 use Rattle.automata_base.specs.declared.util.search.Direction.{Direction}
 use Rattle.automata_hybrid.specs.Machines.Machine.{Machine}
 use Rattle.automata_hybrid.specs.Searches.Passes.{reported_in, state_in}

@@ -1,7 +1,7 @@
 -- Steps: the ID that a call returns, on a byte or on the end. Known.Steps has the effect of the call on the cache.
 use Rattle.std.specs.Prelude.{ℕ, ◌≡◌, ◌<◌, ◌≤◌, true, false, Option}
 use Rattle.automata_base.specs.Powersets.Powerset.{Powerset}
-use Rattle.automata_base.specs.Retraced.Steps.{successor}
+use Rattle.automata_determinize.specs.Retraced.Steps.{successor}
 use Rattle.automata_hybrid.specs.Cache.Stores.{Stored, cell_of}
 use Rattle.automata_hybrid.specs.Cache.Caches.{CacheView, HoldsRow}
 use Rattle.automata_hybrid.specs.Cache.Ids.{fixed_from, quit_id}

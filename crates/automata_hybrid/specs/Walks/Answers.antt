@@ -9,8 +9,8 @@ use Rattle.automata_base.specs.Powersets.Powerset.{Powerset, dead}
 use Rattle.automata_base.specs.Paths.Selections.{Pair}
 use Rattle.automata_base.specs.Haystacks.Tapes.{is_split}
 use Rattle.automata_base.specs.declared.util.search.Direction.{Direction}
-use Rattle.automata_base.specs.Retraced.Passes.{pairs_reported}
-use Rattle.automata_base.specs.Laws.Walks.{AreReported}
+use Rattle.automata_determinize.specs.Retraced.Passes.{pairs_reported}
+use Rattle.automata_determinize.specs.Laws.Walks.{AreReported}
 use Rattle.automata_config.specs.declared.error.SearchError.{SearchError}
 use Rattle.automata_config.specs.declared.error.SearchError.TheVariants as search
 use Rattle.automata_hybrid.specs.Machines.Machine.{Machine, quits_on}

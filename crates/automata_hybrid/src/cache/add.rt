@@ -1,9 +1,9 @@
 //! How a cache grows: a state is determinized, looked up, and if no row has it, added. If it does not fit, the cache is
 //! cleared first. A clear builds the new store next to the old one, so that an error leaves the cache unchanged.
 ghost use Rattle.std.specs.Prelude.{IfErr, IfOk, Option, false, length, slice_index, ℕ, ◌<◌, ◌≡◌, ◌≤◌};
-ghost use Rattle.automata_base.specs.Powersets.Passes.{IsUnit};
+ghost use Rattle.automata_determinize.specs.Powersets.Passes.{IsUnit};
 ghost use Rattle.automata_base.specs.Powersets.Powerset.{Powerset, cost};
-ghost use Rattle.automata_base.specs.Retraced.Steps.{start_state_of, successor};
+ghost use Rattle.automata_determinize.specs.Retraced.Steps.{start_state_of, successor};
 ghost use Rattle.automata_config.specs.Options.{match_kind_of};
 ghost use Rattle.automata_hybrid.specs.Cache.Caches.{IsCacheOf, with_store};
 ghost use Rattle.automata_hybrid.specs.Cache.Ids.{unknown_id};
@@ -22,7 +22,7 @@ use crate::cache::leaps::Leaping;
 use crate::cache::{Cache, row};
 use crate::dfa::DFA;
 use crate::id::LazyStateID;
-use automata_base::util::determinize::{Key, State, next_key, start_key};
+use automata_determinize::determinize::{Key, State, next_key, start_key};
 use automata_base::util::search::Anchored;
 use automata_config::error::StepError;
 use std::alloc::AllocError;

@@ -2,7 +2,7 @@
 ghost use Rattle.std.specs.Prelude.{IfOk};
 ghost use Rattle.automata_hybrid.specs.Private.Walks.State.{IsHandle};
 
-use automata_base::util::determinize::{Key, State};
+use automata_determinize::determinize::{Key, State};
 use std::alloc::AllocError;
 
 /// A powerset state, shared with the rows of caches, and its key in their maps.

@@ -49,7 +49,7 @@ use crate::cache::store::Store;
 use crate::cache::table::Table;
 use crate::dfa::DFA;
 use crate::id::LazyStateID;
-use automata_base::util::determinize::Scratch;
+use automata_determinize::determinize::Scratch;
 use automata_base::util::primitives::PatternID;
 use automata_base::util::search::Anchored;
 use std::alloc::AllocError;

@@ -5,8 +5,8 @@ ghost use Rattle.automata_hybrid.specs.Cache.Table.{has_patterns};
 ghost use Rattle.automata_hybrid.specs.Cache.Ids.{offset_limit};
 
 use crate::id::LazyStateID;
-use automata_base::util::determinize::State;
 use automata_config::accounting::{HEAD_COST, ID_COST, PATTERN_COST};
+use automata_determinize::determinize::State;
 use std::alloc::AllocError;
 
 /// The state of a row, and whether the row's ID has the start tag.

@@ -4,7 +4,7 @@ ghost use Rattle.std.specs.Iterator.{YieldsFirst, item_count};
 
 use crate::cache::row::Row;
 use crate::id::LazyStateID;
-use automata_base::util::determinize::State;
+use automata_determinize::determinize::State;
 use std::marker::Model;
 
 /// A state in a cache.

@@ -2,7 +2,7 @@
 //! rules of the settings are here: what a state costs, whether it fits, and whether a search gives up instead of
 //! clearing the cache.
 ghost use Rattle.std.specs.Prelude.{◌≡◌, ◌+◌, ◌*◌, ◌<◌, ◌≤◌, ◌↔◌, IfOk, IfErr, OnOk, OnErr, length, IsTrue, true};
-ghost use Rattle.automata_base.specs.Powersets.Accounting.{minimum_capacity};
+ghost use Rattle.automata_determinize.specs.Powersets.Accounting.{minimum_capacity};
 ghost use Rattle.automata_base.specs.Powersets.Powerset.{cost};
 ghost use Rattle.automata_hybrid.specs.Cache.Ids.{offset_limit};
 ghost use Rattle.automata_hybrid.specs.Cache.Stores.{IsCacheError, fresh_store};
@@ -21,7 +21,7 @@ use crate::cache::settings::Settings;
 use crate::cache::table::{Table, new_row};
 use crate::dfa::DFA;
 use crate::id::LazyStateID;
-use automata_base::util::determinize::State;
+use automata_determinize::determinize::State;
 use automata_base::util::heap::array;
 use automata_config::accounting::{CELL_SIZE, ENTRY_SIZE, FIXED_ROWS_COST, ROW_SIZE, start_slots};
 use automata_config::error::{CacheError, StepError};

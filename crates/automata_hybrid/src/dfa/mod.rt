@@ -3,7 +3,7 @@
 //! have the searches by steps. `builder` builds DFAs.
 ghost use Rattle.std.specs.Prelude.{◌≡◌, ◌<◌, ◌≤◌, true, false, slice_index, length};
 ghost use Rattle.automata_base.specs.ByteClasses.Classes.{AreClasses, class_in, eoi_class, is_quit};
-ghost use Rattle.automata_base.specs.Powersets.Passes.{IsUnit};
+ghost use Rattle.automata_determinize.specs.Powersets.Passes.{IsUnit};
 ghost use Rattle.automata_config.specs.Options.{unset};
 ghost use Rattle.automata_config.specs.Settling.{IsSettled};
 ghost use Rattle.automata_hybrid.specs.Cache.Ids.{quit_id, unknown_id};

@@ -3,10 +3,10 @@
 //! the state's ID.
 ghost use Rattle.std.specs.Prelude.{◌≡◌, ◌+◌, ◌-◌, ◌*◌, ◌^◌, ◌<◌, ◌≤◌, ◌↔◌, IfOk, IfErr, OnOk, IfSome, IfNone, Err};
 ghost use Rattle.std.specs.Prelude.{Some, slice_get, false};
-ghost use Rattle.automata_base.specs.ByteClasses.LookBehind.{behind_of};
+ghost use Rattle.automata_determinize.specs.ByteClasses.LookBehind.{behind_of};
 ghost use Rattle.automata_base.specs.Haystacks.Tapes.{byte_before};
 ghost use Rattle.automata_base.specs.Powersets.Powerset.{dead};
-ghost use Rattle.automata_base.specs.Retraced.Steps.{start_state_of};
+ghost use Rattle.automata_determinize.specs.Retraced.Steps.{start_state_of};
 ghost use Rattle.automata_hybrid.specs.Cache.Caches.{IsCacheOf};
 ghost use Rattle.automata_hybrid.specs.Cache.Ids.{unknown_id};
 ghost use Rattle.automata_hybrid.specs.Known.Steps.{IsStartRun, StartFails, StartFailsAt};

@@ -3,7 +3,7 @@
 ghost use Rattle.std.specs.Prelude.{◌≡◌, ◌<◌, None, Some, IfOk, IfErr, OnOk, length, slice_index, true, false};
 ghost use Rattle.automata_base.specs.ByteClasses.Classes.{class_in, is_quit};
 ghost use Rattle.automata_base.specs.Powersets.Powerset.{Powerset};
-ghost use Rattle.automata_base.specs.Retraced.Steps.{successor};
+ghost use Rattle.automata_determinize.specs.Retraced.Steps.{successor};
 ghost use Rattle.automata_config.specs.Options.{match_kind_of};
 ghost use Rattle.automata_hybrid.specs.Cache.Caches.{HoldsRow, IsCacheOf};
 ghost use Rattle.automata_hybrid.specs.Cache.Ids.{quit_id, unknown_id, offset_limit, HasMatchTag};

@@ -17,9 +17,9 @@ use crate::dfa::DFA;
 use crate::search::direction::{begin_later, input_of};
 use crate::search::pass::pass;
 use crate::search::skips_at;
-use automata_base::laws::reported_is_right;
 use automata_base::util::search::{Anchored, Direction, HalfMatch, Input, Span};
 use automata_config::error::SearchError;
+use automata_determinize::laws::reported_is_right;
 
 /// Returns what a search found, without the start of its span.
 fn without_base(

@@ -2,7 +2,7 @@
 
 use super::plans::plan;
 use super::{Host, Text, same_of};
-use regex_automata::nfa::thompson::{NFA, State};
+use regex_automata::nfa::thompson::{NFA, State, merged, reversed};
 use std::fmt::Write;
 
 /// NFAs in the form of a script's lines, before and after their unions are merged.
@@ -39,7 +39,7 @@ fn printed(rt: &impl Host, nfa: &NFA) -> String {
 #[test]
 fn merges_wide_unions(rt: HostRuntime) {
     for (before, after) in MERGES {
-        let merged = plan(&rt, before).merged().expect(&rt, "memory");
+        let merged = merged(&plan(&rt, before)).expect(&rt, "memory");
         same_of(
             &rt,
             &printed(&rt, &merged),
@@ -69,7 +69,7 @@ fn pairs(rt: &impl Host, count: usize) -> NFA {
 
 /// Returns how many sparse states the reversed NFA has. An NFA that is reversed edge by edge has none.
 fn folded(rt: &impl Host, nfa: &NFA) -> usize {
-    let reversed = nfa.reversed().expect(rt, "a reversed NFA");
+    let reversed = reversed(nfa).expect(rt, "a reversed NFA");
     let mut count = 0usize;
     for state in reversed.states() {
         if let State::Sparse(_) = state {

@@ -9,7 +9,7 @@ use Rattle.automata_base.specs.Haystacks.Matches.{Match}
 use Rattle.automata_base.specs.Nfas.Nodes.{Automaton}
 use Rattle.automata_base.specs.Answers.Spans.{FindsStartBy, back, in_full, StartIsBase, StartIsFound}
 use Rattle.automata_base.specs.declared.util.search.Direction.TheVariants.{Backward, Forward}
-use Rattle.automata_base.specs.Answers.OfPasses.{IsReported, ReportedIsOne}
+use Rattle.automata_determinize.specs.Answers.OfPasses.{IsReported, ReportedIsOne}
 use Rattle.automata_base.specs.declared.util.search.MatchKind.{MatchKind}
 use Rattle.automata_hybrid.specs.Searches.Agreement.{AnswersAgree}
 use Rattle.automata_hybrid.specs.Machines.Machine.{Machine}

@@ -8,10 +8,11 @@ use Rattle.automata_base.specs.Nfas.Nodes.{nfa_of}
 use Rattle.automata_base.specs.Paths.Paths.{KeepsCycles}
 use Rattle.automata_base.specs.Answers.Spans.{FindsSpan, Found, IsFarSearch, IsSpan, IsTrySearch, NotAPair, Outcome}
 use Rattle.automata_base.specs.Answers.Spans.{back}
-use Rattle.automata_base.specs.Laws.StartIsRight.{BackMeetsNone, StartsAreRight}
+use Rattle.automata_determinize.specs.Laws.StartIsRight.{BackMeetsNone, StartsAreRight}
 use Rattle.automata_base.specs.declared.util.search.Direction.TheVariants.{Forward, Backward}
-use Rattle.automata_base.specs.Answers.OfPasses.{IsFarthestAnswer, ReportedEndsAreRight, ReportedIsRight}
-use Rattle.automata_base.proofs.Answers.Turning.{turn_outcome}
+use Rattle.automata_base.specs.Answers.OfPasses.{IsFarthestAnswer}
+use Rattle.automata_determinize.specs.Answers.OfPasses.{ReportedEndsAreRight, ReportedIsRight}
+use Rattle.automata_determinize.proofs.Answers.Turning.{turn_outcome}
 use Rattle.automata_base.specs.declared.util.search.MatchErrorKind.TheVariants.{Quit as QuitAt}
 use Rattle.automata_config.specs.declared.error.SearchError.{SearchError}
 use Rattle.automata_config.specs.declared.error.SearchError.TheVariants as search

@@ -6,7 +6,7 @@ use Rattle.automata_base.specs.Haystacks.Matches.{Match}
 use Rattle.automata_base.specs.Answers.Spans.{AreFirst, StartIsBase, StartIsFound}
 use Rattle.automata_base.specs.declared.util.search.Direction.TheVariants.{Forward}
 use Rattle.automata_config.specs.declared.error.SearchError.{SearchError}
-use Rattle.automata_base.proofs.Answers.Rising.{all_first, next_inside}
+use Rattle.automata_determinize.proofs.Answers.Rising.{all_first, next_inside}
 use Rattle.automata_hybrid.proofs.Searches.Bounds.{found_within}
 use Rattle.regex_automata.specs.Spans.Iteration.{AreCollected}
 use Rattle.regex_automata.specs.Spans.Outcomes.{FindsMatch, IsStartFound}

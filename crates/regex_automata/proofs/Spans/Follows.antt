@@ -4,11 +4,11 @@ use Rattle.std.proofs.Common.{arith}
 use Rattle.std.specs.Prelude.{IfSome}
 use Rattle.automata_base.specs.Answers.Answers.{Half, IsInput}
 use Rattle.automata_base.specs.Haystacks.Input.{Input}
-use Rattle.automata_base.specs.Answers.OfPasses.{ReportedEndsAreRight, ReportedIsRight}
+use Rattle.automata_determinize.specs.Answers.OfPasses.{ReportedEndsAreRight, ReportedIsRight}
 use Rattle.automata_base.specs.Answers.Spans.{back, from}
-use Rattle.automata_base.specs.Laws.StartIsRight.{BackMeetsNone, StartsAreRight}
+use Rattle.automata_determinize.specs.Laws.StartIsRight.{BackMeetsNone, StartsAreRight}
 use Rattle.automata_base.specs.declared.util.search.Direction.TheVariants.{Backward, Forward}
-use Rattle.automata_base.proofs.Answers.Starts.{yes_no}
+use Rattle.automata_determinize.proofs.Answers.Starts.{yes_no}
 use Rattle.automata_config.specs.declared.error.SearchError.{SearchError}
 use Rattle.automata_config.specs.declared.error.SearchError.TheVariants as search
 use Rattle.automata_hybrid.specs.Cache.Caches.{CacheView}

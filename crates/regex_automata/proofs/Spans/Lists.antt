@@ -10,7 +10,8 @@ use Rattle.regex_automata.specs.Spans.Iteration.{AreCollected, ComesTo, GivesIte
 use Rattle.regex_automata.specs.Spans.Outcomes.{FindsMatch}
 use Rattle.regex_automata.specs.declared.hybrid.regex.Regex.{Regex}
 use Rattle.automata_base.proofs.Answers.Once.{FindsOnce, next_none, next_some}
-use Rattle.automata_base.proofs.Answers.Rising.{all_first, first_right, matches_right}
+use Rattle.automata_determinize.proofs.Answers.Rising.{all_first}
+use Rattle.automata_base.proofs.Answers.Rising.{first_right, matches_right}
 
 module _ (Finds : Input → Option Match → Type 0) (input : Input) where
   -- one more match

@@ -1,11 +1,11 @@
 -- What searches over a sound pair find are the spans of the ordered paths.
 use Rattle.std.proofs.Common.{ℕ, Bool, true, false, [], ◌∷◌, Option, Some, None, refl}
 use Rattle.std.specs.Prelude.{Result, Ok, Err}
-use Rattle.automata_base.specs.Answers.OfPasses.{ReportedEndsAreRight, ReportedIsRight}
+use Rattle.automata_determinize.specs.Answers.OfPasses.{ReportedEndsAreRight, ReportedIsRight}
 use Rattle.automata_base.specs.Answers.Spans.{IsNextItem, IsSpan, from}
 use Rattle.automata_base.specs.Haystacks.Input.{Input}
 use Rattle.automata_base.specs.Haystacks.Matches.{Match}
-use Rattle.automata_base.specs.Laws.StartIsRight.{StartsAreRight}
+use Rattle.automata_determinize.specs.Laws.StartIsRight.{StartsAreRight}
 use Rattle.automata_base.proofs.Answers.Rising.{first_right, matches_right}
 use Rattle.automata_config.specs.declared.error.SearchError.{SearchError}
 use Rattle.regex_automata.specs.Regexes.SoundPairs.{forward_engine}

@@ -5,7 +5,7 @@ use Rattle.automata_base.specs.Answers.Answers.{Half, later}
 use Rattle.automata_base.specs.ByteClasses.Classes.{is_quit}
 use Rattle.automata_base.specs.Haystacks.Input.{Input}
 use Rattle.automata_base.specs.Answers.Spans.{back}
-use Rattle.automata_base.specs.Laws.StartIsRight.{BackMeetsNone}
+use Rattle.automata_determinize.specs.Laws.StartIsRight.{BackMeetsNone}
 use Rattle.automata_base.specs.Haystacks.Tapes.{MeetsNone, ReadsByteBefore, ReadsUnitAt, forward_tape, reverse_tape}
 use Rattle.automata_base.specs.declared.util.search.Direction.{Direction}
 use Rattle.automata_base.specs.declared.util.search.Direction.TheVariants.{Forward, Backward}
@@ -24,7 +24,7 @@ use Rattle.regex_automata.proofs.Spans.Reports.{reported_reads}
 use Rattle.automata_hybrid.proofs.Searches.Reach.{is_behind}
 use Rattle.automata_hybrid.proofs.Searches.Directions.{units_in}
 use Rattle.automata_hybrid.proofs.Searches.PassState.{false_true}
-use Rattle.automata_base.proofs.Answers.Starts.{yes_no}
+use Rattle.automata_determinize.proofs.Answers.Starts.{yes_no}
 use Rattle.automata_base.proofs.Answers.Tried.{tries_once}
 
 -- a look-behind byte that is not a quit byte, and one that is

@@ -9,10 +9,10 @@ use Rattle.automata_base.specs.Paths.Paths.{Tape}
 use Rattle.automata_base.specs.Powersets.Powerset.{Powerset, dead}
 use Rattle.automata_base.specs.Paths.Selections.{Pair}
 use Rattle.automata_base.specs.declared.util.search.Direction.{Direction}
-use Rattle.automata_base.specs.Retraced.Passes.{first_reported, reported_at, reported_upto}
-use Rattle.automata_base.specs.Answers.OfPasses.{reported_over}
+use Rattle.automata_determinize.specs.Retraced.Passes.{first_reported, reported_at, reported_upto}
+use Rattle.automata_determinize.specs.Answers.OfPasses.{reported_over}
 use Rattle.automata_base.specs.declared.util.search.MatchKind.{MatchKind}
-use Rattle.automata_base.proofs.Answers.Within.{ReportedBelow, first_below, first_stays, over_below}
+use Rattle.automata_determinize.proofs.Answers.Within.{ReportedBelow, first_below, first_stays, over_below}
 use Rattle.automata_hybrid.specs.Machines.Machine.{Machine}
 use Rattle.automata_hybrid.specs.Searches.Passes.{Reads, state_in, tape_in}
 use Rattle.automata_hybrid.proofs.Searches.PassState.{dead_more, false_true}

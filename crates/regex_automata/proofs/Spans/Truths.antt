@@ -15,9 +15,10 @@ use Rattle.automata_base.specs.Paths.Selections.{Pair}
 use Rattle.automata_base.specs.Answers.Spans.{IsMatch, in_full}
 use Rattle.automata_base.specs.Haystacks.Tapes.{forward_tape}
 use Rattle.automata_base.specs.declared.util.search.Direction.TheVariants.{Forward}
-use Rattle.automata_base.specs.Retraced.Passes.{first_reported, last_reported, reported_at, earlier_or, pair_at}
-use Rattle.automata_base.specs.Answers.OfPasses.{IsNearestAnswer, IsReported, ReportsOver, ReportedIsRight}
-use Rattle.automata_base.specs.Answers.OfPasses.{reported_over}
+use Rattle.automata_determinize.specs.Retraced.Passes.{first_reported, last_reported, reported_at, earlier_or, pair_at}
+use Rattle.automata_base.specs.Answers.OfPasses.{IsNearestAnswer}
+use Rattle.automata_determinize.specs.Answers.OfPasses.{IsReported, ReportsOver, ReportedIsRight}
+use Rattle.automata_determinize.specs.Answers.OfPasses.{reported_over}
 use Rattle.automata_base.specs.declared.util.search.Anchored.{Anchored}
 use Rattle.automata_base.specs.declared.util.search.Anchored.TheVariants.{No}
 use Rattle.automata_base.specs.declared.util.search.MatchKind.{MatchKind}

@@ -8,7 +8,8 @@ use Rattle.automata_base.specs.Haystacks.Matches.{HalfMatch, Match}
 use Rattle.automata_base.specs.Nfas.Engines.{Engine, IsSkipping}
 use Rattle.automata_base.specs.declared.util.search.Anchored.TheVariants.{No, Yes}
 use Rattle.automata_base.specs.declared.util.search.Direction.TheVariants.{Forward}
-use Rattle.automata_base.proofs.Answers.Starts.{answered, yes_no}
+use Rattle.automata_base.proofs.Answers.Starts.{answered}
+use Rattle.automata_determinize.proofs.Answers.Starts.{yes_no}
 use Rattle.automata_base.proofs.Paths.Orders.{none_some, some_inj, some_none}
 use Rattle.automata_hybrid.specs.Searches.Passes.{WithoutBase, without_base}
 use Rattle.regex_automata.specs.Tokens.{AreGiven, AreTokenSpans, HasNoSpanPast, IsItemAt, IsNoTokenAt, IsTokenAt}

@@ -1,14 +1,14 @@
 -- What a regex's builder builds from two NFAs, or why it fails.
 use Rattle.std.specs.Prelude.{ℕ, ◌≡◌, ◌==◌, false, true, if◌then◌else◌, length, max, Option, None, Some}
 use Rattle.automata_base.specs.Nfas.Getters.{SkipsLazily}
-use Rattle.automata_base.specs.Nfas.Mirrors.{BeginsAlike, IsReversalOf}
+use Rattle.automata_transform.specs.Nfas.Mirrors.{BeginsAlike, IsReversalOf}
 use Rattle.automata_base.specs.Nfas.Nodes.{Automaton}
-use Rattle.automata_base.specs.Nfas.ReversedSizes.{MayBeTooLarge}
+use Rattle.automata_transform.specs.Nfas.ReversedSizes.{MayBeTooLarge}
 use Rattle.automata_base.specs.declared.util.search.Direction.TheVariants.{Forward}
 use Rattle.automata_base.specs.Nfas.Unions.{IsKeepingUnions}
 use Rattle.automata_base.specs.Nfas.Utf8.{ReadsUtf8}
-use Rattle.automata_base.specs.declared.nfa.thompson.ReverseError.{ReverseError}
-use Rattle.automata_base.specs.declared.nfa.thompson.ReverseError.TheVariants as reverse
+use Rattle.automata_transform.specs.declared.reverse.ReverseError.{ReverseError}
+use Rattle.automata_transform.specs.declared.reverse.ReverseError.TheVariants as reverse
 use Rattle.automata_base.specs.declared.util.search.MatchKind.TheVariants.{All}
 use Rattle.automata_config.specs.Options.{Options}
 use Rattle.automata_config.specs.Settling as settling
@@ -69,7 +69,7 @@ abbrev pub NamesEnough : Options → Automaton → Automaton → BuildError → 
 NamesEnough o forward reverse error =
     (minimum given : ℕ) → error ≡ InsufficientCacheCapacity minimum given → IsEnough o forward reverse minimum
 
--- the build error for each error of `NFA::reversed`
+-- the build error for each error of `reversed`
 abbrev pub reverse_build_error : ReverseError → RegexBuildError
 reverse_build_error reverse.Starts = is.Starts
 reverse_build_error reverse.TooLarge = is.TooLarge

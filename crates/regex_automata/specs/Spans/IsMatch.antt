@@ -4,7 +4,8 @@ use Rattle.automata_base.specs.Answers.Answers.{Half}
 use Rattle.automata_base.specs.Haystacks.Input.{Input}
 use Rattle.automata_base.specs.Answers.Spans.{in_full}
 use Rattle.automata_base.specs.declared.util.search.Direction.TheVariants.{Forward}
-use Rattle.automata_base.specs.Answers.OfPasses.{IsNearestAnswer, IsReported}
+use Rattle.automata_base.specs.Answers.OfPasses.{IsNearestAnswer}
+use Rattle.automata_determinize.specs.Answers.OfPasses.{IsReported}
 use Rattle.automata_hybrid.specs.Machines.Machine.{Machine, engine}
 use Rattle.automata_hybrid.specs.Searches.Passes.{IsFound, Skips}
 use Rattle.automata_config.specs.Options.{match_kind_of}

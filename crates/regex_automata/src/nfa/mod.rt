@@ -1,3 +1,3 @@
 //! Nondeterministic automata.
 
-pub use automata_base::nfa::thompson;
+pub mod thompson;

@@ -14,9 +14,9 @@ ghost use Rattle.regex_automata.specs.Replay.Caches.{AreSearched};
 
 use crate::hybrid::regex::{Cache, Regex};
 use crate::laws::spans_follow;
-use automata_base::laws::{reported_is_right, start_is_right};
 use automata_base::util::search::{Input, Match};
 use automata_config::error::SearchError;
+use automata_determinize::laws::{reported_is_right, start_is_right};
 use std::alloc::Global;
 
 /// Returns the matches, and the error that ended them, if any: a search's error, or out of memory for the list.

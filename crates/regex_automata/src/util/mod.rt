@@ -2,4 +2,5 @@
 
 pub mod search;
 
-pub use automata_base::util::{alphabet, byte_set, determinize, look, primitives, start};
+pub use automata_base::util::{alphabet, byte_set, look, primitives, start};
+pub use automata_determinize::determinize;

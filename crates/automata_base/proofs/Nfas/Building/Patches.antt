@@ -6,7 +6,7 @@ use Rattle.std.proofs.Math.Seq.{map-set_same}
 use Rattle.std.proofs.lemmas.List.{map-set}
 use Rattle.std.proofs.lemmas.Option.{slice_get-map, slice_get_read}
 use Rattle.automata_base.specs.declared.nfa.thompson.building.Added.{Added}
-use Rattle.automata_base.specs.declared.nfa.thompson.Flags.{Flags}
+use Rattle.automata_base.specs.declared.nfa.thompson.state.Flags.{Flags}
 use Rattle.automata_base.specs.Nfas.Drafts.{Draft, with_states}
 use Rattle.automata_base.specs.Nfas.Shapes.{Shape, shape_added, patched}
 

@@ -2,9 +2,9 @@
 use Rattle.std.proofs.Common.{ℕ, ◌≡◌, ◌⊎◌, List, [], ◌++◌, map, Some, None, Result, Ok, Err, inl, inr, refl, sym, ap}
 use Rattle.std.proofs.Common.{◌∙◌, subst}
 use Rattle.std.specs.Prelude.{IsOkUnless}
-use Rattle.automata_base.specs.declared.nfa.thompson.NfaError.{NfaError}
-use Rattle.automata_base.specs.declared.nfa.thompson.NfaError.TheVariants as nfa_error
-use Rattle.automata_base.specs.declared.nfa.thompson.State.{State}
+use Rattle.automata_base.specs.declared.nfa.thompson.state.NfaError.{NfaError}
+use Rattle.automata_base.specs.declared.nfa.thompson.state.NfaError.TheVariants as nfa_error
+use Rattle.automata_base.specs.declared.nfa.thompson.state.State.{State}
 use Rattle.automata_base.specs.declared.nfa.thompson.building.Added.{Added}
 use Rattle.automata_base.specs.declared.nfa.thompson.building.BuildError.{BuildError}
 use Rattle.automata_base.specs.declared.nfa.thompson.building.BuildError.TheVariants.{NFA, OutOfMemory}

@@ -5,7 +5,7 @@ ghost use Rattle.automata_base.specs.Retraced.Apart.{is_either, are_others, lead
 ghost use Rattle.automata_base.specs.Retraced.Reach.{targets_of};
 
 use crate::nfa::thompson::reach::Edges;
-use crate::nfa::thompson::{State, Transition};
+use crate::nfa::thompson::state::{State, Transition};
 use crate::util::primitives::StateID;
 
 /// Whether the state is one of the two.

@@ -1,6 +1,7 @@
 //! A builder of NFAs, state by state.
+use crate::nfa::thompson::NFA;
 use crate::nfa::thompson::building::{Added, BuildError, patch, push_states};
-use crate::nfa::thompson::{Flags, NFA, NfaError, Transition};
+use crate::nfa::thompson::state::{Flags, NfaError, Transition};
 use crate::util::look::Look;
 use crate::util::primitives::{PatternID, StateID};
 use std::alloc::Global;

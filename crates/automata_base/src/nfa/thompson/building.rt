@@ -5,7 +5,7 @@ ghost use Rattle.automata_base.specs.Nfas.Drafts.{build_error};
 ghost use Rattle.automata_base.specs.declared.nfa.thompson.building.BuildError.TheVariants as failed;
 ghost use Rattle.automata_base.specs.Nfas.Shapes.{Shape, shape_of, shape_added, built_of, patched, union_of};
 
-use crate::nfa::thompson::{NfaError, State, Transition};
+use crate::nfa::thompson::state::{NfaError, State, Transition};
 use crate::util::look::Look;
 use crate::util::primitives::{PatternID, StateID};
 use std::alloc::{AllocError, AllocFailed, Global};

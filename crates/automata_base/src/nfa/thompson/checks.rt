@@ -9,12 +9,12 @@ ghost use Rattle.automata_base.specs.Nfas.Errors.{is_small, is_narrow, starts_be
 ghost use Rattle.std.specs.Prelude.{false, true, None, IsTrue, IsOk, IfOk, IfSome, OnSome};
 
 use crate::nfa::thompson::reading::add_look;
-use crate::nfa::thompson::{NfaError, State, Transition};
+use crate::nfa::thompson::state::{NfaError, State, Transition};
 use crate::util::look::LookSet;
 use crate::util::primitives::{PatternID, StateID};
 
 // 2^27: the most states, and the most patterns, of an NFA.
-pub(super) const MAX_STATES: usize = 134_217_728;
+pub const MAX_STATES: usize = 134_217_728;
 
 // 2^31: the most alternates, in all unions together.
 const MAX_ALTERNATES: usize = 2_147_483_648;

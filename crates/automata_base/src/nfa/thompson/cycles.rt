@@ -10,13 +10,13 @@ ghost use Rattle.automata_base.specs.Lists.{In};
 ghost use Rattle.automata_base.specs.Retraced.Reach.{AreLooksAcyclic, IsReached, look_target, node_in, targets_of};
 ghost use Rattle.automata_base.specs.Nfas.Errors.{states_below};
 
-use crate::nfa::thompson::State;
 use crate::nfa::thompson::finishing::finishing_order;
 use crate::nfa::thompson::reach::{Edges, add, walk_on};
 use crate::nfa::thompson::reading::look_target;
-use crate::util::determinize::sparse_set::SparseSet;
+use crate::nfa::thompson::state::State;
 use crate::util::look::LookSet;
 use crate::util::primitives::StateID;
+use crate::util::sparse_set::SparseSet;
 use std::alloc::{AllocError, Global};
 
 /// Adds the states that epsilon edges reach from the look's target, and returns whether the look itself is then a

@@ -9,11 +9,11 @@ ghost use Rattle.automata_base.specs.Retraced.Reach.{targets_of};
 ghost use Rattle.automata_base.specs.Nfas.Errors.{state_below, states_below};
 ghost use Rattle.automata_base.specs.Powersets.Closure.{children_at};
 
-use crate::nfa::thompson::State;
 use crate::nfa::thompson::reach::Edges;
 use crate::nfa::thompson::reading::epsilon_target;
-use crate::util::determinize::sparse_set::SparseSet;
+use crate::nfa::thompson::state::State;
 use crate::util::primitives::StateID;
+use crate::util::sparse_set::SparseSet;
 use std::alloc::{AllocError, Global};
 
 /// A state on the stack of the search, and the first of its edges that was not followed yet.

@@ -2,23 +2,23 @@
 ghost use Rattle.std.specs.Prelude.{◌≡◌, ◌<◌, ◌≤◌, ◌⊎◌, [], ◌∷◌, ℕ, length, IfOk, IfSome, IsTrue, OnOk, None, false};
 ghost use Rattle.automata_base.specs.Lists.{In};
 ghost use Rattle.automata_base.specs.Haystacks.LookSets.{truth_of};
-ghost use Rattle.automata_base.specs.Nfas.Accepted.{IsChecked};
 ghost use Rattle.automata_base.specs.Nfas.Nfa.{takes_at, takes_in};
 ghost use Rattle.automata_base.specs.Nfas.Nodes.{node_of, nfa_of, ranges_of};
 ghost use Rattle.automata_base.specs.Nfas.KeptClosure.{AddsEdges, AreRows, AreTargets, IsRestCode, IsKeptClosure};
 ghost use Rattle.automata_base.specs.Powersets.Closure.{Visits};
 ghost use Rattle.automata_base.specs.Powersets.Cuts.{has_match};
 
-use crate::nfa::thompson::reading::{pattern_of, state_at, target};
-use crate::nfa::thompson::turn::{no_lists, push_at};
-use crate::nfa::thompson::{NFA, State, Transition};
-use crate::util::determinize::closure::close_from;
-use crate::util::determinize::construct::has_some;
-use crate::util::determinize::lists::keep_states;
-use crate::util::determinize::sparse_set::SparseSet;
-use crate::util::determinize::write::push_ids;
+use crate::nfa::thompson::closure::close_from;
+use crate::nfa::thompson::ids_code::push_ids;
+use crate::nfa::thompson::keeping::keep_states;
+use crate::nfa::thompson::kept::KeptClosure;
+use crate::nfa::thompson::reading::{pattern_of, target};
+use crate::nfa::thompson::state::{State, Transition};
+use crate::nfa::thompson::{NFA, state_at};
+use crate::util::id_lists::{no_lists, push_at};
 use crate::util::look::LookSet;
 use crate::util::primitives::StateID;
+use crate::util::sparse_set::SparseSet;
 use std::alloc::{AllocError, Global};
 use std::sync::Arc;
 
@@ -29,23 +29,6 @@ const FEWEST: usize = 24;
 const EACH: usize = 8;
 
 const MORE: usize = 512;
-
-/// The closure of an NFA's root, which is the unanchored start, with what a step needs of it. Most powerset states end
-/// with this closure.
-#[derive(Drop)]
-pub(crate) struct KeptClosure {
-    /// The state whose closure this is.
-    pub root: StateID,
-    /// The states of the closure, in the order of preference.
-    pub set: SparseSet,
-    /// The states of the closure that powerset states keep. None of them is a look.
-    pub kept: Vec<StateID>,
-    /// The encoding of the kept states after the first.
-    pub code: Vec<u8>,
-    /// For each byte, the states that the kept states lead to on it, in order. There are no rows if a kept state is a
-    /// match state, or if it would take too long to make them.
-    pub rows: Vec<Vec<StateID>>,
-}
 
 impl KeptClosure {
     /// Returns the states that the kept states lead to on a byte, if there are rows.
@@ -90,7 +73,7 @@ fn code_of(alloc: Global, kept: &[StateID]) -> Result<Vec<u8>, AllocError>
 }
 
 /// Returns the lower of two numbers.
-pub(super) fn lower(a: usize, b: usize) -> usize
+pub fn lower(a: usize, b: usize) -> usize
     ensures first { result ≤ a }
     ensures second { result ≤ b }
 {
@@ -98,7 +81,7 @@ pub(super) fn lower(a: usize, b: usize) -> usize
 }
 
 /// Returns the higher of two numbers.
-pub(super) fn higher(a: usize, b: usize) -> usize
+pub fn higher(a: usize, b: usize) -> usize
     ensures first { a ≤ result }
     ensures second { b ≤ result }
     ensures one { (result ≡ a) ⊎ (result ≡ b) }
@@ -130,7 +113,7 @@ fn end_of(ranges: &[Transition]) -> usize
 }
 
 /// Returns a byte below which the state leads nowhere.
-pub(super) fn first_byte(state: &State) -> usize
+pub fn first_byte(state: &State) -> usize
     ensures { (u : ℕ) → u < result → takes_at (node_of state.now) u ≡ None }
 {
     match state {
@@ -141,7 +124,7 @@ pub(super) fn first_byte(state: &State) -> usize
 }
 
 /// Returns a byte from which on the state leads nowhere, or 256.
-pub(super) fn byte_end(state: &State) -> usize
+pub fn byte_end(state: &State) -> usize
     ensures few { result ≤ 256 }
     ensures none { (u : ℕ) → u < 256 → result ≤ u → takes_at (node_of state.now) u ≡ None }
 {
@@ -189,7 +172,7 @@ fn are_plain(nfa: &NFA, kept: &[StateID]) -> bool
 }
 
 /// Returns, for each byte, the states that these states lead to on it, in order.
-pub(super) fn rows_of(nfa: &NFA, kept: &[StateID]) -> Result<Vec<Vec<StateID>>, AllocError>
+pub fn rows_of(nfa: &NFA, kept: &[StateID]) -> Result<Vec<Vec<StateID>>, AllocError>
     requires below { (q : ℕ) → In q kept.now → q < length nfa.now.states }
     requires plain { has_match (nfa_of nfa.now) kept.now ≡ false }
     ensures { IfOk result (λ rows. AreRows (nfa_of nfa.now) kept.now rows.items) }
@@ -226,7 +209,7 @@ fn with_kept(
     let alloc = nfa.alloc();
     let mut kept = Vec::with_capacity(alloc, set.as_slice().len())?;
     let looks = keep_states(nfa, set.as_slice(), &mut kept);
-    if has_some(looks) {
+    if !looks.is_empty() {
         return Ok(None);
     }
     let code = code_of(alloc, kept.as_slice())?;

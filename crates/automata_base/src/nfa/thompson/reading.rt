@@ -1,35 +1,16 @@
 //! The parts of a single NFA state: its look, its pattern, and its targets.
-ghost use Rattle.std.specs.Prelude.{◌≡◌, ◌<◌, ◌||◌, ◌&&◌, eqb, Some, slice_get};
-ghost use Rattle.std.specs.Prelude.{None, length, slice_get};
-ghost use Rattle.automata_base.specs.Nfas.Accepted.{IsChecked};
+ghost use Rattle.std.specs.Prelude.{◌≡◌, ◌<◌, ◌||◌, ◌&&◌, eqb, Some, slice_get, None, ◌⊎◌, ◌^◌};
 ghost use Rattle.automata_base.specs.Paths.Paths.{all_true};
 ghost use Rattle.automata_base.specs.Powersets.Closure.{children_at};
-ghost use Rattle.std.specs.Prelude.{◌⊎◌, ◌^◌};
-ghost use Rattle.automata_base.specs.Nfas.Nfa.{stays_at, splits_at, accepts_at, takes_at, looks_at};
-ghost use Rattle.automata_base.specs.Haystacks.Looks.{look_index};
+ghost use Rattle.automata_base.specs.Nfas.Nfa.{stays_at, splits_at, accepts_at, takes_at, looks_at, takes_in};
+ghost use Rattle.automata_base.specs.Haystacks.Looks.{look_index, Look, within};
 ghost use Rattle.automata_base.specs.Nfas.Nodes.{node_of, ranges_of, dense_from};
 ghost use Rattle.automata_base.specs.Haystacks.LookSets.{truth_of};
-ghost use Rattle.automata_base.specs.Haystacks.Looks.{Look};
-ghost use Rattle.automata_base.specs.Nfas.Nfa.{takes_in};
-ghost use Rattle.automata_base.specs.Haystacks.Looks.{within};
 ghost use Rattle.automata_base.specs.Retraced.Reach.{look_target};
 
-use crate::nfa::thompson::{NFA, State, Transition};
+use crate::nfa::thompson::state::{State, Transition};
 use crate::util::look::LookSet;
 use crate::util::primitives::{PatternID, StateID};
-use crate::util::search::MatchKind;
-
-/// Returns the state with this ID, which must be below the number of states. A loop gets `states` once, before it
-/// begins, so that it reads each state with one load.
-pub fn state_at<'a>(nfa: &NFA, states: &'a [State], id: StateID) -> &'a State
-    requires states { states.now ≡ nfa.now.states }
-    requires id { id < length states.now }
-    ensures same { slice_get nfa.now.states id ≡ Some result.now }
-    ensures checked { IsChecked nfa.now }
-{
-    let _states = nfa.states();
-    &states[id.as_usize()]
-}
 
 /// Whether powerset states keep the state. `keeps_unions` says whether they keep unions.
 pub fn is_kept(state: &State, keeps_unions: bool) -> bool

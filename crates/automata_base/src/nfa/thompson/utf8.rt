@@ -12,9 +12,9 @@ ghost use Rattle.automata_base.specs.Nfas.Errors.{transitions_below, state_below
 ghost use Rattle.automata_base.specs.Powersets.Closure.{children_at};
 
 use crate::nfa::thompson::reach::{add, is_match, member};
-use crate::nfa::thompson::{State, Transition};
-use crate::util::determinize::sparse_set::SparseSet;
+use crate::nfa::thompson::state::{State, Transition};
 use crate::util::primitives::StateID;
+use crate::util::sparse_set::SparseSet;
 use std::alloc::{AllocError, Global};
 
 /// The number of states of a decoder. State 0 is between two characters, and state 1 has failed.

@@ -1,6 +1,6 @@
 use Rattle.std.proofs.Common.{subst}
 use Rattle.automata_hybrid.proofs.Words.{WalkLiesWithin, WalksAreReported}
-use Rattle.automata_base.specs.Laws.Walks.{AllPairsAreReported}
+use Rattle.automata_determinize.specs.Laws.Walks.{AllPairsAreReported}
 use Rattle.automata_hybrid.proofs.Walks.SetsByPaths.{sets_have_matching}
 use Rattle.automata_hybrid.proofs.laws.sets_have_matching.Goals as goal
 

@@ -6,7 +6,7 @@ use Rattle.automata_hybrid.specs.declared.cache.row.Row.{Row}
 use Rattle.automata_hybrid.specs.Cache.Table.{Names, Rows, id_of, Leads, fresh, row_of}
 use Rattle.automata_hybrid.specs.Private.Cache.Stores.{KeepsStarts}
 use Rattle.automata_hybrid.specs.Cache.Ids.{unknown_id, fixed_from}
-use Rattle.automata_base.specs.Retraced.Steps.{start_state_of}
+use Rattle.automata_determinize.specs.Retraced.Steps.{start_state_of}
 use Rattle.automata_base.specs.declared.util.search.Anchored.{Anchored}
 use Rattle.automata_hybrid.specs.Machines.StartSlots.{slot_behind}
 use Rattle.automata_hybrid.specs.Private.Cache.Table.{with_row_in_store}

@@ -5,16 +5,16 @@ use Rattle.std.specs.HashMap.{HashMap, get}
 use Rattle.std.specs.declared.hash.FoldHasher.{FoldHasher}
 use Rattle.std.specs.declared.hash.BuildHasherDefault.{BuildHasherDefault}
 use Rattle.automata_base.specs.Powersets.Powerset.{Powerset, cost, dead}
-use Rattle.automata_base.specs.Powersets.Equal.{powerset_eq}
+use Rattle.automata_determinize.specs.Powersets.Equal.{powerset_eq}
 use Rattle.automata_hybrid.specs.declared.cache.row.Row.{Row}
 use Rattle.automata_hybrid.specs.Private.Machines.Machine.{IsTemplate}
 use Rattle.automata_hybrid.specs.Machines.Reachable.{IsStateOf}
 use Rattle.automata_hybrid.specs.Cache.Table.{HasItsMatchTag, Rows, id_of, row_cost, Names, row_id, Leads, fixed_rows}
 use Rattle.automata_hybrid.specs.Cache.Table.{IsRowState, IsRowId, cell_at}
-use Rattle.automata_base.specs.Powersets.Passes.{IsUnit}
+use Rattle.automata_determinize.specs.Powersets.Passes.{IsUnit}
 use Rattle.automata_hybrid.specs.Cache.Ids.{quit_id, unknown_id, fixed_from, offset_limit}
 use Rattle.automata_hybrid.specs.Machines.Machine.{unit_class}
-use Rattle.automata_base.specs.Retraced.Steps.{successor}
+use Rattle.automata_determinize.specs.Retraced.Steps.{successor}
 use Rattle.automata_config.specs.Options.{match_kind_of}
 use Rattle.automata_hybrid.specs.Machines.OwnStates.{IsOwn}
 

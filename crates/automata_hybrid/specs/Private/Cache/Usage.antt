@@ -1,7 +1,8 @@
 -- The accounted bytes of a store, when a state fits, and when and how a store is cleared.
 use Rattle.std.specs.Prelude.{sum_by, ◌≡◌, ℕ, ◌+◌, ◌*◌, ◌^◌, ◌<◌, ◌≤◌, length, false, true, Bool, cond, Option, None}
 use Rattle.std.specs.Prelude.{Some, nat_lt}
-use Rattle.automata_base.specs.Powersets.Accounting.{minimum_capacity, cell_size, entry_size, fixed_rows_cost, row_size}
+use Rattle.automata_determinize.specs.Powersets.Accounting.{minimum_capacity, cell_size, entry_size, fixed_rows_cost}
+use Rattle.automata_determinize.specs.Powersets.Accounting.{row_size}
 use Rattle.automata_base.specs.Powersets.Powerset.{Powerset, cost}
 use Rattle.automata_hybrid.specs.declared.cache.settings.Settings.{Settings}
 use Rattle.automata_hybrid.specs.Cache.Ids.{offset_limit}

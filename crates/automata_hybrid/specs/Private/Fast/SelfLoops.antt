@@ -4,7 +4,7 @@ use Rattle.automata_base.specs.ByteClasses.Classes.{class_in, is_quit}
 use Rattle.automata_base.specs.Haystacks.Input.{Input}
 use Rattle.automata_base.specs.Paths.Paths.{next}
 use Rattle.automata_base.specs.Powersets.Powerset.{Powerset}
-use Rattle.automata_base.specs.Retraced.Steps.{successor}
+use Rattle.automata_determinize.specs.Retraced.Steps.{successor}
 use Rattle.automata_base.specs.declared.util.search.Direction.{Direction}
 use Rattle.automata_base.specs.declared.util.search.Direction.TheVariants.{Forward, Backward}
 use Rattle.automata_config.specs.Options.{match_kind_of}

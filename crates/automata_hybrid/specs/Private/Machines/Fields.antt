@@ -1,6 +1,6 @@
 -- What contracts see of a DFA, from its fields.
 use Rattle.automata_base.specs.ByteClasses.Classes.{stride_of}
-use Rattle.automata_base.specs.Powersets.Accounting.{fixed_cost, max_cost, start_slots}
+use Rattle.automata_determinize.specs.Powersets.Accounting.{fixed_cost, max_cost, start_slots}
 use Rattle.automata_config.specs.Options.{starts_for_each_pattern_of}
 use Rattle.automata_hybrid.specs.Machines.Machine.{Machine, marked}
 use Rattle.automata_hybrid.specs.declared.dfa.DFA.TheInside.{Inside}

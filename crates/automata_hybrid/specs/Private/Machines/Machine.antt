@@ -2,9 +2,9 @@
 use Rattle.std.specs.Prelude.{ℕ, ◌+◌, ◌*◌, ◌<◌, ◌≤◌, List, true, false, Option, slice_index, length, ◌≡◌, ◌⊎◌}
 use Rattle.automata_base.specs.Powersets.Powerset.{Powerset}
 use Rattle.automata_base.specs.ByteClasses.Classes.{class_in, eoi_class, is_quit, stride_for}
-use Rattle.automata_base.specs.Retraced.Steps.{successor}
-use Rattle.automata_base.specs.Powersets.Accounting.{minimum_capacity}
-use Rattle.automata_base.specs.Powersets.Passes.{IsUnit}
+use Rattle.automata_determinize.specs.Retraced.Steps.{successor}
+use Rattle.automata_determinize.specs.Powersets.Accounting.{minimum_capacity}
+use Rattle.automata_determinize.specs.Powersets.Passes.{IsUnit}
 use Rattle.automata_hybrid.specs.Machines.OwnStates.{IsOwn}
 use Rattle.automata_config.specs.Options.{match_kind_of}
 use Rattle.automata_hybrid.specs.Cache.Ids.{quit_id, unknown_id, offset_limit}

@@ -1,7 +1,7 @@
 -- Units that a search reads from an ID: the ID that reading one returns, and its effect on what the cache knows.
 use Rattle.std.specs.Prelude.{ℕ, ◌≡◌, false, true, Option, Some, Result, Ok, Err}
 use Rattle.automata_base.specs.Powersets.Powerset.{Powerset, dead}
-use Rattle.automata_base.specs.Retraced.Steps.{successor}
+use Rattle.automata_determinize.specs.Retraced.Steps.{successor}
 use Rattle.automata_config.specs.Options.{match_kind_of}
 use Rattle.automata_config.specs.declared.error.SearchError.{SearchError}
 use Rattle.automata_hybrid.specs.Cache.Caches.{CacheView}

@@ -31,11 +31,11 @@ use crate::search::direction::{byte_at, byte_offset, last_place, place_offset, s
 use crate::search::fast::follow::next_known;
 use crate::search::fast::run::{Place, follow_with_leaps, near_end, run_to_match};
 use crate::search::{found_at, read, read_met, step_error};
-use automata_base::laws::reported_is_right;
 use automata_base::util::primitives::PatternID;
 use automata_base::util::search::{Direction, HalfMatch, Input, MatchError, MatchErrorKind};
 use automata_base::util::start;
 use automata_config::error::{SearchError, StartError, StepError};
+use automata_determinize::laws::reported_is_right;
 use std::fmt;
 use std::marker::Model;
 use thiserror::Error;

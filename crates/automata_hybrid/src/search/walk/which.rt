@@ -11,10 +11,10 @@ use crate::cache::Cache;
 use crate::dfa::DFA;
 use crate::search::walk::overlapping::report_next;
 use crate::search::walk::{Cursor, Held};
-use automata_base::laws::walk_is_right;
 use automata_base::util::pattern_set::PatternSet;
 use automata_base::util::search::{Direction, Input};
 use automata_config::error::SearchError;
+use automata_determinize::laws::walk_is_right;
 
 impl DFA {
     /// Adds the patterns of all overlapping matches to a set; patterns that are not below its capacity are ignored.

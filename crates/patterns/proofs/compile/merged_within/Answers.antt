@@ -1,5 +1,5 @@
 use Rattle.std.proofs.Common.{inr, refl}
-use Rattle.automata_base.proofs.Nfas.Standing.{merged_self}
+use Rattle.automata_transform.proofs.Nfas.Standing.{merged_self}
 use Rattle.patterns.proofs.compile.merged_within.Goals as goal
 
 pub returns-in-Ok-2 : goal.returns-in-Ok-2

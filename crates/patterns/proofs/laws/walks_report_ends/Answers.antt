@@ -1,5 +1,5 @@
 use Rattle.std.proofs.Common.{subst}
-use Rattle.automata_base.specs.Laws.Walks.{AllPairsAreReported}
+use Rattle.automata_determinize.specs.Laws.Walks.{AllPairsAreReported}
 use Rattle.automata_base.specs.Nfas.Nodes.{Automaton}
 use Rattle.patterns.proofs.Sets.{ends_meant}
 use Rattle.patterns.proofs.laws.walks_report_ends.Goals as goal

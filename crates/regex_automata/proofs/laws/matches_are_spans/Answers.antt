@@ -1,5 +1,5 @@
 use Rattle.std.proofs.Common.{◌∙◌, ap, subst}
-use Rattle.automata_base.specs.Answers.OfPasses.{ReportedEndsAreRight, ReportedIsRight}
+use Rattle.automata_determinize.specs.Answers.OfPasses.{ReportedEndsAreRight, ReportedIsRight}
 use Rattle.automata_base.specs.Nfas.Nodes.{Automaton}
 use Rattle.automata_hybrid.specs.Machines.Machine.{Machine}
 use Rattle.regex_automata.proofs.Spans.OfPaths.{loops_collect, spans_of_paths}

@@ -1,7 +1,7 @@
 ghost use Rattle.std.specs.Prelude.{◌≡◌, ◌↔◌, IfOk, IfErr, IsTrue, length, Err, Some, false};
 ghost use Rattle.automata_base.specs.Nfas.Engines.{engine_of};
 ghost use Rattle.automata_base.specs.Nfas.Getters.{SkipsLazily};
-ghost use Rattle.automata_base.specs.Nfas.Mirrors.{IsReversalOf};
+ghost use Rattle.automata_transform.specs.Nfas.Mirrors.{IsReversalOf};
 ghost use Rattle.automata_base.specs.declared.util.search.Direction.TheVariants.{Forward};
 ghost use Rattle.automata_base.specs.Answers.TruePairs.{IsTruePair, KeepsUtf8};
 ghost use Rattle.automata_config.specs.Options.{Options, unset, overwritten};
@@ -14,9 +14,10 @@ ghost use Rattle.regex_automata.specs.declared.hybrid.regex.build.RegexBuildErro
 
 use crate::hybrid::regex::Regex;
 use crate::hybrid::{BuildError, dfa};
-use automata_base::nfa::thompson::{NFA, ReverseError};
+use automata_base::nfa::thompson::NFA;
 use automata_base::util::search::MatchKind;
 use automata_hybrid::dfa::DFA;
+use automata_transform::{ReverseError, reversed};
 use std::alloc::{AllocError, AllocFailed};
 use std::marker::Model;
 use thiserror::Error;
@@ -113,7 +114,7 @@ fn reverse_if(forward: &NFA, keeps: bool) -> Result<NFA, RegexBuildError>
     if !keeps {
         return Err(RegexBuildError::NotUtf8);
     }
-    match forward.reversed() {
+    match reversed(forward) {
         Ok(reverse) => Ok(reverse),
         Err(error) => Err(RegexBuildError::from(error)),
     }
@@ -219,7 +220,7 @@ impl Builder {
         self.build_both(forward, reverse)
     }
 
-    /// Builds a regex from one NFA. It searches backward with the reversed NFA (`NFA::reversed`).
+    /// Builds a regex from one NFA. It searches backward with the reversed NFA (`reversed`).
     ///
     /// It tests what the promise of spans needs: that the NFA skips lazily (`NFA::skips_lazily`), and that in UTF-8
     /// mode it keeps UTF-8 (`NFA::keeps_utf8`). If a cycle of epsilon transitions passes a look-around assertion, the

@@ -7,9 +7,9 @@ ghost use Rattle.regex_automata.specs.Spans.Runs.{IsTruthRun};
 ghost use Rattle.regex_automata.specs.Regexes.Caches.{AreCachesOf};
 
 use crate::hybrid::regex::{Cache, Regex};
-use automata_base::laws::reported_is_right;
 use automata_base::util::search::Input;
 use automata_config::error::SearchError;
+use automata_determinize::laws::reported_is_right;
 
 impl Regex {
     /// Returns the input that `is_match` searches. It is earliest, unless the first match may be skipped.

@@ -13,9 +13,9 @@ ghost use Rattle.regex_automata.specs.Regexes.Caches.{AreCachesOf};
 
 use crate::hybrid::dfa;
 use crate::hybrid::regex::{Cache, Regex};
-use automata_base::laws::{reported_is_right, start_is_right};
 use automata_base::util::search::{Anchored, HalfMatch, Input, Match, Span};
 use automata_config::error::SearchError;
+use automata_determinize::laws::{reported_is_right, start_is_right};
 
 /// Returns the input of the reverse search: from the base to the match's end, anchored and not earliest.
 fn backward<'h>(input: &Input<'h>, half: HalfMatch, base: usize) -> Input<'h>

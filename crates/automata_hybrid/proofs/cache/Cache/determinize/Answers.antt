@@ -2,8 +2,8 @@ use Rattle.std.proofs.Common.{◌≡◌, ◌≤◌, ◌∙◌, ap, subst, suc, s
 use Rattle.std.proofs.Math.Logic.{∥∥₁_map}
 use Rattle.automata_hybrid.proofs.Words.{Automaton, CacheView, cost, IsOwn, IsStateOf, Machine, match_kind_of, max_cost}
 use Rattle.automata_hybrid.proofs.Words.{Names, Powerset, successor}
-use Rattle.automata_base.specs.Paths.Starts.{IsOf, NeedsOwnLooks}
-use Rattle.automata_base.specs.Answers.Within.{ReportsOwn}
+use Rattle.automata_determinize.specs.Paths.Starts.{IsOf, NeedsOwnLooks}
+use Rattle.automata_determinize.specs.Answers.Within.{ReportsOwn}
 use Rattle.automata_hybrid.specs.Machines.Reachable.{IsReachableBy, OverUnit}
 use Rattle.automata_hybrid.specs.declared.cache.Cache.TheInside.{Inside}
 use Rattle.automata_hybrid.proofs.cache.Cache.determinize.Goals as goal

@@ -1,7 +1,7 @@
 use Rattle.std.proofs.Common.{◌≡◌, ◌<◌, ◌≤◌, ◌∙◌, ap, subst, sym}
 use Rattle.automata_hybrid.proofs.Words.{Automaton, cost, IsOwn, max_cost, start_state_of}
-use Rattle.automata_base.specs.Paths.Starts.{IsOf, NeedsOwnLooks}
-use Rattle.automata_base.specs.Answers.Within.{ReportsOwn}
+use Rattle.automata_determinize.specs.Paths.Starts.{IsOf, NeedsOwnLooks}
+use Rattle.automata_determinize.specs.Answers.Within.{ReportsOwn}
 use Rattle.automata_hybrid.specs.Machines.Reachable.{AtStart, IsReachableBy}
 use Rattle.automata_hybrid.proofs.cache.Cache.determinize_start.Goals as goal
 

@@ -1,5 +1,5 @@
 use Rattle.std.proofs.Common.{◌∙◌, ap, is_some, subst}
-use Rattle.automata_base.specs.Laws.Walks.{AllPairsAreReported, WalksAreReported}
+use Rattle.automata_determinize.specs.Laws.Walks.{AllPairsAreReported, WalksAreReported}
 use Rattle.automata_base.specs.Nfas.Nodes.{Automaton}
 use Rattle.regex_automata.specs.Promises.{Input, IsHaystack}
 use Rattle.patterns.proofs.Sets.{any_means, first_match}

@@ -1,13 +1,13 @@
 use Rattle.std.proofs.Common.{◌∙◌, ap, arith, subst}
 use Rattle.automata_base.specs.Nfas.Nodes.{Automaton}
 use Rattle.automata_base.specs.Answers.Spans.{Found, IsSpan, TryFinds, from}
-use Rattle.automata_base.specs.Answers.OfPasses.{ReportedEndsAreRight, ReportedIsRight}
+use Rattle.automata_determinize.specs.Answers.OfPasses.{ReportedEndsAreRight, ReportedIsRight}
 use Rattle.automata_hybrid.specs.Machines.Machine.{Machine}
 use Rattle.regex_automata.specs.Spans.Outcomes.{FindsMatch}
 use Rattle.regex_automata.specs.Regexes.SoundPairs.{IsSoundPair, forward_engine, reverse_engine}
 use Rattle.regex_automata.proofs.Spans.Lists.{collected_begins, collected_right}
 use Rattle.regex_automata.proofs.Spans.ByPaths.{match_right, outcome_right}
-use Rattle.automata_base.proofs.Answers.Rising.{first_few, first_rise}
+use Rattle.automata_determinize.proofs.Answers.Rising.{first_few, first_rise}
 use Rattle.regex_automata.proofs.Spans.Ends.{collected_first, find_lies}
 use Rattle.regex_automata.proofs.replay.iteration.matches_upto.Goals as goal
 

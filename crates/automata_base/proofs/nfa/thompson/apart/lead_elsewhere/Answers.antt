@@ -1,6 +1,6 @@
 use Rattle.std.proofs.Common.{sym, ◌∙◌, refl, ap, not}
 use Rattle.automata_base.specs.Retraced.Apart.{is_either, lead_elsewhere}
-use Rattle.automata_base.specs.declared.nfa.thompson.Transition.{Transition}
+use Rattle.automata_base.specs.declared.nfa.thompson.state.Transition.{Transition}
 use Rattle.automata_base.proofs.Powersets.ListTests.{test_fails, test_next}
 use Rattle.automata_base.proofs.nfa.thompson.apart.lead_elsewhere.Goals as goal
 

@@ -1,6 +1,6 @@
 use Rattle.std.proofs.Common.{sym, ◌∙◌, refl, ltb}
 use Rattle.automata_base.specs.Nfas.Errors.{transitions_below}
-use Rattle.automata_base.specs.declared.nfa.thompson.Transition.{Transition}
+use Rattle.automata_base.specs.declared.nfa.thompson.state.Transition.{Transition}
 use Rattle.automata_base.proofs.Powersets.ListTests.{test_fails, test_next}
 use Rattle.automata_base.proofs.nfa.thompson.checks.targets_below.Goals as goal
 

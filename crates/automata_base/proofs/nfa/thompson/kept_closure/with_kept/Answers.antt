@@ -1,4 +1,5 @@
-use Rattle.std.proofs.Common.{ℕ, List, ◌≡◌, ◌<◌, ◌≤◌, [], ◌∷◌, length, eqb, false, refl, sym, ap, ◌∙◌, subst}
+use Rattle.std.proofs.Common.{ℕ, List, ◌≡◌, ◌<◌, ◌≤◌, [], ◌∷◌, length, eqb, false, sym, ap, ◌∙◌, subst}
+use Rattle.std.proofs.lemmas.Bool.{eqb-true}
 use Rattle.automata_base.specs.Haystacks.LookSets.{truth_of}
 use Rattle.automata_base.specs.Haystacks.Looks.{Look, look_index}
 use Rattle.automata_base.specs.Lists.{In, pick}
@@ -6,6 +7,7 @@ use Rattle.automata_base.specs.Nfas.Nfa.{keep}
 use Rattle.automata_base.specs.Retraced.Computed.{any_state}
 use Rattle.automata_base.specs.Nfas.Nodes.{nfa_of}
 use Rattle.automata_base.specs.Nfas.KeptClosure.{AreRows, IsRestCode, IsKeptClosure}
+use Rattle.automata_base.proofs.Paths.LookSets.{truth_of_none}
 use Rattle.automata_base.proofs.Paths.Loops.{visits_alike}
 use Rattle.automata_base.proofs.Powersets.Keeping.{any_kept, kept_in}
 use Rattle.automata_base.proofs.Powersets.KeptClosures.{plain}
@@ -32,8 +34,9 @@ returns c =
     let kept = c.keep_states-looks.new.kept.items in
     let items = c.args.set.items in
     let same = c.as_slice-2.ensures.items in
+    let none = eqb-true c.keep_states-looks.result 0 (sym c.is_empty.ensures ∙ c.if-not-is_empty.false) in
     let looks : (other : Look) → any_state (λ look. eqb (look_index look) (look_index other)) n kept ≡ false = λ other.
-    sym (c.keep_states-looks.ensures.looks other) ∙ c.if-has_some.ensures.none refl other in
+    sym (c.keep_states-looks.ensures.looks other) ∙ (ap (λ z. truth_of z other) none ∙ truth_of_none other) in
     subst (IsKeptClosure a) (sym c.in_ok-closure.ensures.ok)
     (record {
       closure = record {

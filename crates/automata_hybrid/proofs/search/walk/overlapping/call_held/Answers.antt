@@ -1,7 +1,7 @@
 use Rattle.std.proofs.Common.{suc, ◌∙◌, ap, subst, sym}
 use Rattle.automata_hybrid.proofs.Words.{Direction, Err, Known, known_of, match_kind_of, Ok, Result, SearchError}
 use Rattle.automata_hybrid.proofs.Words.{WalkLiesWithin, WalksAreReported}
-use Rattle.automata_base.specs.Laws.Walks.{OverlappingIsReported}
+use Rattle.automata_determinize.specs.Laws.Walks.{OverlappingIsReported}
 use Rattle.automata_hybrid.specs.Walks.State.{States, Walk}
 use Rattle.automata_hybrid.specs.Known.Walks.{CallFails}
 use Rattle.automata_hybrid.specs.Private.Walks.State.{IsHeldItself}

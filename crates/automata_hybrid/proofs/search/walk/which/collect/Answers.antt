@@ -4,7 +4,7 @@ use Rattle.automata_hybrid.proofs.Words.{Err, Forward, Input, Known, known_of, M
 use Rattle.automata_hybrid.proofs.Words.{Result, result_err, SearchError, WalksAreReported}
 use Rattle.std.specs.Prelude.{IsTrue}
 use Rattle.automata_base.specs.Answers.Answers.{ArePatterns}
-use Rattle.automata_base.specs.Laws.Walks.{WalkIsRight}
+use Rattle.automata_determinize.specs.Laws.Walks.{WalkIsRight}
 use Rattle.automata_hybrid.specs.Known.Walks.{HaveCalled, IsSetRun, CallFails, OneMore}
 use Rattle.automata_hybrid.specs.Private.Walks.Contracts.{IsSetReported}
 use Rattle.automata_hybrid.specs.Walks.Progress.{HasNoneLeft}

@@ -3,7 +3,7 @@ use Rattle.std.proofs.lemmas.Result.{IfOk-weaker}
 use Rattle.std.specs.Result.{result_err}
 use Rattle.automata_base.specs.Nfas.Nodes.{Automaton}
 use Rattle.automata_base.specs.Answers.Spans.{Found}
-use Rattle.automata_base.specs.Answers.OfPasses.{ReportedEndsAreRight, ReportedIsRight}
+use Rattle.automata_determinize.specs.Answers.OfPasses.{ReportedEndsAreRight, ReportedIsRight}
 use Rattle.regex_automata.proofs.Replies.Contracts.{span_returned}
 use Rattle.regex_automata.proofs.Spans.ByPaths.{match_right, outcome_right, refusals}
 use Rattle.regex_automata.proofs.Spans.Follows.{span_refused}

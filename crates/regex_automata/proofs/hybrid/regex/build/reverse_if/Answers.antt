@@ -1,11 +1,11 @@
 use Rattle.std.proofs.Common.{◌≡◌, ◌∙◌, refl, sym, ap, subst}
 use Rattle.std.specs.Prelude.{Err}
 use Rattle.std.proofs.lemmas.Bool.{false≢true}
-use Rattle.automata_base.specs.Nfas.Mirrors.{BeginsAlike}
+use Rattle.automata_transform.specs.Nfas.Mirrors.{BeginsAlike}
 use Rattle.automata_base.specs.Nfas.Nodes.{Automaton}
-use Rattle.automata_base.specs.Nfas.ReversedSizes.{MayBeTooLarge}
-use Rattle.automata_base.specs.declared.nfa.thompson.ReverseError.{ReverseError}
-use Rattle.automata_base.specs.declared.nfa.thompson.ReverseError.TheVariants.{OutOfMemory, Starts, TooLarge}
+use Rattle.automata_transform.specs.Nfas.ReversedSizes.{MayBeTooLarge}
+use Rattle.automata_transform.specs.declared.reverse.ReverseError.{ReverseError}
+use Rattle.automata_transform.specs.declared.reverse.ReverseError.TheVariants.{OutOfMemory, Starts, TooLarge}
 use Rattle.automata_config.specs.Options.{Options}
 use Rattle.regex_automata.specs.Regexes.Builds.{IsBuildError, PassesTwo, reverse_build_error}
 use Rattle.regex_automata.proofs.hybrid.regex.build.reverse_if.Goals as goal

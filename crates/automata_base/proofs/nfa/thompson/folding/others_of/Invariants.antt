@@ -1,6 +1,0 @@
-use Rattle.std.proofs.Common.{take}
-use Rattle.automata_base.proofs.Nfas.Folds.Parts.{AreOthers}
-use Rattle.automata_base.proofs.nfa.thompson.folding.others_of.Given as goal
-
-abbrev pub invariant-loop-id : goal.invariant-loop-id
-invariant-loop-id l = AreOthers l.states (take l.id-index l.ids) l.others.items

@@ -1,7 +1,0 @@
-use Rattle.std.proofs.Common.{ℕ, ◌<◌}
-use Rattle.automata_base.specs.Retraced.ReversedEdges.{lists_of}
-use Rattle.automata_base.proofs.Nfas.Standing.{IsFurther}
-use Rattle.automata_base.proofs.nfa.thompson.standing.are_further.Given as goal
-
-abbrev pub invariant-loop-k : goal.invariant-loop-k
-invariant-loop-k l = (k : ℕ) → k < l.k → IsFurther l.nfa l.merged (lists_of l.lists) k

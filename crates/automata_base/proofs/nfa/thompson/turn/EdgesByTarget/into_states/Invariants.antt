@@ -1,5 +1,0 @@
-use Rattle.automata_base.specs.Retraced.ReversedEdges.{lists_of, AreHeads}
-use Rattle.automata_base.proofs.nfa.thompson.turn.EdgesByTarget.into_states.Given as goal
-
-abbrev pub invariant-loop-alternates : goal.invariant-loop-alternates
-invariant-loop-alternates l = AreHeads l.first l.helpers.items (lists_of l.yielded) l.states.items

@@ -1,7 +1,0 @@
-use Rattle.automata_base.specs.Haystacks.LookSets.{truth_of}
-use Rattle.automata_base.proofs.Powersets.LookBits.{Unnews}
-use Rattle.automata_base.proofs.util.determinize.deciding.finds_news.Given as goal
-
-abbrev pub invariant-loop-index : goal.invariant-loop-index
-invariant-loop-index l =
-    Unnews (truth_of l.needed) (truth_of l.truth) (truth_of l.known) l.index

@@ -1,9 +1,0 @@
-use Rattle.std.proofs.Common.{false}
-use Rattle.automata_base.specs.Retraced.Computed.{known_looks}
-use Rattle.automata_base.specs.Nfas.Nodes.{nfa_of}
-use Rattle.automata_base.proofs.Powersets.LookBits.{Sofar}
-use Rattle.automata_base.proofs.util.determinize.deciding.known_behind.Given as goal
-
-abbrev pub invariant-loop-index : goal.invariant-loop-index
-invariant-loop-index l =
-    Sofar (λ look. false) (known_looks (nfa_of l.nfa) l.prev) l.set l.index

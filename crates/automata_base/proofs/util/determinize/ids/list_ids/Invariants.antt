@@ -1,8 +1,0 @@
-use Rattle.std.proofs.Common.{◌≡◌, ◌≤◌, ◌+◌, ◌++◌, length, vec_len, vec_capacity}
-use Rattle.automata_base.proofs.util.determinize.ids.list_ids.Given as goal
-
-abbrev pub invariant-loop-id : goal.invariant-loop-id
-invariant-loop-id l = record {
-  items : l.out.items ++ l.id-iterator ≡ l.fn.ids;
-  room : vec_len l.out + length l.id-iterator ≤ vec_capacity l.out;
-}

@@ -1,7 +1,0 @@
-use Rattle.std.proofs.Common.{ap}
-use Rattle.automata_base.specs.Powersets.Code.{code}
-use Rattle.automata_base.proofs.Powersets.Code.Inverse.{same_from_code}
-use Rattle.automata_base.proofs.util.determinize.laws.one_code.Goals as goal
-
-pub returns : goal.returns
-returns c = λ a b p q. (same_from_code a b p q, ap code)

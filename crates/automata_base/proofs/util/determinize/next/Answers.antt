@@ -1,8 +1,0 @@
-use Rattle.std.proofs.Common.{sym, subst}
-use Rattle.automata_base.specs.Powersets.Results.{IsStepMade}
-use Rattle.automata_base.proofs.util.determinize.next.Goals as goal
-
-pub returns-clause-made : goal.returns-clause-made
-returns-clause-made c =
-    subst (IsStepMade c.args.nfa.now c.args.kind c.args.from.now c.args.unit) (sym c.in_ok-state.ensures)
-    c.in_ok-key.ensures.made

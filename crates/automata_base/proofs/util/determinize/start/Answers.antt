@@ -1,7 +1,0 @@
-use Rattle.std.proofs.Common.{sym, subst}
-use Rattle.automata_base.specs.Powersets.Results.{IsStartMade}
-use Rattle.automata_base.proofs.util.determinize.start.Goals as goal
-
-pub returns-clause-made : goal.returns-clause-made
-returns-clause-made c =
-    subst (IsStartMade c.args.nfa.now c.args.mode c.args.prev) (sym c.in_ok-state.ensures) c.in_ok-key.ensures.made

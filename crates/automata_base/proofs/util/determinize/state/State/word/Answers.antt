@@ -1,7 +1,0 @@
-use Rattle.std.proofs.Common.{◌∙◌, ap}
-use Rattle.automata_base.specs.Powersets.Powerset.{Powerset}
-use Rattle.automata_base.specs.Powersets.Code.{is_set}
-use Rattle.automata_base.proofs.util.determinize.state.State.word.Goals as goal
-
-pub returns : goal.returns
-returns c = ap (is_set 4) c.as_slice.ensures.value ∙ ap (λ (q : Powerset). q.word) c.self.view_is

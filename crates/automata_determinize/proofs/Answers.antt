@@ -1,0 +1,10 @@
+pub mod Within
+pub mod Backs
+pub mod Chosen
+pub mod Empties
+pub mod Right
+pub mod Rising
+pub mod Starts
+pub mod Total
+pub mod Turning
+pub mod Units

@@ -1,0 +1,3 @@
+pub mod Powersets
+pub mod Answers
+pub mod Paths

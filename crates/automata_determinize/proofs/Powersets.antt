@@ -1,0 +1,16 @@
+pub mod Code
+pub mod Alike
+pub mod AlikeBytes
+pub mod AlikeClasses
+pub mod AlikeUnits
+pub mod LookBits
+pub mod Endings
+pub mod Keeping
+pub mod Made
+pub mod Making
+pub mod Stepping
+pub mod PassReports
+pub mod ReportsAreRight
+pub mod ReportedPairs
+pub mod WalkReports
+pub mod Marks

@@ -1,0 +1,4 @@
+pub mod Distinct
+pub mod Groups
+pub mod Inverse
+pub mod Reading

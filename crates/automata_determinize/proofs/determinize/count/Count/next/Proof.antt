@@ -1,0 +1,44 @@
+-- `next` returns another zero-sized value, whose ghost field is one more.
+use Rattle.std.proofs.Common.{[], ◌∷◌, refl, ◌+◌}
+use Rattle.std.proofs.raw_atomic.Walks.{proved}
+use mir.Val.{Val, vstruct, vcons, vnil}
+use base.Fml.{Fml, ftrue}
+use types.Kit.{‵, raw, ◌$◌, ◌∵◌, !, qed, keep, join, fjoin, use0, suffices, done}
+use types.Run.{no_more, and_then, returns, enter}
+use types.Part.{agg}
+use types.ByLocal.{alloc_all, pass_all, free_all, look_at, get, sets}
+use denote.Exit.{yes}
+use denote.Shadow.{makes_shadow}
+use denote.Signature.{type_at, plain}
+use denote.Steps.{nothing}
+use denote.Triple.Entry.{on_entry, Res}
+use denote.Triple.Walked.{says, Stays, stay_dropped, Goes-dropped, walk_of, ends_at}
+use Rattle.automata_determinize.specs.contracts.determinize.count.Count.{the_row as R}
+use Rattle.automata_determinize.specs.contracts.determinize.count.Count.next as f
+use Rattle.automata_determinize.proofs.determinize.count.Count.TheLaws.{lowers}
+use Rattle.automata_determinize.proofs.determinize.count.Count.next.Statement.{statement}
+use Rattle.automata_determinize.proofs.determinize.count.Count.next.Code as code
+
+abbrev stayed : Stays f.ended.signature.params f.ended.kept
+stayed = (stay_dropped (plain (λ _. R)) yes, tt)
+
+pub next_spec : {M : Type 1} → statement M
+next_spec 𝓤 𝓛 𝓜 𝓡 wired =
+    let c = f.clauses 𝓛 𝓜.mem 𝓡.returns in let W = walk_of 𝓛 f.ended stayed c in
+    let v : Val = vstruct (vcons (vstruct vnil) vnil) in
+    proved 𝓛 f.ended stayed c 𝓜 𝓡 (Goes-dropped 𝓛 0 (plain (λ _. R)) yes (λ κs x f. refl), tt) f.Key.name code.function
+    (code.unfolded 𝓤 𝓛.H 𝓜 𝓡 wired)
+    (λ κs. ((λ x. v ∷ []), tt)) (λ κs. ((λ x vs is. lowers.val_is x vs is), tt)) (λ κs qs bounds a _ are.
+    let y : W.Ghost = ((κs, qs, bounds, a, (v ∷ [], tt)), tt) in
+    let r : Res f.ended.signature κs = record { marker = record {}; number = a.0.number + 1 } in
+    let O : Fml = (type_at f.ended.signature.result κs).own_val r (v ∷ []) in
+    qed 𝓛 (raw (on_entry 𝓛 f.signature κs qs a (v ∷ [], tt)) ∷ ‵ ftrue ∷ []) ∵ keep ! [] $
+    enter ! _ _ _ _ _ $ alloc_all ! (λ l. pass_all ! refl ((tt, (tt, tt)), tt) $
+    sets ! (agg ! (no_more !)) refl (tt, tt) $ sets ! (agg ! (and_then ! (get ! refl) (no_more !))) refl (tt, (tt, tt))
+    $
+    returns ! (look_at ! 0 refl) $ free_all ! refl $
+    use0 𝓛 (‵ O)
+    (makes_shadow 𝓛 O ((λ vss. (tt, ((λ uss. (tt, tt)), tt))), tt)
+    (((vstruct vnil ∷ [], tt), (refl, ((tt, (refl, tt)), tt))), tt)) $
+    suffices ! _ (ends_at 𝓛 f.ended stayed c y v r (tt, tt) (tt, tt)) $ says ! refl $
+    nothing ! $ nothing ! $ fjoin ! $ join ! $ nothing ! $ join ! $ done !))

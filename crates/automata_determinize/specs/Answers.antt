@@ -1,0 +1,2 @@
+pub mod OfPasses
+pub mod Within

@@ -1,0 +1,4 @@
+pub mod LateIsRight
+pub mod StartIsRight
+pub mod Steps
+pub mod Walks

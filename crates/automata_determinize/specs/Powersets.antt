@@ -1,0 +1,10 @@
+pub mod Parts
+pub mod Passes
+pub mod Results
+pub mod Accounting
+pub mod Equal
+pub mod Key
+pub mod Code
+pub mod Scratch
+pub mod Shared
+pub mod Rooms

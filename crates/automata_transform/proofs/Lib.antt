@@ -1,0 +1,3 @@
+pub mod Nfas
+pub mod Answers
+pub mod Paths

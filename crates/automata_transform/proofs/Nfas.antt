@@ -1,0 +1,4 @@
+pub mod Merges
+pub mod Mirrors
+pub mod Standing
+pub mod Folds

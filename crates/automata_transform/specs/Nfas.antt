@@ -1,0 +1,4 @@
+pub mod Merges
+pub mod MergedNfas
+pub mod Mirrors
+pub mod ReversedSizes

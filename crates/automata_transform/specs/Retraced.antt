@@ -1,0 +1,5 @@
+pub mod ReversedEdges
+pub mod Copies
+pub mod DenseRuns
+pub mod Folds
+pub mod Segments

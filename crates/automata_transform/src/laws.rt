@@ -1,0 +1,29 @@
+//! Laws about reversed and merged NFAs. Each function does nothing: its contract is the law.
+ghost use Rattle.automata_transform.specs.Nfas.Mirrors.{PatternsAreReversed, ReversedIsTrue};
+ghost use Rattle.automata_transform.specs.Laws.MergedUnions.{MergedAcceptAlike, MergedAnswerAlike, MergedBeginAlike};
+ghost use Rattle.automata_transform.specs.Laws.MergedUnions.{MergedKeepUtf8, MergedReadUtf8, MergedStayAcyclic};
+ghost use Rattle.automata_transform.specs.Laws.MergedUnions.{MergedPairsAlike, MergedStayPaired};
+
+use automata_base::nfa::thompson::NFA;
+
+/// An NFA that skips lazily and its reversed NFA are a true pair: each edge of one is an edge of the other in the
+/// opposite direction, with its look flipped. In the reversed NFA, the paths of a pattern begin at the pattern's
+/// matches, and end where the paths of the NFA begin.
+pub fn reversed_is_true()
+    ensures pair { ReversedIsTrue }
+    ensures patterns { PatternsAreReversed }
+{}
+
+/// Merging unions changes no answer: the paths of an NFA correspond to those of the merged NFA, in the same order. The
+/// other properties that searches and regexes need carry over: no cycle of epsilon edges passes a look, the NFA keeps
+/// the UTF-8 promise, the empty match begins alike, and it is the reverse NFA of a true pair.
+pub fn merged_answers_alike()
+    ensures answers { MergedAnswerAlike }
+    ensures accepts { MergedAcceptAlike }
+    ensures pairs { MergedPairsAlike }
+    ensures acyclic { MergedStayAcyclic }
+    ensures utf8 { MergedKeepUtf8 }
+    ensures reads { MergedReadUtf8 }
+    ensures begins { MergedBeginAlike }
+    ensures pair { MergedStayPaired }
+{}
