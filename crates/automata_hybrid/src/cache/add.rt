@@ -22,9 +22,9 @@ use crate::cache::leaps::Leaping;
 use crate::cache::{Cache, row};
 use crate::dfa::DFA;
 use crate::id::LazyStateID;
-use automata_determinize::determinize::{Key, State, next_key, start_key};
 use automata_base::util::search::Anchored;
 use automata_config::error::StepError;
+use automata_determinize::determinize::{Key, State, next_key, start_key};
 use std::alloc::AllocError;
 
 /// The result of looking up a state.

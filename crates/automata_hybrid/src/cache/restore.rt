@@ -13,8 +13,8 @@ use crate::cache::Cache;
 use crate::cache::handle::Handle;
 use crate::dfa::DFA;
 use crate::id::LazyStateID;
-use automata_determinize::determinize::{Key, State};
 use automata_config::error::{CacheError, StepError};
+use automata_determinize::determinize::{Key, State};
 use std::alloc::AllocError;
 use std::snapshot::Snapshot;
 

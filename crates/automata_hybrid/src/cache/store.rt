@@ -21,10 +21,10 @@ use crate::cache::settings::Settings;
 use crate::cache::table::{Table, new_row};
 use crate::dfa::DFA;
 use crate::id::LazyStateID;
-use automata_determinize::determinize::State;
 use automata_base::util::heap::array;
 use automata_config::accounting::{CELL_SIZE, ENTRY_SIZE, FIXED_ROWS_COST, ROW_SIZE, start_slots};
 use automata_config::error::{CacheError, StepError};
+use automata_determinize::determinize::State;
 use std::alloc::AllocError;
 use std::marker::Model;
 

@@ -25,10 +25,10 @@ use crate::search::direction::{last_place, place_offset, span_offset, walk_start
 use crate::search::step_error;
 use crate::search::walk::advance::advance;
 use crate::search::walk::{Cursor, Held, OverlappingState};
-use automata_determinize::laws::walk_is_right;
 use automata_base::util::primitives::PatternID;
 use automata_base::util::search::{Direction, HalfMatch, Input};
 use automata_config::error::SearchError;
+use automata_determinize::laws::walk_is_right;
 
 impl DFA {
     /// Advances to the next overlapping match, which `OverlappingState::get_match` then returns. When no match is left,

@@ -55,7 +55,8 @@ upto :
     → given_up_offset c.args.way c.args.input.now c.follow_reports-met.result.at ≡ c.byte_offset-offset.result
     → GoesTo c.args.way c.args.dfa.now c.args.input.now 0 c.follow_reports-met.result.at (known_of c.args.cache.now)
     (known_of c.loop-run.cache)
-    → GoesTo c.args.way c.args.dfa.now c.args.input.now 0 (suc c.follow_reports-met.result.at) (known_of c.args.cache.now)
+    → GoesTo c.args.way c.args.dfa.now c.args.input.now 0 (suc c.follow_reports-met.result.at)
+    (known_of c.args.cache.now)
     (known_of c.read_met.new.cache)
 upto c at before =
     goes_more c.args.way c.args.dfa.now c.args.input.now 0 (known_of c.args.cache.now) c.follow_reports-met.result.at
@@ -68,7 +69,8 @@ upto c at before =
 clean : (c : In-Ok) → HasReadNoQuit c.args.way c.args.dfa.now c.args.input.now (suc c.follow_reports-met.result.at)
 clean c =
     more_clean c.args.way c.args.dfa.now c.loop-run.cache.store.table c.read_met.new.cache.store.table c.args.input.now
-    c.follow_reports-met.result.at c.follow_reports-met.result.id c.in-Ok.next _ c.follow_reports-met.result.found None c.follow_reports-met.ensures.at
+    c.follow_reports-met.result.at c.follow_reports-met.result.id c.in-Ok.next _ c.follow_reports-met.result.found
+    None c.follow_reports-met.ensures.at
     c.byte_at-byte.ensures c.in-Ok.ensures.read.answer.named
     (quit_free c.args.dfa.now _ c.in-Ok.ensures.read.answer.clean)
 
@@ -78,14 +80,19 @@ reads :
     → Reads c.args.way c.args.dfa.now c.args.input.now c.follow_reports-met.result.at
 reads c few =
     at_reads c.args.way c.args.dfa.now c.loop-run.cache.store.table c.args.input.now c.follow_reports-met.result.at
-    c.follow_reports-met.result.id c.follow_reports-met.result.found c.follow_reports-met.ensures.at few c.in-Ok.ensures.read.alive
+    c.follow_reports-met.result.id c.follow_reports-met.result.found c.follow_reports-met.ensures.at few
+    c.in-Ok.ensures.read.alive
 
 -- the pass is at that place
 underway :
     (c : After-byte_at-byte)
     → IsUnderway c.args.way c.args.dfa.now c.loop-run.cache.store.table c.args.input.now c.follow_reports-met.result.at
     c.follow_reports-met.result.id c.follow_reports-met.result.found
-underway c = record { undone = c.requires.at.at.undone; may = c.requires.at.at.may; at = c.follow_reports-met.ensures.at }
+underway c = record {
+  undone = c.requires.at.at.undone;
+  may = c.requires.at.at.may;
+  at = c.follow_reports-met.ensures.at;
+}
 
 pub loop-run-init : goal.loop-run-init
 loop-run-init c =
@@ -130,7 +137,8 @@ pub found_at-found-requires-clause-leads : goal.found_at-found-requires-clause-l
 found_at-found-requires-clause-leads c = (
   _,
   more_leads c.args.way c.args.dfa.now c.loop-run.cache.store.table c.read_met.new.cache.store.table c.args.input.now
-      c.follow_reports-met.result.at c.follow_reports-met.result.id c.in-Ok.next _ c.follow_reports-met.result.found None
+      c.follow_reports-met.result.at c.follow_reports-met.result.id c.in-Ok.next _ c.follow_reports-met.result.found
+      None
       c.follow_reports-met.ensures.at c.byte_at-byte.ensures c.in-Ok.ensures.read.answer.named
       (quit_free c.args.dfa.now _ c.in-Ok.ensures.read.answer.clean),
 )
@@ -153,7 +161,8 @@ run_to_match-near-requires c =
     c.found_at-found.result)
     more
     (more_at d c.args.dfa.now c.loop-run.cache.store.table c.read_met.new.cache.store.table c.args.input.now k
-    c.follow_reports-met.result.id c.in-Ok.next _ c.follow_reports-met.result.found c.found_at-found.result c.follow_reports-met.ensures.at
+    c.follow_reports-met.result.id c.in-Ok.next _ c.follow_reports-met.result.found c.found_at-found.result
+    c.follow_reports-met.ensures.at
     c.byte_at-byte.ensures c.in-Ok.ensures.read.answer.named
     (quit_free c.args.dfa.now _ c.in-Ok.ensures.read.answer.clean)
     (c.place_offset.result, c.place_offset.ensures.value, c.found_at-found.ensures) first
@@ -199,7 +208,8 @@ loop-run-preserved c =
     subst
     (λ n. GoesTo c.args.way m c.args.input.now 0 n (known_of c.args.cache.now) (known_of c.read_met.new.cache)) more
     (upto past.In-Ok (given past.After-byte_at-byte) (before past.After-byte_at-byte units)) in
-    let far = c.follow_with_leaps-far.ensures.runs (c.follow_reports-met.result.at + 1) c.run_to_match-near.ensures.runs in
+    let far = c.follow_with_leaps-far.ensures.runs (c.follow_reports-met.result.at + 1)
+    c.run_to_match-near.ensures.runs in
     let sound : IsStoreOf c.follow_with_leaps-far.new.cache.store m =
     subst (λ (v : CacheView). IsStoreOf v.store m) (sym c.follow_with_leaps-far.ensures.same)
     (is_store c.read_met.new.cache.store m c.in-Ok.ensures.of c.see_bounds-in-loop-run.ensures.bounds) in
@@ -212,7 +222,8 @@ loop-run-preserved c =
       sound = sound;
       progress =
           goes_known c.args.way m c.args.input.now 0 (known_of c.args.cache.now) c.see_machine.ensures.machine units
-          (c.follow_reports-met.result.at + 1) c.follow_with_leaps-far.result.0.at c.follow_with_leaps-far.new.cache sound
+          (c.follow_reports-met.result.at + 1) c.follow_with_leaps-far.result.0.at c.follow_with_leaps-far.new.cache
+          sound
           (subst
           (λ (v : CacheView). GoesTo c.args.way m c.args.input.now 0 (c.follow_reports-met.result.at + 1)
           (known_of c.args.cache.now) (known_of v))
@@ -230,7 +241,8 @@ returns-in-Err-clause-rest c =
     pass_stopped c.args.way c.args.dfa.now c.args.input.now c.follow_reports-met.result.at (known_of c.args.cache.now)
     (known_of c.loop-run.cache) (known_of c.read_met.new.cache) c.in-Err.error
     (at_reads c.args.way c.args.dfa.now c.loop-run.cache.store.table c.args.input.now c.follow_reports-met.result.at
-    c.follow_reports-met.result.id c.follow_reports-met.result.found at (few past.After-byte_at-byte) c.in-Err.ensures.read.alive)
+    c.follow_reports-met.result.id c.follow_reports-met.result.found at (few past.After-byte_at-byte)
+    c.in-Err.ensures.read.alive)
     at.clean (before past.After-byte_at-byte (are_units past.After-last_place-last))
     (left_here c.args.way c.args.dfa.now c.args.input.now c.follow_reports-met.result.at c.follow_reports-met.result.id
     c.byte_offset-offset.result (Some _) c.loop-run.cache c.read_met.new.cache c.byte_at-byte.ensures
@@ -274,14 +286,16 @@ returns-then-is_some-clause-rest c =
     let some = some_is c.found_at-found.result c.if-is_some.ensures in
     record {
       answer =
-          first_answer c.args.way m c.args.input.now k c.follow_reports-met.result.id _ c.follow_reports-met.result.found
+          first_answer c.args.way m c.args.input.now k c.follow_reports-met.result.id _
+          c.follow_reports-met.result.found
           c.loop-run.cache c.read_met.new.cache (underway at) c.byte_at-byte.ensures c.in-Ok.next
           c.found_at-found.result c.in-Ok.ensures.read.answer c.place_offset.result c.place_offset.ensures.value
           c.found_at-found.ensures early some (few at);
       ended =
           pass_last c.args.way m c.args.input.now k (known_of c.args.cache.now) (known_of c.read_met.new.cache)
           (known_of c.end_search-then-is_some.new.self) (reads past.In-Ok (few at))
-          (first_stops c.args.way m c.args.input.now k c.follow_reports-met.result.id _ c.follow_reports-met.result.found
+          (first_stops c.args.way m c.args.input.now k c.follow_reports-met.result.id _
+          c.follow_reports-met.result.found
           c.loop-run.cache c.read_met.new.cache (underway at) c.byte_at-byte.ensures c.in-Ok.next
           c.found_at-found.result c.in-Ok.ensures.read.answer c.place_offset.result c.place_offset.ensures.value
           c.found_at-found.ensures early some (suc k) (omega arith))
@@ -314,7 +328,8 @@ returns-clause-rest c =
 
 pub loop-run-smaller : goal.loop-run-smaller
 loop-run-smaller c =
-    let more = (c.follow_with_leaps-far.ensures.runs (c.follow_reports-met.result.at + 1) c.run_to_match-near.ensures.runs).run.more in
+    let more = (c.follow_with_leaps-far.ensures.runs (c.follow_reports-met.result.at + 1)
+    c.run_to_match-near.ensures.runs).run.more in
     omega (arith, more, c.follow_reports-met.ensures.run.more, c.loop-run-test.true)
 
 pub follow_reports-met-requires : goal.follow_reports-met-requires

@@ -155,13 +155,15 @@ loop-run-preserved g c =
       read = c.follow_with_leaps-far.ensures.read;
       progress =
           goes_known Forward c.args.dfa.now c.args.input.now 0 first c.see_machine.ensures.machine units
-          (c.loop-run.run.at + 1) c.follow_with_leaps-far.result.0.at c.follow_with_leaps-far.new.cache sound behind far.run.more far.at.clean
+          (c.loop-run.run.at + 1) c.follow_with_leaps-far.result.0.at c.follow_with_leaps-far.new.cache sound behind
+          far.run.more far.at.clean
           far.run.known;
     }
 
 pub loop-run-smaller : goal.loop-run-smaller
 loop-run-smaller g c =
-    let more = (c.follow_with_leaps-far.ensures.runs (c.loop-run.run.at + 1) c.run_to_match-near.ensures.runs).run.more in
+    let more = (c.follow_with_leaps-far.ensures.runs (c.loop-run.run.at + 1)
+    c.run_to_match-near.ensures.runs).run.more in
     omega (arith, more, c.loop-run-test.true)
 
 pub returns-in-Err-clause-ran : goal.returns-in-Err-clause-ran

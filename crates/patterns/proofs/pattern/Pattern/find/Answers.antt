@@ -6,7 +6,8 @@ use Rattle.patterns.proofs.pattern.Pattern.find.Goals as goal
 
 pub returns-clause-found : goal.returns-clause-found
 returns-clause-found c =
-    found_means c.args.self.now.regex c.args.hay.now c.args.start c.rest-input.result c.find.result c.rest-input.ensures.input
+    found_means c.args.self.now.regex c.args.hay.now c.args.start c.rest-input.result c.find.result
+    c.rest-input.ensures.input
     c.rest-input.ensures.valid.bytes c.find.ensures.returned
 
 pub returns-clause-returned : goal.returns-clause-returned

@@ -11,7 +11,8 @@ returns-clause-found c =
 
 pub returns-clause-returned : goal.returns-clause-returned
 returns-clause-returned c =
-    subst (λ v. IsTruthOf c.args.self.now.regex v c.is_match.result) c.new-input.ensures.input c.is_match.ensures.returned
+    subst (λ v. IsTruthOf c.args.self.now.regex v c.is_match.result) c.new-input.ensures.input
+    c.is_match.ensures.returned
 
 pub returns-clause-effect : goal.returns-clause-effect
 returns-clause-effect c =

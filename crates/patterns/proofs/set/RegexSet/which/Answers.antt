@@ -23,7 +23,8 @@ returns-in-Ok-clause-found c = λ o res is for.
     ∙ length-replicate c.pattern_len.result false
     ∙ c.pattern_len.ensures)
     (joins_empty c.args.self.now.dfa c.args.hay.now c.new-input.result c.pattern_len.result c.in_ok-found.found
-    c.try_which_overlapping_matches.new.patset c.new-input.ensures.input c.in_ok-found.ensures.capacity c.pattern_len.ensures
+    c.try_which_overlapping_matches.new.patset c.new-input.ensures.input c.in_ok-found.ensures.capacity
+    c.pattern_len.ensures
     c.in-Ok.ensures.found)
 
 pub returns-in-Ok-clause-effect : goal.returns-in-Ok-clause-effect

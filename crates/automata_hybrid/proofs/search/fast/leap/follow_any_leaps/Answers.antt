@@ -13,7 +13,11 @@ follow_far-far-requires g c =
     same_input c.args.input.now c.haystack.result.now c.get_span.result c.get_anchored.result c.get_earliest.result
     c.haystack.ensures.same
     c.get_span.ensures.start c.get_span.ensures.end c.get_anchored.ensures c.get_earliest.ensures in (
-      record { of = c.requires.0; allowed = subst (λ (i : Input). IsAllowed i) (sym same) c.get_span.ensures.valid.within },
+      record {
+        of = c.requires.0;
+        allowed = subst (λ (i : Input). IsAllowed i) (sym same)
+            c.get_span.ensures.valid.within;
+      },
       (
         subst (λ (i : Input). IsOnTrace g.trace c.args.way c.args.dfa.now c.args.cache.now.store.table i c.args.near.at
             c.args.near.id) (sym same) (record { trace = c.requires.1.1.0; named = c.requires.1.0.followed.named }),

@@ -140,7 +140,8 @@ returns-then-is_dead-clause-advanced c =
     c.args.cache.now c.read_unit.new.cache (omega (arith, c.loop-read.invariant.from, f.more)) (omega arith)
     c.in_ok-next.ensures.reads
     (goes_more d c.args.dfa.now c.args.input.now c.args.units (known_of c.args.cache.now) k
-    (known_of c.walk_with_leaps-stop.new.cache) (known_of c.read_unit.new.cache) (goes p) c.in_ok-next.ensures.unit.read)
+    (known_of c.walk_with_leaps-stop.new.cache) (known_of c.read_unit.new.cache) (goes p)
+    c.in_ok-next.ensures.unit.read)
     (finish_dead d c.args.dfa.now c.args.input.now c.args.units k _ (omega (arith, c.loop-read.invariant.from, f.more))
     (omega (arith, units, c.walk_with_leaps-stop.ensures.far.within)) (omega arith)
     (clean_more d c.args.dfa.now c.args.input.now k (followed_clean f c.loop-read.invariant.clean)
@@ -165,7 +166,8 @@ returns-then-reports-clause-advanced c =
     (record { id = Some c.in_ok-next.next; units = k + 1 }) c.args.cache.now c.read_unit.new.cache
     (omega (arith, c.loop-read.invariant.from, f.more)) (omega arith) c.in_ok-next.ensures.reads
     (goes_more d c.args.dfa.now c.args.input.now c.args.units (known_of c.args.cache.now) k
-    (known_of c.walk_with_leaps-stop.new.cache) (known_of c.read_unit.new.cache) (goes p) c.in_ok-next.ensures.unit.read)
+    (known_of c.walk_with_leaps-stop.new.cache) (known_of c.read_unit.new.cache) (goes p)
+    c.in_ok-next.ensures.unit.read)
     (record {
       place = k;
       one_after = sym more;

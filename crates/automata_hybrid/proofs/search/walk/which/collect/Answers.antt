@@ -268,7 +268,8 @@ walk-smaller c =
     let found : c.report_next.new.walk.found ≡ Some c.in-Some.half = sym c.get_match.ensures ∙ c.in-Some.«is» in
     let put : c.try_insert.new.self ≡ set c.walk.patset c.in-Some.half.pattern true =
     c.try_insert.ensures.inserted ∙ ap (λ n. set c.walk.patset n true) c.pattern.ensures in
-    let on = on_found c.walk.walk c.report_next.new.walk c.in-Some.half c.in_ok-report_next.ensures.called.answer.goes_on found in
+    let on = on_found c.walk.walk c.report_next.new.walk c.in-Some.half
+    c.in_ok-report_next.ensures.called.answer.goes_on found in
     let j = c.walk.invariant.joins.0 in
     steps_less c.args.dfa.now c.args.input.now c.in_ok-report_next.ensures.valid.within.1 c.walk.walk
     c.report_next.new.walk
@@ -298,7 +299,8 @@ walk-preserved c =
     let found : c.report_next.new.walk.found ≡ Some c.in-Some.half = sym c.get_match.ensures ∙ c.in-Some.«is» in
     let put : c.try_insert.new.self ≡ set c.walk.patset c.in-Some.half.pattern true =
     c.try_insert.ensures.inserted ∙ ap (λ n. set c.walk.patset n true) c.pattern.ensures in
-    let on = on_found c.walk.walk c.report_next.new.walk c.in-Some.half c.in_ok-report_next.ensures.called.answer.goes_on found in
+    let on = on_found c.walk.walk c.report_next.new.walk c.in-Some.half
+    c.in_ok-report_next.ensures.called.answer.goes_on found in
     let j = c.walk.invariant.joins.0 in
     let lacks : IsLacking (set c.walk.patset c.in-Some.half.pattern true) = lacking _ 0 (λ full.
     let whole : IsTrue c.is_full.result =
@@ -307,7 +309,8 @@ walk-preserved c =
     record {
       of = c.in_ok-report_next.ensures.of;
       there =
-          held_there c.report_next.new.cache c.report_next.new.walk.stage c.report_next.new.held c.in_ok-report_next.ensures.held.holds
+          held_there c.report_next.new.cache c.report_next.new.walk.stage c.report_next.new.held
+          c.in_ok-report_next.ensures.held.holds
           (c.in_ok-report_next.ensures.held.keeping ∙ c.walk.invariant.keeping);
       on = on.0;
       holds = c.in_ok-report_next.ensures.held.holds;
@@ -322,19 +325,24 @@ walk-preserved c =
           (supported_call Forward c.args.dfa.now c.args.input.now c.walk.walk c.report_next.new.walk (j.k, j.reported)
           c.in_ok-report_next.ensures.called.answer.reports u);
       joins =
-          subst (λ (s : List Bool). (i : Joins c.args.dfa.now c.args.input.now c.report_next.new.walk c.args.patset.now s)
+          subst (λ (s : List Bool). (i : Joins c.args.dfa.now c.args.input.now c.report_next.new.walk
+          c.args.patset.now s)
           × HaveCalled c.args.dfa.now c.args.input.now c.args.patset.now (known_of c.args.cache.now) i.k
           c.report_next.new.walk (known_of c.report_next.new.cache)) (sym put) (
-            joins_more c.args.dfa.now c.args.input.now c.args.patset.now c.walk.walk c.report_next.new.walk c.walk.patset
+            joins_more c.args.dfa.now c.args.input.now c.args.patset.now c.walk.walk c.report_next.new.walk
+                c.walk.patset
                 c.walk.invariant.joins.0 c.in_ok-report_next.ensures.called.answer.reports list c.in-Some.half found
                 (sym c.get_earliest.ensures ∙ c.if-get_earliest.false) lacks,
-            calls_more c.args.dfa.now c.args.input.now c.args.patset.now c.walk.walk c.report_next.new.walk c.walk.patset
+            calls_more c.args.dfa.now c.args.input.now c.args.patset.now c.walk.walk c.report_next.new.walk
+                c.walk.patset
                 c.walk.invariant.joins.0 c.in_ok-report_next.ensures.called.answer.reports list c.in-Some.half found
                 (sym c.get_earliest.ensures ∙ c.if-get_earliest.false) lacks (known_of c.args.cache.now)
                 (known_of c.report_next.new.cache)
-                (OneMore j.k c.walk.walk c.report_next.new.walk (known_of c.walk.cache) (known_of c.report_next.new.cache)
+                (OneMore j.k c.walk.walk c.report_next.new.walk (known_of c.walk.cache)
+                (known_of c.report_next.new.cache)
                 c.walk.invariant.joins.1
                 (open_after c.args.dfa.now c.args.input.now c.walk.walk c.args.patset.now c.walk.patset j)
-                c.walk.invariant.there c.in_ok-report_next.ensures.called.answer.reports c.in_ok-report_next.ensures.called.effect),
+                c.walk.invariant.there c.in_ok-report_next.ensures.called.answer.reports
+                c.in_ok-report_next.ensures.called.effect),
           );
     }
