@@ -304,6 +304,38 @@ fn room(capacity: usize) -> Told {
     })
 }
 
+/// Ends a text in one of 2,048 ways: up to fifteen letters a, one of 128 bytes that occur nowhere else, and letters x.
+fn end_in_byte(text: &mut Vec<u8>, number: usize) {
+    let count = number % 16;
+    text.extend(iter::repeat_n(b'a', count));
+    text.push(0x80 | (number / 16) as u8);
+    text.extend(iter::repeat_n(b'x', 15 - count));
+}
+
+/// Ends a text in the twelve binary digits of a number, an a for each 0 and a b for each 1.
+fn end_in_digits(text: &mut Vec<u8>, number: usize) {
+    text.extend((0..12).rev().map(|digit| if number >> digit & 1 == 0 { b'a' } else { b'b' }));
+}
+
+/// Texts of a size that begin alike: all of them, or the first one again and again.
+fn endings(size: usize, digits: bool, differ: bool) -> Told {
+    let (nfa, piece): (_, &[u8]) =
+        if digits { (blown().build(), b"aababbab") } else { (times(16, b'a', b'a').build(), b"aaaaaaaaaaaaaaax") };
+    let mut searcher = Searcher::new(nfa, Config { byte_classes: digits, ..Config::default() });
+    let mut text = text_of(piece, size - 16);
+    let alike = text.len();
+    let mut finds = |number: usize| {
+        text.truncate(alike);
+        if digits {
+            end_in_digits(&mut text, number);
+        } else {
+            end_in_byte(&mut text, number);
+        }
+        searcher.end_from(&text, 0).is_some()
+    };
+    timed(|| (0..2_048).filter(|&turn| finds(if differ { turn } else { 0 })).count())
+}
+
 const SHORT: &[u8] = b"in 2018, worwx and 12";
 
 const ONE_STATE: &[u8] = b"abcdefghijklmnopqrstuvwxyz .,;-+";
@@ -352,6 +384,10 @@ fn grow(work: &str) -> Option<Told> {
         "words" => first_words(size),
         "set" => set_words(size),
         "room" => room(size),
+        "miss" => endings(size, false, true),
+        "hit" => endings(size, false, false),
+        "new" => endings(size, true, true),
+        "leap" => endings(size, true, false),
         _ => return None,
     })
 }

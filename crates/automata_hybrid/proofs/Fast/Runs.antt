@@ -1,6 +1,6 @@
 -- Runs of cached transitions whose IDs all have exactly one tag, or all have none.
 use Rattle.std.proofs.Common.{ℕ, zero, suc, ◌≡◌, ◌∙◌, ◌+◌, ◌-◌, ◌<◌, ◌≤◌, ◌^◌, ◌⊎◌, inl, inr, Bool, true, false, List}
-use Rattle.std.proofs.Common.{[], ◌∷◌, length, Option, Some, refl, slice_index, sym, ap, subst, arith, eq-or-lt_of_le}
+use Rattle.std.proofs.Common.{[], ◌∷◌, length, None, Option, Some, refl, slice_index, sym, ap, subst, arith, eq-or-lt_of_le}
 use Rattle.automata_hybrid.proofs.Words.{cell_of, class_in, Direction, half_at, half_of, HalfMatch, HasOnly}
 use Rattle.automata_hybrid.proofs.Words.{HasReadNoQuit, Input, is_quit, IsAtAlong, IsRunTag, IsTrace, known_step, Leads}
 use Rattle.automata_hybrid.proofs.Words.{LeadsToNamed, Machine, match_kind_of, Names, next, offset_in, Powerset}
@@ -8,7 +8,7 @@ use Rattle.automata_hybrid.proofs.Words.{quit_id, Stored, successor, tape_in, Tr
 use Rattle.automata_hybrid.specs.Private.Cache.Stores.{IsKnownTransition}
 use Rattle.automata_hybrid.specs.Private.Searches.PassState.{HasLearnedAlong, IsFollowed, IsFollowedAlong, IsMetAlong}
 use Rattle.automata_hybrid.specs.Private.Searches.PassState.{IsNextCell, IsOnTrace, IsRun, IsTagAt, IsTaken}
-use Rattle.automata_hybrid.specs.Private.Searches.PassContracts.{FollowsAlong, RunsAlong}
+use Rattle.automata_hybrid.specs.Private.Searches.PassContracts.{FollowsAlong, RunsAlong, found_there}
 use Rattle.automata_hybrid.specs.declared.search.fast.follow.Stop.{Stop}
 use Rattle.automata_hybrid.specs.declared.search.fast.run.Place.{Place}
 use Rattle.automata_hybrid.specs.Walks.Answers.{IsSilent}
@@ -225,6 +225,31 @@ module _ {s : Trace} {way : Direction} {m : Machine} {c : Stored} {input : Input
         nothing = at.nothing;
         clean = followed_clean f at.clean;
       }
+
+  -- a pass that runs so from its start has found what the state at the end of the run reports: nothing
+  pub quiet_there :
+      (found : Option HalfMatch) → from ≡ 0 → found ≡ None → (q : Powerset) → Names c.table id q
+      → found ≡ found_there way input to q.patterns
+  quiet_there found start none q named = go to f refl where
+    go :
+        (k : ℕ) → IsFollowedAlong s way m c input 0 from k id → k ≡ to
+        → found ≡ found_there way input k q.patterns
+    go zero g e = none
+    go (suc j) g e =
+        let first : from ≤ j = omega (arith, start) in
+        let leads = (g.taken j first (omega arith)).leads in
+        let one : leads.0 ≡ id = some_inj (sym leads.1 ∙ g.named) in
+        let low : id < 2 ^ 27 = omega (arith, one, leads.2.below) in
+        none ∙ sym (ap (λ (ps : List ℕ). half_at ps (offset_in way input j) None) (Names-silent c.table id q named low))
+
+-- a pass that ends at a state with patterns has found what that state reports
+pub reports_there :
+    (way : Direction) (input : Input) (ps : List ℕ) (to j pattern at : ℕ) → to ≡ suc j → at ≡ offset_in way input j
+    → 0 < length ps → pattern ≡ slice_index ps 0
+    → Some (record { pattern = pattern; offset = at }) ≡ found_there way input to ps
+reports_there way input ps to j pattern at here place some first =
+    first_half ps pattern at None some first
+    ∙ (ap (λ n. half_at ps n None) place ∙ sym (ap (λ n. found_there way input n ps) here))
 
 -- such a run reports nothing to a walk
 module _ {way : Direction} {m : Machine} {c : Stored} {input : Input} {from to id : ℕ}

@@ -12,27 +12,16 @@ use Rattle.automata_hybrid.specs.Private.Cache.Table.{IsSoundTable}
 use Rattle.automata_hybrid.specs.Cache.Ids.{HasQuitTag}
 use Rattle.automata_hybrid.specs.Known.Known as known
 use Rattle.automata_hybrid.specs.Searches.PassContracts.{IsPassAnswer}
-use Rattle.automata_hybrid.specs.Private.Searches.PassContracts.{IsKnownEnd, IsKnownStop, IsKnownUpto}
-use Rattle.automata_hybrid.specs.declared.search.pass.KnownStop.{KnownStop}
-use Rattle.automata_hybrid.specs.declared.search.pass.KnownStop.TheVariants.{Ended, Left, Missing}
+use Rattle.automata_hybrid.specs.Private.Searches.PassContracts.{IsKnownEnd, IsKnownUpto}
 use Rattle.automata_hybrid.specs.Private.Searches.PassState.{HasLearnedUnit}
 use Rattle.automata_hybrid.specs.Private.Searches.Units.{IsReadAnswer}
 use Rattle.automata_hybrid.proofs.Searches.PassContracts.{dead_answer, dead_stops, first_answer, first_stops}
 use Rattle.automata_hybrid.proofs.Searches.PassContracts.{last_answer}
-use Rattle.automata_hybrid.proofs.Searches.PassState.{at_reads, more_at, more_leads, reads_before, stops_last}
+use Rattle.automata_hybrid.proofs.Searches.PassState.{at_reads, more_leads, reads_before, stops_last}
 use Rattle.automata_hybrid.proofs.Steps.Steps.{no_quit_unit}
 use Rattle.automata_hybrid.proofs.Caches.Searched.{searched_sound}
 use Rattle.automata_hybrid.proofs.Steps.Ids.{dead_tagged, unquit}
 use Rattle.automata_hybrid.proofs.Searches.Goes.{goes_known, goes_none, pass_last}
-
--- a pass over cached transitions that has not ended reached its place by them
-pub known_upto :
-    (way : Direction) (m : Machine) (c : CacheView) (input : Input) (s : KnownStop) (k id : ℕ)
-    (found : Option HalfMatch)
-    → (s ≡ Ended → ⊥) → IsKnownStop way m c input s k id found → IsKnownUpto way m c.store input k id found
-known_upto way m c input Ended k id found on h = absurd (on refl)
-known_upto way m c input Missing k id found on h = h.0
-known_upto way m c input Left k id found on h = h
 
 -- a unit whose step leads to an ID without the quit tag is not a quit byte
 pub clean_unit :
@@ -144,27 +133,3 @@ module _ (way : Direction) (m : Machine) (input : Input) (k id : ℕ) (c : Cache
         reports early some)
         (first_answer way m input k id (next (tape_in way input) k) before c c upto.at refl to half answer at place
         reports early some few)
-
-    -- otherwise it continues
-    pub known_more :
-        (HasDeadTag to → ⊥) → (input.earliest ≡ true → half ≡ None) → k < input.end - input.start
-        → IsKnownUpto way m c.store input (suc k) to half
-    known_more alive first inner = record {
-      within = omega (arith, inner);
-      at = record {
-        undone = upto.at.undone;
-        may = upto.at.may;
-        at =
-            more_at way m c.store.table c.store.table input k id to (next (tape_in way input) k) before half upto.at.at
-            refl answer.named
-            (no_quit_unit m (next (tape_in way input) k) answer.clean) (at, place, reports) first
-            (λ l. (dead_tagged c.store.table to (sound.low to) sound.template.small
-            (state_in way m input (suc k)) l).1 alive);
-      };
-      known = λ j less. go j (cases_lt j k) less;
-    } where
-      go : (j : ℕ) → (j < k) ⊎ (k ≤ j) → j < suc k → HasLearnedUnit way m c.store input j
-      go j (inl less_) less = upto.known j less_
-      go j (inr more) less =
-          let same : k ≡ j = omega (arith, more, less) in
-          subst (HasLearnedUnit way m c.store input) same here

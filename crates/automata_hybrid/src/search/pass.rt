@@ -1,6 +1,6 @@
 //! One pass over the span of an input, in either direction. First it follows cached transitions and only reads the
 //! cache; what is not cached is left to functions that determinize.
-ghost use Rattle.std.specs.Prelude.{true, ◌≡◌, ◌-◌, ◌<◌, ◌≤◌, None, false};
+ghost use Rattle.std.specs.Prelude.{◌≡◌, ◌-◌, ◌<◌, ◌≤◌, None};
 ghost use Rattle.automata_base.specs.Haystacks.Input.{Allows, IsValidInput};
 ghost use Rattle.automata_base.specs.Paths.Paths.{next};
 ghost use Rattle.automata_base.specs.Powersets.Powerset.{Powerset, dead};
@@ -11,7 +11,7 @@ ghost use Rattle.automata_hybrid.specs.Known.Steps.{IsStartRun};
 ghost use Rattle.automata_hybrid.specs.Known.Stores.{known_of};
 ghost use Rattle.automata_hybrid.specs.Machines.Machine.{unit_class};
 ghost use Rattle.automata_hybrid.specs.Private.Searches.PassContracts.{IsKnownUpto, IsLastRead, IsPassResult, IsRest};
-ghost use Rattle.automata_hybrid.specs.Private.Searches.PassContracts.{IsTakenUp, half_if, input_at, IsKnownStop};
+ghost use Rattle.automata_hybrid.specs.Private.Searches.PassContracts.{IsTakenUp, input_at, IsKnownStop, MayBegin};
 ghost use Rattle.automata_hybrid.specs.Private.Searches.PassState.{IsNextCell, IsMet};
 ghost use Rattle.automata_hybrid.specs.Searches.PassContracts.{IsUnderway};
 ghost use Rattle.automata_hybrid.specs.Searches.Passes.{state_in, tape_in};
@@ -25,99 +25,30 @@ use crate::search::direction::{
     byte_at, byte_behind, byte_offset, bytes_read, input_of, last_place, place_offset, span_offset,
     unit_at, unit_offset, walk_start,
 };
-use crate::search::fast::follow::next_known;
+use crate::search::fast::follow::{Spot, next_known};
 use crate::search::fast::run::{Place, follow_reports, follow_with_leaps, near_end, run_to_match};
 use crate::search::{found_at, read, read_met};
-use automata_base::util::primitives::PatternID;
 use automata_base::util::search::{Anchored, Direction, HalfMatch, Input, Span};
 use automata_config::error::SearchError;
 
-/// How many bytes this pass reads before it hands over to `rest`, which looks for leaps. A self-loop is followed
+/// How many bytes `known_pass` reads before it hands over to `rest`, which looks for leaps. A self-loop is followed
 /// further.
 const FIRST_RUN: usize = 1024;
 
-/// Why a pass over cached transitions stopped.
+/// How a pass over cached transitions stopped.
 #[derive(Clone, Copy)]
 enum KnownStop {
-    /// The pass ended with the unit at the place.
-    Ended,
-    /// The transition on the byte at the place is not cached.
-    Missing,
-    /// The rest of the pass has to continue.
-    Left,
-}
-
-/// How far a pass came over cached transitions.
-#[derive(Drop)]
-struct KnownPass {
-    stop: KnownStop,
-    at: usize,
-    /// The ID of the state at the place.
-    id: LazyStateID,
-    /// What the pass finds, if it has ended; otherwise what it has found before the place.
-    found: Option<HalfMatch>,
-}
-
-impl KnownPass {
-    /// Returns a pass that stopped at a place for this reason.
-    fn new(stop: KnownStop, at: usize, id: LazyStateID, found: Option<HalfMatch>) -> KnownPass
-        ensures { result ≡ record { stop = stop; at = at; id = id; found = found } }
-    {
-        KnownPass {
-            stop,
-            at,
-            id,
-            found,
-        }
-    }
-
-    /// Whether the pass has ended.
-    fn has_ended(&self) -> bool
-        ensures yes { result ≡ true → self.now.stop ≡ KnownStop.Ended }
-        ensures no { result ≡ false → self.now.stop ≡ KnownStop.Ended → ⊥ }
-    {
-        match self.stop {
-            KnownStop::Ended => true,
-            KnownStop::Missing | KnownStop::Left => false,
-        }
-    }
-
-    /// Whether it stopped at a transition that is not cached.
-    fn is_missing(&self) -> bool
-        ensures { result ≡ true → self.now.stop ≡ KnownStop.Missing }
-    {
-        match self.stop {
-            KnownStop::Missing => true,
-            KnownStop::Ended | KnownStop::Left => false,
-        }
-    }
-}
-
-/// Returns whether there is a half match, and its parts.
-fn parts_of(found: Option<HalfMatch>) -> (bool, PatternID, usize)
-    ensures { half_if result.0 result.1 result.2 ≡ found }
-{
-    match found {
-        Some(half) => (true, half.pattern(), half.offset()),
-        None => (false, PatternID::ZERO, 0),
-    }
-}
-
-/// Returns the half match with these parts, if `has` is true.
-fn half_from(has: bool, pattern: PatternID, offset: usize) -> Option<HalfMatch>
-    ensures { result ≡ half_if has pattern offset }
-{
-    if has {
-        return Some(HalfMatch::new(pattern, offset));
-    }
-    None
+    /// It ended with the unit at this place, and finds this.
+    Ended(usize, Option<HalfMatch>),
+    /// The rest of the pass has to continue here. What the pass has found is what the state here reports.
+    Left(Spot),
 }
 
 /// Makes one pass over the span of an input that is not done. While all that it reads is cached, it changes nothing;
 /// its bytes are counted once it has ended.
 // `begin_of` and `rest` are not inlined, so that a search that finds everything cached keeps its values in registers.
-// What they borrow and what they return is in memory, which is cleared first. So they take the parts of the input and
-// of what was found, and what they return is taken apart.
+// What they borrow and what they return is in memory, which is cleared first. So they take the parts of the input, and
+// what they return is taken apart.
 #[inline(always)]
 pub(crate) fn pass(
     dfa: &DFA,
@@ -136,13 +67,14 @@ pub(crate) fn pass(
     if start.is_fixed() {
         return begin_by_parts(dfa, cache, input, way);
     }
-    let known = known_pass(dfa, cache, input, way, start);
-    if known.has_ended() {
-        cache.count_search(bytes_read(input, way, known.at));
-        return Ok(known.found);
-    }
+    let from = match known_pass(dfa, cache, input, way, start) {
+        KnownStop::Ended(at, found) => {
+            cache.count_search(bytes_read(input, way, at));
+            return Ok(found);
+        }
+        KnownStop::Left(from) => from,
+    };
     cache.search_start(span_offset(input, way, 0));
-    let before = parts_of(known.found);
     match rest(
         dfa,
         cache,
@@ -151,12 +83,7 @@ pub(crate) fn pass(
         input.get_anchored(),
         input.get_earliest(),
         way,
-        known.at,
-        known.id,
-        known.is_missing(),
-        before.0,
-        before.1,
-        before.2,
+        from,
     ) {
         Ok(found) => Ok(found),
         Err(error) => Err(error),
@@ -245,17 +172,42 @@ fn begin(
         input.get_anchored(),
         input.get_earliest(),
         way,
-        0,
-        start,
-        false,
-        false,
-        PatternID::ZERO,
-        0,
+        Spot { at: 0, id: start },
     )?;
     Ok(found)
 }
 
-/// Runs over the rest of a span, whose search has begun, from a place up to which everything was cached.
+/// Returns where a run continues. What it has found is what the state there reports; at the start of the span it is
+/// nothing.
+#[inline(always)]
+fn place_at(dfa: &DFA, cache: &Cache, input: &Input<'_>, way: Direction, from: Spot) -> Place
+    requires of { IsCacheOf cache.now dfa.now }
+    requires at { IsTakenUp way dfa.now cache.now.store input.now from.at from.id }
+    ensures upto { IsKnownUpto way dfa.now cache.now.store input.now result.at result.id result.found }
+    ensures next { result.at < input.now.end - input.now.start
+        → IsNextCell way dfa.now cache.now.store input.now result.at result.id result.next }
+{
+    let last = last_place(input);
+    let next = next_known(dfa, cache, input, way, from.at, from.id, last);
+    if from.at == 0 {
+        return Place {
+            at: 0,
+            id: from.id,
+            found: None,
+            next,
+        };
+    }
+    let offset = place_offset(input, way, from.at - 1);
+    Place {
+        at: from.at,
+        id: from.id,
+        found: found_at(dfa, cache, from.id, offset, None),
+        next,
+    }
+}
+
+/// Runs over the rest of a span, whose search has begun, from a place up to which everything was cached. What was found
+/// before is what the state at the place reports.
 #[inline(never)]
 fn rest(
     dfa: &DFA,
@@ -265,34 +217,17 @@ fn rest(
     anchored: Anchored,
     earliest: bool,
     way: Direction,
-    start: usize,
-    from: LazyStateID,
-    missing: bool,
-    has: bool,
-    pattern: PatternID,
-    offset: usize,
+    from: Spot,
 ) -> Result<Option<HalfMatch>, SearchError>
-    requires of { IsCacheOf cache.old dfa.now }
+    requires may { MayBegin dfa.now cache.old (input_at haystack.now span anchored earliest) }
     requires at { IsTakenUp way dfa.now cache.old.store
-        (input_at haystack.now span anchored earliest) start from (half_if has pattern offset) }
-    requires missing { missing ≡ true → IsNextCell way dfa.now cache.old.store
-        (input_at haystack.now span anchored earliest) start from unknown_id }
+        (input_at haystack.now span anchored earliest) from.at from.id }
     ensures of { IsCacheOf cache.new dfa.now }
     ensures rest { IsRest way dfa.now
         (input_at haystack.now span anchored earliest) (known_of cache.old) (known_of cache.new) result }
 {
     let own = input_of(haystack, span, anchored, earliest);
-    let next = if missing {
-        LazyStateID::UNKNOWN
-    } else {
-        next_known(dfa, cache, &own, way, start, from, last_place(&own))
-    };
-    let place = Place {
-        at: start,
-        id: from,
-        found: half_from(has, pattern, offset),
-        next,
-    };
+    let place = place_at(dfa, cache, &own, way, from);
     match way {
         Direction::Forward => find(dfa, cache, &own, Direction::Forward, place),
         Direction::Backward => find(dfa, cache, &own, Direction::Backward, place),
@@ -404,43 +339,38 @@ fn known_pass(
     input: &Input<'_>,
     way: Direction,
     start: LazyStateID,
-) -> KnownPass
+) -> KnownStop
     requires of { IsCacheOf cache.now dfa.now }
     requires at { IsUnderway way dfa.now cache.now.store.table input.now 0 start None }
-    ensures stop { IsKnownStop way dfa.now cache.now input.now result.stop result.at result.id result.found }
+    ensures stop { IsKnownStop way dfa.now cache.now input.now result }
     ensures valid { IsValidInput input.now }
 {
     cache.see_bounds();
     let last = last_place(input);
     let run = run_to_match(dfa, cache, input, way, 0, start, None, last.min(FIRST_RUN));
     let next = known_next(dfa, cache, input, way, run.at, run.id, run.next);
+    let left = Spot {
+        at: run.at,
+        id: run.id,
+    };
     if next.is_unknown() {
-        // Two comparisons: with one, the end of the first run would have to be kept.
-        if run.at < FIRST_RUN && run.at < last {
-            return KnownPass::new(KnownStop::Missing, run.at, run.id, run.found);
-        }
-        return KnownPass::new(KnownStop::Left, run.at, run.id, run.found);
+        return KnownStop::Left(left);
     }
     if next.is_dead() {
-        return KnownPass::new(KnownStop::Ended, run.at, run.id, run.found);
+        return KnownStop::Ended(run.at, run.found);
     }
     if next.is_quit() {
-        return KnownPass::new(KnownStop::Left, run.at, run.id, run.found);
+        return KnownStop::Left(left);
     }
-    let found = found_at(
-        dfa,
-        cache,
-        next,
-        place_offset(input, way, run.at),
-        run.found,
-    );
+    let offset = place_offset(input, way, run.at);
+    let found = found_at(dfa, cache, next, offset, run.found);
     if run.at >= last {
-        return KnownPass::new(KnownStop::Ended, run.at, run.id, found);
+        return KnownStop::Ended(run.at, found);
     }
     if input.get_earliest() && found.is_some() {
-        return KnownPass::new(KnownStop::Ended, run.at, run.id, found);
+        return KnownStop::Ended(run.at, found);
     }
-    KnownPass::new(KnownStop::Left, run.at + 1, next, found)
+    KnownStop::Left(left)
 }
 
 /// Returns the ID after the unit at a place: `met`, or at the last place the row's cell. It is unknown if the

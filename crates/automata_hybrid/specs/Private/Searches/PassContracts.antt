@@ -1,5 +1,7 @@
 -- What the functions of a search return: for a run over cached transitions, for a pass, and for the rest of one.
-use Rattle.std.specs.Prelude.{ℕ, List, Bool, suc, ◌≡◌, ◌-◌, ◌<◌, ◌≤◌, true, false, Option, Some, None, Result, Ok, Err}
+use Rattle.std.specs.Prelude.{ℕ, List, Bool, zero, suc, ◌≡◌, ◌-◌, ◌<◌, ◌≤◌, true, Option, Some, None}
+use Rattle.std.specs.Prelude.{Result, Ok, Err}
+use Rattle.automata_base.specs.Answers.Answers.{offset_in}
 use Rattle.automata_base.specs.Haystacks.Input.{Input, IsAllowed}
 use Rattle.automata_base.specs.Haystacks.Matches.{HalfMatch}
 use Rattle.automata_base.specs.declared.util.search.Direction.{Direction}
@@ -7,15 +9,14 @@ use Rattle.automata_base.specs.declared.util.search.Anchored.{Anchored}
 use Rattle.automata_base.specs.declared.util.search.Span.{Span}
 use Rattle.automata_config.specs.declared.error.SearchError.{SearchError}
 use Rattle.automata_hybrid.specs.Cache.Caches.{CacheView, IsCacheOf}
-use Rattle.automata_hybrid.specs.Cache.Ids.{unknown_id}
+use Rattle.automata_hybrid.specs.Cache.Table.{Names}
 use Rattle.automata_hybrid.specs.Machines.Machine.{Machine}
-use Rattle.automata_hybrid.specs.Searches.PassState.{IsAtAlong}
+use Rattle.automata_hybrid.specs.Searches.PassState.{IsAtAlong, half_at}
 use Rattle.automata_hybrid.specs.Private.Searches.PassState.{HasLearnedUnit, HasRun, IsFollowedAlong, IsMetAlong}
-use Rattle.automata_hybrid.specs.Private.Searches.PassState.{IsNextCell}
 use Rattle.automata_hybrid.specs.Searches.Traces.{Trace, pass_trace}
 use Rattle.automata_hybrid.specs.declared.search.fast.follow.Stop.{Stop}
 use Rattle.automata_hybrid.specs.declared.search.pass.KnownStop.{KnownStop}
-use Rattle.automata_hybrid.specs.declared.search.pass.KnownStop.TheVariants.{Ended, Left, Missing}
+use Rattle.automata_hybrid.specs.declared.search.pass.KnownStop.TheVariants.{Ended, Left}
 use Rattle.automata_hybrid.specs.declared.search.fast.run.Place.{Place}
 use Rattle.automata_hybrid.specs.Cache.Stores.{Stored}
 use Rattle.automata_hybrid.specs.Known.Known.{Known, ended}
@@ -69,18 +70,19 @@ pub record RunsAlong (s : Trace) (way : Direction) (m : Machine) (c : Stored) (i
   -- the next ID is the one that the next byte leads to, unless it is unknown
   pub met : IsMetAlong s way m c input to.at to.id to.next
 
--- a half match by its parts, if there is one
-abbrev pub half_if : Bool → (pattern offset : ℕ) → Option HalfMatch
-half_if true pattern offset = Some (record { pattern = pattern; offset = offset })
-half_if false pattern offset = None
+-- what a pass has found at place `k` if that is what its state there reports, which has these patterns
+abbrev pub found_there : Direction → Input → (k : ℕ) → (patterns : List ℕ) → Option HalfMatch
+found_there way input zero patterns = None
+found_there way input (suc j) patterns = half_at patterns (offset_in way input j) None
 
--- a pass over an input that is rebuilt from its parts has read its first `k` units, all by cached transitions
-pub record IsTakenUp (way : Direction) (m : Machine) (c : Stored) (input : Input) (k id : ℕ)
-    (found : Option HalfMatch) : Type 0 where
-  -- the span lies in the haystack
-  pub allowed : IsAllowed input
+-- a pass has read its first `k` units, all by cached transitions, and has found what its state there reports
+pub record IsTakenUp (way : Direction) (m : Machine) (c : Stored) (input : Input) (k id : ℕ) : Type 0 where
+  -- what the pass has found
+  pub found : Option HalfMatch
   -- the pass has read its first `k` units by cached transitions
   pub upto : IsKnownUpto way m c input k id found
+  -- it is what the state at the place reports
+  pub there : (q : Powerset) → Names c.table id q → found ≡ found_there way input k q.patterns
 
 -- cached transitions led a pass to its unit at place `k`, the last that it reads, from the state that this ID names,
 -- also by a cached transition: this is what it answers
@@ -99,14 +101,11 @@ pub record IsKnownEnd (way : Direction) (m : Machine) (c : CacheView) (input : I
   -- its transition is cached
   pub known : HasLearnedUnit way m c.store input k
 
--- cached transitions led a pass to a place and to what it found: it ended with the unit there, or has to continue from
--- there, where the transition may not be cached
-abbrev pub IsKnownStop :
-    Direction → Machine → CacheView → Input → KnownStop → (k id : ℕ) → Option HalfMatch → Type 0
-IsKnownStop way m c input Ended k id found = IsKnownEnd way m c input k id found
-IsKnownStop way m c input Missing k id found =
-    IsKnownUpto way m c.store input k id found × IsNextCell way m c.store input k id unknown_id
-IsKnownStop way m c input Left k id found = IsKnownUpto way m c.store input k id found
+-- cached transitions led a pass to where it stopped: it ended with the unit there, and answers this, or has to continue
+-- there
+abbrev pub IsKnownStop : Direction → Machine → CacheView → Input → KnownStop → Type 0
+IsKnownStop way m c input (Ended k found) = (id : ℕ) × IsKnownEnd way m c input k id found
+IsKnownStop way m c input (Left from) = IsTakenUp way m c.store input from.at from.id
 
 -- a pass that has begun returns a half match
 pub record HasReturned (way : Direction) (m : Machine) (input : Input) (begun new : Known) (half : Option HalfMatch) :

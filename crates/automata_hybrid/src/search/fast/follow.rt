@@ -23,6 +23,13 @@ use automata_base::util::search::{Direction, Input};
 /// cells, which costs little compared with this many bytes.
 const PATIENCE: usize = 128;
 
+/// A place of a run, and the ID of its state there. A function that is not inlined takes both in registers.
+#[derive(Clone, Copy)]
+pub(crate) struct Spot {
+    pub(crate) at: usize,
+    pub(crate) id: LazyStateID,
+}
+
 /// Where a run over cached transitions stopped.
 #[derive(Clone, Copy)]
 pub(crate) struct Stop {

@@ -20,7 +20,7 @@ use crate::cache::leaps::{Leaps, MARK};
 use crate::dfa::DFA;
 use crate::id::LazyStateID;
 use crate::search::direction::{bytes_from, input_of, last_place, span_offset};
-use crate::search::fast::follow::{Stop, follow, next_known};
+use crate::search::fast::follow::{Spot, Stop, follow, next_known};
 use crate::search::fast::self_loop::byte_at;
 use automata_base::util::search::{Anchored, Direction, Input, Span};
 
@@ -101,8 +101,10 @@ pub(crate) fn follow_any_leaps(
         input.get_anchored(),
         input.get_earliest(),
         way,
-        near.at,
-        near.id,
+        Spot {
+            at: near.at,
+            id: near.id,
+        },
     );
     Stop {
         at: far.at,
@@ -328,25 +330,24 @@ fn follow_far(
     anchored: Anchored,
     earliest: bool,
     way: Direction,
-    start: usize,
-    from: LazyStateID,
+    from: Spot,
 ) -> Stop
     ghost trace: { Trace }
     requires may { MayBegin dfa.now cache.old (input_at haystack.now span anchored earliest) }
     requires on { IsOnTrace trace way dfa.now cache.old.store.table
-        (input_at haystack.now span anchored earliest) start from }
+        (input_at haystack.now span anchored earliest) from.at from.id }
     requires open { span.start ≤ span.end }
-    requires within { start ≤ span.end - span.start }
+    requires within { from.at ≤ span.end - span.start }
     ensures same { cache.new ≡ cache.old }
     ensures far { FollowsAlong trace way dfa.now cache.old.store
-        (input_at haystack.now span anchored earliest) 0 start result }
+        (input_at haystack.now span anchored earliest) 0 from.at result }
     ensures read { result.at < span.end - span.start
         → IsNextCell way dfa.now cache.old.store
         (input_at haystack.now span anchored earliest) result.at result.id result.next }
 {
     let own = input_of(haystack, span, anchored, earliest);
-    cache.prepare_leaps(dfa, span_offset(&own, way, start));
-    leap_if(dfa, cache, &own, way, start, from)
+    cache.prepare_leaps(dfa, span_offset(&own, way, from.at));
+    leap_if(dfa, cache, &own, way, from.at, from.id)
 }
 
 /// Follows leaps, if there are any and the ID is untagged.

@@ -1,12 +1,12 @@
 //! Runs over cached transitions that keep what they found: to the next match, over matches, and by leaps.
-ghost use Rattle.std.specs.Prelude.{Option, ℕ, ◌-◌, ◌<◌, ◌≡◌, ◌≤◌};
+ghost use Rattle.std.specs.Prelude.{Option, ℕ, ◌-◌, ◌<◌, ◌≡◌, ◌≤◌, None};
 ghost use Rattle.automata_base.specs.Answers.Answers.{offset_in};
 ghost use Rattle.automata_base.specs.Haystacks.Matches.{HalfMatch};
 ghost use Rattle.automata_base.specs.Powersets.Powerset.{Powerset};
 ghost use Rattle.automata_hybrid.specs.Cache.Caches.{IsCacheOf};
 ghost use Rattle.automata_hybrid.specs.Cache.Ids.{HasMatchTag, unknown_id};
 ghost use Rattle.automata_hybrid.specs.Cache.Table.{IsRowId, Names};
-ghost use Rattle.automata_hybrid.specs.Private.Searches.PassContracts.{RunsAlong};
+ghost use Rattle.automata_hybrid.specs.Private.Searches.PassContracts.{RunsAlong, found_there};
 ghost use Rattle.automata_hybrid.specs.Private.Searches.PassState.{HasRun, IsMetAlong, IsNextCell, MayFollow};
 ghost use Rattle.automata_hybrid.specs.Private.Searches.Traces.{IsTrace};
 ghost use Rattle.automata_hybrid.specs.Searches.PassState.{IsAtAlong, half_at};
@@ -69,6 +69,8 @@ pub(crate) fn run_to_match(
     ensures runs { RunsAlong trace way dfa.now cache.now.store input.now start result }
     ensures read { result.at < end
         → IsNextCell way dfa.now cache.now.store input.now result.at result.id result.next }
+    ensures there { start ≡ 0 → found ≡ None → (q : Powerset) → Names cache.now.store.table result.id q
+        → result.found ≡ found_there way input.now result.at q.patterns }
 {
     let quiet = follow(dfa, cache, input, way, start, from, 0, end);
     if input.get_earliest() {

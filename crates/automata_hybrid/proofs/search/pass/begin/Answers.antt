@@ -2,8 +2,9 @@ use Rattle.std.proofs.Common.{ℕ, ◌≡◌, ◌∙◌, ap, None, refl, sym, su
 use Rattle.automata_hybrid.proofs.Words.{begun, dead, Direction, ended, Err, given_up_offset, HalfMatch, Input}
 use Rattle.automata_hybrid.proofs.Words.{known_of, Names, Ok, option_map, Result, Rows, SearchError, state_in}
 use Rattle.std.specs.Prelude.{Option}
-use Rattle.automata_base.specs.Haystacks.Input.{Allows}
-use Rattle.automata_hybrid.specs.Private.Searches.PassContracts.{IsKnownUpto, IsPassResult, IsRest, input_at}
+use Rattle.automata_base.specs.Haystacks.Input.{IsAllowed}
+use Rattle.automata_hybrid.specs.Private.Searches.PassContracts.{IsKnownUpto, IsPassResult, IsRest, IsTakenUp}
+use Rattle.automata_hybrid.specs.Private.Searches.PassContracts.{input_at}
 use Rattle.automata_hybrid.proofs.Searches.Directions.{begins_alive, begins_dead}
 use Rattle.automata_hybrid.proofs.Searches.PassContracts.{same_input}
 use Rattle.automata_hybrid.proofs.Searches.Reads.{at_err}
@@ -49,6 +50,14 @@ rest_passed c r same begins rest =
     (known_of c.rest.new.cache) r)
     same rest)
 
+pub rest-requires-clause-may : goal.rest-requires-clause-may
+rest-requires-clause-may c =
+    let same = same (goal.at.rest-requires-clause-may c).After-get_earliest in
+    record {
+      of = ap (λ (t : Rows). t.of) c.search_start.ensures.table ∙ c.in-Ok.ensures.of;
+      allowed = subst IsAllowed (sym same) c.get_span.ensures.valid.within;
+    }
+
 pub rest-requires-clause-at : goal.rest-requires-clause-at
 rest-requires-clause-at c =
     let d : Direction = c.args.way in
@@ -68,11 +77,9 @@ rest-requires-clause-at c =
             c.in-Ok.ensures.started.answer.named (c.see_bounds-2.ensures.sound.low c.in-Ok.start)
             c.see_bounds-2.ensures.bounds.small (λ b. false_true (c.if-is_dead.ensures.1 b))));
       };
-    } in record {
-      allowed = subst (λ (i : Input). Allows i.haystack i.start i.end) (sym same) c.get_span.ensures.valid.within;
-      upto =
-          subst (λ (i : Input). IsKnownUpto d m c.search_start.new.self.store i 0 c.in-Ok.start None) (sym same) at;
-    }
+    } in
+    subst (λ (i : Input). IsTakenUp d m c.search_start.new.self.store i 0 c.in-Ok.start) (sym same)
+    (record { found = None; upto = at; there = λ q named. refl })
 
 pub returns-in-Err-clause-passed : goal.returns-in-Err-clause-passed
 returns-in-Err-clause-passed c =

@@ -1,18 +1,14 @@
-use Rattle.std.proofs.Common.{ℕ, suc, ◌≡◌, ◌∙◌, ◌+◌, ◌-◌, ◌<◌, ◌≤◌, ◌^◌, None, true, length, subst, sym, refl, rules}
-use Rattle.std.proofs.Common.{arith}
+use Rattle.std.proofs.Common.{ℕ, ◌≡◌, ◌∙◌, ◌-◌, ◌<◌, ◌≤◌, ◌^◌, length, subst, sym, refl, arith}
 use Rattle.std.proofs.lemmas.Grind.{common_steps}
 use Rattle.automata_hybrid.proofs.Words.{Direction, tape_in}
-use Rattle.automata_hybrid.specs.Private.Searches.PassContracts.{IsKnownStop, IsKnownUpto}
-use Rattle.automata_hybrid.specs.declared.search.pass.KnownPass.{KnownPass}
+use Rattle.automata_hybrid.specs.Private.Searches.PassContracts.{IsKnownUpto, IsTakenUp}
 use Rattle.automata_hybrid.proofs.Searches.Directions.{units_in}
-use Rattle.automata_hybrid.proofs.Searches.KnownPasses.{known_dead, known_first, known_last, known_leads, known_more}
-use Rattle.automata_hybrid.proofs.Searches.PassState.{false_true, none_is, some_is}
+use Rattle.automata_hybrid.proofs.Searches.KnownPasses.{known_dead, known_first, known_last, known_leads}
+use Rattle.automata_hybrid.proofs.Searches.PassState.{false_true, some_is}
 use Rattle.automata_hybrid.proofs.Steps.Ids.{dead_clear}
 use Rattle.automata_hybrid.proofs.Searches.Traces.{pass_is_trace}
 use Rattle.automata_hybrid.proofs.search.pass.known_pass.Goals as goal
-use Rattle.automata_hybrid.proofs.search.pass.known_pass.Goals.{else-get_earliest-via-then-get_earliest+else-is_some}
 use Rattle.automata_hybrid.proofs.search.pass.known_pass.Goals.{After-run_to_match-run}
-use Rattle.automata_hybrid.proofs.search.pass.known_pass.Goals.{else-get_earliest-via-else-get_earliest}
 
 -- cached transitions led the pass there
 upto :
@@ -32,6 +28,17 @@ few :
 few c =
     let u = units_in c.args.way c.args.input.now c.requires.at.undone c.last_place-last.ensures.valid.within.1 in
     omega (arith, u, (upto c).within)
+
+-- the rest of the pass can continue there
+left :
+    (c : After-run_to_match-run)
+    → IsTakenUp c.args.way c.args.dfa.now c.args.cache.now.store c.args.input.now c.run_to_match-run.result.at
+    c.run_to_match-run.result.id
+left c = record {
+  found = c.run_to_match-run.result.found;
+  upto = upto c;
+  there = c.run_to_match-run.ensures.there refl refl;
+}
 
 pub found_at-found-requires-clause-leads : goal.found_at-found-requires-clause-leads
 found_at-found-requires-clause-leads c =
@@ -57,35 +64,35 @@ returns-then-is_dead-clause-stop c =
     let past = (goal.at.returns-then-is_dead-clause-stop c).After-run_to_match-run in
     let upto = upto past in
     let few = few past in
-    subst (λ (r : KnownPass). IsKnownStop d c.args.dfa.now c.args.cache.now c.args.input.now r.stop r.at r.id r.found)
-    (sym c.new-then-is_dead.ensures)
-    (known_dead d c.args.dfa.now c.args.input.now k c.run_to_match-run.result.id c.args.cache.now
+    let end =
+    known_dead d c.args.dfa.now c.args.input.now k c.run_to_match-run.result.id c.args.cache.now
     c.run_to_match-run.result.found
     c.known_next-next.result c.requires.of c.see_bounds.ensures.sound upto few
     (subst (λ n. n < 2 ^ 31) (c.known_next-next.ensures.value low) low) (c.known_next-next.ensures.answer low)
     (c.known_next-next.ensures.below low)
     (dead_clear c.args.cache.now c.known_next-next.result (c.known_next-next.ensures.answer low).row
     (c.see_bounds.ensures.sound.low c.known_next-next.result) c.see_bounds.ensures.bounds.small
-    (c.if-is_dead.ensures.0 refl)) (c.if-is_dead.ensures.0 refl))
+    (c.if-is_dead.ensures.0 refl)) (c.if-is_dead.ensures.0 refl) in
+    (c.run_to_match-run.result.id, end)
 
-pub returns-then-run-last-2-clause-stop : goal.returns-then-run-last-2-clause-stop
-returns-then-run-last-2-clause-stop c =
+pub returns-then-run-last-clause-stop : goal.returns-then-run-last-clause-stop
+returns-then-run-last-clause-stop c =
     let d : Direction = c.args.way in
     let k : ℕ = c.run_to_match-run.result.at in
     let low : c.known_next-next.result < 2 ^ 31 = grind (arith, common_steps, c.if-is_unknown.ensures.size) in
-    let past = (goal.at.returns-then-run-last-2-clause-stop c).After-run_to_match-run in
+    let past = (goal.at.returns-then-run-last-clause-stop c).After-run_to_match-run in
     let upto = upto past in
     let few = few past in
-    subst (λ (r : KnownPass). IsKnownStop d c.args.dfa.now c.args.cache.now c.args.input.now r.stop r.at r.id r.found)
-    (sym c.new-then-run-last-2.ensures)
-    (known_last d c.args.dfa.now c.args.input.now k c.run_to_match-run.result.id c.args.cache.now
+    let end =
+    known_last d c.args.dfa.now c.args.input.now k c.run_to_match-run.result.id c.args.cache.now
     c.run_to_match-run.result.found
     c.known_next-next.result c.requires.of c.see_bounds.ensures.sound upto few
     (subst (λ n. n < 2 ^ 31) (c.known_next-next.ensures.value low) low) (c.known_next-next.ensures.answer low)
     (c.known_next-next.ensures.below low) (λ b. false_true (c.if-is_quit.ensures.1 b)) c.found_at-found.result
-    c.place_offset.result c.place_offset.ensures.value c.found_at-found.ensures
+    c.place_offset-offset.result c.place_offset-offset.ensures.value c.found_at-found.ensures
     (let u = units_in d c.args.input.now c.requires.at.undone c.last_place-last.ensures.valid.within.1 in
-    omega (arith, u, upto.within, c.if-run-last-2.true, c.last_place-last.ensures.place)))
+    omega (arith, u, upto.within, c.if-run-last.true, c.last_place-last.ensures.place)) in
+    (c.run_to_match-run.result.id, end)
 
 pub returns-then-is_some-clause-stop : goal.returns-then-is_some-clause-stop
 returns-then-is_some-clause-stop c =
@@ -95,71 +102,24 @@ returns-then-is_some-clause-stop c =
     let past = (goal.at.returns-then-is_some-clause-stop c).After-run_to_match-run in
     let upto = upto past in
     let few = few past in
-    subst (λ (r : KnownPass). IsKnownStop d c.args.dfa.now c.args.cache.now c.args.input.now r.stop r.at r.id r.found)
-    (sym c.new-then-is_some.ensures)
-    (known_first d c.args.dfa.now c.args.input.now k c.run_to_match-run.result.id c.args.cache.now
+    let end =
+    known_first d c.args.dfa.now c.args.input.now k c.run_to_match-run.result.id c.args.cache.now
     c.run_to_match-run.result.found
     c.known_next-next.result c.requires.of c.see_bounds.ensures.sound upto few
     (subst (λ n. n < 2 ^ 31) (c.known_next-next.ensures.value low) low) (c.known_next-next.ensures.answer low)
     (c.known_next-next.ensures.below low) (λ b. false_true (c.if-is_quit.ensures.1 b)) c.found_at-found.result
-    c.place_offset.result c.place_offset.ensures.value c.found_at-found.ensures
-    (sym c.get_earliest.ensures ∙ c.if-get_earliest.true) (some_is c.found_at-found.result c.if-is_some.ensures))
+    c.place_offset-offset.result c.place_offset-offset.ensures.value c.found_at-found.ensures
+    (sym c.get_earliest.ensures ∙ c.if-get_earliest.true) (some_is c.found_at-found.result c.if-is_some.ensures) in
+    (c.run_to_match-run.result.id, end)
 
 pub returns-clause-stop : goal.returns-clause-stop
-returns-clause-stop c =
-    let d : Direction = c.args.way in
-    let k : ℕ = c.run_to_match-run.result.at in
-    let low : c.known_next-next.result < 2 ^ 31 = grind (arith, common_steps, c.if-is_unknown.ensures.size) in
-    let past = (goal.at.returns-clause-stop c).After-run_to_match-run in
-    let upto = upto past in
-    let few = few past in
-    let less : k < c.args.input.now.end - c.args.input.now.start =
-    omega (arith, c.if-run-last-2.false, c.last_place-last.ensures.place) in
-    let more : suc k ≡ c.run_to_match-run.result.at + 1 = omega arith in
-    let first : c.args.input.now.earliest ≡ true → c.found_at-found.result ≡ None =
-    elim c.else-get_earliest.branch [
-      | else-get_earliest-via-then-get_earliest+else-is_some w ↦ λ e. none_is c.found_at-found.result
-          (sym w.is_some.ensures ∙ w.if-is_some.false)
-      | else-get_earliest-via-else-get_earliest w ↦ λ e. absurd
-          (false_true (sym w.if-get_earliest.false ∙ (c.get_earliest.ensures ∙ e)))
-    ] in
-    subst (λ (r : KnownPass). IsKnownStop d c.args.dfa.now c.args.cache.now c.args.input.now r.stop r.at r.id r.found)
-    (sym c.new-2.ensures)
-    (subst
-    (λ n. IsKnownUpto d c.args.dfa.now c.args.cache.now.store c.args.input.now n c.known_next-next.result
-    c.found_at-found.result) more
-    (known_more d c.args.dfa.now c.args.input.now k c.run_to_match-run.result.id c.args.cache.now
-    c.run_to_match-run.result.found
-    c.known_next-next.result c.requires.of c.see_bounds.ensures.sound upto few
-    (subst (λ n. n < 2 ^ 31) (c.known_next-next.ensures.value low) low) (c.known_next-next.ensures.answer low)
-    (c.known_next-next.ensures.below low) (λ b. false_true (c.if-is_quit.ensures.1 b)) c.found_at-found.result
-    c.place_offset.result c.place_offset.ensures.value c.found_at-found.ensures
-    (λ b. false_true (c.if-is_dead.ensures.1 b)) first less))
+returns-clause-stop c = left (goal.at.returns-clause-stop c).After-run_to_match-run
 
 pub returns-then-is_unknown-clause-stop : goal.returns-then-is_unknown-clause-stop
-returns-then-is_unknown-clause-stop c =
-    let d : Direction = c.args.way in
-    let past = (goal.at.returns-then-is_unknown-clause-stop c).After-run_to_match-run in
-    let upto = upto past in
-    subst (λ (r : KnownPass). IsKnownStop d c.args.dfa.now c.args.cache.now c.args.input.now r.stop r.at r.id r.found)
-    (sym c.new-then-is_unknown.ensures) upto
-
-pub returns-then-run-last-clause-stop : goal.returns-then-run-last-clause-stop
-returns-then-run-last-clause-stop c =
-    let d : Direction = c.args.way in
-    let past = (goal.at.returns-then-run-last-clause-stop c).After-run_to_match-run in
-    let upto = upto past in
-    subst (λ (r : KnownPass). IsKnownStop d c.args.dfa.now c.args.cache.now c.args.input.now r.stop r.at r.id r.found)
-    (sym c.new.ensures)
-    (upto, search rules)
+returns-then-is_unknown-clause-stop c = left (goal.at.returns-then-is_unknown-clause-stop c).After-run_to_match-run
 
 pub returns-then-is_quit-clause-stop : goal.returns-then-is_quit-clause-stop
-returns-then-is_quit-clause-stop c =
-    let d : Direction = c.args.way in
-    let past = (goal.at.returns-then-is_quit-clause-stop c).After-run_to_match-run in
-    let upto = upto past in
-    subst (λ (r : KnownPass). IsKnownStop d c.args.dfa.now c.args.cache.now c.args.input.now r.stop r.at r.id r.found)
-    (sym c.new-then-is_quit.ensures) upto
+returns-then-is_quit-clause-stop c = left (goal.at.returns-then-is_quit-clause-stop c).After-run_to_match-run
 
 pub run_to_match-run-requires : goal.run_to_match-run-requires
 run_to_match-run-requires c =

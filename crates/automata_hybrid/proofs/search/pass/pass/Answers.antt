@@ -1,21 +1,18 @@
 use Rattle.automata_hybrid.proofs.Words.{begun, CacheView, Direction, Err, given_up_offset, HalfMatch, Input, known_of}
-use Rattle.automata_hybrid.proofs.Words.{Ok, option_map, Result, saturated, SearchError, total_len, unknown_id}
-use Rattle.automata_hybrid.proofs.Words.{with_searched, with_store}
-use Rattle.std.proofs.Common.{ℕ, Option, ◌≡◌, ◌+◌, ◌<◌, ◌^◌, None, ap, subst, sym, arith}
+use Rattle.automata_hybrid.proofs.Words.{Ok, option_map, Result, Rows, saturated, SearchError, total_len, with_searched}
+use Rattle.automata_hybrid.proofs.Words.{with_store}
+use Rattle.std.proofs.Common.{ℕ, Option, ◌≡◌, ◌∙◌, ◌+◌, ◌<◌, ◌^◌, ap, subst, sym, arith}
 use Rattle.std.proofs.lemmas.Grind.{common_steps}
-use Rattle.automata_base.specs.Haystacks.Input.{Allows}
-use Rattle.automata_hybrid.specs.Private.Searches.PassContracts.{IsKnownStop, IsKnownUpto, IsPassResult, IsRest}
-use Rattle.automata_hybrid.specs.Private.Searches.PassContracts.{half_if, input_at}
-use Rattle.automata_hybrid.specs.declared.search.pass.KnownStop.{KnownStop}
+use Rattle.automata_base.specs.Haystacks.Input.{IsAllowed}
+use Rattle.automata_hybrid.specs.Private.Searches.PassContracts.{IsPassResult, IsRest, IsTakenUp, input_at}
 use Rattle.automata_hybrid.proofs.Searches.Directions.{begins_alive}
-use Rattle.automata_hybrid.proofs.Searches.KnownPasses.{known_ended, known_upto}
+use Rattle.automata_hybrid.proofs.Searches.KnownPasses.{known_ended}
 use Rattle.automata_hybrid.proofs.Searches.PassContracts.{same_input}
 use Rattle.automata_hybrid.proofs.Searches.Contracts.{is_store}
 use Rattle.automata_hybrid.proofs.Searches.Goes.{begun_here, rest_passes}
 use Rattle.automata_hybrid.proofs.Searches.PassState.{starts_at}
 use Rattle.automata_hybrid.proofs.Searches.Units.{units_in}
 use Rattle.automata_hybrid.proofs.Steps.Ids.{low_bit}
-use Rattle.automata_hybrid.specs.Private.Searches.PassState.{IsNextCell}
 use Rattle.automata_hybrid.proofs.search.pass.pass.Goals as goal
 use Rattle.automata_hybrid.proofs.search.pass.pass.Goals.{After-get_earliest, After-rest}
 
@@ -66,75 +63,56 @@ known_pass-known-requires-clause-at c =
           low_bit 30 start (omega (arith, l)) b)));
     }
 
-pub returns-then-has_ended-clause-passed : goal.returns-then-has_ended-clause-passed
-returns-then-has_ended-clause-passed c =
+pub returns-in-Ended-clause-passed : goal.returns-in-Ended-clause-passed
+returns-in-Ended-clause-passed c =
     let d : Direction = c.args.way in
     let old = c.args.cache.now in
     let low : c.known_start-start.result < 2 ^ 31 = grind (arith, common_steps, c.if-is_fixed.ensures) in
     let run = c.known_start-start.ensures.run low in
-    let known = c.known_pass-known.result in
-    let end =
-    subst
-    (λ (s : KnownStop). IsKnownStop d c.args.dfa.now old c.args.input.now s known.at known.id known.found)
-    (c.has_ended.ensures.yes c.if-has_ended.true) c.known_pass-known.ensures.stop in
+    let end = c.in-Ended.ensures.stop in
     let counted =
     subst
     (λ n. c.count_search.new.self ≡ with_store old
     (with_searched old.store (record { bytes = saturated (total_len old.store.searched + n); running = None })))
     c.bytes_read.ensures c.count_search.ensures.value in
     record {
-      answer = end.answer;
+      answer = end.1.answer;
       ends = record {
         may = run.may;
         begun = begun (given_up_offset d c.args.input.now 0) (known_of old);
         starts = ap (option_map (begun (given_up_offset d c.args.input.now 0))) run.does;
         ends =
-            known_ended d c.args.dfa.now c.args.input.now c.known_pass-known.result.at c.known_pass-known.result.id
-            old c.known_pass-known.result.found c.count_search.new.self c.see_machine.ensures.machine
+            known_ended d c.args.dfa.now c.args.input.now c.in-Ended.at end.0 old c.in-Ended.found
+            c.count_search.new.self c.see_machine.ensures.machine
             (units_in d c.args.input.now
-            (c.known_pass-known.ensures.valid.bytes, c.known_pass-known.ensures.valid.within.1) c.requires.«open»)
-            end (is_store old.store c.args.dfa.now c.requires.of c.see_bounds.ensures.bounds) counted;
+            (c.in-Ended.ensures.valid.bytes, c.in-Ended.ensures.valid.within.1) c.requires.«open»)
+            end.1 (is_store old.store c.args.dfa.now c.requires.of c.see_bounds.ensures.bounds) counted;
       };
+    }
+
+pub rest-requires-clause-may : goal.rest-requires-clause-may
+rest-requires-clause-may c =
+    let same = same (goal.at.rest-requires-clause-may c).After-get_earliest in
+    record {
+      of = ap (λ (t : Rows). t.of) c.search_start.ensures.table ∙ c.requires.of;
+      allowed = subst IsAllowed (sym same) c.get_span.ensures.valid.within;
     }
 
 pub rest-requires-clause-at : goal.rest-requires-clause-at
 rest-requires-clause-at c =
     let d : Direction = c.args.way in
     let m = c.args.dfa.now in
-    let known = c.known_pass-known.result in
-    let k : IsKnownUpto d m c.args.cache.now.store c.args.input.now known.at known.id known.found =
-    known_upto d m c.args.cache.now c.args.input.now known.stop known.at known.id known.found
-    (c.has_ended.ensures.no c.if-has_ended.false) c.known_pass-known.ensures.stop in
+    let from = c.in-Left.from in
     let same = same (goal.at.rest-requires-clause-at c).After-get_earliest in
-    let upto =
-    subst
-    (λ (o : Option HalfMatch). IsKnownUpto d m c.search_start.new.self.store c.args.input.now known.at known.id o)
-    (sym c.parts_of-before.ensures)
-    (subst
-    (λ (v : CacheView). IsKnownUpto d m v.store c.args.input.now known.at known.id known.found)
-    (sym c.search_start.ensures.value) (record { within = k.within; at = k.at; known = k.known })) in
-    record {
-      allowed = subst (λ (i : Input). Allows i.haystack i.start i.end) (sym same) c.get_span.ensures.valid.within;
-      upto =
-          subst
-          (λ (i : Input). IsKnownUpto d m c.search_start.new.self.store i known.at known.id
-          (half_if c.parts_of-before.result.0 c.parts_of-before.result.1 c.parts_of-before.result.2))
-          (sym same) upto;
-    }
-
-pub rest-requires-clause-missing : goal.rest-requires-clause-missing
-rest-requires-clause-missing c = λ missing.
-    let d : Direction = c.args.way in
-    let m = c.args.dfa.now in
-    let known = c.known_pass-known.result in
-    let same = same (goal.at.rest-requires-clause-missing c).After-get_earliest in
-    let cell =
-    (subst
-    (λ (s : KnownStop). IsKnownStop d m c.args.cache.now c.args.input.now s known.at known.id known.found)
-    (c.is_missing.ensures missing) c.known_pass-known.ensures.stop).1 in
-    subst (λ (i : Input). IsNextCell d m c.search_start.new.self.store i known.at known.id unknown_id) (sym same)
-    (subst (λ (v : CacheView). IsNextCell d m v.store c.args.input.now known.at known.id unknown_id)
-    (sym c.search_start.ensures.value) (cell.0, cell.1))
+    let k : IsTakenUp d m c.args.cache.now.store c.args.input.now from.at from.id = c.in-Left.ensures.stop in
+    subst (λ (i : Input). IsTakenUp d m c.search_start.new.self.store i from.at from.id) (sym same)
+    (subst (λ (v : CacheView). IsTakenUp d m v.store c.args.input.now from.at from.id)
+    (sym c.search_start.ensures.value)
+    (record {
+      found = k.found;
+      upto = record { within = k.upto.within; at = k.upto.at; known = k.upto.known };
+      there = k.there;
+    }))
 
 pub returns-in-Ok-clause-passed : goal.returns-in-Ok-clause-passed
 returns-in-Ok-clause-passed c =

@@ -1,7 +1,7 @@
 use Rattle.std.proofs.Common.{suc, ◌≡◌, ◌∙◌, ◌-◌, Some, ap, sym, arith}
 use Rattle.automata_hybrid.proofs.Words.{HalfMatch, Rows}
 use Rattle.automata_hybrid.proofs.Fast.Runs.{first_half, followed_at, followed_known, known_after, matched_at}
-use Rattle.automata_hybrid.proofs.Fast.Runs.{no_tag}
+use Rattle.automata_hybrid.proofs.Fast.Runs.{no_tag, quiet_there, reports_there}
 use Rattle.automata_hybrid.proofs.Caches.Rows.{Leads-Names}
 use Rattle.automata_hybrid.proofs.search.fast.run.run_to_match.Goals as goal
 
@@ -64,3 +64,22 @@ returns-clause-runs g c =
           (followed_at followed c.requires.1.0.on.trace c.requires.1.1);
       met = c.follow_matches-stop.ensures.met;
     }
+
+pub returns-then-get_earliest-clause-there : goal.returns-then-get_earliest-clause-there
+returns-then-get_earliest-clause-there g c =
+    quiet_there c.follow-quiet.ensures.to.followed c.args.found
+
+pub returns-then-not-has_only-clause-there : goal.returns-then-not-has_only-clause-there
+returns-then-not-has_only-clause-there g c =
+    quiet_there c.follow-quiet.ensures.to.followed c.args.found
+
+pub returns-clause-there : goal.returns-clause-there
+returns-clause-there g c = λ start none q named.
+    let matches = c.follow_matches-stop.ensures.run in
+    let here : c.follow_matches-stop.result.at ≡ suc (c.follow_matches-stop.result.at - 1) =
+    omega (arith, matches.further) in
+    let some = (c.see_bounds.ensures.sound.tagged _ q named).0 matches.reports in
+    ap (λ (h : HalfMatch). Some h) c.new.ensures
+    ∙ reports_there c.args.way c.args.input.now q.patterns c.follow_matches-stop.result.at
+    (c.follow_matches-stop.result.at - 1) c.first_pattern-pattern.result c.place_offset-offset.result here
+    c.place_offset-offset.ensures.value some (c.first_pattern-pattern.ensures q named)
