@@ -9,7 +9,7 @@ ghost use Rattle.std.specs.Prelude.{◌≡◌, IfOk, IfSome, IsTrue, false};
 ghost use Rattle.automata_transform.specs.Answers.Alike.{AnswerAlike};
 ghost use Rattle.automata_base.specs.Nfas.Engines.{engine_of};
 ghost use Rattle.automata_transform.specs.Nfas.MergedNfas.{BeginsAs, IsMergedNfa, KeepsBounds};
-ghost use Rattle.automata_base.specs.Powersets.Cuts.{MatchKind};
+ghost use Rattle.automata_base.specs.declared.util.search.MatchKind.{MatchKind};
 
 use crate::laws::merged_answers_alike;
 use crate::standing::{is_merged, is_plain, stands_for};
@@ -29,7 +29,7 @@ const MORE: usize = 4096;
 
 /// The states of a merged NFA: those of the NFA, some of them replaced, followed by additional ones.
 #[derive(Drop)]
-pub struct Merged {
+pub struct MergedStates {
     /// The states.
     pub states: Vec<State>,
     /// For each additional state, the states of the NFA that it stands for.
@@ -357,7 +357,7 @@ impl Merging {
 }
 
 /// Returns the states of the merged NFA, or none if a limit was exceeded.
-pub fn merge(nfa: &NFA) -> Result<Option<Merged>, AllocError> {
+pub fn merge(nfa: &NFA) -> Result<Option<MergedStates>, AllocError> {
     let alloc = nfa.alloc();
     let count = nfa.states().len();
     let most = count.saturating_mul(EACH).saturating_add(MORE);
@@ -381,7 +381,7 @@ pub fn merge(nfa: &NFA) -> Result<Option<Merged>, AllocError> {
     if is_short {
         return Ok(None);
     }
-    Ok(Some(Merged { states, lists }))
+    Ok(Some(MergedStates { states, lists }))
 }
 
 /// Returns the NFA with its wide unions merged: consecutive alternates that read bytes become one state, which
@@ -428,12 +428,12 @@ fn unmerged(nfa: &NFA) -> Result<NFA, AllocError>
 }
 
 /// Returns the NFA of these states if it is `nfa` with unions merged, and otherwise `nfa`.
-fn merged_as(nfa: &NFA, merged: Merged) -> Result<NFA, AllocError>
+fn merged_as(nfa: &NFA, merged: MergedStates) -> Result<NFA, AllocError>
     requires { nfa.now.keeps_unions ≡ false }
     ensures merged { IfOk result (λ made. IsMergedNfa nfa.now made) }
     ensures bounds { IfOk result (λ made. KeepsBounds nfa.now made) }
 {
-    let Merged { states, lists } = merged;
+    let MergedStates { states, lists } = merged;
     match with_states(nfa, states)? {
         Some(made) => if_merged(nfa, made, lists.as_slice()),
         None => unmerged(nfa),
