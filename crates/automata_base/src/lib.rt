@@ -1,4 +1,4 @@
-//! The base of the lazy DFA: NFAs, inputs, determinization, and the laws that searches rely on.
+//! The base of the lazy DFA: NFAs and their builder, inputs, epsilon closures, and what the answers of searches mean.
 #![tactic(auto)]
 
 pub mod laws;

@@ -9,7 +9,7 @@ ghost use Rattle.std.specs.Prelude.{◌≡◌, IfOk, IfSome, IsTrue, false};
 ghost use Rattle.automata_transform.specs.Answers.Alike.{AnswerAlike};
 ghost use Rattle.automata_base.specs.Nfas.Engines.{engine_of};
 ghost use Rattle.automata_transform.specs.Nfas.MergedNfas.{BeginsAs, IsMergedNfa, KeepsBounds};
-ghost use Rattle.automata_base.specs.Powersets.Cuts.{MatchKind};
+ghost use Rattle.automata_base.specs.declared.util.search.MatchKind.{MatchKind};
 
 use crate::laws::merged_answers_alike;
 use crate::standing::{is_merged, is_plain, stands_for};

@@ -13,7 +13,7 @@ ghost use Rattle.automata_base.specs.Nfas.Accepted.{IsChecked};
 ghost use Rattle.automata_base.specs.Nfas.Automata.{automaton};
 ghost use Rattle.automata_transform.specs.Nfas.Mirrors.{BeginsAlike, IsReversalOf, ReadsAlike, reversed_flags};
 ghost use Rattle.automata_transform.specs.Nfas.Mirrors.{IsReversedByPattern};
-ghost use Rattle.automata_base.specs.Powersets.Cuts.{MatchKind};
+ghost use Rattle.automata_base.specs.declared.util.search.MatchKind.{MatchKind};
 ghost use Rattle.automata_base.specs.Nfas.Engines.{engine_of};
 ghost use Rattle.automata_base.specs.Nfas.Getters.{SkipsLazily};
 ghost use Rattle.automata_base.specs.Answers.TruePairs.{IsTruePair};

@@ -5,14 +5,16 @@ use Rattle.std.proofs.lemmas.Bool.{cases_lt}
 use Rattle.automata_base.specs.Paths.Order.{Upto, Begins}
 use Rattle.automata_base.specs.Nfas.Nfa.{Nfa, accepts}
 use Rattle.automata_base.specs.Paths.Paths.{Tape, IsPathFrom, IsPath}
-use Rattle.automata_base.specs.Powersets.Cuts.{MatchKind, All, LeftmostFirst}
+use Rattle.automata_base.specs.declared.util.search.MatchKind.{MatchKind}
+use Rattle.automata_base.specs.declared.util.search.MatchKind.TheVariants.{All, LeftmostFirst}
 use Rattle.automata_base.specs.Paths.Selections.{Accepts, ByEdges, ByPlace, IsChosen, IsPreferred, Pair, Selects}
 use Rattle.automata_base.specs.Paths.Selections.{IsFarthest}
 use Rattle.automata_determinize.proofs.Paths.Orders.{before_upto}
 use Rattle.automata_base.proofs.Paths.Orders.{before_irrefl, nil_cons}
 use Rattle.automata_base.proofs.Paths.Searches.{accepting_inside}
 use Rattle.automata_base.proofs.Paths.Places.{path_grows}
-use Rattle.automata_base.specs.Nfas.Engines.{Engine, No, BeginsAnchored, LoopsLazily}
+use Rattle.automata_base.specs.Nfas.Engines.{Engine, BeginsAnchored, LoopsLazily}
+use Rattle.automata_base.specs.declared.util.search.Anchored.TheVariants.{No}
 use Rattle.automata_base.specs.Answers.Spans.{IsPathStart, Chooses}
 use Rattle.automata_base.proofs.Answers.Loops.{skips, skipping, sooner_less}
 use Rattle.automata_base.proofs.Answers.Loops.{HasBytes}

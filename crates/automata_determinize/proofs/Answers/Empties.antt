@@ -11,7 +11,8 @@ use Rattle.automata_base.proofs.Paths.Walks.{walk_run}
 use Rattle.automata_base.proofs.Paths.Sets.{HasWalk, walk_then, in_nth, nth_in}
 use Rattle.automata_base.proofs.Paths.Readings.{sorted_has}
 use Rattle.automata_determinize.proofs.Paths.Fuels.{AllBelow, closure_right}
-use Rattle.automata_base.specs.Nfas.Engines.{Engine, Pattern, HasEmptyMatch, IsSkipping}
+use Rattle.automata_base.specs.Nfas.Engines.{Engine, HasEmptyMatch, IsSkipping}
+use Rattle.automata_base.specs.declared.util.search.Anchored.TheVariants.{Pattern}
 use Rattle.automata_base.specs.Answers.Answers.{IsSound}
 
 abbrev pub is_match_state : Option ℕ → Bool

@@ -4,10 +4,13 @@ use Rattle.std.proofs.Common.{sym, ap, ◌∙◌, subst, arith}
 use Rattle.automata_base.specs.Paths.Paths.{Tape}
 use Rattle.automata_base.proofs.Paths.Searches.{accepting_inside}
 use Rattle.automata_base.proofs.Paths.Places.{path_grows}
-use Rattle.automata_base.specs.Haystacks.Tapes.{IsHaystack, Forward, Backward, forward_tape, reverse_tape, is_split}
+use Rattle.automata_base.specs.Haystacks.Tapes.{IsHaystack, forward_tape, reverse_tape, is_split}
+use Rattle.automata_base.specs.declared.util.search.Direction.TheVariants.{Forward, Backward}
 use Rattle.automata_base.specs.Paths.Selections.{IsFarthest, Selects}
-use Rattle.automata_base.specs.Powersets.Cuts.{All}
-use Rattle.automata_base.specs.Nfas.Engines.{Engine, Anchored, No, Yes, Pattern, BeginsAnchored, IsSkipping}
+use Rattle.automata_base.specs.declared.util.search.MatchKind.TheVariants.{All}
+use Rattle.automata_base.specs.Nfas.Engines.{Engine, BeginsAnchored, IsSkipping}
+use Rattle.automata_base.specs.declared.util.search.Anchored.{Anchored}
+use Rattle.automata_base.specs.declared.util.search.Anchored.TheVariants.{No, Yes, Pattern}
 use Rattle.automata_base.specs.Nfas.Engines.{LoopsLazily, BeginsLazily, LazyLoop, SharedStart}
 use Rattle.automata_base.specs.Answers.Answers.{Half, IsAnswer, SelectsOver}
 use Rattle.automata_base.specs.Haystacks.Input.{Input}

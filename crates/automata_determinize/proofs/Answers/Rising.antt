@@ -2,7 +2,8 @@
 use Rattle.std.proofs.Common.{ℕ, suc, ◌≡◌, ◌<◌, ◌≤◌, ◌+◌, ◌-◌, List, [], ◌∷◌, ◌⊎◌, length, Option, Some}
 use Rattle.std.proofs.Common.{None, inl, inr, refl, ap, ◌∙◌, subst, arith, eq-or-lt_of_le}
 use Rattle.automata_base.proofs.Paths.Searches.{accepting_inside}
-use Rattle.automata_base.specs.Haystacks.Tapes.{IsHaystack, Forward, Backward, reverse_tape}
+use Rattle.automata_base.specs.Haystacks.Tapes.{IsHaystack, reverse_tape}
+use Rattle.automata_base.specs.declared.util.search.Direction.TheVariants.{Forward, Backward}
 use Rattle.automata_base.specs.Nfas.Engines.{Engine, IsSkipping}
 use Rattle.automata_base.specs.Answers.Answers.{Half, IsAnswer, SelectsOver}
 use Rattle.automata_base.specs.Haystacks.Input.{Input}

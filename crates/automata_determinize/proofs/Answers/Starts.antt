@@ -7,8 +7,11 @@ use Rattle.automata_base.specs.Paths.Paths.{Tape, IsPathFrom}
 use Rattle.automata_base.specs.Paths.Selections.{Accepts, Pair, IsFarthest}
 use Rattle.automata_base.proofs.Paths.Orders.{some_inj, some_none}
 use Rattle.automata_base.proofs.Paths.Places.{path_grows}
-use Rattle.automata_base.specs.Haystacks.Tapes.{IsHaystack, Forward, Backward, forward_tape, reverse_tape, is_split}
-use Rattle.automata_base.specs.Nfas.Engines.{Engine, Anchored, No, Yes, Pattern, first_state, LoopsLazily, IsSkipping}
+use Rattle.automata_base.specs.Haystacks.Tapes.{IsHaystack, forward_tape, reverse_tape, is_split}
+use Rattle.automata_base.specs.declared.util.search.Direction.TheVariants.{Forward, Backward}
+use Rattle.automata_base.specs.Nfas.Engines.{Engine, first_state, LoopsLazily, IsSkipping}
+use Rattle.automata_base.specs.declared.util.search.Anchored.{Anchored}
+use Rattle.automata_base.specs.declared.util.search.Anchored.TheVariants.{No, Yes, Pattern}
 use Rattle.automata_base.specs.Answers.Answers.{Half, later, IsSplit, Tries, SpanIsDone}
 use Rattle.automata_base.specs.Answers.Answers.{SpanReportsNone}
 use Rattle.automata_base.specs.Answers.Answers.{StopsAtSplit}

@@ -10,9 +10,12 @@ use Rattle.automata_base.specs.Paths.Selections.{Pair}
 use Rattle.automata_determinize.specs.Retraced.Passes.{search_of}
 use Rattle.automata_base.specs.Nfas.Accepted.{IsInRange}
 use Rattle.automata_determinize.proofs.Paths.Finals.{search_right}
-use Rattle.automata_base.specs.Haystacks.Tapes.{IsHaystack, Direction, Forward, Backward, tape_of, between, byte_before}
+use Rattle.automata_base.specs.Haystacks.Tapes.{IsHaystack, tape_of, between, byte_before}
+use Rattle.automata_base.specs.declared.util.search.Direction.{Direction}
+use Rattle.automata_base.specs.declared.util.search.Direction.TheVariants.{Forward, Backward}
 use Rattle.automata_base.specs.Haystacks.Tapes.{is_split}
-use Rattle.automata_base.specs.Nfas.Engines.{Engine, No, first_state, IsSkipping}
+use Rattle.automata_base.specs.Nfas.Engines.{Engine, first_state, IsSkipping}
+use Rattle.automata_base.specs.declared.util.search.Anchored.TheVariants.{No}
 use Rattle.automata_base.specs.Answers.Answers.{Half, SelectsFrom, SelectsOver, later, offset_in, IsAnswer, IsInput}
 use Rattle.automata_base.specs.Answers.Answers.{HasAnswerAt, IsSound, SpanIsDone, SpanReportsNone, StopsAtSplit}
 use Rattle.automata_base.specs.Answers.Answers.{IsFirstSpan, SkipsToIt}

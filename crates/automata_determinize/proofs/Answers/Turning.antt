@@ -7,7 +7,7 @@ use Rattle.automata_base.specs.Haystacks.Input.{Input}
 use Rattle.automata_base.specs.Paths.Selections.{Pair}
 use Rattle.automata_base.specs.Answers.Spans.{FindsStartBy, Found, NotAPair, Outcome, ReportsBy, StartIsBase}
 use Rattle.automata_base.specs.Answers.Spans.{StartIsFound, back}
-use Rattle.automata_base.specs.Haystacks.Tapes.{Direction}
+use Rattle.automata_base.specs.declared.util.search.Direction.{Direction}
 
 -- Replaces what is reported over the spans that a search tries.
 module _ (T U : Input → Option Pair → Type 0) (S : Type 0) (way : Direction) (input : Input)

@@ -7,9 +7,9 @@ use Rattle.automata_base.specs.Answers.Answers.{with_offsets}
 use Rattle.automata_base.specs.Retraced.Computed.{is_in}
 use Rattle.automata_determinize.specs.Retraced.Computed.{once_past}
 use Rattle.automata_determinize.specs.Retraced.Passes.{earlier_or, pair_at, first_among}
-use Rattle.automata_base.specs.Powersets.Cuts.{MatchKind}
+use Rattle.automata_base.specs.declared.util.search.MatchKind.{MatchKind}
 use Rattle.automata_base.specs.Nfas.Accepted.{IsChecked}
-use Rattle.automata_base.specs.Nfas.Engines.{Anchored}
+use Rattle.automata_base.specs.declared.util.search.Anchored.{Anchored}
 use Rattle.automata_base.specs.Haystacks.Input.{Input}
 use Rattle.automata_base.specs.Lists.{In, pick, cons_some}
 use Rattle.automata_base.specs.Nfas.Nfa.{accepts}
@@ -19,7 +19,9 @@ use Rattle.automata_base.specs.Powersets.Powerset.{Powerset}
 use Rattle.automata_base.specs.Paths.Selections.{Pair}
 use Rattle.automata_base.specs.Paths.Starts.{mode_start}
 use Rattle.automata_determinize.specs.Retraced.Steps.{start_or_dead, start_state_of, successor}
-use Rattle.automata_base.specs.Haystacks.Tapes.{Direction, Forward, Backward, tape_of}
+use Rattle.automata_base.specs.declared.util.search.Direction.{Direction}
+use Rattle.automata_base.specs.declared.util.search.Direction.TheVariants.{Forward, Backward}
+use Rattle.automata_base.specs.Haystacks.Tapes.{tape_of}
 use Rattle.automata_determinize.specs.Retraced.Passes.{first_reported, last_reported, state_after, reported_at}
 use Rattle.automata_determinize.specs.Retraced.Passes.{reported_upto}
 use Rattle.automata_determinize.specs.Answers.OfPasses.{IsReported, reported_over}

@@ -2,7 +2,8 @@
 use Rattle.std.proofs.Common.{ℕ, zero, suc, ◌≡◌, Bool, true, false, cond, List, [], ◌∷◌, ◌↔◌, Option, Some, None}
 use Rattle.std.proofs.Common.{refl, sym, ap, ◌∙◌, subst}
 use Rattle.automata_base.specs.Lists.{In, IsListOf, pick, From}
-use Rattle.automata_base.specs.Haystacks.Looks.{Look, holds}
+use Rattle.automata_base.specs.declared.util.look.Look.{Look}
+use Rattle.automata_base.specs.Haystacks.Looks.{holds}
 use Rattle.automata_base.specs.Nfas.Nfa.{Nfa, Node, Split, Assert, Read, Accept, Truth, node, hop, hop_at, keep, ends}
 use Rattle.automata_base.specs.Nfas.Nfa.{stays_at, ends_at, keeps}
 use Rattle.automata_base.specs.Paths.Paths.{IsPathAt, KeepsCycles, IsClosure}

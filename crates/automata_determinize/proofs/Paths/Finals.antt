@@ -4,7 +4,8 @@ use Rattle.std.proofs.Common.{None, refl, sym, subst, arith, ⊎_elim, eq-or-lt_
 use Rattle.automata_base.specs.Lists.{IsSet}
 use Rattle.automata_base.specs.Nfas.Nfa.{Nfa}
 use Rattle.automata_base.specs.Paths.Paths.{Tape, KeepsCycles}
-use Rattle.automata_base.specs.Powersets.Cuts.{MatchKind, All}
+use Rattle.automata_base.specs.declared.util.search.MatchKind.{MatchKind}
+use Rattle.automata_base.specs.declared.util.search.MatchKind.TheVariants.{All}
 use Rattle.automata_base.specs.Paths.Selections.{Accepts, Pair, IsNearest, IsFarthest, Pairs, Selects}
 use Rattle.automata_determinize.specs.Paths.Selections.{Reports}
 use Rattle.automata_base.specs.Paths.Selections.{IsOverlappingOn}

@@ -6,7 +6,9 @@ use Rattle.automata_base.specs.Lists.{IsListOf, cons_some, pick, From}
 use Rattle.std.specs.Prelude.{slice_get}
 use Rattle.automata_base.specs.Nfas.Nfa.{Nfa, accepts, ends, takes}
 use Rattle.automata_base.specs.Paths.Paths.{IsPathAt, Tape, IsPath, truth, prev, next, next_in, KeepsCycles}
-use Rattle.automata_base.specs.Powersets.Cuts.{MatchKind, All, LeftmostFirst, cut, cut_for, IsOnce, targets}
+use Rattle.automata_base.specs.declared.util.search.MatchKind.{MatchKind}
+use Rattle.automata_base.specs.declared.util.search.MatchKind.TheVariants.{All, LeftmostFirst}
+use Rattle.automata_base.specs.Powersets.Cuts.{cut, cut_for, IsOnce, targets}
 use Rattle.automata_determinize.specs.Powersets.Passes.{IsTape, IsClosureOf, IsDecided, IsSuccessor, IsStart, IsPass}
 use Rattle.automata_base.specs.Powersets.Powerset.{Powerset}
 use Rattle.automata_base.specs.Paths.Selections.{Accepts, IsFirstAt, ArePatternsAt, ReportsLeast}

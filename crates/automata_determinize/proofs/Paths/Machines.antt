@@ -3,17 +3,24 @@ use Rattle.std.proofs.Common.{ℕ, zero, suc, ◌≡◌, ◌<◌, Bool, true, fa
 use Rattle.std.proofs.Common.{length, Option, Some, None, inl, inr, refl, sym, ap, ◌∙◌, subst, arith, ⊎_elim}
 use Rattle.std.proofs.Common.{true≢false}
 use Rattle.std.proofs.lemmas.Bool.{eqb-true, eq-eqb}
-use Rattle.automata_base.specs.Haystacks.Looks.{Look, Start, End, StartLF, EndLF, StartCRLF, EndCRLF, WordAscii}
-use Rattle.automata_base.specs.Haystacks.Looks.{WordAsciiNegate, WordUnicode, WordUnicodeNegate, WordStartAscii}
-use Rattle.automata_base.specs.Haystacks.Looks.{WordEndAscii, WordStartUnicode, WordEndUnicode, WordStartHalfAscii}
-use Rattle.automata_base.specs.Haystacks.Looks.{WordEndHalfAscii, WordStartHalfUnicode, WordEndHalfUnicode, holds}
+use Rattle.automata_base.specs.declared.util.look.Look.{Look}
+use Rattle.automata_base.specs.declared.util.look.Look.TheVariants.{Start, End, StartLF, EndLF, StartCRLF, EndCRLF}
+use Rattle.automata_base.specs.declared.util.look.Look.TheVariants.{WordAscii}
+use Rattle.automata_base.specs.declared.util.look.Look.TheVariants.{WordAsciiNegate, WordUnicode, WordUnicodeNegate}
+use Rattle.automata_base.specs.declared.util.look.Look.TheVariants.{WordStartAscii}
+use Rattle.automata_base.specs.declared.util.look.Look.TheVariants.{WordEndAscii, WordStartUnicode, WordEndUnicode}
+use Rattle.automata_base.specs.declared.util.look.Look.TheVariants.{WordStartHalfAscii}
+use Rattle.automata_base.specs.declared.util.look.Look.TheVariants.{WordEndHalfAscii, WordStartHalfUnicode}
+use Rattle.automata_base.specs.declared.util.look.Look.TheVariants.{WordEndHalfUnicode}
+use Rattle.automata_base.specs.Haystacks.Looks.{holds}
 use Rattle.automata_base.specs.Haystacks.Looks.{is_absent, is_byte, is_word, differ, first_half, second_half}
 use Rattle.automata_base.specs.Lists.{In, From, pick}
 use Rattle.std.specs.Prelude.{slice_get}
 use Rattle.automata_base.specs.Nfas.Nfa.{Nfa, Assert, Truth, node, takes}
 use Rattle.automata_base.specs.Nfas.Nfa.{accepts, keep, looks_at, any_node}
 use Rattle.automata_base.specs.Paths.Paths.{IsPathAt, Tape, next, IsClosure}
-use Rattle.automata_base.specs.Powersets.Cuts.{MatchKind, cut_for, targets, IsOnce}
+use Rattle.automata_base.specs.declared.util.search.MatchKind.{MatchKind}
+use Rattle.automata_base.specs.Powersets.Cuts.{cut_for, targets, IsOnce}
 use Rattle.automata_determinize.specs.Powersets.Passes.{IsUnit, IsKnownLook, IsNeeded, IsMake}
 use Rattle.automata_base.specs.Powersets.Passes.{Occurs, is_word_look}
 use Rattle.automata_base.specs.Powersets.Passes.{is_crlf_look}

@@ -1,6 +1,6 @@
 -- What a pass over its span reports, to a walk and to a search.
 use Rattle.std.specs.Prelude.{ℕ, suc, ◌<◌, ◌≤◌, Bool, true, false, List, [], ◌∷◌, length, Option, Some, None}
-use Rattle.automata_base.specs.Powersets.Cuts.{MatchKind}
+use Rattle.automata_base.specs.declared.util.search.MatchKind.{MatchKind}
 use Rattle.automata_base.specs.Nfas.Nfa.{Nfa}
 use Rattle.automata_base.specs.Paths.Paths.{Tape}
 use Rattle.automata_base.specs.Paths.Selections.{Pair, Pairs}

@@ -4,10 +4,12 @@ use Rattle.std.proofs.Common.{Some, None, inl, inr, refl, sym, ap, ◌∙◌, su
 use Rattle.std.proofs.Common.{le_of_suc-le-suc}
 use Rattle.automata_base.specs.Lists.{In, IsSet, IsListOf, cons_some, pick, From}
 use Rattle.std.specs.Prelude.{slice_get}
-use Rattle.automata_base.specs.Haystacks.Looks.{Look}
+use Rattle.automata_base.specs.declared.util.look.Look.{Look}
 use Rattle.automata_base.specs.Nfas.Nfa.{Nfa, Truth, node, takes, accepts, keep, keeps, ends, ends_at}
 use Rattle.automata_base.specs.Paths.Paths.{IsPathAt, Tape, IsPath, truth, prev, next, IsClosure}
-use Rattle.automata_base.specs.Powersets.Cuts.{MatchKind, All, LeftmostFirst, cut, cut_for, IsOnce, targets}
+use Rattle.automata_base.specs.declared.util.search.MatchKind.{MatchKind}
+use Rattle.automata_base.specs.declared.util.search.MatchKind.TheVariants.{All, LeftmostFirst}
+use Rattle.automata_base.specs.Powersets.Cuts.{cut, cut_for, IsOnce, targets}
 use Rattle.automata_determinize.specs.Powersets.Passes.{IsUnit, IsTape, IsKnownLook, IsMake, IsClosureOf, IsDecided}
 use Rattle.automata_determinize.specs.Powersets.Passes.{HasNews, HasNoNews}
 use Rattle.automata_determinize.specs.Powersets.Passes.{IsSuccessor, IsPass}

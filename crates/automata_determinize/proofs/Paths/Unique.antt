@@ -2,10 +2,12 @@
 use Rattle.std.proofs.Common.{ℕ, zero, suc, ◌≡◌, true, List, [], ◌∷◌, ◌++◌, length, Option}
 use Rattle.std.proofs.Common.{sym, ap, ap₂, ◌∙◌, subst}
 use Rattle.automata_base.specs.Lists.{pick, From}
-use Rattle.automata_base.specs.Haystacks.Looks.{Look}
+use Rattle.automata_base.specs.declared.util.look.Look.{Look}
 use Rattle.automata_base.specs.Nfas.Nfa.{Nfa, accepts}
 use Rattle.automata_base.specs.Paths.Paths.{IsPathAt, Tape}
-use Rattle.automata_base.specs.Powersets.Cuts.{MatchKind, All, LeftmostFirst, cut_for, IsOnce, targets}
+use Rattle.automata_base.specs.declared.util.search.MatchKind.{MatchKind}
+use Rattle.automata_base.specs.declared.util.search.MatchKind.TheVariants.{All, LeftmostFirst}
+use Rattle.automata_base.specs.Powersets.Cuts.{cut_for, IsOnce, targets}
 use Rattle.automata_determinize.specs.Powersets.Passes.{IsMake, IsNeeded, IsClosureOf, IsDecided, true_looks}
 use Rattle.automata_determinize.specs.Powersets.Passes.{IsSuccessor}
 use Rattle.automata_determinize.specs.Powersets.Passes.{HasNews, HasNoNews}

@@ -7,9 +7,12 @@ use Rattle.automata_base.specs.declared.util.search.Anchored.{Anchored}
 use Rattle.automata_determinize.specs.ByteClasses.LookBehind.{behind_of}
 use Rattle.automata_determinize.specs.Retraced.Computed.{first_visits, closure_of, once_past, known_looks, make, arrive}
 use Rattle.automata_determinize.specs.Retraced.Computed.{any_look, decide}
-use Rattle.automata_base.specs.Powersets.Cuts.{MatchKind, All, LeftmostFirst, cut_for, targets}
+use Rattle.automata_base.specs.declared.util.search.MatchKind.{MatchKind}
+use Rattle.automata_base.specs.declared.util.search.MatchKind.TheVariants.{All, LeftmostFirst}
+use Rattle.automata_base.specs.Powersets.Cuts.{cut_for, targets}
 use Rattle.automata_base.specs.Lists.{pick}
-use Rattle.automata_base.specs.Haystacks.Looks.{Look, is_word_byte}
+use Rattle.automata_base.specs.declared.util.look.Look.{Look}
+use Rattle.automata_base.specs.Haystacks.Looks.{is_word_byte}
 use Rattle.automata_base.specs.Nfas.Nfa.{Nfa, Truth, accepts}
 use Rattle.automata_base.specs.Nfas.Nodes.{Automaton, nfa_of}
 use Rattle.automata_determinize.specs.Powersets.Passes.{true_looks}

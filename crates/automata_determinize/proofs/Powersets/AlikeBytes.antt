@@ -1,6 +1,8 @@
 -- Bytes that an automaton does not distinguish.
 use Rattle.std.specs.Prelude.{ℕ, ◌≡◌, Bool, true, false, eqb}
-use Rattle.automata_base.specs.Haystacks.Looks.{Look, StartLF, EndLF, is_word_byte}
+use Rattle.automata_base.specs.declared.util.look.Look.{Look}
+use Rattle.automata_base.specs.declared.util.look.Look.TheVariants.{StartLF, EndLF}
+use Rattle.automata_base.specs.Haystacks.Looks.{is_word_byte}
 use Rattle.automata_base.specs.Nfas.Nfa.{takes, any_node}
 use Rattle.automata_base.specs.Nfas.Nodes.{Automaton, nfa_of}
 use Rattle.automata_base.specs.Powersets.Passes.{is_word_look, is_crlf_look}

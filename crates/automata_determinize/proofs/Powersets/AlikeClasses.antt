@@ -10,8 +10,10 @@ use Rattle.automata_base.specs.ByteClasses.Classes.{bounds, transitions_bound, t
 use Rattle.automata_base.specs.ByteClasses.Classes.{look_bounds, state_bounds, states_bound, is_boundary}
 use Rattle.automata_base.specs.ByteClasses.Classes.{class_of}
 use Rattle.std.specs.Prelude.{slice_get}
-use Rattle.automata_base.specs.Powersets.Cuts.{MatchKind}
-use Rattle.automata_base.specs.Haystacks.Looks.{Look, Start, End, StartLF, EndLF, StartCRLF, EndCRLF, within}
+use Rattle.automata_base.specs.declared.util.search.MatchKind.{MatchKind}
+use Rattle.automata_base.specs.declared.util.look.Look.{Look}
+use Rattle.automata_base.specs.declared.util.look.Look.TheVariants.{Start, End, StartLF, EndLF, StartCRLF, EndCRLF}
+use Rattle.automata_base.specs.Haystacks.Looks.{within}
 use Rattle.automata_base.specs.Haystacks.Looks.{is_word_byte}
 use Rattle.automata_base.specs.Nfas.Nfa.{takes, takes_at, takes_in, node_or_fail, any_node, looks_at}
 use Rattle.automata_base.specs.Nfas.Nodes.{Automaton, nfa_of, node_of, nodes_of, ranges_of, dense_from}

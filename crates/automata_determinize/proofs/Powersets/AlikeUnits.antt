@@ -5,10 +5,16 @@ use Rattle.automata_base.specs.Retraced.Computed.{is_in, any_state}
 use Rattle.automata_determinize.specs.Retraced.Computed.{visits_with, first_visits, closure_of}
 use Rattle.automata_determinize.specs.Retraced.Computed.{always, known_looks, is_full, arrive, any_look, decide}
 use Rattle.automata_base.specs.Lists.{pick}
-use Rattle.automata_base.specs.Haystacks.Looks.{Look, Start, End, StartLF, EndLF, StartCRLF, EndCRLF, WordAscii}
-use Rattle.automata_base.specs.Haystacks.Looks.{WordAsciiNegate, WordUnicode, WordUnicodeNegate, WordStartAscii}
-use Rattle.automata_base.specs.Haystacks.Looks.{WordEndAscii, WordStartUnicode, WordEndUnicode, WordStartHalfAscii}
-use Rattle.automata_base.specs.Haystacks.Looks.{WordEndHalfAscii, WordStartHalfUnicode, WordEndHalfUnicode, is_absent}
+use Rattle.automata_base.specs.declared.util.look.Look.{Look}
+use Rattle.automata_base.specs.declared.util.look.Look.TheVariants.{Start, End, StartLF, EndLF, StartCRLF, EndCRLF}
+use Rattle.automata_base.specs.declared.util.look.Look.TheVariants.{WordAscii}
+use Rattle.automata_base.specs.declared.util.look.Look.TheVariants.{WordAsciiNegate, WordUnicode, WordUnicodeNegate}
+use Rattle.automata_base.specs.declared.util.look.Look.TheVariants.{WordStartAscii}
+use Rattle.automata_base.specs.declared.util.look.Look.TheVariants.{WordEndAscii, WordStartUnicode, WordEndUnicode}
+use Rattle.automata_base.specs.declared.util.look.Look.TheVariants.{WordStartHalfAscii}
+use Rattle.automata_base.specs.declared.util.look.Look.TheVariants.{WordEndHalfAscii, WordStartHalfUnicode}
+use Rattle.automata_base.specs.declared.util.look.Look.TheVariants.{WordEndHalfUnicode}
+use Rattle.automata_base.specs.Haystacks.Looks.{is_absent}
 use Rattle.automata_base.specs.Haystacks.Looks.{is_byte, is_word, differ, first_half, second_half, look_index}
 use Rattle.automata_base.specs.Nfas.Nfa.{Nfa, Node, Split, Assert, Read, Accept, Truth, node, keep, any_node}
 use Rattle.automata_base.specs.Powersets.Passes.{Occurs, is_word_look, is_crlf_look}

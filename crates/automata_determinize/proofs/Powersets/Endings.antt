@@ -10,13 +10,15 @@ use Rattle.std.proofs.lemmas.List.{take-append-drop, take_rest, get_or-take, get
 use Rattle.std.proofs.lemmas.List.Elements.{All-append}
 use Rattle.automata_base.specs.Lists.{In, pick, cons_some}
 use Rattle.automata_base.specs.Nfas.Accepted.{IsChecked}
-use Rattle.automata_base.specs.Haystacks.Looks.{Look}
+use Rattle.automata_base.specs.declared.util.look.Look.{Look}
 use Rattle.automata_base.specs.Nfas.Nfa.{Nfa, accepts, takes, keep, node, looks_at}
 use Rattle.automata_base.specs.Nfas.KeptClosure.{AreTargets, IsPartAt, IsRestCode}
 use Rattle.automata_base.specs.Retraced.Computed.{any_state}
 use Rattle.automata_base.specs.Nfas.Nodes.{Automaton, nfa_of}
 use Rattle.automata_base.specs.Powersets.Code.{varint, difference, ids_code}
-use Rattle.automata_base.specs.Powersets.Cuts.{MatchKind, All as AllMatches, LeftmostFirst, cut, cut_after, cut_for}
+use Rattle.automata_base.specs.declared.util.search.MatchKind.{MatchKind}
+use Rattle.automata_base.specs.declared.util.search.MatchKind.TheVariants.{All as AllMatches, LeftmostFirst}
+use Rattle.automata_base.specs.Powersets.Cuts.{cut, cut_after, cut_for}
 use Rattle.automata_base.specs.Powersets.Cuts.{has_match, is_cut, targets, IsOnce}
 use Rattle.automata_base.specs.Powersets.Powerset.{IsId}
 use Rattle.automata_determinize.specs.Powersets.Results.{AreMatched}

@@ -4,9 +4,10 @@ use Rattle.std.proofs.Common.{ap, ◌∙◌, subst, arith}
 use Rattle.automata_base.specs.declared.util.search.Anchored.{Anchored}
 use Rattle.automata_determinize.specs.Powersets.Accounting.{max_cost}
 use Rattle.automata_determinize.specs.Retraced.Computed.{known_looks}
-use Rattle.automata_base.specs.Powersets.Cuts.{MatchKind, cut_for, targets}
+use Rattle.automata_base.specs.declared.util.search.MatchKind.{MatchKind}
+use Rattle.automata_base.specs.Powersets.Cuts.{cut_for, targets}
 use Rattle.automata_base.specs.Nfas.Accepted.{IsChecked}
-use Rattle.automata_base.specs.Haystacks.Looks.{Look}
+use Rattle.automata_base.specs.declared.util.look.Look.{Look}
 use Rattle.automata_determinize.specs.Powersets.Results.{AreMatched, IsClosureMade, IsStartMade, IsStepMade}
 use Rattle.automata_base.specs.Nfas.Nodes.{Automaton, nfa_of}
 use Rattle.automata_determinize.specs.Powersets.Passes.{IsDecided, IsKnownLook, IsMake, IsSuccessor}

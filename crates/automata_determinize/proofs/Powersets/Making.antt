@@ -14,7 +14,7 @@ use Rattle.automata_determinize.proofs.Paths.Machines.{any_state_true, any_state
 use Rattle.automata_determinize.proofs.Paths.Machines.{make_right}
 use Rattle.automata_determinize.proofs.Paths.Unique.{powerset_path}
 use Rattle.automata_base.specs.Haystacks.LookSets.{truth_of}
-use Rattle.automata_base.specs.Haystacks.Looks.{Look}
+use Rattle.automata_base.specs.declared.util.look.Look.{Look}
 use Rattle.automata_base.specs.Haystacks.LookSets.{IsLookSet, set_of}
 use Rattle.automata_determinize.proofs.Paths.LookSets.{set_of-truth_of}
 use Rattle.automata_base.proofs.Paths.LookSets.{truth_of_none}
@@ -22,7 +22,7 @@ use Rattle.automata_base.proofs.Paths.Truths.{bool_iff}
 
 -- A look of a mask occurs in the NFA.
 pub masked :
-    (n : Nfa) (any mask empty : ℕ) (f : l.Look → Bool) (b : Bool)
+    (n : Nfa) (any mask empty : ℕ) (f : Look → Bool) (b : Bool)
     → ((look : Look) → truth_of any look ≡ any_node (λ other. eqb (look_index other) (look_index look)) n.nodes)
     → ((look : Look) → truth_of mask look ≡ f look) → empty ≡ 0
     → (b ≡ true → (look : Look) × (truth_of any look ≡ true) × (truth_of mask look ≡ true)

@@ -1,8 +1,9 @@
 -- What a pass reports is what the ordered paths select.
 use Rattle.std.proofs.Common.{ℕ, suc, ◌≡◌, ◌<◌, Bool, true, false, List, length, Option, Some, sym, ap, subst}
 use Rattle.automata_base.specs.Nfas.Accepted.{IsInRange}
-use Rattle.automata_base.specs.Powersets.Cuts.{MatchKind, All}
-use Rattle.automata_base.specs.Nfas.Engines.{Anchored}
+use Rattle.automata_base.specs.declared.util.search.MatchKind.{MatchKind}
+use Rattle.automata_base.specs.declared.util.search.MatchKind.TheVariants.{All}
+use Rattle.automata_base.specs.declared.util.search.Anchored.{Anchored}
 use Rattle.automata_base.specs.Nfas.Nodes.{Automaton, nfa_of, nodes_of}
 use Rattle.automata_base.specs.Paths.Paths.{Tape, KeepsCycles}
 use Rattle.automata_determinize.specs.Powersets.Passes.{IsTape}

@@ -4,16 +4,19 @@ use Rattle.std.proofs.Common.{◌++◌, length, Some, refl, sym, ap, ◌∙◌, 
 use Rattle.std.proofs.Common.{le_of_suc-le-suc}
 use Rattle.automata_base.specs.Answers.Answers.{IsInput, KeepsSplit, SkipsSplit, WalksNoSpan, WalksSpan, offset_in}
 use Rattle.automata_base.specs.Answers.Answers.{with_offsets, without_split}
-use Rattle.automata_base.specs.Powersets.Cuts.{MatchKind, All}
+use Rattle.automata_base.specs.declared.util.search.MatchKind.{MatchKind}
+use Rattle.automata_base.specs.declared.util.search.MatchKind.TheVariants.{All}
 use Rattle.automata_base.specs.Nfas.Accepted.{IsChecked}
-use Rattle.automata_base.specs.Nfas.Engines.{Anchored, IsSkipping, engine_of}
+use Rattle.automata_base.specs.declared.util.search.Anchored.{Anchored}
+use Rattle.automata_base.specs.Nfas.Engines.{IsSkipping, engine_of}
 use Rattle.automata_base.specs.Haystacks.Input.{Input}
 use Rattle.automata_base.specs.Lists.{In, IsSet}
 use Rattle.automata_base.specs.Nfas.Nodes.{Automaton, nfa_of}
 use Rattle.automata_base.specs.Paths.Paths.{Tape}
 use Rattle.automata_base.specs.Paths.Selections.{Accepts, Pair, at_place}
 use Rattle.automata_base.specs.Paths.Starts.{mode_start}
-use Rattle.automata_base.specs.Haystacks.Tapes.{Direction, is_split, tape_of}
+use Rattle.automata_base.specs.declared.util.search.Direction.{Direction}
+use Rattle.automata_base.specs.Haystacks.Tapes.{is_split, tape_of}
 use Rattle.automata_determinize.specs.Retraced.Passes.{pairs_reported, reported_at}
 use Rattle.automata_determinize.specs.Laws.Walks.{AllPairsAreReported, AreReported, InPairs}
 use Rattle.automata_base.specs.Laws.Walks.{IsAccepted}

@@ -3,9 +3,12 @@ use Rattle.std.proofs.Common.{ℕ, zero, suc, ◌≡◌, ◌<◌, ◌≤◌, Boo
 use Rattle.std.proofs.Common.{refl, sym, ap, ◌∙◌, subst}
 use Rattle.automata_base.specs.Answers.Answers.{Half, SelectsFrom, SelectsOver, later, Answers, IsInput}
 use Rattle.automata_determinize.specs.Retraced.Passes.{pair_at, earlier_or}
-use Rattle.automata_base.specs.Powersets.Cuts.{MatchKind, All as KindAll}
+use Rattle.automata_base.specs.declared.util.search.MatchKind.{MatchKind}
+use Rattle.automata_base.specs.declared.util.search.MatchKind.TheVariants.{All as KindAll}
 use Rattle.automata_base.specs.Nfas.Accepted.{IsChecked, IsInRange}
-use Rattle.automata_base.specs.Nfas.Engines.{Anchored, No, Yes, Pattern, IsSkipping, engine_of, first_state}
+use Rattle.automata_base.specs.declared.util.search.Anchored.{Anchored}
+use Rattle.automata_base.specs.declared.util.search.Anchored.TheVariants.{No, Yes, Pattern}
+use Rattle.automata_base.specs.Nfas.Engines.{IsSkipping, engine_of, first_state}
 use Rattle.automata_base.specs.Haystacks.Input.{Input}
 use Rattle.automata_base.specs.Nfas.Nodes.{Automaton, nfa_of, nodes_of}
 use Rattle.automata_base.specs.Paths.Paths.{Tape, next, KeepsCycles}
@@ -15,7 +18,9 @@ use Rattle.automata_base.specs.Nfas.Nfa.{Nfa}
 use Rattle.automata_base.specs.Paths.Selections.{Pair, IsFarthest, IsNearest}
 use Rattle.automata_base.specs.Paths.Starts.{mode_start}
 use Rattle.automata_determinize.specs.Retraced.Steps.{start_or_dead, start_state_of, successor}
-use Rattle.automata_base.specs.Haystacks.Tapes.{Direction, Forward, Backward, tape_of}
+use Rattle.automata_base.specs.declared.util.search.Direction.{Direction}
+use Rattle.automata_base.specs.declared.util.search.Direction.TheVariants.{Forward, Backward}
+use Rattle.automata_base.specs.Haystacks.Tapes.{tape_of}
 use Rattle.automata_determinize.specs.Retraced.Passes.{state_after, reported_at, last_reported, first_reported}
 use Rattle.automata_determinize.specs.Retraced.Passes.{reported_by}
 use Rattle.automata_base.specs.Answers.OfPasses.{EndsFrom, EndsOver, IsFarthestAnswer}

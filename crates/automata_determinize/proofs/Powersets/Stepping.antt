@@ -4,11 +4,11 @@ use Rattle.std.proofs.Common.{refl, true, true≢false}
 use Rattle.automata_base.specs.declared.util.search.Anchored.{Anchored}
 use Rattle.automata_determinize.specs.Retraced.Computed.{start_behind, successor_of}
 use Rattle.automata_base.specs.Nfas.Accepted.{IsInRange}
-use Rattle.automata_base.specs.Powersets.Cuts.{MatchKind}
+use Rattle.automata_base.specs.declared.util.search.MatchKind.{MatchKind}
 use Rattle.automata_base.specs.Lists.{In}
 use Rattle.automata_base.specs.Nfas.Nfa.{Nfa}
 use Rattle.automata_base.specs.Nfas.Nodes.{Automaton, nfa_of}
-use Rattle.automata_base.specs.Haystacks.Looks.{Look}
+use Rattle.automata_base.specs.declared.util.look.Look.{Look}
 use Rattle.automata_determinize.specs.Powersets.Passes.{IsSuccessor, IsMake}
 use Rattle.automata_base.specs.Powersets.Passes.{Occurs}
 use Rattle.automata_base.specs.Haystacks.LookSets.{truth_of}

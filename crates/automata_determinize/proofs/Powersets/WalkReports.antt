@@ -5,9 +5,10 @@ use Rattle.std.specs.Prelude.{IsTrue}
 use Rattle.automata_base.specs.Answers.Answers.{AreUnsplit, IsInput, IsOverlappingFrom, KeepsSplit, OverlapsOver}
 use Rattle.automata_base.specs.Answers.Answers.{SkipsSplit, Walks}
 use Rattle.automata_base.specs.Answers.Answers.{WalksNoSpan, WalksSpan, with_offsets, without_split}
-use Rattle.automata_base.specs.Powersets.Cuts.{MatchKind}
+use Rattle.automata_base.specs.declared.util.search.MatchKind.{MatchKind}
 use Rattle.automata_base.specs.Nfas.Accepted.{IsChecked}
-use Rattle.automata_base.specs.Nfas.Engines.{Anchored, IsSkipping, engine_of, first_state}
+use Rattle.automata_base.specs.declared.util.search.Anchored.{Anchored}
+use Rattle.automata_base.specs.Nfas.Engines.{IsSkipping, engine_of, first_state}
 use Rattle.automata_base.specs.Nfas.Getters.{HasEmpty}
 use Rattle.automata_base.specs.Haystacks.Input.{Input}
 use Rattle.automata_base.specs.Nfas.Nodes.{Automaton, nfa_of}
@@ -15,7 +16,8 @@ use Rattle.automata_base.specs.Paths.Paths.{Tape, KeepsCycles}
 use Rattle.automata_determinize.specs.Powersets.Passes.{IsTape}
 use Rattle.automata_base.specs.Paths.Selections.{Pair, IsOverlappingOn, at_place}
 use Rattle.automata_base.specs.Paths.Starts.{mode_start}
-use Rattle.automata_base.specs.Haystacks.Tapes.{Direction, tape_of}
+use Rattle.automata_base.specs.declared.util.search.Direction.{Direction}
+use Rattle.automata_base.specs.Haystacks.Tapes.{tape_of}
 use Rattle.automata_determinize.specs.Retraced.Passes.{pairs_reported}
 use Rattle.automata_determinize.specs.Laws.Walks.{AreReported, OverlappingIsReported, SpanReports, WalkIsRight}
 use Rattle.automata_determinize.specs.Laws.Walks.{WalksAreOne}

@@ -1,15 +1,15 @@
 -- Whose patterns are reported, and where answers lie, for every NFA.
 use Rattle.std.specs.Prelude.{ℕ, ◌<◌, ◌≤◌, length, Option, Some, List}
 use Rattle.automata_base.specs.Answers.Answers.{Half}
-use Rattle.automata_base.specs.Powersets.Cuts.{MatchKind}
-use Rattle.automata_base.specs.Nfas.Engines.{Anchored}
+use Rattle.automata_base.specs.declared.util.search.MatchKind.{MatchKind}
+use Rattle.automata_base.specs.declared.util.search.Anchored.{Anchored}
 use Rattle.automata_base.specs.Haystacks.Input.{Input}
 use Rattle.automata_base.specs.Lists.{In}
 use Rattle.automata_base.specs.Nfas.Nodes.{Automaton}
 use Rattle.automata_base.specs.Powersets.Powerset.{Powerset}
 use Rattle.automata_base.specs.Paths.Selections.{Pair}
 use Rattle.automata_determinize.specs.Retraced.Steps.{start_state_of, successor}
-use Rattle.automata_base.specs.Haystacks.Tapes.{Direction}
+use Rattle.automata_base.specs.declared.util.search.Direction.{Direction}
 use Rattle.automata_determinize.specs.Answers.OfPasses.{IsReported}
 use Rattle.automata_determinize.specs.Laws.Walks.{AreReported, InPairs}
 

@@ -3,7 +3,8 @@ use Rattle.std.specs.Prelude.{ℕ, suc, ◌<◌, ◌≤◌, Bool, true, false, L
 use Rattle.automata_base.specs.Lists.{IsSet}
 use Rattle.automata_base.specs.Nfas.Nfa.{Nfa}
 use Rattle.automata_base.specs.Paths.Paths.{Tape, KeepsCycles}
-use Rattle.automata_base.specs.Powersets.Cuts.{MatchKind, All}
+use Rattle.automata_base.specs.declared.util.search.MatchKind.{MatchKind}
+use Rattle.automata_base.specs.declared.util.search.MatchKind.TheVariants.{All}
 use Rattle.automata_determinize.specs.Powersets.Passes.{IsTape}
 use Rattle.automata_base.specs.Paths.Selections.{Accepts, Selects, IsOverlappingOn, IsNearest, IsFarthest}
 use Rattle.automata_determinize.specs.Retraced.Passes.{search_of, pairs_upto, reported_of}

@@ -1,6 +1,8 @@
 -- The statements that the reverse search finds where the chosen path began, and that answers are unique.
 use Rattle.std.specs.Prelude.{ℕ, suc, ◌≡◌, ◌≤◌, ◌+◌, ◌-◌, Bool, false, List, length, ◌⊎◌, Option, None, is_some}
-use Rattle.automata_base.specs.Haystacks.Tapes.{Direction, Forward, forward_tape, reverse_tape, MeetsNone}
+use Rattle.automata_base.specs.declared.util.search.Direction.{Direction}
+use Rattle.automata_base.specs.declared.util.search.Direction.TheVariants.{Forward}
+use Rattle.automata_base.specs.Haystacks.Tapes.{forward_tape, reverse_tape, MeetsNone}
 use Rattle.automata_base.specs.Nfas.Engines.{Engine, IsSkipping}
 use Rattle.automata_base.specs.Answers.Answers.{Half, IsAnswer, IsInput, IsSound}
 use Rattle.automata_base.specs.Haystacks.Input.{Input}

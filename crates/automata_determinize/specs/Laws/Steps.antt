@@ -3,8 +3,9 @@ use Rattle.std.specs.Prelude.{ℕ, ◌≡◌, ◌<◌, ◌↔◌, Bool, true, fa
 use Rattle.automata_determinize.specs.ByteClasses.LookBehind.{behind_of}
 use Rattle.automata_base.specs.ByteClasses.Classes.{class_of, is_quit}
 use Rattle.automata_base.specs.Nfas.Accepted.{IsInRange}
-use Rattle.automata_base.specs.Powersets.Cuts.{MatchKind, All}
-use Rattle.automata_base.specs.Nfas.Engines.{Anchored}
+use Rattle.automata_base.specs.declared.util.search.MatchKind.{MatchKind}
+use Rattle.automata_base.specs.declared.util.search.MatchKind.TheVariants.{All}
+use Rattle.automata_base.specs.declared.util.search.Anchored.{Anchored}
 use Rattle.automata_base.specs.Nfas.Nodes.{Automaton, nfa_of, nodes_of}
 use Rattle.automata_base.specs.Paths.Paths.{Tape, KeepsCycles}
 use Rattle.automata_determinize.specs.Powersets.Passes.{IsSuccessor, IsTape}

@@ -2,14 +2,16 @@
 -- same.
 use Rattle.std.specs.Prelude.{ℕ, ◌≡◌, ◌≤◌, ◌⊎◌, ◌↔◌, suc, List, [], ◌∷◌, length, Some}
 use Rattle.automata_base.specs.Answers.Answers.{IsInput, IsOverlapping, Walks}
-use Rattle.automata_base.specs.Powersets.Cuts.{MatchKind, All}
+use Rattle.automata_base.specs.declared.util.search.MatchKind.{MatchKind}
+use Rattle.automata_base.specs.declared.util.search.MatchKind.TheVariants.{All}
 use Rattle.automata_base.specs.Nfas.Engines.{IsSkipping, engine_of}
 use Rattle.automata_base.specs.Haystacks.Input.{Input}
 use Rattle.automata_base.specs.Nfas.Nodes.{Automaton, nfa_of}
 use Rattle.automata_base.specs.Paths.Paths.{KeepsCycles}
 use Rattle.automata_base.specs.Paths.Selections.{Pair}
 use Rattle.automata_base.specs.Paths.Starts.{mode_start}
-use Rattle.automata_base.specs.Haystacks.Tapes.{Direction, tape_of}
+use Rattle.automata_base.specs.declared.util.search.Direction.{Direction}
+use Rattle.automata_base.specs.Haystacks.Tapes.{tape_of}
 use Rattle.automata_determinize.specs.Retraced.Passes.{pairs_reported}
 use Rattle.automata_base.specs.Laws.Walks.{IsAccepted}
 

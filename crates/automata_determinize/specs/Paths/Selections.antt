@@ -2,7 +2,7 @@
 use Rattle.std.specs.Prelude.{ℕ, suc, ◌≡◌, List}
 use Rattle.automata_base.specs.Nfas.Nfa.{Nfa}
 use Rattle.automata_base.specs.Paths.Paths.{Tape}
-use Rattle.automata_base.specs.Powersets.Cuts.{MatchKind}
+use Rattle.automata_base.specs.declared.util.search.MatchKind.{MatchKind}
 use Rattle.automata_determinize.specs.Powersets.Passes.{IsPass}
 use Rattle.automata_base.specs.Powersets.Powerset.{Powerset}
 

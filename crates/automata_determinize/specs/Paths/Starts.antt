@@ -2,7 +2,7 @@
 use Rattle.std.specs.Prelude.{ℕ, ◌≡◌, ◌<◌, length, true, Option, Some, None}
 use Rattle.automata_base.specs.declared.util.search.Anchored.{Anchored}
 use Rattle.automata_base.specs.Nfas.Nodes.{Automaton, nfa_of}
-use Rattle.automata_base.specs.Haystacks.Looks.{Look}
+use Rattle.automata_base.specs.declared.util.look.Look.{Look}
 use Rattle.automata_base.specs.Haystacks.LookSets.{truth_of}
 use Rattle.automata_base.specs.Lists.{In}
 use Rattle.automata_base.specs.Nfas.Nfa.{Nfa}

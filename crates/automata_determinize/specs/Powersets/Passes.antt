@@ -2,19 +2,25 @@
 -- known.
 use Rattle.std.specs.Prelude.{ℕ, zero, suc, ◌≡◌, ◌<◌, Bool, true, false, not, ◌&&◌, ◌||◌, List, [], ◌∷◌, ◌↔◌}
 use Rattle.std.specs.Prelude.{Option, Some, None}
-use Rattle.automata_base.specs.Haystacks.Looks.{Look, Start, End, StartLF, EndLF, StartCRLF, EndCRLF, WordAscii}
-use Rattle.automata_base.specs.Haystacks.Looks.{WordAsciiNegate}
-use Rattle.automata_base.specs.Haystacks.Looks.{WordUnicode, WordUnicodeNegate, WordStartAscii, WordEndAscii}
-use Rattle.automata_base.specs.Haystacks.Looks.{WordStartUnicode}
-use Rattle.automata_base.specs.Haystacks.Looks.{WordEndUnicode, WordStartHalfAscii, WordEndHalfAscii}
-use Rattle.automata_base.specs.Haystacks.Looks.{WordStartHalfUnicode}
-use Rattle.automata_base.specs.Haystacks.Looks.{WordEndHalfUnicode, holds, is_absent, is_byte, is_word, differ}
+use Rattle.automata_base.specs.declared.util.look.Look.{Look}
+use Rattle.automata_base.specs.declared.util.look.Look.TheVariants.{Start, End, StartLF, EndLF, StartCRLF, EndCRLF}
+use Rattle.automata_base.specs.declared.util.look.Look.TheVariants.{WordAscii}
+use Rattle.automata_base.specs.declared.util.look.Look.TheVariants.{WordAsciiNegate}
+use Rattle.automata_base.specs.declared.util.look.Look.TheVariants.{WordUnicode, WordUnicodeNegate, WordStartAscii}
+use Rattle.automata_base.specs.declared.util.look.Look.TheVariants.{WordEndAscii}
+use Rattle.automata_base.specs.declared.util.look.Look.TheVariants.{WordStartUnicode}
+use Rattle.automata_base.specs.declared.util.look.Look.TheVariants.{WordEndUnicode, WordStartHalfAscii}
+use Rattle.automata_base.specs.declared.util.look.Look.TheVariants.{WordEndHalfAscii}
+use Rattle.automata_base.specs.declared.util.look.Look.TheVariants.{WordStartHalfUnicode}
+use Rattle.automata_base.specs.declared.util.look.Look.TheVariants.{WordEndHalfUnicode}
+use Rattle.automata_base.specs.Haystacks.Looks.{holds, is_absent, is_byte, is_word, differ}
 use Rattle.automata_base.specs.Haystacks.Looks.{first_half}
 use Rattle.automata_base.specs.Haystacks.Looks.{second_half}
 use Rattle.automata_base.specs.Lists.{In, pick}
 use Rattle.automata_base.specs.Nfas.Nfa.{Nfa, Assert, Truth, node, accepts, keep}
 use Rattle.automata_base.specs.Paths.Paths.{Tape, next, IsClosure}
-use Rattle.automata_base.specs.Powersets.Cuts.{MatchKind, cut_for, IsOnce, targets}
+use Rattle.automata_base.specs.declared.util.search.MatchKind.{MatchKind}
+use Rattle.automata_base.specs.Powersets.Cuts.{cut_for, IsOnce, targets}
 use Rattle.automata_base.specs.Powersets.Powerset.{Powerset}
 use Rattle.automata_base.specs.Haystacks.LookSets.{truth_of, IsLookSet}
 use Rattle.automata_base.specs.Powersets.Passes.{Occurs, is_word_look, is_crlf_look}

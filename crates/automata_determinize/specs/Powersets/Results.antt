@@ -1,8 +1,9 @@
 -- The results of the powerset construction.
 use Rattle.std.specs.Prelude.{ℕ, ◌≡◌, ◌≤◌, length, List, Option}
 use Rattle.automata_determinize.specs.Powersets.Accounting.{max_cost}
-use Rattle.automata_base.specs.Powersets.Cuts.{IsOnce, MatchKind}
-use Rattle.automata_base.specs.Nfas.Engines.{Anchored}
+use Rattle.automata_base.specs.Powersets.Cuts.{IsOnce}
+use Rattle.automata_base.specs.declared.util.search.MatchKind.{MatchKind}
+use Rattle.automata_base.specs.declared.util.search.Anchored.{Anchored}
 use Rattle.automata_base.specs.Lists.{pick, Distinct}
 use Rattle.automata_base.specs.Nfas.Nfa.{accepts}
 use Rattle.automata_base.specs.Nfas.Nodes.{Automaton, nfa_of}

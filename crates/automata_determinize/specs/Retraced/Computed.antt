@@ -1,18 +1,24 @@
 -- Closures, powerset states and steps as functions, which compute what the relations of Powersets define.
 use Rattle.std.specs.Prelude.{ℕ, zero, suc, Bool, true, false, not, ◌&&◌, ◌||◌, eqb, List, [], ◌∷◌, ◌++◌}
 use Rattle.std.specs.Prelude.{length, Option}
-use Rattle.automata_base.specs.Haystacks.Looks.{Look, Start, End, StartLF, EndLF, StartCRLF, EndCRLF, WordAscii}
-use Rattle.automata_base.specs.Haystacks.Looks.{WordAsciiNegate}
-use Rattle.automata_base.specs.Haystacks.Looks.{WordUnicode, WordUnicodeNegate, WordStartAscii, WordEndAscii}
-use Rattle.automata_base.specs.Haystacks.Looks.{WordStartUnicode}
-use Rattle.automata_base.specs.Haystacks.Looks.{WordEndUnicode, WordStartHalfAscii, WordEndHalfAscii}
-use Rattle.automata_base.specs.Haystacks.Looks.{WordStartHalfUnicode}
-use Rattle.automata_base.specs.Haystacks.Looks.{WordEndHalfUnicode, is_absent, is_byte, is_word, first_half}
+use Rattle.automata_base.specs.declared.util.look.Look.{Look}
+use Rattle.automata_base.specs.declared.util.look.Look.TheVariants.{Start, End, StartLF, EndLF, StartCRLF, EndCRLF}
+use Rattle.automata_base.specs.declared.util.look.Look.TheVariants.{WordAscii}
+use Rattle.automata_base.specs.declared.util.look.Look.TheVariants.{WordAsciiNegate}
+use Rattle.automata_base.specs.declared.util.look.Look.TheVariants.{WordUnicode, WordUnicodeNegate, WordStartAscii}
+use Rattle.automata_base.specs.declared.util.look.Look.TheVariants.{WordEndAscii}
+use Rattle.automata_base.specs.declared.util.look.Look.TheVariants.{WordStartUnicode}
+use Rattle.automata_base.specs.declared.util.look.Look.TheVariants.{WordEndUnicode, WordStartHalfAscii}
+use Rattle.automata_base.specs.declared.util.look.Look.TheVariants.{WordEndHalfAscii}
+use Rattle.automata_base.specs.declared.util.look.Look.TheVariants.{WordStartHalfUnicode}
+use Rattle.automata_base.specs.declared.util.look.Look.TheVariants.{WordEndHalfUnicode}
+use Rattle.automata_base.specs.Haystacks.Looks.{is_absent, is_byte, is_word, first_half}
 use Rattle.automata_base.specs.Haystacks.Looks.{second_half}
 use Rattle.automata_base.specs.Haystacks.Looks.{look_index}
 use Rattle.automata_base.specs.Lists.{pick}
 use Rattle.automata_base.specs.Nfas.Nfa.{Nfa, Truth, accepts, keep, any_node}
-use Rattle.automata_base.specs.Powersets.Cuts.{MatchKind, cut_for, targets}
+use Rattle.automata_base.specs.declared.util.search.MatchKind.{MatchKind}
+use Rattle.automata_base.specs.Powersets.Cuts.{cut_for, targets}
 use Rattle.automata_base.specs.Powersets.Passes.{is_word_look, is_crlf_look}
 use Rattle.automata_determinize.specs.Powersets.Passes.{true_looks}
 use Rattle.automata_base.specs.Powersets.Powerset.{Powerset}

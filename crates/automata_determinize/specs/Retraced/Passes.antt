@@ -1,8 +1,8 @@
 -- What a pass over a tape reports: the search over powerset states, unit by unit, as functions.
 use Rattle.std.specs.Prelude.{ℕ, zero, suc, Bool, true, false, List, [], ◌∷◌, ◌++◌, length, Option, Some, None}
 use Rattle.automata_determinize.specs.Retraced.Computed.{start_behind, successor_of}
-use Rattle.automata_base.specs.Powersets.Cuts.{MatchKind}
-use Rattle.automata_base.specs.Nfas.Engines.{Anchored}
+use Rattle.automata_base.specs.declared.util.search.MatchKind.{MatchKind}
+use Rattle.automata_base.specs.declared.util.search.Anchored.{Anchored}
 use Rattle.automata_base.specs.Nfas.Nfa.{Nfa}
 use Rattle.automata_base.specs.Nfas.Nodes.{Automaton}
 use Rattle.automata_base.specs.Paths.Paths.{Tape, next}

@@ -1,7 +1,8 @@
 //! Lists of NFA states that contain the NFA's kept closure, or what powerset states keep of it.
 ghost use Rattle.std.specs.Prelude.{◌≡◌, ◌+◌, ◌++◌, ◌<◌, ◌≤◌, ℕ, length, eqb, IfSome, IsTrue, vec_capacity};
 ghost use Rattle.automata_base.specs.Haystacks.LookSets.{truth_of};
-ghost use Rattle.automata_base.specs.Haystacks.Looks.{Look, look_index};
+ghost use Rattle.automata_base.specs.declared.util.look.Look.{Look};
+ghost use Rattle.automata_base.specs.Haystacks.Looks.{look_index};
 ghost use Rattle.automata_base.specs.Lists.{In, pick};
 ghost use Rattle.automata_base.specs.Nfas.Nfa.{keep};
 ghost use Rattle.automata_base.specs.Nfas.Nodes.{nfa_of};

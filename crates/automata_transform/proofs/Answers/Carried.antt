@@ -14,9 +14,12 @@ use Rattle.automata_base.specs.Answers.Spans.{IsPathStart, IsSpan}
 use Rattle.automata_base.specs.Answers.Spans.{from, in_full}
 use Rattle.automata_base.specs.Haystacks.Input.{Input}
 use Rattle.automata_base.specs.Haystacks.Matches.{Match}
-use Rattle.automata_base.specs.Haystacks.Tapes.{IsHaystack, Direction, Forward, Backward, between, tape_of}
+use Rattle.automata_base.specs.Haystacks.Tapes.{IsHaystack, between, tape_of}
+use Rattle.automata_base.specs.declared.util.search.Direction.{Direction}
+use Rattle.automata_base.specs.declared.util.search.Direction.TheVariants.{Forward, Backward}
 use Rattle.automata_base.specs.Haystacks.Tapes.{forward_tape}
-use Rattle.automata_base.specs.Nfas.Engines.{Engine, Anchored, IsSkipping, first_state}
+use Rattle.automata_base.specs.Nfas.Engines.{Engine, IsSkipping, first_state}
+use Rattle.automata_base.specs.declared.util.search.Anchored.{Anchored}
 use Rattle.automata_base.specs.Nfas.Nfa.{Nfa}
 use Rattle.automata_base.specs.Paths.Order.{Before}
 use Rattle.automata_base.specs.Paths.Paths.{Tape}

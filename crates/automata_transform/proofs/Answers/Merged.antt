@@ -5,7 +5,9 @@ use Rattle.std.specs.Prelude.{slice_get}
 use Rattle.automata_transform.specs.Answers.Alike.{AnswerAlike}
 use Rattle.automata_base.specs.Answers.Spans.{IsPathStart}
 use Rattle.automata_base.specs.Answers.TruePairs.{IsTruePair, Joins, KeepsUtf8}
-use Rattle.automata_base.specs.Haystacks.Tapes.{Backward, Direction, IsHaystack, tape_of}
+use Rattle.automata_base.specs.declared.util.search.Direction.TheVariants.{Backward}
+use Rattle.automata_base.specs.declared.util.search.Direction.{Direction}
+use Rattle.automata_base.specs.Haystacks.Tapes.{IsHaystack, tape_of}
 use Rattle.automata_transform.specs.Laws.MergedUnions.{MergedAcceptAlike, MergedAnswerAlike, MergedBeginAlike}
 use Rattle.automata_transform.specs.Laws.MergedUnions.{MergedKeepUtf8, MergedPairsAlike, MergedReadUtf8}
 use Rattle.automata_transform.specs.Laws.MergedUnions.{MergedStayAcyclic}
@@ -14,7 +16,9 @@ use Rattle.automata_base.specs.Haystacks.Input.{Input}
 use Rattle.automata_base.specs.Laws.Walks.{IsAccepted}
 use Rattle.automata_base.specs.Lists.{In}
 use Rattle.automata_base.specs.Nfas.Accepted.{IsChecked, IsInRange}
-use Rattle.automata_base.specs.Nfas.Engines.{Anchored, Engine, No, Yes, Pattern, HasEmptyMatch, IsSkipping}
+use Rattle.automata_base.specs.declared.util.search.Anchored.{Anchored}
+use Rattle.automata_base.specs.Nfas.Engines.{Engine, HasEmptyMatch, IsSkipping}
+use Rattle.automata_base.specs.declared.util.search.Anchored.TheVariants.{No, Yes, Pattern}
 use Rattle.automata_base.specs.Nfas.Engines.{MatchesEmpty, engine_of, first_state}
 use Rattle.automata_transform.specs.Nfas.MergedNfas.{IsMergedNfa}
 use Rattle.automata_transform.specs.Nfas.Mirrors.{BeginsAlike}
@@ -25,7 +29,8 @@ use Rattle.automata_base.specs.Nfas.Nodes.{Automaton, nfa_of}
 use Rattle.automata_base.specs.Paths.Order.{Begins}
 use Rattle.automata_base.specs.Paths.Paths.{Tape, IsPath}
 use Rattle.automata_base.specs.Paths.Selections.{Accepts, Pair}
-use Rattle.automata_base.specs.Powersets.Cuts.{All, MatchKind}
+use Rattle.automata_base.specs.declared.util.search.MatchKind.TheVariants.{All}
+use Rattle.automata_base.specs.declared.util.search.MatchKind.{MatchKind}
 use Rattle.automata_transform.proofs.Answers.Carried.{IsCarried, tape_bytes, answer_carried, match_carried}
 use Rattle.automata_transform.proofs.Answers.Carried.{near_carried}
 use Rattle.automata_transform.proofs.Answers.Carried.{far_carried}

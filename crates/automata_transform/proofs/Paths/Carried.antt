@@ -8,7 +8,8 @@ use Rattle.automata_base.specs.Paths.Paths.{Tape}
 use Rattle.automata_base.specs.Paths.Selections.{Accepts, IsAllAt, IsFirstAt, ArePatternsAt, Pair, Pairs}
 use Rattle.automata_base.specs.Paths.Selections.{IsOverlappingOn}
 use Rattle.automata_base.specs.Paths.Selections.{ByEdges, ByPlace, IsChosen, ReportsLeast, ReportsNoneAt, Selects}
-use Rattle.automata_base.specs.Powersets.Cuts.{MatchKind, All, LeftmostFirst}
+use Rattle.automata_base.specs.declared.util.search.MatchKind.{MatchKind}
+use Rattle.automata_base.specs.declared.util.search.MatchKind.TheVariants.{All, LeftmostFirst}
 
 module _ (n m : Nfa) (t : Tape) (q : ℕ) (R : List ℕ → List ℕ → Type 0)
     (there : (i p : ℕ) (a : List ℕ) → Accepts n t q i p a → (b : List ℕ) × R a b × Accepts m t q i p b)

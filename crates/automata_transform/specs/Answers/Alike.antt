@@ -5,7 +5,8 @@ use Rattle.automata_base.specs.Answers.OfPasses.{IsFarthestAnswer, IsNearestAnsw
 use Rattle.automata_base.specs.Answers.Spans.{AreSpans, IsMatch, IsSpan}
 use Rattle.automata_base.specs.Haystacks.Input.{Input}
 use Rattle.automata_base.specs.Haystacks.Matches.{Match}
-use Rattle.automata_base.specs.Haystacks.Tapes.{Direction, IsHaystack}
+use Rattle.automata_base.specs.declared.util.search.Direction.{Direction}
+use Rattle.automata_base.specs.Haystacks.Tapes.{IsHaystack}
 use Rattle.automata_base.specs.Nfas.Engines.{Engine, IsSkipping}
 use Rattle.automata_base.specs.Paths.Selections.{Pair}
 

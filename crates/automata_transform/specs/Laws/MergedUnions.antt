@@ -3,7 +3,8 @@ use Rattle.std.specs.Prelude.{ℕ, ◌<◌, ◌↔◌, List, length}
 use Rattle.automata_transform.specs.Answers.Alike.{AnswerAlike}
 use Rattle.automata_base.specs.Answers.TruePairs.{IsTruePair, KeepsUtf8}
 use Rattle.automata_base.specs.Haystacks.Input.{Input}
-use Rattle.automata_base.specs.Haystacks.Tapes.{Direction, IsHaystack}
+use Rattle.automata_base.specs.declared.util.search.Direction.{Direction}
+use Rattle.automata_base.specs.Haystacks.Tapes.{IsHaystack}
 use Rattle.automata_base.specs.Laws.Walks.{IsAccepted}
 use Rattle.automata_base.specs.Nfas.Accepted.{IsChecked}
 use Rattle.automata_base.specs.Nfas.Engines.{Engine, engine_of}
@@ -13,7 +14,8 @@ use Rattle.automata_base.specs.Nfas.Nodes.{Automaton, nfa_of}
 use Rattle.automata_base.specs.Nfas.Utf8.{ReadsUtf8}
 use Rattle.automata_base.specs.Paths.Paths.{IsLookAcyclic, Tape}
 use Rattle.automata_base.specs.Paths.Selections.{Accepts, Pair}
-use Rattle.automata_base.specs.Powersets.Cuts.{All, MatchKind}
+use Rattle.automata_base.specs.declared.util.search.MatchKind.TheVariants.{All}
+use Rattle.automata_base.specs.declared.util.search.MatchKind.{MatchKind}
 
 -- An NFA whose unions are merged gives the same answers as before.
 abbrev pub MergedAnswerAlike : Type 0

@@ -2,13 +2,18 @@
 use Rattle.std.specs.Prelude.{ℕ, ◌≡◌, ◌<◌, ◌≤◌, ◌-◌, ◌↔◌, ◌⊎◌, not, List, [], ◌∷◌, length, Some, slice_get}
 use Rattle.automata_base.specs.declared.nfa.thompson.state.Flags.{Flags}
 use Rattle.automata_base.specs.Lists.{In, Distinct}
-use Rattle.automata_base.specs.Haystacks.Looks.{Look, Start, End, StartLF, EndLF, StartCRLF, EndCRLF}
-use Rattle.automata_base.specs.Haystacks.Looks.{WordAscii, WordAsciiNegate, WordUnicode, WordUnicodeNegate}
-use Rattle.automata_base.specs.Haystacks.Looks.{WordStartAscii, WordEndAscii, WordStartUnicode, WordEndUnicode}
-use Rattle.automata_base.specs.Haystacks.Looks.{WordStartHalfAscii, WordEndHalfAscii, WordStartHalfUnicode}
-use Rattle.automata_base.specs.Haystacks.Looks.{WordEndHalfUnicode}
+use Rattle.automata_base.specs.declared.util.look.Look.{Look}
+use Rattle.automata_base.specs.declared.util.look.Look.TheVariants.{Start, End, StartLF, EndLF, StartCRLF, EndCRLF}
+use Rattle.automata_base.specs.declared.util.look.Look.TheVariants.{WordAscii, WordAsciiNegate, WordUnicode}
+use Rattle.automata_base.specs.declared.util.look.Look.TheVariants.{WordUnicodeNegate}
+use Rattle.automata_base.specs.declared.util.look.Look.TheVariants.{WordStartAscii, WordEndAscii, WordStartUnicode}
+use Rattle.automata_base.specs.declared.util.look.Look.TheVariants.{WordEndUnicode}
+use Rattle.automata_base.specs.declared.util.look.Look.TheVariants.{WordStartHalfAscii, WordEndHalfAscii}
+use Rattle.automata_base.specs.declared.util.look.Look.TheVariants.{WordStartHalfUnicode}
+use Rattle.automata_base.specs.declared.util.look.Look.TheVariants.{WordEndHalfUnicode}
 use Rattle.automata_base.specs.Nfas.Nfa.{Nfa, Node, Range, Split, Assert, Read, Accept, node, accepts}
-use Rattle.automata_base.specs.Powersets.Cuts.{MatchKind, All}
+use Rattle.automata_base.specs.declared.util.search.MatchKind.{MatchKind}
+use Rattle.automata_base.specs.declared.util.search.MatchKind.TheVariants.{All}
 use Rattle.automata_base.specs.Nfas.Engines.{MatchesEmpty, engine_of}
 use Rattle.automata_base.specs.Nfas.Getters.{SkipsLazily}
 use Rattle.automata_base.specs.Nfas.Nodes.{Automaton, nfa_of}

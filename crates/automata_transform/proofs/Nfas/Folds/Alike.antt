@@ -12,9 +12,10 @@ use Rattle.automata_transform.specs.Nfas.Mirrors.{PatternsAreReversed, ReversedI
 use Rattle.automata_base.specs.Nfas.Nfa.{Node}
 use Rattle.automata_base.specs.Nfas.Nodes.{Automaton, nfa_of}
 use Rattle.automata_base.specs.Paths.Paths.{Tape, truth}
-use Rattle.automata_base.specs.Powersets.Cuts.{All}
+use Rattle.automata_base.specs.declared.util.search.MatchKind.TheVariants.{All}
 use Rattle.automata_transform.specs.Retraced.Folds.{IsFolded, IsNotFree}
-use Rattle.automata_base.specs.Haystacks.Tapes.{Backward, forward_tape, reverse_tape}
+use Rattle.automata_base.specs.declared.util.search.Direction.TheVariants.{Backward}
+use Rattle.automata_base.specs.Haystacks.Tapes.{forward_tape, reverse_tape}
 use Rattle.automata_base.specs.Answers.TruePairs.{IsTruePair, Joins}
 use Rattle.automata_transform.proofs.Nfas.Folds.Ways.{forth_there, back_there}
 use Rattle.automata_transform.proofs.Nfas.Mirrors.Pairs.{mirror_patterns, mirror_true}

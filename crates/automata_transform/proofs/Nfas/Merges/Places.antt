@@ -4,7 +4,8 @@ use Rattle.std.proofs.Common.{length, Option, Some, None, inl, inr, refl, sym, a
 use Rattle.std.proofs.Common.{le-ltb}
 use Rattle.std.proofs.lemmas.Bool.{cases_lt}
 use Rattle.std.specs.Prelude.{slice_get}
-use Rattle.automata_base.specs.Haystacks.Looks.{Look, holds}
+use Rattle.automata_base.specs.declared.util.look.Look.{Look}
+use Rattle.automata_base.specs.Haystacks.Looks.{holds}
 use Rattle.automata_base.specs.Lists.{In}
 use Rattle.automata_base.specs.Nfas.Accepted.{IsInRange}
 use Rattle.automata_transform.specs.Nfas.Merges.{stood_for, all_stood_for, list_or_none, Shows, IsMerged, IsMergedNode}

@@ -1,11 +1,15 @@
 -- A reversed look holds exactly if the look holds as seen from the other side.
 use Rattle.std.proofs.Common.{ℕ, ◌≡◌, Bool, true, false, not, ◌&&◌, Option, refl, ap}
-use Rattle.automata_base.specs.Haystacks.Looks.{Look, holds, differ, is_word}
-use Rattle.automata_base.specs.Haystacks.Looks.{Start, End, StartLF, EndLF, StartCRLF, EndCRLF}
-use Rattle.automata_base.specs.Haystacks.Looks.{WordAscii, WordAsciiNegate, WordUnicode, WordUnicodeNegate}
-use Rattle.automata_base.specs.Haystacks.Looks.{WordStartAscii, WordEndAscii, WordStartUnicode, WordEndUnicode}
-use Rattle.automata_base.specs.Haystacks.Looks.{WordStartHalfAscii, WordEndHalfAscii, WordStartHalfUnicode}
-use Rattle.automata_base.specs.Haystacks.Looks.{WordEndHalfUnicode}
+use Rattle.automata_base.specs.declared.util.look.Look.{Look}
+use Rattle.automata_base.specs.Haystacks.Looks.{holds, differ, is_word}
+use Rattle.automata_base.specs.declared.util.look.Look.TheVariants.{Start, End, StartLF, EndLF, StartCRLF, EndCRLF}
+use Rattle.automata_base.specs.declared.util.look.Look.TheVariants.{WordAscii, WordAsciiNegate, WordUnicode}
+use Rattle.automata_base.specs.declared.util.look.Look.TheVariants.{WordUnicodeNegate}
+use Rattle.automata_base.specs.declared.util.look.Look.TheVariants.{WordStartAscii, WordEndAscii, WordStartUnicode}
+use Rattle.automata_base.specs.declared.util.look.Look.TheVariants.{WordEndUnicode}
+use Rattle.automata_base.specs.declared.util.look.Look.TheVariants.{WordStartHalfAscii, WordEndHalfAscii}
+use Rattle.automata_base.specs.declared.util.look.Look.TheVariants.{WordStartHalfUnicode}
+use Rattle.automata_base.specs.declared.util.look.Look.TheVariants.{WordEndHalfUnicode}
 use Rattle.automata_transform.specs.Nfas.Mirrors.{flip}
 
 swap_and : (a b : Bool) → (a && b) ≡ (b && a)

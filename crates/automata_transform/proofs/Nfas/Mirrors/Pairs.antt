@@ -5,12 +5,14 @@ use Rattle.std.proofs.lemmas.Bool.{leb-true}
 use Rattle.automata_base.specs.declared.nfa.thompson.state.State.{State}
 use Rattle.automata_base.specs.declared.nfa.thompson.state.State.TheVariants as is
 use Rattle.automata_base.specs.declared.nfa.thompson.state.Transition.{Transition}
-use Rattle.automata_base.specs.Powersets.Cuts.{MatchKind, All}
+use Rattle.automata_base.specs.declared.util.search.MatchKind.{MatchKind}
+use Rattle.automata_base.specs.declared.util.search.MatchKind.TheVariants.{All}
 use Rattle.automata_base.specs.Nfas.Accepted.{IsChecked}
 use Rattle.automata_base.specs.Nfas.Engines.{MatchesEmpty, engine_of}
 use Rattle.automata_base.specs.Lists.{In}
 use Rattle.std.specs.Prelude.{slice_get}
-use Rattle.automata_base.specs.Haystacks.Looks.{Look, within, holds}
+use Rattle.automata_base.specs.declared.util.look.Look.{Look}
+use Rattle.automata_base.specs.Haystacks.Looks.{within, holds}
 use Rattle.automata_transform.specs.Nfas.Mirrors.{flip, HasRange, IsReversed, BeginsAlike, IsReversedByPattern}
 use Rattle.automata_base.specs.Nfas.Nfa.{Nfa, Node, Range, Truth, Split, Assert, Read, Accept, node_or_fail}
 use Rattle.automata_base.specs.Nfas.Nfa.{takes_in, accepts}
@@ -19,7 +21,8 @@ use Rattle.automata_base.specs.Paths.Paths.{truth, prev, next}
 use Rattle.automata_base.specs.Nfas.Errors.{ordered_from, state_ordered, states_ordered}
 use Rattle.automata_transform.specs.Retraced.DenseRuns.{runs_from, ranged, ranged_nodes, ranged_nfa}
 use Rattle.automata_base.specs.Paths.Selections.{Accepts}
-use Rattle.automata_base.specs.Haystacks.Tapes.{Forward, Backward, forward_tape, reverse_tape}
+use Rattle.automata_base.specs.declared.util.search.Direction.TheVariants.{Forward, Backward}
+use Rattle.automata_base.specs.Haystacks.Tapes.{forward_tape, reverse_tape}
 use Rattle.automata_base.specs.Answers.TruePairs.{IsTruePair, Joins}
 use Rattle.automata_base.specs.Nfas.Getters.{SkipsLazily}
 use Rattle.automata_transform.proofs.Nfas.Mirrors.Flips.{flip_holds}

@@ -1,5 +1,6 @@
 use Rattle.std.proofs.Common.{ℕ, List, Bool, ◌≡◌, ◌+◌, ◌-◌, ◌++◌, ◌≤◌, length, take, drop, eqb, ap, subst, sym, ◌∙◌}
-use Rattle.automata_base.specs.Haystacks.Looks.{Look, look_index}
+use Rattle.automata_base.specs.declared.util.look.Look.{Look}
+use Rattle.automata_base.specs.Haystacks.Looks.{look_index}
 use Rattle.automata_base.specs.Lists.{In, pick}
 use Rattle.automata_base.specs.Nfas.Nfa.{keep}
 use Rattle.automata_base.specs.Nfas.Nodes.{nfa_of}
