@@ -28,7 +28,7 @@ returns-in-Ok-clause-resumed c = record {
   may = search rules;
   resumed =
       back_resumed c.args.way c.args.dfa.now c.args.input.now c.args.cache.now.store.table c.args.walk.now
-      c.args.held.now c.in-State-Some.handle (known_of c.args.cache.now) (known_of c.restore.new.cache)
+      c.args.held.now c.in-State-Some.handle (known_of c.args.cache.now) (known_of c.restore.new.self)
       (c.is_fresh.ensures.no c.if-is_fresh.false) c.requires.walk.reads.on c.requires.walk.holds
       (c.in-State-Some.is
       ∙ ap (λ (h : Option Handle). held.State h) (rw c.in-State-Some.is at c.in-State-Some.field-0-is))
@@ -38,7 +38,7 @@ returns-in-Ok-clause-resumed c = record {
 pub returns-in-Err-clause-resumed : goal.returns-in-Err-clause-resumed
 returns-in-Err-clause-resumed c =
     back_refusal c.args.way c.args.dfa.now c.args.input.now c.args.cache.now.store.table c.args.walk.now
-    c.args.held.now c.in-State-Some.handle (known_of c.args.cache.now) (known_of c.restore.new.cache)
+    c.args.held.now c.in-State-Some.handle (known_of c.args.cache.now) (known_of c.restore.new.self)
     (c.is_fresh.ensures.no c.if-is_fresh.false) c.requires.walk.reads.on c.requires.walk.holds
     (c.in-State-Some.is
     ∙ ap (λ (h : Option Handle). held.State h) (rw c.in-State-Some.is at c.in-State-Some.field-0-is))
