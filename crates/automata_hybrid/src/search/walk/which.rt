@@ -1,6 +1,7 @@
 //! The set of the patterns that match, found by one forward overlapping search.
-ghost use Rattle.std.specs.Prelude.{◌≤◌, OnOk, length};
+ghost use Rattle.std.specs.Prelude.{OnOk};
 ghost use Rattle.std.specs.Result.{result_err};
+ghost use Rattle.automata_base.specs.Haystacks.Input.{IsValidInput};
 ghost use Rattle.automata_hybrid.specs.Cache.Caches.{IsCacheOf};
 ghost use Rattle.automata_hybrid.specs.Walks.Contracts.{IsWhich, JoinsReported};
 ghost use Rattle.automata_hybrid.specs.Private.Walks.Contracts.{IsSetReported};
