@@ -1,8 +1,7 @@
 ghost use Rattle.std.specs.Prelude.{◌≡◌, ◌≤◌, ◌+◌, IfOk, IfSome, OnErr, None, Err, false, true};
 ghost use Rattle.std.specs.Iterator.{at_most};
 ghost use Rattle.std.specs.Result.{result_err};
-ghost use Rattle.automata_base.specs.Haystacks.Input.{IsValidInput};
-ghost use Rattle.automata_base.specs.Haystacks.Input.{Allows};
+ghost use Rattle.automata_base.specs.Haystacks.Input.{Allows, IsValidInput};
 ghost use Rattle.automata_base.specs.Answers.Spans.{IsEmptyAt, from};
 ghost use Rattle.automata_base.specs.declared.util.search.Direction.TheVariants.{Forward};
 ghost use Rattle.automata_hybrid.specs.Searches.Contracts.{IsUnsupported, unsupported_error};
