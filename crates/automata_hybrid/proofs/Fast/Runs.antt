@@ -1,6 +1,7 @@
 -- Runs of cached transitions whose IDs all have exactly one tag, or all have none.
 use Rattle.std.proofs.Common.{ℕ, zero, suc, ◌≡◌, ◌∙◌, ◌+◌, ◌-◌, ◌<◌, ◌≤◌, ◌^◌, ◌⊎◌, inl, inr, Bool, true, false, List}
-use Rattle.std.proofs.Common.{[], ◌∷◌, length, None, Option, Some, refl, slice_index, sym, ap, subst, arith, eq-or-lt_of_le}
+use Rattle.std.proofs.Common.{[], ◌∷◌, length, None, Option, Some, refl, slice_index, sym, ap, subst, arith}
+use Rattle.std.proofs.Common.{eq-or-lt_of_le}
 use Rattle.automata_hybrid.proofs.Words.{cell_of, class_in, Direction, half_at, half_of, HalfMatch, HasOnly}
 use Rattle.automata_hybrid.proofs.Words.{HasReadNoQuit, Input, is_quit, IsAtAlong, IsRunTag, IsTrace, known_step, Leads}
 use Rattle.automata_hybrid.proofs.Words.{LeadsToNamed, Machine, match_kind_of, Names, next, offset_in, Powerset}
