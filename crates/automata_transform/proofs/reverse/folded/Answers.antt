@@ -26,10 +26,10 @@ returns-in-Ok-from_states-clause-alike c =
     let root = c.args.mirror.root in
     let entries = c.args.mirror.entries.items in
     let nfa = c.in-Ok-from_states.made in
-    let flags = c.turned_flags.result in
+    let flags = c.turned_flags-flags.result in
     let f = subst (λ (z : List ℕ). IsFoldedFrom old new root z) c.as_slice.ensures.value c.in-Ok.ensures.folded in
     subst (λ (z : Flags). ReadsAlike (automaton old root root entries z) nfa)
-    (c.turned_flags.ensures ∙ ap reversed_flags c.flags-given.ensures)
+    (c.turned_flags-flags.ensures ∙ ap reversed_flags c.flags-given.ensures)
     (subst (λ (z : Automaton). ReadsAlike (automaton old root root entries flags) z)
     (sym c.in-Ok-from_states.ensures.same)
     (folded_alike old new root entries flags f.free f.made
