@@ -27,16 +27,16 @@ follow_rest-requires g c = (
   (c.requires.1.0, (c.requires.1.1, c.has_only.ensures.0 c.if-not-has_only.false)),
 )
 
-pub returns-then-start-end-clause-to : goal.returns-then-start-end-clause-to
-returns-then-start-end-clause-to g c =
+pub returns-then-end-lt8-clause-to : goal.returns-then-end-lt8-clause-to
+returns-then-end-lt8-clause-to g c =
     record {
       within = c.follow_rest.ensures.within;
       followed = c.follow_rest.ensures.run.followed;
       met = c.follow_rest.ensures.met;
     }
 
-pub returns-then-start-end-clause-only : goal.returns-then-start-end-clause-only
-returns-then-start-end-clause-only g c = λ only. c.follow_rest.ensures.run.only
+pub returns-then-end-lt8-clause-only : goal.returns-then-end-lt8-clause-only
+returns-then-end-lt8-clause-only g c = λ only. c.follow_rest.ensures.run.only
 
 pub eights-init : goal.eights-init
 eights-init g c =
@@ -56,14 +56,19 @@ follow_eight-eight-requires g c = (
   c.requires.0,
   (
     run_at c.requires.1.1 c.requires.1.0.on.trace c.eights.invariant.run,
-    (omega (arith, c.eights-test.true, c.requires.1.0.upto), omega (arith, c.eights-test.true, c.ranges.end.fits)),
+    (
+      omega (arith, c.eights-test.true, c.if-end-lt8.false, c.requires.1.0.upto),
+      omega (arith, c.eights-test.true, c.if-end-lt8.false, c.ranges.end.fits),
+    ),
   ),
 )
 
 pub eights-preserved-then-at-again : goal.eights-preserved-then-at-again
 eights-preserved-then-at-again g c =
     record {
-      within = omega (arith, c.eights-test.true, c.follow_eight-eight.ensures.upto, c.requires.1.0.upto);
+      within =
+          omega
+          (arith, c.eights-test.true, c.if-end-lt8.false, c.follow_eight-eight.ensures.upto, c.requires.1.0.upto);
       run = run_on c.eights.invariant.run c.follow_eight-eight.ensures.run;
     }
 
@@ -86,7 +91,9 @@ eights-preserved-then-stop-at g c =
 pub returns-then-eight-at-clause-to : goal.returns-then-eight-at-clause-to
 returns-then-eight-at-clause-to g c =
     record {
-      within = omega (arith, c.eights-test.true, c.follow_eight-eight.ensures.upto, c.requires.1.0.upto);
+      within =
+          omega
+          (arith, c.eights-test.true, c.if-end-lt8.false, c.follow_eight-eight.ensures.upto, c.requires.1.0.upto);
       followed = (run_on c.eights.invariant.run c.follow_eight-eight.ensures.run).followed;
       met = c.follow_eight-eight.ensures.met;
     }
