@@ -1,7 +1,7 @@
 use Rattle.automata_hybrid.proofs.Words.{begun, CacheView, Direction, Err, given_up_offset, HalfMatch, Input, known_of}
 use Rattle.automata_hybrid.proofs.Words.{Ok, option_map, Result, Rows, saturated, SearchError, total_len, with_searched}
 use Rattle.automata_hybrid.proofs.Words.{with_store}
-use Rattle.std.proofs.Common.{ℕ, Option, ◌≡◌, ◌∙◌, ◌+◌, ◌<◌, ◌^◌, ap, subst, sym, arith}
+use Rattle.std.proofs.Common.{ℕ, Option, ◌≡◌, ◌∙◌, ◌+◌, ◌<◌, ◌^◌, None, ap, subst, sym, arith}
 use Rattle.std.proofs.lemmas.Grind.{common_steps}
 use Rattle.automata_base.specs.Haystacks.Input.{IsAllowed}
 use Rattle.automata_hybrid.specs.Private.Searches.PassContracts.{IsPassResult, IsRest, IsTakenUp, input_at}
@@ -46,8 +46,8 @@ rest_passed c r same rest =
     (known_of c.rest.new.cache) r)
     same rest)
 
-pub known_pass-known-requires-clause-at : goal.known_pass-known-requires-clause-at
-known_pass-known-requires-clause-at c =
+pub known_pass-requires-clause-at : goal.known_pass-requires-clause-at
+known_pass-requires-clause-at c =
     let start : ℕ = c.known_start-start.result in
     let low : start < 2 ^ 31 = grind (arith, common_steps, c.if-is_fixed.ensures) in
     let a = c.known_start-start.ensures.answer low in
