@@ -77,11 +77,11 @@ returns-in-Err-clause-free c =
     let now = input_over s.haystack.now s.start s.end s.anchored s.earliest in
     let steps = rw c.in-Err.is at c.in-Some.ensures.steps in
     let e = c.in-Err.error in
-    let within = c.find_iter.ensures.valid.within.1 in
+    let within = c.find_iter-item-items.ensures.valid.within.1 in
     memory_next q s.cache.now t.cache.now c.args.input now s.last e i.input
     (comes_on q c.args.input within c.args.input.start None c.loop-item.found.items s.start s.last i.comes)
     (c.spans_follow.ensures.refusals.nexts now s.last s.cache.now t.cache.now (Some e)
-    (subst IsInput (sym i.input) (c.find_iter.ensures.valid.bytes, within))
+    (subst IsInput (sym i.input) (c.find_iter-item-items.ensures.valid.bytes, within))
     (run_turn s.regex.now q now s.last s.ended s.cache.now t.cache.now (Some (Err e)) i.regex i.going steps.3))
 
 pub returns-clause-found : goal.returns-clause-found
