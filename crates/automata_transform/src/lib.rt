@@ -1,4 +1,4 @@
-//! NFAs made of NFAs: an NFA reversed, and an NFA with its wide unions merged. No search stands on this crate.
+//! Transformations of NFAs: reversing, and merging wide unions. Searches do not depend on this crate.
 #![tactic(auto)]
 
 mod copies;

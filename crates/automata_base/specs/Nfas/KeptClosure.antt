@@ -23,13 +23,13 @@ pub record IsVisited (a : Automaton) (root : ℕ) (closure : Members) : Type 0 w
   -- its members are the states visited from the root, in order, whichever looks hold
   pub visited : (A : Truth) → Visits (nfa_of a) A (root ∷ []) [] closure.items
 
--- What powerset states keep of a closure that has no look.
+-- The states that powerset states keep from a closure without looks.
 pub record IsKept (n : Nfa) (closure kept : List ℕ) : Type 0 where
-  -- it is what powerset states keep of the closure, in order
+  -- they are the states of the closure that powerset states keep, in order
   pub same : kept ≡ pick (keep n) closure
-  -- it is no longer than the closure
+  -- there are at most as many as in the closure
   pub few : length kept ≤ length closure
-  -- it has no look
+  -- none of them is a look
   pub looks : (other : Look) → any_state (λ look. eqb (look_index look) (look_index other)) n kept ≡ false
 
 -- The list contains the part from an index on.

@@ -1,6 +1,6 @@
-//! The lazy DFA itself: its NFA, settings, byte classes and quit bytes. Its states are not in it, but in a `Cache`. This
-//! file knows no cache. The modules in it have what a DFA does with one: `caches` makes caches, and `start` and `step`
-//! have the searches by steps. `builder` builds DFAs.
+//! The lazy DFA itself: its NFA, settings, byte classes and quit bytes. Its states are in a `Cache`, which only the
+//! submodules use: `caches` creates and resets caches, and `start` and `step` search step by step. `builder` builds
+//! DFAs.
 ghost use Rattle.std.specs.Prelude.{◌≡◌, ◌<◌, ◌≤◌, true, false, slice_index, length};
 ghost use Rattle.automata_base.specs.ByteClasses.Classes.{AreClasses, class_in, eoi_class, is_quit};
 ghost use Rattle.automata_determinize.specs.Powersets.Passes.{IsUnit};

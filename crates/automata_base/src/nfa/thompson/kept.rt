@@ -15,7 +15,7 @@ pub struct KeptClosure {
     pub kept: Vec<StateID>,
     /// The encoding of the kept states after the first.
     pub code: Vec<u8>,
-    /// For each byte, the states that the kept states lead to on it, in order. There are no rows if a kept state is a
-    /// match state, or if it would take too long to make them.
+    /// For each byte, the targets of the kept states, in order. Empty if a kept state is a match state, or if making
+    /// the rows would take too long.
     pub rows: Vec<Vec<StateID>>,
 }

@@ -28,10 +28,9 @@ pub enum State {
         /// The state that the byte leads to.
         next: StateID,
     },
-    /// Reads one byte, and leads to the target of the range that contains it. The ranges are sorted, and no two
-    /// overlap.
+    /// Reads one byte, and moves to the target of the range that contains it. The ranges are sorted and do not overlap.
     Sparse(Vec<Transition>),
-    /// Reads one byte, and leads to the target at the byte's index. Target 0 means that there is no edge.
+    /// Reads one byte, and moves to the target at the index of that byte. A byte with target 0 has no edge.
     Dense(Box<[StateID; 256]>),
     /// Leads to `next` without reading a byte, if the look holds.
     Look {

@@ -1,4 +1,4 @@
--- `NFA::reversed` returns the reversed NFA.
+-- `reversed` returns the reversed NFA.
 use Rattle.std.proofs.Common.{ℕ, ◌≡◌, List, length, refl, sym, subst}
 use Rattle.automata_base.specs.declared.nfa.thompson.state.State.{State}
 use Rattle.automata_base.specs.Nfas.Automata.{automaton}
