@@ -42,8 +42,8 @@ def uses(crate):
 
 
 def circles(crate):
-    """Returns the modules of a crate that use each other in a circle: those that are left once all modules that use none
-    of the others, or are used by none, are taken away."""
+    """Returns the modules of a crate that use each other in a circle: those that remain after removing, again and again,
+    each module that uses none of the others or is used by none of them."""
     left = uses(crate)
     while True:
         used = set().union(*left.values())

@@ -227,7 +227,8 @@ fn turned_flags(given: Flags) -> Flags
     }
 }
 
-/// Builds the reversed NFA of these states, with the reverse flag flipped and the other flags of the NFA unchanged. If its unions have too many alternates, it fails with `TooLarge`.
+/// Builds the reversed NFA of these states, with the reverse flag flipped and the other flags of the NFA unchanged. If
+/// its unions have too many alternates, it fails with `TooLarge`.
 fn mirrored(nfa: &NFA, mirror: Mirror) -> Result<NFA, ReverseError>
     requires fit { IsFit
         nfa.now.states (length nfa.now.start_pattern) mirror.states.items mirror.entries.items mirror.root }
