@@ -233,7 +233,9 @@ def layer_faults():
     for crate in sorted(os.listdir(f"{TOP}/crates")):
         circle = layers.circles(crate)
         faults += [f"modules of {crate} use each other in a circle: {' '.join(circle)}"] if circle else []
-    for crate, picture in LAYERS.findall(read(LAYERED)):
+    pictures = LAYERS.findall(read(LAYERED))
+    faults += [] if pictures else [f"{LAYERED} has no picture of layers"]
+    for crate, picture in pictures:
         rows = [re.match(r" ([\w:]+(?:, [\w:]+)*)  ", f"{line}  ") for line in picture.splitlines()]
         found = layers.layer_faults(crate, [it[1].split(", ") for it in rows if it])
         faults += [f"{LAYERED}, {crate}: {it}" for it in found]
