@@ -118,7 +118,7 @@ enum lazydfa_code {
     LAZYDFA_NO_TOKEN = 34,       /* no pattern matches at the offset, or only with the empty string */
 
     /* from a search or a walk in pieces */
-    LAZYDFA_SKIPS = 35,          /* the regex can match the empty string, and is in UTF-8 mode */
+    LAZYDFA_SKIPS = 35,          /* the regex is in UTF-8 mode, and matches the empty string if all its looks hold */
     LAZYDFA_NOT_BEGUN = 36,      /* no search or walk in pieces was begun over the cache */
 
     /* from a pattern's text */
@@ -288,7 +288,7 @@ typedef struct {
    the search does, or whose input is anchored, and fail with LAZYDFA_NOT_A_PAIR for any other match. Backward searches
    (lazydfa_find_start, lazydfa_all_starts, and searches with the regex of lazydfa_regex_reverse) find nothing. */
 typedef struct {
-    size_t size_limit;             /* bytes that the tables of all patterns may take, if has_size_limit is not 0 */
+    size_t size_limit;             /* bytes for the tables of all patterns, and 24 each, if has_size_limit is not 0 */
     size_t text_limit;             /* bytes that all texts may have in total, if has_text_limit is not 0 */
     size_t class_limit;            /* class escapes, such as \w or \pL, in all texts, if has_class_limit is not 0 */
     uint32_t has_size_limit;       /* if it is 0, the limit is 10 MiB */
@@ -310,7 +310,7 @@ typedef struct {
 /* Why no regex was built from a pattern's text. */
 typedef struct {
     size_t pattern;    /* the index of the text that has the error, from 0 */
-    size_t start, end; /* the span of the text that the error is about, if they differ */
+    size_t start, end; /* the span of the text that the error is about, or the offset where it stops being UTF-8 */
     size_t length;     /* the length of the whole message, in bytes, without the zero at its end */
 } lazydfa_refusal;
 
@@ -815,8 +815,8 @@ static inline lazydfa_status lazydfa_regex_share(lazydfa_regex *regex, lazydfa_r
    searches backward, this one searches forward, with the same states. So a haystack in pieces can be searched backward
    for the start of a match whose end is known: give the pieces from that end on, with their bytes in reverse order, and
    search anchored. `behind` is then the byte after that end, `ahead` the byte before the last one that was read, and
-   the reported offset is the length of the longest match, as lazydfa_find_start finds it. LAZYDFA_ARGUMENT also if both
-   are the same handle. */
+   the reported offset is the length of the longest match, as lazydfa_find_start finds it; that the two agree is tested,
+   not proved. LAZYDFA_ARGUMENT also if both are the same handle. */
 static inline lazydfa_status lazydfa_regex_reverse(lazydfa_regex *regex, lazydfa_regex *other) {
     LAZYDFA_NEED(regex);
     LAZYDFA_NEED(other);

@@ -64,7 +64,7 @@ static void refused(void) {
     FINDS("\\bx", "",
           "24 at 0, 0..0: a Unicode word boundary is not supported: write (?-u:\\b) for an ASCII word boundary");
     FINDS("(a{1000}){1000}", "", "14 at 0, 0..0: the patterns are too large");
-    FINDS("ab\xFF", "", "41 at 2, 2..0: ");
+    FINDS("ab\xFF", "", "41 at 2, 2..2: ");
 }
 
 /* Writes a pattern of this many nested groups, and returns its length. */
@@ -218,7 +218,7 @@ static void sets(void) {
     CHECK(!strcmp(message, "unclosed group\n  b(\n   ^") && refusal.length == strlen(message));
     wrong[1].text = "b\xFF";
     CHECK(lazydfa_regex_any_of(&regex, wrong, 3, NULL, NULL, NULL, 0, &refusal, message, 10).code == LAZYDFA_NOT_TEXT);
-    CHECK(refusal.pattern == 1 && refusal.start == 1 && !*message);
+    CHECK(refusal.pattern == 1 && refusal.start == 1 && refusal.end == 1 && !refusal.length && !*message);
     wrong[0].length = SIZE_MAX;
     CHECK(lazydfa_regex_any_of(&regex, wrong, 1, NULL, NULL, NULL, 0, &refusal, NULL, 0).code == LAZYDFA_MEMORY);
 }

@@ -1,7 +1,7 @@
 -- The definitions by subject:
 --
---     Powersets    passes over powerset states (Passes), which automata_base defines; start states and successors that
---                  are made (Results); their bytes (Code, Key, Equal) and their cost (Accounting)
+--     Powersets    passes over the powerset states of automata_base (Passes); the start states and successors that are
+--                  computed (Results); the encoding of powerset states (Code, Key, Equal) and their cost (Accounting)
 --     Paths        the powerset state where a search starts, and what a pass reports
 --     Answers      what the passes of a search report, for every NFA (OfPasses), and where that lies (Within)
 --     ByteClasses  the look-behind bytes that start states distinguish

@@ -26,8 +26,7 @@ pub use Rattle.automata_determinize.specs.Powersets.Accounting.{minimum_capacity
 pub use Rattle.automata_determinize.specs.Powersets.Equal.{powerset_eq, powerset_eq-Decides}
 pub use Rattle.automata_determinize.specs.Powersets.Passes.{IsUnit}
 pub use Rattle.automata_base.specs.Powersets.Powerset.{cost, dead, Powerset}
-pub use Rattle.automata_determinize.specs.Retraced.Passes.{earlier_or, first_among, pair_at, reported_at, reported_upto}
-unfoldable pub use Rattle.automata_determinize.specs.Retraced.Passes.{first_reported}
+pub use Rattle.automata_determinize.specs.Retraced.Passes.{earlier_or, first_among, pair_at}
 unfoldable pub use Rattle.automata_determinize.specs.Retraced.Steps.{start_state_of, successor}
 pub use Rattle.automata_base.specs.declared.util.search.Anchored.{Anchored}
 pub use Rattle.automata_base.specs.declared.util.search.Anchored.TheVariants.{No}
@@ -53,6 +52,8 @@ pub use Rattle.automata_hybrid.specs.Known.Passes.{HaveTried, IsSearchRun, Lacks
 pub use Rattle.automata_hybrid.specs.Known.Passes.{PassFails, QuitsBehind, ReadFails, UnitFails, UnitsEnd}
 unfoldable pub use Rattle.automata_hybrid.specs.Known.Passes.{after_many}
 pub use Rattle.automata_hybrid.specs.Known.Stores.{known_of, start_named}
+pub use Rattle.automata_hybrid.specs.Machines.FullDfas.{full_dfa}
+unfoldable pub use Rattle.automata_hybrid.specs.Machines.FullDfas.{state_on}
 pub use Rattle.automata_hybrid.specs.Machines.Machine.{Machine, quits_on, unit_class}
 unfoldable pub use Rattle.automata_hybrid.specs.Machines.Machine.{marked}
 unfoldable pub use Rattle.automata_hybrid.specs.Machines.OwnStates.{IsOwn}
@@ -75,7 +76,8 @@ pub use Rattle.automata_hybrid.specs.Private.Searches.Traces.{IsTrace}
 pub use Rattle.automata_hybrid.specs.Private.Steps.Steps.{IsCellRead, KnowsStep}
 pub use Rattle.automata_hybrid.specs.Searches.PassState.{half_at, half_of, IsAt, IsAtAlong}
 pub use Rattle.automata_hybrid.specs.Searches.Passes.{behind_offset, Finds, given_up_offset, HasReadNoQuit, IsFound}
-pub use Rattle.automata_hybrid.specs.Searches.Passes.{Reads, reported_in, Skips, state_in, tape_in, unit_offset}
+pub use Rattle.automata_hybrid.specs.Searches.Passes.{Reads, reported_along, reported_in, Skips, state_in, tape_in}
+pub use Rattle.automata_hybrid.specs.Searches.Passes.{unit_offset}
 pub use Rattle.automata_hybrid.specs.Searches.Passes.{with_base, WithoutBase}
 pub use Rattle.automata_hybrid.specs.Searches.Progress.{start_event, unit_event}
 pub use Rattle.automata_hybrid.specs.Searches.Traces.{pass_trace, Trace}

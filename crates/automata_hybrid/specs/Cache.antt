@@ -5,3 +5,4 @@ pub mod Caches
 pub mod Usage
 pub mod Progress
 pub mod States
+pub mod Survival

@@ -6,8 +6,10 @@
 --     what a set of patterns is joined with                Walks.Contracts: IsWhich; Walks.SetsByPaths
 --     what a step returns, and a start state               Steps.Steps: IsStepAnswer; Steps.Starts: IsStartAnswer
 --     a search by steps                                    Steps.BySteps: StandsAt, IsStepAt; Cache.Caches: HoldsRow
---     a search in pieces                                   Pieces.Answers: HasBegun, ReadsOn, EndsHere; Pieces.Whole
+--     a search in pieces                                   Pieces.Answers: HasBegun, ReadsOn, EndsHere
 --     a walk over a haystack in pieces                     Pieces.Walks: HasWalked, IsWalked, EndsWith; Pieces.Matching
+--     a search, or a walk, whose pieces are all of it      Pieces.Whole: PiecesAreWhole, WalksAreWhole
+--     the full DFA, of which a cache holds a part           Machines.FullDfas: FullDfa, full_dfa
 --     what a cache knows                                   Known.Known: Known; Known.Stores: known_of; Known.Bounds
 --     how much memory, and when a clear is allowed         Known.Events: usage, fits, refuses_to_clear
 --     what a call does to it, event by event               Known.Events: after_event, made
@@ -15,9 +17,12 @@
 --     what walks and sets do to it, and what follows       Known.Walks: IsWalkRun, IsSetRun; Known.WalksFollow
 --     what a step does to it, when it fails, what follows  Known.Steps: IsStepRun, StepFails, IsStartRun; Known.Effects
 --     what a search in pieces does to it                   Known.Pieces: IsBeginRun, IsPieceRun, IsAnswerRun
---     what follows from that                               Known.PiecesFollow
 --     what a walk in pieces does to it                     Known.Pieces: IsBeginRun, IsWalkCallRun, IsWalkEndRun
+--     what follows from both                               Known.PiecesFollow: PieceFollows, AnswerFollows
 --     what every call keeps of it                          Known.Growth: IsGrown; Known.Cached
+--
+-- What calls do to caches is stated over the full DFA. Only `full_dfa` says how an NFA determines it, by the powerset
+-- construction: a reader of what follows Known.Known need not follow that name.
 --
 -- Machines defines what a DFA is; Cache.Ids, Cache.Table and Cache.States define its IDs, for steps and for inspecting
 -- a cache. Private has, in the same folders, the definitions for private functions and for proofs: no contract of a

@@ -1,4 +1,5 @@
 pub mod Merges
+pub mod Captures
 pub mod Mirrors
 pub mod Standing
 pub mod Folds

@@ -13,7 +13,7 @@ ghost use Rattle.automata_base.specs.Nfas.Nodes.{node_of, nodes_of, ranges_of};
 ghost use Rattle.automata_transform.specs.Retraced.Folds.{AreTreeHeads, AreTargetsOf, IsNotFree, IsMade};
 ghost use Rattle.automata_transform.specs.Retraced.Folds.{StandsFor, StandsIfAny};
 ghost use Rattle.automata_transform.specs.Retraced.Folds.{range_read, ReadsRange, SomeReads, StaysOrReads};
-ghost use Rattle.automata_transform.specs.Retraced.Folds.{is_large, IsFoldOf};
+ghost use Rattle.automata_transform.specs.Retraced.Folds.{is_large, IsFoldOf, AddsNoLook, tests_look};
 ghost use Rattle.automata_transform.specs.Retraced.Folds.{IsFoldedFrom, IsFoldedState, IsUnionOf, IsUnionBelow};
 ghost use Rattle.automata_base.specs.declared.nfa.thompson.state.Transition.{Transition};
 ghost use Rattle.automata_base.specs.Retraced.Reach.{node_in, targets_of};
@@ -33,10 +33,13 @@ use std::alloc::{AllocError, Global};
 /// read a range.
 const FEWEST: usize = 64;
 
-/// Adds a state in place of the next free one, and returns its ID. If no free state is left, it fails with `TooLarge`.
+/// Adds a state in place of the next free one, and returns its ID. The state must not test a look. If no free state is
+/// left, it fails with `TooLarge`.
 fn make(free: &[StateID], made: &mut Vec<State>, state: State) -> Result<StateID, MakeError>
+    requires { tests_look state ≡ false }
     ensures more { OnOk result (nodes_of made.new.items ≡ nodes_of made.old.items ++ node_of state ∷ []) }
     ensures made { IfOk result (λ id. IsMade free.now (nodes_of made.new.items) id (node_of state)) }
+    ensures looks { OnOk result (AddsNoLook made.old.items made.new.items) }
     ensures few { OnOk result (length made.new.items ≤ length free.now) }
 {
     let at = made.len();
@@ -57,6 +60,7 @@ fn stand(
     ensures stands { IfOk result (λ head. (depth : ℕ) (targets : List ℕ)
         → AreTargetsOf (StandsFor free.now (nodes_of made.old.items) depth) ids.items targets
         → StandsIfAny free.now (nodes_of made.new.items) head targets) }
+    ensures looks { OnOk result (AddsNoLook made.old.items made.new.items) }
     ensures grows { OnOk result ((more : List Node) × (nodes_of made.new.items ≡ nodes_of made.old.items ++ more)) }
     ensures few { OnOk result (length made.new.items ≤ length free.now) }
 {
@@ -99,6 +103,7 @@ fn head(
     ensures stands { IfOk result (λ head. (targets : List ℕ)
         → StandsIfAny free.now (nodes_of made.old.items) above targets
         → StandsIfAny free.now (nodes_of made.new.items) head (list.now ++ targets)) }
+    ensures looks { OnOk result (AddsNoLook made.old.items made.new.items) }
     ensures grows { OnOk result ((more : List Node) × (nodes_of made.new.items ≡ nodes_of made.old.items ++ more)) }
     ensures few { OnOk result (length made.new.items ≤ length free.now) }
 {
@@ -143,6 +148,7 @@ fn heads_of(
     ensures stands { IfOk result (λ heads. AreTreeHeads free.now (nodes_of made.new.items) (lists_of lists.now)
         heads.items 512) }
     ensures nodes { IfOk result (λ heads. length heads.items ≡ 512) }
+    ensures looks { OnOk result (AddsNoLook made.old.items made.new.items) }
     ensures grows { OnOk result ((more : List Node) × (nodes_of made.new.items ≡ nodes_of made.old.items ++ more)) }
     ensures few { OnOk result (length made.new.items ≤ length free.now) }
 {
@@ -263,6 +269,7 @@ fn fold_union(
     ensures folded { IfOk result
         (λ s. IsFoldOf states.now free.now (nodes_of made.new.items) alternates.now (node_of s)) }
     ensures reads { IfOk result (λ s. range_read s ≡ None) }
+    ensures looks { OnOk result (AddsNoLook made.old.items made.new.items) }
     ensures grows { OnOk result ((more : List Node) × (nodes_of made.new.items ≡ nodes_of made.old.items ++ more)) }
     ensures few { OnOk result (length made.new.items ≤ length free.now) }
 {
@@ -306,6 +313,7 @@ fn fold_at(
     ensures folded { OnOk result (IsFoldedState states.old.items free.now (nodes_of made.new.items)
         (slice_get states.old.items x) (slice_get states.new.items x)) }
     ensures others { OnOk result ((q : ℕ) → (q ≡ x → ⊥) → slice_get states.new.items q ≡ slice_get states.old.items q) }
+    ensures looks { OnOk result (AddsNoLook made.old.items made.new.items) }
     ensures same { OnOk result (length states.new.items ≡ length states.old.items) }
     ensures grows { OnOk result ((more : List Node) × (nodes_of made.new.items ≡ nodes_of made.old.items ++ more)) }
     ensures few { OnOk result (length made.new.items ≤ length free.now) }
@@ -330,6 +338,7 @@ fn fold_all(
     requires kept { (q : ℕ) (range : Transition) → ReadsRange states.old.items q range → IsNotFree free.now range.next }
     ensures folded { OnOk result ((x : ℕ) → IsFoldedState states.old.items free.now (nodes_of made.new.items)
         (slice_get states.old.items x) (slice_get states.new.items x)) }
+    ensures looks { OnOk result (AddsNoLook made.old.items made.new.items) }
     ensures same { OnOk result (length states.new.items ≡ length states.old.items) }
     ensures few { OnOk result (length made.new.items ≤ length free.now) }
 {
@@ -379,9 +388,11 @@ fn put_made(states: &mut Vec<State>, free: &[StateID], mut made: Vec<State>)
     requires few { length made.items ≤ length free.now }
     requires below { (x : ℕ) → In x free.now → x < length states.old.items }
     requires distinct { Distinct free.now }
+    requires plain { AddsNoLook [] made.items }
     ensures kept { (x : ℕ) → IsNotFree free.now x → slice_get states.new.items x ≡ slice_get states.old.items x }
     ensures made { (k x : ℕ) (s : State) → slice_get free.now k ≡ Some x → slice_get made.items k ≡ Some s
         → slice_get states.new.items x ≡ Some s }
+    ensures looks { AddsNoLook states.old.items states.new.items }
     ensures same { length states.new.items ≡ length states.old.items }
 {
     while let Some(state) = made.pop() {
@@ -429,6 +440,7 @@ pub fn fold(
     requires starts { root < length states.old.items }
     requires entered { (e : ℕ) → In e entries.now → e < length states.old.items }
     ensures folded { OnOk result (IsFoldedFrom states.old.items states.new.items root entries.now) }
+    ensures looks { OnOk result (AddsNoLook states.old.items states.new.items) }
     ensures same { OnOk result (length states.new.items ≡ length states.old.items) }
 {
     let mut led = led_to(alloc, states.as_slice())?;

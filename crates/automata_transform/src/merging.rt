@@ -4,15 +4,16 @@
 //! that state leads to an additional state, which stands for the list of their targets and is merged in the same way.
 //! So a union of many words becomes a trie. An alternate that does not read a byte stays, and the order stays the same.
 //!
-//! No contract says what the states that are made are: `standing` tests them.
-ghost use Rattle.std.specs.Prelude.{◌≡◌, IfOk, IfSome, IsTrue, false};
+//! Contracts bound the number of states that are made, and do not say what they are: `standing` tests them.
+ghost use Rattle.std.specs.Prelude.{◌≡◌, ◌≤◌, ◌+◌, IfOk, IfSome, IsTrue, OnOk, false, length};
 ghost use Rattle.automata_transform.specs.Answers.Alike.{AnswerAlike};
 ghost use Rattle.automata_base.specs.Nfas.Engines.{engine_of};
 ghost use Rattle.automata_transform.specs.Nfas.MergedNfas.{BeginsAs, IsMergedNfa, KeepsBounds};
+ghost use Rattle.automata_transform.specs.Nfas.MergedNfas.{KeepsCaptures, most_merged};
 ghost use Rattle.automata_base.specs.declared.util.search.MatchKind.{MatchKind};
 
 use crate::laws::merged_answers_alike;
-use crate::standing::{is_merged, is_plain, stands_for};
+use crate::standing::{is_merged, is_plain, keeps_captures, stands_for};
 use automata_base::nfa::thompson::{NFA, NfaError, State, Transition};
 use automata_base::util::id_lists::no_lists;
 use automata_base::util::primitives::StateID;
@@ -22,7 +23,7 @@ use std::mem;
 /// The least number of alternates of a union that is merged.
 const FEWEST: usize = 8;
 
-/// At most `EACH` targets for each state of the NFA, and `MORE` in addition, may be listed.
+/// At most `EACH` targets for each state of the NFA, and `MORE` in addition, may be listed, and as many states added.
 const EACH: usize = 8;
 
 const MORE: usize = 4096;
@@ -138,6 +139,8 @@ fn push_range(
 }
 
 impl Merging {
+    ghost use Rattle.std.specs.Prelude.{◌≤◌, ◌+◌, OnOk, length};
+
     /// Takes `targets` from the targets that may still be listed; false if fewer are left.
     fn take(&mut self, targets: usize) -> bool {
         if targets > self.left {
@@ -316,7 +319,9 @@ impl Merging {
     }
 
     /// Adds the states that take the place of the NFA's states.
-    fn merge_states(&mut self, nfa: &NFA, states: &mut Vec<State>) -> Result<(), AllocError> {
+    fn merge_states(&mut self, nfa: &NFA, states: &mut Vec<State>) -> Result<(), AllocError>
+        ensures { OnOk result (length states.new.items ≤ length states.old.items + length nfa.now.states) }
+    {
         for state in nfa.states() {
             let merged = self.merge_state(nfa, state)?;
             states.push(merged)?;
@@ -338,13 +343,15 @@ impl Merging {
         Ok(state)
     }
 
-    /// Adds the additional states in order; there are fewer than `most`.
+    /// Adds the additional states in order, but at most `most`.
     fn merge_lists(
         &mut self,
         nfa: &NFA,
         states: &mut Vec<State>,
         most: usize,
-    ) -> Result<(), AllocError> {
+    ) -> Result<(), AllocError>
+        ensures { OnOk result (length states.new.items ≤ length states.old.items + most) }
+    {
         for at in 0..most {
             if at >= self.lists.len() || self.is_short {
                 return Ok(());
@@ -357,7 +364,9 @@ impl Merging {
 }
 
 /// Returns the states of the merged NFA, or none if a limit was exceeded.
-pub fn merge(nfa: &NFA) -> Result<Option<MergedStates>, AllocError> {
+pub fn merge(nfa: &NFA) -> Result<Option<MergedStates>, AllocError>
+    ensures { IfOk result (λ some. IfSome some (λ merged. length merged.states.items ≤ most_merged nfa.now)) }
+{
     let alloc = nfa.alloc();
     let count = nfa.states().len();
     let most = count.saturating_mul(EACH).saturating_add(MORE);
@@ -389,16 +398,19 @@ pub fn merge(nfa: &NFA) -> Result<Option<MergedStates>, AllocError> {
 /// faster; a set of 1,000 words takes a twentieth of the time and the memory until its states are cached.
 ///
 /// Its searches, walks, spans and sets give the same answers, and its starts and flags are the same. The states
-/// keep their IDs, and additional ones come after them. The result is the NFA itself if no union has eight
-/// alternates, if the NFA keeps unions (`NFA::keeping_unions`), if more targets would be listed than eight for
-/// each state and 4,096 in addition, or if, after merging, a closure would need more room, a cycle of epsilon
-/// transitions would newly pass a look, or unanchored searches would no longer skip lazily. The only error is out
-/// of memory. The call takes time linear in the states, their edges and what is listed.
+/// keep their IDs, and captures their groups and slots. Additional states come after them: at most eight for each
+/// state, and 4,096 more. The result is the NFA itself if no union has eight alternates, if the NFA keeps unions
+/// (`NFA::keeping_unions`), if more targets would be listed than eight for each state and 4,096 in addition, or if,
+/// after merging, a closure would need more room, a cycle of epsilon transitions would newly pass a look, or
+/// unanchored searches would no longer skip lazily. The only error is out of memory. The call takes time linear in
+/// the states, their edges and what is listed.
 pub fn merged(nfa: &NFA) -> Result<NFA, AllocError>
     ensures alike { IfOk result (λ made. (kind : MatchKind)
         → AnswerAlike (engine_of nfa.now kind) (engine_of made kind)) }
     ensures merged { IfOk result (λ made. IsMergedNfa nfa.now made) }
     ensures bounds { IfOk result (λ made. KeepsBounds nfa.now made) }
+    ensures captures { IfOk result (λ made. KeepsCaptures nfa.now made) }
+    ensures size { IfOk result (λ made. length made.states ≤ most_merged nfa.now) }
 {
     let _states = nfa.states();
     merged_answers_alike();
@@ -409,6 +421,8 @@ pub fn merged(nfa: &NFA) -> Result<NFA, AllocError>
 fn merged_if_wide(nfa: &NFA) -> Result<NFA, AllocError>
     ensures merged { IfOk result (λ made. IsMergedNfa nfa.now made) }
     ensures bounds { IfOk result (λ made. KeepsBounds nfa.now made) }
+    ensures captures { IfOk result (λ made. KeepsCaptures nfa.now made) }
+    ensures size { IfOk result (λ made. length made.states ≤ most_merged nfa.now) }
 {
     if nfa.keeps_unions() || !has_wide(nfa.states()) {
         return unmerged(nfa);
@@ -423,15 +437,20 @@ fn merged_if_wide(nfa: &NFA) -> Result<NFA, AllocError>
 fn unmerged(nfa: &NFA) -> Result<NFA, AllocError>
     ensures merged { IfOk result (λ made. IsMergedNfa nfa.now made) }
     ensures bounds { IfOk result (λ made. KeepsBounds nfa.now made) }
+    ensures captures { IfOk result (λ made. KeepsCaptures nfa.now made) }
+    ensures size { IfOk result (λ made. length made.states ≤ most_merged nfa.now) }
 {
     nfa.clone()
 }
 
 /// Returns the NFA of these states if it is `nfa` with unions merged, and otherwise `nfa`.
 fn merged_as(nfa: &NFA, merged: MergedStates) -> Result<NFA, AllocError>
-    requires { nfa.now.keeps_unions ≡ false }
+    requires unions { nfa.now.keeps_unions ≡ false }
+    requires few { length merged.states.items ≤ most_merged nfa.now }
     ensures merged { IfOk result (λ made. IsMergedNfa nfa.now made) }
     ensures bounds { IfOk result (λ made. KeepsBounds nfa.now made) }
+    ensures captures { IfOk result (λ made. KeepsCaptures nfa.now made) }
+    ensures size { IfOk result (λ made. length made.states ≤ most_merged nfa.now) }
 {
     let MergedStates { states, lists } = merged;
     match with_states(nfa, states)? {
@@ -444,7 +463,8 @@ fn merged_as(nfa: &NFA, merged: MergedStates) -> Result<NFA, AllocError>
 /// accept them.
 fn with_states(nfa: &NFA, states: Vec<State>) -> Result<Option<NFA>, AllocError>
     requires { nfa.now.keeps_unions ≡ false }
-    ensures { IfOk result (λ some. IfSome some (λ made. BeginsAs nfa.now made)) }
+    ensures begins { IfOk result (λ some. IfSome some (λ made. BeginsAs nfa.now made)) }
+    ensures states { IfOk result (λ some. IfSome some (λ made. made.states ≡ states.items)) }
 {
     let starts = Vec::from_slice(nfa.alloc(), nfa.pattern_starts())?;
     let (anchored, unanchored) = (nfa.start_anchored(), nfa.start_unanchored());
@@ -464,11 +484,14 @@ fn with_states(nfa: &NFA, states: Vec<State>) -> Result<Option<NFA>, AllocError>
 
 /// Returns `made` if it is `nfa` with unions merged and keeps its bounds, and otherwise `nfa`.
 fn if_merged(nfa: &NFA, made: NFA, lists: &[Vec<StateID>]) -> Result<NFA, AllocError>
-    requires { BeginsAs nfa.now made }
+    requires begins { BeginsAs nfa.now made }
+    requires few { length made.states ≤ most_merged nfa.now }
     ensures merged { IfOk result (λ m. IsMergedNfa nfa.now m) }
     ensures bounds { IfOk result (λ m. KeepsBounds nfa.now m) }
+    ensures captures { IfOk result (λ m. KeepsCaptures nfa.now m) }
+    ensures size { IfOk result (λ m. length m.states ≤ most_merged nfa.now) }
 {
-    if bounds(nfa, &made) && is_merged(nfa, &made, lists)? {
+    if bounds(nfa, &made) && keeps_captures(nfa, &made) && is_merged(nfa, &made, lists)? {
         return Ok(made);
     }
     unmerged(nfa)

@@ -4,10 +4,11 @@ ghost use Rattle.std.specs.Prelude.{◌↔◌, IsTrue, IfSome, None, Some};
 ghost use Rattle.automata_transform.specs.Retraced.Copies.{IsFit};
 ghost use Rattle.automata_base.specs.Lists.{all_below, Distinct};
 ghost use Rattle.automata_base.specs.Nfas.Nfa.{Node};
-ghost use Rattle.automata_base.specs.Nfas.Nodes.{nodes_of};
+ghost use Rattle.automata_base.specs.Nfas.Nodes.{nodes_of, stack_room};
 ghost use Rattle.automata_base.specs.Nfas.Errors.{states_below, states_ordered};
 ghost use Rattle.automata_transform.specs.Nfas.ReversedSizes.{asking_edges, MayBeTooLarge, most_states};
 ghost use Rattle.automata_transform.specs.Nfas.ReversedSizes.{most_alternates};
+ghost use Rattle.automata_transform.specs.Retraced.Folds.{AddsNoLook};
 ghost use Rattle.automata_transform.specs.Retraced.ReversedEdges.{AreTurned, AreReversed};
 ghost use Rattle.automata_base.specs.Nfas.Accepted.{IsChecked};
 ghost use Rattle.automata_base.specs.Nfas.Automata.{automaton};
@@ -21,13 +22,17 @@ ghost use Rattle.automata_base.specs.Answers.TruePairs.{IsTruePair};
 use crate::copies::{Parts, parts_of};
 use crate::folding::{fold, has_wide};
 use crate::turn::{EdgesByTarget, MakeError, push_state};
-use automata_base::nfa::thompson::checks::MAX_STATES;
+use automata_base::nfa::thompson::checks::{MAX_STATES, totals_of};
 use automata_base::nfa::thompson::reach::{Edges, reach, reaches_match};
 use automata_base::nfa::thompson::{Flags, NFA, NfaError, State};
 use automata_base::util::primitives::StateID;
 use automata_base::util::search::MatchKind;
 use std::alloc::{AllocError, Global};
 use thiserror::Error;
+
+/// A folded NFA may need this many times the room for a closure that it needs before it is folded. The classes of
+/// Unicode need up to 2.3 times as much.
+const MOST_ROOM: usize = 4;
 
 /// Why an NFA cannot be reversed.
 #[derive(Clone, Copy, Debug, PartialEq, Eq, Error)]
@@ -181,7 +186,8 @@ pub fn reverse_states(
 ///
 /// Where many edges that read bytes lead to one state, as to the match of a large class of characters, a single
 /// state reads in place of the states of these edges, and some of those are reused for the sets of states that a
-/// byte leads to. The number of states stays the same.
+/// byte leads to. The number of states stays the same. This is not done if the stack of a closure would then need
+/// more than four times the room.
 ///
 /// It fails if the empty match is reached from the start of a pattern and not from the anchored start, or the other
 /// way round, since then the two would not omit the same empty matches in UTF-8 mode; if by that bound, or a
@@ -270,13 +276,38 @@ fn mirror_of(nfa: &NFA) -> Result<Mirror, ReverseError>
     }
 }
 
+/// Returns the room that the stack of a closure needs for these states, or 0 if they have too many alternates.
+fn room_of(states: &[State]) -> usize
+    ensures { result ≤ stack_room states.now }
+{
+    match totals_of(states) {
+        Some(totals) => totals.room,
+        None => 0,
+    }
+}
+
+/// Returns the NFA if the stack of a closure needs at most `MOST_ROOM` times this room, and otherwise none.
+fn within_room(made: NFA, room: usize) -> Option<NFA>
+    ensures same { IfSome result (λ kept. kept ≡ made) }
+    ensures room { IfSome result (λ kept. stack_room kept.states ≤ 4 * room) }
+{
+    if made.room() <= room.saturating_mul(MOST_ROOM) {
+        Some(made)
+    } else {
+        None
+    }
+}
+
 /// Returns the reversed NFA of these states with its wide unions folded, or none if there are not enough free
-/// states, or too many alternates after folding.
+/// states, too many alternates, or too little room for a closure.
 fn folded(nfa: &NFA, mirror: Mirror) -> Result<Option<NFA>, ReverseError>
     requires { IsFit
         nfa.now.states (length nfa.now.start_pattern) mirror.states.items mirror.entries.items mirror.root }
     ensures alike { IfOk result (λ some. IfSome some (λ made. ReadsAlike (automaton mirror.states.items mirror.root
         mirror.root mirror.entries.items (reversed_flags nfa.now.flags)) made)) }
+    ensures looks { IfOk result (λ some. IfSome some (λ made. AddsNoLook mirror.states.items made.states)) }
+    ensures room { IfOk result (λ some. IfSome some (λ made.
+        stack_room made.states ≤ 4 * stack_room mirror.states.items)) }
     ensures size { IfOk result (λ some. IfSome some (λ made. length made.states ≡ length mirror.states.items)) }
     ensures large { result ≡ Err ReverseError.TooLarge → ⊥ }
     ensures starts { result ≡ Err ReverseError.Starts → ⊥ }
@@ -286,6 +317,7 @@ fn folded(nfa: &NFA, mirror: Mirror) -> Result<Option<NFA>, ReverseError>
         entries,
         root,
     } = mirror;
+    let room = room_of(states.as_slice());
     match fold(nfa.alloc(), &mut states, root, entries.as_slice()) {
         Ok(()) => {}
         Err(MakeError::TooLarge) => return Ok(None),
@@ -294,7 +326,7 @@ fn folded(nfa: &NFA, mirror: Mirror) -> Result<Option<NFA>, ReverseError>
     let given = nfa.flags();
     let flags = turned_flags(given);
     match NFA::from_states(nfa.alloc(), states, root, root, entries, flags) {
-        Ok(made) => Ok(Some(made)),
+        Ok(made) => Ok(within_room(made, room)),
         Err(NfaError::OutOfMemory) => Err(ReverseError::OutOfMemory),
         Err(_) => Ok(None),
     }

@@ -2,6 +2,7 @@
 ghost use Rattle.std.specs.Prelude.{ℕ, ◌≡◌, ◌<◌, ◌≤◌, ◌++◌, List, IfOk, IfSome, IsTrue, length, false, ◌+◌, []};
 ghost use Rattle.std.specs.Prelude.{Some};
 ghost use Rattle.automata_base.specs.Lists.{In, cons_some};
+ghost use Rattle.automata_transform.specs.Nfas.MergedNfas.{KeepsCaptures};
 ghost use Rattle.automata_transform.specs.Nfas.Merges.{IsMerged, IsMergedNode, Shows, ReadsFor};
 ghost use Rattle.automata_transform.specs.Nfas.Merges.{stood_for, all_stood_for, target_for};
 ghost use Rattle.automata_base.specs.Nfas.Nfa.{Node, Range, Read, node, takes_at};
@@ -327,6 +328,50 @@ fn is_same(one: &State, two: &State) -> bool
         (State::Match { pattern }, State::Match { pattern: other }) => *pattern == *other,
         _ => false,
     }
+}
+
+/// Whether the new state is the same if the old one is a capture.
+fn keeps_capture(old: &State, new: &State) -> bool
+    ensures { IsTrue result → (next pattern group slot : ℕ) → old.now ≡ State.Capture next pattern group slot
+        → new.now ≡ State.Capture next pattern group slot }
+{
+    match (old, new) {
+        (
+            State::Capture {
+                next,
+                pattern_id,
+                group_index,
+                slot,
+            },
+            State::Capture {
+                next: to,
+                pattern_id: pattern,
+                group_index: group,
+                slot: other,
+            },
+        ) => {
+            *next == *to && *pattern_id == *pattern && *group_index == *group && *slot == *other
+        }
+        (State::Capture { .. }, _) => false,
+        _ => true,
+    }
+}
+
+/// Whether each capture of the NFA is the same in the other one.
+pub fn keeps_captures(nfa: &NFA, other: &NFA) -> bool
+    ensures { IsTrue result → KeepsCaptures nfa.now other.now }
+{
+    let states = nfa.states();
+    let new = other.states();
+    if new.len() < states.len() {
+        return false;
+    }
+    for q in 0..states.len() {
+        if !keeps_capture(&states[q], &new[q]) {
+            return false;
+        }
+    }
+    true
 }
 
 /// Whether a state of the NFA is unchanged, or was a union and now stands for its alternates.

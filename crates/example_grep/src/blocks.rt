@@ -1,6 +1,6 @@
 //! Reads a file in blocks, and splits off the complete lines.
-ghost use Rattle.std.specs.Prelude.{◌≡◌, map};
-ghost use Rattle.example_grep.specs.Blocks.{line_ends};
+ghost use Rattle.std.specs.Prelude.{◌≡◌, [], IfOk, map, option_map};
+ghost use Rattle.example_grep.specs.Blocks.{TakesLines, TakesRest, line_ends};
 
 use anyhow::{Result, bail};
 use memchr::{memchr, memrchr};
@@ -82,7 +82,10 @@ impl Blocks {
     }
 
     /// Takes all complete lines, without the last line feed; returns `None` if no line is complete.
-    pub fn take_ended(&mut self, alloc: Global) -> Result<Option<Vec<u8>>> {
+    pub fn take_ended(&mut self, alloc: Global) -> Result<Option<Vec<u8>>>
+        ensures { IfOk result (λ ended. TakesLines self.old.text.items (option_map (λ lines. lines.items) ended)
+            self.new.text.items) }
+    {
         match memrchr(b'\n', self.text.as_slice()) {
             Some(end) => {
                 let rest = Vec::from_slice(alloc, &self.text[end + 1..])?;
@@ -95,7 +98,10 @@ impl Blocks {
     }
 
     /// Takes the remaining bytes, which are a last line without a line feed; returns `None` if there are none.
-    pub fn take_last(&mut self, alloc: Global) -> Option<Vec<u8>> {
+    pub fn take_last(&mut self, alloc: Global) -> Option<Vec<u8>>
+        ensures taken { TakesRest self.old.text.items (option_map (λ rest. rest.items) result) }
+        ensures left { self.new.text.items ≡ [] }
+    {
         if self.text.is_empty() {
             return None;
         }

@@ -1,13 +1,15 @@
 //! Builds the searchers for the patterns: their NFA, and what is built from it.
-ghost use Rattle.std.specs.Prelude.{◌≡◌, Bool, List, Some, IfOk, OnOk, map, true};
+ghost use Rattle.std.specs.Prelude.{◌≡◌, Bool, List, IfOk, OnOk, map};
 ghost use Rattle.regex_hir.specs.Re.{Re};
 ghost use Rattle.automata_base.specs.Answers.TruePairs.{KeepsUtf8};
 ghost use Rattle.automata_config.specs.Options.{overwritten, unset};
 ghost use Rattle.automata_hybrid.specs.Machines.Builds.{Builds};
-ghost use Rattle.regex_automata.specs.Promises.{Forward, KindAll, LeftmostFirst, engine_of, match_kind_of};
-ghost use Rattle.patterns.specs.Patterns.{HasNoLookCycle, IsJoinedNfa, IsNfaOf, IsRegexOf};
+ghost use Rattle.regex_automata.specs.Promises.{Forward, KindAll, LeftmostFirst, engine_of};
+ghost use Rattle.regex_automata.specs.Regexes.Builds.{BuildsOne};
+ghost use Rattle.patterns.specs.Patterns.{HasNoLookCycle, IsJoinedNfa, IsNfaOf, IsRegexOf, settings_with};
 ghost use Rattle.patterns.specs.Sets.{IsDfaOf};
 ghost use Rattle.example_grep.specs.Lines.{bytewise};
+ghost use Rattle.example_grep.specs.Built.{IsGrepBuilt, IsViewBuilt, grep_settings};
 ghost use Rattle.example_grep.specs.Greps.{IsGrepFor, IsViewFor};
 
 use crate::lines::LineSearcher;
@@ -60,11 +62,7 @@ pub fn patterns_nfa(
 /// Returns the settings of a DFA: which matches it reports, and the capacity of its cache, in bytes. A capacity that is
 /// too small is raised to the minimum.
 fn settings(match_kind: MatchKind, capacity: usize) -> Config
-    ensures { result ≡ record unset {
-      match_kind = Some match_kind;
-      cache_capacity = Some capacity;
-      skip_cache_capacity_check = Some true;
-    } }
+    ensures { result ≡ grep_settings match_kind capacity }
 {
     DFA::config()
         .match_kind(match_kind)
@@ -83,8 +81,7 @@ fn built(nfa: NFA, config: Config) -> Result<DFA, BuildError>
 
 /// Builds the DFA of an NFA that reports matches of this kind.
 fn dfa_of(nfa: NFA, match_kind: MatchKind, capacity: usize) -> Result<DFA>
-    ensures nfa { IfOk result (λ dfa. dfa.nfa ≡ nfa) }
-    ensures kind { IfOk result (λ dfa. match_kind_of dfa.config ≡ match_kind) }
+    ensures { IfOk result (Builds (grep_settings match_kind capacity) nfa) }
 {
     let config = settings(match_kind, capacity);
     let dfa = built(nfa, config)?;
@@ -94,8 +91,7 @@ fn dfa_of(nfa: NFA, match_kind: MatchKind, capacity: usize) -> Result<DFA>
 /// Builds the searcher for lines with a match of the patterns of an NFA.
 fn line_searcher(nfa: NFA, capacity: usize) -> Result<LineSearcher>
     requires { HasNoLookCycle nfa }
-    ensures nfa { IfOk result (λ s. s.dfa.nfa ≡ nfa) }
-    ensures kind { IfOk result (λ s. match_kind_of s.dfa.config ≡ LeftmostFirst) }
+    ensures built { IfOk result (λ s. Builds (grep_settings LeftmostFirst capacity) nfa s.dfa) }
     ensures searched { IfOk result (λ s. s.searched ≡ 0) }
 {
     let dfa = dfa_of(nfa, MatchKind::LeftmostFirst, capacity)?;
@@ -104,8 +100,10 @@ fn line_searcher(nfa: NFA, capacity: usize) -> Result<LineSearcher>
 
 /// Builds the searcher for the matches of the patterns of an NFA.
 fn span_searcher(nfa: NFA, case_insensitive: bool, capacity: usize) -> Result<SpanSearcher>
-    ensures { IfOk result (λ s. (res : List Re) → IsJoinedNfa (bytewise case_insensitive) res nfa
+    ensures meant { IfOk result (λ s. (res : List Re) → IsJoinedNfa (bytewise case_insensitive) res nfa
         → IsRegexOf (bytewise case_insensitive) res s.pattern.regex) }
+    ensures built { IfOk result (λ s. BuildsOne (settings_with (grep_settings LeftmostFirst capacity)
+        (bytewise case_insensitive)) nfa s.pattern.regex) }
 {
     let how = bytewise(case_insensitive);
     let config = settings(MatchKind::LeftmostFirst, capacity);
@@ -126,8 +124,9 @@ fn test_utf8(nfa: &NFA) -> Result<()>
 
 /// Builds the searcher for the numbers of the patterns that match, for the patterns of an NFA.
 fn set_searcher(nfa: NFA, capacity: usize) -> Result<SetSearcher>
-    ensures { IfOk result (λ s. (case_insensitive : Bool) (res : List Re)
+    ensures meant { IfOk result (λ s. (case_insensitive : Bool) (res : List Re)
         → IsJoinedNfa (bytewise case_insensitive) res nfa → IsDfaOf (bytewise case_insensitive) res s.set.dfa) }
+    ensures built { IfOk result (λ s. Builds (grep_settings KindAll capacity) nfa s.set.dfa) }
 {
     test_utf8(&nfa)?;
     let dfa = dfa_of(nfa, MatchKind::All, capacity)?;
@@ -136,8 +135,9 @@ fn set_searcher(nfa: NFA, capacity: usize) -> Result<SetSearcher>
 
 /// Builds the searcher for what is shown of each line.
 fn view_of(nfa: &NFA, how: How, case_insensitive: bool, capacity: usize) -> Result<View>
-    ensures { IfOk result (λ view. (res : List Re) → IsJoinedNfa (bytewise case_insensitive) res nfa.now
+    ensures meant { IfOk result (λ view. (res : List Re) → IsJoinedNfa (bytewise case_insensitive) res nfa.now
         → IsViewFor case_insensitive how res view) }
+    ensures built { IfOk result (IsViewBuilt case_insensitive capacity nfa.now) }
 {
     match how {
         How::Whole => Ok(View::Whole),
@@ -154,7 +154,8 @@ fn view_of(nfa: &NFA, how: How, case_insensitive: bool, capacity: usize) -> Resu
     }
 }
 
-/// Builds a grep for the patterns of an NFA, which has searched nothing yet. Each cache has this capacity, in bytes.
+/// Builds a grep for the patterns of an NFA, which has searched nothing yet. Each cache has this capacity, in bytes, or
+/// the minimum if that is larger; no byte makes a search quit, and no search gives up.
 pub fn grep_of(
     alloc: Global,
     show: Show,
@@ -165,6 +166,7 @@ pub fn grep_of(
     requires { HasNoLookCycle nfa }
     ensures meant { IfOk result (λ grep. (res : List Re) → IsJoinedNfa (bytewise case_insensitive) res nfa
         → IsGrepFor case_insensitive res grep) }
+    ensures built { IfOk result (IsGrepBuilt case_insensitive capacity nfa) }
     ensures show { IfOk result (λ grep. grep.show ≡ show) }
     ensures searched { IfOk result (λ grep. grep.lines.searched ≡ 0) }
     ensures count { IfOk result (λ grep. grep.count ≡ 0) }

@@ -37,7 +37,8 @@
 //! It is proved that a line of a text is taken exactly if some part of it is a match of some pattern, by the meaning of
 //! the patterns' texts, or with `-v` exactly if none is; and that what is shown of the lines taken, and their count,
 //! are what the flags say (`Grep::search`). With `--which` the numbers are those of the patterns that match the line,
-//! each by itself. For reading the arguments, finding the files, cutting the blocks and writing, only safety is proved.
+//! each by itself. Blocks are cut after a line feed, and no byte is lost (`Blocks::take_ended`). For reading the
+//! arguments, finding the files and writing, only safety is proved.
 #![tactic(auto)]
 
 ghost use Rattle.patterns.specs.Patterns.{HasNoLookCycle};

@@ -4,6 +4,7 @@ ghost use Rattle.automata_hybrid.specs.Cache.Caches.{dfa_of};
 ghost use Rattle.automata_hybrid.specs.Cache.States.{held_states};
 ghost use Rattle.automata_hybrid.specs.Known.Events.{usage};
 ghost use Rattle.automata_hybrid.specs.Known.Stores.{known_of};
+ghost use Rattle.example_grep.specs.Usages.{usage_sum};
 
 use anyhow::Result;
 use regex_automata::hybrid::dfa::Cache;
@@ -33,7 +34,9 @@ impl Usage {
     }
 
     /// Returns the sum of two usages.
-    pub fn and(self, other: Usage) -> Usage {
+    pub fn and(self, other: Usage) -> Usage
+        ensures { result ≡ usage_sum self other }
+    {
         Usage {
             clears: self.clears.saturating_add(other.clears),
             states: self.states.saturating_add(other.states),

@@ -1,7 +1,9 @@
 mod Batches
 mod Codes
 mod Copying
+mod Cutting
 mod Errors
+mod Messages
 mod Slots
 mod States
 mod Streams

@@ -1,67 +1,145 @@
 -- Opening a handle on the regex of texts, by the result of opening it on the regex of their NFA.
-use Rattle.std.proofs.Common.{ℕ, zero, suc, ◌≡◌, ◌<◌, List, Result, Ok, Err, IfOk, arith, sym, subst, refl}
+use Rattle.std.proofs.Common.{ℕ, zero, suc, ◌≡◌, ◌∙◌, ◌<◌, List, Result, Ok, Err, IfOk, arith, length, sym, subst, refl}
+use Rattle.std.specs.Prelude.{IfErr, OnErr, OnOk, sum}
 use Rattle.automata_base.specs.Nfas.Nodes.{Automaton}
+use Rattle.automata_base.specs.declared.nfa.thompson.state.NfaError.{NfaError}
+use Rattle.automata_base.specs.declared.nfa.thompson.state.NfaError.TheVariants as nfa_error
 use Rattle.automata_config.specs.Options.{Options}
 use Rattle.patterns.specs.Patterns.{IsNfaOf}
+use Rattle.patterns.specs.declared.compile.Options.{Options as Reading}
+use Rattle.patterns.specs.declared.error.Fault.{Fault}
+use Rattle.patterns.specs.declared.error.Fault.TheVariants.{Syntax, UnicodeWord, TooLarge, Malformed, Refused, Unbuilt}
+use Rattle.patterns.specs.declared.error.Fault.TheVariants.{OutOfMemory}
 use Rattle.regex_automata.specs.declared.hybrid.regex.Regex.{Regex}
-use Rattle.lazydfa_c.specs.Builds.{IsBuildErrorStatus, IsBuiltRegex, IsPairOf, OpensRegex, LacksObject, RefusesRegex}
+use Rattle.regex_automata.specs.declared.hybrid.regex.build.RegexBuildError.{RegexBuildError}
+use Rattle.lazydfa_c.specs.Builds.{IsBuildErrorStatus, IsBuiltRegex, IsNotOpened, IsPairOf, OpensRegex, LacksObject}
+use Rattle.lazydfa_c.specs.Builds.{RefusesRegex}
 use Rattle.lazydfa_c.specs.Codes.{number_of}
-use Rattle.lazydfa_c.specs.Statuses.{plain, regex_status}
-use Rattle.lazydfa_c.specs.Texts.{IsFailure, IsForwardOnly, IsRegexFor, MatchesNothing, OpensNfa, OpensTexts}
-use Rattle.lazydfa_c.specs.Texts.{reading_of}
+use Rattle.lazydfa_c.specs.Facts.{ExceedsLimits, Fails, HasFacts, IsFactsFailure, IsNotText, IsNoPattern, LacksMemory}
+use Rattle.lazydfa_c.specs.Facts.{Reports, ReportsFacts, no_facts}
+use Rattle.lazydfa_c.specs.Statuses.{done_status, fault_status, nfa_code, plain, regex_status, status_at}
+use Rattle.lazydfa_c.specs.Texts.{CannotCut, HasFault, IsCutError, IsFailure, IsForwardOnly, IsRegexErrorStatus}
+use Rattle.lazydfa_c.specs.Texts.{IsRegexFor, LacksNfa, LacksParts, MatchesNothing, NotText, OpensTexts, RegexFails}
+use Rattle.lazydfa_c.specs.Texts.{TextsFail, WrongLengths, reading_of, texts_in}
 use Rattle.lazydfa_c.specs.declared.code.Code.TheVariants as code
+use Rattle.lazydfa_c.specs.declared.facts.Facts.{Facts}
 use Rattle.lazydfa_c.specs.declared.handle.Handle.{Handle}
 use Rattle.lazydfa_c.specs.declared.settings.Settings.{Settings}
 use Rattle.lazydfa_c.specs.declared.status.Status.{Status}
+use Rattle.lazydfa_c.specs.declared.text.Refusal.{Refusal}
+use Rattle.lazydfa_c.specs.declared.text.Report.{Report}
 use Rattle.lazydfa_c.specs.declared.text.TextOptions.{TextOptions}
 use Rattle.lazydfa_c.proofs.Errors as errors
+
+-- a status of a failure
+fails_as : {status other : Status} → status ≡ other → IsFailure other → IsFailure status
+fails_as is fails = subst IsFailure (sym is) fails
 
 -- out of memory is a failure
 memory_fails : IsFailure (plain code.Memory)
 memory_fails = omega arith
 
--- an error of `build_from_nfa` is a failure
-built_fails :
-    (o : Options) (nfa : Automaton) (old new : Handle) (done : Result (Unit {0}) Status)
-    → OpensRegex (IsBuiltRegex o nfa) (IsBuildErrorStatus o nfa) old new done
-    → OpensNfa (IsBuiltRegex o nfa) old new done
-built_fails o nfa old new (Ok u) opened = opened
-built_fails o nfa old new (Err e) (same, RefusesRegex (error, _, is)) =
-    let fails : number_of code.Argument < (regex_status error).code = errors.regex_told.fails error in
-    let f : IsFailure (regex_status error) = omega (arith, fails) in
-    (same, subst IsFailure (sym is) f)
-built_fails o nfa old new (Err e) (same, LacksObject is) = (same, subst IsFailure (sym is) memory_fails)
+-- the errors of building a regex are failures
+build_fails : (error : RegexBuildError) → IsFailure (regex_status error)
+build_fails error = let fails : number_of code.Argument < (regex_status error).code = errors.regex_told.fails error in
+    omega (arith, fails)
 
--- an error of a regex that only searches forward is a failure
-forward_fails :
-    (o : Options) (nfa : Automaton) (old new : Handle) (done : Result (Unit {0}) Status)
-    → OpensRegex (IsForwardOnly o nfa) IsFailure old new done → OpensNfa (IsForwardOnly o nfa) old new done
-forward_fails o nfa old new (Ok u) opened = opened
-forward_fails o nfa old new (Err e) (same, RefusesRegex fails) = (same, fails)
-forward_fails o nfa old new (Err e) (same, LacksObject is) = (same, subst IsFailure (sym is) memory_fails)
+regex_fails : (forward_only : ℕ) (o : Options) (nfa : Automaton) (status : Status)
+    → IsRegexErrorStatus forward_only o nfa status → IsFailure status
+regex_fails zero o nfa status (error, _, is) = fails_as is (build_fails error)
+regex_fails (suc n) o nfa status fails = fails
+
+opening_fails : (forward_only : ℕ) (o : Options) (nfa : Automaton) (status : Status)
+    → IsNotOpened (IsRegexErrorStatus forward_only o nfa) status → IsFailure status
+opening_fails forward_only o nfa status (RefusesRegex why) = regex_fails forward_only o nfa status why
+opening_fails forward_only o nfa status (LacksObject is) = fails_as is memory_fails
+
+-- the errors of texts are failures
+states_fail : (error : NfaError) → IsFailure (plain (nfa_code error))
+states_fail nfa_error.StateRange = omega arith
+states_fail nfa_error.StartRange = omega arith
+states_fail nfa_error.PatternRange = omega arith
+states_fail nfa_error.Ranges = omega arith
+states_fail nfa_error.TooLarge = omega arith
+states_fail nfa_error.OutOfMemory = omega arith
+
+fault_fails : (fault : Fault) → IsFailure (fault_status fault)
+fault_fails (Syntax error) = omega arith
+fault_fails UnicodeWord = omega arith
+fault_fails TooLarge = omega arith
+fault_fails Malformed = omega arith
+fault_fails (Refused error) = states_fail error
+fault_fails (Unbuilt error) = build_fails error
+fault_fails OutOfMemory = omega arith
+
+cut_fails : (bytes lengths : List ℕ) (old new : Refusal) (status : Status) → IsCutError bytes lengths old new status
+    → IsFailure status
+cut_fails bytes lengths old new status (WrongLengths _ is _) = fails_as is (omega arith)
+cut_fails bytes lengths old new status (NotText number offset _ is _) =
+    let fails : IsFailure (status_at code.NotText offset) = omega arith in fails_as is fails
+cut_fails bytes lengths old new status (LacksParts is _) = fails_as is memory_fails
+
+text_fails : (reading : Reading) (bytes lengths : List ℕ) (old new : Report) (status : Status)
+    → LacksNfa reading bytes lengths old new status → IsFailure status
+text_fails reading bytes lengths old new status (CannotCut why _) =
+    cut_fails bytes lengths old.refusal new.refusal status why
+text_fails reading bytes lengths old new status (HasFault error _ is _) = fails_as is (fault_fails error.fault)
+
+pub facts_fail : (options : TextOptions) (text : List ℕ) (status : Status) → IsFactsFailure options text status
+    → IsFailure status
+facts_fail options text status (ExceedsLimits _ is) = fails_as is (omega arith)
+facts_fail options text status (IsNotText offset _ is) =
+    let fails : IsFailure (status_at code.NotText offset) = omega arith in fails_as is fails
+facts_fail options text status (IsNoPattern error _ is) = fails_as is (fault_fails error.fault)
+facts_fail options text status (LacksMemory is) = fails_as is memory_fails
+
+-- the facts of a text are reported, or why it has none
+pub reports :
+    (options : TextOptions) (text : List ℕ) (none facts : Facts) (old_bytes new_bytes old_lengths new_lengths : List ℕ)
+    (done : Result (Unit {0}) Status) → none ≡ no_facts
+    → OnOk done (HasFacts options text facts old_bytes new_bytes old_lengths new_lengths)
+    → OnErr done ((facts ≡ none) × (new_bytes ≡ old_bytes) × (new_lengths ≡ old_lengths))
+    → IfErr done (IsFactsFailure options text)
+    → ReportsFacts options text facts old_bytes new_bytes old_lengths new_lengths (done_status done)
+reports options text none facts old_bytes new_bytes old_lengths new_lengths (Ok u) zeros has kept why = Reports has refl
+reports options text none facts old_bytes new_bytes old_lengths new_lengths (Err e) zeros has kept why =
+    Fails (facts_fail options text e why) why (kept.0 ∙ zeros) kept.1 kept.2
 
 -- the full regex of an NFA, if `forward_only` is 0
 pub opens_built :
     (o : Options) (nfa : Automaton) (forward_only : ℕ) (old new : Handle) (done : Result (Unit {0}) Status)
     → forward_only ≡ 0 → OpensRegex (IsBuiltRegex o nfa) (IsBuildErrorStatus o nfa) old new done
-    → OpensNfa (IsRegexFor forward_only o nfa) old new done
+    → OpensRegex (IsRegexFor forward_only o nfa) (IsRegexErrorStatus forward_only o nfa) old new done
 opens_built o nfa forward_only old new done is opened =
-    subst (λ n. OpensNfa (IsRegexFor n o nfa) old new done) (sym is) (built_fails o nfa old new done opened)
+    subst (λ n. OpensRegex (IsRegexFor n o nfa) (IsRegexErrorStatus n o nfa) old new done) (sym is) opened
 
 -- the regex that only searches forward, if `forward_only` is not 0
 pub opens_forward :
     (o : Options) (nfa : Automaton) (forward_only : ℕ) (old new : Handle) (done : Result (Unit {0}) Status)
     → (forward_only ≡ 0 → ⊥) → OpensRegex (IsForwardOnly o nfa) IsFailure old new done
-    → OpensNfa (IsRegexFor forward_only o nfa) old new done
+    → OpensRegex (IsRegexFor forward_only o nfa) (IsRegexErrorStatus forward_only o nfa) old new done
 opens_forward o nfa zero old new done is_not opened = elim (is_not refl) [ ]
-opens_forward o nfa (suc n) old new done is_not opened = forward_fails o nfa old new done opened
+opens_forward o nfa (suc n) old new done is_not opened = opened
 
-pub opens_texts :
-    (o : Options) (options : TextOptions) (settings : Settings) (texts : List (List ℕ)) (nfa : Automaton)
-    (old new : Handle) (done : Result (Unit {0}) Status) → IsNfaOf (reading_of options settings) texts nfa
-    → OpensNfa (IsRegexFor options.forward_only o nfa) old new done → OpensTexts o options settings texts old new done
-opens_texts o options settings texts nfa old new (Ok u) meant opened = (nfa, meant, opened)
-opens_texts o options settings texts nfa old new (Err e) meant failed = failed
+module _ (o : Options) (options : TextOptions) (settings : Settings) (bytes lengths : List ℕ) where
+  -- the texts have an NFA
+  pub opens_texts :
+      (nfa : Automaton) (old new : Handle) (from to : Report) (done : Result (Unit {0}) Status)
+      → sum lengths ≡ length bytes → IsNfaOf (reading_of options settings) (texts_in bytes lengths) nfa → to ≡ from
+      → OpensRegex (IsRegexFor options.forward_only o nfa) (IsRegexErrorStatus options.forward_only o nfa) old new done
+      → OpensTexts o options settings bytes lengths old new from to done
+  opens_texts nfa old new from to (Ok u) whole meant same opened =
+      (record { whole = whole; nfa = nfa; meant = meant; holds = opened }, same)
+  opens_texts nfa old new from to (Err e) whole meant same (kept, why) =
+      (kept, opening_fails options.forward_only o nfa e why, RegexFails nfa meant why same)
+
+  -- the texts have no NFA
+  pub texts_fail :
+      (handle : Handle) (from to : Report) (status : Status)
+      → LacksNfa (reading_of options settings) bytes lengths from to status
+      → OpensTexts o options settings bytes lengths handle handle from to (Err status)
+  texts_fail handle from to status why =
+      (refl, text_fails (reading_of options settings) bytes lengths from to status why, TextsFail why)
 
 -- the regex that is built from an NFA and from one without a match only searches forward
 pub forward_only :

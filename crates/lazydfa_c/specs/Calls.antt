@@ -1,11 +1,12 @@
 -- Contracts of the calls on a cache, each stated by the cache before and after the call and by the status.
 use Rattle.std.specs.Prelude.{ℕ, ◌≡◌, ◌==◌, Bool, true, false, List}
-use Rattle.std.specs.Prelude.{Option, Some, None, Result, Ok, Err, IfOk, IsSomeAnd, if◌then◌else◌}
+use Rattle.std.specs.Prelude.{Option, Some, None, Result, Ok, Err, IfOk, IsSomeAnd, OnOk, if◌then◌else◌}
 use Rattle.std.specs.Result.{result_err}
 use Rattle.automata_config.specs.declared.error.SearchError.{SearchError}
 use Rattle.automata_hybrid.specs.Known.Walks.{IsSetRun}
-use Rattle.regex_automata.specs.Promises.{Backward, Forward, HalfMatch, Input, IsHalf, IsSearchRun}
-use Rattle.regex_automata.specs.Promises.{IsSpanOf, IsSpanRun, IsTruthOf, IsTruthRun, IsWhich, Match, known_of}
+use Rattle.regex_automata.specs.Promises.{Backward, FindsMatch, Forward, HalfMatch, Input, IsHalf, IsSearchRun}
+use Rattle.regex_automata.specs.Promises.{IsSpanOf, IsSpanRun, IsTruthOf, IsTruthReported, IsTruthRun, IsWhich}
+use Rattle.regex_automata.specs.Promises.{JoinsReported, Match, known_of}
 use Rattle.regex_automata.specs.Spans.Iteration.{IsNextMatch}
 use Rattle.regex_automata.specs.Spans.Runs.{IsNextRun}
 use Rattle.regex_automata.specs.Tokens.{GivesToken, IsTokenRun}
@@ -109,6 +110,8 @@ pub record ReportsMatch (found : Found) (input : Input) (s t : Searcher) (status
   pub told : IsTold found_from found result status
   -- what the search promises of its result, whatever the cache
   pub returned : IsSpanOf (regex_of s) input result
+  -- the same by what the passes over the haystack report, for every NFA
+  pub reported : IfOk result (FindsMatch (regex_of s) input)
   -- the effect of the search on the caches of both DFAs, also if it failed
   pub effect : IsSpanRun (regex_of s) input s.cache t.cache (result_err result)
   -- the cache keeps its regex
@@ -124,6 +127,8 @@ pub record Tests (input : Input) (s t : Searcher) (status : Status) : Type 0 whe
   pub told : IsTruthTold result status
   -- what the search promises of its result, whatever the cache
   pub returned : IsTruthOf (regex_of s) input result
+  -- the same by what the passes over the haystack report, for every NFA
+  pub reported : IfOk result (IsTruthReported (regex_of s).forward input)
   -- the effect of the search on the forward cache, also if it failed; the reverse cache is unchanged
   pub effect : IsTruthRun (regex_of s) input s.cache t.cache (result_err result)
   -- the cache keeps its regex
@@ -257,6 +262,8 @@ pub record JoinsPatterns (set : List Bool) (input : Input) (s t : Searcher) (sta
   pub told : IsDoneTold result status
   -- what the call promises of its result and of the set
   pub returned : IsWhich (regex_of s).forward input set t.patterns result
+  -- the same by what the overlapping walk reports, for every NFA
+  pub reported : OnOk result (JoinsReported (regex_of s).forward input set t.patterns)
   -- the effect of the call on the forward cache, and on the set if it failed
   pub effect :
       IsSetRun (regex_of s).forward input set t.patterns (known_of s.cache.forward) (known_of t.cache.forward)

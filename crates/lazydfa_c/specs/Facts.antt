@@ -1,12 +1,14 @@
 -- What all matches of a pattern have in common, as it is reported to C.
-use Rattle.std.specs.Prelude.{ℕ, ◌≡◌, Bool, IsTrue, List, ◌++◌, length, map, vec_len, if◌then◌else◌}
+use Rattle.std.specs.Prelude.{ℕ, ◌≡◌, Bool, false, IsTrue, List, ◌++◌, length, map, vec_len, if◌then◌else◌}
 use Rattle.std.specs.List.{flat_map}
 use Rattle.match_facts.specs.declared.Facts.{Facts as Known}
-use Rattle.patterns.specs.Facts.{AreFactsOf}
+use Rattle.core.specs.Str.{IsValidUpTo}
+use Rattle.patterns.specs.Facts.{AreFactsOf, IsFactsError}
 use Rattle.patterns.specs.declared.compile.Options.{Options as Reading}
+use Rattle.patterns.specs.declared.error.PatternError.{PatternError}
 use Rattle.lazydfa_c.specs.Caches.{written_over}
 use Rattle.lazydfa_c.specs.Limits.{admits}
-use Rattle.lazydfa_c.specs.Statuses.{plain}
+use Rattle.lazydfa_c.specs.Statuses.{fault_status, plain, status_at}
 use Rattle.lazydfa_c.specs.Texts.{IsFailure, reading_of}
 use Rattle.lazydfa_c.specs.declared.code.Code.TheVariants as code
 use Rattle.lazydfa_c.specs.declared.facts.Facts.{Facts}
@@ -89,6 +91,21 @@ pub record HasFacts (options : TextOptions) (text : List ℕ) (facts : Facts)
   -- the lengths of the literals are written, as many as there is room for
   pub lengths : new_lengths ≡ written_over (literal_lengths known) old_lengths
 
+-- why a text has no facts: the status says it
+pub data IsFactsFailure (options : TextOptions) (text : List ℕ) (status : Status) : Type 0 where
+  -- the text exceeds the limits on text and on class escapes
+  ExceedsLimits : admits options text ≡ false → status ≡ plain code.TooLarge → IsFactsFailure options text status
+  -- it is UTF-8 up to an offset, and not up to a later one
+  IsNotText :
+      (offset : ℕ) → IsValidUpTo text offset → status ≡ status_at code.NotText offset
+      → IsFactsFailure options text status
+  -- it is not a pattern
+  IsNoPattern :
+      (error : PatternError) → IsFactsError (plain_reading options) text error → status ≡ fault_status error.fault
+      → IsFactsFailure options text status
+  -- an allocation fails
+  LacksMemory : status ≡ plain code.Memory → IsFactsFailure options text status
+
 -- `lazydfa_text_facts`
 pub data ReportsFacts (options : TextOptions) (text : List ℕ) (facts : Facts)
     (old_bytes new_bytes old_lengths new_lengths : List ℕ) (status : Status) : Type 0 where
@@ -98,5 +115,5 @@ pub data ReportsFacts (options : TextOptions) (text : List ℕ) (facts : Facts)
       → ReportsFacts options text facts old_bytes new_bytes old_lengths new_lengths status
   -- the call failed: the facts are zeros, and nothing else is written
   Fails :
-      IsFailure status → facts ≡ no_facts → new_bytes ≡ old_bytes → new_lengths ≡ old_lengths
-      → ReportsFacts options text facts old_bytes new_bytes old_lengths new_lengths status
+      IsFailure status → IsFactsFailure options text status → facts ≡ no_facts → new_bytes ≡ old_bytes
+      → new_lengths ≡ old_lengths → ReportsFacts options text facts old_bytes new_bytes old_lengths new_lengths status

@@ -13,6 +13,9 @@ use Rattle.automata_config.specs.declared.error.StartError.{StartError}
 use Rattle.automata_config.specs.declared.error.StartError.TheVariants as start
 use Rattle.automata_hybrid.specs.declared.search.pieces.BeginError.{BeginError}
 use Rattle.automata_hybrid.specs.declared.search.pieces.BeginError.TheVariants as begin
+use Rattle.patterns.specs.declared.error.Fault.{Fault}
+use Rattle.patterns.specs.declared.error.Fault.TheVariants as fault
+use Rattle.patterns.specs.declared.error.Fault.TheVariants.{Syntax, UnicodeWord, TooLarge, Malformed, Refused, Unbuilt}
 use Rattle.regex_automata.specs.declared.hybrid.regex.build.RegexBuildError.{RegexBuildError}
 use Rattle.regex_automata.specs.declared.hybrid.regex.build.RegexBuildError.TheVariants as regex
 use Rattle.regex_automata.specs.declared.tokens.error.TokenError.{TokenError}
@@ -101,3 +104,13 @@ begin_status (begin.Start e) = start_status e
 abbrev pub token_status : TokenError → Status
 token_status (NoToken offset) = status_at code.NoToken offset
 token_status (Search e) = search_status e
+
+-- the status of what is wrong with a pattern: a syntax error has the offset at which its part of the text begins
+abbrev pub fault_status : Fault → Status
+fault_status (Syntax error) = status_at code.Syntax error.span.start
+fault_status UnicodeWord = plain code.Unsupported
+fault_status TooLarge = plain code.TooLarge
+fault_status Malformed = plain code.NotCompiled
+fault_status (Refused error) = plain (nfa_code error)
+fault_status (Unbuilt error) = regex_status error
+fault_status fault.OutOfMemory = plain code.Memory

@@ -1,21 +1,32 @@
 -- Contracts of the calls that build regexes of the texts of patterns.
-use Rattle.std.specs.Prelude.{ℕ, zero, suc, ◌≡◌, ◌==◌, ◌<◌, Bool, true, false, not, List, [], ◌∷◌, take, drop}
-use Rattle.std.specs.Prelude.{Result, Ok, Err, if◌then◌else◌}
+use Rattle.std.specs.Prelude.{ℕ, zero, suc, ◌≡◌, ◌≢◌, ◌==◌, ◌<◌, ◌≤◌, Bool, true, false, not, List, [], ◌∷◌, ◌++◌, All}
+use Rattle.std.specs.Prelude.{IsCharBoundary, IsUtf8, Some, Result, Ok, Err, drop, if◌then◌else◌, length}
+use Rattle.std.specs.Prelude.{slice_get, string_bytes, sum, take}
+use Rattle.core.specs.Str.{IsValidUpTo}
 use Rattle.automata_base.specs.Nfas.Nodes.{Automaton}
 use Rattle.automata_base.specs.declared.nfa.thompson.state.State.TheVariants.{Fail}
 use Rattle.automata_config.specs.Options.{Options}
+use Rattle.patterns.specs.Faults.{IsNfaFault}
 use Rattle.patterns.specs.Patterns.{IsNfaOf}
 use Rattle.patterns.specs.declared.compile.Options.{Options as Reading}
+use Rattle.patterns.specs.declared.error.Fault.{Fault}
+use Rattle.patterns.specs.declared.error.Fault.TheVariants.{Syntax, UnicodeWord, TooLarge, Malformed, Refused, Unbuilt}
+use Rattle.patterns.specs.declared.error.Fault.TheVariants.{OutOfMemory}
+use Rattle.patterns.specs.declared.error.PatternError.{PatternError}
 use Rattle.regex_automata.specs.declared.hybrid.regex.Regex.{Regex}
-use Rattle.lazydfa_c.specs.Builds.{HoldsRegex, IsBuiltRegex, IsPairOf, WithOptions, kind_of, options_of}
+use Rattle.lazydfa_c.specs.Builds.{HoldsRegex, IsBuildErrorStatus, IsBuiltRegex, IsNotOpened, IsPairOf, WithOptions}
+use Rattle.lazydfa_c.specs.Builds.{kind_of, options_of}
+use Rattle.lazydfa_c.specs.Caches.{written_over}
 use Rattle.lazydfa_c.specs.Codes.{number_of}
 use Rattle.lazydfa_c.specs.Handles.{is_open}
 use Rattle.lazydfa_c.specs.Limits.{admits}
-use Rattle.lazydfa_c.specs.Statuses.{done_status, plain}
+use Rattle.lazydfa_c.specs.Statuses.{done_status, fault_status, plain, status_at}
 use Rattle.lazydfa_c.specs.declared.code.Code.TheVariants as code
 use Rattle.lazydfa_c.specs.declared.handle.Handle.{Handle}
 use Rattle.lazydfa_c.specs.declared.settings.Settings.{Settings}
 use Rattle.lazydfa_c.specs.declared.status.Status.{Status}
+use Rattle.lazydfa_c.specs.declared.text.Refusal.{Refusal}
+use Rattle.lazydfa_c.specs.declared.text.Report.{Report}
 use Rattle.lazydfa_c.specs.declared.text.TextOptions.{TextOptions}
 
 -- the texts that are concatenated, split by their lengths
@@ -71,43 +82,157 @@ abbrev pub IsRegexFor : (forward_only : ℕ) → Options → Automaton → Regex
 IsRegexFor zero o nfa regex = IsBuiltRegex o nfa regex
 IsRegexFor (suc n) o nfa regex = IsForwardOnly o nfa regex
 
--- the handle is opened on a regex of this kind, or is unchanged, and the status says that the call failed
-abbrev pub OpensNfa : (Makes : Regex → Type 0) → (old new : Handle) → Result (Unit {0}) Status → Type 0
-OpensNfa Makes old new (Ok u) = HoldsRegex Makes new
-OpensNfa Makes old new (Err e) = (new ≡ old) × IsFailure e
+-- the status if no regex is built: that of an error of `build_from_nfa`; for a regex that only searches forward, that
+-- of any error
+abbrev pub IsRegexErrorStatus : (forward_only : ℕ) → Options → Automaton → Status → Type 0
+IsRegexErrorStatus zero o nfa status = IsBuildErrorStatus o nfa status
+IsRegexErrorStatus (suc n) o nfa status = IsFailure status
 
--- the handle is opened on the regex of an NFA that matches what the texts mean, or is unchanged, and the status says
--- that there is no such regex
-abbrev pub OpensTexts : Options → TextOptions → Settings → (texts : List (List ℕ)) → (old new : Handle)
-    → Result (Unit {0}) Status → Type 0
-OpensTexts o options settings texts old new (Ok u) =
-    (nfa : Automaton) × IsNfaOf (reading_of options settings) texts nfa
-    × HoldsRegex (IsRegexFor options.forward_only o nfa) new
-OpensTexts o options settings texts old new (Err e) = (new ≡ old) × IsFailure e
+-- the refusal that is written if no text has an error
+abbrev pub none_refused : Refusal
+none_refused = record { pattern = 0; start = 0; end = 0; length = 0 }
+
+-- the refusal of a text that is not UTF-8 from an offset on
+abbrev pub refusal_at : (number offset : ℕ) → Refusal
+refusal_at number offset = record { pattern = number; start = offset; end = offset; length = 0 }
+
+-- a refusal without a span, which counts as an empty one at the start
+abbrev pub refusal_alone : (number length : ℕ) → Refusal
+refusal_alone number length = record { pattern = number; start = 0; end = 0; length = length }
+
+-- the refusal of a fault: a syntax error has the span of the text that it is about
+abbrev pub fault_refusal : (number length : ℕ) → Fault → Refusal
+fault_refusal number length (Syntax error) =
+    record { pattern = number; start = error.span.start; end = error.span.end; length = length }
+fault_refusal number length UnicodeWord = refusal_alone number length
+fault_refusal number length TooLarge = refusal_alone number length
+fault_refusal number length Malformed = refusal_alone number length
+fault_refusal number length (Refused error) = refusal_alone number length
+fault_refusal number length (Unbuilt error) = refusal_alone number length
+fault_refusal number length OutOfMemory = refusal_alone number length
+
+-- the refusal of an error, with the length of its message
+abbrev pub refusal_of : PatternError → (length : ℕ) → Refusal
+refusal_of error length = fault_refusal error.number length error.fault
+
+-- the first of these texts that is not UTF-8, and the offset up to which it is
+pub record IsFirstNotText (texts : List (List ℕ)) (number offset : ℕ) : Type 0 where
+  -- all texts before it are UTF-8
+  pub before : All IsUtf8 (take number texts)
+  -- the text
+  pub text : List ℕ
+  -- it is the text of this number, counted from 0
+  pub is : slice_get texts number ≡ Some text
+  -- it is UTF-8 up to this offset, and not up to a later one
+  pub upto : IsValidUpTo text offset
+
+-- why concatenated texts are not split by their lengths, and what is reported of it
+pub data IsCutError (bytes lengths : List ℕ) (old new : Refusal) (status : Status) : Type 0 where
+  -- the lengths do not add up to the length of all texts
+  WrongLengths :
+      sum lengths ≢ length bytes → status ≡ plain code.Argument → new ≡ old → IsCutError bytes lengths old new status
+  -- a text is not UTF-8
+  NotText :
+      (number offset : ℕ) → IsFirstNotText (texts_in bytes lengths) number offset
+      → status ≡ status_at code.NotText offset → new ≡ refusal_at number offset
+      → IsCutError bytes lengths old new status
+  -- the allocation of the parts fails
+  LacksParts : status ≡ plain code.Memory → new ≡ old → IsCutError bytes lengths old new status
+
+-- why texts have no NFA, and what is reported of it
+pub data LacksNfa (reading : Reading) (bytes lengths : List ℕ) (old new : Report) (status : Status) : Type 0 where
+  -- they are not split; there is no message
+  CannotCut :
+      IsCutError bytes lengths old.refusal new.refusal status → new.message ≡ old.message
+      → LacksNfa reading bytes lengths old new status
+  -- one of them is not a pattern, or the patterns cannot be joined
+  HasFault :
+      (error : PatternError) → IsNfaFault reading (texts_in bytes lengths) error → status ≡ fault_status error.fault
+      → new.refusal ≡ refusal_of error (length (string_bytes new.message))
+      → LacksNfa reading bytes lengths old new status
+
+-- why texts have no regex with these settings, and what is reported of it
+pub data LacksRegex (o : Options) (options : TextOptions) (settings : Settings) (bytes lengths : List ℕ)
+    (from to : Report) (status : Status) : Type 0 where
+  -- they have no NFA
+  TextsFail :
+      LacksNfa (reading_of options settings) bytes lengths from to status
+      → LacksRegex o options settings bytes lengths from to status
+  -- no regex is built from their NFA; nothing is reported of the texts
+  RegexFails :
+      (nfa : Automaton) → IsNfaOf (reading_of options settings) (texts_in bytes lengths) nfa
+      → IsNotOpened (IsRegexErrorStatus options.forward_only o nfa) status → to ≡ from
+      → LacksRegex o options settings bytes lengths from to status
+
+-- the regex of texts is that of an NFA that matches what the texts mean
+pub record HoldsTexts (o : Options) (options : TextOptions) (settings : Settings) (bytes lengths : List ℕ)
+    (handle : Handle) : Type 0 where
+  -- the lengths add up to the length of all texts
+  pub whole : sum lengths ≡ length bytes
+  -- the NFA
+  pub nfa : Automaton
+  -- it matches what the texts mean
+  pub meant : IsNfaOf (reading_of options settings) (texts_in bytes lengths) nfa
+  -- the handle is open on its regex
+  pub holds : HoldsRegex (IsRegexFor options.forward_only o nfa) handle
+
+-- the handle is opened on the regex of texts, or is unchanged, and the status says why there is no such regex
+abbrev pub OpensTexts : Options → TextOptions → Settings → (bytes lengths : List ℕ) → (old new : Handle)
+    → (from to : Report) → Result (Unit {0}) Status → Type 0
+OpensTexts o options settings bytes lengths old new from to (Ok u) =
+    HoldsTexts o options settings bytes lengths new × (to ≡ from)
+OpensTexts o options settings bytes lengths old new from to (Err e) =
+    (new ≡ old) × IsFailure e × LacksRegex o options settings bytes lengths from to e
 
 -- the handle is opened if the texts are within the limits; otherwise nothing is parsed, and the texts are reported as
 -- too large
-abbrev pub OpensAdmitted : (is_within : Bool) → Options → TextOptions → Settings → (texts : List (List ℕ))
-    → (old new : Handle) → Result (Unit {0}) Status → Type 0
-OpensAdmitted true o options settings texts old new done = OpensTexts o options settings texts old new done
-OpensAdmitted false o options settings texts old new done = (new ≡ old) × (done ≡ Err (plain code.TooLarge))
+abbrev pub OpensAdmitted : (is_within : Bool) → Options → TextOptions → Settings → (bytes lengths : List ℕ)
+    → (old new : Handle) → (from to : Report) → Result (Unit {0}) Status → Type 0
+OpensAdmitted true o options settings bytes lengths old new from to done =
+    OpensTexts o options settings bytes lengths old new from to done
+OpensAdmitted false o options settings bytes lengths old new from to done =
+    (new ≡ old) × (to ≡ from) × (done ≡ Err (plain code.TooLarge))
 
 -- the handle is opened if the concatenated texts are within the limits
 abbrev pub OpensWithin : Options → TextOptions → Settings → (bytes lengths : List ℕ) → (old new : Handle)
-    → Result (Unit {0}) Status → Type 0
-OpensWithin o options settings bytes lengths old new done =
-    OpensAdmitted (admits options bytes) o options settings (texts_in bytes lengths) old new done
+    → (from to : Report) → Result (Unit {0}) Status → Type 0
+OpensWithin o options settings bytes lengths old new from to done =
+    OpensAdmitted (admits options bytes) o options settings bytes lengths old new from to done
 
 -- the handle is opened, unless it is already open, on the regex with these settings and quit bytes
 abbrev pub BuildsTexts : Settings → (quits : List ℕ) → TextOptions → (bytes lengths : List ℕ) → (old new : Handle)
-    → Result (Unit {0}) Status → Type 0
-BuildsTexts settings quits options bytes lengths old new done =
-    WithOptions (λ o d. OpensWithin o options settings bytes lengths old new d) (new ≡ old) (is_open old.live)
-    (options_of settings quits (kind_of settings.match_kind)) done
+    → (from to : Report) → Result (Unit {0}) Status → Type 0
+BuildsTexts settings quits options bytes lengths old new from to done =
+    WithOptions (λ o d. OpensWithin o options settings bytes lengths old new from to d)
+    ((new ≡ old) × (to ≡ from)) (is_open old.live) (options_of settings quits (kind_of settings.match_kind)) done
+
+-- a message is written: as many whole characters as there is room for, and then a zero
+pub record WritesMessage (message old new : List ℕ) : Type 0 where
+  -- the number of bytes that there is room for
+  pub end : ℕ
+  -- they are whole characters
+  pub whole : IsCharBoundary message end
+  -- no further character has room
+  pub most : (i : ℕ) → IsCharBoundary message i → i < length old → i ≤ end
+  -- the zero has room, if anything has
+  pub fits : 0 < length old → end < length old
+  -- they are written, and the zero after them; the rest is unchanged
+  pub written : new ≡ written_over (take end message ++ 0 ∷ []) old
 
 -- `lazydfa_regex_new` and `lazydfa_regex_any_of`
-abbrev pub BuildsAnyOf : Settings → (quits : List ℕ) → TextOptions → (bytes lengths : List ℕ) → (old new : Handle)
-    → Status → Type 0
-BuildsAnyOf settings quits options bytes lengths old new status =
-    (done : Result (Unit {0}) Status) × BuildsTexts settings quits options bytes lengths old new done
-    × (status ≡ done_status done)
+pub record BuildsAnyOf (settings : Settings) (quits : List ℕ) (options : TextOptions) (bytes lengths : List ℕ)
+    (old new : Handle) (refusal : Refusal) (before after : List ℕ) (status : Status) : Type 0 where
+  -- before the call nothing is to be reported
+  pub from : Report
+  -- no text has an error yet
+  pub none : from.refusal ≡ none_refused
+  -- there is no message yet
+  pub empty : string_bytes from.message ≡ []
+  -- what is reported after it
+  pub to : Report
+  -- whether the handle is opened, or why not
+  pub done : Result (Unit {0}) Status
+  -- it is opened on the regex of the texts, or is unchanged
+  pub builds : BuildsTexts settings quits options bytes lengths old new from to done
+  -- the refusal, the message and the status are written
+  pub told : (refusal ≡ to.refusal) × WritesMessage (string_bytes to.message) before after × (status ≡ done_status done)

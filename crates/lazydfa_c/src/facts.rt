@@ -1,13 +1,12 @@
 //! What all matches of a pattern have in common.
 ghost use Rattle.std.specs.Prelude.{◌≡◌, IfErr, IfOk, IsTrue, OnErr, OnOk};
 ghost use Rattle.patterns.specs.Facts.{AreFactsOf};
-ghost use Rattle.lazydfa_c.specs.Caches.{written_over};
-ghost use Rattle.lazydfa_c.specs.Facts.{HasFacts, ReportsFacts, fact_bytes, default_settings, facts_of, literal_lengths, no_facts};
-ghost use Rattle.lazydfa_c.specs.Facts.{plain_reading};
+ghost use Rattle.lazydfa_c.specs.Facts.{HasFacts, ReportsFacts, default_settings, fact_bytes, facts_of, literal_lengths};
+ghost use Rattle.lazydfa_c.specs.Facts.{IsFactsFailure, no_facts, plain_reading};
 ghost use Rattle.lazydfa_c.specs.Limits.{admits};
-ghost use Rattle.lazydfa_c.specs.Texts.{IsFailure};
 
 use crate::code::Code;
+use crate::output::write_over;
 use crate::settings::Settings;
 use crate::status::Status;
 use crate::text::{TextOptions, status_of};
@@ -88,7 +87,7 @@ fn default_settings() -> Settings
 fn facts_of_text(alloc: Global, text: &[u8], options: &TextOptions) -> Result<PatternFacts, Status>
     ensures within { IfOk result (λ _. IsTrue (admits options.now text.now)) }
     ensures ok { IfOk result (AreFactsOf (plain_reading options.now) text.now) }
-    ensures err { IfErr result IsFailure }
+    ensures err { IfErr result (IsFactsFailure options.now text.now) }
 {
     if !options.admits(text) {
         return Err(Status::from(Code::TooLarge));
@@ -126,19 +125,6 @@ fn lengths_of(alloc: Global, facts: &PatternFacts) -> Result<Vec<usize>, AllocEr
         .collect(alloc)
 }
 
-/// Writes as many of the items as there is room for.
-fn write_over<T: Copy>(items: &[T], out: &mut [T])
-    ensures { out.new ≡ written_over items.now out.old }
-{
-    let mut at = 0usize;
-    for item in items {
-        if at < out.len() {
-            out[at] = *item;
-            at += 1;
-        }
-    }
-}
-
 /// Writes the facts of a pattern's text, and as many of the bytes and lengths as there is room for. After an error
 /// nothing is written.
 fn write_facts(
@@ -151,7 +137,7 @@ fn write_facts(
 ) -> Result<(), Status>
     ensures ok { OnOk result (HasFacts options.now text.now facts.new bytes.old bytes.new lengths.old lengths.new) }
     ensures kept { OnErr result ((facts.new ≡ facts.old) × (bytes.new ≡ bytes.old) × (lengths.new ≡ lengths.old)) }
-    ensures err { IfErr result IsFailure }
+    ensures err { IfErr result (IsFactsFailure options.now text.now) }
 {
     let known = facts_of_text(alloc, text, options)?;
     let all = joined(alloc, &known)?;

@@ -16,6 +16,7 @@ mod iterate;
 mod limits;
 mod loose;
 mod object;
+mod output;
 mod pieces;
 mod regex;
 mod search;

@@ -1,18 +1,22 @@
 //! Regexes built from the texts of patterns.
-ghost use Rattle.std.specs.Prelude.{◌≡◌, IfErr, IfOk, None, map};
+ghost use Rattle.std.specs.Prelude.{◌≡◌, [], IfErr, IfOk, None, length, map, string_bytes, sum};
 ghost use Rattle.automata_config.specs.Options.{overwritten, unset};
 ghost use Rattle.patterns.specs.Patterns.{IsNfaOf};
+ghost use Rattle.lazydfa_c.specs.Builds.{OpensRegex};
 ghost use Rattle.lazydfa_c.specs.Limits.{admits};
-ghost use Rattle.lazydfa_c.specs.Texts.{BuildsAnyOf, BuildsTexts, IsFailure, IsRegexFor, OpensNfa, OpensTexts};
-ghost use Rattle.lazydfa_c.specs.Texts.{OpensWithin, nest_limit_of, reading_of, size_limit_of, texts_in};
+ghost use Rattle.lazydfa_c.specs.Statuses.{fault_status};
+ghost use Rattle.lazydfa_c.specs.Texts.{BuildsAnyOf, BuildsTexts, IsCutError, IsRegexErrorStatus, IsRegexFor, LacksNfa};
+ghost use Rattle.lazydfa_c.specs.Texts.{OpensTexts, OpensWithin, WritesMessage, nest_limit_of, none_refused};
+ghost use Rattle.lazydfa_c.specs.Texts.{reading_of, refusal_at, refusal_of, size_limit_of, texts_in};
 
 use crate::code::Code;
 use crate::forward::open_forward;
 use crate::handle::Handle;
 use crate::limits::class_escapes;
+use crate::output::write_over;
 use crate::regex::open_sound;
 use crate::settings::Settings;
-use crate::status::{Status, errors_differ};
+use crate::status::Status;
 use patterns::{Fault, Options, PatternError, nfa_of};
 use regex_automata::hybrid::dfa::Config;
 use regex_automata::nfa::thompson::{BuildError as NfaBuildError, NFA};
@@ -59,19 +63,94 @@ pub struct Refusal {
 }
 
 impl Refusal {
-    /// The value that is written if no pattern has an error.
-    fn none() -> Refusal {
+    /// The value that is written if no text has an error.
+    fn none() -> Refusal
+        ensures { result ≡ none_refused }
+    {
+        Refusal::at(0, 0)
+    }
+
+    /// The value that is written for a text that is UTF-8 only up to this offset.
+    fn at(number: usize, offset: usize) -> Refusal
+        ensures { result ≡ refusal_at number offset }
+    {
         Refusal {
-            pattern: 0,
-            start: 0,
-            end: 0,
+            pattern: number,
+            start: offset,
+            end: offset,
             length: 0,
+        }
+    }
+
+    /// The value that is written for an error whose message has this length.
+    fn of(error: &PatternError, length: usize) -> Refusal
+        ensures { result ≡ refusal_of error.now length }
+    {
+        let pattern = error.number;
+        match error.fault {
+            Fault::Syntax(error) => Refusal {
+                pattern,
+                start: error.span.start,
+                end: error.span.end,
+                length,
+            },
+            _ => Refusal {
+                pattern,
+                start: 0,
+                end: 0,
+                length,
+            },
         }
     }
 }
 
+/// What is reported of the texts: which one has an error, and the whole message.
+struct Report {
+    refusal: Refusal,
+    message: String,
+}
+
+// With its own `drop`, the proof of an owner has one step for it instead of one for each part.
+impl Drop for Report {
+    fn drop(self) {
+        let Self {
+            refusal: _refusal,
+            message: _message,
+        } = self;
+    }
+}
+
+impl Report {
+    /// Returns a report that no text has an error.
+    fn none(alloc: Global) -> Report
+        ensures refusal { result.refusal ≡ none_refused }
+        ensures message { string_bytes result.message ≡ [] }
+    {
+        Report {
+            refusal: Refusal::none(),
+            message: String::new(alloc),
+        }
+    }
+
+    /// Returns the report of an error in one of these texts. If there is no memory for the message, it is empty.
+    fn of(alloc: Global, error: &PatternError, texts: &[&str]) -> Report
+        ensures { result.refusal ≡ refusal_of error.now (length (string_bytes result.message)) }
+    {
+        let text = match texts.get(error.number) {
+            Some(text) => *text,
+            None => "",
+        };
+        let message = match error.show(alloc, text) {
+            Ok(message) => message,
+            Err(_) => String::new(alloc),
+        };
+        let refusal = Refusal::of(error, message.len());
+        Report { refusal, message }
+    }
+}
+
 impl TextOptions {
-    /// Returns the greatest size of the tables of all patterns, in bytes.
+    /// Returns how many bytes the tables of all patterns may take, beside 24 for each pattern.
     fn size_limit(&self) -> usize
         ensures { result ≡ size_limit_of self.now }
     {
@@ -127,9 +206,8 @@ impl TextOptions {
 /// Returns the status of an error in a pattern. For a syntax error, its offset is where the erroneous part of the text
 /// begins.
 pub(crate) fn status_of(error: &PatternError) -> Status
-    ensures { IsFailure result }
+    ensures { result ≡ fault_status error.now.fault }
 {
-    errors_differ();
     match error.fault {
         Fault::Syntax(error) => Status::at(Code::Syntax, error.span.start),
         Fault::UnicodeWord => Status::from(Code::Unsupported),
@@ -142,16 +220,18 @@ pub(crate) fn status_of(error: &PatternError) -> Status
 }
 
 /// Splits concatenated texts by their lengths in bytes. It fails with `Code::Argument` if the lengths do not add up to
-/// the length of the whole, and with `Code::NotText` and an offset in the text if a text is not UTF-8; the text's
-/// number is then written.
+/// the length of the whole, and with `Code::NotText` and an offset in the text if a text is not UTF-8, of which the
+/// refusal is then written.
 fn cut<'t>(
     alloc: Global,
     texts: &'t [u8],
     lengths: &[usize],
-    number: &mut usize,
+    refusal: &mut Refusal,
 ) -> Result<Vec<&'t str>, Status>
-    ensures ok { IfOk result (λ parts. map (λ text. text.now) parts.items ≡ texts_in texts.now lengths.now) }
-    ensures err { IfErr result IsFailure }
+    ensures parts { IfOk result (λ parts. map (λ text. text.now) parts.items ≡ texts_in texts.now lengths.now) }
+    ensures whole { IfOk result (λ _. sum lengths.now ≡ length texts.now) }
+    ensures kept { IfOk result (λ _. refusal.new ≡ refusal.old) }
+    ensures err { IfErr result (IsCutError texts.now lengths.now refusal.old refusal.new) }
 {
     let mut parts = Vec::new(alloc);
     let mut rest = texts;
@@ -162,8 +242,9 @@ fn cut<'t>(
         match str::from_utf8(part) {
             Ok(text) => parts.push(text)?,
             Err(error) => {
-                *number = parts.len();
-                return Err(Status::at(Code::NotText, error.valid_up_to()));
+                let offset = error.valid_up_to();
+                *refusal = Refusal::at(parts.len(), offset);
+                return Err(Status::at(Code::NotText, offset));
             }
         }
         rest = more;
@@ -175,76 +256,35 @@ fn cut<'t>(
 }
 
 /// Writes as many whole characters of a message as there is room for, followed by a zero.
-fn write_message(message: &str, out: &mut [u8]) {
+fn write_message(message: &str, out: &mut [u8])
+    ensures { WritesMessage message.now out.old out.new }
+{
     if out.is_empty() {
         return;
     }
     let end = message.floor_char_boundary(out.len() - 1);
-    let mut at = 0usize;
-    for byte in message.as_bytes() {
-        if at < end {
-            out[at] = *byte;
-            at += 1;
-        }
-    }
-    out[at] = 0;
+    write_over(&message.as_bytes()[..end], out);
+    out[end] = 0;
 }
 
-/// Writes which pattern has an error, what the error is about, and the message.
-fn tell(
-    alloc: Global,
-    error: &PatternError,
-    texts: &[&str],
-    refusal: &mut Refusal,
-    message: &mut [u8],
-) {
-    let number = error.number;
-    let (start, end) = match error.span() {
-        Some(span) => (span.start, span.end),
-        None => (0, 0),
-    };
-    let text = match texts.get(number) {
-        Some(text) => *text,
-        None => "",
-    };
-    let mut length = 0;
-    if let Ok(shown) = error.show(alloc, text) {
-        write_message(shown.as_str(), message);
-        length = shown.len();
-    }
-    *refusal = Refusal {
-        pattern: number,
-        start,
-        end,
-        length,
-    };
-}
-
-/// Builds the NFA of the patterns of concatenated texts.
+/// Builds the NFA of the patterns of concatenated texts. If it fails, it reports which text has an error.
 fn nfa_of_texts(
     alloc: Global,
     texts: &[u8],
     lengths: &[usize],
     options: &Options,
-    refusal: &mut Refusal,
-    message: &mut [u8],
+    report: &mut Report,
 ) -> Result<NFA, Status>
-    ensures ok { IfOk result (IsNfaOf options.now (texts_in texts.now lengths.now)) }
-    ensures err { IfErr result IsFailure }
+    ensures whole { IfOk result (λ _. sum lengths.now ≡ length texts.now) }
+    ensures meant { IfOk result (IsNfaOf options.now (texts_in texts.now lengths.now)) }
+    ensures kept { IfOk result (λ _. report.new ≡ report.old) }
+    ensures err { IfErr result (LacksNfa options.now texts.now lengths.now report.old report.new) }
 {
-    let mut number = 0;
-    let parts = match cut(alloc, texts, lengths, &mut number) {
-        Ok(parts) => parts,
-        Err(status) => {
-            refusal.pattern = number;
-            refusal.start = status.offset;
-            return Err(status);
-        }
-    };
+    let parts = cut(alloc, texts, lengths, &mut report.refusal)?;
     match nfa_of(alloc, parts.as_slice(), options) {
         Ok(nfa) => Ok(nfa),
         Err(error) => {
-            tell(alloc, &error, parts.as_slice(), refusal, message);
+            *report = Report::of(alloc, &error, parts.as_slice());
             Err(status_of(&error))
         }
     }
@@ -259,7 +299,8 @@ fn open_nfa(
     forward_only: u32,
 ) -> Result<(), Status>
     requires { regex.now.slot.value ≡ None }
-    ensures { OpensNfa (IsRegexFor forward_only (overwritten unset config) nfa) regex.old regex.new result }
+    ensures { OpensRegex (IsRegexFor forward_only (overwritten unset config) nfa)
+        (IsRegexErrorStatus forward_only (overwritten unset config) nfa) regex.old regex.new result }
 {
     if forward_only == 0 {
         open_sound(alloc, regex, nfa, config)
@@ -278,15 +319,14 @@ fn open_texts(
     options: &TextOptions,
     settings: &Settings,
     config: Config,
-    refusal: &mut Refusal,
-    message: &mut [u8],
+    report: &mut Report,
 ) -> Result<(), Status>
     requires { regex.now.slot.value ≡ None }
-    ensures { OpensTexts (overwritten unset config) options.now settings.now (texts_in texts.now lengths.now)
-        regex.old regex.new result }
+    ensures { OpensTexts (overwritten unset config) options.now settings.now texts.now lengths.now
+        regex.old regex.new report.old report.new result }
 {
     let reading = options.options(settings);
-    let nfa = nfa_of_texts(alloc, texts, lengths, &reading, refusal, message)?;
+    let nfa = nfa_of_texts(alloc, texts, lengths, &reading, report)?;
     open_nfa(alloc, regex, nfa, config, options.forward_only)
 }
 
@@ -300,18 +340,17 @@ fn open_within(
     options: &TextOptions,
     settings: &Settings,
     config: Config,
-    refusal: &mut Refusal,
-    message: &mut [u8],
+    report: &mut Report,
 ) -> Result<(), Status>
     requires { regex.now.slot.value ≡ None }
-    ensures { OpensWithin (overwritten unset config) options.now settings.now texts.now lengths.now regex.old regex.new
-        result }
+    ensures { OpensWithin (overwritten unset config) options.now settings.now texts.now lengths.now
+        regex.old regex.new report.old report.new result }
 {
     if !options.admits(texts) {
         return Err(Status::from(Code::TooLarge));
     }
     open_texts(
-        alloc, regex, texts, lengths, options, settings, config, refusal, message,
+        alloc, regex, texts, lengths, options, settings, config, report,
     )
 }
 
@@ -325,17 +364,17 @@ fn build_texts(
     options: &TextOptions,
     settings: &Settings,
     quits: &[u8],
-    refusal: &mut Refusal,
-    message: &mut [u8],
+    report: &mut Report,
 ) -> Result<(), Status>
-    ensures { BuildsTexts settings.now quits.now options.now texts.now lengths.now regex.old regex.new result }
+    ensures { BuildsTexts settings.now quits.now options.now texts.now lengths.now regex.old regex.new
+        report.old report.new result }
 {
     if regex.is_open() {
         return Err(Status::from(Code::Open));
     }
     let config = settings.config(quits)?;
     open_within(
-        alloc, regex, texts, lengths, options, settings, config, refusal, message,
+        alloc, regex, texts, lengths, options, settings, config, report,
     )
 }
 
@@ -352,11 +391,21 @@ pub extern "C" fn lazydfa_raw_regex_any_of(
     refusal: &mut Refusal,
     message: &mut [u8],
 ) -> Status
-    ensures { BuildsAnyOf settings.now quits.now options.now texts.now lengths.now regex.old regex.new result }
+    ensures { BuildsAnyOf settings.now quits.now options.now texts.now lengths.now regex.old regex.new
+        refusal.new message.old message.new result }
 {
-    *refusal = Refusal::none();
-    write_message("", message);
-    Status::of(build_texts(
-        alloc, regex, texts, lengths, options, settings, quits, refusal, message,
-    ))
+    let mut report = Report::none(alloc);
+    let done = build_texts(
+        alloc,
+        regex,
+        texts,
+        lengths,
+        options,
+        settings,
+        quits,
+        &mut report,
+    );
+    *refusal = report.refusal;
+    write_message(report.message.as_str(), message);
+    Status::of(done)
 }

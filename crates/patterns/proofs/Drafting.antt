@@ -23,7 +23,7 @@ use Rattle.meaning.specs.Translated.{joined_engine, joined_nfa, nodes_of, nodes_
 use Rattle.meaning.proofs.Lists.{our_nodes, length-our_nodes, length-starts_of, nodes_of_all_push, starts_of_push}
 use Rattle.meaning.proofs.Unions.{length-nodes_of_all}
 use Rattle.patterns.specs.Drafts.{Grows, Has, IsCompiled, IsDraftOf, IsLeft, IsMergedWithin}
-use Rattle.patterns.specs.Faults.{IsFaultOf, IsFirstFault}
+use Rattle.patterns.specs.Faults.{IsFaultOf, IsFirstFault, IsJoinFault, IsUnjoined}
 use Rattle.patterns.specs.Patterns.{AreMeanings, IsMeaning, IsWithinLimit, config_of}
 use Rattle.patterns.specs.declared.compile.Draft.{Draft}
 use Rattle.patterns.specs.declared.compile.Options.{Options}
@@ -75,9 +75,13 @@ has_push ascii old new ks k has grows = record {
 
 -- the room that a pattern takes
 left_push : (o : Options) (old new : Draft) (ks : List kit_nfa.Nfa) (k : kit_nfa.Nfa) → IsLeft o old ks →
-    table_bytes k ≤ old.room + 24 → new.room ≤ old.room - table_bytes k → IsLeft o new (ks ++ k ∷ [])
+    table_bytes k ≤ old.room + 24 → new.room ≡ old.room - table_bytes k → IsLeft o new (ks ++ k ∷ [])
 left_push o old new ks k left small room =
-    omega (arith, left, small, room, sum_by-append table_bytes ks (k ∷ []), length-append ks (k ∷ []))
+    let sum = sum_by-append table_bytes ks (k ∷ []) in
+    record {
+      least = omega (arith, left.least, room, sum);
+      most = omega (arith, left.most, small, room, sum, length-append ks (k ∷ []));
+    }
 
 -- one more text
 pub draft_push : (o : Options) (texts : List (List ℕ)) (text : List ℕ) (old new : Draft) → IsDraftOf o texts old →
@@ -106,7 +110,7 @@ draft_empty o draft states starts room =
       ks = [];
       nfas = (tt, tt);
       has = record { nodes = ap ours.nodes_of states; starts = starts };
-      left = omega (arith, room);
+      left = record { least = omega (arith, room); most = omega (arith, room) };
     }
 
 -- one turn over the texts
@@ -170,6 +174,20 @@ first_fault o texts i d draft number fault inside is count at =
       fault = at;
     }
 
+-- patterns that cannot be joined
+pub unjoined :
+    (o : Options) (texts : List (List ℕ)) (draft : Draft) (is : IsDraftOf o texts draft) (fault : Fault)
+    → IsJoinFault is.ks fault → IsUnjoined o texts (record { number = 0; fault = fault })
+unjoined o texts draft is fault why = record {
+  res = is.res;
+  meant = is.meant;
+  ks = is.ks;
+  nfas = is.nfas;
+  small = omega (arith, is.left.most, patterns_count o texts draft is);
+  fault = why;
+  number = refl;
+}
+
 -- the states of patterns are within the size limit
 states_small : (ks : List kit_nfa.Nfa) → 12 * size_of ks ≤ sum_by table_bytes ks
 states_small [] = omega arith
@@ -189,7 +207,7 @@ states_within o texts draft a is same =
       length-append (nodes_of_all 0 0 is.ks) (tail_of is.ks),
       length-nodes_of_all 0 0 is.ks,
       states_small is.ks,
-      is.left,
+      is.left.most,
       patterns_count o texts draft is,
     )
 
@@ -214,6 +232,19 @@ joined_nodes s0 s1 s2 s3 x y z n1 n2 n3 e1 e2 e3 is1 is2 is3 =
     ∙ append_assoc (ours.nodes_of s0 ++ n1 ∷ []) (n2 ∷ []) (n3 ∷ [])
     ∙ append_assoc (ours.nodes_of s0) (n1 ∷ []) (n2 ∷ n3 ∷ [])
 
+-- the nodes of the states that join a draft
+pub all_nodes : (draft : Draft) (ks : List kit_nfa.Nfa) → Has draft ks →
+    ours.nodes_of draft.states.items
+    ++ Split draft.starts.items
+    ∷ Split (length draft.states.items ∷ (length draft.states.items + 2) ∷ [])
+    ∷ any_byte (length draft.states.items + 1) ∷ []
+    ≡ (joined_nfa ks).nodes
+all_nodes draft ks has =
+    ap₂ (λ v w. v ++ Split w ∷ Split (length draft.states.items ∷ (length draft.states.items + 2) ∷ [])
+    ∷ any_byte (length draft.states.items + 1) ∷ []) has.nodes has.starts
+    ∙ ap (λ v. nodes_of_all 0 0 ks ++ Split (starts_of 0 ks) ∷ Split (v ∷ (v + 2) ∷ []) ∷ any_byte (v + 1) ∷ [])
+    (states_count draft ks has)
+
 -- the NFA that is built from them
 pub finished : (draft : Draft) (ks : List kit_nfa.Nfa) (a : Automaton) (utf8 : Bool) → Has draft ks →
     ours.nodes_of a.states
@@ -233,7 +264,7 @@ finished draft ks a utf8 has nodes starts anchored unanchored flags dropped =
       starts = a.start_pattern;
       utf8 = f.utf8;
       kind = LeftmostFirst;
-    }) (nodes ∙ all) flags
+    }) (nodes ∙ all_nodes draft ks has) flags
     ∙ ap (λ v. record {
       nfa = record { nodes = (joined_nfa ks).nodes; terminator = 10; reverse = false; keeps_unions = v };
       anchored = a.start_anchored;
@@ -266,15 +297,3 @@ finished draft ks a utf8 has nodes starts anchored unanchored flags dropped =
   where
     count : length draft.states.items ≡ size_of ks
     count = states_count draft ks has
-
-    all :
-        ours.nodes_of draft.states.items
-        ++ Split draft.starts.items
-        ∷ Split (length draft.states.items ∷ (length draft.states.items + 2) ∷ [])
-        ∷ any_byte (length draft.states.items + 1) ∷ []
-        ≡ (joined_nfa ks).nodes
-    all =
-        ap₂ (λ v w. v ++ Split w ∷ Split (length draft.states.items ∷ (length draft.states.items + 2) ∷ [])
-        ∷ any_byte (length draft.states.items + 1) ∷ []) has.nodes has.starts
-        ∙ ap (λ v. nodes_of_all 0 0 ks ++ Split (starts_of 0 ks) ∷ Split (v ∷ (v + 2) ∷ []) ∷ any_byte (v + 1) ∷ [])
-        count

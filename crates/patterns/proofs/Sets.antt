@@ -20,6 +20,7 @@ use Rattle.automata_config.specs.declared.error.SearchError.{SearchError}
 use Rattle.automata_hybrid.specs.Machines.Builds.{Builds}
 use Rattle.automata_hybrid.specs.Known.Walks.{IsSetRun}
 use Rattle.automata_hybrid.specs.Walks.State.{fresh_walk}
+use Rattle.automata_hybrid.proofs.Machines.Powersets.{reported_walked, walked_reported}
 use Rattle.regex_automata.specs.Promises.{AreWalked, CacheView, Forward, Input, JoinsReported, KindAll, Machine}
 use Rattle.regex_automata.specs.Promises.{MatchesIn, known_of}
 use Rattle.regex_automata.specs.Promises.{SetsHaveMatching}
@@ -162,7 +163,9 @@ module _ (m : Machine) (o : Options) (res : List Re) (is : IsDfaOf o res m) (hay
       ((pairs : List Pair) → AreWalked Forward m input pairs → found ≡ half_nth pairs 0) →
       is_some found ≡ is_some (find_any o.utf8 res hay 0)
   any_means reported all found first =
-      ap is_some (first walk.0 (subst (λ k. AreReported Forward m.nfa k input walk.0) (sym is.kind) walk.1))
+      ap is_some (first walk.0
+      (reported_walked Forward m input walk.0
+      (subst (λ k. AreReported Forward m.nfa k input walk.0) (sym is.kind) walk.1)))
       ∙ same_flag (is_some (half_nth walk.0 0)) (is_some (find_any o.utf8 res hay 0)) (
         λ e. (any_is_found o.utf8 hay res).1 (there walk.0 (λ pair h. (accepted pair).0 h) e),
         λ e. let w = (any_is_found o.utf8 hay res).0 e in let path = (found_is w.0).1 (w.1, w.2, w.3) in
@@ -207,4 +210,5 @@ module _ (m : Machine) (o : Options) (res : List Re) (is : IsDfaOf o res m) (hay
       accepted : (pair : Pair) → InPairs pair pairs ↔ IsAccepted Forward m.nfa input m.nfa.start_unanchored pair
       accepted pair =
           all Forward input pairs m.nfa.start_unanchored (bytes, omega arith) (omega arith) refl
-          (subst (λ k. AreReported Forward m.nfa k input pairs) is.kind walked) pair
+          (subst (λ k. AreReported Forward m.nfa k input pairs) is.kind (walked_reported Forward m input pairs walked))
+          pair

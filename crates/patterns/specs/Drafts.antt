@@ -1,5 +1,5 @@
 -- What a draft contains of the patterns so far.
-use Rattle.std.specs.Prelude.{ℕ, ◌≡◌, ◌+◌, ◌-◌, ◌*◌, ◌≤◌, ◌⊎◌, Bool, false, List, [], ◌∷◌, ◌++◌, length, sum_by}
+use Rattle.std.specs.Prelude.{ℕ, ◌≡◌, ◌+◌, ◌-◌, ◌*◌, ◌/◌, ◌≤◌, ◌⊎◌, Bool, false, List, [], ◌∷◌, ◌++◌, length, sum_by}
 use Rattle.regex_nfa.specs.Sizes.{table_bytes}
 use Rattle.regex_nfa.specs.declared.nfa.Nfa as kit_nfa
 use Rattle.regex_hir.specs.Re.{Re}
@@ -7,6 +7,8 @@ use Rattle.regex_syntax.specs.declared.Config.{Config}
 use Rattle.automata_base.specs.Nfas.Accepted.{IsChecked}
 use Rattle.automata_transform.specs.Nfas.MergedNfas.{IsMergedNfa}
 use Rattle.automata_base.specs.Nfas.Nodes as ours
+use Rattle.automata_base.specs.declared.nfa.thompson.state.State.{State}
+use Rattle.automata_base.specs.declared.nfa.thompson.state.State.TheVariants.{Capture}
 use Rattle.regex_automata.specs.Promises.{LeftmostFirst, engine_of}
 use Rattle.meaning.specs.Agreeing.{HasMeaning, HasNoUnicodeLook}
 use Rattle.meaning.specs.Translated.{joined_engine, nodes_of, nodes_of_all, starts_of}
@@ -17,6 +19,11 @@ use Rattle.patterns.specs.declared.compile.Options.{Options}
 -- the NFA finds what the text means
 abbrev pub IsCompiled : Config → (text : List ℕ) → kit_nfa.Nfa → Type 0
 IsCompiled config text k = (re : Re) × IsMeaning config text re × HasMeaning k re
+
+-- if the state is a capture, its slot is one of the two of its group
+abbrev pub HasGroupOfSlot : State → Type 0
+HasGroupOfSlot (Capture next pattern group slot) = group ≡ slot / 2
+HasGroupOfSlot state = Unit {0}
 
 -- the draft grows by one pattern, which takes room
 pub record Grows (ascii : Bool) (old : Draft) (k : kit_nfa.Nfa) (new : Draft) : Type 0 where
@@ -29,8 +36,8 @@ pub record Grows (ascii : Bool) (old : Draft) (k : kit_nfa.Nfa) (new : Draft) : 
   pub starts : new.starts.items ≡ old.starts.items ++ (length old.states.items + k.start) ∷ []
   -- it has no Unicode word boundary, unless the text is ASCII
   pub looks : ascii ≡ false → HasNoUnicodeLook k
-  -- the remaining room is at most the previous room less the bytes of its tables, or none
-  pub room : new.room ≤ old.room - table_bytes k
+  -- the remaining room is the previous room less the bytes of its tables, or none
+  pub room : new.room ≡ old.room - table_bytes k
 
 -- the states and starts of these patterns, and no others
 pub record Has (draft : Draft) (ks : List kit_nfa.Nfa) : Type 0 where
@@ -39,9 +46,12 @@ pub record Has (draft : Draft) (ks : List kit_nfa.Nfa) : Type 0 where
   -- the start of each of them, in the same order
   pub starts : draft.starts.items ≡ starts_of 0 ks
 
--- the remaining room under the size limit; each pattern may have exceeded it by 24 bytes
-abbrev pub IsLeft : Options → Draft → List kit_nfa.Nfa → Type 0
-IsLeft options draft ks = sum_by table_bytes ks + draft.room ≤ options.size_limit + 24 * length ks
+-- what the tables of these patterns leave of the size limit, or nothing
+pub record IsLeft (options : Options) (draft : Draft) (ks : List kit_nfa.Nfa) : Type 0 where
+  -- nothing but their tables takes room
+  pub least : options.size_limit ≤ sum_by table_bytes ks + draft.room
+  -- each pattern may have exceeded the limit by 24 bytes
+  pub most : sum_by table_bytes ks + draft.room ≤ options.size_limit + 24 * length ks
 
 -- a draft has the states and starts of these texts
 pub record IsDraftOf (options : Options) (texts : List (List ℕ)) (draft : Draft) : Type 0 where

@@ -7,14 +7,14 @@ use Rattle.match_facts.specs.Facts.{AreFacts}
 use Rattle.match_facts.specs.declared.Facts.{Facts}
 use Rattle.meaning.specs.Patterns.{find_any}
 use Rattle.patterns.specs.Faults.{IsFaultOf}
-use Rattle.patterns.specs.Patterns.{IsMeaning, config_of}
+use Rattle.patterns.specs.Patterns.{IsMeaning, IsPattern, config_of}
 use Rattle.patterns.specs.declared.compile.Options.{Options}
 use Rattle.patterns.specs.declared.error.PatternError.{PatternError}
 
 -- the text is a pattern, and the facts hold of every match of what it means
 pub record AreFactsOf (options : Options) (text : List ℕ) (facts : Facts) : Type 0 where
   -- the text is a pattern
-  pub pattern : (re : Re) × IsMeaning (config_of options) text re
+  pub pattern : IsPattern (config_of options) text
   -- whichever tree it is parsed to
   pub hold : (re : Re) → IsMeaning (config_of options) text re → AreFacts re facts
 

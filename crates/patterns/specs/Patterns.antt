@@ -61,6 +61,10 @@ abbrev pub IsMeaning : Config → (text : List ℕ) → Re → Type 0
 IsMeaning config text re =
     (hir : kit_hir.Hir) × (names : List (Option (List ℕ))) × Reads config text hir names × (re ≡ meaning hir)
 
+-- the text is a pattern: the parser reads it
+abbrev pub IsPattern : Config → (text : List ℕ) → Type 0
+IsPattern config text = (re : Re) × IsMeaning config text re
+
 -- the meanings of these texts, in their order
 abbrev pub AreMeanings : Config → (texts : List (List ℕ)) → List Re → Type 0
 AreMeanings config [] [] = Unit {0}

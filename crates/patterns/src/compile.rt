@@ -1,26 +1,30 @@
 //! The NFA of several patterns.
-ghost use Rattle.std.specs.Prelude.{◌≡◌, ◌+◌, ◌-◌, ◌^◌, ◌≤◌, List, [], ◌∷◌, ◌++◌, IfErr, IfOk, OnOk, length, map, min};
-ghost use Rattle.std.specs.Prelude.{option_map, string_bytes};
+ghost use Rattle.std.specs.Prelude.{◌≡◌, ◌+◌, ◌-◌, ◌^◌, ◌<◌, ◌≤◌, List, [], ◌∷◌, ◌++◌, IfErr, IfOk, OnOk, length};
+ghost use Rattle.std.specs.Prelude.{false, map, min, option_map, string_bytes, vec_len};
+ghost use Rattle.meaning.specs.Agreeing.{HasNoUnicodeLook};
 ghost use Rattle.automata_base.specs.Nfas.Engines.{any_byte};
 ghost use Rattle.automata_base.specs.Nfas.Nfa.{Split};
 ghost use Rattle.automata_base.specs.Nfas.Nodes as nodes;
 ghost use Rattle.regex_nfa.specs.Sizes as sizes;
 ghost use Rattle.regex_nfa.specs.declared.nfa.Nfa as kit_nfa;
 ghost use Rattle.regex_syntax.specs.Verdict.{Reads};
+ghost use Rattle.regex_syntax.specs.WellFormed.{IsWellFormed};
 ghost use Rattle.patterns.specs.Drafts.{Grows, IsCompiled, IsDraftOf, IsMergedWithin, JoinsDraft};
-ghost use Rattle.patterns.specs.Faults.{IsAddFault, IsFaultOf, IsFirstFault, IsJoinFault, IsNfaFault, IsOfSize};
+ghost use Rattle.patterns.specs.Faults.{CannotJoin, IsAddFault, IsFaultOf, IsFirstFault, IsLookFault, IsNfaFault};
+ghost use Rattle.patterns.specs.Faults.{LacksRoom};
 ghost use Rattle.patterns.specs.Patterns.{HasNoLookCycle, IsNfaOf, IsWithinLimit, config_of};
 
 use crate::error::{Fault, PatternError};
+use crate::escapes::has_boundary_escape;
 use crate::translate::{Origin, has_unicode_look, id_of, push_states, shifted};
-use regex_automata::nfa::thompson::{Flags, NFA, NfaError, State, merged};
+use regex_automata::nfa::thompson::{Flags, NFA, State, merged};
 use regex_automata::util::primitives::{PatternID, StateID};
 use regex_nfa::Nfa;
 use regex_syntax::{Config, Flags as SyntaxFlags, Parsed};
 use std::alloc::{AllocError, Global};
 use std::mem;
 
-/// The bytes that a state of a merged NFA counts toward the size limit.
+/// The bytes that a state counts toward the size limit.
 const STATE_BYTES: usize = 12;
 
 /// How patterns are parsed, and how large they may become. The flags are those of Rust's `RegexBuilder` with the same
@@ -49,7 +53,7 @@ pub struct Options {
     /// Whether the text is ASCII. Then a pattern may contain a Unicode word boundary; over other text a search for it
     /// may fail, and what it finds is not promised. Otherwise such a pattern is an error.
     pub ascii: bool,
-    /// The size limit for the tables of all patterns, in bytes.
+    /// How many bytes the tables of all patterns may take, beside 24 for each pattern.
     pub size_limit: usize,
     /// How deep groups, repetitions and classes may nest. The parser recurses as deep, so a higher limit needs a larger
     /// stack.
@@ -121,6 +125,8 @@ fn config_of(options: &Options) -> Config
 pub(crate) fn parse(alloc: Global, text: &str, options: &Options) -> Result<Parsed, Fault>
     ensures read { IfOk result (λ p.
         Reads (config_of options.now) text.now p.hir (map (option_map string_bytes) p.names.items)) }
+    ensures formed { IfOk result (λ p. IsWellFormed options.now.utf8 p.hir) }
+    ensures groups { IfOk result (λ p. 0 < vec_len p.names) }
     ensures refused { IfErr result (IsFaultOf options.now text.now) }
 {
     let config = config_of(options);
@@ -147,11 +153,26 @@ fn compile(alloc: Global, text: &str, options: &Options, room: usize) -> Result<
     }
 }
 
-/// Returns at least the number of bytes that the tables of an NFA take.
-fn table_bytes(nfa: &Nfa) -> usize
-    ensures { min (sizes.table_bytes nfa.now) (2 ^ 64 - 1) ≤ result }
+/// Tests that the pattern has no Unicode word boundary, unless the haystack is ASCII.
+fn test_looks(text: &str, nfa: &Nfa, ascii: bool) -> Result<(), Fault>
+    ensures passed { OnOk result (ascii ≡ false → HasNoUnicodeLook nfa.now) }
+    ensures refused { IfErr result (IsLookFault ascii text.now nfa.now) }
 {
-    let states = nfa.states.len().saturating_mul(16);
+    if ascii || !has_unicode_look(nfa) {
+        return Ok(());
+    }
+    if has_boundary_escape(text) {
+        Err(Fault::UnicodeWord)
+    } else {
+        Err(Fault::Malformed)
+    }
+}
+
+/// Returns the number of bytes that the tables of an NFA take.
+fn table_bytes(nfa: &Nfa) -> usize
+    ensures { result ≡ min (sizes.table_bytes nfa.now) (2 ^ 64 - 1) }
+{
+    let states = nfa.states.len().saturating_mul(STATE_BYTES);
     let transitions = nfa.transitions.len().saturating_mul(8);
     states.saturating_add(transitions)
 }
@@ -196,17 +217,15 @@ impl Draft {
         ensures refused { IfErr result (IsFaultOf options.now text.now) }
     {
         let nfa = compile(alloc, text, options, self.room)?;
-        self.add(alloc, &nfa, options.ascii)
+        self.add(alloc, text, &nfa, options.ascii)
     }
 
     /// Adds the states of a pattern after those of the previous patterns.
-    fn add(&mut self, alloc: Global, nfa: &Nfa, ascii: bool) -> Result<(), Fault>
+    fn add(&mut self, alloc: Global, text: &str, nfa: &Nfa, ascii: bool) -> Result<(), Fault>
         ensures grows { OnOk result (Grows ascii self.old nfa.now self.new) }
-        ensures refused { IfErr result (IsAddFault ascii nfa.now) }
+        ensures refused { IfErr result (IsAddFault ascii text.now self.old nfa.now) }
     {
-        if !ascii && has_unicode_look(nfa) {
-            return Err(Fault::UnicodeWord);
-        }
+        test_looks(text, nfa, ascii)?;
         let Some(pattern) = PatternID::new(self.starts.len()) else {
             return Err(Fault::TooLarge);
         };
@@ -228,7 +247,7 @@ impl Draft {
             ∷ any_byte (length self.old.states.items + 1) ∷ []) }
         ensures starts { OnOk result (self.new.starts ≡ self.old.starts) }
         ensures start { IfOk result (λ id. id ≡ length self.old.states.items + 1) }
-        ensures refused { IfErr result IsOfSize }
+        ensures refused { IfErr result (LacksRoom (length self.old.states.items + 2)) }
     {
         let union = id_of(self.states.len())?;
         let next = id_of(self.states.len() + 1)?;
@@ -245,7 +264,7 @@ impl Draft {
     /// Builds the NFA of all patterns. It takes the states from the draft.
     fn finish(&mut self, alloc: Global, utf8: bool) -> Result<NFA, Fault>
         ensures joined { IfOk result (JoinsDraft utf8 self.old) }
-        ensures refused { IfErr result IsJoinFault }
+        ensures refused { IfErr result (CannotJoin self.old) }
     {
         let start = id_of(self.states.len())?;
         let unanchored = self.join(alloc)?;
@@ -258,8 +277,7 @@ impl Draft {
         let starts = mem::replace(&mut self.starts, Vec::new(alloc));
         match NFA::from_states(alloc, states, start, unanchored, starts, flags) {
             Ok(nfa) => Ok(nfa),
-            Err(NfaError::OutOfMemory) => Err(Fault::OutOfMemory),
-            Err(error) => Err(Fault::Refused(error)),
+            Err(error) => Err(Fault::from(error)),
         }
     }
 
@@ -267,7 +285,7 @@ impl Draft {
     fn finish_merged(&mut self, alloc: Global, options: &Options) -> Result<NFA, Fault>
         ensures merged { IfOk result (λ nfa. (joined : nodes.Automaton)
             × JoinsDraft options.now.utf8 self.old joined × IsMergedWithin options.now.size_limit joined nfa) }
-        ensures refused { IfErr result IsJoinFault }
+        ensures refused { IfErr result (CannotJoin self.old) }
     {
         let nfa = self.finish(alloc, options.utf8)?;
         match merged_within(nfa, options.size_limit) {

@@ -1,5 +1,5 @@
 ghost use Rattle.std.specs.Prelude.{◌≡◌};
-ghost use Rattle.patterns.specs.Faults.{compile_fault};
+ghost use Rattle.patterns.specs.Faults.{compile_fault, joining_fault, span_of};
 ghost use Rattle.patterns.specs.declared.error.Fault.TheVariants as fault;
 
 use regex_automata::hybrid::regex::RegexBuildError;
@@ -18,13 +18,13 @@ pub enum Fault {
     /// The pattern has a Unicode word boundary, which the library supports only in ASCII text.
     #[error("a Unicode word boundary is not supported: write (?-u:\\b) for an ASCII word boundary")]
     UnicodeWord,
-    /// The tables of all patterns together would exceed the size limit.
+    /// The tables of all patterns together would exceed the size limit, or there are more states than IDs.
     #[error("the patterns are too large")]
     TooLarge,
-    /// The compiler made tables that it does not accept itself.
+    /// The NFA has a Unicode word boundary, but the text has no escape for one. No such text is known.
     #[error("the pattern was not compiled")]
     Malformed,
-    /// The library does not accept the states: `NFA::from_states` failed.
+    /// The library does not accept the states: the error is that of `NFA::from_states`.
     #[error("{0}")]
     Refused(NfaError),
     /// No regex, or no DFA of a set, can be built from the NFA.
@@ -63,6 +63,17 @@ impl From<regex_compile::Error> for Fault {
     }
 }
 
+impl From<NfaError> for Fault {
+    ghost from_gives = { λ error e. e ≡ joining_fault error };
+
+    fn from(error: NfaError) -> Fault {
+        match error {
+            NfaError::OutOfMemory => Fault::OutOfMemory,
+            error => Fault::Refused(error),
+        }
+    }
+}
+
 /// The first pattern that cannot be compiled, and why.
 #[derive(Clone, Copy, Debug, PartialEq, Eq, Error)]
 #[error("pattern {number}: {fault}")]
@@ -75,7 +86,9 @@ pub struct PatternError {
 
 impl PatternError {
     /// Returns the part of the pattern that the parser's error is about, as byte offsets, or none for another error.
-    pub fn span(&self) -> Option<Span> {
+    pub fn span(&self) -> Option<Span>
+        ensures { result ≡ span_of self.now.fault }
+    {
         match self.fault {
             Fault::Syntax(error) => Some(error.span),
             _ => None,

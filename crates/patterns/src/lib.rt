@@ -15,6 +15,7 @@
 
 mod compile;
 mod error;
+mod escapes;
 mod facts;
 pub mod laws;
 mod matches;

@@ -1,9 +1,11 @@
 //! Translates the states of the kit's NFA to the library's.
-ghost use Rattle.std.specs.Prelude.{◌≡◌, ◌+◌, ◌++◌, IfErr, IfOk, OnOk, false, true};
+ghost use Rattle.std.specs.Prelude.{◌≡◌, ◌+◌, ◌++◌, ℕ, IfErr, IfOk, OnOk, false, true, vec_len};
 ghost use Rattle.automata_base.specs.Nfas.Nodes as nodes;
 ghost use Rattle.meaning.specs.Agreeing.{HasNoUnicodeLook};
 ghost use Rattle.meaning.specs.Translated as translated;
-ghost use Rattle.patterns.specs.Faults.{IsOfSize};
+ghost use Rattle.regex_nfa.specs.Run.{IsSoundAt};
+ghost use Rattle.patterns.specs.Drafts.{HasGroupOfSlot};
+ghost use Rattle.patterns.specs.Faults.{LacksID, LacksRoom, LacksTargets};
 
 use crate::error::Fault;
 use regex_automata::nfa::thompson::{State, Transition};
@@ -22,7 +24,7 @@ pub(crate) struct Origin {
 /// Converts the number of a state to its ID.
 pub(crate) fn id_of(number: usize) -> Result<StateID, Fault>
     ensures id { IfOk result (λ id. id ≡ number) }
-    ensures refused { IfErr result IsOfSize }
+    ensures refused { IfErr result (LacksID number) }
 {
     match StateID::new(number) {
         Some(id) => Ok(id),
@@ -33,7 +35,7 @@ pub(crate) fn id_of(number: usize) -> Result<StateID, Fault>
 /// Returns the ID that a state of one pattern has in the NFA of all patterns.
 pub(crate) fn shifted(origin: &Origin, number: u32) -> Result<StateID, Fault>
     ensures id { IfOk result (λ id. id ≡ origin.now.base + number) }
-    ensures refused { IfErr result IsOfSize }
+    ensures refused { IfErr result (LacksID (origin.now.base + number)) }
 {
     match origin.base.checked_add(number as usize) {
         Some(sum) => id_of(sum),
@@ -75,7 +77,7 @@ fn ranges_of(
 ) -> Result<Vec<Transition>, Fault>
     ensures ranges { IfOk result (λ ranges.
         nodes.ranges_of ranges.items ≡ translated.ranges_of origin.now.base own.now) }
-    ensures refused { IfErr result IsOfSize }
+    ensures refused { IfErr result (LacksTargets origin.now.base own.now) }
 {
     let mut ranges = Vec::new(alloc);
     ranges.reserve_exact(own.len())?;
@@ -96,7 +98,9 @@ fn state_of(
 ) -> Result<State, Fault>
     ensures node { IfOk result (λ own. nodes.node_of own
         ≡ translated.node_of origin.now.base origin.now.pattern nfa.now.transitions.items state) }
-    ensures refused { IfErr result IsOfSize }
+    ensures group { IfOk result HasGroupOfSlot }
+    ensures refused { IfErr result (λ fault. (q : ℕ) → IsSoundAt nfa.now q state
+        → LacksRoom (origin.now.base + vec_len nfa.now.states) fault) }
 {
     match state {
         regex_nfa::State::ByteRange(t) => {
@@ -146,7 +150,7 @@ pub(crate) fn push_states(
 ) -> Result<(), Fault>
     ensures nodes { OnOk result (nodes.nodes_of states.new.items ≡ nodes.nodes_of states.old.items
         ++ translated.nodes_of origin.now.base origin.now.pattern nfa.now.transitions.items nfa.now.states.items) }
-    ensures refused { IfErr result IsOfSize }
+    ensures refused { IfErr result (LacksRoom (origin.now.base + vec_len nfa.now.states)) }
 {
     states.reserve(nfa.states.len())?;
     for state in &nfa.states {

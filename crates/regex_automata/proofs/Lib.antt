@@ -2,5 +2,4 @@ pub mod Results
 pub mod Regexes
 pub mod Spans
 pub mod TokenLists
-pub mod Replies
 pub mod Sent

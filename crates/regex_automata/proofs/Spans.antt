@@ -7,8 +7,7 @@ pub mod Truths
 pub mod NextMatches
 pub mod Cached
 pub mod ByPaths
-pub mod Ends
-pub mod Effects
 pub mod Follows
 pub mod Reports
+pub mod Returned
 pub mod OfPaths

@@ -1,4 +1,3 @@
 pub mod Refusals
-pub mod Lists
 pub mod Tiling
 pub mod OfPaths

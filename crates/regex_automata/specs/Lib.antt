@@ -5,9 +5,7 @@
 --     Spans      what a search for a match with its start returns (Contracts); iterations, errors; the effect on
 --                the caches (Runs), and its consequences (Follows)
 --     Tokens     the tokens of an input, one after another
---     Replay     a list of requests over one cache: each reply is its request's own value (Replies)
 pub mod Regexes
 pub mod Spans
-pub mod Replay
 pub mod Tokens
 pub mod Promises

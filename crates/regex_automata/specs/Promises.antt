@@ -42,19 +42,25 @@ pub use Rattle.automata_hybrid.specs.Walks.Answers.{AreWalked, HasReported, IsWa
 pub use Rattle.automata_hybrid.specs.Walks.Contracts.{IsWalkCall, IsWhich, JoinsReported}
 -- A search in pieces as contracts see it; the DFA that it belongs to; the inputs that it may search, once it has begun;
 -- how many bytes of the span of an input it was given, or that it was given all; a piece that lies in a span; what
--- reading a piece and asking for the answer mean, for a whole haystack by `laws::pieces_are_whole`; what they cost, by
--- `laws::pieces_follow`.
+-- reading a piece and asking for the answer mean, for a whole haystack by `laws::pieces_are_whole`; what they cost and
+-- what is cached after them, by `laws::pieces_follow`.
 pub use Rattle.automata_hybrid.specs.Pieces.State.{IsPiecesOf, PiecesView}
 pub use Rattle.automata_hybrid.specs.Pieces.Answers.{BeginsAfter, EndsHere, HasBegun, IsPieceAt, IsWhole, ReadsOn}
 pub use Rattle.automata_hybrid.specs.Pieces.Answers.{WasGiven, WasGivenAll, from_first}
 pub use Rattle.automata_hybrid.specs.Pieces.Whole.{HasReadAll, PiecesAreWhole, bytes_of_pieces, whole_input}
-pub use Rattle.automata_hybrid.specs.Known.PiecesFollow.{IsFreePiece, IsCostOfUnits, PieceAnswersFollow, PiecesFollow}
+pub use Rattle.automata_hybrid.specs.Known.PiecesFollow.{AnswerFollows, IsCostOfUnits, IsFreePiece, IsKnownPieceError}
+pub use Rattle.automata_hybrid.specs.Known.PiecesFollow.{KnowsAnswer, KnowsPiece, PieceAnswersFollow, PieceFollows}
+pub use Rattle.automata_hybrid.specs.Known.PiecesFollow.{PiecesFollow}
 -- A walk over a haystack in pieces: its position after a number of bytes of the span of an input, or after all; the
--- patterns that match at its position; what a call returns, where it stops, and what its end means; and that the states
--- of a pass report just the patterns that match at each offset, by `laws::states_have_matching`.
+-- patterns that match at its position; what a call returns, where it stops, and what its end means; that the states of
+-- a pass report just the patterns that match at each offset, by `laws::states_have_matching`; that its calls report
+-- what an overlapping search over the whole does, by `laws::walks_are_whole`; and what they cost, by
+-- `laws::walk_pieces_follow`.
 pub use Rattle.automata_hybrid.specs.Pieces.Walks.{EndsWith, HasBegunWalk, HasWalked, HasWalkedAll, IsAtMatch}
 pub use Rattle.automata_hybrid.specs.Pieces.Walks.{HasNoMatch, IsWalked, StopsAt, WalksOn, patterns_here}
 pub use Rattle.automata_hybrid.specs.Pieces.Matching.{MatchesAt, StatesHaveMatching}
+pub use Rattle.automata_hybrid.specs.Pieces.Whole.{HasWalkedPieces, WalksAreWhole, stop_pairs}
+pub use Rattle.automata_hybrid.specs.Known.PiecesFollow.{WalkEndsFollow, WalkPiecesFollow}
 -- Some path of the pattern, from a start and through the span of an input, ends in a match; under `MatchKind::All` a
 -- call that succeeds adds exactly these patterns to a set, as far as they are below its capacity.
 pub use Rattle.automata_hybrid.specs.Walks.SetsByPaths.{MatchesIn, SetsHaveMatching}

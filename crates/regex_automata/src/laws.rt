@@ -6,15 +6,18 @@ ghost use Rattle.regex_automata.specs.Spans.OfPaths.{LoopsCollect, MatchesAreSpa
 ghost use Rattle.regex_automata.specs.Tokens.{TokensAreSpans};
 
 use crate::hybrid::regex::{Cache, Regex};
-pub use automata_base::laws::cycles_are_kept;
+pub use automata_base::laws::{cycles_are_kept, prefixes_skip_lazily};
 pub use automata_determinize::laws::{
-    passes_report_paths, reported_is_right, start_is_right, steps_are_right, walk_is_right,
+    late_is_right, passes_report_paths, reported_is_right, start_is_right, steps_are_alike,
+    steps_are_right, walk_is_right,
 };
 pub use automata_hybrid::laws::{
-    answers_agree, cache_is_known, calls_follow, first_match_is_found, known_stays,
+    answers_agree, cache_is_known, calls_follow, first_match_is_found, ids_survive, known_stays,
     pieces_are_whole, pieces_follow, searches_follow, sets_follow, sets_have_matching,
-    sizes_are_of_nfa, states_have_matching, steps_follow, walks_agree,
+    sizes_are_of_nfa, states_have_matching, steps_follow, walk_pieces_follow, walks_agree,
+    walks_are_whole,
 };
+pub use automata_transform::laws::{merged_answers_alike, reversed_is_true};
 
 /// Two searches for a match with its start that succeed on one input find the same, over one regex, or over two of the
 /// same NFAs and match kinds. Earlier searches, the capacities of the caches and other settings make no difference.

@@ -1,11 +1,10 @@
 //! Regular expressions as automata. The module paths are those of the crate `regex-automata`, for the lazy DFA and what
-//! it is built on; `laws`, `replay` and `tokens` are additions.
+//! it is built on; `laws` and `tokens` are additions.
 #![tactic(auto)]
 
 pub mod hybrid;
 pub mod laws;
 pub mod nfa;
-pub mod replay;
 mod threads;
 pub mod tokens;
 pub mod util;

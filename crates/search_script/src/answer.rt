@@ -6,7 +6,7 @@ use crate::script::{Definition, Script, Source};
 use regex_automata::hybrid::dfa::Config;
 use regex_automata::hybrid::regex::{Regex, RegexBuildError};
 use regex_automata::nfa::thompson::{NFA, NfaError};
-use regex_automata::replay::replay;
+use replay::replay;
 use std::alloc::{AllocError, Global};
 use std::fmt::Write;
 use std::io::Read;

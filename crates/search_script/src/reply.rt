@@ -1,10 +1,10 @@
 //! The line of output for a reply.
 
 use regex_automata::hybrid::SearchError;
-use regex_automata::replay::{Fault, Reply};
 use regex_automata::tokens::TokenError;
 use regex_automata::util::primitives::PatternID;
 use regex_automata::util::search::{HalfMatch, Match, MatchErrorKind};
+use replay::{Fault, Reply};
 use std::fmt;
 
 /// A reply, printed as its line of the output.

@@ -8,9 +8,9 @@ use crate::keyword::{Keyword, option_of};
 use crate::states::Outline;
 use crate::words::{LineError, hexadecimal_byte, number, only_number, split_once};
 use regex_automata::hybrid::dfa::Config;
-use regex_automata::replay::Request;
 use regex_automata::util::primitives::PatternID;
 use regex_automata::util::search::{Anchored, Direction, Input, MatchKind, Span};
+use replay::Request;
 use std::alloc::{AllocError, Global};
 
 /// The definitions and orders of a script, in the order of its lines.

@@ -16,8 +16,8 @@ use Rattle.automata_hybrid.specs.Private.Searches.PassState.{IsRun, IsTagAt}
 use Rattle.automata_hybrid.specs.Private.Fast.SelfLoops.{byte_in}
 use Rattle.automata_hybrid.specs.declared.cache.leaps.Leaps.{Leaps}
 use Rattle.automata_base.proofs.Paths.Orders.{some_inj}
-use Rattle.automata_hybrid.proofs.Caches.Leaps.{power_small}
-use Rattle.automata_hybrid.proofs.Caches.Places.{Names-Placed, Placed-IsCell}
+use Rattle.automata_hybrid.proofs.Storage.Leaps.{power_small}
+use Rattle.automata_hybrid.proofs.Storage.Places.{Names-Placed, Placed-IsCell}
 use Rattle.automata_hybrid.proofs.Searches.PassState.{false_true}
 use Rattle.automata_hybrid.proofs.Fast.Runs.{followed_one, run_at, run_id, run_none, run_on, run_to}
 use Rattle.automata_hybrid.proofs.Steps.Steps.{byte_leads}

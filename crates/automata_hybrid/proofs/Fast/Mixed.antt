@@ -5,8 +5,8 @@ use Rattle.automata_hybrid.proofs.Words.{Direction, half_at, half_of, HalfMatch,
 use Rattle.automata_hybrid.proofs.Words.{IsAtAlong, IsTrace, Machine, Names, offset_in, Powerset, Stored, Trace}
 use Rattle.automata_hybrid.proofs.Words.{unknown_id}
 use Rattle.automata_hybrid.specs.Cache.Ids.{HasMatchTag}
-use Rattle.automata_hybrid.specs.Private.Searches.PassState.{HasLearnedAlong, HasRun, IsFollowedAlong, IsMetAlong}
-use Rattle.automata_hybrid.proofs.Caches.Places.{match_tagged}
+use Rattle.automata_hybrid.specs.Private.Searches.PassState.{HasLearnedAlong, HasRun, IsFollowedAlong, IsPeekedAlong}
+use Rattle.automata_hybrid.proofs.Storage.Places.{match_tagged}
 use Rattle.automata_hybrid.proofs.Fast.Runs.{followed_clean, followed_known, reported_upto, no_tag, match_tag}
 use Rattle.automata_hybrid.proofs.Searches.Traces.{found_along}
 use Rattle.std.proofs.lemmas.Bool.{cases_lt}
@@ -65,12 +65,12 @@ module _ {s : Trace} {way : Direction} {m : Machine} {c : Stored} {input : Input
         each k more less (inr behind) = followed_known one k behind less
 
   module _ {from at id next : ℕ} {found : Option HalfMatch} {reported mark : ℕ} (trace : IsTrace way m input s)
-      (inside : at < input.end - input.start) (met : IsMetAlong s way m c input at id next)
+      (inside : at < input.end - input.start) (peeked : IsPeekedAlong s way m c input at id next)
       (here : HasRunOn s way m c input from at id found reported mark) where
     -- it leads to a state without patterns
     pub run_on_quiet : next < 2 ^ 27 → HasRunOn s way m c input from (at + 1) next found reported mark
     run_on_quiet low =
-        let one = ((met (omega (arith, low))).run 0 no_tag (record { from = omega arith; below = low })).followed in
+        let one = ((peeked (omega (arith, low))).run 0 no_tag (record { from = omega arith; below = low })).followed in
         let same : s.reported at ≡ s.reported (at + 1) = reported_none one in
         record {
           run = run_one inside here.run one;
@@ -95,7 +95,7 @@ module _ {s : Trace} {way : Direction} {m : Machine} {c : Stored} {input : Input
     pub run_on_match :
         (input.earliest ≡ true → ⊥) → HasOnly (2 ^ 27) next → HasRunOn s way m c input from (at + 1) next found next at
     run_on_match late only =
-        let one = ((met (omega (arith, only.below))).run (2 ^ 27) match_tag only).followed in
+        let one = ((peeked (omega (arith, only.below))).run (2 ^ 27) match_tag only).followed in
         let more : suc at ≡ at + 1 = omega arith in
         record {
           run = run_one inside here.run one;

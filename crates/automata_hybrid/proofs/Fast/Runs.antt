@@ -7,18 +7,19 @@ use Rattle.automata_hybrid.proofs.Words.{HasReadNoQuit, Input, is_quit, IsAtAlon
 use Rattle.automata_hybrid.proofs.Words.{LeadsToNamed, Machine, match_kind_of, Names, next, offset_in, Powerset}
 use Rattle.automata_hybrid.proofs.Words.{quit_id, Stored, successor, tape_in, Trace, unit_class}
 use Rattle.automata_hybrid.specs.Private.Cache.Stores.{IsKnownTransition}
-use Rattle.automata_hybrid.specs.Private.Searches.PassState.{HasLearnedAlong, IsFollowed, IsFollowedAlong, IsMetAlong}
+use Rattle.automata_hybrid.specs.Private.Searches.PassState.{HasLearnedAlong, IsFollowed, IsFollowedAlong}
+use Rattle.automata_hybrid.specs.Private.Searches.PassState.{IsPeekedAlong}
 use Rattle.automata_hybrid.specs.Private.Searches.PassState.{IsNextCell, IsOnTrace, IsRun, IsTagAt, IsTaken}
 use Rattle.automata_hybrid.specs.Private.Searches.PassContracts.{FollowsAlong, RunsAlong, found_there}
 use Rattle.automata_hybrid.specs.declared.search.fast.follow.Stop.{Stop}
 use Rattle.automata_hybrid.specs.declared.search.fast.run.Place.{Place}
 use Rattle.automata_hybrid.specs.Walks.Answers.{IsSilent}
 use Rattle.automata_hybrid.proofs.Steps.Steps.{cell_read}
-use Rattle.automata_hybrid.proofs.Caches.Places.{Names-silent}
+use Rattle.automata_hybrid.proofs.Storage.Places.{Names-silent}
 use Rattle.automata_base.proofs.Paths.Orders.{some_inj}
 use Rattle.automata_hybrid.proofs.Searches.PassState.{false_true}
 use Rattle.automata_hybrid.proofs.Searches.Traces.{found_along, quiet_along}
-use Rattle.automata_hybrid.proofs.Caches.Rows.{Leads-Names}
+use Rattle.automata_hybrid.proofs.Storage.Rows.{Leads-Names}
 use Rattle.automata_hybrid.proofs.Walks.Reports.{silent_none, silent_same, silent_trans}
 use Rattle.std.proofs.lemmas.Bool.{cases_lt}
 
@@ -80,15 +81,15 @@ followed_one {s} way m c input tag k id to byte kind only unit known below quit 
           }
 
 -- the ID in the cell of the byte at a place is the next ID there
-pub met_at :
+pub peeked_at :
     {s : Trace} (way : Direction) (m : Machine) (c : Stored) (input : Input) (k id to byte : ℕ)
     → k < input.end - input.start → next (tape_in way input) k ≡ Some byte → to ≡ cell_of c id (class_in m.classes byte)
     → class_in m.classes byte < c.table.of.stride
     → (is_quit m.quits byte ≡ true → to ≡ quit_id m.stride)
     → (is_quit m.quits byte ≡ false → to < 2 ^ 31 → (q : Powerset) → Names c.table id q
     → Leads c.table to (successor m.nfa (match_kind_of m.config) q (Some byte)))
-    → IsOnTrace s way m c.table input k id → IsMetAlong s way m c input k id to
-met_at {s} way m c input k id to byte within unit value below quit named on = λ low. record {
+    → IsOnTrace s way m c.table input k id → IsPeekedAlong s way m c input k id to
+peeked_at {s} way m c input k id to byte within unit value below quit named on = λ low. record {
   within = within;
   cached = value ∙ ap (known_step m c id) (sym unit);
   run = λ tag kind only. (
@@ -292,7 +293,7 @@ runs_on {s} {way} {m} {c} {input} {from} {place} {to} trace near far =
         known = λ k more less. each k more less (cases_lt k place.at);
       };
       at = followed_at far.followed trace near.at;
-      met = far.met;
+      peeked = far.peeked;
     } where
       each : (k : ℕ) → from ≤ k → k < to.at → (k < place.at) ⊎ (place.at ≤ k) → HasLearnedAlong s way m c input k
       each k more less (inl before) = near.run.known k more before
@@ -302,13 +303,17 @@ runs_on {s} {way} {m} {c} {input} {from} {place} {to} trace near far =
 pub follows_none :
     {s : Trace} {way : Direction} {m : Machine} {c : Stored} {input : Input} (stop : Stop)
     → stop.at ≤ input.end - input.start → Names c.table stop.id (s.state stop.at)
-    → IsMetAlong s way m c input stop.at stop.id stop.next → FollowsAlong s way m c input 0 stop.at stop
-follows_none {s} {way} {m} {c} {input} stop within named met =
-    record { within = within; followed = followed_none way m c input 0 stop.at stop.id named; met = met }
+    → IsPeekedAlong s way m c input stop.at stop.id stop.next → FollowsAlong s way m c input 0 stop.at stop
+follows_none {s} {way} {m} {c} {input} stop within named peeked =
+    record { within = within; followed = followed_none way m c input 0 stop.at stop.id named; peeked = peeked }
 
 -- two runs joined at a stop
 pub follows_on :
     {s : Trace} {way : Direction} {m : Machine} {c : Stored} {input : Input} {from : ℕ} {stop to : Stop}
     → FollowsAlong s way m c input 0 from stop → FollowsAlong s way m c input 0 stop.at to
     → FollowsAlong s way m c input 0 from to
-follows_on near far = record { within = far.within; followed = followed_on near.followed far.followed; met = far.met }
+follows_on near far = record {
+  within = far.within;
+  followed = followed_on near.followed far.followed;
+  peeked = far.peeked;
+}

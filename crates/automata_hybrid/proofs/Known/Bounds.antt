@@ -12,7 +12,7 @@ use Rattle.automata_base.proofs.Paths.Orders.{none_some, some_inj}
 use Rattle.automata_hybrid.specs.Known.Bounds.{IsKnown}
 use Rattle.automata_hybrid.specs.Known.Known.{keep_start}
 use Rattle.automata_hybrid.proofs.Steps.Events.{asked_state}
-use Rattle.automata_hybrid.proofs.Caches.Usage.{few_fits}
+use Rattle.automata_hybrid.proofs.Storage.Usage.{few_fits}
 use Rattle.automata_hybrid.proofs.Known.Growth.{used_more}
 use Rattle.automata_hybrid.proofs.Machines.Costs.{start_cheap, successor_cheap}
 

@@ -15,9 +15,9 @@ use Rattle.automata_hybrid.specs.Known.Effects.{EventFollows}
 use Rattle.automata_hybrid.specs.Known.Growth.{ClearedNothing, HasRoom, IsGrown, IsStill}
 use Rattle.automata_hybrid.specs.Known.Steps.{GivesUpOnStart, IsNotSupported, IsQuitBehind, RunsOutOnStart, StartFails}
 use Rattle.automata_hybrid.specs.Known.Walks.{CallEnds, FailsAfterIt, FailsAtIt, FailsOnItsWay, FailsToGoOn}
-use Rattle.automata_hybrid.specs.Known.Walks.{GivesUpOnIt, CallFailsAt, IsNotBack, IsNotResumed, CallFails, MayGoOn}
+use Rattle.automata_hybrid.specs.Known.Walks.{GivesUpOnIt, CallFailsAt, IsNotRestored, IsNotResumed, CallFails, MayGoOn}
 use Rattle.automata_hybrid.specs.Known.Walks.{ReadsNone, ReadsNoQuit, ReadsSome, RunsOutOnIt, after_going_on}
-use Rattle.automata_hybrid.specs.Known.Walks.{after_resume, has_its_row, with_row_back}
+use Rattle.automata_hybrid.specs.Known.Walks.{after_resume, has_its_row, with_restored_row}
 use Rattle.automata_hybrid.specs.Known.WalksFollow.{CallFollows, CallsFollow, KnowsItsState, KnowsUnits, KnowsWalk}
 use Rattle.automata_hybrid.specs.Searches.Contracts.{IsOfInput}
 use Rattle.automata_hybrid.specs.Walks.Answers.{HasReported, HasReportedAt, HasReportedBy, IsSilent, IsUnheld}
@@ -48,7 +48,7 @@ has_row way m c input (At q) knows = knows
 has_row way m c input Ended knows = refl
 
 -- a state that has a row still has one among more rows
-row_in_more :
+pub row_in_more :
     (rows more : List Row) (q : Powerset) → is_some (row_in rows q) ≡ true → is_some (row_in (rows ++ more) q) ≡ true
 row_in_more [] more q has = absurd (false_true has)
 row_in_more (x ∷ rows) more q has = go (powerset_eq q x.state) has (row_in_more rows more q) where
@@ -102,7 +102,7 @@ record Resumed (way : Direction) (m : Machine) (input : Input) (s : Stage) (old 
   pub grown : IsGrown m old (counted base)
   pub there : has_its_row old s ≡ true → IsGrown m old base
   pub same : KnowsItsState way m old input s → base ≡ old
-  pub back : (q : Powerset) → s ≡ At q → with_row_back m q old ≡ Some base
+  pub back : (q : Powerset) → s ≡ At q → with_restored_row m q old ≡ Some base
   pub learned : KnowsItsState way m base input s
 
 -- a walk could not be resumed
@@ -144,7 +144,7 @@ module _ (way : Direction) (m : Machine) (input : Input) (bounds : HasBounds m) 
         grown = b.grown;
         there = λ has. grown_same m old base (b.there has);
         same = λ has. b.there has;
-        back = λ p at_p. subst (λ (x : Powerset). with_row_back m x old ≡ Some base) (ap (at_state q) at_p) is;
+        back = λ p at_p. subst (λ (x : Powerset). with_restored_row m x old ≡ Some base) (ap (at_state q) at_p) is;
         learned = b.has at.row.alive;
       }
   has_resumed old base sound Ended at may is = absurd (none_some is)
@@ -236,7 +236,7 @@ module _ (way : Direction) (m : Machine) (input : Input) (bounds : HasBounds m) 
     still : new ≡ old → (has_its_row old (At q) ≡ true → ⊥) → Unresumed way m input (At q) old new e
     still same lacks = unmoved old new e (At q) sound same (λ knows. absurd (lacks (knows at.may)))
 
-    go : IsNotBack m q (given_up_offset way input w.units) old new e → Unresumed way m input (At q) old new e
+    go : IsNotRestored m q (given_up_offset way input w.units) old new e → Unresumed way m input (At q) old new e
     go (GivesUpOnIt none is same) = still same (λ has. some_none (sym (back_there m q old has) ∙ none))
     go (RunsOutOnIt lacks room is same) =
         still same (λ has. false_true (ap (λ (o : Option Row). is_some o) (sym lacks) ∙ has))
@@ -282,7 +282,7 @@ module _ (way : Direction) (m : Machine) (input : Input) (bounds : HasBounds m) 
       roomy = λ room. call_clears_none m old new w.stage (input.end - input.start + 1 - w.units) whole there most room;
       grown = whole;
       there = there;
-      put_back = λ q at lacks. inr (base, r.back q at, grown);
+      restored = λ q at lacks. inr (base, r.back q at, grown);
       sound = sound;
       learned = λ nothing j t again may. (
           let after = nothing_after m old base new r.grown grown nothing in
@@ -305,7 +305,7 @@ module _ (way : Direction) (m : Machine) (input : Input) (bounds : HasBounds m) 
       roomy = λ room. call_clears_none m old new w.stage (input.end - input.start + 1 - w.units) whole there most room;
       grown = whole;
       there = there;
-      put_back = λ q at lacks. inr (base, r.back q at, grown);
+      restored = λ q at lacks. inr (base, r.back q at, grown);
       sound = sound;
       learned = λ nothing. tt;
       known = λ knows. (let all = known_then known knows in ((there all.0.1).idle all.0.0, all.1));
@@ -531,7 +531,7 @@ module _ (way : Direction) (m : Machine) (input : Input) (bounds : HasBounds m) 
         roomy = λ _. ap (λ (c : Known). c.clears) still;
         grown = grown_less m old new (grown_same m old new still);
         there = λ _. grown_same m old new still;
-        put_back = λ q at lacks. inl still;
+        restored = λ q at lacks. inl still;
         sound = subst (IsKnown m) (sym still) sound;
         learned = λ nothing j t ready may. absurd (reads_some input w ready none);
         known = λ _. ((grown_same m old new still).idle count, tt);
@@ -563,7 +563,7 @@ module _ (way : Direction) (m : Machine) (input : Input) (bounds : HasBounds m) 
             (omega (arith, u.cost, r.left)) room;
         grown = grown_less m old new u.grown;
         there = λ _. u.grown;
-        put_back = λ q at lacks. inl (u.back q at);
+        restored = λ q at lacks. inl (u.back q at);
         sound = u.sound;
         learned = λ nothing. tt;
         known =

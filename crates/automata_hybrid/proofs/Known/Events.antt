@@ -14,7 +14,7 @@ use Rattle.automata_hybrid.proofs.Steps.Events.{AsksForUnit, IsCached, Makes, Ma
 use Rattle.automata_hybrid.specs.Known.Events as events
 use Rattle.automata_hybrid.specs.Known.Known as known
 use Rattle.automata_hybrid.specs.Known.Stores.{has_steps_at}
-use Rattle.automata_hybrid.proofs.Caches.Usage.{Leads-known}
+use Rattle.automata_hybrid.proofs.Storage.Usage.{Leads-known}
 use Rattle.automata_hybrid.proofs.Known.Made.{computed_known, started_known}
 use Rattle.automata_hybrid.proofs.Known.Rooms.{fits_if, fits_not, known_with, lacks_state, refuses_is, state_lacks}
 use Rattle.automata_hybrid.proofs.Known.Rows.{HasPlaces, NamedRow, named_row, places_of}

@@ -234,7 +234,7 @@ grown_after m old between new f g =
 pub grown_less : (m : Machine) (old new : Known) → IsGrown m old new → IsGrown m old (counted new)
 grown_less m old new g = grown_trans m old new (counted new) g (grown_counted m new (counted new) refl)
 
--- if nothing was cleared overall, nothing was cleared after the state was put back
+-- if nothing was cleared overall, nothing was cleared after the state was restored
 pub nothing_after :
     (m : Machine) (old between new : Known) → IsGrown m old (counted between) → IsGrown m between new
     → ClearedNothing old new → ClearedNothing between new

@@ -164,7 +164,7 @@ module _ (old new : Stored) (n : ℕ) (s : IsStoreOf old old.table.of) (was : Ha
       (sym r.at)
       (subst
       (λ o. IsKept old.table (starts_in old) (keep_row cleared_rows o) (saved (Some r.row)))
-      (sym r.met)
+      (sym r.found)
       (saving_keeps old.table (starts_in old) cleared_rows (kept old.table old.starts) r.row was.wide cleared_keeps))
 
   -- a transition is computed
@@ -230,11 +230,11 @@ module _ (old new : Stored) (n : ℕ) (s : IsStoreOf old old.table.of) (was : Ha
       there : HasPlaces between.table
       there = subst (λ (c : Stored). HasPlaces c.table) e p
 
-  -- a state is put back
-  pub put_back_known :
+  -- a state is restored
+  pub restored_known :
       (r : Row) → Lacks old.table r.state → IsStateAdded old (cleared_in_store old) r new
       → events.with_state old.table.of (known.cleared before) r before ≡ Some (known_with new n)
-  put_back_known r lacks added =
+  restored_known r lacks added =
       ap (λ b. cond b (Some before) (events.with_new_row old.table.of (known.cleared before) r before))
       (state_lacks old n r.state lacks)
       ∙ adds_known old (kept old.table old.starts).table (kept old.table old.starts).starts new n r cleared_rows s

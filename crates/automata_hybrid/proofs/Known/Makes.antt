@@ -21,7 +21,7 @@ use Rattle.automata_hybrid.specs.Known.Events.{refuses_to_clear}
 use Rattle.automata_hybrid.specs.Known.Events.{with_start, with_state, with_step}
 use Rattle.automata_hybrid.specs.Known.Growth.{ClearedNothing, HasRoom, HasRow, IsGrown, IsStartRow, Keeps}
 use Rattle.automata_hybrid.specs.Known.Known.{cleared_saving}
-use Rattle.automata_hybrid.specs.Known.Walks.{with_row_back}
+use Rattle.automata_hybrid.specs.Known.Walks.{with_restored_row}
 use Rattle.automata_hybrid.specs.Known.Steps.{GivesUpOnStart, IsNotSupported, IsQuitBehind, IsStepRun, RunsOutOnStart}
 use Rattle.automata_hybrid.specs.Known.Steps.{StartFails, StepFails, id_in}
 use Rattle.automata_hybrid.proofs.Known.Bounds.{AreOf, HasBounds, IsIn, emptied_within, found_in, in_more, kept_few}
@@ -346,7 +346,7 @@ row_in_last (x ∷ rows) r = go (powerset_eq r.state x.state) (row_in_last rows 
 
 pub back_follows :
     (m : Machine) (q : Powerset) (old new : Known) → IsKnown m old → HasBounds m → cost q ≤ m.greatest
-    → with_row_back m q old ≡ Some new → BackFollows m q old new
+    → with_restored_row m q old ≡ Some new → BackFollows m q old new
 back_follows m q old new sound bounds cheap is = record {
   grown =
       grown_made m (cleared old) row old new (counted new) sound bounds cheap (empties_all old) adds writes untagged;
@@ -394,9 +394,9 @@ back_follows m q old new sound bounds cheap is = record {
   there_then alive (WasCleared free full allows e) =
       subst (λ (c : Known). is_some (row_in c.rows q) ≡ true) (sym e) (row_in_last (cleared old).rows row)
 
--- one that is there is not put back
+-- one that is there is not restored
 pub back_there :
-    (m : Machine) (q : Powerset) (c : Known) → is_some (row_in c.rows q) ≡ true → with_row_back m q c ≡ Some c
+    (m : Machine) (q : Powerset) (c : Known) → is_some (row_in c.rows q) ≡ true → with_restored_row m q c ≡ Some c
 back_there m q c has =
     ap
     (λ b. cond b (Some c)

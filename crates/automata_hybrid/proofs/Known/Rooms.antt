@@ -18,17 +18,23 @@ abbrev pub known_with : Stored → ℕ → Known
 known_with c n = known_of (record { store = c; count = n })
 
 -- the accounted bytes, by a cache and by what it knows, are the same
-pub usage_is :
-    (c : Stored) (n : ℕ) → IsStoreOf c c.table.of → known.usage c.table.of (known_with c n) ≡ usage_in_store c
-usage_is c n s =
+pub usage_same :
+    (c : Stored) (n : ℕ) → length c.table.cells ≡ (length c.table.rows + 3) * c.table.of.stride
+    → length c.starts ≡ c.table.of.slots → known.usage c.table.of (known_with c n) ≡ usage_in_store c
+usage_same c n whole slots =
     ap
     (λ k. cell_size * k + cell_size * c.table.of.slots + row_size * (length c.table.rows + 3)
     + entry_size * (length c.table.rows + 1) + fixed_rows_cost + sum_by row_cost c.table.rows + c.table.of.fixed)
-    (sym s.rows.whole)
+    (sym whole)
     ∙ ap
     (λ k. cell_size * length c.table.cells + cell_size * k + row_size * (length c.table.rows + 3)
     + entry_size * (length c.table.rows + 1) + fixed_rows_cost + sum_by row_cost c.table.rows + c.table.of.fixed)
-    (sym s.slots)
+    (sym slots)
+
+-- so they are for a cache that belongs to a DFA
+pub usage_is :
+    (c : Stored) (n : ℕ) → IsStoreOf c c.table.of → known.usage c.table.of (known_with c n) ≡ usage_in_store c
+usage_is c n s = usage_same c n s.rows.whole s.slots
 
 module _ (c : Stored) (n : ℕ) (s : IsStoreOf c c.table.of) (q : Powerset) where
   abbrev bytes : ℕ

@@ -8,9 +8,10 @@ use Rattle.automata_hybrid.proofs.Words.{with_cell, with_row_in_store}
 use Rattle.std.proofs.lemmas.Option.{slice_get_within}
 use Rattle.std.proofs.lemmas.Nat.{div-mul-add}
 use Rattle.automata_base.proofs.Paths.Orders.{some_inj}
+use Rattle.automata_hybrid.specs.Cache.Survival.{HaveDistinctStates}
 use Rattle.automata_hybrid.specs.Private.Cache.Table.{HasRowIds}
-use Rattle.automata_hybrid.proofs.Caches.Places.{find_id-Found, tags_low, tags_mod}
-use Rattle.automata_hybrid.proofs.Caches.Rows.{Names-more, inside}
+use Rattle.automata_hybrid.proofs.Storage.Places.{find_id-Found, tags_low, tags_mod}
+use Rattle.automata_hybrid.proofs.Storage.Rows.{Names-more, inside}
 
 -- rows have a state exactly if they have an ID for it
 pub row_in-is : (s at : ℕ) (q : Powerset) (rs : List Row) → is_some (find_id s at q rs) ≡ is_some (row_in rs q)
@@ -107,6 +108,18 @@ row_in-at t p k r has = go (row_in t.rows r.state) refl where
       absurd (cc)
   go (Some x) e = e ∙ ap Some (same x (row_in-Met t.rows r.state x e))
 
+-- rows at different positions have different states
+pub distinct_states : (t : Rows) → HasPlaces t → HaveDistinctStates t.rows
+distinct_states t p j k x r has_x has_r same =
+    let here = p.ids j x has_x in
+    let there = p.ids k r has_r in
+    let id : row_id ((j + 3) * t.of.stride) x ≡ row_id ((k + 3) * t.of.stride) r =
+    some_inj (sym (subst (λ q. Names t (row_id ((j + 3) * t.of.stride) x) q) same here.0) ∙ there.0) in
+    let offset : (j + 3) * t.of.stride ≡ (k + 3) * t.of.stride =
+    sym (tags_mod _ x.started (has_patterns x.state) here.1) ∙ ap (λ n. n % 2 ^ 27) id
+    ∙ tags_mod _ r.started (has_patterns r.state) there.1 in
+    one_place t.of.stride j k p.positive offset
+
 -- the row that an ID names
 pub record NamedRow (t : Rows) (id : ℕ) (q : Powerset) : Type 0 where
   pub place : ℕ
@@ -117,7 +130,7 @@ pub record NamedRow (t : Rows) (id : ℕ) (q : Powerset) : Type 0 where
   pub offset : id % 2 ^ 27 ≡ (place + 3) * t.of.stride
   pub low : id < 2 ^ 29
   pub at : row_of t id ≡ Some row
-  pub met : row_in t.rows q ≡ Some row
+  pub found : row_in t.rows q ≡ Some row
 
 pub named_row : (t : Rows) (id : ℕ) (q : Powerset) → HasPlaces t → Names t id q → NamedRow t id q
 named_row t id q p h =
@@ -140,7 +153,7 @@ named_row t id q p h =
       offset = offset;
       low = rw (f.«is») (tags_low _ f.row.started (has_patterns f.row.state) (omega (arith, low, at)));
       at = ap (slice_get t.rows) back ∙ f.has;
-      met = ap (row_in t.rows) (sym f.state) ∙ row_in-at t p f.place f.row f.has;
+      found = ap (row_in t.rows) (sym f.state) ∙ row_in-at t p f.place f.row f.has;
     }
 
 -- the cell of that row at a class is in the table

@@ -3,9 +3,9 @@ use Rattle.std.proofs.Common.{ℕ, zero, suc, ◌≡◌, ◌∙◌, ◌+◌, ◌
 use Rattle.std.proofs.Common.{inl, inr, refl, sym, ap, ap₂, subst, arith, take}
 use Rattle.std.proofs.lemmas.Bool.{cases_lt}
 use Rattle.std.proofs.Math.Seq.{take-append_seam}
-use Rattle.automata_hybrid.proofs.Words.{AreUnsplit, Forward, HasReadNoQuit, Input, Known, Machine, match_kind_of}
-use Rattle.automata_hybrid.proofs.Words.{MayStart, Pair, pass_trace, Powerset, SearchError, Skips, start_event}
-use Rattle.automata_hybrid.proofs.Words.{state_in, tape_in, unit_event, WalksAreReported}
+use Rattle.automata_hybrid.proofs.Words.{AreUnsplit, Forward, HasReadNoQuit, Input, Known, Machine, MayStart, Pair}
+use Rattle.automata_hybrid.proofs.Words.{pass_trace, Powerset, SearchError, Skips, start_event, state_in, tape_in}
+use Rattle.automata_hybrid.proofs.Words.{unit_event, WalksAreReported}
 use Rattle.automata_hybrid.specs.Known.Bounds.{IsKnown}
 use Rattle.automata_hybrid.specs.Known.Cached.{KnowsItsStart, KnowsUnit}
 use Rattle.automata_hybrid.specs.Known.Growth.{ClearedNothing, IsGrown}
@@ -30,6 +30,7 @@ use Rattle.automata_hybrid.proofs.Walks.Follows.{at_state}
 use Rattle.automata_hybrid.proofs.Walks.Progress.{left_reads, of_input, walk_reads_before}
 use Rattle.automata_hybrid.proofs.Walks.Reports.{Begins, walked_begin}
 use Rattle.automata_hybrid.proofs.Walks.Sets.{reported_one}
+use Rattle.automata_hybrid.proofs.Machines.Powersets.{walks_are}
 
 -- a walk has not begun, or its start state and all transitions that it took are cached
 abbrev HasLearnedWalk : Machine → Known → Input → Walk → Type 0
@@ -328,6 +329,6 @@ module _ (m : Machine) (bounds : HasBounds m) (skips : Skips m ⊎ (Skips m → 
 pub sets_follow : (m : Machine) → HasBounds m → Skips m ⊎ (Skips m → ⊥) → WalksAreReported m.nfa → SetsFollow m
 sets_follow m bounds skips reported input set joined old new None sound s =
     set_called m bounds skips input set
-    (reported Forward (match_kind_of m.config) input) old sound new s.calls s.walk s.called s.last
+    (walks_are Forward m input reported) old sound new s.calls s.walk s.called s.last
 sets_follow m bounds skips reported input set joined old new (Some e) sound s =
-    set_left m bounds skips input set (reported Forward (match_kind_of m.config) input) old sound joined new e s
+    set_left m bounds skips input set (walks_are Forward m input reported) old sound joined new e s

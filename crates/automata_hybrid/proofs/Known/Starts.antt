@@ -14,8 +14,8 @@ use Rattle.std.proofs.lemmas.List.{get_or_append_left, get_or-append-add, length
 use Rattle.automata_hybrid.specs.Private.Cache.Clears.{keep_found}
 use Rattle.automata_hybrid.specs.Private.Cache.Clears.{with_row_once}
 use Rattle.automata_hybrid.specs.Known.Known.{keep_start}
-use Rattle.automata_hybrid.proofs.Caches.Clears.{with_row_once-of}
-use Rattle.automata_hybrid.proofs.Caches.Rows.{Names-more, Names-new, inside}
+use Rattle.automata_hybrid.proofs.Storage.Clears.{with_row_once-of}
+use Rattle.automata_hybrid.proofs.Storage.Rows.{Names-more, Names-new, inside}
 use Rattle.automata_hybrid.proofs.Known.Rows.{HasPlaces, Met, NamedRow, named_row, row_in-Met, row_in-is}
 
 -- what an ID in a slot names
@@ -248,7 +248,7 @@ keeps_row old starts rows k id start q wide i r f =
       of = with_row_once-of k.table r.row ∙ i.of;
       rows_are =
           rows_once k.table r.row ∙ ap (λ rs. keep_row rs (Some r.row)) i.rows_are
-          ∙ ap (keep_row rows) (sym r.met) ∙ ap (λ o. keep_row rows (option_and_then (row_in old.rows) o)) (sym f);
+          ∙ ap (keep_row rows) (sym r.found) ∙ ap (λ o. keep_row rows (option_and_then (row_in old.rows) o)) (sym f);
       unwritten =
           unwritten_once k.table r.row (subst (λ (m : Machine). length m.template ≡ m.stride) (sym i.of) wide)
           i.unwritten;

@@ -13,8 +13,8 @@ use Rattle.std.proofs.lemmas.List.{get_or-set_same, get_or-set_other, get_or_app
 use Rattle.std.proofs.lemmas.Nat.{same_from_place}
 use Rattle.automata_base.proofs.Paths.Orders.{none_some, some_inj}
 use Rattle.automata_hybrid.specs.Known.Stores.{has_steps_at}
-use Rattle.automata_hybrid.proofs.Caches.Places.{tags_mod}
-use Rattle.automata_hybrid.proofs.Caches.Rows.{Names-new, find_id-push_other}
+use Rattle.automata_hybrid.proofs.Storage.Places.{tags_mod}
+use Rattle.automata_hybrid.proofs.Storage.Rows.{Names-new, find_id-push_other}
 use Rattle.automata_hybrid.proofs.Known.Rows.{HasPlaces, NamedRow, cell_inside, named_row, places_before}
 use Rattle.automata_hybrid.proofs.Known.Starts.{IsUnwritten}
 

@@ -4,12 +4,12 @@ use Rattle.automata_hybrid.proofs.Words.{CacheView, cleared, id_of, is_some, IsM
 use Rattle.automata_hybrid.proofs.Words.{LeadsToNamed, Machine, Names, option_map, Powerset, Row, row_in, StepError}
 use Rattle.automata_hybrid.proofs.Words.{Stored, with_new_row}
 use Rattle.automata_config.specs.declared.error.StepError.TheVariants as step
-use Rattle.automata_hybrid.specs.Known.Walks.{GivesUpOnIt, IsNotBack, RunsOutOnIt, with_row_back}
+use Rattle.automata_hybrid.specs.Known.Walks.{GivesUpOnIt, IsNotRestored, RunsOutOnIt, with_restored_row}
 use Rattle.automata_hybrid.specs.Private.Cache.Growth.{AddFails, HasAdded}
 use Rattle.automata_hybrid.specs.Private.Searches.PassState.{step_error}
-use Rattle.automata_hybrid.proofs.Caches.Places.{Names-alive}
+use Rattle.automata_hybrid.proofs.Storage.Places.{Names-alive}
 use Rattle.automata_hybrid.proofs.Known.Events.{gives_up_if, gives_up_so, store_places}
-use Rattle.automata_hybrid.proofs.Known.Made.{put_back_known}
+use Rattle.automata_hybrid.proofs.Known.Made.{restored_known}
 use Rattle.automata_hybrid.proofs.Known.Rooms.{known_with, state_there}
 use Rattle.automata_hybrid.proofs.Known.Rows.{row_in-is}
 
@@ -29,37 +29,37 @@ no_row c q none = go (row_in c.table.rows q) refl where
       ap is_some (sym none) ∙ row_in-is c.table.of.stride (3 * c.table.of.stride) q c.table.rows ∙ ap is_some e in
       absurd (cc)
 
--- a state that is there is not put back
+-- a state that is there is not restored
 pub row_there :
     (m : Machine) (q : Powerset) (id : ℕ) (c : CacheView) → Names c.store.table id q
-    → with_row_back m q (known_of c) ≡ Some (known_of c)
+    → with_restored_row m q (known_of c) ≡ Some (known_of c)
 row_there m q id c named =
     ap
     (λ b. cond b (Some (known_of c))
     (with_new_row m (cleared (known_of c)) (record { state = q; started = false }) (known_of c)))
     (state_there c.store c.count id q (LeadsToNamed named))
 
--- a state that was not there is put back
-row_back_here :
+-- a state that was not there is restored
+restored_row_here :
     (q : Powerset) (old new : CacheView) → IsMachine old.store.table.of → IsStoreOf old.store old.store.table.of
     → IsStoreOf new.store old.store.table.of → id_of old.store.table q ≡ None → (id : ℕ)
     → HasAdded old new (record { state = q; started = false }) id
-    → with_row_back old.store.table.of q (known_of old) ≡ Some (known_of new)
-row_back_here q old new machine sound after none id adds =
-    put_back_known old.store new.store old.count sound (store_places old.store.table.of old.store machine sound)
+    → with_restored_row old.store.table.of q (known_of old) ≡ Some (known_of new)
+restored_row_here q old new machine sound after none id adds =
+    restored_known old.store new.store old.count sound (store_places old.store.table.of old.store machine sound)
     (store_places old.store.table.of new.store machine after) after.of (record { state = q; started = false })
     (none, Names-alive new.store.table id q after.rows adds.row.named) adds.row.effect
     ∙ ap (λ n. Some (known_with new.store n)) (sym adds.counted)
 
-pub row_back :
+pub restored_row :
     (m : Machine) (q : Powerset) (old new : CacheView) → IsMachine m → IsStoreOf old.store m → IsStoreOf new.store m
     → id_of old.store.table q ≡ None → (id : ℕ) → HasAdded old new (record { state = q; started = false }) id
-    → with_row_back m q (known_of old) ≡ Some (known_of new)
-row_back m q old new machine sound after none id adds =
+    → with_restored_row m q (known_of old) ≡ Some (known_of new)
+restored_row m q old new machine sound after none id adds =
     subst
     (λ (d : Machine). IsMachine d → IsStoreOf old.store d → IsStoreOf new.store d
-    → with_row_back d q (known_of old) ≡ Some (known_of new))
-    sound.of (λ d s a. row_back_here q old new d s a none id adds) machine sound after
+    → with_restored_row d q (known_of old) ≡ Some (known_of new))
+    sound.of (λ d s a. restored_row_here q old new d s a none id adds) machine sound after
 
 -- a state that was not there could not be added
 none_of : (o : Option Known) → option_map (λ c. c) o ≡ None → o ≡ None
@@ -69,10 +69,10 @@ none_of (Some c) e = cc
 fails_here :
     (q : Powerset) (old new : CacheView) (e : StepError) (at : ℕ) → IsStoreOf old.store old.store.table.of
     → id_of old.store.table q ≡ None → AddFails old new q e
-    → IsNotBack old.store.table.of q at (known_of old) (known_of new) (step_error e at)
+    → IsNotRestored old.store.table.of q at (known_of old) (known_of new) (step_error e at)
 fails_here q old new (step.Cache err) at sound none fails =
     GivesUpOnIt
-    (none_of (with_row_back old.store.table.of q (known_of old))
+    (none_of (with_restored_row old.store.table.of q (known_of old))
     (gives_up_if old.store old.count (cleared (known_of old)) (record { state = q; started = false }) (λ k. k) sound
     (fails.gives_up.0 tt)))
     refl (ap known_of fails.kept)
@@ -86,8 +86,8 @@ fails_here q old new step.OutOfMemory at sound none fails =
 pub row_fails :
     (m : Machine) (q : Powerset) (old new : CacheView) (e : StepError) → IsStoreOf old.store m
     → id_of old.store.table q ≡ None → AddFails old new q e → (at : ℕ)
-    → IsNotBack m q at (known_of old) (known_of new) (step_error e at)
+    → IsNotRestored m q at (known_of old) (known_of new) (step_error e at)
 row_fails m q old new e sound none fails at =
     subst
-    (λ (d : Machine). IsStoreOf old.store d → IsNotBack d q at (known_of old) (known_of new) (step_error e at))
+    (λ (d : Machine). IsStoreOf old.store d → IsNotRestored d q at (known_of old) (known_of new) (step_error e at))
     sound.of (λ s. fails_here q old new e at s none fails) sound

@@ -215,8 +215,7 @@ module _ (m : Machine) (q : Powerset) (piece : List ℕ) (old new : PiecesView) 
     stops : input.earliest ≡ true → (found ≡ None → ⊥) → (j : ℕ) → suc (n + k) ≤ j → Reads Forward m input j → ⊥
     stops first some j l r =
         some_half some (ap (half_of Forward input)
-        (sym (reported_stays (match_kind_of m.config) input.earliest m.nfa input.anchored (tape_in Forward input)
-        (suc (n + k)) j
+        (sym (reported_stays input.earliest (λ i. state_in Forward m input i) (suc (n + k)) j
         (reported_in Forward m input (suc (n + k))) l first refl (λ f. some_half some (ap (half_of Forward input) f)))
         ∙ r.2 first))
 

@@ -1,9 +1,10 @@
 -- The effect of the calls of a search in pieces on what their cache knows, by the effect of their parts.
-use Rattle.std.proofs.Common.{ℕ, ◌≡◌, ◌∙◌, sym, ap, subst, Bool, List, Option, Some}
+use Rattle.std.proofs.Common.{ℕ, ◌≡◌, ◌∙◌, ◌+◌, ◌<◌, ◌^◌, sym, ap, subst, arith, Bool, List, length, Option, Some}
 use Rattle.automata_hybrid.proofs.Words.{after_event, begun, CacheView, ended, HalfMatch, known_of, Machine, moved}
 use Rattle.automata_hybrid.proofs.Words.{Names, option_map, progress_finished, progress_started, ReadFails, SearchError}
 use Rattle.automata_hybrid.proofs.Words.{Step, with_searched, with_store}
-use Rattle.automata_hybrid.specs.Known.Pieces.{AtByte, AtEnd, AnswerEnds, FailsAtEnd, GoesOn, AnswerFails, PieceFails}
+use Rattle.automata_hybrid.specs.Known.Pieces.{AtByte, AtEnd, AnswerEnds, BeginsPiece, FailsAtEnd, GoesOn, AnswerFails}
+use Rattle.automata_hybrid.specs.Known.Pieces.{PieceFails}
 use Rattle.automata_hybrid.specs.Pieces.State.{PiecesView}
 use Rattle.automata_hybrid.specs.Private.Pieces.State.{HasResumed}
 use Rattle.automata_hybrid.specs.Searches.PieceRuns.{piece_input, piece_trace}
@@ -17,6 +18,12 @@ use Rattle.automata_hybrid.specs.declared.search.pieces.PieceEnd.TheVariants.{Ov
 module _ {m : Machine} {p : PiecesView} {old row : CacheView} {id : ℕ} (on : HasResumed m p old row id) where
   pub goes_on : (at : ℕ) → GoesOn m p on.state at (known_of old) (begun at (known_of row))
   goes_on at = record { from = on.stood; begins = ap (option_map (begun at)) on.back }
+
+  -- it begins with a piece whose bytes can be counted
+  pub begins_piece :
+      (piece : List ℕ) (base : ℕ) → base ≡ p.read → base + length piece < 2 ^ 64
+      → BeginsPiece m piece p on.state (known_of old) (begun 0 (known_of row))
+  begins_piece piece base reads fits = record { goes_on = goes_on 0; fits = omega (arith, reads, fits) }
 
   -- it begins at the offset of the unit that follows
   module _ {begins : CacheView} {at : ℕ} (reads : at ≡ p.read)
@@ -83,9 +90,9 @@ module _ {m : Machine} {p : PiecesView} {old row : CacheView} {id : ℕ} (on : H
         through (run_ends end run)
 
     pub run_left :
-        {base : ℕ} {e : SearchError} → base ≡ p.read → PieceFailsAtUnit m piece earliest id base row new e
-        → PieceFails m piece p (known_of old) (known_of new) e
-    run_left {base} {e} reads stopped =
-        AtByte on.state (begun 0 (known_of row)) (goes_on 0)
+        {base : ℕ} {e : SearchError} → base ≡ p.read → base + length piece < 2 ^ 64
+        → PieceFailsAtUnit m piece earliest id base row new e → PieceFails m piece p (known_of old) (known_of new) e
+    run_left {base} {e} reads fits stopped =
+        AtByte on.state (begun 0 (known_of row)) (begins_piece piece base reads fits)
         (subst (λ b. PieceFailsAtUnit m piece p.earliest id b row new e) reads
         (subst (λ v. PieceFailsAtUnit m piece v id base row new e) first stopped) on.state on.named)

@@ -2,17 +2,16 @@
 use Rattle.std.proofs.Common.{ℕ, zero, suc, ◌≡◌, ◌<◌, ◌≤◌, ◌+◌, ◌-◌, ◌^◌, ◌⊎◌, inl, inr, Bool, true, false, List, []}
 use Rattle.std.proofs.Common.{◌∷◌, length, Option, Some, None, refl, sym, ap, ap₂, ◌∙◌, subst, arith}
 use Rattle.std.proofs.lemmas.Bool.{cases_lt}
-use Rattle.automata_hybrid.proofs.Words.{earlier_or, first_among, first_reported, Forward, half_of, HalfMatch}
-use Rattle.automata_hybrid.proofs.Words.{HasReadNoQuit, IfSome, Input, is_quit, Machine, match_kind_of, next, Pair}
-use Rattle.automata_hybrid.proofs.Words.{pair_at, Powerset, reported_at, reported_in, reported_upto, slice_get}
-use Rattle.automata_hybrid.proofs.Words.{state_in, successor, tape_in}
+use Rattle.automata_hybrid.proofs.Words.{earlier_or, first_among, Forward, half_of, HalfMatch, HasReadNoQuit, IfSome}
+use Rattle.automata_hybrid.proofs.Words.{Input, is_quit, Machine, match_kind_of, next, Pair, pair_at, Powerset}
+use Rattle.automata_hybrid.proofs.Words.{reported_in, slice_get, state_in, successor, tape_in}
 use Rattle.automata_base.specs.Haystacks.Tapes.{forward_tape}
-use Rattle.automata_determinize.specs.Retraced.Passes.{last_among, last_reported}
+use Rattle.automata_determinize.specs.Retraced.Passes.{last_among}
 use Rattle.automata_base.proofs.Answers.Bytes.{forward_next, nth_between}
 use Rattle.automata_hybrid.specs.Pieces.Answers.{IsPieceAt, from_first}
 use Rattle.automata_hybrid.specs.Private.Pieces.State.{found_in}
 use Rattle.automata_hybrid.specs.Searches.PieceRuns.{piece_input, piece_state, piece_trace}
-use Rattle.automata_hybrid.specs.Searches.Traces.{reported_along}
+use Rattle.automata_hybrid.specs.Searches.Passes.{reported_along}
 use Rattle.automata_hybrid.proofs.Searches.PassState.{state_more}
 use Rattle.automata_hybrid.proofs.Searches.Traces.{half_of_none, earlier_none}
 
@@ -132,16 +131,15 @@ module _ (m : Machine) (input : Input) (n : ℕ) (q : Powerset) (piece : List �
 
   reported_by :
       (e : Bool) (k : ℕ) → k ≤ length piece
-      → reported_upto (match_kind_of m.config) e m.nfa input.anchored (tape_in Forward input) (n + k)
+      → reported_along e (λ i. state_in Forward m input i) (n + k)
       ≡ joined e (shifted n (reported_along e (λ i. piece_state m piece q i) k))
-      (reported_upto (match_kind_of m.config) e m.nfa input.anchored (tape_in Forward input) n)
-  unfolding last_reported first_reported
+      (reported_along e (λ i. state_in Forward m input i) n)
   reported_by false k l =
-      last_split (reported_at m.nfa (match_kind_of m.config) input.anchored (tape_in Forward input))
+      last_split (λ i. (state_in Forward m input (suc i)).patterns)
       (λ i. (piece_state m piece q (suc i)).patterns) n k
       (λ i low. ap (λ (p : Powerset). p.patterns) (pass_next i (omega (arith, low, l))))
   reported_by true k l =
-      first_split (reported_at m.nfa (match_kind_of m.config) input.anchored (tape_in Forward input))
+      first_split (λ i. (state_in Forward m input (suc i)).patterns)
       (λ i. (piece_state m piece q (suc i)).patterns) n k
       (λ i low. ap (λ (p : Powerset). p.patterns) (pass_next i (omega (arith, low, l))))
 

@@ -122,13 +122,6 @@ at_state w q stood some = ap (λ s. patterns_at s w.found) stood ∙ go w.found 
   go None some = absurd (some refl)
   go (Some half) some = refl
 
--- if no match was found, there are no patterns here
-at_none : (w : PiecesView) → w.found ≡ None → patterns_here w ≡ []
-at_none w none = ap (patterns_at w.state) none ∙ go w.state where
-  go : (state : Option Powerset) → patterns_at state None ≡ []
-  go None = refl
-  go (Some q) = refl
-
 pub stands_as :
     (t : Rows) (id count count' : ℕ) (half half' : Option HalfMatch) (old new : PiecesView)
     → StandsInRow t id count half old new → count ≡ count' → half ≡ half' → StandsInRow t id count' half' old new
@@ -156,7 +149,7 @@ walks_none m piece w none found = record {
         AtPieceEnd refl
             (λ j from to. ap (λ (q : Powerset). q.patterns)
             (dead_more Forward m input k (suc j) (omega (arith, from)) dies))
-            (at_none w found),
+            found,
       );
 }
 
@@ -220,7 +213,7 @@ module _ (m : Machine) (q : Powerset) (piece : List ℕ) (old new : PiecesView) 
             };
             over = λ e. absurd (stands.some e);
           },
-          AtPieceEnd refl (silent_on input n (length piece) given here (omega arith) none) (at_none new stands.found),
+          AtPieceEnd refl (silent_on input n (length piece) given here (omega arith) none) stands.found,
         );
   }
 
@@ -251,12 +244,16 @@ module _ (m : Machine) (q : Powerset) (piece : List ℕ) (old new : PiecesView) 
         go (FindsThere early some) =
             absurd (some (half_of_none Forward (piece_input piece old.earliest) _ (sym reported ∙ none)))
 
-      -- if a match is found there, the state after that byte has a row
+      -- if a match is found there, the state after that byte is not dead
+      pub alive_upto : (found ≡ None → ⊥) → piece_state m piece q (suc i) ≡ dead → ⊥
+      alive_upto some dies =
+          some (found_is ∙ half_empty (states i) (0 + i) (ap (λ (p : Powerset). p.patterns) dies))
+
+      -- so it has a row
       pub named_upto :
           (t : Rows) (id : ℕ) → (found ≡ None → ⊥) → Leads t id (piece_state m piece q (suc i))
           → Names t id (piece_state m piece q (suc i))
-      named_upto t id some (LeadsToDead is dies) =
-          absurd (some (found_is ∙ half_empty (states i) (0 + i) (ap (λ (p : Powerset). p.patterns) dies)))
+      named_upto t id some (LeadsToDead is dies) = absurd (alive_upto some dies)
       named_upto t id some (LeadsToNamed named) = named
 
       -- nothing can match after that byte
@@ -278,7 +275,7 @@ module _ (m : Machine) (q : Powerset) (piece : List ℕ) (old new : PiecesView) 
                 over = λ e. dead_more Forward m input (suc (n + i)) (n + length piece) (omega (arith, low)) dies;
               },
               AtPieceEnd refl (λ j from to. go input n given here dies j from to (cases_lt j (n + i)))
-                  (at_none new here_none),
+                  here_none,
             );
       } where
         go :

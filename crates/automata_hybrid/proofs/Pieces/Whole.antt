@@ -10,7 +10,7 @@ use Rattle.automata_hybrid.specs.Pieces.State.{PiecesView}
 use Rattle.automata_hybrid.specs.Pieces.Whole.{HasReadAll, PiecesAreWhole, bytes_of_pieces, whole_input}
 
 -- a piece lies in the joined haystack after the bytes before it
-piece_at : (mode : Anchored) (earliest : Bool) (xs piece rest : List ℕ)
+pub piece_at : (mode : Anchored) (earliest : Bool) (xs piece rest : List ℕ)
     → IsPieceAt (whole_input (xs ++ (piece ++ rest)) mode earliest) (length xs) piece
 piece_at mode earliest xs piece rest = record {
   within = omega (arith, whole);

@@ -6,6 +6,7 @@ use Rattle.automata_determinize.specs.Laws.Walks.{AreReported}
 use Rattle.automata_hybrid.specs.Searches.Agreement.{AnswersAgree, WalksAgree}
 use Rattle.automata_hybrid.specs.Walks.Answers.{AreWalked}
 use Rattle.automata_hybrid.proofs.Searches.Skips.{found_reported}
+use Rattle.automata_hybrid.proofs.Machines.Powersets.{reported_walked}
 
 pub answers_agree : ReportedIsOne → AnswersAgree
 answers_agree one way m other input first second nfa kind f s =
@@ -16,8 +17,11 @@ answers_agree one way m other input first second nfa kind f s =
 
 pub walks_agree : (m : Machine) → WalksAreReported m.nfa → WalksAgree m
 walks_agree m reported way other input first second first_reported second_reported k nfa kind f s f' s' =
-    let list : (pairs : List Pair) × AreWalked way m input pairs = reported way (match_kind_of m.config) input in
-    let same : AreWalked way other input list.0 =
-    subst (λ (a : Automaton). AreReported way a (match_kind_of other.config) input list.0) (sym nfa)
-    (subst (λ (l : MatchKind). AreReported way m.nfa l input list.0) (sym kind) list.1) in
-    ((f' k f).1 list.0 list.1).0 ∙ sym (((s' k s).1 list.0 same).0)
+    let list : (pairs : List Pair) × AreReported way m.nfa (match_kind_of m.config) input pairs =
+    reported way (match_kind_of m.config) input in
+    let here : AreWalked way m input list.0 = reported_walked way m input list.0 list.1 in
+    let there : AreWalked way other input list.0 =
+    reported_walked way other input list.0
+    (subst (λ (a : Automaton). AreReported way a (match_kind_of other.config) input list.0) (sym nfa)
+    (subst (λ (l : MatchKind). AreReported way m.nfa l input list.0) (sym kind) list.1)) in
+    ((f' k f).1 list.0 here).0 ∙ sym (((s' k s).1 list.0 there).0)

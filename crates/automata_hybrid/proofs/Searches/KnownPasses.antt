@@ -1,5 +1,5 @@
 -- Passes over cached transitions only: how they end, and their effect on what the cache knows.
-use Rattle.std.proofs.Common.{ℕ, suc, ◌≡◌, ◌+◌, ◌-◌, ◌<◌, ◌≤◌, ◌⊎◌, inl, inr, length, Option, None, Some, true, false}
+use Rattle.std.proofs.Common.{ℕ, suc, ◌≡◌, ◌+◌, ◌<◌, ◌≤◌, ◌⊎◌, inl, inr, length, Option, None, Some, true, false}
 use Rattle.std.proofs.Common.{refl, sym, ap, subst, arith}
 use Rattle.std.proofs.lemmas.Bool.{cases_lt}
 use Rattle.automata_hybrid.proofs.Words.{CacheView, dead, Direction, given_up_offset, half_at, HalfMatch, HasDeadTag}
@@ -19,7 +19,7 @@ use Rattle.automata_hybrid.proofs.Searches.PassContracts.{dead_answer, dead_stop
 use Rattle.automata_hybrid.proofs.Searches.PassContracts.{last_answer}
 use Rattle.automata_hybrid.proofs.Searches.PassState.{at_reads, more_leads, reads_before, stops_last}
 use Rattle.automata_hybrid.proofs.Steps.Steps.{no_quit_unit}
-use Rattle.automata_hybrid.proofs.Caches.Searched.{searched_sound}
+use Rattle.automata_hybrid.proofs.Storage.Searched.{searched_sound}
 use Rattle.automata_hybrid.proofs.Steps.Ids.{dead_tagged, unquit}
 use Rattle.automata_hybrid.proofs.Searches.Goes.{goes_known, goes_none, pass_last}
 

@@ -1,13 +1,11 @@
 -- What a pass has found so far, unit by unit.
 use Rattle.std.proofs.Common.{ℕ, zero, suc, ◌≡◌, ◌<◌, ◌≤◌, ◌⊎◌, inl, inr, Bool, true, false, [], length, Option, Some}
 use Rattle.std.proofs.Common.{None, refl, sym, ap, ◌∙◌, subst, arith, eq-or-lt_of_le}
-use Rattle.automata_hybrid.proofs.Words.{Anchored, Automaton, dead, Direction, earlier_or, Err, first_reported, half_at}
-use Rattle.automata_hybrid.proofs.Words.{half_of, HalfMatch, IfErr, Input, is_quit, is_some, IsAt, Leads, Machine}
-use Rattle.automata_hybrid.proofs.Words.{match_kind_of, MatchKind, Names, next, offset_in, Ok, Pair, pair_at, Powerset}
-use Rattle.automata_hybrid.proofs.Words.{quit_behind, Reads, reported_at, reported_in, reported_upto, Result, Rows}
-use Rattle.automata_hybrid.proofs.Words.{start_state_of, state_in, successor, tape_in}
-use Rattle.automata_determinize.specs.Retraced.Passes.{state_after}
-use Rattle.automata_base.specs.Paths.Paths.{Tape}
+use Rattle.automata_hybrid.proofs.Words.{dead, Direction, Err, half_at, half_of, HalfMatch, IfErr, Input, is_quit}
+use Rattle.automata_hybrid.proofs.Words.{is_some, IsAt, Leads, Machine, match_kind_of, Names, next, offset_in, Ok, Pair}
+use Rattle.automata_hybrid.proofs.Words.{Powerset, quit_behind, Reads, reported_along, reported_in, Result, Rows}
+use Rattle.automata_hybrid.proofs.Words.{start_state_of, state_in, state_on, successor, tape_in}
+use Rattle.automata_determinize.proofs.Answers.Within.{first_stays}
 use Rattle.automata_determinize.proofs.Powersets.Alike.{dead_stays}
 use Rattle.std.specs.Result.{IsErrAnd}
 use Rattle.automata_hybrid.specs.Searches.PassState.{found_over}
@@ -73,28 +71,15 @@ pub found_dead :
 found_dead way m input k l e =
     ap (half_of way input) (sym (dead_reports way m input k (length (tape_in way input).bytes) l e))
 
-first_stays :
-    (kind : MatchKind) (a : Automaton) (mode : Anchored) (t : Tape) (k n : ℕ) (pair : Pair)
-    → k ≤ n → first_reported a kind mode t k ≡ Some pair → first_reported a kind mode t n ≡ Some pair
-unfolding first_reported
-first_stays kind a mode t k zero pair l e =
-    let z : k ≡ 0 = omega (arith, l) in subst (λ i. first_reported a kind mode t i ≡ Some pair) z e
-first_stays kind a mode t k (suc n) pair l e =
-    go (λ more. first_stays kind a mode t k n pair more e) (eq-or-lt_of_le l) where
-      go :
-          (k ≤ n → first_reported a kind mode t n ≡ Some pair) → (k ≡ suc n) ⊎ (k < suc n)
-          → first_reported a kind mode t (suc n) ≡ Some pair
-      go before (inl same) = subst (λ i. first_reported a kind mode t i ≡ Some pair) same e
-      go before (inr less) =
-          ap (λ o. earlier_or o (pair_at (reported_at a kind mode t n) n None)) (before (omega (arith, less)))
-
+-- what an earliest search has reported stays
 pub reported_stays :
-    (kind : MatchKind) (e : Bool) (a : Automaton) (mode : Anchored) (t : Tape) (k n : ℕ) (o : Option Pair)
-    → k ≤ n → e ≡ true → reported_upto kind e a mode t k ≡ o → (o ≡ None → ⊥)
-    → reported_upto kind e a mode t n ≡ reported_upto kind e a mode t k
-reported_stays kind false a mode t k n o l f e some = absurd (false_true f)
-reported_stays kind true a mode t k n None l f e some = absurd (some refl)
-reported_stays kind true a mode t k n (Some pair) l f e some = first_stays kind a mode t k n pair l e ∙ sym e
+    (e : Bool) (state : ℕ → Powerset) (k n : ℕ) (o : Option Pair)
+    → k ≤ n → e ≡ true → reported_along e state k ≡ o → (o ≡ None → ⊥)
+    → reported_along e state n ≡ reported_along e state k
+reported_stays false state k n o l f e some = absurd (false_true f)
+reported_stays true state k n None l f e some = absurd (some refl)
+reported_stays true state k n (Some pair) l f e some =
+    first_stays (λ i. (state (suc i)).patterns) pair k n l e ∙ sym e
 
 -- an earliest pass that has found something has found what it answers
 pub found_first :
@@ -104,7 +89,7 @@ pub found_first :
     → half_of way input (reported_in way m input k) ≡ found_over way m input
 found_first way m input k l e some =
     ap (half_of way input)
-    (sym (reported_stays (match_kind_of m.config) input.earliest m.nfa input.anchored (tape_in way input) k
+    (sym (reported_stays input.earliest (λ i. state_in way m input i) k
     (suc (length (tape_in way input).bytes)) (reported_in way m input k) l e refl
     (λ f. some (ap (half_of way input) f))))
 
@@ -145,8 +130,7 @@ reads_before way m input j k l reads = (
   none early None e = e
   none early (Some pair) e =
       let stays : reported_in way m input k ≡ reported_in way m input j =
-      reported_stays (match_kind_of m.config) input.earliest m.nfa input.anchored (tape_in way input) j k (Some pair) l
-      early e some_none in
+      reported_stays input.earliest (λ i. state_in way m input i) j k (Some pair) l early e some_none in
       absurd (some_none (sym e ∙ (sym stays ∙ reads.2 early)))
 
 -- nothing is read after the last unit
@@ -216,7 +200,7 @@ module _ (way : Direction) (m : Machine) (t t' : Rows) (input : Input) (k id id'
       Reports → input.earliest ≡ true → (found' ≡ None → ⊥) → (j : ℕ) → suc k ≤ j → Reads way m input j → ⊥
   stops_ends reports e some j l r =
       some (more_found reports ∙ ap (half_of way input)
-      (sym (reported_stays (match_kind_of m.config) input.earliest m.nfa input.anchored (tape_in way input) (suc k) j
+      (sym (reported_stays input.earliest (λ i. state_in way m input i) (suc k) j
       (reported_in way m input (suc k)) l e refl
       (λ f. some (more_found reports ∙ ap (half_of way input) f))) ∙ r.2 e))
 
@@ -278,5 +262,5 @@ none_is (Some half) h = absurd (false_true (sym h))
 pub state_first :
     (way : Direction) (m : Machine) (input : Input)
     → start_state_of m.nfa input.anchored (tape_in way input).before ≡ state_in way m input 0
-unfolding state_after
+unfolding state_on
 state_first way m input = refl

@@ -13,7 +13,7 @@ use Rattle.automata_hybrid.specs.Known.Pieces.{AnswerStands, DiesThere, FailsAlo
 use Rattle.automata_hybrid.specs.Searches.PieceRuns.{ReadsAlong, piece_input, piece_trace}
 use Rattle.automata_hybrid.specs.Private.Searches.PieceRuns.{HasOffset, IsOverAlong, error_from}
 use Rattle.automata_hybrid.specs.Private.Searches.Units.{FailsToRead, HasRead}
-use Rattle.automata_hybrid.proofs.Caches.Places.{Names-Placed, Placed-HasState}
+use Rattle.automata_hybrid.proofs.Storage.Places.{Names-Placed, Placed-HasState}
 use Rattle.automata_hybrid.proofs.Searches.Directions.{quit_free}
 use Rattle.automata_hybrid.proofs.Searches.Goes.{GoesToAlong, ended_here, goes_all, goes_more, left_along, taken_along}
 use Rattle.automata_hybrid.proofs.Searches.Traces.{at_along, clean_along, half_of_none, leads_along, more_along}

@@ -6,10 +6,11 @@ use Rattle.automata_hybrid.proofs.Words.{Machine, match_kind_of, No, offset_in, 
 use Rattle.automata_base.specs.Answers.Answers.{IsSplit, SpanIsDone, SpanReportsNone}
 use Rattle.automata_base.specs.Answers.Answers.{StopsAtSplit}
 use Rattle.automata_base.specs.Answers.Answers.{SkipsToIt}
-use Rattle.automata_determinize.specs.Answers.OfPasses.{ReportsOver, IsReported, reported_over}
+use Rattle.automata_determinize.specs.Answers.OfPasses.{ReportsOver, IsReported}
 use Rattle.automata_determinize.proofs.Answers.Turning.{turn_answers}
 use Rattle.automata_hybrid.specs.Searches.PassState.{found_over}
-use Rattle.automata_hybrid.specs.Searches.Passes.{MeetsNoQuit}
+use Rattle.automata_hybrid.specs.Searches.Passes.{MeetsNoQuit, report_in}
+use Rattle.automata_hybrid.proofs.Machines.Powersets.{report_of_nfa}
 use Rattle.automata_hybrid.proofs.Searches.PassState.{false_true}
 use Rattle.automata_hybrid.proofs.Searches.Traces.{half_of_none}
 use Rattle.automata_base.proofs.Answers.Answered.{haystack_later}
@@ -68,20 +69,20 @@ module _ (way : Direction) (m : Machine) (input now : Input) (k : ℕ) (same : n
   -- it found nothing
   pub finds_none : None ≡ found_over way m now → MeetsNoQuit way m now → IsFound way m input None
   finds_none e c =
-      let none : reported_over way m.nfa (match_kind_of m.config) (later way k input) ≡ None =
+      let none : report_in way m (later way k input) ≡ None =
       half_of_none way (later way k input) _ (sym (there None e)) in
       (k, tries, SpanReportsNone (sym none, clear c))
 
   stands :
       (half : HalfMatch) → Some half ≡ found_over way m now
-      → Stands way (later way k input) (reported_over way m.nfa (match_kind_of m.config) (later way k input)) half
+      → Stands way (later way k input) (report_in way m (later way k input)) half
   stands half e =
-      half_stands way (later way k input) (reported_over way m.nfa (match_kind_of m.config) (later way k input)) half
+      half_stands way (later way k input) (report_in way m (later way k input)) half
       (there (Some half) e)
 
   split_at :
       (half : HalfMatch)
-      (s : Stands way (later way k input) (reported_over way m.nfa (match_kind_of m.config) (later way k input)) half)
+      (s : Stands way (later way k input) (report_in way m (later way k input)) half)
       → is_split now.haystack half.offset ≡ is_split input.haystack (offset_in way (later way k input) s.pair.place)
   split_at half s =
       ap₂ is_split (ap (λ (i : Input). i.haystack) same ∙ haystack_later way k input) s.offset
@@ -91,7 +92,7 @@ module _ (way : Direction) (m : Machine) (input now : Input) (k : ℕ) (same : n
       (half : HalfMatch) → Some half ≡ found_over way m now → MeetsNoQuit way m now
       → (Skips m → is_split now.haystack half.offset ≡ false) → IsFound way m input (Some (with_base half now.start))
   finds_some half e c keeps =
-      let s : Stands way (later way k input) (reported_over way m.nfa (match_kind_of m.config) (later way k input))
+      let s : Stands way (later way k input) (report_in way m (later way k input))
       half = stands half e in (
         k,
         tries,
@@ -110,7 +111,7 @@ module _ (way : Direction) (m : Machine) (input now : Input) (k : ℕ) (same : n
       (half : HalfMatch) → Some half ≡ found_over way m now → MeetsNoQuit way m now
       → is_split now.haystack half.offset ≡ true → IsSplit (Finds way m) way (later way k input)
   split_there half e c split =
-      let s : Stands way (later way k input) (reported_over way m.nfa (match_kind_of m.config) (later way k input))
+      let s : Stands way (later way k input) (report_in way m (later way k input))
       half = stands half e in (
         s.pair,
         (sym s.reported, clear c),
@@ -135,7 +136,7 @@ module _ (way : Direction) (m : Machine) (input now : Input) (k : ℕ) (same : n
   pub none_stops : None ≡ found_over way m now → (j : ℕ) → k < j → Tries (Finds way m) (Skips m) way input j → ⊥
   none_stops e j less tried =
       let split : IsSplit (Finds way m) way (later way k input) = (tried.before k less).1 in
-      let none : reported_over way m.nfa (match_kind_of m.config) (later way k input) ≡ None =
+      let none : report_in way m (later way k input) ≡ None =
       half_of_none way (later way k input) _ (sym (there None e)) in
       some_none (split.1.0 ∙ none)
 
@@ -147,7 +148,7 @@ module _ (way : Direction) (m : Machine) (input now : Input) (k : ℕ) (same : n
     go : Skips m × (input.anchored ≡ No) → ⊥
     go skips =
         let split : IsSplit (Finds way m) way (later way k input) = (tried.before k less).1 in
-        let s : Stands way (later way k input) (reported_over way m.nfa (match_kind_of m.config) (later way k input))
+        let s : Stands way (later way k input) (report_in way m (later way k input))
         half = stands half e in
         let same : split.0 ≡ s.pair = some_inj (split.1.0 ∙ s.reported) in
         let place : is_split (later way k input).haystack (offset_in way (later way k input) s.pair.place) ≡ true =
@@ -175,4 +176,4 @@ pub found_reported :
     → IsFound way m input o → IsReported way m.nfa (match_kind_of m.config) input o
 found_reported way m input o found =
     turn_answers (Finds way m) (ReportsOver way m.nfa (match_kind_of m.config)) (Skips m) way input
-    (λ k reported l f. f.0) o found
+    (λ k reported l f. f.0 ∙ report_of_nfa way m (later way k input)) o found

@@ -2,29 +2,17 @@
 use Rattle.std.proofs.Common.{ℕ, suc, ◌≡◌, ◌<◌, ◌≤◌, ◌⊎◌, inl, inr, Bool, true, false, List, [], ◌∷◌, Option, Some}
 use Rattle.std.proofs.Common.{None, refl, sym, ap, ◌∙◌, subst, arith}
 use Rattle.std.proofs.lemmas.Bool.{cases_lt}
-use Rattle.automata_hybrid.proofs.Words.{Anchored, Automaton, Direction, earlier_or, first_among, first_reported}
-use Rattle.automata_hybrid.proofs.Words.{half_at, half_of, HalfMatch, Input, is_quit, IsAtAlong, IsTrace, Leads}
-use Rattle.automata_hybrid.proofs.Words.{Machine, match_kind_of, MatchKind, Names, next, offset_in, Pair, pair_at}
-use Rattle.automata_hybrid.proofs.Words.{pass_trace, Powerset, reported_upto, Rows, successor, tape_in, Trace}
-use Rattle.automata_base.specs.Paths.Paths.{Tape}
-use Rattle.automata_determinize.specs.Retraced.Passes.{last_among, last_reported}
-use Rattle.automata_determinize.specs.Retraced.Passes.{state_after}
-use Rattle.automata_hybrid.specs.Searches.Traces.{reported_along}
-
-pass_reports :
-    (kind : MatchKind) (e : Bool) (a : Automaton) (mode : Anchored) (t : Tape) (k : ℕ)
-    → reported_upto kind e a mode t k ≡ reported_along e (λ i. state_after a kind mode t i) k
-unfolding last_reported first_reported
-pass_reports kind false a mode t k = refl
-pass_reports kind true a mode t k = refl
+use Rattle.automata_hybrid.proofs.Words.{Direction, earlier_or, first_among, half_at, half_of, HalfMatch, Input}
+use Rattle.automata_hybrid.proofs.Words.{is_quit, IsAtAlong, IsTrace, Leads, Machine, match_kind_of, Names, next}
+use Rattle.automata_hybrid.proofs.Words.{offset_in, Pair, pair_at, pass_trace, Powerset, Rows, state_on, successor}
+use Rattle.automata_hybrid.proofs.Words.{tape_in, Trace}
+use Rattle.automata_determinize.specs.Retraced.Passes.{last_among}
+use Rattle.automata_hybrid.specs.Searches.Passes.{reported_along}
 
 -- a pass runs along its trace
 pub pass_is_trace : (way : Direction) (m : Machine) (input : Input) → IsTrace way m input (pass_trace way m input)
-unfolding state_after
-pass_is_trace way m input = record {
-  steps = λ k. refl;
-  reports = λ k. pass_reports (match_kind_of m.config) input.earliest m.nfa input.anchored (tape_in way input) k;
-}
+unfolding state_on
+pass_is_trace way m input = record { steps = λ k. refl; reports = λ k. refl }
 
 pub half_of_none : (way : Direction) (input : Input) (o : Option Pair) → half_of way input o ≡ None → o ≡ None
 half_of_none way input None e = refl

@@ -10,7 +10,7 @@ use Rattle.automata_hybrid.proofs.Words.{state_in, successor, tape_in, with_base
 use Rattle.automata_hybrid.specs.Searches.PassContracts.{IsUnderway}
 use Rattle.automata_hybrid.specs.Steps.BySteps.{FirstMatchIsFound, HasPatterns, IsFirstMatch, IsFirstPattern, IsStepAt}
 use Rattle.automata_hybrid.specs.Steps.BySteps.{IsUnitAt, StandsAt, IsDead, IsUnmatched, LeadsToId}
-use Rattle.automata_hybrid.proofs.Caches.Places.{bit_of, zero_one}
+use Rattle.automata_hybrid.proofs.Storage.Places.{bit_of, zero_one}
 use Rattle.automata_hybrid.proofs.Searches.PassState.{clean_dead, clean_ends, clean_last, clean_start, more_at}
 use Rattle.automata_hybrid.proofs.Searches.PassState.{more_dead, more_ends, more_last, starts_at, starts_dead}
 use Rattle.automata_hybrid.proofs.Searches.PassState.{state_first, state_more}
@@ -21,12 +21,17 @@ use Rattle.automata_base.proofs.Paths.Orders.{some_none}
 use Rattle.automata_hybrid.proofs.Steps.Steps.{no_quit_unit}
 use Rattle.automata_hybrid.proofs.Fast.Runs.{first_half}
 use Rattle.automata_hybrid.proofs.Searches.Directions.{later_none}
+use Rattle.automata_hybrid.specs.Private.Cache.Sound.{IsSoundCacheOf}
 
 -- what reading the tags of a table's IDs requires: its machine, the limit on IDs, and a small stride
 pub record Tagged (m : Machine) (t : Rows) : Type 0 where
   pub of : t.of ≡ m
   pub low : (id : ℕ) (q : Powerset) → Names t id q → id < fixed_from
   pub small : t.of.stride ≤ 512
+
+-- a sound cache has what it requires
+pub tagged_of : {c : CacheView} {m : Machine} → IsSoundCacheOf c m → Tagged m c.store.table
+tagged_of sound = record { of = sound.of; low = sound.table.low; small = sound.store.small }
 
 -- a search is at its start state
 pub stands_first :

@@ -8,7 +8,7 @@ use Rattle.automata_hybrid.proofs.Words.{WritesAdded, WritesKnown}
 use Rattle.automata_hybrid.specs.Private.Cache.Table.{HasCells, IsKnownState}
 use Rattle.automata_base.proofs.Paths.Orders.{none_some}
 use Rattle.std.proofs.lemmas.Bool.{cases_Bool}
-use Rattle.automata_hybrid.proofs.Caches.Rows.{find_id-push_other}
+use Rattle.automata_hybrid.proofs.Storage.Rows.{find_id-push_other}
 use Rattle.automata_base.proofs.Powersets.ListTests.{some_same}
 
 pub one_id : (t : Rows) (a b : ℕ) (q : Powerset) → Names t a q → Names t b q → a ≡ b

@@ -3,7 +3,7 @@ use Rattle.std.proofs.Common.{refl, sym, ap, subst, arith, get_or}
 use Rattle.automata_hybrid.proofs.Words.{CacheView, dead, HoldsRow, In, is_quit, IsBitSet, IsRowId, Leads, LeadsToDead}
 use Rattle.automata_hybrid.proofs.Words.{LeadsToNamed, Machine, match_kind_of, Names, Powerset, quit_id, Rows}
 use Rattle.automata_hybrid.proofs.Words.{successor, ◌↔◌}
-use Rattle.automata_hybrid.proofs.Caches.Places.{no_patterns, bit_of, zero_one}
+use Rattle.automata_hybrid.proofs.Storage.Places.{no_patterns, bit_of, zero_one}
 
 -- an ID that is not one of the fixed IDs is the ID of a row
 pub HoldsRow-valid : (c : CacheView) (id : ℕ) → HoldsRow c id → id < 2 ^ 29 → IsRowId c.store.table id

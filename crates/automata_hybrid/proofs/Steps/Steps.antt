@@ -18,7 +18,7 @@ use Rattle.automata_hybrid.specs.Cache.Table.{HasItsMatchTag}
 use Rattle.automata_hybrid.proofs.Steps.Effects.{cached-computed, one_id}
 use Rattle.automata_hybrid.proofs.Searches.PassState.{false_true}
 use Rattle.automata_hybrid.proofs.Steps.Starts.{leads_row}
-use Rattle.automata_hybrid.proofs.Caches.Rows.{leads_on}
+use Rattle.automata_hybrid.proofs.Storage.Rows.{leads_on}
 
 -- a step that is not cached from an ID is not cached from that ID's state
 pub step_unknown :

@@ -9,6 +9,7 @@ use Rattle.automata_hybrid.specs.Walks.Answers.{IsWalkOf, ReportsNext, half_nth}
 use Rattle.automata_hybrid.specs.Walks.State.{Walk, without_match}
 use Rattle.automata_hybrid.specs.Searches.Bounds.{LiesIn}
 use Rattle.automata_base.proofs.Paths.Orders.{none_some, some_inj}
+use Rattle.automata_hybrid.proofs.Machines.Powersets.{reported_walked}
 
 -- the pair of a half match
 abbrev pair_of : HalfMatch → Pair
@@ -28,7 +29,8 @@ module _ (way : Direction) (m : Machine) (input : Input) (reported : WalksAreRep
   match_lies None e was next = tt
   match_lies (Some half) e was next =
       let pairs = reported way (match_kind_of m.config) input in
-      let nth : half_nth pairs.0 was.0 ≡ Some half = sym ((next was.0 was.1).1 pairs.0 pairs.1).0 ∙ e in
+      let walked = reported_walked way m input pairs.0 pairs.1 in
+      let nth : half_nth pairs.0 was.0 ≡ Some half = sym ((next was.0 was.1).1 pairs.0 walked).0 ∙ e in
       let l =
       law way (match_kind_of m.config) input pairs.0 (pair_of half) few pairs.1 (nth_in pairs.0 was.0 half nth) in
       record { pattern = l.0; from = l.1.0; upto = l.1.1 }

@@ -3,16 +3,15 @@ use Rattle.std.proofs.Common.{ℕ, suc, ◌≡◌, ◌<◌, ◌≤◌, ◌+◌, 
 use Rattle.std.proofs.Common.{length, Some, None, refl, sym, ap, ap₂, ◌∙◌, subst, arith, length-append, get_or}
 use Rattle.std.proofs.Common.{append_assoc}
 use Rattle.automata_hybrid.proofs.Words.{Direction, Err, HalfMatch, HasReadNoQuit, Input, is_split, IsRowState}
-use Rattle.automata_hybrid.proofs.Words.{KeepsSplit, Machine, match_kind_of, MayStart, offset_in, Ok, OnOk, Pair}
-use Rattle.automata_hybrid.proofs.Words.{Powerset, Result, Rows, Skips, SkipsSplit, state_in, tape_in}
+use Rattle.automata_hybrid.proofs.Words.{KeepsSplit, Machine, MayStart, offset_in, Ok, OnOk, Pair, Powerset, Result}
+use Rattle.automata_hybrid.proofs.Words.{Rows, Skips, SkipsSplit, state_in, tape_in}
 use Rattle.std.specs.Prelude.{IsTrue, OnErr}
 use Rattle.automata_base.specs.Answers.Answers.{WalksNoSpan}
 use Rattle.automata_base.specs.Paths.Selections.{at_place}
-use Rattle.automata_determinize.specs.Retraced.Passes.{pairs_reported}
-use Rattle.automata_determinize.proofs.Powersets.WalkReports.{walks_one}
+use Rattle.automata_determinize.proofs.Powersets.WalkReports.{walks_once}
 use Rattle.automata_hybrid.specs.Walks.Answers.{AreWalked, HasReported, HasReportedAll, HasReportedAt, HasReportedBy}
 use Rattle.automata_hybrid.specs.Walks.Answers.{StandsAtState, ReportsNext, WalkMeetsNoQuit, half_nth, MetNoQuit}
-use Rattle.automata_hybrid.specs.Walks.Answers.{WasDone}
+use Rattle.automata_hybrid.specs.Walks.Answers.{ReportsPairs, WasDone, pairs_along}
 use Rattle.automata_hybrid.specs.Private.Walks.Answers.{Arrives, Finishes}
 use Rattle.automata_hybrid.specs.Walks.State.{At, Ended, Fresh, Stage, Walk, without_match}
 use Rattle.automata_hybrid.specs.Private.Walks.State.{ended_walk, with_match}
@@ -32,8 +31,8 @@ undone b s e done «is» = ⊎_elim (λ l. absurd (false_true (sym «is» ∙ do
 
 module _ (way : Direction) (m : Machine) (input : Input) where
   -- zero units report nothing
-  reported_none : Skips m ⊎ (Skips m → ⊥) → HasReportedBy way m input 0 0
-  unfolding pairs_reported
+  pub reported_none : Skips m ⊎ (Skips m → ⊥) → HasReportedBy way m input 0 0
+  unfolding pairs_along
   reported_none (inl s) = record { pairs = []; unsplit = SkipsSplit s refl; count = refl }
   reported_none (inr n) = record { pairs = []; unsplit = KeepsSplit n refl; count = refl }
 
@@ -121,7 +120,8 @@ module _ (way : Direction) (m : Machine) (input : Input) where
   all_none :
       (k : ℕ) (pairs : List Pair) → HasReportedAll way m input k → AreWalked way m input pairs → half_nth pairs k ≡ None
   all_none k pairs t walked =
-      let same : pairs ≡ t.pairs = walks_one way m.nfa (match_kind_of m.config) input pairs t.pairs walked t.all in
+      let same : pairs ≡ t.pairs =
+      walks_once (ReportsPairs way m) (Skips m) way input pairs t.pairs (λ x y e f. e ∙ sym f) walked t.all in
       half_past pairs k (subst (λ (zs : List Pair). length zs ≤ k) (sym same) t.none_left)
 
   all_more : (k : ℕ) → HasReportedAll way m input k → HasReportedAll way m input (suc k)

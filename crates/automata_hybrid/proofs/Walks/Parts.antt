@@ -13,9 +13,10 @@ use Rattle.automata_hybrid.specs.declared.search.walk.Held.TheVariants as held
 use Rattle.automata_hybrid.specs.Known.Known as known
 use Rattle.automata_hybrid.specs.Known.Steps.{GivesUpOnStart, IsNotSupported, IsQuitBehind, RunsOutOnStart}
 use Rattle.automata_hybrid.specs.Known.Steps.{StartFails, StartFailsAt}
-use Rattle.automata_hybrid.specs.Known.Walks.{CallEnds, FailsOnItsWay, FailsToGoOn, IsNotBack, IsNotResumed, CallFails}
+use Rattle.automata_hybrid.specs.Known.Walks.{CallEnds, FailsOnItsWay, FailsToGoOn, CallFails}
+use Rattle.automata_hybrid.specs.Known.Walks.{IsNotRestored, IsNotResumed}
 use Rattle.automata_hybrid.specs.Known.Walks.{ReadsNone, ReadsSome, after_going_on, after_resume, has_its_row}
-use Rattle.automata_hybrid.specs.Known.Walks.{with_row_back}
+use Rattle.automata_hybrid.specs.Known.Walks.{with_restored_row}
 use Rattle.automata_hybrid.specs.Private.Searches.PassState.{step_error}
 use Rattle.automata_hybrid.specs.Private.Steps.Starts.{IsStartResult}
 use Rattle.automata_hybrid.specs.Private.Walks.Answers.{FindsNone, CallGoesOn, ReadsMore, ReportsOneMore}
@@ -181,19 +182,20 @@ module _ (way : Direction) (m : Machine) (input : Input) (t : Rows) (w : Walk) (
     (holds : h ≡ held.State (Some handle)) where
   -- that state is in the cache then
   pub back_resumed :
-      with_row_back m handle.state old ≡ Some new → after_resume way m input w.stage old ≡ Some new
+      with_restored_row m handle.state old ≡ Some new → after_resume way m input w.stage old ≡ Some new
   back_resumed row = go w.stage fresh on at where
     go :
         (s : Stage) → (s ≡ Fresh → ⊥) → (s ≡ Ended → ⊥) → IsHeldAt t s h → after_resume way m input s old ≡ Some new
     go Fresh fresh on at = absurd (fresh refl)
     go Ended fresh on at = absurd (on refl)
     go (At q) fresh on at =
-        subst (λ (p : Powerset). with_row_back m p old ≡ Some new) (subst (λ (x : Held). Holds t x q) holds at).0 row
+        subst (λ (p : Powerset). with_restored_row m p old ≡ Some new)
+        (subst (λ (x : Held). Holds t x q) holds at).0 row
 
-  -- that state was not put back
+  -- that state was not restored
   pub back_refusal :
       (e : StepError) (r : SearchError)
-      → ((place : ℕ) → IsNotBack m handle.state place old new (step_error e place))
+      → ((place : ℕ) → IsNotRestored m handle.state place old new (step_error e place))
       → r ≡ step_error e (given_up_offset way input w.units) → IsNotResumed way m input w.stage w.units old new r
   back_refusal e r refused reported = go w.stage fresh on at where
     go :
@@ -202,9 +204,9 @@ module _ (way : Direction) (m : Machine) (input : Input) (t : Rows) (w : Walk) (
     go Fresh fresh on at = absurd (fresh refl)
     go Ended fresh on at = absurd (on refl)
     go (At q) fresh on at =
-        subst (λ (p : Powerset). IsNotBack m p (given_up_offset way input w.units) old new r)
+        subst (λ (p : Powerset). IsNotRestored m p (given_up_offset way input w.units) old new r)
         (subst (λ (x : Held). Holds t x q) holds at).0
-        (subst (IsNotBack m handle.state (given_up_offset way input w.units) old new) (sym reported)
+        (subst (IsNotRestored m handle.state (given_up_offset way input w.units) old new) (sym reported)
         (refused (given_up_offset way input w.units)))
 
 -- a walk of a set continues from the ID of its row

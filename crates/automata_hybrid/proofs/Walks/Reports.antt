@@ -8,9 +8,8 @@ use Rattle.automata_hybrid.proofs.Words.{state_in, tape_in}
 use Rattle.automata_base.specs.Answers.Answers.{WalksNoSpan, WalksSpan}
 use Rattle.automata_base.specs.Answers.Answers.{with_offsets, without_split}
 use Rattle.automata_base.specs.Paths.Selections.{at_place}
-use Rattle.automata_determinize.specs.Retraced.Passes.{pairs_reported}
 use Rattle.automata_hybrid.specs.Walks.Answers.{AreWalked, HasReportedBy, IsSilent, WalkMeetsNoQuit, half_nth}
-use Rattle.automata_hybrid.specs.Walks.Answers.{pairs_reported_in}
+use Rattle.automata_hybrid.specs.Walks.Answers.{pairs_along, pairs_reported_in}
 use Rattle.automata_hybrid.specs.Private.Walks.Answers.{Finishes}
 use Rattle.automata_hybrid.proofs.Searches.PassState.{dead_more}
 use Rattle.std.proofs.lemmas.Bool.{cases_lt}
@@ -65,7 +64,7 @@ module _ (way : Direction) (m : Machine) (input : Input) where
   at i = (state_in way m input (suc i)).patterns
 
   pairs_more : (i : ℕ) → pairs_reported_in way m input (suc i) ≡ pairs_reported_in way m input i ++ at_place i (at i)
-  unfolding pairs_reported
+  unfolding pairs_along
   pairs_more i = refl
 
   -- one more unit, at a place that is not skipped

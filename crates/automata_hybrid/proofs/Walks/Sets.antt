@@ -23,6 +23,7 @@ use Rattle.automata_hybrid.proofs.Searches.PassState.{false_true}
 use Rattle.automata_hybrid.proofs.Walks.Reports.{reported_rises}
 use Rattle.automata_hybrid.proofs.Searches.Directions.{units_in}
 use Rattle.std.proofs.Math.Nat.{mul-le-mul_right}
+use Rattle.automata_hybrid.proofs.Machines.Powersets.{walked_reported}
 
 -- the members of a set, by their flags
 has_in : (xs : List Bool) (j i : ℕ) → has xs i ≡ true → In (j + i) (members_from j xs)
@@ -378,7 +379,8 @@ pub patterns_of :
     → ArePatternsFound (engine m) input (length old) (members old) (members new)
 patterns_of m input law good old new kept h = record {
   pairs = h.pairs;
-  reports = law Forward (match_kind_of m.config) input h.pairs kept good h.reports;
+  reports = law Forward (match_kind_of m.config) input h.pairs kept good
+      (walked_reported Forward m input h.pairs h.reports);
   members = h.members;
 }
 

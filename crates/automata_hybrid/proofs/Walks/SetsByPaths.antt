@@ -9,6 +9,7 @@ use Rattle.automata_determinize.specs.Laws.Walks.{AllPairsAreReported, AreReport
 use Rattle.automata_base.specs.declared.util.search.MatchKind.TheVariants.{All as KindAll}
 use Rattle.automata_hybrid.specs.Walks.SetsByPaths.{MatchesIn, SetsHaveMatching}
 use Rattle.automata_hybrid.specs.Walks.Contracts.{JoinsReported}
+use Rattle.automata_hybrid.proofs.Machines.Powersets.{walked_reported}
 
 pair_with :
     (p : ℕ) (pairs : List Pair) → HasPattern p pairs → (at : ℕ) × InPairs (record { pattern = p; place = at }) pairs
@@ -61,7 +62,8 @@ module _ (m : Machine) (all : AllPairsAreReported m.nfa) (reported : WalksAreRep
       → (p : ℕ) → In p (members new) ↔ (In p (members old) ⊎ ((p < length old) × MatchesIn m input start p))
   sets old new kind full found p =
       let walked : AreReported Forward m.nfa KindAll input found.pairs =
-      subst (λ (k : MatchKind). AreReported Forward m.nfa k input found.pairs) kind found.reports in
+      subst (λ (k : MatchKind). AreReported Forward m.nfa k input found.pairs) kind
+      (walked_reported Forward m input found.pairs found.reports) in
       let same : first_alone input.earliest found.pairs ≡ found.pairs = all_pairs input.earliest found.pairs full in (
         λ h. forth found.pairs walked same ((found.members p).0 h),
         λ h. (found.members p).1 (back found.pairs walked same h),

@@ -1,9 +1,8 @@
 -- The states that a cache holds, one by one, as a picture of the cache needs them.
 use Rattle.std.specs.Prelude.{ℕ, ◌≡◌, ◌+◌, ◌*◌, ◌<◌, ◌⊎◌, List, [], ◌∷◌, take, drop, length, slice_index, Option}
 use Rattle.automata_determinize.specs.Powersets.Passes.{IsUnit}
-use Rattle.automata_determinize.specs.Retraced.Steps.{start_state_of, successor}
 use Rattle.automata_base.specs.declared.util.search.Anchored.{Anchored}
-use Rattle.automata_config.specs.Options.{match_kind_of}
+use Rattle.automata_hybrid.specs.Machines.FullDfas.{full_dfa}
 use Rattle.automata_hybrid.specs.Cache.Ids.{quit_id, unknown_id}
 use Rattle.automata_hybrid.specs.Machines.Machine.{unit_class}
 use Rattle.automata_hybrid.specs.Machines.OwnStates.{IsOwn}
@@ -42,7 +41,7 @@ abbrev pub IsTransition : Stored → HeldState → (unit : Option ℕ) → Type 
 IsTransition c s unit =
     transition_on c s unit < unknown_id
     → (transition_on c s unit ≡ quit_id c.table.of.stride)
-    ⊎ Leads c.table (transition_on c s unit) (successor c.table.of.nfa (match_kind_of c.table.of.config) s.state unit)
+    ⊎ Leads c.table (transition_on c s unit) ((full_dfa c.table.of).step s.state unit)
 
 -- a cache holds this state: its row has this ID, and its transitions are those of the row
 pub record IsHeldState (c : Stored) (s : HeldState) : Type 0 where
@@ -59,4 +58,4 @@ pub record IsHeldState (c : Stored) (s : HeldState) : Type 0 where
 abbrev pub LeadsAsStart : Stored → Anchored → (behind : Option ℕ) → Type 0
 LeadsAsStart c mode behind =
     slot_behind c.table.of mode behind < length c.starts → known_start c.table.of c mode behind < unknown_id
-    → Leads c.table (known_start c.table.of c mode behind) (start_state_of c.table.of.nfa mode behind)
+    → Leads c.table (known_start c.table.of c mode behind) ((full_dfa c.table.of).start mode behind)

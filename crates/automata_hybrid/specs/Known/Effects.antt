@@ -1,11 +1,10 @@
 -- What follows from the effect of an event on what a cache knows, and so of a step and of a call for a start state.
 use Rattle.std.specs.Prelude.{ℕ, ◌≡◌, ◌+◌, ◌≤◌, ◌⊎◌, true, false, Option, Some}
 use Rattle.automata_base.specs.Powersets.Powerset.{Powerset}
-use Rattle.automata_determinize.specs.Retraced.Steps.{successor}
 use Rattle.automata_base.specs.declared.util.search.Anchored.{Anchored}
-use Rattle.automata_config.specs.Options.{match_kind_of}
 use Rattle.automata_config.specs.declared.error.StartError.{StartError}
 use Rattle.automata_config.specs.declared.error.StepError.{StepError}
+use Rattle.automata_hybrid.specs.Machines.FullDfas.{full_dfa}
 use Rattle.automata_hybrid.specs.Cache.Ids.{fixed_from}
 use Rattle.automata_hybrid.specs.Cache.Progress.{progress_cleared, saturated}
 use Rattle.automata_hybrid.specs.Steps.Events.{Event, Start, Step}
@@ -21,7 +20,7 @@ use Rattle.automata_hybrid.specs.declared.cache.row.Row.{Row}
 -- the row of the state that an event asks for; the row of a successor has no start tag
 abbrev pub asked_row : Machine → Event → Row
 asked_row m (Start mode behind) = start_row m mode behind
-asked_row m (Step q unit) = record { state = successor m.nfa (match_kind_of m.config) q unit; started = false }
+asked_row m (Step q unit) = record { state = (full_dfa m).step q unit; started = false }
 
 -- whether the cache is cleared to make room for a row
 pub data ClearsFor (m : Machine) (r : Row) (old new : Known) : Type 0 where

@@ -5,8 +5,8 @@ use Rattle.std.specs.Prelude.{Option, None, Some, is_some, option_map, unwrap_or
 use Rattle.automata_determinize.specs.Powersets.Accounting.{cell_size, entry_size, fixed_rows_cost, row_size}
 use Rattle.automata_determinize.specs.Powersets.Equal.{powerset_eq}
 use Rattle.automata_base.specs.Powersets.Powerset.{Powerset, cost}
-use Rattle.automata_determinize.specs.Retraced.Steps.{start_state_of, successor}
-use Rattle.automata_config.specs.Options.{match_kind_of, minimum_bytes_per_state_of, minimum_cache_clear_count_of}
+use Rattle.automata_config.specs.Options.{minimum_bytes_per_state_of, minimum_cache_clear_count_of}
+use Rattle.automata_hybrid.specs.Machines.FullDfas.{full_dfa}
 use Rattle.automata_hybrid.specs.Cache.Ids.{offset_limit}
 use Rattle.automata_hybrid.specs.Cache.Progress.{total_len}
 use Rattle.automata_hybrid.specs.Cache.Table.{row_cost}
@@ -65,12 +65,12 @@ with_start slot q c = record c { starts = slice_set c.starts slot (Some q); coun
 -- what is known after an event that asks for something not cached; none if the call gives up
 abbrev pub made : Machine → Event → Known → Option Known
 made m (Start mode behind) c =
-    option_map (with_start (slot_behind m mode behind) (start_state_of m.nfa mode behind))
+    option_map (with_start (slot_behind m mode behind) ((full_dfa m).start mode behind))
     (with_state m (cleared c) (start_row m mode behind) c)
 made m (Step q unit) c =
     option_map (with_step q (unit_class m unit))
     (with_state m (cleared_saving q c)
-    (record { state = successor m.nfa (match_kind_of m.config) q unit; started = false }) c)
+    (record { state = (full_dfa m).step q unit; started = false }) c)
 
 -- what an event asks for is cached; the anchored mode of a pattern that is out of range asks for nothing
 abbrev pub is_cached : Machine → Event → Known → Bool

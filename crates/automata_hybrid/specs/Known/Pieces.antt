@@ -1,5 +1,5 @@
 -- The effect of the calls of a search in pieces, and of a walk over pieces, on what their cache knows.
-use Rattle.std.specs.Prelude.{ℕ, suc, ◌≡◌, ◌^◌, ◌≤◌, ◌+◌, ◌-◌, true, false, List, length, Option, None, Some}
+use Rattle.std.specs.Prelude.{ℕ, suc, ◌≡◌, ◌^◌, ◌<◌, ◌≤◌, ◌+◌, ◌-◌, true, false, List, length, Option, None, Some}
 use Rattle.std.specs.Prelude.{MatchOption, option_map}
 use Rattle.automata_base.specs.Haystacks.Input.{Input}
 use Rattle.automata_base.specs.Paths.Paths.{next as unit_at}
@@ -12,15 +12,16 @@ use Rattle.automata_config.specs.declared.error.SearchError.TheVariants as searc
 use Rattle.automata_config.specs.declared.error.StartError.{StartError}
 use Rattle.automata_config.specs.declared.error.StartError.TheVariants as start
 use Rattle.automata_hybrid.specs.Steps.Events.{Step}
+use Rattle.automata_hybrid.specs.Known.Effects.{asked_row}
 use Rattle.automata_hybrid.specs.Known.Events.{after_event}
 use Rattle.automata_hybrid.specs.Known.Known.{Known, begun, ended, moved}
 use Rattle.automata_hybrid.specs.Known.Passes.{ReadFails, after_many}
 use Rattle.automata_hybrid.specs.Known.Steps.{IsStartRun, StartFails}
-use Rattle.automata_hybrid.specs.Known.Walks.{IsNotBack, with_row_back}
+use Rattle.automata_hybrid.specs.Known.Walks.{IsNotRestored, with_restored_row}
 use Rattle.automata_hybrid.specs.Machines.Machine.{Machine, quits_on}
 use Rattle.automata_hybrid.specs.Pieces.State.{PiecesView}
 use Rattle.automata_hybrid.specs.Searches.Passes.{HasReadNoQuit, Skips, given_up_offset, tape_in}
-use Rattle.automata_hybrid.specs.Searches.PieceRuns.{ReadsAlong, piece_input, piece_trace}
+use Rattle.automata_hybrid.specs.Searches.PieceRuns.{ReadsAlong, piece_input, piece_state, piece_trace}
 use Rattle.automata_hybrid.specs.Searches.Traces.{Trace}
 use Rattle.automata_hybrid.specs.declared.search.pieces.BeginError.{BeginError}
 use Rattle.automata_hybrid.specs.declared.search.pieces.BeginError.TheVariants as begin
@@ -55,6 +56,8 @@ pub record ReadsAllAlong (s : Trace) (m : Machine) (input : Input) (begun new : 
   pub clean : HasReadNoQuit Forward m input (input.end - input.start)
   -- in an earliest search they report nothing
   pub nothing : input.earliest ≡ true → s.reported (input.end - input.start) ≡ None
+  -- the state after them is not dead
+  pub alive : s.state (input.end - input.start) ≡ dead → ⊥
   -- what is known after them, once the search has ended
   pub run :
       option_map (ended (given_up_offset Forward input (input.end - input.start)))
@@ -92,12 +95,19 @@ pub record FailsAlong (s : Trace) (m : Machine) (input : Input) (base : ℕ) (be
       ReadFails m (s.state place) (unit_at (tape_in Forward input) place) (base + place) (base + place)
       (given_up_offset Forward input place) mid new e
 
--- a search continues from its current state, which is there or is put back, and begins at an offset
+-- a search continues from its current state, which is there or is restored, and begins at an offset
 pub record GoesOn (m : Machine) (p : PiecesView) (q : Powerset) (at : ℕ) (old new : Known) : Type 0 where
   -- this was its current state
   pub from : p.state ≡ Some q
   -- what is known then
-  pub begins : option_map (begun at) (with_row_back m q old) ≡ Some new
+  pub begins : option_map (begun at) (with_restored_row m q old) ≡ Some new
+
+-- a search continues from its current state over a piece, which counts as a search that begins at 0
+pub record BeginsPiece (m : Machine) (piece : List ℕ) (p : PiecesView) (q : Powerset) (old new : Known) : Type 0 where
+  -- it continues from that state
+  pub goes_on : GoesOn m p q 0 old new
+  -- the number of bytes fits in 64 bits
+  pub fits : p.read + length piece < 2 ^ 64
 
 -- all bytes of a piece are read from a state on
 abbrev pub ReadsThrough : Machine → (piece : List ℕ) → PiecesView → Powerset → (begun new : Known) → Type 0
@@ -110,19 +120,19 @@ abbrev pub ReadsPieceUpto :
 ReadsPieceUpto m piece p q k begun new =
     ReadsUptoAlong (piece_trace m piece p.earliest q) m (piece_input piece p.earliest) k begun new
 
--- the effect of reading a piece on the search and on the cache, if it returns Ok: each piece is a search that begins at
--- 0
+-- the effect of reading a piece on the search and on the cache, if it returns Ok
 pub data PieceEnds (m : Machine) (piece : List ℕ) (p next : PiecesView) (old new : Known) : Type 0 where
   -- the answer of the search was final before, and nothing has changed
   AlreadyOver : p.state ≡ None → next ≡ p → new ≡ old → PieceEnds m piece p next old new
   -- all bytes of the piece are read
   Through :
-      (q : Powerset) (begun : Known) → GoesOn m p q 0 old begun → ReadsThrough m piece p q begun new
+      (q : Powerset) (begun : Known) → BeginsPiece m piece p q old begun → ReadsThrough m piece p q begun new
       → next.read ≡ p.read + length piece → PieceEnds m piece p next old new
   -- its bytes are read up to one after which the answer is final
   Upto :
-      (q : Powerset) (begun : Known) (k : ℕ) → GoesOn m p q 0 old begun → ReadsPieceUpto m piece p q k begun new
-      → next.state ≡ None → next.read ≡ p.read + suc k → PieceEnds m piece p next old new
+      (q : Powerset) (begun : Known) (k : ℕ) → BeginsPiece m piece p q old begun
+      → ReadsPieceUpto m piece p q k begun new → next.state ≡ None → next.read ≡ p.read + suc k
+      → PieceEnds m piece p next old new
 
 -- a search has failed at a byte of a piece
 abbrev pub FailsAtByte :
@@ -135,17 +145,17 @@ pub data PieceFails (m : Machine) (piece : List ℕ) (p : PiecesView) (old new :
     Type 0 where
   -- the number of bytes does not fit in 64 bits
   TooLong :
-      (q : Powerset) → p.state ≡ Some q → with_row_back m q old ≡ Some new → 2 ^ 64 ≤ p.read + length piece
+      (q : Powerset) → p.state ≡ Some q → with_restored_row m q old ≡ Some new → 2 ^ 64 ≤ p.read + length piece
       → e ≡ search.Match (GaveUp p.read) → PieceFails m piece p old new e
-  -- the current state of the search is not put back
-  NotPutBack : (q : Powerset) → p.state ≡ Some q → IsNotBack m q p.read old new e → PieceFails m piece p old new e
+  -- the current state of the search is not restored
+  NotRestored : (q : Powerset) → p.state ≡ Some q → IsNotRestored m q p.read old new e → PieceFails m piece p old new e
   -- the step on a byte of the piece fails
   AtByte :
-      (q : Powerset) (begun : Known) → GoesOn m p q 0 old begun → FailsAtByte m piece p q begun new e
+      (q : Powerset) (begun : Known) → BeginsPiece m piece p q old begun → FailsAtByte m piece p q begun new e
       → PieceFails m piece p old new e
   -- the state after the piece cannot be held, because it cannot be shared once more
   NotHeld :
-      (q : Powerset) (begun : Known) → GoesOn m p q 0 old begun → ReadsThrough m piece p q begun new
+      (q : Powerset) (begun : Known) → BeginsPiece m piece p q old begun → ReadsThrough m piece p q begun new
       → e ≡ search.OutOfMemory → PieceFails m piece p old new e
 
 -- the effect of reading a piece on the search and on what the cache knows, by the error that it returns, if any
@@ -167,8 +177,9 @@ pub data AnswerEnds (m : Machine) (ahead : Option ℕ) (p : PiecesView) (old new
 -- why there is no answer, and the effect on the cache
 pub data AnswerFails (m : Machine) (ahead : Option ℕ) (p : PiecesView) (old new : Known) (e : SearchError) :
     Type 0 where
-  -- the current state of the search is not put back
-  NotBack : (q : Powerset) → p.state ≡ Some q → IsNotBack m q p.read old new e → AnswerFails m ahead p old new e
+  -- the current state of the search is not restored
+  EndNotRestored :
+      (q : Powerset) → p.state ≡ Some q → IsNotRestored m q p.read old new e → AnswerFails m ahead p old new e
   -- reading the unit that follows fails
   FailsAtEnd :
       (q : Powerset) (begun : Known) → GoesOn m p q p.read old begun
@@ -185,21 +196,22 @@ pub data WalkCallEnds (m : Machine) (piece : List ℕ) (w next : PiecesView) (ol
   AlreadyDone : w.state ≡ None → next ≡ w → new ≡ old → WalkCallEnds m piece w next old new
   -- all bytes of the piece are read
   WalksThrough :
-      (q : Powerset) (begun : Known) → GoesOn m w q 0 old begun → ReadsThrough m piece w q begun new
+      (q : Powerset) (begun : Known) → BeginsPiece m piece w q old begun → ReadsThrough m piece w q begun new
       → next.read ≡ w.read + length piece → WalkCallEnds m piece w next old new
   -- they are read up to one at which patterns match, or after which nothing can match
   WalksUpto :
-      (q : Powerset) (begun : Known) (i : ℕ) → GoesOn m w q 0 old begun → ReadsPieceUpto m piece w q i begun new
-      → next.read ≡ w.read + suc i → WalkCallEnds m piece w next old new
+      (q : Powerset) (begun : Known) (i : ℕ) → BeginsPiece m piece w q old begun
+      → ReadsPieceUpto m piece w q i begun new → next.read ≡ w.read + suc i → WalkCallEnds m piece w next old new
 
 -- why a call of a walk fails, and the effect on the cache
 pub data WalkCallFails (m : Machine) (piece : List ℕ) (w : PiecesView) (old new : Known) (e : SearchError) :
     Type 0 where
   -- it fails as an earliest search in pieces does
   AsSearch : PieceFails m piece w old new e → WalkCallFails m piece w old new e
-  -- the state at the match cannot be held, because it cannot be shared once more
+  -- the state at the match, which is not dead, cannot be held, because it cannot be shared once more
   NotHeldAt :
-      (q : Powerset) (begun : Known) (i : ℕ) → GoesOn m w q 0 old begun → ReadsPieceUpto m piece w q i begun new
+      (q : Powerset) (begun : Known) (i : ℕ) → BeginsPiece m piece w q old begun
+      → ReadsPieceUpto m piece w q i begun new → (piece_state m piece q (suc i) ≡ dead → ⊥)
       → e ≡ search.OutOfMemory → WalkCallFails m piece w old new e
 
 -- the effect of a call of a walk over a piece on the walk and on what the cache knows, by the error that it returns, if
@@ -214,8 +226,11 @@ pub data WalkEndFails (m : Machine) (ahead : Option ℕ) (w : PiecesView) (old n
     Type 0 where
   -- it fails as asking a search in pieces for its answer does
   AsForAnswer : AnswerFails m ahead w old new e → WalkEndFails m ahead w old new e
-  -- the state at the end cannot be held, because it cannot be shared once more
-  CannotHoldEnd : AnswerEnds m ahead w old new → e ≡ search.OutOfMemory → WalkEndFails m ahead w old new e
+  -- the state at the end, which is not dead, cannot be held, because it cannot be shared once more
+  CannotHoldEnd :
+      (q : Powerset) → w.state ≡ Some q → AnswerEnds m ahead w old new
+      → ((asked_row m (Step q ahead)).state ≡ dead → ⊥)
+      → e ≡ search.OutOfMemory → WalkEndFails m ahead w old new e
 
 -- the effect of asking for the end of a walk on what the cache knows, by the error that it returns, if any
 abbrev pub IsWalkEndRun :

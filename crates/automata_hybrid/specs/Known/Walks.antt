@@ -23,16 +23,16 @@ use Rattle.automata_hybrid.specs.Walks.Answers.{IsSilent, IsUnheld, ReportsNext,
 use Rattle.automata_hybrid.specs.Walks.Progress.{IsClosedAfter, IsJoinedAfter, IsOpenAfter, ReadsItsUnits, ReadsNoUnit}
 use Rattle.automata_hybrid.specs.Walks.State.{At, Ended, Fresh, Ids, Keeping, Stage, States, Walk, fresh_walk}
 
--- what is known with a row for the current state of a walk: it is there, or is put back without the start tag; none if
+-- what is known with a row for the current state of a walk: it is there, or is restored without the start tag; none if
 -- the call gives up
-abbrev pub with_row_back : Machine → Powerset → Known → Option Known
-with_row_back m q c = with_state m (cleared c) (record { state = q; started = false }) c
+abbrev pub with_restored_row : Machine → Powerset → Known → Option Known
+with_restored_row m q c = with_state m (cleared c) (record { state = q; started = false }) c
 
 -- what is known with the state from which a walk continues: its start state, or its current state; none if the call
 -- gives up, or if the walk has ended
 abbrev pub after_resume : Direction → Machine → Input → Stage → Known → Option Known
 after_resume way m input Fresh c = after_event m (start_event way input) c c
-after_resume way m input (At q) c = with_row_back m q c
+after_resume way m input (At q) c = with_restored_row m q c
 after_resume way m input Ended c = None
 
 -- what is known once a walk has the state from which it continues, and its call has begun at a place
@@ -85,22 +85,22 @@ pub data CallEnds (way : Direction) (m : Machine) (input : Input) (walk next : W
       (next.stage ≡ Ended → next.found ≡ None) → CallReads way m input walk next old new
       → CallEnds way m input walk next old new
 
--- why the current state of a walk is not put back; nothing changes
-pub data IsNotBack (m : Machine) (q : Powerset) (at : ℕ) (old new : Known) (e : SearchError) : Type 0 where
+-- why the current state of a walk is not restored; nothing changes
+pub data IsNotRestored (m : Machine) (q : Powerset) (at : ℕ) (old new : Known) (e : SearchError) : Type 0 where
   -- the call gives up
   GivesUpOnIt :
-      with_row_back m q old ≡ None → e ≡ search.Match (GaveUp at) → new ≡ old → IsNotBack m q at old new e
+      with_restored_row m q old ≡ None → e ≡ search.Match (GaveUp at) → new ≡ old → IsNotRestored m q at old new e
   -- it has no row, there is room for it, and memory runs out
   RunsOutOnIt :
-      row_in old.rows q ≡ None → (with_row_back m q old ≡ None → ⊥) → e ≡ search.OutOfMemory → new ≡ old
-      → IsNotBack m q at old new e
+      row_in old.rows q ≡ None → (with_restored_row m q old ≡ None → ⊥) → e ≡ search.OutOfMemory → new ≡ old
+      → IsNotRestored m q at old new e
 
--- a walk does not get the state from which it continues: its start state fails, or its current state is not put back
+-- a walk does not get the state from which it continues: its start state fails, or its current state is not restored
 abbrev pub IsNotResumed : Direction → Machine → Input → Stage → (units : ℕ) → (old new : Known) → SearchError → Type 0
 IsNotResumed way m input Fresh units old new e =
     StartFailsAt m input.anchored (tape_in way input).before (behind_offset way input) (offset_in way input 0)
     old new e
-IsNotResumed way m input (At q) units old new e = IsNotBack m q (given_up_offset way input units) old new e
+IsNotResumed way m input (At q) units old new e = IsNotRestored m q (given_up_offset way input units) old new e
 IsNotResumed way m input Ended units old new e = ⊥
 
 -- how a call fails at the unit at place `k`

@@ -13,7 +13,7 @@ use Rattle.automata_hybrid.specs.Known.Bounds.{IsKnown}
 use Rattle.automata_hybrid.specs.Known.Cached.{KnowsItsStart, KnowsUnit}
 use Rattle.automata_hybrid.specs.Known.Growth.{ClearedNothing, HasRoom, IsGrown, IsStill}
 use Rattle.automata_hybrid.specs.Known.Known.{Known, counted}
-use Rattle.automata_hybrid.specs.Known.Walks.{IsSetRun, IsWalkRun, has_its_row, with_row_back}
+use Rattle.automata_hybrid.specs.Known.Walks.{IsSetRun, IsWalkRun, has_its_row, with_restored_row}
 use Rattle.automata_hybrid.specs.Machines.Machine.{Machine}
 use Rattle.automata_hybrid.specs.Searches.Contracts.{IsOfInput}
 use Rattle.automata_hybrid.specs.Searches.Passes.{HasReadNoQuit, Skips, tape_in}
@@ -73,10 +73,10 @@ pub record CallFollows (keeping : Keeping) (way : Direction) (m : Machine) (inpu
   pub grown : IsGrown m old (counted new)
   -- if it had the row of the walk's current state, it has grown as by those that were made
   pub there : has_its_row old walk.stage ≡ true → IsGrown m old new
-  -- if the cache does not have the walk's current state, that is put back first, and the cache grows from there
-  pub put_back :
+  -- if the cache does not have the walk's current state, that is restored first, and the cache grows from there
+  pub restored :
       (q : Powerset) → walk.stage ≡ At q → has_its_row old (At q) ≡ false
-      → (new ≡ old) ⊎ ((between : Known) × (with_row_back m q old ≡ Some between) × IsGrown m between new)
+      → (new ≡ old) ⊎ ((between : Known) × (with_restored_row m q old ≡ Some between) × IsGrown m between new)
   -- what the cache knows then still satisfies `IsKnown`
   pub sound : IsKnown m new
   -- if nothing was cleared, what it used is cached

@@ -1,9 +1,8 @@
 -- The states of a lazy DFA: those that a search can reach.
 use Rattle.std.specs.Prelude.{ℕ, zero, suc, ◌≡◌, ◌<◌, false, Option}
 use Rattle.automata_base.specs.Powersets.Powerset.{Powerset}
-use Rattle.automata_determinize.specs.Retraced.Steps.{successor, start_state_of}
 use Rattle.automata_base.specs.declared.util.search.Anchored.{Anchored}
-use Rattle.automata_config.specs.Options.{match_kind_of}
+use Rattle.automata_hybrid.specs.Machines.FullDfas.{full_dfa}
 use Rattle.automata_hybrid.specs.Machines.Machine.{Machine, quits_on}
 use Rattle.automata_hybrid.specs.Machines.OwnStates.{IsOwn}
 use Rattle.automata_hybrid.specs.Machines.StartSlots.{slot_behind}
@@ -13,11 +12,11 @@ pub data IsReachableBy (m : Machine) : (units : ℕ) → Powerset → Type 0 whe
   -- it is this start state
   AtStart :
       (mode : Anchored) (behind : Option ℕ) → slot_behind m mode behind < m.slots
-      → IsReachableBy m zero (start_state_of m.nfa mode behind)
+      → IsReachableBy m zero ((full_dfa m).start mode behind)
   -- the last of them leads to it
   OverUnit :
       (units : ℕ) (before : Powerset) (unit : Option ℕ) → IsReachableBy m units before → quits_on m unit ≡ false
-      → IsReachableBy m (suc units) (successor m.nfa (match_kind_of m.config) before unit)
+      → IsReachableBy m (suc units) ((full_dfa m).step before unit)
 
 -- a search can reach a state
 abbrev pub IsReachable : Machine → Powerset → Type 0

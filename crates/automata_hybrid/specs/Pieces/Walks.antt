@@ -73,7 +73,7 @@ pub record IsAtMatch (m : Machine) (input : Input) (k : ℕ) (w : PiecesView) : 
 pub data StopsAt (m : Machine) (input : Input) (k : ℕ) (piece : List ℕ) (n : ℕ) (w : PiecesView) : Type 0 where
   -- at the end of the piece, and at no match: no pattern matches on the way
   AtPieceEnd :
-      n ≡ length piece → HasNoMatch m input k (k + n) → patterns_here w ≡ [] → StopsAt m input k piece n w
+      n ≡ length piece → HasNoMatch m input k (k + n) → w.found ≡ None → StopsAt m input k piece n w
   -- at the first match on the way
   AtMatch :
       (i : ℕ) → n ≡ suc i → HasNoMatch m input k (k + i) → IsAtMatch m input (k + i) w → StopsAt m input k piece n w

@@ -7,5 +7,6 @@ pub mod LookUps
 pub mod Stores
 pub mod Table
 pub mod Usage
+pub mod Sound
 pub mod States
 pub mod Caches

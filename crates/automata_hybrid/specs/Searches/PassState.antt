@@ -5,12 +5,10 @@ use Rattle.automata_base.specs.Haystacks.Input.{Input}
 use Rattle.automata_base.specs.Haystacks.Matches.{HalfMatch}
 use Rattle.automata_base.specs.Paths.Selections.{Pair}
 use Rattle.automata_base.specs.declared.util.search.Direction.{Direction}
-use Rattle.automata_determinize.specs.Answers.OfPasses.{reported_over}
 use Rattle.automata_hybrid.specs.Machines.Machine.{Machine}
 use Rattle.automata_hybrid.specs.Cache.Table.{Rows, Names}
-use Rattle.automata_hybrid.specs.Searches.Passes.{HasReadNoQuit}
+use Rattle.automata_hybrid.specs.Searches.Passes.{HasReadNoQuit, report_in}
 use Rattle.automata_hybrid.specs.Searches.Traces.{Trace, pass_trace}
-use Rattle.automata_config.specs.Options.{match_kind_of}
 
 -- a pair of a pass as a half match: its place is an offset
 abbrev pub half_of : Direction → Input → Option Pair → Option HalfMatch
@@ -24,7 +22,7 @@ half_at (pattern ∷ patterns) at found = Some (record { pattern = pattern; offs
 
 -- what a pass over the span of an input finds
 abbrev pub found_over : Direction → Machine → Input → Option HalfMatch
-found_over way m input = half_of way input (reported_over way m.nfa (match_kind_of m.config) input)
+found_over way m input = half_of way input (report_in way m input)
 
 -- a run along a trace has read `k` units, none of them a quit byte: the ID names its state there, and this was found
 pub record IsAtAlong (s : Trace) (way : Direction) (m : Machine) (t : Rows) (input : Input) (k id : ℕ)

@@ -1,9 +1,8 @@
 -- A pass of a search over the span of an input, unit by unit, and what a search answers.
-use Rattle.std.specs.Prelude.{ℕ, ◌≡◌, ◌<◌, ◌≤◌, ◌+◌, ◌-◌, max, option_map, length, true, false, Option, Some, None}
-use Rattle.std.specs.Prelude.{slice_get}
+use Rattle.std.specs.Prelude.{ℕ, suc, ◌≡◌, ◌<◌, ◌≤◌, ◌+◌, ◌-◌, max, option_map, length, Bool, true, false, Option}
+use Rattle.std.specs.Prelude.{Some, None, slice_get}
 use Rattle.automata_base.specs.Answers.Answers.{Answers, Half}
 use Rattle.automata_base.specs.ByteClasses.Classes.{is_quit}
-use Rattle.automata_base.specs.Nfas.Engines.{IsSkipping}
 use Rattle.automata_base.specs.Haystacks.Input.{Input}
 use Rattle.automata_base.specs.Haystacks.Matches.{HalfMatch}
 use Rattle.automata_base.specs.Paths.Paths.{Tape, next}
@@ -12,11 +11,10 @@ use Rattle.automata_base.specs.Paths.Selections.{Pair}
 use Rattle.automata_base.specs.Haystacks.Tapes.{tape_of}
 use Rattle.automata_base.specs.declared.util.search.Direction.{Direction}
 use Rattle.automata_base.specs.declared.util.search.Direction.TheVariants.{Forward, Backward}
-use Rattle.automata_determinize.specs.Retraced.Passes.{state_after, reported_upto}
-use Rattle.automata_determinize.specs.Answers.OfPasses.{reported_over}
-use Rattle.automata_hybrid.specs.Machines.Machine.{Machine, engine}
+use Rattle.automata_determinize.specs.Retraced.Passes.{first_among, last_among}
+use Rattle.automata_hybrid.specs.Machines.FullDfas.{full_dfa, state_on}
+use Rattle.automata_hybrid.specs.Machines.Machine.{Machine}
 use Rattle.automata_hybrid.specs.Steps.Starts.{quit_behind}
-use Rattle.automata_config.specs.Options.{match_kind_of}
 
 -- the tape of an input's span in a direction
 abbrev pub tape_in : Direction → Input → Tape
@@ -24,12 +22,21 @@ tape_in way input = tape_of way input.haystack input.start input.end
 
 -- the powerset state of a pass after its first `k` units
 abbrev pub state_in : Direction → Machine → Input → ℕ → Powerset
-state_in way m input k = state_after m.nfa (match_kind_of m.config) input.anchored (tape_in way input) k
+state_in way m input k = state_on (full_dfa m) input.anchored (tape_in way input) k
+
+-- what the first `k` units report, if they lead through these states: the first match in an earliest search, and the
+-- last one in any other; matches are delayed by one unit
+abbrev pub reported_along : (earliest : Bool) → (ℕ → Powerset) → ℕ → Option Pair
+reported_along true state k = first_among (λ i. (state (suc i)).patterns) k
+reported_along false state k = last_among (λ i. (state (suc i)).patterns) k
 
 -- what the first `k` units of a pass report
 abbrev pub reported_in : Direction → Machine → Input → ℕ → Option Pair
-reported_in way m input k =
-    reported_upto (match_kind_of m.config) input.earliest m.nfa input.anchored (tape_in way input) k
+reported_in way m input k = reported_along input.earliest (λ i. state_in way m input i) k
+
+-- what a pass over the span of an input that is not done reports
+abbrev pub report_in : Direction → Machine → Input → Option Pair
+report_in way m input = reported_in way m input (suc (length (tape_in way input).bytes))
 
 -- a pass reads the unit at place `k`: its state there is not dead, and an earliest pass has reported nothing yet
 abbrev pub Reads : Direction → Machine → Input → ℕ → Type 0
@@ -65,12 +72,11 @@ behind_offset Backward input = input.end
 
 -- a pass over the span of an input reports this, and meets no quit byte
 abbrev pub Finds : Direction → Machine → Input → Option Pair → Type 0
-Finds way m input reported =
-    (reported ≡ reported_over way m.nfa (match_kind_of m.config) input) × MeetsNoQuit way m input
+Finds way m input reported = (reported ≡ report_in way m input) × MeetsNoQuit way m input
 
 -- split places are skipped
 abbrev pub Skips : Machine → Type 0
-Skips m = IsSkipping (engine m)
+Skips m = (full_dfa m).skips
 
 -- What a search finds: what is reported over the first span for which that is nothing or is not split. No pass that it
 -- made met a quit byte.

@@ -4,11 +4,11 @@ use Rattle.automata_base.specs.Haystacks.Input.{Input}
 use Rattle.automata_base.specs.Haystacks.Tapes.{forward_tape}
 use Rattle.automata_base.specs.Powersets.Powerset.{Powerset, dead}
 use Rattle.automata_determinize.specs.Retraced.Passes.{after_units}
-use Rattle.automata_determinize.specs.Retraced.Steps.{successor}
 use Rattle.automata_base.specs.declared.util.search.Anchored.TheVariants.{No}
-use Rattle.automata_config.specs.Options.{match_kind_of}
+use Rattle.automata_hybrid.specs.Machines.FullDfas.{full_dfa}
 use Rattle.automata_hybrid.specs.Machines.Machine.{Machine}
-use Rattle.automata_hybrid.specs.Searches.Traces.{Trace, reported_along}
+use Rattle.automata_hybrid.specs.Searches.Passes.{reported_along}
+use Rattle.automata_hybrid.specs.Searches.Traces.{Trace}
 
 -- a run along a trace reads the byte at place `k`: the state there is not dead, and an earliest run has reported
 -- nothing
@@ -24,7 +24,7 @@ piece_input piece earliest =
 -- the powerset state after the first `k` bytes of a piece, from the one before it
 abbrev pub piece_state : Machine → (piece : List ℕ) → Powerset → (k : ℕ) → Powerset
 piece_state m piece q k =
-    after_units q (successor m.nfa (match_kind_of m.config)) (forward_tape piece 0 (length piece)) k
+    after_units q (full_dfa m).step (forward_tape piece 0 (length piece)) k
 
 -- the trace of a piece from that state
 abbrev pub piece_trace : Machine → (piece : List ℕ) → (earliest : Bool) → Powerset → Trace

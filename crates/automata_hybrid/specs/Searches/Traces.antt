@@ -1,11 +1,10 @@
 -- The powerset states that units lead through, one after another, from any state. The loops that follow cached
 -- transitions state by them what they do: a pass begins at its start state, and a run over a piece of a haystack begins
 -- at the state that a search has reached.
-use Rattle.std.specs.Prelude.{ℕ, suc, Bool, true, false, Option}
+use Rattle.std.specs.Prelude.{ℕ, Option}
 use Rattle.automata_base.specs.Haystacks.Input.{Input}
 use Rattle.automata_base.specs.Paths.Selections.{Pair}
 use Rattle.automata_base.specs.Powersets.Powerset.{Powerset}
-use Rattle.automata_determinize.specs.Retraced.Passes.{first_among, last_among}
 use Rattle.automata_base.specs.declared.util.search.Direction.{Direction}
 use Rattle.automata_hybrid.specs.Machines.Machine.{Machine}
 use Rattle.automata_hybrid.specs.Searches.Passes.{reported_in, state_in}
@@ -16,12 +15,6 @@ pub record Trace : Type 0 where
   pub state : ℕ → Powerset
   -- what these units report
   pub reported : ℕ → Option Pair
-
--- what the first `k` units report, if they lead through these states: the first match in an earliest search, and the
--- last one in any other
-abbrev pub reported_along : (earliest : Bool) → (ℕ → Powerset) → ℕ → Option Pair
-reported_along true state k = first_among (λ i. (state (suc i)).patterns) k
-reported_along false state k = last_among (λ i. (state (suc i)).patterns) k
 
 -- the trace of a pass, which begins at its start state
 abbrev pub pass_trace : Direction → Machine → Input → Trace

@@ -2,7 +2,6 @@
 -- the cache.
 use Rattle.std.specs.Prelude.{ℕ, ◌≡◌, ◌<◌, ◌≤◌, true, cond, Option, None, Some, slice_index}
 use Rattle.automata_base.specs.ByteClasses.Classes.{is_quit}
-use Rattle.automata_determinize.specs.Retraced.Steps.{start_state_of}
 use Rattle.automata_base.specs.declared.util.search.Anchored.{Anchored}
 use Rattle.automata_base.specs.declared.util.search.MatchErrorKind.TheVariants.{Quit as QuitAt, GaveUp}
 use Rattle.automata_base.specs.declared.util.search.MatchErrorKind.TheVariants.{UnsupportedAnchored as UnsupportedMode}
@@ -10,6 +9,7 @@ use Rattle.automata_config.specs.declared.error.StartError.{StartError}
 use Rattle.automata_config.specs.declared.error.StartError.TheVariants as start
 use Rattle.automata_config.specs.declared.error.SearchError.{SearchError}
 use Rattle.automata_config.specs.declared.error.SearchError.TheVariants as search
+use Rattle.automata_hybrid.specs.Machines.FullDfas.{full_dfa}
 use Rattle.automata_hybrid.specs.declared.cache.row.Row.{Row}
 use Rattle.automata_hybrid.specs.Cache.Ids.{dead_id}
 use Rattle.automata_hybrid.specs.Machines.Machine.{Machine}
@@ -35,7 +35,7 @@ HasSlot m mode behind = slot_behind m mode behind < m.slots
 -- the row of a start state, which has the start tag if the settings specialize start states
 abbrev pub start_row : Machine → Anchored → Option ℕ → Row
 start_row m mode behind = record {
-  state = start_state_of m.nfa mode behind;
+  state = (full_dfa m).start mode behind;
   started = specialize_start_states_of m.config;
 }
 
@@ -59,7 +59,7 @@ pub record IsStartAnswer (m : Machine) (mode : Anchored) (behind : Option ℕ) (
   -- its row is there
   pub row : HoldsRow new id
   -- it names the start state
-  pub named : Leads new.store.table id (start_state_of m.nfa mode behind)
+  pub named : Leads new.store.table id ((full_dfa m).start mode behind)
   -- it has the match tag exactly if its state has patterns
   pub tag : HasItsMatchTag new.store.table id
   -- for a pattern that is out of range the start is dead

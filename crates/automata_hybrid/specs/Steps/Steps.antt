@@ -1,13 +1,12 @@
 -- Steps: the ID that a call returns, on a byte or on the end. Known.Steps has the effect of the call on the cache.
 use Rattle.std.specs.Prelude.{ℕ, ◌≡◌, ◌<◌, ◌≤◌, true, false, Option}
 use Rattle.automata_base.specs.Powersets.Powerset.{Powerset}
-use Rattle.automata_determinize.specs.Retraced.Steps.{successor}
+use Rattle.automata_hybrid.specs.Machines.FullDfas.{full_dfa}
 use Rattle.automata_hybrid.specs.Cache.Stores.{Stored, cell_of}
 use Rattle.automata_hybrid.specs.Cache.Caches.{CacheView, HoldsRow}
 use Rattle.automata_hybrid.specs.Cache.Ids.{fixed_from, quit_id}
 use Rattle.automata_hybrid.specs.Machines.Machine.{quits_on, unit_class, Machine}
 use Rattle.automata_hybrid.specs.Cache.Table.{HasItsMatchTag, Leads, Names}
-use Rattle.automata_config.specs.Options.{match_kind_of}
 
 -- the ID that a cached transition leads to
 abbrev pub known_step : Machine → Stored → (id : ℕ) → (unit : Option ℕ) → ℕ
@@ -26,7 +25,7 @@ pub record IsStepAnswer (m : Machine) (id : ℕ) (unit : Option ℕ) (old new : 
   -- any other unit leads from a state to its successor
   pub named :
       quits_on m unit ≡ false → (q : Powerset) → Names old.store.table id q
-      → Leads new.store.table next (successor m.nfa (match_kind_of m.config) q unit)
+      → Leads new.store.table next ((full_dfa m).step q unit)
   -- afterwards the transition to this ID is cached, in the row that the state then has, even if the call cleared the
   -- cache
   pub cached :

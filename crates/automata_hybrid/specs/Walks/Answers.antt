@@ -1,6 +1,6 @@
 -- What an overlapping walk has reported, and why a call of it fails.
 use Rattle.std.specs.Prelude.{ℕ, zero, suc, ◌≡◌, ◌<◌, ◌≤◌, ◌+◌, false, List, [], ◌∷◌, length, Option, None, Some}
-use Rattle.automata_base.specs.Answers.Answers.{AreUnsplit, offset_in}
+use Rattle.automata_base.specs.Answers.Answers.{AreUnsplit, Walks, offset_in}
 use Rattle.automata_base.specs.ByteClasses.Classes.{is_quit}
 use Rattle.automata_base.specs.Haystacks.Input.{Input}
 use Rattle.automata_base.specs.Haystacks.Matches.{HalfMatch}
@@ -9,8 +9,7 @@ use Rattle.automata_base.specs.Powersets.Powerset.{Powerset, dead}
 use Rattle.automata_base.specs.Paths.Selections.{Pair}
 use Rattle.automata_base.specs.Haystacks.Tapes.{is_split}
 use Rattle.automata_base.specs.declared.util.search.Direction.{Direction}
-use Rattle.automata_determinize.specs.Retraced.Passes.{pairs_reported}
-use Rattle.automata_determinize.specs.Laws.Walks.{AreReported}
+use Rattle.automata_determinize.specs.Retraced.Passes.{pairs_among}
 use Rattle.automata_config.specs.declared.error.SearchError.{SearchError}
 use Rattle.automata_config.specs.declared.error.SearchError.TheVariants as search
 use Rattle.automata_hybrid.specs.Machines.Machine.{Machine, quits_on}
@@ -18,15 +17,22 @@ use Rattle.automata_hybrid.specs.Searches.Passes.{HasReadNoQuit, Skips, state_in
 use Rattle.automata_hybrid.specs.Steps.Starts.{MayStart}
 use Rattle.automata_hybrid.specs.Cache.Table.{IsRowState}
 use Rattle.automata_hybrid.specs.Walks.State.{At, Ended, Fresh, Stage, Walk}
-use Rattle.automata_config.specs.Options.{match_kind_of}
+
+-- the pairs that the first `k` units report, if they lead through these states
+unfoldable pub pairs_along : (ℕ → Powerset) → ℕ → List Pair
+pairs_along state k = pairs_among (λ i. (state (suc i)).patterns) k
 
 -- the pairs that a pass reports by its first `k` units; their places are the pass's
 abbrev pub pairs_reported_in : Direction → Machine → Input → ℕ → List Pair
-pairs_reported_in way m input k = pairs_reported m.nfa (match_kind_of m.config) input.anchored (tape_in way input) k
+pairs_reported_in way m input k = pairs_along (λ i. state_in way m input i) k
 
--- the whole list of a walk, by offsets
+-- the pass over the span of an input that is not done reports these pairs
+abbrev pub ReportsPairs : Direction → Machine → Input → List Pair → Type 0
+ReportsPairs way m input pairs = pairs ≡ pairs_reported_in way m input (suc (length (tape_in way input).bytes))
+
+-- the whole list of a walk: what its pass reports, by offsets, without the split ones if these are skipped
 abbrev pub AreWalked : Direction → Machine → Input → List Pair → Type 0
-AreWalked way m input pairs = AreReported way m.nfa (match_kind_of m.config) input pairs
+AreWalked way m input pairs = Walks (ReportsPairs way m) (Skips m) way input pairs
 
 -- the pair at an index, as a half match
 abbrev pub half_nth : List Pair → ℕ → Option HalfMatch

@@ -5,16 +5,17 @@ ghost use Rattle.automata_determinize.specs.Powersets.Passes.{IsUnit};
 ghost use Rattle.automata_base.specs.Powersets.Powerset.{Powerset, cost};
 ghost use Rattle.automata_determinize.specs.Retraced.Steps.{start_state_of, successor};
 ghost use Rattle.automata_config.specs.Options.{match_kind_of};
-ghost use Rattle.automata_hybrid.specs.Cache.Caches.{IsCacheOf, with_store};
+ghost use Rattle.automata_hybrid.specs.Cache.Caches.{with_store};
 ghost use Rattle.automata_hybrid.specs.Cache.Ids.{unknown_id};
 ghost use Rattle.automata_hybrid.specs.Cache.Table.{IsRowId, Names};
 ghost use Rattle.automata_hybrid.specs.Machines.Machine.{quits_on, unit_class};
 ghost use Rattle.automata_hybrid.specs.Machines.Reachable.{IsStateOf};
-ghost use Rattle.automata_hybrid.specs.Private.Cache.Caches.{counted_in_store};
+ghost use Rattle.automata_hybrid.specs.Private.Cache.Caches.{IsStoreOf, counted_in_store};
 ghost use Rattle.automata_hybrid.specs.Private.Cache.Clears.{LeadsToStart};
 ghost use Rattle.automata_hybrid.specs.Private.Cache.Growth.{AddFails, HasAdded, HasAddedNext};
+ghost use Rattle.automata_hybrid.specs.Private.Cache.Sound.{IsSoundCacheOf};
 ghost use Rattle.automata_hybrid.specs.Private.Cache.Stores.{with_next, with_start_in_store};
-ghost use Rattle.automata_hybrid.specs.Private.Cache.Table.{IsNewState, LeadsByClass};
+ghost use Rattle.automata_hybrid.specs.Private.Cache.Table.{IsNewState, IsSoundTable, LeadsByClass};
 ghost use Rattle.automata_hybrid.specs.Private.Cache.Usage.{Fits};
 ghost use Rattle.automata_hybrid.specs.Private.Steps.Starts.{IsStartSlot};
 
@@ -46,7 +47,7 @@ impl Cache {
         id: LazyStateID,
         unit: Option<u8>,
     ) -> Result<Key, AllocError>
-        requires of { IsCacheOf self.old dfa.now }
+        requires sound { IsSoundCacheOf self.old dfa.now }
         requires valid { IsRowId self.old.store.table id }
         requires unit { IsUnit unit }
         requires clean { quits_on dfa.now unit ≡ false }
@@ -59,7 +60,6 @@ impl Cache {
         ensures is_of { IfOk result (λ k. IsStateOf dfa.now k) }
         ensures counted { self.new ≡ counted_in_store self.old }
     {
-        dfa.see_machine();
         let from = self.store.table.state(id);
         let kind = dfa.get_config().get_match_kind();
         let key = next_key(dfa.get_nfa(), &mut self.scratch, kind, from, unit)?;
@@ -73,14 +73,13 @@ impl Cache {
         mode: Anchored,
         prev: Option<u8>,
     ) -> Result<Key, AllocError>
-        requires of { IsCacheOf self.old dfa.now }
+        requires sound { IsSoundCacheOf self.old dfa.now }
         requires slot { (slot : ℕ) × IsStartSlot dfa.now mode prev slot }
         ensures value { IfOk result (λ k. k ≡ start_state_of dfa.now.nfa mode prev) }
         ensures cost { IfOk result (λ k. cost k ≤ dfa.now.greatest) }
         ensures is_of { IfOk result (λ k. IsStateOf dfa.now k) }
         ensures counted { self.new ≡ counted_in_store self.old }
     {
-        dfa.see_machine();
         let key = start_key(dfa.get_nfa(), &mut self.scratch, mode, prev)?;
         Ok(key)
     }
@@ -113,7 +112,7 @@ impl Cache {
         from: LazyStateID,
         state: State,
     ) -> Result<(LazyStateID, LazyStateID), StepError>
-        requires dfa { IsCacheOf self.old dfa.now }
+        requires sound { IsSoundCacheOf self.old dfa.now }
         requires valid { IsRowId self.old.store.table from }
         requires new { IsNewState self.old.store.table state }
         ensures added { IfOk result (λ p. HasAddedNext self.old self.new from state p.0 p.1) }
@@ -138,7 +137,7 @@ impl Cache {
         state: State,
         bytes: usize,
     ) -> Result<(LazyStateID, LazyStateID), StepError>
-        requires dfa { IsCacheOf self.old dfa.now }
+        requires sound { IsSoundCacheOf self.old dfa.now }
         requires valid { IsRowId self.old.store.table from }
         requires new { IsNewState self.old.store.table state }
         requires bytes { bytes ≡ cost state }
@@ -160,7 +159,7 @@ impl Cache {
         state: State,
         started: bool,
     ) -> Result<LazyStateID, StepError>
-        requires dfa { IsCacheOf self.old dfa.now }
+        requires sound { IsSoundCacheOf self.old dfa.now }
         requires new { IsNewState self.old.store.table state }
         ensures added { IfOk result (HasAdded self.old self.new (record { state = state; started = started })) }
         ensures refused { IfErr result (AddFails self.old self.new state) }
@@ -183,7 +182,7 @@ impl Cache {
         started: bool,
         bytes: usize,
     ) -> Result<LazyStateID, StepError>
-        requires dfa { IsCacheOf self.old dfa.now }
+        requires sound { IsSoundCacheOf self.old dfa.now }
         requires new { IsNewState self.old.store.table state }
         requires bytes { bytes ≡ cost state }
         requires full { Fits self.old.store (cost state) → ⊥ }
@@ -203,7 +202,9 @@ impl Cache {
         requires free { slice_index self.old.store.table.of.template class ≡ unknown_id }
         requires next { (q : Powerset) × Names self.old.store.table id q
             × LeadsByClass self.old.store.table next q class }
-        ensures { self.new ≡ with_store self.old (with_next self.old.store id class next) }
+        ensures value { self.new ≡ with_store self.old (with_next self.old.store id class next) }
+        ensures store { IsStoreOf self.new.store self.new.store.table.of }
+        ensures table { IsSoundTable self.new.store.table }
     {
         let old = self
             .store
@@ -219,7 +220,10 @@ impl Cache {
         requires leads { LeadsToStart self.old.store.table id slot }
         ensures value { self.new ≡ with_store self.old (with_start_in_store self.old.store slot id) }
         ensures written { slice_index self.new.store.starts slot ≡ id }
+        ensures store { IsStoreOf self.new.store self.new.store.table.of }
+        ensures table { IsSoundTable self.new.store.table }
     {
         self.store.starts[slot] = id;
+        self.reveal_invariant();
     }
 }

@@ -4,6 +4,7 @@ ghost use Rattle.std.specs.Prelude.{◌≡◌, ◌+◌, ◌*◌, ◌^◌, ◌<�
 ghost use Rattle.automata_base.specs.Powersets.Powerset.{Powerset};
 ghost use Rattle.automata_hybrid.specs.Cache.Table.{id_of, Names, IsRowId, row_cost};
 ghost use Rattle.automata_hybrid.specs.Private.Cache.Clears.{AllStarts, IsSlot, IsPut, KeepsSlot, KeepsAllStarts};
+ghost use Rattle.automata_hybrid.specs.Private.Cache.Table.{IsSoundTable};
 ghost use Rattle.automata_hybrid.specs.Cache.Ids.{offset_limit};
 
 use crate::cache::row;
@@ -18,6 +19,8 @@ pub fn keep_row(kept: &mut Table, old: &Table, id: LazyStateID) -> Result<LazySt
     requires of { kept.old.of ≡ old.now.of }
     requires fits { length kept.old.cells < offset_limit }
     requires costs { sum_by row_cost kept.old.rows + old.now.of.greatest < 2 ^ 64 }
+    requires sound { IsSoundTable kept.old }
+    ensures sound { OnOk result (IsSoundTable kept.new) }
     ensures row { IfOk result (λ n. IsPut old.now kept.old kept.new id n) }
     ensures named { IfOk result (λ n. (q : Powerset) → Names old.now id q → Names kept.new n q) }
     ensures absent { OnOk result ((q : Powerset) → id_of old.now q ≡ None → id_of kept.old q ≡ None
@@ -46,16 +49,17 @@ pub fn keep_slot(
     requires of { kept.old.of ≡ old.now.of }
     requires fits { length kept.old.cells < offset_limit }
     requires costs { sum_by row_cost kept.old.rows + old.now.of.greatest < 2 ^ 64 }
-    ensures { OnOk result (KeepsSlot old.now id (record { table = kept.old; starts = slots.old.items })
+    requires old { IsSoundTable old.now }
+    requires sound { IsSoundTable kept.old }
+    ensures sound { OnOk result (IsSoundTable kept.new) }
+    ensures kept { OnOk result (KeepsSlot old.now id (record { table = kept.old; starts = slots.old.items })
         (record { table = kept.new; starts = slots.new.items })) }
 {
-    old.see_rows();
     if id.is_fixed() {
         slots.push(id)?;
         return Ok(());
     }
     let new = keep_row(kept, old, id)?;
-    kept.see_rows();
     slots.push(new)?;
     Ok(())
 }
@@ -70,12 +74,13 @@ pub fn keep_starts(
     requires named { AllStarts old.now starts.now }
     requires offsets { (length starts.now + 3) * old.now.of.stride < offset_limit }
     requires costs { (length starts.now + 1) * old.now.of.greatest < 2 ^ 64 }
-    ensures { IfOk result (λ p. KeepsAllStarts old.now starts.now (record { table = p.0; starts = p.1.items })) }
+    requires sound { IsSoundTable old.now }
+    ensures sound { IfOk result (λ p. IsSoundTable p.0) }
+    ensures kept { IfOk result (λ p. KeepsAllStarts old.now starts.now (record { table = p.0; starts = p.1.items })) }
 {
     let mut table = old.emptied(dfa)?;
     let mut slots = Vec::with_capacity(dfa.get_nfa().alloc(), starts.len())?;
     for id in starts {
-        table.see_rows();
         keep_slot(&mut table, &mut slots, old, *id)?;
     }
     Ok((table, slots))

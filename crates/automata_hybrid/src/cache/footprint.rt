@@ -43,7 +43,6 @@ impl Cache {
         ensures usage { result ≡ usage (dfa_of self.now) (known_of self.now) }
         ensures within { result ≤ (dfa_of self.now).capacity }
     {
-        self.see_bounds();
         self.store.memory_usage()
     }
 
@@ -54,7 +53,7 @@ impl Cache {
     pub fn leap_usage(&self) -> usize
         ensures { usage (dfa_of self.now) (known_of self.now) + result ≤ (dfa_of self.now).capacity }
     {
-        self.see_bounds();
+        self.reveal_invariant();
         match &self.leaping.leaps {
             Some(leaps) => leaps.shape.bytes(),
             None => 0,

@@ -23,6 +23,7 @@ ghost use Rattle.automata_hybrid.specs.Machines.OwnStates.{IsOwn};
 ghost use Rattle.automata_hybrid.specs.Private.Cache.Caches.{IsStoreOf};
 ghost use Rattle.automata_hybrid.specs.Private.Cache.Clears.{IsSlot};
 ghost use Rattle.automata_hybrid.specs.Private.Cache.Leaps.{AreLeaps, IsShapeOf, making_bytes};
+ghost use Rattle.automata_hybrid.specs.Private.Cache.Sound.{IsSoundCacheOf};
 ghost use Rattle.automata_hybrid.specs.Private.Cache.Table.{IsCell, IsSoundTable, HasState};
 ghost use Rattle.automata_hybrid.specs.Private.Cache.Usage.{usage_in_store};
 
@@ -110,6 +111,7 @@ impl Cache {
     pub fn new(dfa: &DFA) -> Result<Cache, AllocError>
         ensures { IfOk result (λ c. c ≡ fresh_cache dfa.now) }
     {
+        dfa.reveal_invariant();
         let scratch = Scratch::new(dfa.get_nfa())?;
         let store = Store::fresh(dfa)?;
         Ok(Cache {
@@ -149,7 +151,6 @@ impl Cache {
         ensures value { result ≡ held_states self.now.store.table }
         ensures held { All (IsHeldState self.now.store) result }
     {
-        self.see_bounds();
         self.store.table.states()
     }
 
@@ -161,7 +162,6 @@ impl Cache {
         ensures value { result.now ≡ self.now.store.starts }
         ensures leads { (mode : Anchored) (behind : Option ℕ) → LeadsAsStart self.now.store mode behind }
     {
-        self.see_bounds();
         self.store.starts.as_slice()
     }
 
@@ -200,7 +200,6 @@ impl Cache {
         ensures own { (q : Powerset) → Names self.now.store.table id q → IsOwn self.now.store.table.of.nfa q }
         ensures stride { self.now.store.table.of.stride ≤ 512 }
     {
-        self.see_bounds();
         self.store.table.cell_in_row(id, row, class)
     }
 
@@ -209,9 +208,7 @@ impl Cache {
         requires { slot < length self.now.store.starts }
         ensures value { result ≡ slice_index self.now.store.starts slot }
         ensures leads { IsSlot self.now.store.table slot result }
-        ensures tag { HasItsMatchTag self.now.store.table result }
     {
-        self.see_bounds();
         self.store.starts[slot]
     }
 
@@ -289,7 +286,7 @@ impl Cache {
     /// Calls `make_leaps` if enough bytes are searched once the open search has reached `at`.
     #[inline(always)]
     pub(crate) fn prepare_leaps(&mut self, dfa: &DFA, at: usize)
-        requires { IsCacheOf self.old dfa.now }
+        requires { IsSoundCacheOf self.old dfa.now }
         ensures { self.new ≡ self.old }
     {
         let total = self.store.searched.total_at(at);
@@ -303,7 +300,7 @@ impl Cache {
     /// no room, or there are too many rows or classes, after the next clear.
     #[inline(never)]
     fn make_leaps(&mut self, dfa: &DFA, total: usize)
-        requires { IsCacheOf self.old dfa.now }
+        requires { IsSoundCacheOf self.old dfa.now }
         ensures { self.new ≡ self.old }
     {
         self.leaping = Leaping::none();
@@ -325,14 +322,13 @@ impl Cache {
 
     /// Builds leaps of a shape. There has to be room for them and for what building them takes.
     fn leaps_of(&self, dfa: &DFA, shape: Shape) -> Result<Box<Leaps>, AllocError>
-        requires dfa { IsCacheOf self.now dfa.now }
+        requires sound { IsSoundCacheOf self.now dfa.now }
         requires of { IsShapeOf self.now.store.table shape }
         requires rows { shape.rows ≡ length self.now.store.table.rows }
         requires room { usage_in_store self.now.store + making_bytes shape ≤ self.now.store.table.of.capacity }
         ensures leaps { IfOk result (λ b. AreLeaps self.now.store.table b.value) }
         ensures shape { IfOk result (λ b. b.value.shape ≡ shape) }
     {
-        dfa.see_machine();
         let alloc = dfa.get_nfa().alloc();
         let leaps = Leaps::of_table(alloc, &self.store.table, shape)?;
         let boxed = Box::new(alloc, leaps)?;
@@ -420,13 +416,21 @@ impl Cache {
         self.store.searched.count(bytes);
     }
 
-    /// Shows a proof what is true of every cache, for example that it is within the settings of its DFA. It does
-    /// nothing.
-    pub(crate) fn see_bounds(&self)
-        ensures bounds { IsStoreOf self.now.store self.now.store.table.of }
-        ensures sound { IsSoundTable self.now.store.table }
+    /// Reveals the invariant of a cache to a proof. It does nothing.
+    fn reveal_invariant(&self)
+        ensures store { IsStoreOf self.now.store self.now.store.table.of }
+        ensures table { IsSoundTable self.now.store.table }
     {
         let _clears = self.store.clears;
-        self.store.table.see_rows();
+        self.store.table.reveal_invariant();
+    }
+
+    /// Reveals the invariants of a DFA and of its cache to a proof. It does nothing.
+    pub(crate) fn reveal_invariant_of(&self, dfa: &DFA)
+        requires { IsCacheOf self.now dfa.now }
+        ensures { IsSoundCacheOf self.now dfa.now }
+    {
+        dfa.reveal_invariant();
+        self.reveal_invariant();
     }
 }

@@ -2,9 +2,9 @@
 //! again if a clear has dropped them or if the cache is another one.
 ghost use Rattle.std.specs.Prelude.{IfErr, IfOk, false, ◌≡◌};
 ghost use Rattle.automata_base.specs.Powersets.Powerset.{Powerset};
-ghost use Rattle.automata_hybrid.specs.Cache.Caches.{IsCacheOf};
 ghost use Rattle.automata_hybrid.specs.Cache.Table.{IsRowId, IsRowState, Names, id_of};
 ghost use Rattle.automata_hybrid.specs.Private.Cache.Growth.{AddFails, HasAdded};
+ghost use Rattle.automata_hybrid.specs.Private.Cache.Sound.{IsSoundCacheOf};
 ghost use Rattle.automata_hybrid.specs.Private.Cache.Table.{IsNewState};
 ghost use Rattle.automata_hybrid.specs.Private.Walks.Parts.{IsRestoreResult};
 ghost use Rattle.automata_hybrid.specs.Private.Walks.State.{IsHandle};
@@ -34,25 +34,21 @@ impl Cache {
         ensures state { (q : Powerset) → Names self.now.store.table id q → result.value ≡ q }
         ensures row { IsRowState self.now.store.table.of result.value }
     {
-        self.see_bounds();
         Snapshot::of(self.store.table.state(id))
     }
 
     /// Returns the ID of a held state. If the cache does not have the state, it is added again.
     pub(crate) fn restore(&mut self, dfa: &DFA, handle: &Handle) -> Result<LazyStateID, StepError>
-        requires of { IsCacheOf self.old dfa.now }
+        requires sound { IsSoundCacheOf self.old dfa.now }
         requires key { handle.now.key ≡ handle.now.state }
         requires state { IsRowState dfa.now handle.now.state }
-        ensures of { IsCacheOf self.new dfa.now }
+        ensures sound { IsSoundCacheOf self.new dfa.now }
         ensures back { IsRestoreResult dfa.now handle.now.state self.old self.new result }
     {
-        dfa.see_machine();
-        self.see_bounds();
         if let Some(id) = self.find(&handle.key) {
             return Ok(id);
         }
         let id = self.add_again(dfa, &handle.state)?;
-        self.see_bounds();
         Ok(id)
     }
 
@@ -68,18 +64,18 @@ impl Cache {
     /// Adds the state of a walk that a clear has dropped, or that the walk got from another cache. The "gave up" error
     /// comes before the state is shared. An error changes nothing.
     fn add_again(&mut self, dfa: &DFA, state: &State) -> Result<LazyStateID, StepError>
-        requires dfa { IsCacheOf self.old dfa.now }
+        requires sound { IsSoundCacheOf self.old dfa.now }
         requires new { IsNewState self.old.store.table state.now }
-        ensures of { IsCacheOf self.new dfa.now }
+        ensures sound { IsSoundCacheOf self.new dfa.now }
         ensures added { IfOk result (HasAdded self.old self.new (record { state = state.now; started = false })) }
         ensures refused { IfErr result (AddFails self.old self.new state.now) }
     {
-        self.see_bounds();
         if self.store.gives_up(state) {
             return Err(StepError::Cache(CacheError));
         }
         let state = state.clone()?;
         let id = self.add_start(dfa, state, false)?;
+        self.reveal_invariant();
         Ok(id)
     }
 }

@@ -1,9 +1,9 @@
 //! Start states of a cache: the state of a start slot, cached or determinized now.
 ghost use Rattle.std.specs.Prelude.{◌≡◌, IfOk, IfErr, OnOk, false};
-ghost use Rattle.automata_hybrid.specs.Cache.Caches.{IsCacheOf};
 ghost use Rattle.automata_hybrid.specs.Known.Events.{is_cached};
 ghost use Rattle.automata_hybrid.specs.Known.Steps.{IsStartRun, StartFails};
 ghost use Rattle.automata_hybrid.specs.Known.Stores.{known_of};
+ghost use Rattle.automata_hybrid.specs.Private.Cache.Sound.{IsSoundCacheOf};
 ghost use Rattle.automata_hybrid.specs.Private.Steps.Starts.{HasStarted, IsStartSlot, start_error};
 ghost use Rattle.automata_hybrid.specs.Steps.Events as events;
 ghost use Rattle.automata_hybrid.specs.Steps.Starts.{IsStartAnswer};
@@ -36,15 +36,13 @@ impl Cache {
         mode: Anchored,
         prev: Option<u8>,
     ) -> Result<LazyStateID, StartError>
-        requires of { IsCacheOf self.old dfa.now }
+        requires sound { IsSoundCacheOf self.old dfa.now }
         requires slot { IsStartSlot dfa.now mode prev slot }
-        ensures of { IsCacheOf self.new dfa.now }
+        ensures sound { IsSoundCacheOf self.new dfa.now }
         ensures answer { IfOk result (IsStartAnswer dfa.now mode prev self.old self.new) }
         ensures refusal { IfErr result (StartFails dfa.now mode prev (known_of self.old) (known_of self.new)) }
         ensures run { OnOk result (IsStartRun dfa.now mode prev (known_of self.old) (known_of self.new)) }
     {
-        dfa.see_machine();
-        self.see_bounds();
         let found = self.start_slot(slot);
         if !found.is_unknown() {
             return Ok(found);
@@ -64,28 +62,24 @@ impl Cache {
         mode: Anchored,
         prev: Option<u8>,
     ) -> Result<LazyStateID, StepError>
-        requires of { IsCacheOf self.old dfa.now }
+        requires sound { IsSoundCacheOf self.old dfa.now }
         requires slot { IsStartSlot dfa.now mode prev slot }
         requires unknown { is_cached dfa.now (events.Start mode prev) (known_of self.old) ≡ false }
-        ensures of { IsCacheOf self.new dfa.now }
+        ensures sound { IsSoundCacheOf self.new dfa.now }
         ensures started { IfOk result (HasStarted dfa.now mode prev self.old self.new) }
         ensures refusal { IfErr result
             (λ e. StartFails dfa.now mode prev (known_of self.old) (known_of self.new) (start_error e)) }
     {
-        dfa.see_machine();
-        self.see_bounds();
         let key = self.determinize_start(dfa, mode, prev)?;
         match self.resolve(dfa, key)? {
             Found::Known(id) => {
                 self.set_start(slot, id);
-                self.see_bounds();
                 Ok(id)
             }
             Found::New(state) => {
                 let started = dfa.get_config().get_specialize_start_states();
                 let id = self.add_start(dfa, state, started)?;
                 self.set_start(slot, id);
-                self.see_bounds();
                 Ok(id)
             }
         }

@@ -9,10 +9,10 @@ ghost use Rattle.automata_hybrid.specs.Cache.Stores.{IsCacheError, fresh_store};
 ghost use Rattle.automata_hybrid.specs.Cache.Table.{IsRowId, fresh};
 ghost use Rattle.automata_hybrid.specs.Private.Cache.Changes.{HasGrown, HasSavedRow};
 ghost use Rattle.automata_hybrid.specs.Private.Cache.Stores.{cache_settings};
-ghost use Rattle.automata_hybrid.specs.Private.Cache.Table.{IsNewState};
+ghost use Rattle.automata_hybrid.specs.Private.Cache.Table.{IsNewState, IsSoundTable};
 ghost use Rattle.automata_hybrid.specs.Private.Cache.Usage.{usage_in_store, Fits, refuses_in_store, FitsAny};
 ghost use Rattle.automata_hybrid.specs.Private.Cache.Usage.{IsCleared};
-ghost use Rattle.automata_hybrid.specs.Private.Machines.Machine.{IsTemplate};
+ghost use Rattle.automata_hybrid.specs.Private.Machines.Machine.{IsMachine, IsTemplate};
 
 use crate::cache::clears::{keep_row, keep_starts};
 use crate::cache::progress::Searched;
@@ -72,9 +72,9 @@ impl Store {
     /// Returns the store of a new cache for a DFA, with only the fixed rows and with empty start slots.
     #[inline(always)]
     pub fn fresh(dfa: &DFA) -> Result<Store, AllocError>
+        requires { IsMachine dfa.now }
         ensures { IfOk result (λ c. c ≡ fresh_store dfa.now) }
     {
-        dfa.see_machine();
         let nfa = dfa.get_nfa();
         let stride = dfa.byte_classes().stride();
         let slots = start_slots(nfa, dfa.get_config().get_starts_for_each_pattern());
@@ -119,6 +119,8 @@ impl Store {
     /// Returns the number of accounted bytes.
     pub fn memory_usage(&self) -> usize
         ensures usage { result ≡ usage_in_store self.now }
+        ensures whole { length self.now.table.cells ≡ (length self.now.table.rows + 3) * self.now.table.of.stride }
+        ensures slots { length self.now.starts ≡ self.now.table.of.slots }
         ensures within { result ≤ self.now.table.of.capacity }
     {
         let states = self.table.len();
@@ -198,7 +200,9 @@ impl Store {
     /// Returns the store after a clear, and leaves this one unchanged. It fails if the search gives up instead, or if
     /// memory runs out.
     pub fn cleared(&self, dfa: &DFA) -> Result<Store, StepError>
-        requires { dfa.now ≡ self.now.table.of }
+        requires of { dfa.now ≡ self.now.table.of }
+        requires sound { IsSoundTable self.now.table }
+        ensures sound { IfOk result (λ s. IsSoundTable s.table) }
         ensures cleared { IfOk result (IsCleared self.now) }
         ensures room { IfOk result FitsAny }
         ensures gives_up { IfErr result (λ e. IsCacheError e ↔ (refuses_in_store self.now ≡ true)) }
@@ -207,7 +211,6 @@ impl Store {
             return Err(StepError::Cache(CacheError));
         }
         let (table, starts) = keep_starts(dfa, &self.table, self.starts.as_slice())?;
-        table.see_rows();
         Ok(Store {
             table,
             starts,
@@ -229,10 +232,10 @@ impl Store {
         requires new { IsNewState self.old.table state }
         requires bytes { bytes ≡ cost state }
         requires fits { Fits self.old (cost state) }
+        requires sound { IsSoundTable self.old.table }
         ensures grown { IfOk result (HasGrown self.old (record { state = state; started = started }) self.new) }
         ensures err { OnErr result (self.new ≡ self.old) }
     {
-        self.table.see_rows();
         let added = self.table.add(state, started, bytes)?;
         Ok(added)
     }
@@ -243,12 +246,12 @@ impl Store {
         requires valid { IsRowId old.now id }
         requires of { self.old.table.of ≡ old.now.of }
         requires few { length self.old.table.rows ≤ length self.old.starts }
+        requires sound { IsSoundTable self.old.table }
+        ensures sound { OnOk result (IsSoundTable self.new.table) }
         ensures saved { IfOk result (HasSavedRow old.now id self.old self.new) }
         ensures of { OnOk result (self.new.table.of ≡ self.old.table.of) }
     {
-        self.table.see_rows();
         let kept = keep_row(&mut self.table, old, id)?;
-        self.table.see_rows();
         Ok(kept)
     }
 
@@ -264,6 +267,7 @@ impl Store {
         requires room { FitsAny fresh }
         requires bytes { bytes ≡ cost state }
         requires new { IsNewState fresh.table state }
+        requires sound { IsSoundTable fresh.table }
         ensures grown { IfOk result (HasGrown fresh (record { state = state; started = started }) self.new) }
         ensures err { OnErr result (self.new ≡ self.old) }
     {

@@ -2,16 +2,17 @@
 //! map from states to the IDs of their rows. An ID has the offset of its row, so that a step adds a class and loads
 //! one cell. The cell is unknown until the step has been taken once.
 ghost use Rattle.std.specs.Prelude.{ℕ, ◌≡◌, ◌+◌, ◌-◌, ◌*◌, ◌/◌, ◌%◌, ◌^◌, ◌<◌, ◌≤◌, IfOk, IsTrue, ◌↔◌};
-ghost use Rattle.std.specs.Prelude.{OnErr, length, slice_index, slice_set, sum_by, false, cond};
+ghost use Rattle.std.specs.Prelude.{OnErr, OnOk, length, slice_index, slice_set, sum_by, false, cond};
 ghost use Rattle.automata_base.specs.Powersets.Powerset.{Powerset, cost, dead};
 ghost use Rattle.automata_base.specs.ByteClasses.Classes.{eoi_class, stride_for};
-ghost use Rattle.automata_hybrid.specs.Machines.Reachable.{IsStateOf};
 ghost use Rattle.automata_hybrid.specs.Cache.Ids.{unknown_id, offset_limit};
 ghost use Rattle.automata_hybrid.specs.Machines.Machine.{marked};
 ghost use Rattle.automata_hybrid.specs.Private.Machines.Machine.{IsTemplate};
 ghost use Rattle.automata_hybrid.specs.Cache.Table.{id_of, fresh, Names, row_cost, IsRowId, cell_at};
+ghost use Rattle.automata_hybrid.specs.Cache.Table.{HasItsMatchTag, IsRowState};
+ghost use Rattle.automata_hybrid.specs.Machines.OwnStates.{IsOwn};
 ghost use Rattle.automata_hybrid.specs.Private.Cache.Table.{LeadsByClass, HasState, IsNewState};
-ghost use Rattle.automata_hybrid.specs.Private.Cache.Table.{HasNewRow, IsCopiedRow};
+ghost use Rattle.automata_hybrid.specs.Private.Cache.Table.{HasNewRow, IsCopiedRow, RowsFitCells};
 ghost use Rattle.automata_hybrid.specs.Private.Cache.Table.{IsSoundTable, IsCell, with_cell};
 ghost use Rattle.automata_hybrid.specs.Private.Cache.Leaps.{LeadsToRow};
 ghost use Rattle.automata_hybrid.specs.Cache.States.{held_states};
@@ -133,8 +134,8 @@ impl Table {
         self.rows.len()
     }
 
-    /// Shows a proof what is true of the rows of every table. It does nothing.
-    pub fn see_rows(&self)
+    /// Reveals the invariant of a table to a proof. It does nothing.
+    pub fn reveal_invariant(&self)
         ensures { IsSoundTable self.now }
     {
         let _rows = &self.rows;
@@ -157,7 +158,8 @@ impl Table {
 
     /// Returns the states of all rows after the fixed ones.
     pub fn states(&self) -> States<'_>
-        ensures { result ≡ held_states self.now }
+        ensures value { result ≡ held_states self.now }
+        ensures rows { RowsFitCells self.now }
     {
         let fixed = 3 * self.stride;
         States::new(&self.rows, &self.cells[fixed..], self.stride, fixed)
@@ -167,8 +169,7 @@ impl Table {
     pub fn state(&self, id: LazyStateID) -> &State
         requires { IsRowId self.now id }
         ensures named { (q : Powerset) → Names self.now id q → result.now ≡ q }
-        ensures of { IsStateOf self.now.of result.now }
-        ensures cost { cost result.now ≤ self.now.of.greatest }
+        ensures row { IsRowState self.now.of result.now }
     {
         let index = self.row_index(id);
         let row = &self.rows[index];
@@ -209,6 +210,7 @@ impl Table {
         requires fits { length self.old.cells < offset_limit }
         requires costs { sum_by row_cost self.old.rows + cost state < 2 ^ 64 }
         ensures added { IfOk result (HasNewRow self.old (record { state = state; started = started }) self.new) }
+        ensures sound { OnOk result (IsSoundTable self.new) }
         ensures err { OnErr result (self.new ≡ self.old) }
     {
         self.cells.reserve(self.stride)?;
@@ -244,7 +246,8 @@ impl Table {
         requires stride { stride ≡ dfa.now.stride }
         requires template { template.items ≡ dfa.now.template }
         requires room { (room + 3) * stride < 2 ^ 64 }
-        ensures { IfOk result (λ t. t ≡ fresh dfa.now) }
+        ensures empty { IfOk result (λ t. t ≡ fresh dfa.now) }
+        ensures sound { IfOk result IsSoundTable }
     {
         let alloc = dfa.get_nfa().alloc();
         let mut cells = Vec::with_capacity(alloc, (room + 3) * stride)?;
@@ -269,7 +272,8 @@ impl Table {
     /// that a cache that clears often does not have to grow again each time.
     pub fn emptied(&self, dfa: &DFA) -> Result<Table, AllocError>
         requires { dfa.now ≡ self.now.of }
-        ensures { IfOk result (λ t. t ≡ fresh self.now.of) }
+        ensures empty { IfOk result (λ t. t ≡ fresh self.now.of) }
+        ensures sound { IfOk result IsSoundTable }
     {
         let template = Vec::from_slice(dfa.get_nfa().alloc(), &self.template)?;
         Table::fresh(dfa, self.stride, template, self.rows.len())
@@ -310,6 +314,8 @@ impl Table {
         requires offset { row ≡ id % offset_limit }
         ensures value { result ≡ slice_index self.now.cells (cell_at id class) }
         ensures named { (q : Powerset) → Names self.now id q → IsCell self.now q class result }
+        ensures tag { HasItsMatchTag self.now result }
+        ensures own { (q : Powerset) → Names self.now id q → IsOwn self.now.of.nfa q }
         ensures stride { self.now.of.stride ≤ 512 }
     {
         let cells = self.cells.as_slice();
@@ -323,7 +329,8 @@ impl Table {
         requires class { class < self.old.of.stride }
         requires free { slice_index self.old.of.template class ≡ unknown_id }
         requires next { (q : Powerset) × Names self.old id q × LeadsByClass self.old next q class }
-        ensures { self.new ≡ with_cell self.old id class next }
+        ensures value { self.new ≡ with_cell self.old id class next }
+        ensures sound { IsSoundTable self.new }
     {
         self.cells[id.offset() as usize + class] = next;
     }
@@ -350,8 +357,8 @@ impl Table {
         requires { index < length self.now.rows }
         ensures { result ≡ (index + 3) * self.now.of.stride }
     {
-        self.see_rows();
-        LazyStateID::at_offset((index + 3) * self.stride, 0)
+        let stride = self.stride;
+        LazyStateID::at_offset((index + 3) * stride, 0)
     }
 
     /// Returns a copy of a row: its state, and whether its ID has the start tag.

@@ -213,8 +213,8 @@ impl DFA {
         self.capacity
     }
 
-    /// Shows a proof what is true of every DFA. It does nothing.
-    pub(crate) fn see_machine(&self)
+    /// Reveals the invariant of a DFA to a proof. It does nothing.
+    pub(crate) fn reveal_invariant(&self)
         ensures machine { IsMachine self.now }
         ensures rising { AreClasses self.now.classes }
     {

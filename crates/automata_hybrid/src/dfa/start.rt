@@ -12,6 +12,8 @@ ghost use Rattle.automata_hybrid.specs.Cache.Ids.{unknown_id};
 ghost use Rattle.automata_hybrid.specs.Known.Steps.{IsStartRun, StartFails, StartFailsAt};
 ghost use Rattle.automata_hybrid.specs.Known.Stores.{known_of};
 ghost use Rattle.automata_hybrid.specs.Machines.StartSlots.{supports, slot_of};
+ghost use Rattle.automata_hybrid.specs.Private.Cache.Sound.{IsSoundCacheOf};
+ghost use Rattle.automata_hybrid.specs.Private.Machines.Machine.{IsMachine};
 ghost use Rattle.automata_hybrid.specs.Steps.BySteps.{StartsAt};
 ghost use Rattle.automata_hybrid.specs.Steps.Starts.{quit_behind, start_search_error, IsStartAnswer};
 
@@ -103,6 +105,7 @@ impl DFA {
     /// is not supported.
     #[inline(always)]
     fn mode_slot(&self, mode: Anchored, prev: Option<u8>) -> Result<Option<usize>, StartError>
+        requires { IsMachine self.now }
         ensures within { IfOk result (λ o. IfSome o (λ slot. slot < self.now.slots)) }
         ensures past { IfOk result (λ o. IfNone o (start_state_of self.now.nfa mode prev ≡ dead)) }
         ensures slot { IfOk result (λ o. IfSome o
@@ -112,7 +115,6 @@ impl DFA {
         ensures refused { (result ≡ Err (StartError.UnsupportedAnchored mode)) ↔ (supports self.now mode ≡ false) }
         ensures only { IfErr result (λ e. e ≡ StartError.UnsupportedAnchored mode) }
     {
-        self.see_machine();
         let kind = self.behind(prev);
         match mode {
             Anchored::No => Ok(Some(self.slot(0, kind))),
@@ -166,11 +168,10 @@ impl DFA {
         ensures run { OnOk result
             (IsStartRun self.now config.now.anchored config.now.look_behind (known_of cache.old) (known_of cache.new)) }
     {
-        self.see_machine();
+        cache.reveal_invariant_of(self);
         if let Some(byte) = self.quits_behind(config.get_look_behind()) {
             return Err(StartError::Quit { byte });
         }
-        cache.see_bounds();
         match self.mode_slot(config.get_anchored(), config.get_look_behind())? {
             None => Ok(cache.dead()),
             Some(slot) => cache.start(self, slot, config.get_anchored(), config.get_look_behind()),
@@ -186,13 +187,11 @@ impl DFA {
         mode: Anchored,
         prev: Option<u8>,
     ) -> LazyStateID
-        requires { IsCacheOf cache.now self.now }
+        requires { IsSoundCacheOf cache.now self.now }
         ensures answer { result < unknown_id → IsStartAnswer self.now mode prev cache.now cache.now result }
         ensures run { result < unknown_id
             → IsStartRun self.now mode prev (known_of cache.now) (known_of cache.now) }
     {
-        self.see_machine();
-        cache.see_bounds();
         if self.quits_behind(prev).is_some() {
             return LazyStateID::UNKNOWN;
         }
@@ -235,7 +234,7 @@ impl DFA {
         let config = start::Config::from_input_forward(input);
         match self.start_state(cache, &config) {
             Ok(id) => {
-                cache.see_bounds();
+                cache.reveal_invariant_of(self);
                 Ok(id)
             }
             Err(error) => Err(start_search_error(error, at.saturating_sub(1), at)),

@@ -101,7 +101,7 @@ impl DFA {
         ensures number { (q : Powerset) → Names cache.now.store.table id q → result ≡ length q.patterns }
         ensures some { 0 < result }
     {
-        cache.see_bounds();
+        cache.reveal_invariant_of(self);
         cache.match_len(id)
     }
 
@@ -122,7 +122,7 @@ impl DFA {
         requires index { (q : Powerset) → Names cache.now.store.table id q → index < length q.patterns }
         ensures { (q : Powerset) → Names cache.now.store.table id q → result ≡ slice_index q.patterns index }
     {
-        cache.see_bounds();
+        cache.reveal_invariant_of(self);
         cache.match_pattern(id, index)
     }
 }

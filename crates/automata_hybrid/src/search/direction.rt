@@ -6,6 +6,7 @@ ghost use Rattle.automata_base.specs.Haystacks.Input.{Allows, IsValidInput};
 ghost use Rattle.automata_base.specs.Paths.Paths.{next};
 ghost use Rattle.automata_hybrid.specs.Cache.Caches.{IsCacheOf};
 ghost use Rattle.automata_hybrid.specs.Cache.Progress.{distance};
+ghost use Rattle.automata_hybrid.specs.Private.Cache.Sound.{IsSoundCacheOf};
 ghost use Rattle.automata_hybrid.specs.Private.Fast.SelfLoops.{byte_in};
 ghost use Rattle.automata_hybrid.specs.Private.Searches.PassContracts.{input_at};
 ghost use Rattle.automata_hybrid.specs.Private.Steps.Starts.{IsStartResult};
@@ -207,6 +208,24 @@ pub(crate) fn begin_later(input: &mut Input<'_>, way: Direction) -> bool
 /// Returns the start state of a search in a direction.
 #[inline(always)]
 pub(crate) fn walk_start(
+    dfa: &DFA,
+    cache: &mut Cache,
+    input: &Input<'_>,
+    way: Direction,
+) -> Result<LazyStateID, SearchError>
+    requires { IsSoundCacheOf cache.old dfa.now }
+    ensures sound { IsSoundCacheOf cache.new dfa.now }
+    ensures started { IsStartResult dfa.now input.now.anchored (tape_in way input.now).before
+        (behind_offset way input.now) (offset_in way input.now 0) cache.old cache.new result }
+{
+    let start = start_by_direction(dfa, cache, input, way);
+    cache.reveal_invariant_of(dfa);
+    start
+}
+
+/// Returns the start state of a search, by the public call of its direction.
+#[inline(always)]
+fn start_by_direction(
     dfa: &DFA,
     cache: &mut Cache,
     input: &Input<'_>,

@@ -7,6 +7,7 @@ ghost use Rattle.automata_base.specs.declared.util.search.Direction.TheVariants.
 ghost use Rattle.automata_hybrid.specs.Cache.Caches.{IsCacheOf};
 ghost use Rattle.automata_hybrid.specs.Known.Passes.{HaveTried, IsSearchRun};
 ghost use Rattle.automata_hybrid.specs.Known.Stores.{known_of};
+ghost use Rattle.automata_hybrid.specs.Private.Cache.Sound.{IsSoundCacheOf};
 ghost use Rattle.automata_hybrid.specs.Private.Searches.Contracts.{halves, IsSearchResult};
 ghost use Rattle.automata_hybrid.specs.Private.Searches.PassContracts.{MayBegin, input_at};
 ghost use Rattle.automata_hybrid.specs.Searches.Contracts.{IsBased, IsHalf, based_half};
@@ -148,6 +149,7 @@ fn search(
     ensures searched { IsSearchResult way dfa.now input.now (known_of cache.old) (known_of cache.new) result }
     ensures valid { IsValidInput input.now }
 {
+    cache.reveal_invariant_of(dfa);
     if dfa.skips() {
         return match search_skipping(
             dfa,
@@ -185,7 +187,7 @@ fn search_skipping(
     way: Direction,
 ) -> Result<Option<(HalfMatch, usize)>, SearchError>
     requires { MayBegin dfa.now cache.old (input_at haystack.now span anchored earliest) }
-    ensures of { IsCacheOf cache.new dfa.now }
+    ensures sound { IsSoundCacheOf cache.new dfa.now }
     ensures searched { IsSearchResult way dfa.now
         (input_at haystack.now span anchored earliest) (known_of cache.old) (known_of cache.new) result }
 {
@@ -204,8 +206,8 @@ fn search_spans(
     input: &Input<'_>,
     way: Direction,
 ) -> Result<Option<(HalfMatch, usize)>, SearchError>
-    requires { IsCacheOf cache.old dfa.now }
-    ensures of { IsCacheOf cache.new dfa.now }
+    requires { IsSoundCacheOf cache.old dfa.now }
+    ensures sound { IsSoundCacheOf cache.new dfa.now }
     ensures searched { IsSearchResult way dfa.now input.now (known_of cache.old) (known_of cache.new) result }
 {
     let mut later = input.copied();

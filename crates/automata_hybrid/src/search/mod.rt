@@ -6,9 +6,9 @@ ghost use Rattle.std.specs.Prelude.{◌≡◌, slice_index, ◌<◌, true, false
 ghost use Rattle.automata_base.specs.Haystacks.Tapes.{is_split};
 ghost use Rattle.automata_base.specs.Powersets.Powerset.{Powerset};
 ghost use Rattle.automata_base.specs.declared.util.search.MatchErrorKind.TheVariants.{Quit as QuitAt};
-ghost use Rattle.automata_hybrid.specs.Cache.Caches.{IsCacheOf};
 ghost use Rattle.automata_hybrid.specs.Cache.Ids.{unknown_id, HasMatchTag};
 ghost use Rattle.automata_hybrid.specs.Cache.Table.{IsRowId, Leads, Names};
+ghost use Rattle.automata_hybrid.specs.Private.Cache.Sound.{IsSoundCacheOf};
 ghost use Rattle.automata_hybrid.specs.Private.Searches.PassState.{step_error};
 ghost use Rattle.automata_hybrid.specs.Private.Searches.Units.{IsRead, IsStepResult};
 ghost use Rattle.automata_hybrid.specs.Private.Steps.Steps.{IsCellRead};
@@ -80,14 +80,12 @@ fn step(
     unit: Option<u8>,
     at: usize,
 ) -> Result<LazyStateID, SearchError>
-    requires of { IsCacheOf cache.old dfa.now }
+    requires sound { IsSoundCacheOf cache.old dfa.now }
     requires valid { IsRowId cache.old.store.table id }
     requires cell { IsCellRead dfa.now cache.old.store id unit cell }
-    ensures of { IsCacheOf cache.new dfa.now }
+    ensures sound { IsSoundCacheOf cache.new dfa.now }
     ensures step { IsStepResult dfa.now id unit at cache.old cache.new result }
 {
-    dfa.see_machine();
-    cache.see_bounds();
     let _cell = cache.cell(id, dfa.unit_class(unit));
     if !cell.is_unknown() {
         return Ok(cell);
@@ -102,7 +100,7 @@ fn step(
 /// Returns the state after a unit. `cell` is the row's cell for the unit. A quit byte ends the search with an error at
 /// `quit_at`, the byte's offset.
 #[inline(always)]
-fn read_met(
+fn read_peeked(
     dfa: &DFA,
     cache: &mut Cache,
     id: LazyStateID,
@@ -111,16 +109,13 @@ fn read_met(
     quit_at: usize,
     at: usize,
 ) -> Result<LazyStateID, SearchError>
-    requires of { IsCacheOf cache.old dfa.now }
+    requires sound { IsSoundCacheOf cache.old dfa.now }
     requires valid { IsRowId cache.old.store.table id }
     requires cell { IsCellRead dfa.now cache.old.store id unit cell }
-    ensures of { IsCacheOf cache.new dfa.now }
+    ensures sound { IsSoundCacheOf cache.new dfa.now }
     ensures read { IsRead dfa.now id unit quit_at at cache.old cache.new result }
 {
-    dfa.see_machine();
-    cache.see_bounds();
     let next = step(dfa, cache, id, cell, unit, at)?;
-    cache.see_bounds();
     match unit {
         None => Ok(next),
         Some(byte) => {
@@ -133,57 +128,56 @@ fn read_met(
     }
 }
 
-/// Returns the ID after a unit: `met`, or the row's cell if `met` is unknown.
+/// Returns the ID after a unit: `peeked`, or the row's cell if `peeked` is unknown.
 #[inline(always)]
-fn met_or_cell(
+fn peeked_or_cell(
     dfa: &DFA,
     cache: &Cache,
     id: LazyStateID,
-    met: LazyStateID,
+    peeked: LazyStateID,
     unit: Option<u8>,
 ) -> LazyStateID
-    requires of { IsCacheOf cache.now dfa.now }
+    requires sound { IsSoundCacheOf cache.now dfa.now }
     requires valid { IsRowId cache.now.store.table id }
-    requires met { met < unknown_id → met ≡ known_step dfa.now cache.now.store id unit }
+    requires peeked { peeked < unknown_id → peeked ≡ known_step dfa.now cache.now.store id unit }
     ensures { IsCellRead dfa.now cache.now.store id unit result }
 {
-    if met.is_unknown() {
+    if peeked.is_unknown() {
         return cache.known_step(dfa, id, unit);
     }
-    met
+    peeked
 }
 
-/// Returns the state after a unit. `met` is the next ID if the caller has read it, and unknown otherwise. A quit byte
-/// ends the search with an error at `quit_at`, the byte's offset.
+/// Returns the state after a unit. `peeked` is the next ID if the caller has read it, and unknown otherwise. A quit
+/// byte ends the search with an error at `quit_at`, the byte's offset.
 #[inline(always)]
 fn read(
     dfa: &DFA,
     cache: &mut Cache,
     id: LazyStateID,
-    met: LazyStateID,
+    peeked: LazyStateID,
     unit: Option<u8>,
     quit_at: usize,
     at: usize,
 ) -> Result<LazyStateID, SearchError>
-    requires of { IsCacheOf cache.old dfa.now }
+    requires sound { IsSoundCacheOf cache.old dfa.now }
     requires valid { IsRowId cache.old.store.table id }
-    requires met { met < unknown_id → met ≡ known_step dfa.now cache.old.store id unit }
-    ensures of { IsCacheOf cache.new dfa.now }
+    requires peeked { peeked < unknown_id → peeked ≡ known_step dfa.now cache.old.store id unit }
+    ensures sound { IsSoundCacheOf cache.new dfa.now }
     ensures read { IsRead dfa.now id unit quit_at at cache.old cache.new result }
 {
-    let cell = met_or_cell(dfa, cache, id, met, unit);
-    read_met(dfa, cache, id, cell, unit, quit_at, at)
+    let cell = peeked_or_cell(dfa, cache, id, peeked, unit);
+    read_peeked(dfa, cache, id, cell, unit, quit_at, at)
 }
 
 /// Returns the first pattern of a match state. If the NFA has only one pattern, this needs no look-up.
 #[inline(always)]
 fn first_pattern(dfa: &DFA, cache: &Cache, id: LazyStateID) -> PatternID
-    requires of { IsCacheOf cache.now dfa.now }
+    requires sound { IsSoundCacheOf cache.now dfa.now }
     requires valid { IsRowId cache.now.store.table id }
     requires tagged { HasMatchTag id }
     ensures { (q : Powerset) → Names cache.now.store.table id q → result ≡ slice_index q.patterns 0 }
 {
-    cache.see_bounds();
     if dfa.pattern_len() == 1 {
         return PatternID::ZERO;
     }
@@ -193,12 +187,11 @@ fn first_pattern(dfa: &DFA, cache: &Cache, id: LazyStateID) -> PatternID
 /// Looks up the first pattern of a match state in its row, for an NFA with several patterns.
 #[inline(never)]
 fn first_of_many(dfa: &DFA, cache: &Cache, id: LazyStateID) -> PatternID
-    requires of { IsCacheOf cache.now dfa.now }
+    requires sound { IsSoundCacheOf cache.now dfa.now }
     requires valid { IsRowId cache.now.store.table id }
     requires tagged { HasMatchTag id }
     ensures { (q : Powerset) → Names cache.now.store.table id q → result ≡ slice_index q.patterns 0 }
 {
-    cache.see_bounds();
     cache.match_pattern(id, 0)
 }
 
@@ -211,11 +204,10 @@ fn found_at(
     at: usize,
     found: Option<HalfMatch>,
 ) -> Option<HalfMatch>
-    requires of { IsCacheOf cache.now dfa.now }
+    requires sound { IsSoundCacheOf cache.now dfa.now }
     requires leads { (q : Powerset) × Leads cache.now.store.table id q }
     ensures { (q : Powerset) → Leads cache.now.store.table id q → result ≡ half_at q.patterns at found }
 {
-    cache.see_bounds();
     if id.is_fixed() {
         return found;
     }

@@ -4,15 +4,15 @@ ghost use Rattle.std.specs.Prelude.{◌≡◌, ◌-◌, ◌<◌, ◌≤◌, None
 ghost use Rattle.automata_base.specs.Haystacks.Input.{Allows, IsValidInput};
 ghost use Rattle.automata_base.specs.Paths.Paths.{next};
 ghost use Rattle.automata_base.specs.Powersets.Powerset.{Powerset, dead};
-ghost use Rattle.automata_hybrid.specs.Cache.Caches.{IsCacheOf};
 ghost use Rattle.automata_hybrid.specs.Cache.Ids.{unknown_id};
 ghost use Rattle.automata_hybrid.specs.Cache.Table.{Names};
 ghost use Rattle.automata_hybrid.specs.Known.Steps.{IsStartRun};
 ghost use Rattle.automata_hybrid.specs.Known.Stores.{known_of};
 ghost use Rattle.automata_hybrid.specs.Machines.Machine.{unit_class};
+ghost use Rattle.automata_hybrid.specs.Private.Cache.Sound.{IsSoundCacheOf};
 ghost use Rattle.automata_hybrid.specs.Private.Searches.PassContracts.{IsKnownUpto, IsLastRead, IsPassResult, IsRest};
-ghost use Rattle.automata_hybrid.specs.Private.Searches.PassContracts.{IsTakenUp, input_at, IsKnownStop, MayBegin};
-ghost use Rattle.automata_hybrid.specs.Private.Searches.PassState.{IsNextCell, IsMet};
+ghost use Rattle.automata_hybrid.specs.Private.Searches.PassContracts.{MayContinue, input_at, IsKnownStop, MayBegin};
+ghost use Rattle.automata_hybrid.specs.Private.Searches.PassState.{IsNextCell, IsPeeked};
 ghost use Rattle.automata_hybrid.specs.Searches.PassContracts.{IsUnderway};
 ghost use Rattle.automata_hybrid.specs.Searches.Passes.{state_in, tape_in};
 ghost use Rattle.automata_hybrid.specs.Steps.Starts.{IsStartAnswer};
@@ -27,7 +27,7 @@ use crate::search::direction::{
 };
 use crate::search::fast::follow::{Spot, next_known};
 use crate::search::fast::run::{Place, follow_reports, follow_with_leaps, near_end, run_to_match};
-use crate::search::{found_at, read, read_met};
+use crate::search::{found_at, read, read_peeked};
 use automata_base::util::search::{Anchored, Direction, HalfMatch, Input, Span};
 use automata_config::error::SearchError;
 
@@ -56,13 +56,11 @@ pub(crate) fn pass(
     input: &Input<'_>,
     way: Direction,
 ) -> Result<Option<HalfMatch>, SearchError>
-    requires of { IsCacheOf cache.old dfa.now }
+    requires sound { IsSoundCacheOf cache.old dfa.now }
     requires open { input.now.start ≤ input.now.end }
-    ensures of { IsCacheOf cache.new dfa.now }
+    ensures sound { IsSoundCacheOf cache.new dfa.now }
     ensures passed { IsPassResult way dfa.now input.now (known_of cache.old) (known_of cache.new) result }
 {
-    dfa.see_machine();
-    cache.see_bounds();
     let start = known_start(dfa, cache, input, way);
     if start.is_fixed() {
         return begin_by_parts(dfa, cache, input, way);
@@ -98,9 +96,9 @@ fn begin_by_parts(
     input: &Input<'_>,
     way: Direction,
 ) -> Result<Option<HalfMatch>, SearchError>
-    requires of { IsCacheOf cache.old dfa.now }
+    requires sound { IsSoundCacheOf cache.old dfa.now }
     requires open { input.now.start ≤ input.now.end }
-    ensures of { IsCacheOf cache.new dfa.now }
+    ensures sound { IsSoundCacheOf cache.new dfa.now }
     ensures passed { IsPassResult way dfa.now input.now (known_of cache.old) (known_of cache.new) result }
 {
     match begin_of(
@@ -128,10 +126,10 @@ fn begin_of(
     earliest: bool,
     way: Direction,
 ) -> Result<Option<HalfMatch>, SearchError>
-    requires of { IsCacheOf cache.old dfa.now }
+    requires sound { IsSoundCacheOf cache.old dfa.now }
     requires allowed { Allows haystack.now span.start span.end }
     requires open { span.start ≤ span.end }
-    ensures of { IsCacheOf cache.new dfa.now }
+    ensures sound { IsSoundCacheOf cache.new dfa.now }
     ensures passed { IsPassResult way dfa.now
         (input_at haystack.now span anchored earliest) (known_of cache.old) (known_of cache.new) result }
 {
@@ -147,17 +145,15 @@ fn begin(
     input: &Input<'_>,
     way: Direction,
 ) -> Result<Option<HalfMatch>, SearchError>
-    requires of { IsCacheOf cache.old dfa.now }
+    requires sound { IsSoundCacheOf cache.old dfa.now }
     requires open { input.now.start ≤ input.now.end }
-    ensures of { IsCacheOf cache.new dfa.now }
+    ensures sound { IsSoundCacheOf cache.new dfa.now }
     ensures passed { IsPassResult way dfa.now input.now (known_of cache.old) (known_of cache.new) result }
 {
-    cache.see_bounds();
     let start = match walk_start(dfa, cache, input, way) {
         Ok(start) => start,
         Err(error) => return Err(error),
     };
-    cache.see_bounds();
     let first = span_offset(input, way, 0);
     cache.search_start(first);
     if start.is_dead() {
@@ -181,8 +177,8 @@ fn begin(
 /// nothing.
 #[inline(always)]
 fn place_at(dfa: &DFA, cache: &Cache, input: &Input<'_>, way: Direction, from: Spot) -> Place
-    requires of { IsCacheOf cache.now dfa.now }
-    requires at { IsTakenUp way dfa.now cache.now.store input.now from.at from.id }
+    requires sound { IsSoundCacheOf cache.now dfa.now }
+    requires at { MayContinue way dfa.now cache.now.store input.now from.at from.id }
     ensures upto { IsKnownUpto way dfa.now cache.now.store input.now result.at result.id result.found }
     ensures next { result.at < input.now.end - input.now.start
         → IsNextCell way dfa.now cache.now.store input.now result.at result.id result.next }
@@ -220,9 +216,9 @@ fn rest(
     from: Spot,
 ) -> Result<Option<HalfMatch>, SearchError>
     requires may { MayBegin dfa.now cache.old (input_at haystack.now span anchored earliest) }
-    requires at { IsTakenUp way dfa.now cache.old.store
+    requires at { MayContinue way dfa.now cache.old.store
         (input_at haystack.now span anchored earliest) from.at from.id }
-    ensures of { IsCacheOf cache.new dfa.now }
+    ensures sound { IsSoundCacheOf cache.new dfa.now }
     ensures rest { IsRest way dfa.now
         (input_at haystack.now span anchored earliest) (known_of cache.old) (known_of cache.new) result }
 {
@@ -244,43 +240,40 @@ fn find(
     way: Direction,
     from: Place,
 ) -> Result<Option<HalfMatch>, SearchError>
-    requires of { IsCacheOf cache.old dfa.now }
+    requires sound { IsSoundCacheOf cache.old dfa.now }
     requires at { IsKnownUpto way dfa.now cache.old.store input.now from.at from.id from.found }
     requires next { from.at < input.now.end - input.now.start
         → IsNextCell way dfa.now cache.old.store input.now from.at from.id from.next }
-    ensures of { IsCacheOf cache.new dfa.now }
+    ensures sound { IsSoundCacheOf cache.new dfa.now }
     ensures rest { IsRest way dfa.now input.now (known_of cache.old) (known_of cache.new) result }
 {
-    dfa.see_machine();
-    cache.see_bounds();
     let last = last_place(input);
     let mut run = from;
     let mut end = near_end(cache, input, way, run.at);
     while run.at < last {
-        let met = follow_reports(dfa, cache, input, way, run);
-        let offset = byte_offset(input, way, met.at);
-        let byte = byte_at(input, way, met.at);
-        let next = match read_met(dfa, cache, met.id, met.next, Some(byte), offset, offset) {
+        let stop = follow_reports(dfa, cache, input, way, run);
+        let offset = byte_offset(input, way, stop.at);
+        let byte = byte_at(input, way, stop.at);
+        let next = match read_peeked(dfa, cache, stop.id, stop.next, Some(byte), offset, offset) {
             Ok(next) => next,
             Err(error) => return Err(error),
         };
-        cache.see_bounds();
         if next.is_dead() {
             cache.end_search(offset);
-            return Ok(met.found);
+            return Ok(stop.found);
         }
         let found = found_at(
             dfa,
             cache,
             next,
-            place_offset(input, way, met.at),
-            met.found,
+            place_offset(input, way, stop.at),
+            stop.found,
         );
         if input.get_earliest() && found.is_some() {
             cache.end_search(offset);
             return Ok(found);
         }
-        let near = run_to_match(dfa, cache, input, way, met.at + 1, next, found, end);
+        let near = run_to_match(dfa, cache, input, way, stop.at + 1, next, found, end);
         let (far, due) = follow_with_leaps(dfa, cache, input, way, near, end);
         run = far;
         end = due;
@@ -299,19 +292,26 @@ fn find_end(
     id: LazyStateID,
     found: Option<HalfMatch>,
 ) -> Result<Option<HalfMatch>, SearchError>
-    requires of { IsCacheOf cache.old dfa.now }
+    requires sound { IsSoundCacheOf cache.old dfa.now }
     requires at { IsUnderway way dfa.now cache.old.store.table input.now (input.now.end - input.now.start)
         id found }
-    ensures of { IsCacheOf cache.new dfa.now }
+    ensures sound { IsSoundCacheOf cache.new dfa.now }
     ensures alive { (q : Powerset) → Names cache.old.store.table id q → q ≡ dead → ⊥ }
     ensures last { IsLastRead way dfa.now input.now (known_of cache.old) (known_of cache.new) result }
 {
-    cache.see_bounds();
     let last = last_place(input);
     let at = span_offset(input, way, last);
     let unit = unit_at(input, way, last);
-    let met = LazyStateID::UNKNOWN;
-    let next = match read(dfa, cache, id, met, unit, unit_offset(input, way, last), at) {
+    let peeked = LazyStateID::UNKNOWN;
+    let next = match read(
+        dfa,
+        cache,
+        id,
+        peeked,
+        unit,
+        unit_offset(input, way, last),
+        at,
+    ) {
         Ok(next) => next,
         Err(error) => return Err(error),
     };
@@ -322,7 +322,7 @@ fn find_end(
 /// Returns the start state of a search, if it may start and the state is cached; otherwise the unknown ID.
 #[inline(always)]
 fn known_start(dfa: &DFA, cache: &Cache, input: &Input<'_>, way: Direction) -> LazyStateID
-    requires { IsCacheOf cache.now dfa.now }
+    requires { IsSoundCacheOf cache.now dfa.now }
     ensures answer { result < unknown_id → IsStartAnswer dfa.now input.now.anchored
         (tape_in way input.now).before cache.now cache.now result }
     ensures run { result < unknown_id → IsStartRun dfa.now input.now.anchored
@@ -340,12 +340,11 @@ fn known_pass(
     way: Direction,
     start: LazyStateID,
 ) -> KnownStop
-    requires of { IsCacheOf cache.now dfa.now }
+    requires sound { IsSoundCacheOf cache.now dfa.now }
     requires at { IsUnderway way dfa.now cache.now.store.table input.now 0 start None }
     ensures stop { IsKnownStop way dfa.now cache.now input.now result }
     ensures valid { IsValidInput input.now }
 {
-    cache.see_bounds();
     let last = last_place(input);
     let run = run_to_match(dfa, cache, input, way, 0, start, None, last.min(FIRST_RUN));
     let next = known_next(dfa, cache, input, way, run.at, run.id, run.next);
@@ -373,7 +372,7 @@ fn known_pass(
     KnownStop::Left(left)
 }
 
-/// Returns the ID after the unit at a place: `met`, or at the last place the row's cell. It is unknown if the
+/// Returns the ID after the unit at a place: `peeked`, or at the last place the row's cell. It is unknown if the
 /// transition is not cached.
 #[inline(always)]
 fn known_next(
@@ -383,27 +382,27 @@ fn known_next(
     way: Direction,
     at: usize,
     id: LazyStateID,
-    met: LazyStateID,
+    peeked: LazyStateID,
 ) -> LazyStateID
-    requires of { IsCacheOf cache.now dfa.now }
+    requires sound { IsSoundCacheOf cache.now dfa.now }
     requires open { input.now.start ≤ input.now.end }
     requires within { at ≤ input.now.end - input.now.start }
     requires named { Names cache.now.store.table id (state_in way dfa.now input.now at) }
-    requires met { IsMet way dfa.now cache.now.store input.now at id met }
+    requires peeked { IsPeeked way dfa.now cache.now.store input.now at id peeked }
     ensures value { result < unknown_id
         → result ≡ known_step dfa.now cache.now.store id (next (tape_in way input.now) at) }
     ensures answer { result < unknown_id → IsStepAnswer dfa.now id
         (next (tape_in way input.now) at) cache.now cache.now result }
     ensures below { result < unknown_id
         → unit_class dfa.now (next (tape_in way input.now) at) < dfa.now.stride }
-    ensures met { unknown_id ≤ result → unknown_id ≤ met }
+    ensures peeked { unknown_id ≤ result → unknown_id ≤ peeked }
 {
-    if met.is_unknown() {
+    if peeked.is_unknown() {
         if at < last_place(input) {
             return LazyStateID::UNKNOWN;
         }
         return cache.known_step(dfa, id, unit_at(input, way, at));
     }
     let _next = cache.known_step(dfa, id, Some(byte_at(input, way, at)));
-    met
+    peeked
 }

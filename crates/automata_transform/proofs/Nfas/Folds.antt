@@ -8,4 +8,5 @@ pub mod Unions
 pub mod Placed
 pub mod Led
 pub mod States
+pub mod Looks
 pub mod Final

@@ -7,12 +7,14 @@ pub mod Graphs
 pub mod Helpers
 pub mod Leads
 pub mod Lists
+pub mod Looks
 pub mod Made
 pub mod Members
 pub mod Pairs
 pub mod Parts
 pub mod Ranged
 pub mod Ranges
+pub mod Rooms
 pub mod Runs
 pub mod Singles
 pub mod Sizes

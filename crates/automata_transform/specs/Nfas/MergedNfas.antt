@@ -1,5 +1,6 @@
 -- The NFA that results from merging unions.
-use Rattle.std.specs.Prelude.{ℕ, ◌≡◌, ◌≤◌, List}
+use Rattle.std.specs.Prelude.{ℕ, ◌≡◌, ◌≤◌, ◌+◌, ◌*◌, List, Some, length, slice_get}
+use Rattle.automata_base.specs.declared.nfa.thompson.state.State.TheVariants.{Capture}
 use Rattle.automata_base.specs.Nfas.Getters.{SkipsLazily}
 use Rattle.automata_transform.specs.Nfas.Merges.{IsMerged}
 use Rattle.automata_base.specs.Nfas.Nodes.{Automaton, nfa_of, stack_room}
@@ -26,6 +27,16 @@ pub record IsMergedNfa (a b : Automaton) : Type 0 where
   pub lists : List (List ℕ)
   -- its states are those of the first one, merged
   pub merged : IsMerged (nfa_of a) (nfa_of b) a.start_anchored lists
+
+-- The most states that an NFA has after its unions are merged: nine for each state before, and 4,096 in addition.
+abbrev pub most_merged : Automaton → ℕ
+most_merged a = 9 * length a.states + 4096
+
+-- Each capture state of the first NFA is the same in the second one, with its pattern, its group and its slot.
+abbrev pub KeepsCaptures : (a b : Automaton) → Type 0
+KeepsCaptures a b =
+    (q next pattern group slot : ℕ) → slice_get a.states q ≡ Some (Capture next pattern group slot)
+    → slice_get b.states q ≡ Some (Capture next pattern group slot)
 
 -- A search needs no more for the second NFA than for the first.
 pub record KeepsBounds (a b : Automaton) : Type 0 where

@@ -1,5 +1,5 @@
 -- A reversed NFA: the edges that it has, so that it accepts backward what the other NFA accepts.
-use Rattle.std.specs.Prelude.{ℕ, ◌≡◌, ◌<◌, ◌≤◌, ◌-◌, ◌↔◌, ◌⊎◌, not, List, [], ◌∷◌, length, Some, slice_get}
+use Rattle.std.specs.Prelude.{ℕ, ◌≡◌, ◌<◌, ◌≤◌, ◌+◌, ◌-◌, ◌*◌, ◌↔◌, ◌⊎◌, not, List, [], ◌∷◌, length, Some, slice_get}
 use Rattle.automata_base.specs.declared.nfa.thompson.state.Flags.{Flags}
 use Rattle.automata_base.specs.Lists.{In, Distinct}
 use Rattle.automata_base.specs.declared.util.look.Look.{Look}
@@ -16,11 +16,13 @@ use Rattle.automata_base.specs.declared.util.search.MatchKind.{MatchKind}
 use Rattle.automata_base.specs.declared.util.search.MatchKind.TheVariants.{All}
 use Rattle.automata_base.specs.Nfas.Engines.{MatchesEmpty, engine_of}
 use Rattle.automata_base.specs.Nfas.Getters.{SkipsLazily}
-use Rattle.automata_base.specs.Nfas.Nodes.{Automaton, nfa_of}
+use Rattle.automata_base.specs.Nfas.Nodes.{Automaton, nfa_of, stack_room}
+use Rattle.automata_transform.specs.Nfas.ReversedSizes.{most_alternates}
 use Rattle.automata_transform.specs.Retraced.DenseRuns.{ranged_nfa}
 use Rattle.automata_base.specs.Nfas.Accepted.{IsChecked}
 use Rattle.automata_base.specs.Paths.Paths.{Tape}
 use Rattle.automata_base.specs.Paths.Selections.{Accepts}
+use Rattle.automata_base.specs.Powersets.Passes.{Occurs}
 use Rattle.automata_base.specs.Haystacks.Tapes.{forward_tape, reverse_tape}
 use Rattle.automata_base.specs.Answers.TruePairs.{IsTruePair}
 
@@ -252,13 +254,29 @@ pub record ReadsAlike (a b : Automaton) : Type 0 where
   pub empty : MatchesEmpty (nfa_of a) a.start_pattern ↔ MatchesEmpty (nfa_of b) b.start_pattern
 
 -- The NFA `b` reads like `a` reversed.
-pub record IsReversalOf (a b : Automaton) : Type 0 where
+pub record ReadsReversed (a b : Automaton) : Type 0 where
   -- `a` reversed, state by state
   pub mirror : Automaton
   -- it is the reversed NFA of `a`
   pub reversed : IsReversed a mirror
   -- `b` reads like the reversed NFA
   pub alike : ReadsAlike mirror b
+
+-- The NFA `b` is a reversal of `a`: it reads like `a` reversed, has no more states or looks, and a closure needs at
+-- most four times the room.
+pub record IsReversalOf (a b : Automaton) : Type 0 where
+  -- it reads like `a` reversed
+  pub reads : ReadsReversed a b
+  -- it has as many states as `a` reversed state by state
+  pub states : length b.states ≡ length reads.mirror.states
+  -- each look of it is a look of `a` reversed state by state
+  pub looks : (look : Look) → Occurs (nfa_of b) look → Occurs (nfa_of reads.mirror) look
+  -- each look of it is a look of `a`, flipped
+  pub flips : (look : Look) → Occurs (nfa_of b) look → Occurs (nfa_of a) (flip look)
+  -- the stack of a closure needs at most four times the room that it needs in `a` reversed state by state
+  pub room : stack_room b.states ≤ 4 * stack_room reads.mirror.states
+  -- in `a` reversed state by state, that room is at most one more than the most alternates
+  pub alternates : stack_room reads.mirror.states ≤ most_alternates a + 1
 
 -- The empty match is reached from some pattern's start exactly if it is reached from the anchored start.
 abbrev pub BeginsAlike : Automaton → Type 0
@@ -274,12 +292,13 @@ IsReversedByPattern a b =
     ↔ ((pattern ≡ k)
     × ((path : List ℕ) × Accepts (nfa_of a) (forward_tape h i j) a.start_anchored (j - i) pattern path))
 
--- From the start of each pattern, every reversed NFA accepts what the other NFA accepts by that pattern.
+-- From the start of each pattern, every NFA that reads like another one reversed accepts what that one accepts by the
+-- pattern.
 abbrev pub PatternsAreReversed : Type 0
-PatternsAreReversed = (a b : Automaton) → IsChecked a → IsReversalOf a b → IsReversedByPattern a b
+PatternsAreReversed = (a b : Automaton) → IsChecked a → ReadsReversed a b → IsReversedByPattern a b
 
 -- An NFA that begins alike and skips lazily is a true pair with its reversed NFA.
 abbrev pub ReversedIsTrue : Type 0
 ReversedIsTrue =
-    (a b : Automaton) (kind : MatchKind) → IsChecked a → IsReversalOf a b → BeginsAlike a → SkipsLazily a
+    (a b : Automaton) (kind : MatchKind) → IsChecked a → ReadsReversed a b → BeginsAlike a → SkipsLazily a
     → IsTruePair (engine_of a kind) (engine_of b All)

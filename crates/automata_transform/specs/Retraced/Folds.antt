@@ -1,6 +1,6 @@
 -- Unions whose alternates that read bytes are folded into one state that reads, and the states that it leads to.
 use Rattle.std.specs.Prelude.{ℕ, zero, suc, ◌≡◌, ◌<◌, ◌≤◌, ◌↔◌, List, [], ◌∷◌, ◌++◌, Option, None, Some, slice_get}
-use Rattle.std.specs.Prelude.{Bool, false, leb, length}
+use Rattle.std.specs.Prelude.{Bool, true, false, leb, length}
 use Rattle.automata_base.specs.declared.nfa.thompson.state.State.{State}
 use Rattle.automata_base.specs.declared.nfa.thompson.state.State.TheVariants as is
 use Rattle.automata_base.specs.declared.nfa.thompson.state.Transition.{Transition}
@@ -223,6 +223,23 @@ pub record IsFoldedFrom (old new : List State) (root : ℕ) (entries : List ℕ)
   pub rooted : IsNotFree free root
   -- each entry is kept
   pub entered : (e : ℕ) → In e entries → IsNotFree free e
+
+-- Whether a state tests a look.
+abbrev pub tests_look : State → Bool
+tests_look (is.ByteRange lo hi next) = false
+tests_look (is.Sparse ts) = false
+tests_look (is.Dense targets) = false
+tests_look (is.Look look next) = true
+tests_look (is.Union alternates) = false
+tests_look (is.BinaryUnion alt1 alt2) = false
+tests_look (is.Capture next pattern index slot) = false
+tests_look is.Fail = false
+tests_look (is.Match pattern) = false
+
+-- Each new state that tests a look is the old state of the same number.
+abbrev pub AddsNoLook : (old new : List State) → Type 0
+AddsNoLook old new =
+    (x : ℕ) (state : State) → slice_get new x ≡ Some state → tests_look state ≡ true → slice_get old x ≡ Some state
 
 -- If the state of this number is a union, its alternates are states.
 abbrev pub IsUnionBelow : List State → (x : ℕ) → Type 0

@@ -1,6 +1,6 @@
 //! A search that does not give up: a lazy DFA, and, when its cache is too small, a simulation of the same pattern's
 //! NFA.
-ghost use Rattle.std.specs.Prelude.{◌≡◌, ◌∷◌, [], IfOk, List, ℕ, vec_len};
+ghost use Rattle.std.specs.Prelude.{◌≡◌, ◌∷◌, [], IfErr, IfOk, List, ℕ, vec_len};
 ghost use Rattle.regex_automata.specs.Promises.{AreCachesOf};
 ghost use Rattle.patterns.specs.Patterns.{IsRegexOfTexts, config_of as syntax_of};
 ghost use Rattle.examples.specs.Finding.{IsFirstIn, IsSimulated, in_bytes};
@@ -10,6 +10,7 @@ use patterns::{Options, Pattern, nfa_of};
 use regex_automata::hybrid::SearchError;
 use regex_automata::hybrid::dfa::DFA;
 use regex_automata::hybrid::regex::Cache;
+use regex_automata::laws::spans_follow;
 use regex_nfa::Nfa;
 use regex_syntax::{Config, Flags};
 use regex_vm::PikeVm;
@@ -111,7 +112,8 @@ fn simulated_of(alloc: Global, text: &str) -> Result<Nfa>
 }
 
 impl Finder {
-    ghost use Rattle.examples.specs.Finders.{IsFinderOf};
+    ghost use Rattle.automata_hybrid.specs.Searches.Contracts.{IsMemory};
+    ghost use Rattle.examples.specs.Finders.{IsFinderOf, IsLineSearched};
 
     /// Returns a finder of the matches of a pattern.
     pub fn new(alloc: Global, text: &str) -> Result<Finder>
@@ -134,6 +136,7 @@ impl Finder {
         ensures found { (text : List ℕ) → IsSimulated text self.old.nfa → IsFirstIn text line.now result }
         ensures pattern { self.new.pattern ≡ self.old.pattern }
         ensures nfa { self.new.nfa ≡ self.old.nfa }
+        ensures cache { self.new.cache ≡ self.old.cache }
     {
         let end = line.len();
         self.simulation.find(&self.nfa, line, 0, end, end, &mut [])
@@ -143,8 +146,11 @@ impl Finder {
     pub fn find(&mut self, line: &[u8]) -> Result<Found, SearchError>
         ensures found { (text : List ℕ) → IsFinderOf text self.old
             → IfOk result (λ found. IsFirstIn text line.now found.span) }
+        ensures searched { IfOk result (IsLineSearched line.now self.old self.new) }
+        ensures failed { (text : List ℕ) → IsFinderOf text self.old → IfErr result IsMemory }
         ensures same { (text : List ℕ) → IsFinderOf text self.old → IsFinderOf text self.new }
     {
+        spans_follow(&self.pattern.regex);
         match self.pattern.find(&mut self.cache, line, 0) {
             Ok(Some(found)) => Ok(Found {
                 span: Some((found.start(), found.end())),
@@ -161,7 +167,8 @@ impl Finder {
                     simulated: true,
                 })
             }
-            Err(error) => Err(error),
+            Err(SearchError::OutOfMemory) => Err(SearchError::OutOfMemory),
+            Err(SearchError::NotAPair) => Err(SearchError::NotAPair),
         }
     }
 }

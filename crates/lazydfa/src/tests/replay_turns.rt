@@ -7,7 +7,7 @@ use super::regex_bench::Pair;
 use super::reports::{Automaton, Turns};
 use super::{Host, Text, check, same_of};
 use regex_automata::hybrid::regex::Regex;
-use regex_automata::replay::{Reply, Request, replay};
+use replay::{Reply, Request, replay};
 use search_script::{Entry, Line, Script};
 use std::fmt::Write;
 

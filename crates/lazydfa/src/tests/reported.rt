@@ -1,9 +1,9 @@
 //! What calls report, as text.
 
 use regex_automata::hybrid::{BuildError, LazyStateID, SearchError, StartError, StepError};
-use regex_automata::replay::Reply;
 use regex_automata::tokens::TokenError;
 use regex_automata::util::search::{HalfMatch, Match};
+use replay::Reply;
 use search_script::Line;
 use std::alloc::{AllocError, Global};
 use std::fmt;

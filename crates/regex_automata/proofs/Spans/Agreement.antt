@@ -20,7 +20,7 @@ use Rattle.regex_automata.specs.Spans.IsMatch.{IsMatchReported}
 use Rattle.regex_automata.specs.Spans.Outcomes.{FindsMatch, IsStartFound}
 use Rattle.regex_automata.specs.Regexes.SoundPairs.{forward_engine}
 use Rattle.regex_automata.specs.declared.hybrid.regex.Regex.{Regex}
-use Rattle.regex_automata.proofs.Spans.Truths.{match_reported}
+use Rattle.regex_automata.proofs.Spans.Truths.{match_reported, truth_by_nfa}
 use Rattle.automata_base.proofs.Paths.Orders.{none_some, some_inj, some_none}
 use Rattle.automata_config.specs.Options.{match_kind_of}
 use Rattle.automata_base.proofs.Answers.Once.{match_is}
@@ -68,10 +68,18 @@ matches_agree agree p other input a b alike f g = same_match agree p other alike
 
 module _ (one : ReportedIsOne) where
   pub truths_agree : TruthsAgree
-  truths_agree m other input a b nfa kind f g =
+  truths_agree m other input a b nfa kind first second =
       f.2 ∙ ap (λ (o : Option Half). is_some o)
       (one Forward m.nfa (match_kind_of m.config) (in_full input) f.0 g.0 f.1 reported) ∙ sym g.2
     where
+      f : (o : Option Half) × IsReported Forward m.nfa (match_kind_of m.config) (in_full input) o × (a ≡ is_some o)
+      f = truth_by_nfa m input a first
+
+      g :
+          (o : Option Half) × IsReported Forward other.nfa (match_kind_of other.config) (in_full input) o
+          × (b ≡ is_some o)
+      g = truth_by_nfa other input b second
+
       reported : IsReported Forward m.nfa (match_kind_of m.config) (in_full input) g.0
       reported =
           subst (λ (k : MatchKind). IsReported Forward m.nfa k (in_full input) g.0) (sym kind)
@@ -82,7 +90,11 @@ module _ (one : ReportedIsOne) where
   front_truth :
       (m : Machine) (input : Input) (truth : Bool) (o : Option Half) → (input.earliest ≡ false) ⊎ (Skips m → ⊥)
       → IsMatchReported m input truth → IsFound Forward m input o → truth ≡ is_some o
-  front_truth m input truth o may reported found = go may input.earliest refl where
+  front_truth m input truth o may is found = go may input.earliest refl where
+    reported :
+        (p : Option Half) × IsReported Forward m.nfa (match_kind_of m.config) (in_full input) p × (truth ≡ is_some p)
+    reported = truth_by_nfa m input truth is
+
     here : IsReported Forward m.nfa (match_kind_of m.config) input o
     here = found_reported Forward m input o found
 
@@ -102,9 +114,9 @@ module _ (one : ReportedIsOne) where
         (one Forward m.nfa (match_kind_of m.config) (in_full input) reported.0 w.0 reported.1 w.1) ∙ sym w.2
 
     go : (input.earliest ≡ false) ⊎ (Skips m → ⊥) → (b : Bool) → input.earliest ≡ b → truth ≡ is_some o
-    go (inl e) b is = full e
-    go (inr whole) true is = part is whole
-    go (inr whole) false is = full is
+    go (inl e) b early = full e
+    go (inr whole) true early = part early whole
+    go (inr whole) false late = full late
 
   pub truth_is_found : TruthIffFound
   truth_is_found p input truth None may reported f = front_truth p.forward input truth None may reported f

@@ -1,5 +1,5 @@
 -- If both DFAs have the same quit bytes, the reverse search reads none; and no single search fails with `NotAPair`.
-use Rattle.std.proofs.Common.{ℕ, ◌≡◌, ◌∙◌, ◌+◌, ◌-◌, ◌≤◌, ◌⊎◌, inl, inr, Bool, true, false, cond, List, length, Option}
+use Rattle.std.proofs.Common.{ℕ, ◌≡◌, ◌∙◌, ◌+◌, ◌-◌, ◌≤◌, Bool, true, false, cond, List, length, Option}
 use Rattle.std.proofs.Common.{Some, None, refl, sym, subst, arith}
 use Rattle.automata_base.specs.Answers.Answers.{Half, later}
 use Rattle.automata_base.specs.ByteClasses.Classes.{is_quit}
@@ -9,8 +9,6 @@ use Rattle.automata_determinize.specs.Laws.StartIsRight.{BackMeetsNone}
 use Rattle.automata_base.specs.Haystacks.Tapes.{MeetsNone, ReadsByteBefore, ReadsUnitAt, forward_tape, reverse_tape}
 use Rattle.automata_base.specs.declared.util.search.Direction.{Direction}
 use Rattle.automata_base.specs.declared.util.search.Direction.TheVariants.{Forward, Backward}
-use Rattle.automata_base.specs.declared.util.search.Anchored.{Anchored}
-use Rattle.automata_base.specs.declared.util.search.Anchored.TheVariants.{No, Yes}
 use Rattle.automata_base.specs.declared.util.search.MatchErrorKind.TheVariants.{Quit as QuitAt}
 use Rattle.automata_config.specs.declared.error.SearchError.TheVariants as search
 use Rattle.automata_hybrid.specs.Steps.Events.{Event}

@@ -14,7 +14,8 @@ use Rattle.automata_determinize.specs.Answers.OfPasses.{reported_over}
 use Rattle.automata_base.specs.declared.util.search.MatchKind.{MatchKind}
 use Rattle.automata_determinize.proofs.Answers.Within.{ReportedBelow, first_below, first_stays, over_below}
 use Rattle.automata_hybrid.specs.Machines.Machine.{Machine}
-use Rattle.automata_hybrid.specs.Searches.Passes.{Reads, state_in, tape_in}
+use Rattle.automata_hybrid.specs.Searches.Passes.{Reads, report_in, state_in, tape_in}
+use Rattle.automata_hybrid.proofs.Machines.Powersets.{report_of_nfa, reported_of_nfa, state_of_nfa}
 use Rattle.automata_hybrid.proofs.Searches.PassState.{dead_more, false_true}
 use Rattle.automata_config.specs.Options.{match_kind_of}
 use Rattle.automata_base.proofs.Paths.Orders.{some_inj}
@@ -26,12 +27,15 @@ unfolding first_reported
 first_holds kind a mode t pair k n l e = first_stays (reported_at a kind mode t) pair k n l e
 
 module _ (way : Direction) (m : Machine) (input : Input) (pair : Pair)
-    (reported : reported_over way m.nfa (match_kind_of m.config) input ≡ Some pair) where
+    (reported : report_in way m input ≡ Some pair) where
   abbrev Last : ℕ
   Last = length (tape_in way input).bytes
 
+  over : reported_over way m.nfa (match_kind_of m.config) input ≡ Some pair
+  over = sym (report_of_nfa way m input) ∙ reported
+
   below : ReportedBelow (match_kind_of m.config) m.nfa input.anchored (tape_in way input) pair (suc Last)
-  below = over_below way m.nfa (match_kind_of m.config) input pair reported
+  below = over_below way m.nfa (match_kind_of m.config) input pair over
 
   -- a pass reports at a position of its tape
   pub reported_within : pair.place ≤ length (tape_in way input).bytes
@@ -40,7 +44,9 @@ module _ (way : Direction) (m : Machine) (input : Input) (pair : Pair)
   alive : (j : ℕ) → j ≤ pair.place → state_in way m input j ≡ dead → ⊥
   alive j l e =
       subst (In pair.pattern)
-      (ap (λ (q : Powerset). q.patterns) (dead_more way m input j (suc pair.place) (omega (arith, l)) e)) below.1
+      (ap (λ (q : Powerset). q.patterns)
+      (sym (state_of_nfa way m input (suc pair.place)) ∙ dead_more way m input j (suc pair.place) (omega (arith, l)) e))
+      below.1
 
   unreported :
       (j : ℕ) → j ≤ pair.place → (e : Bool)
@@ -67,4 +73,8 @@ module _ (way : Direction) (m : Machine) (input : Input) (pair : Pair)
   -- a pass reads each unit up to the position where it reports
   pub reported_reads : (j : ℕ) → j ≤ pair.place → Reads way m input j
   reported_reads j l =
-      let w = reported_within in (omega (arith, l, w), alive j l, λ e. unreported j l input.earliest reported e)
+      let w = reported_within in (
+        omega (arith, l, w),
+        alive j l,
+        λ e. reported_of_nfa way m input input.earliest j ∙ unreported j l input.earliest over e,
+      )

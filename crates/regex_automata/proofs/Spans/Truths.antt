@@ -5,7 +5,7 @@ use Rattle.std.proofs.Common.{Option, Some, None, refl, sym, ap, subst, arith, n
 use Rattle.std.specs.Prelude.{is_some}
 use Rattle.std.specs.Option.{option_map}
 use Rattle.automata_base.specs.Answers.Answers.{Half, HasNoAnswerAt, IsInput, SpanIsDone, SpanReportsNone, StopsAtSplit}
-use Rattle.automata_base.specs.Answers.Answers.{Tries, later, offset_in}
+use Rattle.automata_base.specs.Answers.Answers.{Answers, Tries, later, offset_in}
 use Rattle.automata_base.specs.Answers.Answers.{IsFirstSpan}
 use Rattle.automata_base.specs.Haystacks.Input.{Input}
 use Rattle.automata_base.specs.Haystacks.Matches.{HalfMatch}
@@ -20,13 +20,14 @@ use Rattle.automata_base.specs.Answers.OfPasses.{IsNearestAnswer}
 use Rattle.automata_determinize.specs.Answers.OfPasses.{IsReported, ReportsOver, ReportedIsRight}
 use Rattle.automata_determinize.specs.Answers.OfPasses.{reported_over}
 use Rattle.automata_base.specs.declared.util.search.Anchored.{Anchored}
-use Rattle.automata_base.specs.declared.util.search.Anchored.TheVariants.{No}
 use Rattle.automata_base.specs.declared.util.search.MatchKind.{MatchKind}
 use Rattle.automata_hybrid.specs.Machines.Machine.{Machine, engine}
 use Rattle.automata_hybrid.specs.Searches.Passes.{IsFound, Skips, WithoutBase, without_base}
+use Rattle.automata_determinize.proofs.Answers.Turning.{turn_answers}
+use Rattle.automata_hybrid.proofs.Machines.Powersets.{report_of_nfa}
 use Rattle.automata_hybrid.proofs.Searches.Skips.{found_reported}
 use Rattle.regex_automata.specs.Spans.IsMatch.{IsAsked, IsMatchReported, IsNearestThere, IsTruthFound, in_part}
-use Rattle.regex_automata.specs.Spans.IsMatch.{AsksInFull, AsksInPart}
+use Rattle.regex_automata.specs.Spans.IsMatch.{AsksInFull, AsksInPart, ReportsForward}
 use Rattle.automata_config.specs.Options.{match_kind_of}
 use Rattle.std.proofs.lemmas.Bool.{cases_lt}
 use Rattle.automata_base.proofs.Answers.Tried.{tries_once}
@@ -159,14 +160,35 @@ pub truth_found :
 truth_found m input asked is found truth f e =
     record { asked = asked; is = is; answer = f.0; found = f.1; same = e ∙ same_some found f.0 f.2 }
 
+-- what passes report, by the NFA
+by_nfa :
+    (m : Machine) (input : Input) (o : Option Half) → Answers (ReportsForward m) (Skips m) Forward input o
+    → IsReported Forward m.nfa (match_kind_of m.config) input o
+by_nfa m input o f =
+    turn_answers (ReportsForward m) (ReportsOver Forward m.nfa (match_kind_of m.config)) (Skips m) Forward input
+    (λ k reported l same. same ∙ report_of_nfa Forward m (later Forward k input)) o f
+
+of_nfa :
+    (m : Machine) (input : Input) (o : Option Half) → IsReported Forward m.nfa (match_kind_of m.config) input o
+    → Answers (ReportsForward m) (Skips m) Forward input o
+of_nfa m input o f =
+    turn_answers (ReportsOver Forward m.nfa (match_kind_of m.config)) (ReportsForward m) (Skips m) Forward input
+    (λ k reported l same. same ∙ sym (report_of_nfa Forward m (later Forward k input))) o f
+
+pub truth_by_nfa :
+    (m : Machine) (input : Input) (truth : Bool) → IsMatchReported m input truth
+    → (o : Option Half) × IsReported Forward m.nfa (match_kind_of m.config) (in_full input) o × (truth ≡ is_some o)
+truth_by_nfa m input truth f = (f.0, by_nfa m (in_full input) f.0 f.1, f.2)
+
 -- whether there is a match, by what the passes report
 pub truth_reported :
     (m : Machine) (input asked : Input) → IsAsked m input asked → (found : Option HalfMatch) (truth : Bool)
     → WithoutBase (IsFound Forward m asked) found → truth ≡ is_some found → IsMatchReported m input truth
 truth_reported m input asked (AsksInFull skips is) found truth f e = (
   f.0,
-  subst (λ (i : Input). IsReported Forward m.nfa (match_kind_of m.config) i f.0) is
-      (found_reported Forward m asked f.0 f.1),
+  of_nfa m (in_full input) f.0
+      (subst (λ (i : Input). IsReported Forward m.nfa (match_kind_of m.config) i f.0) is
+      (found_reported Forward m asked f.0 f.1)),
   e ∙ same_some found f.0 f.2,
 )
 truth_reported m input asked (AsksInPart whole is) found truth f e =
@@ -174,13 +196,13 @@ truth_reported m input asked (AsksInPart whole is) found truth f e =
     match_reported m input whole f.0
     (subst (λ (i : Input). IsReported Forward m.nfa (match_kind_of m.config) i f.0) is
     (found_reported Forward m asked f.0 f.1)) in
-    (w.0, w.1, e ∙ same_some found f.0 f.2 ∙ w.2)
+    (w.0, of_nfa m (in_full input) w.0 w.1, e ∙ same_some found f.0 f.2 ∙ w.2)
 
 pub match_right :
     (m : Machine) → ReportedIsRight m.nfa → (input : Input) (truth : Bool) → KeepsCycles (nfa_of m.nfa) → IsInput input
     → IsMatchReported m input truth → IsMatch (engine m) input truth
 match_right m law input truth cycles given f =
-    (f.0, law Forward (match_kind_of m.config) (in_full input) f.0 cycles given f.1, f.2)
+    (f.0, law Forward (match_kind_of m.config) (in_full input) f.0 cycles given (by_nfa m (in_full input) f.0 f.1), f.2)
 
 -- if nothing is skipped, the search finds the nearest end
 pub truth_nearest :

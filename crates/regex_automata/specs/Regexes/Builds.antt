@@ -14,6 +14,7 @@ use Rattle.automata_config.specs.Options.{Options}
 use Rattle.automata_config.specs.Settling as settling
 use Rattle.automata_config.specs.declared.error.BuildError.{BuildError}
 use Rattle.automata_config.specs.declared.error.BuildError.TheVariants.{InsufficientCacheCapacity, PatternCounts}
+use Rattle.automata_config.specs.declared.error.BuildError.TheVariants.{Unsupported}
 use Rattle.automata_hybrid.specs.Machines.Builds as dfa
 use Rattle.regex_automata.specs.declared.hybrid.regex.Regex.{Regex}
 use Rattle.regex_automata.specs.declared.hybrid.regex.build.RegexBuildError.{RegexBuildError}
@@ -105,6 +106,8 @@ pub record IsUnpaired (o : Options) (forward : Automaton) (error : BuildError) :
   pub fails : pair_error o forward reverse ≡ Some error
   -- if the capacity is too small, the error names a minimum that is enough
   pub enough : NamesEnough o forward reverse error
+  -- if a Unicode word boundary is not supported, the NFA itself has one
+  pub unicode : error ≡ Unsupported → settling.has_unicode_word forward ≡ true
 
 -- why no regex is built from one NFA: it fails a test after it passed the previous ones; or it passes all, and cannot
 -- be reversed, or no pair can be built from it and its reverse. Memory is used only after the first test

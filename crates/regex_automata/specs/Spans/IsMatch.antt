@@ -1,14 +1,13 @@
 -- Whether there is a match.
 use Rattle.std.specs.Prelude.{◌≡◌, Bool, true, Option, is_some}
-use Rattle.automata_base.specs.Answers.Answers.{Half}
+use Rattle.automata_base.specs.Answers.Answers.{Answers, Half}
 use Rattle.automata_base.specs.Haystacks.Input.{Input}
 use Rattle.automata_base.specs.Answers.Spans.{in_full}
 use Rattle.automata_base.specs.declared.util.search.Direction.TheVariants.{Forward}
 use Rattle.automata_base.specs.Answers.OfPasses.{IsNearestAnswer}
-use Rattle.automata_determinize.specs.Answers.OfPasses.{IsReported}
+use Rattle.automata_base.specs.Paths.Selections.{Pair}
 use Rattle.automata_hybrid.specs.Machines.Machine.{Machine, engine}
-use Rattle.automata_hybrid.specs.Searches.Passes.{IsFound, Skips}
-use Rattle.automata_config.specs.Options.{match_kind_of}
+use Rattle.automata_hybrid.specs.Searches.Passes.{IsFound, Skips, report_in}
 
 -- the input with `earliest` set
 abbrev pub in_part : Input → Input
@@ -34,10 +33,14 @@ pub record IsTruthFound (m : Machine) (input : Input) (truth : Bool) : Type 0 wh
   -- there is a match exactly if it finds one
   pub same : truth ≡ is_some answer
 
+-- a forward pass over the span of an input reports this
+abbrev pub ReportsForward : Machine → Input → Option Pair → Type 0
+ReportsForward m input reported = reported ≡ report_in Forward m input
+
 -- whether there is a match, by what passes over the input, not earliest, report
 abbrev pub IsMatchReported : Machine → Input → Bool → Type 0
 IsMatchReported m input truth =
-    (o : Option Half) × IsReported Forward m.nfa (match_kind_of m.config) (in_full input) o × (truth ≡ is_some o)
+    (o : Option Half) × Answers (ReportsForward m) (Skips m) Forward (in_full input) o × (truth ≡ is_some o)
 
 -- whether there is a match, by the nearest end of an accepting path, which an earliest search finds
 abbrev pub IsNearestThere : Machine → Input → Bool → Type 0

@@ -8,5 +8,5 @@ pub returns : goal.returns
 returns c =
     λ q l. sym
     (ap (λ ps. half_at ps c.args.at c.args.found)
-    (Leads-untagged c.args.cache.now.store.table c.args.id q l (c.see_bounds.ensures.sound.tagged c.args.id q)
+    (Leads-untagged c.args.cache.now.store.table c.args.id q l (c.requires.sound.table.tagged c.args.id q)
     (λ b. absurd (false_true (c.if-is_match.ensures.1 b)))))

@@ -8,7 +8,7 @@ use Rattle.automata_hybrid.specs.Known.Steps.{IsStepRun, StepFails}
 use Rattle.automata_hybrid.proofs.Known.Calls.{after_cached, cached_step, names_in, reported_failure, stepped}
 use Rattle.automata_hybrid.proofs.Searches.PassState.{false_true}
 use Rattle.automata_hybrid.proofs.Steps.Steps.{known_answer, moved_answer, unknown_clean}
-use Rattle.automata_hybrid.proofs.Searches.Contracts.{is_store}
+use Rattle.automata_hybrid.proofs.Storage.Sound.{sound_searched, sound_still}
 use Rattle.automata_hybrid.proofs.search.step.Goals as goal
 
 -- the cell of a transition that is not cached is empty
@@ -31,19 +31,19 @@ returns-then-not-is_unknown-clause-step c =
       answer =
           subst (IsStepAnswer c.args.dfa.now c.args.id c.args.unit c.args.cache.now c.args.cache.now) same
           (known_answer c.args.dfa.now c.args.id c.args.unit c.args.cache.now c.unit_class.result c.cell-cell.result
-          c.requires.of c.requires.valid
+          c.requires.sound.of c.requires.valid
           c.unit_class.ensures.value c.unit_class.ensures.small c.unit_class.ensures.quit c.unit_class.ensures.free
           c.cell-cell.ensures.value c.cell-cell.ensures.named
-          (c.see_bounds.ensures.sound.low c.args.id c.requires.valid.0 c.requires.valid.1) (omega (arith, known, same))
+          (c.requires.sound.table.low c.args.id c.requires.valid.0 c.requires.valid.1) (omega (arith, known, same))
           c.cell-cell.ensures.tag
           c.unit_class.ensures.unit);
       quit = λ on. refl;
       taken = λ clean q n.
           after_cached c.args.dfa.now (Step q c.args.unit) (moved c.args.at (known_of c.args.cache.now))
           (known_of c.args.cache.now)
-          (cached_step c.args.dfa.now c.args.id c.args.unit c.args.cache.now c.see_machine.ensures.machine
+          (cached_step c.args.dfa.now c.args.id c.args.unit c.args.cache.now c.requires.sound.machine
           c.unit_class.ensures.unit
-          (is_store c.args.cache.now.store c.args.dfa.now c.requires.of c.see_bounds.ensures.bounds)
+          c.requires.sound.store
           (subst (λ k. k < c.args.dfa.now.stride) c.unit_class.ensures.value c.unit_class.ensures.below)
           (subst (λ n. n < 2 ^ 31) (c.requires.cell.0 known) known) clean q n);
     }
@@ -58,7 +58,7 @@ pub compute_next-requires-clause-clean : goal.compute_next-requires-clause-clean
 compute_next-requires-clause-clean c =
     let free : 2 ^ 31 ≤ c.args.cell = grind (arith, common_steps, c.if-not-is_unknown.ensures.size) in
     unknown_clean c.args.dfa.now c.args.id c.args.unit c.args.cache.now c.unit_class.result c.cell-cell.result
-    c.requires.of c.requires.valid
+    c.requires.sound.of c.requires.valid
     c.unit_class.ensures.value c.unit_class.ensures.small c.unit_class.ensures.quit c.unit_class.ensures.free
     c.cell-cell.ensures.value c.cell-cell.ensures.named
     (unread c.args.dfa.now c.args.id c.args.unit c.args.cache.now c.cell-cell.result
@@ -74,7 +74,7 @@ returns-in-Ok-clause-step c =
     let free : 2 ^ 31 ≤ c.args.cell = grind (arith, common_steps, c.if-not-is_unknown.ensures.size) in
     let clean : quits_on c.args.dfa.now c.args.unit ≡ false =
     unknown_clean c.args.dfa.now c.args.id c.args.unit c.args.cache.now c.unit_class.result c.cell-cell.result
-    c.requires.of c.requires.valid c.unit_class.ensures.value c.unit_class.ensures.small c.unit_class.ensures.quit
+    c.requires.sound.of c.requires.valid c.unit_class.ensures.value c.unit_class.ensures.small c.unit_class.ensures.quit
     c.unit_class.ensures.free c.cell-cell.ensures.value c.cell-cell.ensures.named
     (unread c.args.dfa.now c.args.id c.args.unit c.args.cache.now c.cell-cell.result
     (c.cell-cell.ensures.value ∙ ap (cell_of c.args.cache.now.store c.args.id) c.unit_class.ensures.value)
@@ -90,8 +90,8 @@ returns-in-Ok-clause-step c =
       quit = λ quits. absurd (false_true (sym clean ∙ quits));
       taken = λ _ q named.
           stepped c.args.dfa.now c.args.id q c.args.unit c.args.at c.args.cache.now c.compute_next.new.self
-          c.see_machine.ensures.machine c.unit_class.ensures.unit
-          (is_store c.args.cache.now.store c.args.dfa.now c.requires.of c.see_bounds.ensures.bounds) clean
+          c.requires.sound.machine c.unit_class.ensures.unit
+          c.requires.sound.store clean
           (subst (λ k. k < c.args.dfa.now.stride) c.unit_class.ensures.value c.unit_class.ensures.below)
           (c.requires.cell.1 free) named
           (subst (λ (v : CacheView). IsStepRun c.args.dfa.now c.args.id c.args.unit (known_of v)
@@ -115,5 +115,9 @@ returns-in-Err-clause-step c =
           (reported_failure c.args.dfa.now q c.args.unit c.args.at (moved c.args.at (known_of c.args.cache.now))
           (known_of c.compute_next.new.self) c.in-Err.error
           (fails.fails q (names_in c.args.dfa.now c.args.cache.now q c.args.id
-          (is_store c.args.cache.now.store c.args.dfa.now c.requires.of c.see_bounds.ensures.bounds) named)));
+          c.requires.sound.store named)));
     }
+
+pub compute_next-requires-clause-sound : goal.compute_next-requires-clause-sound
+compute_next-requires-clause-sound c =
+    sound_still c.move_search.ensures.value (sound_searched _ c.requires.sound)

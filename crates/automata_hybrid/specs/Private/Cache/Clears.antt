@@ -2,11 +2,11 @@
 use Rattle.std.specs.Prelude.{◌≡◌, ℕ, ◌+◌, ◌<◌, ◌≤◌, List, length, None, Some, slice_index, ◌⊎◌, [], ◌∷◌, ◌++◌}
 use Rattle.std.specs.Prelude.{cond, Option, is_some, slice_get, nat_le, unwrap_or}
 use Rattle.automata_base.specs.Powersets.Powerset.{Powerset}
+use Rattle.automata_hybrid.specs.Machines.FullDfas.{full_dfa}
 use Rattle.automata_hybrid.specs.declared.cache.row.Row.{Row}
 use Rattle.automata_hybrid.specs.Cache.Table.{Names, Rows, id_of, Leads, fresh, row_of}
 use Rattle.automata_hybrid.specs.Private.Cache.Stores.{KeepsStarts}
 use Rattle.automata_hybrid.specs.Cache.Ids.{unknown_id, fixed_from}
-use Rattle.automata_determinize.specs.Retraced.Steps.{start_state_of}
 use Rattle.automata_base.specs.declared.util.search.Anchored.{Anchored}
 use Rattle.automata_hybrid.specs.Machines.StartSlots.{slot_behind}
 use Rattle.automata_hybrid.specs.Private.Cache.Table.{with_row_in_store}
@@ -16,7 +16,7 @@ abbrev pub LeadsToStart : Rows → ℕ → (slot : ℕ) → Type 0
 LeadsToStart t id slot =
     (q : Powerset) × Leads t id q
     × ((mode : Anchored) (behind : Option ℕ) → slot_behind t.of mode behind ≡ slot
-    → q ≡ start_state_of t.of.nfa mode behind)
+    → q ≡ (full_dfa t.of).start mode behind)
 
 -- the ID in a slot: unknown, dead for the dead state, or the ID of its start state
 abbrev pub IsSlot : Rows → (slot id : ℕ) → Type 0

@@ -6,6 +6,7 @@ use Rattle.std.specs.declared.hash.FoldHasher.{FoldHasher}
 use Rattle.std.specs.declared.hash.BuildHasherDefault.{BuildHasherDefault}
 use Rattle.automata_base.specs.Powersets.Powerset.{Powerset, cost, dead}
 use Rattle.automata_determinize.specs.Powersets.Equal.{powerset_eq}
+use Rattle.automata_hybrid.specs.Machines.FullDfas.{full_dfa}
 use Rattle.automata_hybrid.specs.declared.cache.row.Row.{Row}
 use Rattle.automata_hybrid.specs.Private.Machines.Machine.{IsTemplate}
 use Rattle.automata_hybrid.specs.Machines.Reachable.{IsStateOf}
@@ -14,15 +15,13 @@ use Rattle.automata_hybrid.specs.Cache.Table.{IsRowState, IsRowId, cell_at}
 use Rattle.automata_determinize.specs.Powersets.Passes.{IsUnit}
 use Rattle.automata_hybrid.specs.Cache.Ids.{quit_id, unknown_id, fixed_from, offset_limit}
 use Rattle.automata_hybrid.specs.Machines.Machine.{unit_class}
-use Rattle.automata_determinize.specs.Retraced.Steps.{successor}
-use Rattle.automata_config.specs.Options.{match_kind_of}
 use Rattle.automata_hybrid.specs.Machines.OwnStates.{IsOwn}
 
 -- an ID leads to the successor of a state on each unit of a class
 abbrev pub LeadsByClass : Rows → ℕ → Powerset → (class : ℕ) → Type 0
 LeadsByClass t id q class =
     (unit : Option ℕ) → IsUnit unit → unit_class t.of unit ≡ class
-    → Leads t id (successor t.of.nfa (match_kind_of t.of.config) q unit)
+    → Leads t id ((full_dfa t.of).step q unit)
 
 -- what a cell of a state's row contains; the template says which classes are quit classes
 pub data IsCell (t : Rows) (q : Powerset) (class id : ℕ) : Type 0 where

@@ -83,3 +83,5 @@ pub record IsCache (c : Stored) (settings : Settings) : Type 0 where
   pub same : settings ≡ cache_settings c.table.of
   -- the capacity fits in 64 bits
   pub bounded : c.table.of.capacity < 2 ^ 64
+  -- the count of clears fits in 64 bits
+  pub counted : c.clears < 2 ^ 64

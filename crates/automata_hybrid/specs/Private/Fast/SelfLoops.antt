@@ -4,10 +4,9 @@ use Rattle.automata_base.specs.ByteClasses.Classes.{class_in, is_quit}
 use Rattle.automata_base.specs.Haystacks.Input.{Input}
 use Rattle.automata_base.specs.Paths.Paths.{next}
 use Rattle.automata_base.specs.Powersets.Powerset.{Powerset}
-use Rattle.automata_determinize.specs.Retraced.Steps.{successor}
 use Rattle.automata_base.specs.declared.util.search.Direction.{Direction}
 use Rattle.automata_base.specs.declared.util.search.Direction.TheVariants.{Forward, Backward}
-use Rattle.automata_config.specs.Options.{match_kind_of}
+use Rattle.automata_hybrid.specs.Machines.FullDfas.{full_dfa}
 use Rattle.automata_hybrid.specs.Machines.Machine.{Machine}
 use Rattle.automata_hybrid.specs.Searches.Passes.{tape_in}
 use Rattle.automata_hybrid.specs.Cache.Stores.{Stored}
@@ -48,7 +47,7 @@ pub record LoopsOn (m : Machine) (c : Stored) (id byte : ℕ) : Type 0 where
   pub below : class_in m.classes byte < c.table.of.stride
   -- it leads back to the ID
   pub back :
-      (q : Powerset) → Names c.table id q → Leads c.table id (successor m.nfa (match_kind_of m.config) q (Some byte))
+      (q : Powerset) → Names c.table id q → Leads c.table id ((full_dfa m).step q (Some byte))
 
 -- an ID's row leads back to it on each byte of a range
 pub record IsLoopRange (m : Machine) (c : Stored) (id : ℕ) (r : LoopRange) : Type 0 where

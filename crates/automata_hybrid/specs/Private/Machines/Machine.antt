@@ -2,12 +2,11 @@
 use Rattle.std.specs.Prelude.{ℕ, ◌+◌, ◌*◌, ◌<◌, ◌≤◌, List, true, false, Option, slice_index, length, ◌≡◌, ◌⊎◌}
 use Rattle.automata_base.specs.Powersets.Powerset.{Powerset}
 use Rattle.automata_base.specs.ByteClasses.Classes.{class_in, eoi_class, is_quit, stride_for}
-use Rattle.automata_determinize.specs.Retraced.Steps.{successor}
 use Rattle.automata_determinize.specs.Powersets.Accounting.{minimum_capacity}
 use Rattle.automata_determinize.specs.Powersets.Passes.{IsUnit}
 use Rattle.automata_hybrid.specs.Machines.OwnStates.{IsOwn}
-use Rattle.automata_config.specs.Options.{match_kind_of}
 use Rattle.automata_hybrid.specs.Cache.Ids.{quit_id, unknown_id, offset_limit}
+use Rattle.automata_hybrid.specs.Machines.FullDfas.{full_dfa}
 use Rattle.automata_hybrid.specs.Machines.Machine.{IsSized, Machine, unit_class}
 
 -- the stride is positive, a power of two and at most 512, and each cell of a new row is quit or unknown
@@ -48,7 +47,7 @@ pub record IsMachine (m : Machine) : Type 0 where
   pub alike :
       (q : Powerset) (unit other : Option ℕ) → IsOwn m.nfa q → IsUnit unit → IsUnit other
       → unit_class m unit ≡ unit_class m other
-      → successor m.nfa (match_kind_of m.config) q unit ≡ successor m.nfa (match_kind_of m.config) q other
+      → (full_dfa m).step q unit ≡ (full_dfa m).step q other
   -- the capacity is at least the minimum
   pub enough : minimum_capacity m.stride m.slots m.greatest m.fixed ≤ m.capacity
   -- the offsets of rows in a table of the minimum capacity are below the limit

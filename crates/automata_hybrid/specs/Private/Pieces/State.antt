@@ -6,7 +6,7 @@ use Rattle.automata_config.specs.declared.error.SearchError.{SearchError}
 use Rattle.automata_hybrid.specs.Cache.Caches.{CacheView}
 use Rattle.automata_hybrid.specs.Cache.Table.{Names}
 use Rattle.automata_hybrid.specs.Known.Stores.{known_of}
-use Rattle.automata_hybrid.specs.Known.Walks.{IsNotBack, with_row_back}
+use Rattle.automata_hybrid.specs.Known.Walks.{IsNotRestored, with_restored_row}
 use Rattle.automata_hybrid.specs.Machines.Machine.{Machine}
 use Rattle.automata_hybrid.specs.Private.Walks.State.{IsHandle}
 use Rattle.automata_hybrid.specs.declared.cache.handle.Handle.{Handle}
@@ -39,22 +39,22 @@ pub record HasResumed (m : Machine) (p : PiecesView) (old new : CacheView) (id :
   pub state : Powerset
   -- it was the current state of the search
   pub stood : p.state ≡ Some state
-  -- its row was there, or is put back
-  pub back : with_row_back m state (known_of old) ≡ Some (known_of new)
+  -- its row was there, or is restored
+  pub back : with_restored_row m state (known_of old) ≡ Some (known_of new)
   -- the ID names it
   pub named : Names new.store.table id state
 
--- a cache does not have the row of a search's current state, and it is not put back
+-- a cache does not have the row of a search's current state, and it is not restored
 pub record FailsToResume (m : Machine) (p : PiecesView) (old new : CacheView) (e : SearchError) : Type 0 where
   -- the state
   pub state : Powerset
   -- it was the current state of the search
   pub stood : p.state ≡ Some state
-  -- why its row is not put back
-  pub fails : IsNotBack m state p.read (known_of old) (known_of new) e
+  -- why its row is not restored
+  pub fails : IsNotRestored m state p.read (known_of old) (known_of new) e
 
 -- what continuing a search returns: the ID of its current state; none once its answer is final; or why the row of that
--- state is not put back
+-- state is not restored
 abbrev pub IsResumed : Machine → PiecesView → (old new : CacheView) → Result (Option ℕ) SearchError → Type 0
 IsResumed m p old new (Ok None) = (p.state ≡ None) × (known_of new ≡ known_of old)
 IsResumed m p old new (Ok (Some id)) = HasResumed m p old new id

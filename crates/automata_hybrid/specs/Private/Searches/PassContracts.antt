@@ -1,5 +1,5 @@
 -- What the functions of a search return: for a run over cached transitions, for a pass, and for the rest of one.
-use Rattle.std.specs.Prelude.{ℕ, List, Bool, zero, suc, ◌≡◌, ◌-◌, ◌<◌, ◌≤◌, true, Option, Some, None}
+use Rattle.std.specs.Prelude.{ℕ, List, Bool, zero, suc, ◌≡◌, ◌-◌, ◌<◌, ◌≤◌, Option, Some, None}
 use Rattle.std.specs.Prelude.{Result, Ok, Err}
 use Rattle.automata_base.specs.Answers.Answers.{offset_in}
 use Rattle.automata_base.specs.Haystacks.Input.{Input, IsAllowed}
@@ -9,11 +9,12 @@ use Rattle.automata_base.specs.declared.util.search.Direction.{Direction}
 use Rattle.automata_base.specs.declared.util.search.Anchored.{Anchored}
 use Rattle.automata_base.specs.declared.util.search.Span.{Span}
 use Rattle.automata_config.specs.declared.error.SearchError.{SearchError}
-use Rattle.automata_hybrid.specs.Cache.Caches.{CacheView, IsCacheOf}
+use Rattle.automata_hybrid.specs.Cache.Caches.{CacheView}
 use Rattle.automata_hybrid.specs.Cache.Table.{Names}
 use Rattle.automata_hybrid.specs.Machines.Machine.{Machine}
 use Rattle.automata_hybrid.specs.Searches.PassState.{IsAtAlong, half_at}
-use Rattle.automata_hybrid.specs.Private.Searches.PassState.{HasLearnedUnit, HasRun, IsFollowedAlong, IsMetAlong}
+use Rattle.automata_hybrid.specs.Private.Cache.Sound.{IsSoundCacheOf}
+use Rattle.automata_hybrid.specs.Private.Searches.PassState.{HasLearnedUnit, HasRun, IsFollowedAlong, IsPeekedAlong}
 use Rattle.automata_hybrid.specs.Searches.Traces.{Trace, pass_trace}
 use Rattle.automata_hybrid.specs.declared.search.fast.follow.Stop.{Stop}
 use Rattle.automata_hybrid.specs.declared.search.pass.KnownStop.{KnownStop}
@@ -32,8 +33,8 @@ input_at haystack span anchored earliest =
 
 -- a search over an input that is rebuilt from its parts may begin with a cache
 pub record MayBegin (m : Machine) (c : CacheView) (input : Input) : Type 0 where
-  -- the cache belongs to the DFA
-  pub of : IsCacheOf c m
+  -- the cache belongs to the DFA, and both have their invariants
+  pub sound : IsSoundCacheOf c m
   -- the span lies in the haystack
   pub allowed : IsAllowed input
 
@@ -55,7 +56,7 @@ pub record FollowsAlong (s : Trace) (way : Direction) (m : Machine) (c : Stored)
   -- cached transitions led the run there, each to an ID whose only tag is this one
   pub followed : IsFollowedAlong s way m c input tag from to.at to.id
   -- the next ID is the one that the next byte leads to, unless it is unknown
-  pub met : IsMetAlong s way m c input to.at to.id to.next
+  pub peeked : IsPeekedAlong s way m c input to.at to.id to.next
 
 -- cached transitions led a pass from a place to this stop, each to an ID whose only tag is this one
 abbrev pub FollowsTo : Direction → Machine → Stored → Input → (tag from : ℕ) → Stop → Type 0
@@ -69,7 +70,7 @@ pub record RunsAlong (s : Trace) (way : Direction) (m : Machine) (c : Stored) (i
   -- it has this ID there, and has found this
   pub at : IsAtAlong s way m c.table input to.at to.id to.found
   -- the next ID is the one that the next byte leads to, unless it is unknown
-  pub met : IsMetAlong s way m c input to.at to.id to.next
+  pub peeked : IsPeekedAlong s way m c input to.at to.id to.next
 
 -- what a pass has found at place `k` if that is what its state there reports, which has these patterns
 abbrev pub found_there : Direction → Input → (k : ℕ) → (patterns : List ℕ) → Option HalfMatch
@@ -77,7 +78,7 @@ found_there way input zero patterns = None
 found_there way input (suc j) patterns = half_at patterns (offset_in way input j) None
 
 -- a pass has read its first `k` units, all by cached transitions, and has found what its state there reports
-pub record IsTakenUp (way : Direction) (m : Machine) (c : Stored) (input : Input) (k id : ℕ) : Type 0 where
+pub record MayContinue (way : Direction) (m : Machine) (c : Stored) (input : Input) (k id : ℕ) : Type 0 where
   -- what the pass has found
   pub found : Option HalfMatch
   -- the pass has read its first `k` units by cached transitions
@@ -106,7 +107,7 @@ pub record IsKnownEnd (way : Direction) (m : Machine) (c : CacheView) (input : I
 -- there
 abbrev pub IsKnownStop : Direction → Machine → CacheView → Input → KnownStop → Type 0
 IsKnownStop way m c input (Ended k found) = (id : ℕ) × IsKnownEnd way m c input k id found
-IsKnownStop way m c input (Left from) = IsTakenUp way m c.store input from.at from.id
+IsKnownStop way m c input (Left from) = MayContinue way m c.store input from.at from.id
 
 -- a pass that has begun returns a half match
 pub record HasReturned (way : Direction) (m : Machine) (input : Input) (begun new : Known) (half : Option HalfMatch) :

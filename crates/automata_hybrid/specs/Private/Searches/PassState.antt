@@ -118,18 +118,18 @@ pub record IsNextId (s : Trace) (way : Direction) (m : Machine) (c : Stored) (in
   pub run : (tag : ℕ) → IsRunTag tag → HasOnly tag to → IsRun s way m c input tag k (k + 1) to
 
 -- this is the next ID after another one: unless it is unknown, the transition on the byte at place `k` leads to it
-abbrev pub IsMetAlong : Trace → Direction → Machine → Stored → Input → (k id met : ℕ) → Type 0
-IsMetAlong s way m c input k id met = met < unknown_id → IsNextId s way m c input k id met
+abbrev pub IsPeekedAlong : Trace → Direction → Machine → Stored → Input → (k id peeked : ℕ) → Type 0
+IsPeekedAlong s way m c input k id peeked = peeked < unknown_id → IsNextId s way m c input k id peeked
 
 -- this is the next ID after another one in a pass
-abbrev pub IsMet : Direction → Machine → Stored → Input → (k id met : ℕ) → Type 0
-IsMet way m c input k id met = IsMetAlong (pass_trace way m input) way m c input k id met
+abbrev pub IsPeeked : Direction → Machine → Stored → Input → (k id peeked : ℕ) → Type 0
+IsPeeked way m c input k id peeked = IsPeekedAlong (pass_trace way m input) way m c input k id peeked
 
 -- the next ID of a run has only the match tag
-pub record MeetsMatch (s : Trace) (way : Direction) (m : Machine) (c : Stored) (input : Input) (k id to : ℕ) :
+pub record PeeksMatch (s : Trace) (way : Direction) (m : Machine) (c : Stored) (input : Input) (k id to : ℕ) :
     Type 0 where
   -- this is the next ID after the other one
-  pub met : IsMetAlong s way m c input k id to
+  pub peeked : IsPeekedAlong s way m c input k id to
   -- its only tag is the match tag
   pub only : HasOnly (2 ^ 27) to
 

@@ -1,9 +1,8 @@
 -- Units that a search reads from an ID: the ID that reading one returns, and its effect on what the cache knows.
 use Rattle.std.specs.Prelude.{ℕ, ◌≡◌, false, true, Option, Some, Result, Ok, Err}
 use Rattle.automata_base.specs.Powersets.Powerset.{Powerset, dead}
-use Rattle.automata_determinize.specs.Retraced.Steps.{successor}
-use Rattle.automata_config.specs.Options.{match_kind_of}
 use Rattle.automata_config.specs.declared.error.SearchError.{SearchError}
+use Rattle.automata_hybrid.specs.Machines.FullDfas.{full_dfa}
 use Rattle.automata_hybrid.specs.Cache.Caches.{CacheView}
 use Rattle.automata_hybrid.specs.Cache.Table.{Leads, Names}
 use Rattle.automata_hybrid.specs.Steps.Events.{Step}
@@ -52,7 +51,7 @@ pub record IsReadAnswer (m : Machine) (id : ℕ) (unit : Option ℕ) (old new : 
   -- it leads from a state to its successor
   pub named :
       (q : Powerset) → Names old.store.table id q
-      → Leads new.store.table next (successor m.nfa (match_kind_of m.config) q unit)
+      → Leads new.store.table next ((full_dfa m).step q unit)
 
 -- a unit was read from an ID, which returns this ID
 pub record HasRead (m : Machine) (id : ℕ) (unit : Option ℕ) (at : ℕ) (old new : CacheView) (next : ℕ) : Type 0 where

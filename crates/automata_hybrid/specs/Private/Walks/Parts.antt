@@ -12,8 +12,8 @@ use Rattle.automata_hybrid.specs.Cache.Caches.{CacheView}
 use Rattle.automata_hybrid.specs.Known.Known.{Known}
 use Rattle.automata_hybrid.specs.Known.Passes.{UnitFails, after_many, after_unit}
 use Rattle.automata_hybrid.specs.Known.Stores.{known_of}
-use Rattle.automata_hybrid.specs.Known.Walks.{CallEnds, CallFailsAtUnit, IsNotBack, IsNotResumed, CallFails}
-use Rattle.automata_hybrid.specs.Known.Walks.{after_resume, with_row_back}
+use Rattle.automata_hybrid.specs.Known.Walks.{CallEnds, CallFailsAtUnit, IsNotRestored, IsNotResumed, CallFails}
+use Rattle.automata_hybrid.specs.Known.Walks.{after_resume, with_restored_row}
 use Rattle.automata_hybrid.specs.Walks.Cached.{IsToRead}
 use Rattle.automata_hybrid.specs.Machines.Machine.{Machine}
 use Rattle.automata_hybrid.specs.Private.Searches.PassState.{step_error}
@@ -99,16 +99,16 @@ IsResumeResult way m input walk old new (Err e) =
     IsNotResumed way m input walk.stage walk.units (known_of old) (known_of new) e
 
 -- a cache has the row of a state that a walk holds, with this ID
-pub record HasPutBack (m : Machine) (q : Powerset) (old new : CacheView) (id : ℕ) : Type 0 where
+pub record HasRestored (m : Machine) (q : Powerset) (old new : CacheView) (id : ℕ) : Type 0 where
   -- the ID names the state
   pub named : Names new.store.table id q
-  -- its row was there, or is put back
-  pub back : with_row_back m q (known_of old) ≡ Some (known_of new)
+  -- its row was there, or is restored
+  pub back : with_restored_row m q (known_of old) ≡ Some (known_of new)
 
 -- what putting back a state that a walk holds returns: its ID, or why it has no row, with an error at any offset
 abbrev pub IsRestoreResult : Machine → Powerset → (old new : CacheView) → Result ℕ StepError → Type 0
-IsRestoreResult m q old new (Ok id) = HasPutBack m q old new id
-IsRestoreResult m q old new (Err e) = (at : ℕ) → IsNotBack m q at (known_of old) (known_of new) (step_error e at)
+IsRestoreResult m q old new (Ok id) = HasRestored m q old new id
+IsRestoreResult m q old new (Err e) = (at : ℕ) → IsNotRestored m q at (known_of old) (known_of new) (step_error e at)
 
 -- a walk has read `units` units, and at least one is left: the ID names its state there
 pub record StandsAfterUnits (way : Direction) (m : Machine) (t : Rows) (input : Input) (units id : ℕ) : Type 0 where

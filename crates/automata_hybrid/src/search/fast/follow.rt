@@ -2,14 +2,14 @@
 //! self-loops.
 ghost use Rattle.std.specs.Prelude.{◌≡◌, ◌+◌, ◌-◌, ◌^◌, ◌<◌, ◌≤◌};
 ghost use Rattle.automata_base.specs.Paths.Paths.{next};
-ghost use Rattle.automata_hybrid.specs.Cache.Caches.{IsCacheOf};
 ghost use Rattle.automata_hybrid.specs.Cache.Ids.{fixed_from};
 ghost use Rattle.automata_hybrid.specs.Cache.Table.{IsRowId};
 ghost use Rattle.automata_hybrid.specs.Private.Cache.Ids.{HasOnly, IsRunTag};
+ghost use Rattle.automata_hybrid.specs.Private.Cache.Sound.{IsSoundCacheOf};
 ghost use Rattle.automata_hybrid.specs.Private.Fast.SelfLoops.{IsSelfLoop};
 ghost use Rattle.automata_hybrid.specs.Private.Searches.PassContracts.{FollowsAlong};
-ghost use Rattle.automata_hybrid.specs.Private.Searches.PassState.{IsMatchRun, IsMetAlong, IsNextCell, IsOnTrace};
-ghost use Rattle.automata_hybrid.specs.Private.Searches.PassState.{IsRun, IsTagAt, MayFollow, MeetsMatch};
+ghost use Rattle.automata_hybrid.specs.Private.Searches.PassState.{IsMatchRun, IsPeekedAlong, IsNextCell, IsOnTrace};
+ghost use Rattle.automata_hybrid.specs.Private.Searches.PassState.{IsRun, IsTagAt, MayFollow, PeeksMatch};
 ghost use Rattle.automata_hybrid.specs.Searches.Traces.{Trace};
 
 use crate::cache::Cache;
@@ -53,7 +53,7 @@ pub(crate) fn follow(
     end: usize,
 ) -> Stop
     ghost trace: { Trace }
-    requires of { IsCacheOf cache.now dfa.now }
+    requires sound { IsSoundCacheOf cache.now dfa.now }
     requires may { MayFollow trace way dfa.now cache.now.store.table input.now start end from }
     requires kind { IsRunTag tag }
     ensures to { FollowsAlong trace way dfa.now cache.now.store input.now tag start result }
@@ -108,9 +108,9 @@ pub(crate) fn next_known(
     end: usize,
 ) -> LazyStateID
     ghost trace: { Trace }
-    requires of { IsCacheOf cache.now dfa.now }
+    requires sound { IsSoundCacheOf cache.now dfa.now }
     requires may { MayFollow trace way dfa.now cache.now.store.table input.now at end id }
-    ensures met { IsMetAlong trace way dfa.now cache.now.store input.now at id result }
+    ensures peeked { IsPeekedAlong trace way dfa.now cache.now.store input.now at id result }
     ensures read { at < end → IsNextCell way dfa.now cache.now.store input.now at id result }
 {
     if at >= end {
@@ -131,12 +131,12 @@ pub(crate) fn follow_matches(
     next: LazyStateID,
 ) -> Stop
     ghost trace: { Trace }
-    requires of { IsCacheOf cache.now dfa.now }
+    requires sound { IsSoundCacheOf cache.now dfa.now }
     requires on { IsOnTrace trace way dfa.now cache.now.store.table input.now start from }
-    requires met { MeetsMatch trace way dfa.now cache.now.store input.now start from next }
+    requires peeked { PeeksMatch trace way dfa.now cache.now.store input.now start from next }
     requires open { input.now.start ≤ input.now.end }
     ensures run { IsMatchRun trace way dfa.now cache.now.store input.now start result.at result.id }
-    ensures met { IsMetAlong trace way dfa.now cache.now.store input.now result.at result.id result.next }
+    ensures peeked { IsPeekedAlong trace way dfa.now cache.now.store input.now result.at result.id result.next }
     ensures read { result.at < input.now.end - input.now.start
         → IsNextCell way dfa.now cache.now.store input.now result.at result.id result.next }
 {
@@ -166,13 +166,13 @@ fn follow_eight(
     tag: u32,
 ) -> Stop
     ghost trace: { Trace }
-    requires of { IsCacheOf cache.now dfa.now }
+    requires sound { IsSoundCacheOf cache.now dfa.now }
     requires at { IsTagAt trace way dfa.now cache.now.store.table input.now tag start from }
     requires within { start + 8 ≤ input.now.end - input.now.start }
     requires room { start + 8 < 2 ^ 64 }
     ensures upto { result.at ≤ start + 8 }
     ensures run { IsRun trace way dfa.now cache.now.store input.now tag start result.at result.id }
-    ensures met { IsMetAlong trace way dfa.now cache.now.store input.now result.at result.id result.next }
+    ensures peeked { IsPeekedAlong trace way dfa.now cache.now.store input.now result.at result.id result.next }
     ensures read { result.at < start + 8
         → IsNextCell way dfa.now cache.now.store input.now result.at result.id result.next }
 {
@@ -210,13 +210,13 @@ fn follow_rest(
     end: usize,
 ) -> Stop
     ghost trace: { Trace }
-    requires of { IsCacheOf cache.now dfa.now }
+    requires sound { IsSoundCacheOf cache.now dfa.now }
     requires may { MayFollow trace way dfa.now cache.now.store.table input.now start end from }
     requires kind { IsRunTag tag }
     requires only { HasOnly tag from }
     ensures within { result.at ≤ input.now.end - input.now.start }
     ensures run { IsRun trace way dfa.now cache.now.store input.now tag start result.at result.id }
-    ensures met { IsMetAlong trace way dfa.now cache.now.store input.now result.at result.id result.next }
+    ensures peeked { IsPeekedAlong trace way dfa.now cache.now.store input.now result.at result.id result.next }
     ensures read { result.at < end
         → IsNextCell way dfa.now cache.now.store input.now result.at result.id result.next }
 {
@@ -252,13 +252,13 @@ fn follow_byte(
     tag: u32,
 ) -> LazyStateID
     ghost trace: { Trace }
-    requires of { IsCacheOf cache.now dfa.now }
+    requires sound { IsSoundCacheOf cache.now dfa.now }
     requires at { IsTagAt trace way dfa.now cache.now.store.table input.now tag place id }
     requires row { id ≡ row + tag }
     requires within { place < input.now.end - input.now.start }
     ensures run { HasOnly tag result
         → IsRun trace way dfa.now cache.now.store input.now tag place (place + 1) result }
-    ensures met { IsMetAlong trace way dfa.now cache.now.store input.now place id result }
+    ensures peeked { IsPeekedAlong trace way dfa.now cache.now.store input.now place id result }
     ensures read { IsNextCell way dfa.now cache.now.store input.now place id result }
 {
     let class = dfa.class_of(byte_at(input, way, place));
@@ -275,7 +275,7 @@ fn follow_loop(
     start: usize,
     id: LazyStateID,
 ) -> usize
-    requires of { IsCacheOf cache.now dfa.now }
+    requires sound { IsSoundCacheOf cache.now dfa.now }
     requires valid { IsRowId cache.now.store.table id }
     requires plain { id < fixed_from }
     requires open { input.now.start ≤ input.now.end }

@@ -2,15 +2,15 @@
 //! untagged IDs, far into a run.
 ghost use Rattle.std.specs.Prelude.{ℕ, ◌≡◌, ◌+◌, ◌-◌, ◌^◌, ◌<◌, ◌≤◌, length};
 ghost use Rattle.automata_base.specs.ByteClasses.Classes.{AreClasses, eoi_class};
-ghost use Rattle.automata_hybrid.specs.Cache.Caches.{IsCacheOf};
 ghost use Rattle.automata_hybrid.specs.Cache.Ids.{offset_limit};
 ghost use Rattle.automata_hybrid.specs.Cache.Table.{IsRowId};
 ghost use Rattle.automata_hybrid.specs.Private.Cache.Ids.{HasOnly};
 ghost use Rattle.automata_hybrid.specs.Private.Cache.Leaps.{AreLeaps};
+ghost use Rattle.automata_hybrid.specs.Private.Cache.Sound.{IsSoundCacheOf};
 ghost use Rattle.automata_hybrid.specs.Private.Fast.Leaps.{IsLeapt, LeadsIds, column_of};
 ghost use Rattle.automata_hybrid.specs.Private.Fast.SelfLoops.{byte_in};
 ghost use Rattle.automata_hybrid.specs.Private.Searches.PassContracts.{FollowsAlong, MayBegin, input_at};
-ghost use Rattle.automata_hybrid.specs.Private.Searches.PassState.{IsMetAlong, IsNextCell, IsOnTrace, IsRun};
+ghost use Rattle.automata_hybrid.specs.Private.Searches.PassState.{IsPeekedAlong, IsNextCell, IsOnTrace, IsRun};
 ghost use Rattle.automata_hybrid.specs.Private.Searches.PassState.{MayFollow};
 ghost use Rattle.automata_hybrid.specs.Private.Searches.Traces.{IsTrace};
 ghost use Rattle.automata_hybrid.specs.Searches.Traces.{Trace};
@@ -84,7 +84,7 @@ pub(crate) fn follow_any_leaps(
     near: Stop,
 ) -> Stop
     ghost trace: { Trace }
-    requires of { IsCacheOf cache.old dfa.now }
+    requires sound { IsSoundCacheOf cache.old dfa.now }
     requires near { FollowsAlong trace way dfa.now cache.old.store input.now 0 near.at near }
     requires trace { IsTrace way dfa.now input.now trace }
     requires open { input.now.start ≤ input.now.end }
@@ -142,13 +142,12 @@ fn leap_by(
     bytes: &[u8],
     index: usize,
 ) -> Leapt
-    requires of { IsCacheOf cache.now dfa.now }
+    requires sound { IsSoundCacheOf cache.now dfa.now }
     requires leaps { AreLeaps cache.now.store.table leaps.now }
     requires reach { reach ≡ leaps.now.shape.reach }
     requires row { index < leaps.now.shape.rows }
     ensures { IsLeapt cache.now.store.table leaps.now.shape way bytes.now index result.len result.row }
 {
-    dfa.see_machine();
     let end = bytes.len();
     let classes = leaps.shape.classes;
     let mut at = 0;
@@ -176,7 +175,7 @@ fn leap_reach(
     bytes: &[u8],
     index: usize,
 ) -> Leapt
-    requires of { IsCacheOf cache.now dfa.now }
+    requires sound { IsSoundCacheOf cache.now dfa.now }
     requires leaps { AreLeaps cache.now.store.table leaps.now }
     requires row { index < leaps.now.shape.rows }
     ensures { IsLeapt cache.now.store.table leaps.now.shape way bytes.now index result.len result.row }
@@ -199,7 +198,7 @@ fn leap(
     bytes: &[u8],
     index: usize,
 ) -> Leapt
-    requires of { IsCacheOf cache.now dfa.now }
+    requires sound { IsSoundCacheOf cache.now dfa.now }
     requires leaps { AreLeaps cache.now.store.table leaps.now }
     requires row { index < leaps.now.shape.rows }
     ensures { IsLeapt cache.now.store.table leaps.now.shape way bytes.now index result.len result.row }
@@ -219,14 +218,13 @@ fn leap_from(
     bytes: &[u8],
     id: LazyStateID,
 ) -> Landing
-    requires of { IsCacheOf cache.now dfa.now }
+    requires sound { IsSoundCacheOf cache.now dfa.now }
     requires leaps { AreLeaps cache.now.store.table leaps.now }
     requires valid { IsRowId cache.now.store.table id }
     requires untagged { id < offset_limit }
     ensures leads { LeadsIds cache.now.store.table way bytes.now result.len id result.id }
     ensures bytes { (k : ℕ) → byte_in way bytes.now k < 256 }
 {
-    cache.see_bounds();
     let index = cache.row_index(id);
     if index >= leaps.shape.rows {
         return Landing { len: 0, id };
@@ -250,19 +248,17 @@ fn follow_leaps(
     from: LazyStateID,
 ) -> Stop
     ghost trace: { Trace }
-    requires of { IsCacheOf cache.now dfa.now }
+    requires sound { IsSoundCacheOf cache.now dfa.now }
     requires leaps { AreLeaps cache.now.store.table leaps.now }
     requires may { MayFollow trace way dfa.now cache.now.store.table input.now start
         (input.now.end - input.now.start) from }
     requires only { HasOnly 0 from }
     ensures within { result.at ≤ input.now.end - input.now.start }
     ensures run { IsRun trace way dfa.now cache.now.store input.now 0 start result.at result.id }
-    ensures met { IsMetAlong trace way dfa.now cache.now.store input.now result.at result.id result.next }
+    ensures peeked { IsPeekedAlong trace way dfa.now cache.now.store input.now result.at result.id result.next }
     ensures read { result.at < input.now.end - input.now.start
         → IsNextCell way dfa.now cache.now.store input.now result.at result.id result.next }
 {
-    dfa.see_machine();
-    cache.see_bounds();
     let last = last_place(input);
     let mut at = start;
     let mut id = from;
@@ -298,14 +294,14 @@ fn leap_along(
     from: LazyStateID,
 ) -> Stop
     ghost trace: { Trace }
-    requires of { IsCacheOf cache.now dfa.now }
+    requires sound { IsSoundCacheOf cache.now dfa.now }
     requires leaps { AreLeaps cache.now.store.table leaps.now }
     requires may { MayFollow trace way dfa.now cache.now.store.table input.now start
         (input.now.end - input.now.start) from }
     requires only { HasOnly 0 from }
     ensures within { result.at ≤ input.now.end - input.now.start }
     ensures run { IsRun trace way dfa.now cache.now.store input.now 0 start result.at result.id }
-    ensures met { IsMetAlong trace way dfa.now cache.now.store input.now result.at result.id result.next }
+    ensures peeked { IsPeekedAlong trace way dfa.now cache.now.store input.now result.at result.id result.next }
     ensures read { result.at < input.now.end - input.now.start
         → IsNextCell way dfa.now cache.now.store input.now result.at result.id result.next }
 {
@@ -361,7 +357,7 @@ fn leap_if(
     from: LazyStateID,
 ) -> Stop
     ghost trace: { Trace }
-    requires of { IsCacheOf cache.now dfa.now }
+    requires sound { IsSoundCacheOf cache.now dfa.now }
     requires on { IsOnTrace trace way dfa.now cache.now.store.table input.now start from }
     requires within { start ≤ input.now.end - input.now.start }
     requires open { input.now.start ≤ input.now.end }

@@ -1,7 +1,7 @@
 //! Ranges of bytes on which a row has a cached self-loop: found around a byte, and tested class by class.
 ghost use Rattle.std.specs.Prelude.{◌<◌, ◌≤◌, ℕ, IsTrue};
-ghost use Rattle.automata_hybrid.specs.Cache.Caches.{IsCacheOf};
 ghost use Rattle.automata_hybrid.specs.Cache.Ids.{fixed_from};
+ghost use Rattle.automata_hybrid.specs.Private.Cache.Sound.{IsSoundCacheOf};
 ghost use Rattle.automata_hybrid.specs.Private.Fast.SelfLoops.{IsLoopRange, LoopsOn};
 ghost use Rattle.automata_hybrid.specs.Cache.Table.{IsRowId};
 
@@ -13,14 +13,12 @@ use crate::id::LazyStateID;
 /// Whether a row has a cached self-loop on each byte from `from` up to, but not including, `to`. It tests each class of
 /// these bytes.
 fn loops_between(dfa: &DFA, cache: &Cache, id: LazyStateID, from: usize, to: usize) -> bool
-    requires of { IsCacheOf cache.now dfa.now }
+    requires sound { IsSoundCacheOf cache.now dfa.now }
     requires valid { IsRowId cache.now.store.table id }
     requires plain { id < fixed_from }
     requires within { to ≤ 256 }
     ensures { IsTrue result → (byte : ℕ) → from ≤ byte → byte < to → LoopsOn dfa.now cache.now.store id byte }
 {
-    dfa.see_machine();
-    cache.see_bounds();
     if from >= to {
         return true;
     }
@@ -36,7 +34,7 @@ fn loops_between(dfa: &DFA, cache: &Cache, id: LazyStateID, from: usize, to: usi
 
 /// Whether a row has a cached self-loop on each byte of a range.
 pub(crate) fn loops_on_range(dfa: &DFA, cache: &Cache, id: LazyStateID, range: LoopRange) -> bool
-    requires of { IsCacheOf cache.now dfa.now }
+    requires sound { IsSoundCacheOf cache.now dfa.now }
     requires valid { IsRowId cache.now.store.table id }
     requires plain { id < fixed_from }
     ensures { IsTrue result → IsLoopRange dfa.now cache.now.store id range }
@@ -114,7 +112,7 @@ fn classes_from(
 /// Returns the consecutive classes around `class` on which a row has a self-loop: the first, the one after the last,
 /// and how many there are. The class of byte 0 follows the class of byte 255.
 fn classes_around(dfa: &DFA, cache: &Cache, id: LazyStateID, class: usize) -> (usize, usize, u16)
-    requires of { IsCacheOf cache.now dfa.now }
+    requires sound { IsSoundCacheOf cache.now dfa.now }
     requires valid { IsRowId cache.now.store.table id }
     requires class { class < dfa.now.stride }
 {
@@ -126,7 +124,7 @@ fn classes_around(dfa: &DFA, cache: &Cache, id: LazyStateID, class: usize) -> (u
 
 /// Returns a range around a byte on which a row has a cached self-loop, or an empty one if the test of the range fails.
 pub(crate) fn range_around(dfa: &DFA, cache: &Cache, id: LazyStateID, byte: u8) -> LoopRange
-    requires of { IsCacheOf cache.now dfa.now }
+    requires sound { IsSoundCacheOf cache.now dfa.now }
     requires valid { IsRowId cache.now.store.table id }
     requires plain { id < fixed_from }
     ensures { IsLoopRange dfa.now cache.now.store id result }

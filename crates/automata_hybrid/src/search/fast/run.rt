@@ -3,11 +3,11 @@ ghost use Rattle.std.specs.Prelude.{Option, ℕ, ◌-◌, ◌<◌, ◌≡◌, �
 ghost use Rattle.automata_base.specs.Answers.Answers.{offset_in};
 ghost use Rattle.automata_base.specs.Haystacks.Matches.{HalfMatch};
 ghost use Rattle.automata_base.specs.Powersets.Powerset.{Powerset};
-ghost use Rattle.automata_hybrid.specs.Cache.Caches.{IsCacheOf};
 ghost use Rattle.automata_hybrid.specs.Cache.Ids.{HasMatchTag, unknown_id};
 ghost use Rattle.automata_hybrid.specs.Cache.Table.{IsRowId, Names};
+ghost use Rattle.automata_hybrid.specs.Private.Cache.Sound.{IsSoundCacheOf};
 ghost use Rattle.automata_hybrid.specs.Private.Searches.PassContracts.{RunsAlong, found_there};
-ghost use Rattle.automata_hybrid.specs.Private.Searches.PassState.{HasRun, IsMetAlong, IsNextCell, MayFollow};
+ghost use Rattle.automata_hybrid.specs.Private.Searches.PassState.{HasRun, IsPeekedAlong, IsNextCell, MayFollow};
 ghost use Rattle.automata_hybrid.specs.Private.Searches.Traces.{IsTrace};
 ghost use Rattle.automata_hybrid.specs.Searches.PassState.{IsAtAlong, half_at};
 ghost use Rattle.automata_hybrid.specs.Searches.Traces.{Trace};
@@ -63,7 +63,7 @@ pub(crate) fn run_to_match(
     end: usize,
 ) -> Place
     ghost trace: { Trace }
-    requires of { IsCacheOf cache.now dfa.now }
+    requires sound { IsSoundCacheOf cache.now dfa.now }
     requires may { MayFollow trace way dfa.now cache.now.store.table input.now start end from }
     requires at { IsAtAlong trace way dfa.now cache.now.store.table input.now start from found }
     ensures runs { RunsAlong trace way dfa.now cache.now.store input.now start result }
@@ -90,7 +90,6 @@ pub(crate) fn run_to_match(
         };
     }
     let stop = follow_matches(dfa, cache, input, way, quiet.at, quiet.id, quiet.next);
-    cache.see_bounds();
     let offset = place_offset(input, way, stop.at - 1);
     let pattern = first_pattern(dfa, cache, stop.id);
     Place {
@@ -113,7 +112,7 @@ pub(crate) fn follow_reports(
     from: Place,
 ) -> Place
     ghost trace: { Trace }
-    requires of { IsCacheOf cache.now dfa.now }
+    requires sound { IsSoundCacheOf cache.now dfa.now }
     requires trace { IsTrace way dfa.now input.now trace }
     requires at { IsAtAlong trace way dfa.now cache.now.store.table input.now from.at from.id from.found }
     requires within { from.at < input.now.end - input.now.start }
@@ -163,7 +162,7 @@ fn last_found(
     at: usize,
     found: Option<HalfMatch>,
 ) -> Option<HalfMatch>
-    requires of { IsCacheOf cache.now dfa.now }
+    requires sound { IsSoundCacheOf cache.now dfa.now }
     requires open { input.now.start ≤ input.now.end }
     requires within { at ≤ input.now.end - input.now.start }
     requires reports { reported < unknown_id
@@ -172,7 +171,6 @@ fn last_found(
     ensures some { reported < unknown_id → (q : Powerset) → Names cache.now.store.table reported q
         → (before : Option HalfMatch) → result ≡ half_at q.patterns (offset_in way input.now at) before }
 {
-    cache.see_bounds();
     if reported.is_unknown() {
         return found;
     }
@@ -192,9 +190,9 @@ pub(crate) fn follow_with_leaps(
     end: usize,
 ) -> (Place, usize)
     ghost trace: { Trace }
-    requires of { IsCacheOf cache.old dfa.now }
+    requires sound { IsSoundCacheOf cache.old dfa.now }
     requires may { MayFollow trace way dfa.now cache.old.store.table input.now near.at end near.id }
-    requires met { IsMetAlong trace way dfa.now cache.old.store input.now near.at near.id near.next }
+    requires peeked { IsPeekedAlong trace way dfa.now cache.old.store input.now near.at near.id near.next }
     requires read { near.at < end
         → IsNextCell way dfa.now cache.old.store input.now near.at near.id near.next }
     ensures same { cache.new ≡ cache.old }

@@ -2,9 +2,9 @@
 //! itself.
 ghost use Rattle.std.specs.Prelude.{◌≡◌, ◌+◌, ◌<◌, ◌≤◌, IsTrue, length};
 ghost use Rattle.automata_base.specs.declared.util.search.Direction.TheVariants.{Backward, Forward};
-ghost use Rattle.automata_hybrid.specs.Cache.Caches.{IsCacheOf};
 ghost use Rattle.automata_hybrid.specs.Cache.Ids.{fixed_from};
 ghost use Rattle.automata_hybrid.specs.Cache.Table.{IsRowId};
+ghost use Rattle.automata_hybrid.specs.Private.Cache.Sound.{IsSoundCacheOf};
 ghost use Rattle.automata_hybrid.specs.Private.Fast.SelfLoops.{IsKnownLoop, IsLoopRun, LoopsOn, LoopsOver, byte_in};
 
 use crate::cache::Cache;
@@ -40,7 +40,7 @@ pub(crate) fn byte_at(way: Direction, bytes: &[u8], at: usize) -> u8
 /// Whether a row has a cached self-loop on a byte.
 #[inline(always)]
 fn loops_on(dfa: &DFA, cache: &Cache, id: LazyStateID, byte: u8) -> bool
-    requires of { IsCacheOf cache.now dfa.now }
+    requires sound { IsSoundCacheOf cache.now dfa.now }
     requires valid { IsRowId cache.now.store.table id }
     requires plain { id < fixed_from }
     ensures { IsTrue result → LoopsOn dfa.now cache.now.store id byte }
@@ -58,7 +58,7 @@ fn loops_on_eight(
     bytes: &[u8],
     at: usize,
 ) -> bool
-    requires of { IsCacheOf cache.now dfa.now }
+    requires sound { IsSoundCacheOf cache.now dfa.now }
     requires valid { IsRowId cache.now.store.table id }
     requires plain { id < fixed_from }
     requires within { at + 8 ≤ length bytes.now }
@@ -83,7 +83,7 @@ fn follow_eights(
     start: usize,
     end: usize,
 ) -> usize
-    requires of { IsCacheOf cache.now dfa.now }
+    requires sound { IsSoundCacheOf cache.now dfa.now }
     requires valid { IsRowId cache.now.store.table id }
     requires plain { id < fixed_from }
     requires within { start ≤ end }
@@ -103,7 +103,7 @@ fn follow_eights(
 
 /// Looks for the first range of a row's self-loop, around a byte, and stores it for the next run.
 fn find_first(dfa: &DFA, cache: &Cache, id: LazyStateID, byte: u8) -> KnownLoop
-    requires of { IsCacheOf cache.now dfa.now }
+    requires sound { IsSoundCacheOf cache.now dfa.now }
     requires valid { IsRowId cache.now.store.table id }
     requires plain { id < fixed_from }
     ensures { IsKnownLoop dfa.now cache.now.store id result }
@@ -121,7 +121,7 @@ fn find_first(dfa: &DFA, cache: &Cache, id: LazyStateID, byte: u8) -> KnownLoop
 
 /// Looks for the second range of a row's self-loop, around a byte outside the first, and stores both for the next run.
 fn find_second(dfa: &DFA, cache: &Cache, id: LazyStateID, known: KnownLoop, byte: u8) -> KnownLoop
-    requires of { IsCacheOf cache.now dfa.now }
+    requires sound { IsSoundCacheOf cache.now dfa.now }
     requires valid { IsRowId cache.now.store.table id }
     requires plain { id < fixed_from }
     requires known { IsKnownLoop dfa.now cache.now.store id known }
@@ -141,7 +141,7 @@ fn find_second(dfa: &DFA, cache: &Cache, id: LazyStateID, known: KnownLoop, byte
 /// Returns the stored ranges of a row's self-loop, if they are right; otherwise the range found around a byte.
 #[inline(always)]
 fn tested(dfa: &DFA, cache: &Cache, id: LazyStateID, kept: KnownLoop, byte: u8) -> KnownLoop
-    requires of { IsCacheOf cache.now dfa.now }
+    requires sound { IsSoundCacheOf cache.now dfa.now }
     requires valid { IsRowId cache.now.store.table id }
     requires plain { id < fixed_from }
     ensures { IsKnownLoop dfa.now cache.now.store id result }
@@ -170,7 +170,7 @@ fn scan(
     bytes: &[u8],
     start: usize,
 ) -> usize
-    requires of { IsCacheOf cache.now dfa.now }
+    requires sound { IsSoundCacheOf cache.now dfa.now }
     requires valid { IsRowId cache.now.store.table id }
     requires plain { id < fixed_from }
     requires known { IsKnownLoop dfa.now cache.now.store id known }
@@ -218,7 +218,7 @@ fn scan(
 /// the ranges are known.
 #[inline(always)]
 fn follow_many(dfa: &DFA, cache: &Cache, id: LazyStateID, way: Direction, bytes: &[u8]) -> usize
-    requires of { IsCacheOf cache.now dfa.now }
+    requires sound { IsSoundCacheOf cache.now dfa.now }
     requires valid { IsRowId cache.now.store.table id }
     requires plain { id < fixed_from }
     requires long { 8 ≤ length bytes.now }
@@ -245,7 +245,7 @@ fn follow_many(dfa: &DFA, cache: &Cache, id: LazyStateID, way: Direction, bytes:
 /// Returns what `follow_many` does for a slice that is read from its front.
 #[inline(never)]
 fn follow_many_fwd(dfa: &DFA, cache: &Cache, id: LazyStateID, bytes: &[u8]) -> usize
-    requires of { IsCacheOf cache.now dfa.now }
+    requires sound { IsSoundCacheOf cache.now dfa.now }
     requires valid { IsRowId cache.now.store.table id }
     requires plain { id < fixed_from }
     requires long { 8 ≤ length bytes.now }
@@ -258,7 +258,7 @@ fn follow_many_fwd(dfa: &DFA, cache: &Cache, id: LazyStateID, bytes: &[u8]) -> u
 /// Returns what `follow_many` does for a slice that is read from its back.
 #[inline(never)]
 fn follow_many_rev(dfa: &DFA, cache: &Cache, id: LazyStateID, bytes: &[u8]) -> usize
-    requires of { IsCacheOf cache.now dfa.now }
+    requires sound { IsSoundCacheOf cache.now dfa.now }
     requires valid { IsRowId cache.now.store.table id }
     requires plain { id < fixed_from }
     requires long { 8 ≤ length bytes.now }
@@ -278,7 +278,7 @@ pub(crate) fn follow_self_loop(
     way: Direction,
     bytes: &[u8],
 ) -> usize
-    requires of { IsCacheOf cache.now dfa.now }
+    requires sound { IsSoundCacheOf cache.now dfa.now }
     requires valid { IsRowId cache.now.store.table id }
     requires plain { id < fixed_from }
     ensures { IsLoopRun dfa.now cache.now.store id way bytes.now 0 result }

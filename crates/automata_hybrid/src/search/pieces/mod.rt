@@ -13,6 +13,7 @@ ghost use Rattle.automata_hybrid.specs.Known.Stores.{known_of};
 ghost use Rattle.automata_hybrid.specs.Pieces.Answers.{EndsHere, HasBegun, ReadsOn};
 ghost use Rattle.automata_hybrid.specs.Pieces.State.{IsPiecesOf};
 ghost use Rattle.automata_hybrid.specs.Pieces.Walks.{HasBegunWalk, patterns_here};
+ghost use Rattle.automata_hybrid.specs.Private.Cache.Sound.{IsSoundCacheOf};
 ghost use Rattle.automata_hybrid.specs.Private.Pieces.State.{IsResumed, found_in};
 ghost use Rattle.automata_hybrid.specs.Private.Searches.PassState.{IsOnTrace};
 ghost use Rattle.automata_hybrid.specs.Private.Searches.PieceRuns.{HasOffset, IsPieceResult, IsRunResult, error_from};
@@ -30,7 +31,7 @@ use crate::id::LazyStateID;
 use crate::search::direction::{byte_at, byte_offset, last_place, place_offset, span_offset};
 use crate::search::fast::follow::next_known;
 use crate::search::fast::run::{Place, follow_with_leaps, near_end, run_to_match};
-use crate::search::{found_at, read, read_met, step_error};
+use crate::search::{found_at, read, read_peeked, step_error};
 use automata_base::util::primitives::PatternID;
 use automata_base::util::search::{Direction, HalfMatch, Input, MatchError, MatchErrorKind};
 use automata_base::util::start;
@@ -295,7 +296,6 @@ impl DFA {
             }
             PieceEnd::At(id, found) => {
                 let found = found_in(found, base, pieces.get_match());
-                cache.see_bounds();
                 let _state = cache.snapshot(id);
                 // Always take a new handle: after a clear the same ID can name another state.
                 let handle = cache.handle(id)?;
@@ -358,7 +358,7 @@ pub(crate) fn start_pieces(
         Ok(id) => id,
         Err(error) => return Err(BeginError::Start(error)),
     };
-    cache.see_bounds();
+    cache.reveal_invariant_of(dfa);
     if id.is_dead() {
         return Ok(Pieces {
             held: None,
@@ -390,9 +390,10 @@ pub(crate) fn resume_pieces(
 ) -> Result<Option<LazyStateID>, SearchError>
     requires of { IsCacheOf cache.old dfa.now }
     requires pieces { IsPiecesOf pieces.now dfa.now }
-    ensures of { IsCacheOf cache.new dfa.now }
+    ensures sound { IsSoundCacheOf cache.new dfa.now }
     ensures resumed { IsResumed dfa.now pieces.now cache.old cache.new result }
 {
+    cache.reveal_invariant_of(dfa);
     let Some(handle) = &pieces.held else {
         return Ok(None);
     };
@@ -411,10 +412,10 @@ fn row_of(
     handle: &Handle,
     row: LazyStateID,
 ) -> Result<LazyStateID, StepError>
-    requires of { IsCacheOf cache.old dfa.now }
+    requires sound { IsSoundCacheOf cache.old dfa.now }
     requires key { handle.now.key ≡ handle.now.state }
     requires state { IsRowState dfa.now handle.now.state }
-    ensures of { IsCacheOf cache.new dfa.now }
+    ensures sound { IsSoundCacheOf cache.new dfa.now }
     ensures back { IsRestoreResult dfa.now handle.now.state cache.old cache.new result }
 {
     let table = cache.table();
@@ -436,14 +437,12 @@ pub(crate) fn run_piece(
     from: LazyStateID,
     base: usize,
 ) -> Result<PieceEnd, SearchError>
-    requires of { IsCacheOf cache.old dfa.now }
+    requires sound { IsSoundCacheOf cache.old dfa.now }
     requires valid { IsRowId cache.old.store.table from }
     requires room { base + length piece.now < 2 ^ 64 }
-    ensures of { IsCacheOf cache.new dfa.now }
+    ensures sound { IsSoundCacheOf cache.new dfa.now }
     ensures ran { IsPieceResult dfa.now piece.now earliest from base cache.old cache.new result }
 {
-    dfa.see_machine();
-    cache.see_bounds();
     let own = Input::new(piece).earliest(earliest);
     match run_span(dfa, cache, &own, from) {
         Ok(end) => Ok(end),
@@ -460,14 +459,13 @@ fn run_span(
     from: LazyStateID,
 ) -> Result<PieceEnd, SearchError>
     ghost trace: { Trace }
-    requires of { IsCacheOf cache.old dfa.now }
+    requires sound { IsSoundCacheOf cache.old dfa.now }
     requires on { IsOnTrace trace Forward dfa.now cache.old.store.table input.now 0 from }
     requires open { input.now.start ≤ input.now.end }
-    ensures of { IsCacheOf cache.new dfa.now }
+    ensures sound { IsSoundCacheOf cache.new dfa.now }
     ensures ran { IsRunResult trace dfa.now input.now
         (begun (given_up_offset Forward input.now 0) (known_of cache.old)) cache.new result }
 {
-    dfa.see_machine();
     let way = Direction::Forward;
     let last = last_place(input);
     cache.search_start(span_offset(input, way, 0));
@@ -481,11 +479,10 @@ fn run_span(
     while run.at < last {
         let offset = byte_offset(input, way, run.at);
         let byte = byte_at(input, way, run.at);
-        let next = match read_met(dfa, cache, run.id, run.next, Some(byte), offset, offset) {
+        let next = match read_peeked(dfa, cache, run.id, run.next, Some(byte), offset, offset) {
             Ok(next) => next,
             Err(error) => return Err(error),
         };
-        cache.see_bounds();
         if next.is_dead() {
             cache.end_search(offset);
             return Ok(PieceEnd::Over(run.at, next, run.found));

@@ -2,12 +2,13 @@
 ghost use Rattle.std.specs.Prelude.{◌≡◌, ◌<◌, IfOk, IfErr, OnOk, OnErr, length, None, Some, slice_index, true, false};
 ghost use Rattle.std.specs.Result.{result_err};
 ghost use Rattle.automata_hybrid.specs.Cache.Caches.{IsCacheOf};
-ghost use Rattle.automata_base.specs.Powersets.Powerset.{Powerset};
+ghost use Rattle.automata_base.specs.Powersets.Powerset.{Powerset, dead};
 ghost use Rattle.automata_hybrid.specs.Cache.Table.{IsRowId, Leads};
 ghost use Rattle.automata_hybrid.specs.Known.Pieces.{IsBeginRun, IsWalkCallRun, IsWalkEndRun};
 ghost use Rattle.automata_hybrid.specs.Known.Stores.{known_of};
 ghost use Rattle.automata_hybrid.specs.Pieces.State.{IsPiecesOf};
 ghost use Rattle.automata_hybrid.specs.Pieces.Walks.{HasBegunWalk, IsWalked, EndsWith, patterns_here};
+ghost use Rattle.automata_hybrid.specs.Private.Cache.Sound.{IsSoundCacheOf};
 ghost use Rattle.automata_hybrid.specs.Private.Pieces.Walks.{IsPiecesWalk, StandsInRow};
 
 use crate::cache::Cache;
@@ -292,12 +293,12 @@ fn end_pieces_walk(
 
 /// Returns the patterns of an ID's state, which has none if it is dead.
 fn end_at(dfa: &DFA, cache: &Cache, id: LazyStateID) -> Result<WalkEnd, SearchError>
-    requires of { IsCacheOf cache.now dfa.now }
+    requires sound { IsSoundCacheOf cache.now dfa.now }
     requires leads { (q : Powerset) × Leads cache.now.store.table id q }
     ensures patterns { IfOk result (λ end. (q : Powerset) → Leads cache.now.store.table id q → end ≡ q.patterns) }
-    ensures error { IfErr result (λ e. e ≡ SearchError.OutOfMemory) }
+    ensures error { IfErr result (λ e. (e ≡ SearchError.OutOfMemory)
+        × ((q : Powerset) → Leads cache.now.store.table id q → q ≡ dead → ⊥)) }
 {
-    cache.see_bounds();
     if id.is_dead() {
         return Ok(WalkEnd { held: None });
     }
@@ -314,13 +315,12 @@ fn hold_row(
     read: usize,
     found: Option<HalfMatch>,
 ) -> Result<(), SearchError>
-    requires of { IsCacheOf cache.now dfa.now }
+    requires sound { IsSoundCacheOf cache.now dfa.now }
     requires valid { IsRowId cache.now.store.table id }
     ensures stands { OnOk result (IsPiecesOf pieces.new dfa.now
         × StandsInRow cache.now.store.table id read found pieces.old pieces.new) }
     ensures fails { IfErr result (λ e. (e ≡ SearchError.OutOfMemory) × (pieces.new ≡ pieces.old)) }
 {
-    cache.see_bounds();
     let _state = cache.snapshot(id);
     let handle = cache.handle(id)?;
     pieces.stand(handle, id, read, found);

@@ -3,10 +3,10 @@ ghost use Rattle.std.specs.Prelude.{◌≡◌, ◌-◌, ◌<◌, ◌≤◌, ◌�
 ghost use Rattle.automata_base.specs.Answers.Answers.{offset_in};
 ghost use Rattle.automata_base.specs.Haystacks.Tapes.{is_split};
 ghost use Rattle.automata_base.specs.Powersets.Powerset.{Powerset};
-ghost use Rattle.automata_hybrid.specs.Cache.Caches.{IsCacheOf};
 ghost use Rattle.automata_hybrid.specs.Cache.Table.{IsRowId, Names};
+ghost use Rattle.automata_hybrid.specs.Private.Cache.Sound.{IsSoundCacheOf};
 ghost use Rattle.automata_hybrid.specs.Private.Searches.PassContracts.{FollowsTo};
-ghost use Rattle.automata_hybrid.specs.Private.Searches.PassState.{IsFollowed, IsMet};
+ghost use Rattle.automata_hybrid.specs.Private.Searches.PassState.{IsFollowed, IsPeeked};
 ghost use Rattle.automata_hybrid.specs.Private.Walks.Parts.{IsAdvanceResult, IsUnitResult, StandsAfterUnits};
 ghost use Rattle.automata_hybrid.specs.Searches.Passes.{HasReadNoQuit, Skips, state_in};
 ghost use Rattle.automata_hybrid.specs.Walks.Answers.{WalkReads};
@@ -34,8 +34,8 @@ pub(crate) struct Arrival {
     pub(crate) units: usize,
 }
 
-/// Returns the state after the unit that a walk reads at a place. `met` is the next ID if the caller has read it, and
-/// unknown otherwise.
+/// Returns the state after the unit that a walk reads at a place. `peeked` is the next ID if the caller has read it,
+/// and unknown otherwise.
 #[inline(always)]
 fn read_unit(
     dfa: &DFA,
@@ -43,20 +43,27 @@ fn read_unit(
     input: &Input<'_>,
     way: Direction,
     id: LazyStateID,
-    met: LazyStateID,
+    peeked: LazyStateID,
     place: usize,
 ) -> Result<LazyStateID, SearchError>
-    requires of { IsCacheOf cache.old dfa.now }
+    requires sound { IsSoundCacheOf cache.old dfa.now }
     requires at { StandsAfterUnits way dfa.now cache.old.store.table input.now place id }
-    requires met { IsMet way dfa.now cache.old.store input.now place id met }
-    ensures of { IsCacheOf cache.new dfa.now }
+    requires peeked { IsPeeked way dfa.now cache.old.store input.now place id peeked }
+    ensures sound { IsSoundCacheOf cache.new dfa.now }
     ensures reads { WalkReads way dfa.now input.now place }
     ensures unit { IsUnitResult way dfa.now input.now place cache.old cache.new result }
 {
-    cache.see_bounds();
     let at = span_offset(input, way, place);
     let quit_at = unit_offset(input, way, place);
-    read(dfa, cache, id, met, unit_at(input, way, place), quit_at, at)
+    read(
+        dfa,
+        cache,
+        id,
+        peeked,
+        unit_at(input, way, place),
+        quit_at,
+        at,
+    )
 }
 
 /// Whether a state's patterns match at a place of a walk, and the place is not skipped.
@@ -69,7 +76,7 @@ fn reports(
     id: LazyStateID,
     place: usize,
 ) -> bool
-    requires of { IsCacheOf cache.now dfa.now }
+    requires sound { IsSoundCacheOf cache.now dfa.now }
     requires open { input.now.start ≤ input.now.end }
     requires within { place ≤ input.now.end - input.now.start }
     requires valid { IsRowId cache.now.store.table id }
@@ -80,7 +87,6 @@ fn reports(
         → (Skips dfa.now × (is_split input.now.haystack (offset_in way input.now place) ≡ true))
         ⊎ ((q : Powerset) → Names cache.now.store.table id q → q.patterns ≡ []) }
 {
-    cache.see_bounds();
     if !id.is_match() {
         return false;
     }
@@ -97,13 +103,13 @@ fn leave_tag(
     start: usize,
     from: LazyStateID,
 ) -> Stop
-    requires of { IsCacheOf cache.now dfa.now }
+    requires sound { IsSoundCacheOf cache.now dfa.now }
     requires open { input.now.start ≤ input.now.end }
     requires within { start ≤ input.now.end - input.now.start }
     requires named { Names cache.now.store.table from (state_in way dfa.now input.now start) }
     ensures within { result.at ≤ input.now.end - input.now.start }
     ensures followed { IsFollowed way dfa.now cache.now.store input.now 0 start result.at result.id }
-    ensures met { IsMet way dfa.now cache.now.store input.now result.at result.id result.next }
+    ensures peeked { IsPeeked way dfa.now cache.now.store input.now result.at result.id result.next }
 {
     if from.has_only(0) || start >= last_place(input) {
         return Stop {
@@ -139,7 +145,7 @@ fn follow_walk(
     from: LazyStateID,
     end: usize,
 ) -> Stop
-    requires of { IsCacheOf cache.now dfa.now }
+    requires sound { IsSoundCacheOf cache.now dfa.now }
     requires open { input.now.start ≤ input.now.end }
     requires within { start ≤ input.now.end - input.now.start }
     requires upto { end ≤ input.now.end - input.now.start }
@@ -185,7 +191,7 @@ fn walk_with_leaps(
     near: Stop,
     end: usize,
 ) -> (Stop, usize)
-    requires of { IsCacheOf cache.old dfa.now }
+    requires sound { IsSoundCacheOf cache.old dfa.now }
     requires open { input.now.start ≤ input.now.end }
     requires upto { end ≤ input.now.end - input.now.start }
     requires near { FollowsTo way dfa.now cache.old.store input.now 0 near.at near }
@@ -212,14 +218,12 @@ pub(crate) fn advance(
     from: LazyStateID,
     units: usize,
 ) -> Result<Arrival, SearchError>
-    requires of { IsCacheOf cache.old dfa.now }
+    requires sound { IsSoundCacheOf cache.old dfa.now }
     requires from { StandsAfterUnits way dfa.now cache.old.store.table input.now units from }
     requires clean { HasReadNoQuit way dfa.now input.now units }
-    ensures of { IsCacheOf cache.new dfa.now }
+    ensures sound { IsSoundCacheOf cache.new dfa.now }
     ensures advanced { IsAdvanceResult way dfa.now input.now units cache.old cache.new result }
 {
-    dfa.see_machine();
-    cache.see_bounds();
     let last = last_place(input);
     let mut id = from;
     let mut read = units;
@@ -229,7 +233,6 @@ pub(crate) fn advance(
         let (stop, due) = walk_with_leaps(dfa, cache, input, way, near, end);
         end = due;
         let next = read_unit(dfa, cache, input, way, stop.id, stop.next, stop.at)?;
-        cache.see_bounds();
         if next.is_dead() {
             return Ok(Arrival {
                 id: None,

@@ -8,6 +8,7 @@ ghost use Rattle.automata_hybrid.specs.Cache.Caches.{IsCacheOf};
 ghost use Rattle.automata_hybrid.specs.Cache.Table.{Names};
 ghost use Rattle.automata_hybrid.specs.Known.Stores.{known_of};
 ghost use Rattle.automata_hybrid.specs.Known.Walks.{IsWalkRun};
+ghost use Rattle.automata_hybrid.specs.Private.Cache.Sound.{IsSoundCacheOf};
 ghost use Rattle.automata_hybrid.specs.Private.Walks.Answers.{Arrives};
 ghost use Rattle.automata_hybrid.specs.Private.Walks.Parts.{HoldsOn, IsCallResult, IsHeldWalk, IsKeptWalk};
 ghost use Rattle.automata_hybrid.specs.Private.Walks.Parts.{IsResumeResult, ReadsNext};
@@ -121,9 +122,9 @@ fn resume(
     walk: &Cursor,
     held: &Held,
 ) -> Result<LazyStateID, SearchError>
-    requires of { IsCacheOf cache.old dfa.now }
+    requires sound { IsSoundCacheOf cache.old dfa.now }
     requires walk { ReadsNext way dfa.now input.now cache.old.store.table walk.now held.now }
-    ensures of { IsCacheOf cache.new dfa.now }
+    ensures sound { IsSoundCacheOf cache.new dfa.now }
     ensures resumed { IsResumeResult way dfa.now input.now walk.now cache.old cache.new result }
 {
     if walk.is_fresh() {
@@ -150,9 +151,9 @@ fn search_next(
     walk: &mut Cursor,
     held: &mut Held,
 ) -> Result<(), SearchError>
-    requires of { IsCacheOf cache.old dfa.now }
+    requires sound { IsSoundCacheOf cache.old dfa.now }
     requires walk { ReadsNext way dfa.now input.now cache.old.store.table walk.old held.old }
-    ensures of { IsCacheOf cache.new dfa.now }
+    ensures sound { IsSoundCacheOf cache.new dfa.now }
     ensures held { OnOk result (HoldsOn cache.new.store.table walk.new held.old held.new) }
     ensures err { OnErr result ((walk.new ≡ walk.old) × (held.new ≡ held.old)) }
     ensures called { IsCallResult (keeping_of held.old) way dfa.now input.now walk.old walk.new
@@ -162,7 +163,6 @@ fn search_next(
     let from = resume(dfa, cache, input, way, walk, held)?;
     let place = span_offset(input, way, walk.units());
     cache.search_start(place);
-    cache.see_bounds();
     if from.is_dead() {
         cache.end_search(place);
         walk.end(walk.units());
@@ -192,7 +192,7 @@ fn arrive(
     id: LazyStateID,
     units: usize,
 )
-    requires of { IsCacheOf cache.now dfa.now }
+    requires sound { IsSoundCacheOf cache.now dfa.now }
     requires open { input.now.start ≤ input.now.end }
     requires may { MayStart dfa.now input.now.anchored (tape_in way input.now).before }
     requires here { (k : ℕ) → HasReported way dfa.now input.now walk.old k
@@ -225,6 +225,7 @@ fn call_held(
     ensures effect { IsWalkRun States way dfa.now input.now walk.old walk.new
         (known_of cache.old) (known_of cache.new) (result_err result) }
 {
+    cache.reveal_invariant_of(dfa);
     walk_is_right(dfa.get_nfa());
     match report_next(dfa, cache, input, way, walk, held) {
         Ok(()) => {
@@ -246,9 +247,9 @@ pub(crate) fn report_next(
     walk: &mut Cursor,
     held: &mut Held,
 ) -> Result<(), SearchError>
-    requires of { IsCacheOf cache.old dfa.now }
+    requires sound { IsSoundCacheOf cache.old dfa.now }
     requires walk { IsHeldWalk way dfa.now input.now cache.old.store.table walk.old held.old }
-    ensures of { IsCacheOf cache.new dfa.now }
+    ensures sound { IsSoundCacheOf cache.new dfa.now }
     ensures held { OnOk result (HoldsOn cache.new.store.table walk.new held.old held.new) }
     ensures err { OnErr result ((walk.new ≡ without_match walk.old) × (held.new ≡ held.old)) }
     ensures called { IsCallResult (keeping_of held.old) way dfa.now input.now walk.old walk.new

@@ -64,6 +64,7 @@ fn collect(
         (result_err result) }
     ensures valid { IsValidInput input.now }
 {
+    cache.reveal_invariant_of(dfa);
     walk_is_right(dfa.get_nfa());
     let mut walk = Cursor::start();
     let mut held = Held::Row(None);

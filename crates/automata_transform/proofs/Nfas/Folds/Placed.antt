@@ -40,6 +40,15 @@ nth_mid : (xs ys : List State) (a : State) → slice_get (xs ++ a ∷ ys) (lengt
 nth_mid [] ys a = refl
 nth_mid (x ∷ xs) ys a = nth_mid xs ys a
 
+-- The state that was popped is one of all.
+pub popped_at :
+    (all rest left : List State) (state : State) (more : List State) → all ≡ rest ++ more → rest ≡ left ++ state ∷ []
+    → slice_get all (length left) ≡ Some state
+popped_at all rest left state more whole popped =
+    ap (λ (z : List State). slice_get z (length left))
+    (whole ∙ (ap (λ (z : List State). z ++ more) popped ∙ append_assoc left (state ∷ []) more))
+    ∙ nth_mid left more state
+
 states_nil : (xs : List State) → xs ≡ xs ++ []
 states_nil [] = refl
 states_nil (x ∷ xs) = ap (λ (z : List State). x ∷ z) (states_nil xs)

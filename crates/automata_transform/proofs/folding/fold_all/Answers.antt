@@ -1,5 +1,6 @@
-use Rattle.std.proofs.Common.{◌≡◌, ◌<◌, ◌≤◌, length, sym, subst, ◌∙◌, arith}
+use Rattle.std.proofs.Common.{◌≡◌, ◌<◌, ◌≤◌, length, refl, sym, subst, ◌∙◌, arith}
 use Rattle.automata_transform.proofs.Nfas.Folds.Led.{union_below}
+use Rattle.automata_transform.proofs.Nfas.Folds.Looks.{looks_on, looks_same}
 use Rattle.automata_base.proofs.Nfas.Reach.Adding.{state_at_below}
 use Rattle.automata_base.proofs.Powersets.Walking.{state_read}
 use Rattle.automata_base.specs.Nfas.Nodes.{nodes_of}
@@ -9,6 +10,7 @@ use Rattle.automata_transform.proofs.folding.fold_all.Goals as goal
 pub loop-x-init : goal.loop-x-init
 loop-x-init c = record {
   folding = folding_begin c.args.states.now.items c.args.free.now (nodes_of c.args.made.now.items);
+  looks = looks_same _ _ refl;
   few = c.requires.few;
 }
 
@@ -42,6 +44,8 @@ loop-x-preserved c = record {
       c.in_ok-fold_at.ensures.grows.0
       c.in_ok-fold_at.ensures.grows.1 c.in_ok-fold_at.ensures.folded c.in_ok-fold_at.ensures.others
       c.in_ok-fold_at.ensures.same;
+  looks =
+      looks_on _ c.loop-x.made.items c.fold_at.new.made.items c.loop-x.invariant.looks c.in_ok-fold_at.ensures.looks;
   few = c.in_ok-fold_at.ensures.few;
 }
 
@@ -53,6 +57,7 @@ returns c =
           folding_done c.args.states.now.items c.loop-x.states.items c.args.free.now (nodes_of c.loop-x.made.items)
           c.loop-x.x
           c.loop-x.invariant.folding all;
+      looks = c.loop-x.invariant.looks;
       same = c.loop-x.invariant.folding.same;
       few = c.loop-x.invariant.few;
     }

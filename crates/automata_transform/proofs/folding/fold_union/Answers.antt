@@ -6,6 +6,7 @@ use Rattle.automata_base.specs.Retraced.ReversedEdges.{lists_of, list_at}
 use Rattle.automata_transform.specs.Retraced.Segments.{leaf_head}
 use Rattle.automata_base.specs.Lists.{In}
 use Rattle.automata_transform.proofs.Nfas.Folds.Heads.{grows_on}
+use Rattle.automata_transform.proofs.Nfas.Folds.Looks.{looks_on}
 use Rattle.automata_transform.proofs.Nfas.Folds.Unions.{fold_of, lists_kept}
 use Rattle.automata_base.proofs.Nfas.Mirrors.Lists.{lists_length}
 use Rattle.automata_transform.proofs.folding.fold_union.Goals as goal
@@ -37,6 +38,9 @@ returns c =
           c.in_ok-lists.ensures.reads c.in_ok-lists.ensures.low c.in_ok-stay.ensures.sound c.in_ok-stay.ensures.all
           c.in_ok-reader.ensures.more c.in_ok-reader.ensures.made c.in_ok-push_id.ensures;
       reads = refl;
+      looks =
+          looks_on _ c.heads_of.new.made.items c.make.new.made.items c.in_ok-heads.ensures.looks
+          c.in_ok-reader.ensures.looks;
       grows = (
         c.in_ok-heads.ensures.grows.0 ++ Read (ranges_of ts) ∷ [],
         grows_on (nodes_of c.args.made.now.items) (nodes_of c.heads_of.new.made.items) (nodes_of c.make.new.made.items)

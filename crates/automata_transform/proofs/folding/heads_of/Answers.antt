@@ -1,9 +1,10 @@
-use Rattle.std.proofs.Common.{ℕ, ◌≡◌, List, Option, ◌++◌, [], length, arith, ap, sym, subst, ◌∙◌}
+use Rattle.std.proofs.Common.{ℕ, ◌≡◌, List, Option, ◌++◌, [], length, arith, refl, ap, sym, subst, ◌∙◌}
 use Rattle.automata_base.specs.Lists.{In}
 use Rattle.automata_base.specs.Nfas.Nodes.{nodes_of}
 use Rattle.automata_transform.specs.Retraced.Folds.{AreTreeHeads}
 use Rattle.automata_base.specs.Retraced.ReversedEdges.{lists_of, list_at}
 use Rattle.automata_transform.proofs.Nfas.Folds.Heads.{above_any, heads_next, nodes_nil, grows_on, pushed_length}
+use Rattle.automata_transform.proofs.Nfas.Folds.Looks.{looks_on, looks_same}
 use Rattle.automata_base.proofs.Nfas.Mirrors.Lists.{list_item}
 use Rattle.automata_transform.proofs.folding.heads_of.Goals as goal
 
@@ -11,6 +12,7 @@ pub loop-node-init : goal.loop-node-init
 loop-node-init c = record {
   heads = λ k l. absurd (omega (arith, l));
   count = ap (λ (z : List (Option ℕ)). length z) c.new-heads.ensures.items;
+  looks = looks_same _ _ refl;
   grows = ([], nodes_nil (nodes_of c.args.made.now.items));
   few = c.requires.few;
 }
@@ -51,6 +53,9 @@ loop-node-preserved c =
       count =
           ap (λ (z : List (Option ℕ)). length z) c.in_ok-push_head.ensures
           ∙ pushed_length c.loop-node.heads.items c.in_ok-head.head c.loop-node.node c.loop-node.invariant.count;
+      looks =
+          looks_on _ c.loop-node.made.items c.head.new.made.items c.loop-node.invariant.looks
+          c.in_ok-head.ensures.looks;
       grows = (
         c.loop-node.invariant.grows.0 ++ c.in_ok-head.ensures.grows.0,
         grows_on (nodes_of c.args.made.now.items) made new c.loop-node.invariant.grows.0 c.in_ok-head.ensures.grows.0
@@ -68,6 +73,7 @@ returns c =
           c.loop-node.heads.items v) all
           c.loop-node.invariant.heads;
       nodes = c.loop-node.invariant.count ∙ all;
+      looks = c.loop-node.invariant.looks;
       grows = c.loop-node.invariant.grows;
       few = c.loop-node.invariant.few;
     }

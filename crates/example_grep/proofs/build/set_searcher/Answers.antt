@@ -1,12 +1,14 @@
-use Rattle.std.proofs.Common.{◌≡◌, List, subst, sym}
+use Rattle.std.proofs.Common.{◌≡◌, List, ap, subst, sym}
 use Rattle.regex_hir.specs.Re.{Re}
 use Rattle.automata_base.specs.Answers.TruePairs.{KeepsUtf8}
 use Rattle.automata_base.specs.Nfas.Nodes.{Automaton}
+use Rattle.automata_hybrid.specs.Machines.Builds.{Builds}
 use Rattle.regex_automata.specs.Promises.{Forward, KindAll, Machine, engine_of, match_kind_of}
 use Rattle.patterns.specs.Patterns.{IsJoinedNfa}
 use Rattle.patterns.specs.Sets.{IsDfaOf}
 use Rattle.patterns.specs.declared.compile.Options.{Options}
 use Rattle.patterns.specs.declared.set.RegexSet.{RegexSet}
+use Rattle.example_grep.specs.Built.{grep_settings}
 use Rattle.example_grep.specs.Lines.{bytewise}
 use Rattle.example_grep.proofs.Listing.{if_ok}
 use Rattle.example_grep.proofs.build.set_searcher.Goals as goal
@@ -21,10 +23,18 @@ is_dfa o res nfa m own kind keeps joined = record {
   utf8 = subst (λ a. KeepsUtf8 Forward (engine_of a KindAll)) (sym own) keeps;
 }
 
-pub returns : goal.returns
-returns c =
+pub returns-clause-meant : goal.returns-clause-meant
+returns-clause-meant c =
+    let built = c.in_ok-dfa.ensures.2 in
     if_ok c.new.result (λ s same case_insensitive res is.
     subst (λ (v : RegexSet). IsDfaOf (bytewise case_insensitive) res v.dfa) (sym same)
-    (is_dfa (bytewise case_insensitive) res c.args.nfa c.in_ok-dfa.dfa c.in_ok-dfa.ensures.nfa c.in_ok-dfa.ensures.kind
-    c.in_ok-test_utf8.ensures is))
+    (is_dfa (bytewise case_insensitive) res c.args.nfa c.in_ok-dfa.dfa (ap (λ (m : Machine). m.nfa) built)
+    (ap (λ (m : Machine). match_kind_of m.config) built) c.in_ok-test_utf8.ensures is))
+    c.new.ensures
+
+pub returns-clause-built : goal.returns-clause-built
+returns-clause-built c =
+    if_ok c.new.result (λ s same.
+    subst (λ (v : RegexSet). Builds (grep_settings KindAll c.args.capacity) c.args.nfa v.dfa) (sym same)
+    c.in_ok-dfa.ensures)
     c.new.ensures

@@ -1,8 +1,7 @@
-use Rattle.std.proofs.Common.{map, refl}
-use Rattle.patterns.specs.Faults.{CannotJoin}
+use Rattle.std.proofs.Common.{inr, map}
 use Rattle.patterns.specs.Patterns.{IsJoinedNfa}
 use Rattle.patterns.proofs.Building.{joined_is}
-use Rattle.patterns.proofs.Drafting.{within_limit}
+use Rattle.patterns.proofs.Drafting.{unjoined, within_limit}
 use Rattle.patterns.proofs.compile.nfa_of.Goals as goal
 
 joined : (c : goal.After-drop-draft-in-Ok) → IsJoinedNfa c.args.options.now c.in_ok-read.ensures.read.res c.in-Ok.nfa
@@ -27,4 +26,6 @@ returns-in-Ok-clause-small c =
 
 pub returns-clause-refused : goal.returns-clause-refused
 returns-clause-refused c =
-    let draft = c.in_ok-read.ensures.read in CannotJoin draft.res draft.meant refl c.in-Err.ensures.refused
+    let texts = map (λ text. text.now) c.args.texts.now in
+    let draft = c.in_ok-read.ensures.read in
+    inr (unjoined c.args.options.now texts c.read.new.self draft _ (c.in-Err.ensures.refused draft.ks draft.has))

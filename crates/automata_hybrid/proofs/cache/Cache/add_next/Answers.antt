@@ -2,7 +2,7 @@ use Rattle.std.proofs.Common.{◌∙◌, false, refl, ap, sym, subst}
 use Rattle.automata_hybrid.proofs.Words.{AddsNext, CacheView, Fits, Row}
 use Rattle.automata_hybrid.specs.Private.Cache.Changes.{HasGrown}
 use Rattle.automata_hybrid.specs.declared.cache.Cache.TheInside.{Inside}
-use Rattle.automata_hybrid.proofs.Caches.Additions.{next_fits}
+use Rattle.automata_hybrid.proofs.Storage.Additions.{next_fits}
 use Rattle.automata_hybrid.proofs.Searches.PassState.{false_true}
 use Rattle.automata_hybrid.proofs.cache.Cache.add_next.Goals as goal
 

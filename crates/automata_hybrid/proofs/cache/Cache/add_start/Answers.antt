@@ -2,7 +2,7 @@ use Rattle.std.proofs.Common.{◌∙◌, refl, ap, sym, subst}
 use Rattle.automata_hybrid.proofs.Words.{AddsRow, CacheView, cleared_in_store, Fits, Row}
 use Rattle.automata_hybrid.specs.Private.Cache.Changes.{HasGrown}
 use Rattle.automata_hybrid.specs.declared.cache.Cache.TheInside.{Inside}
-use Rattle.automata_hybrid.proofs.Caches.Additions.{start_fits}
+use Rattle.automata_hybrid.proofs.Storage.Additions.{start_fits}
 use Rattle.automata_hybrid.proofs.Searches.PassState.{false_true}
 use Rattle.automata_hybrid.proofs.cache.Cache.add_start.Goals as goal
 

@@ -2,7 +2,7 @@ use Rattle.std.proofs.Common.{◌≡◌, ◌∙◌, ap, sym, subst, None}
 use Rattle.automata_hybrid.specs.declared.cache.Cache.TheInside.{Inside}
 use Rattle.automata_hybrid.proofs.Words.{AddsNext, CacheView, cost, Fits, id_of, IsNewState}
 use Rattle.automata_hybrid.specs.Private.Cache.Changes.{HasSavedRow}
-use Rattle.automata_hybrid.proofs.Caches.Additions.{new_there, next_clears}
+use Rattle.automata_hybrid.proofs.Storage.Additions.{new_there, next_clears}
 use Rattle.automata_hybrid.proofs.cache.Cache.clear_and_add_next.Goals as goal
 
 pub replace-requires-clause-new : goal.replace-requires-clause-new

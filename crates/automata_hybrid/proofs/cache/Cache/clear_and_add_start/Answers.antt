@@ -1,6 +1,6 @@
 use Rattle.std.proofs.Common.{ap, sym, subst}
 use Rattle.automata_hybrid.proofs.Words.{AddsRow, CacheView, cleared_in_store, cost, Fits, IsNewState, Row}
-use Rattle.automata_hybrid.proofs.Caches.Additions.{new_there, start_clears}
+use Rattle.automata_hybrid.proofs.Storage.Additions.{new_there, start_clears}
 use Rattle.automata_hybrid.proofs.cache.Cache.clear_and_add_start.Goals as goal
 
 pub replace-requires-clause-new : goal.replace-requires-clause-new

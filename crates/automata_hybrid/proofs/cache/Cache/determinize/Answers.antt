@@ -14,9 +14,9 @@ unfolding IsOwn
 next_key-requires-clause-is_of c =
     let m =
     ap (λ (i : Inside). i.store.table.of) c.self-inside.view_is
-    ∙ (ap (λ (v : CacheView). v.store.table.of) c.self.view_is ∙ c.requires.of) in
+    ∙ (ap (λ (v : CacheView). v.store.table.of) c.self.view_is ∙ c.requires.sound.of) in
     let own : IsOwn c.args.dfa.now.nfa c.state-from.result.now =
-    subst (λ (u : Machine). IsOwn u.nfa c.state-from.result.now) m c.state-from.ensures.of.own in
+    subst (λ (u : Machine). IsOwn u.nfa c.state-from.result.now) m c.state-from.ensures.row.own.own in
     subst (λ (a : Automaton). IsOf a c.state-from.result.now) (sym c.get_nfa.ensures) own.0
 
 -- the state of the source row is a state of the DFA
@@ -24,8 +24,8 @@ from_row : (c : goal.In_ok-key) → IsStateOf c.args.dfa.now c.state-from.result
 from_row c =
     let m =
     ap (λ (i : Inside). i.store.table.of) c.self-inside.view_is
-    ∙ (ap (λ (v : CacheView). v.store.table.of) c.self.view_is ∙ c.requires.of) in
-    subst (λ (u : Machine). IsStateOf u c.state-from.result.now) m c.state-from.ensures.of
+    ∙ (ap (λ (v : CacheView). v.store.table.of) c.self.view_is ∙ c.requires.sound.of) in
+    subst (λ (u : Machine). IsStateOf u c.state-from.result.now) m c.state-from.ensures.row.own
 
 -- the key is the next state
 next_row :
@@ -70,12 +70,12 @@ returns-clause-value c = λ q n.
 pub returns-clause-alike : goal.returns-clause-alike
 returns-clause-alike c = λ q n other unit class.
     next_row c
-    ∙ (c.see_machine.ensures.machine.alike c.state-from.result.now c.args.unit other (from_row c).own c.requires.unit
+    ∙ (c.requires.sound.machine.alike c.state-from.result.now c.args.unit other (from_row c).own c.requires.unit
     unit (sym class)
     ∙ ap (λ p. successor c.args.dfa.now.nfa (match_kind_of c.args.dfa.now.config) p other) (from_is c q n))
 
 pub returns-clause-cost : goal.returns-clause-cost
 returns-clause-cost c =
     let most : max_cost c.get_nfa.result.now ≡ c.args.dfa.now.greatest =
-    ap (λ (a : Automaton). max_cost a) c.get_nfa.ensures ∙ sym c.see_machine.ensures.machine.sizes.greatest in
+    ap (λ (a : Automaton). max_cost a) c.get_nfa.ensures ∙ sym c.requires.sound.machine.sizes.greatest in
     subst (λ n. cost c.in_ok-key.key ≤ n) most c.in_ok-key.ensures.made.bounded

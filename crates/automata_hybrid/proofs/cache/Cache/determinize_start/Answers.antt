@@ -30,5 +30,5 @@ returns-clause-is_of c = record {
 pub returns-clause-cost : goal.returns-clause-cost
 returns-clause-cost c =
     let most : max_cost c.get_nfa.result.now ≡ c.args.dfa.now.greatest =
-    ap (λ (a : Automaton). max_cost a) c.get_nfa.ensures ∙ sym c.see_machine.ensures.machine.sizes.greatest in
+    ap (λ (a : Automaton). max_cost a) c.get_nfa.ensures ∙ sym c.requires.sound.machine.sizes.greatest in
     subst (λ n. cost c.in_ok-key.key ≤ n) most c.in_ok-key.ensures.made.bounded

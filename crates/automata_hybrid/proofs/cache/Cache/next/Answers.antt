@@ -1,10 +1,9 @@
 use Rattle.std.proofs.Common.{◌^◌, ◌<◌, ◌≤◌, arith, subst}
 use Rattle.std.proofs.lemmas.Grind.{common_steps}
 use Rattle.automata_hybrid.proofs.Words.{IsRowId}
-use Rattle.automata_hybrid.proofs.Steps.BySteps.{stands_step}
+use Rattle.automata_hybrid.proofs.Steps.BySteps.{stands_step, tagged_of}
 use Rattle.automata_hybrid.proofs.Known.Calls.{cached_run, fixed_run}
 use Rattle.automata_hybrid.proofs.Steps.Steps.{cell_known, fixed_answer, known_answer, unknown_clean, unknown_free}
-use Rattle.automata_hybrid.proofs.Searches.Contracts.{is_store}
 use Rattle.automata_hybrid.proofs.Steps.Ids.{HoldsRow-valid}
 use Rattle.automata_hybrid.proofs.cache.Cache.next.Goals as goal
 
@@ -12,14 +11,14 @@ pub returns-then-is_fixed-clause-answer : goal.returns-then-is_fixed-clause-answ
 returns-then-is_fixed-clause-answer c =
     let high : 2 ^ 29 ≤ c.args.id = grind (arith, common_steps, c.if-is_fixed.ensures) in
     fixed_answer c.args.dfa.now c.args.id c.args.unit c.args.self.now high
-    (λ q n. c.see_bounds.ensures.sound.low c.args.id q n) c.requires.row
+    (λ q n. c.reveal_invariant_of.ensures.table.low c.args.id q n) c.requires.row
 
 pub returns-then-is_fixed-clause-run : goal.returns-then-is_fixed-clause-run
 returns-then-is_fixed-clause-run c =
     let high : 2 ^ 29 ≤ c.args.id = grind (arith, common_steps, c.if-is_fixed.ensures) in
     fixed_run c.args.dfa.now c.args.id c.args.unit c.args.self.now
-    (is_store c.args.self.now.store c.args.dfa.now c.requires.of c.see_bounds.ensures.bounds) high
-    (λ q n. c.see_bounds.ensures.sound.low c.args.id q n)
+    c.reveal_invariant_of.ensures.store high
+    (λ q n. c.reveal_invariant_of.ensures.table.low c.args.id q n)
 
 pub returns-then-not-is_unknown-clause-answer : goal.returns-then-not-is_unknown-clause-answer
 returns-then-not-is_unknown-clause-answer c =
@@ -40,9 +39,9 @@ returns-then-not-is_unknown-clause-run c =
     let valid : IsRowId c.args.self.now.store.table c.args.id =
     HoldsRow-valid c.args.self.now c.args.id c.requires.row low in
     let known : c.cell-cell.result < 2 ^ 31 = grind (arith, common_steps, c.if-not-is_unknown.ensures.size) in
-    cached_run c.args.dfa.now c.args.id c.args.unit c.args.self.now c.see_machine.ensures.machine
+    cached_run c.args.dfa.now c.args.id c.args.unit c.args.self.now c.reveal_invariant_of.ensures.machine
     c.unit_class-class.ensures.unit
-    (is_store c.args.self.now.store c.args.dfa.now c.requires.of c.see_bounds.ensures.bounds)
+    c.reveal_invariant_of.ensures.store
     (subst (λ k. k < c.args.dfa.now.stride) c.unit_class-class.ensures.value c.unit_class-class.ensures.below)
     (cell_known c.args.dfa.now c.args.id c.args.unit c.args.self.now c.unit_class-class.result c.cell-cell.result
     c.requires.of valid c.unit_class-class.ensures.value c.unit_class-class.ensures.small
@@ -76,24 +75,17 @@ compute_next-requires-clause-unknown c =
 pub returns-then-is_fixed-clause-stands : goal.returns-then-is_fixed-clause-stands
 returns-then-is_fixed-clause-stands c = λ input at stands unit.
     stands_step c.args.dfa.now input c.args.self.now c.args.self.now at c.args.id c.args.id c.args.unit
-    (record { of = c.requires.of; low = c.see_bounds.ensures.sound.low; small = c.see_bounds.ensures.bounds.small })
-    (record { of = c.requires.of; low = c.see_bounds.ensures.sound.low; small = c.see_bounds.ensures.bounds.small })
+    (tagged_of c.reveal_invariant_of.ensures) (tagged_of c.reveal_invariant_of.ensures)
     stands unit (returns-then-is_fixed-clause-answer c)
 
 pub returns-then-not-is_unknown-clause-stands : goal.returns-then-not-is_unknown-clause-stands
 returns-then-not-is_unknown-clause-stands c = λ input at stands unit.
     stands_step c.args.dfa.now input c.args.self.now c.args.self.now at c.args.id c.cell-cell.result c.args.unit
-    (record { of = c.requires.of; low = c.see_bounds.ensures.sound.low; small = c.see_bounds.ensures.bounds.small })
-    (record { of = c.requires.of; low = c.see_bounds.ensures.sound.low; small = c.see_bounds.ensures.bounds.small })
+    (tagged_of c.reveal_invariant_of.ensures) (tagged_of c.reveal_invariant_of.ensures)
     stands unit (returns-then-not-is_unknown-clause-answer c)
 
 pub returns-clause-stands : goal.returns-clause-stands
 returns-clause-stands c = λ input at stands unit.
     stands_step c.args.dfa.now input c.args.self.now c.compute_next.new.self at c.args.id c.in_ok-next.next c.args.unit
-    (record { of = c.requires.of; low = c.see_bounds.ensures.sound.low; small = c.see_bounds.ensures.bounds.small })
-    (record {
-      of = c.in_ok-next.ensures.of;
-      low = c.see_bounds-2.ensures.sound.low;
-      small = c.see_bounds-2.ensures.bounds.small;
-    })
+    (tagged_of c.reveal_invariant_of.ensures) (tagged_of c.in_ok-next.ensures.sound)
     stands unit c.in_ok-next.ensures.taken.answer

@@ -1,9 +1,8 @@
 use Rattle.std.proofs.Common.{◌≡◌, ◌∙◌, None, Some, subst, sym}
 use Rattle.automata_hybrid.proofs.Words.{id_of, Names, Powerset}
 use Rattle.automata_hybrid.specs.Private.Walks.Parts.{IsRestoreResult}
-use Rattle.automata_hybrid.proofs.Caches.Additions.{new_state}
-use Rattle.automata_hybrid.proofs.Known.Walks.{row_back, row_fails, row_there}
-use Rattle.automata_hybrid.proofs.Searches.Contracts.{is_store}
+use Rattle.automata_hybrid.proofs.Storage.Additions.{new_state}
+use Rattle.automata_hybrid.proofs.Known.Walks.{restored_row, row_fails, row_there}
 use Rattle.automata_hybrid.proofs.Searches.Reads.{at_err}
 use Rattle.automata_hybrid.proofs.cache.Cache.restore.Goals as goal
 
@@ -21,7 +20,7 @@ pub add_again-requires-clause-new : goal.add_again-requires-clause-new
 add_again-requires-clause-new c =
     let none : id_of c.args.self.now.store.table c.args.handle.now.state ≡ None =
     subst (λ q. id_of c.args.self.now.store.table q ≡ None) c.requires.key (sym c.find.ensures ∙ c.in_default.is) in
-    new_state c.args.dfa.now c.args.self.now.store.table c.args.handle.now.state c.requires.of
+    new_state c.args.dfa.now c.args.self.now.store.table c.args.handle.now.state c.requires.sound.of
     (none, c.requires.state.alive) c.requires.state.cheap c.requires.state.own
 
 pub returns-clause-back : goal.returns-clause-back
@@ -31,10 +30,10 @@ returns-clause-back c =
     record {
       named = c.in_ok-id.ensures.added.row.named;
       back =
-          row_back c.args.dfa.now c.args.handle.now.state c.args.self.now c.add_again.new.self
-          c.see_machine.ensures.machine
-          (is_store c.args.self.now.store c.args.dfa.now c.requires.of c.see_bounds.ensures.bounds)
-          (is_store c.add_again.new.self.store c.args.dfa.now c.add_again.ensures.of c.see_bounds-2.ensures.bounds)
+          restored_row c.args.dfa.now c.args.handle.now.state c.args.self.now c.add_again.new.self
+          c.requires.sound.machine
+          c.requires.sound.store
+          c.add_again.ensures.sound.store
           none c.in_ok-id.id c.in_ok-id.ensures.added;
     }
 
@@ -46,5 +45,5 @@ returns-in_err-id-clause-back c =
     (IsRestoreResult c.args.dfa.now c.args.handle.now.state c.args.self.now c.add_again.new.self)
     c.from_residual.ensures.1
     (row_fails c.args.dfa.now c.args.handle.now.state c.args.self.now c.add_again.new.self _
-    (is_store c.args.self.now.store c.args.dfa.now c.requires.of c.see_bounds.ensures.bounds) none
+    c.requires.sound.store none
     c.in_err-id.ensures.refused)

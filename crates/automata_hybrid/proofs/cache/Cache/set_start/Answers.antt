@@ -1,7 +1,7 @@
 use Rattle.std.proofs.Common.{subst, sym}
 use Rattle.automata_hybrid.proofs.Words.{CacheView, LeadsToStart}
 use Rattle.automata_hybrid.specs.declared.cache.Cache.TheInside.{Inside}
-use Rattle.automata_hybrid.proofs.Caches.Leaps.{cache_start}
+use Rattle.automata_hybrid.proofs.Storage.Leaps.{cache_start}
 use Rattle.automata_hybrid.proofs.cache.Cache.set_start.Goals as goal
 
 pub invariant_of-self-inside : goal.invariant_of-self-inside

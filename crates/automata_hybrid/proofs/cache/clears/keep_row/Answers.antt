@@ -1,6 +1,6 @@
 use Rattle.std.proofs.Common.{◌≡◌, ◌≤◌, sym, None, subst, rules}
 use Rattle.automata_hybrid.proofs.Words.{cost, id_of, IsStateOf, Machine, Rows}
-use Rattle.automata_hybrid.proofs.Caches.Clears.{absent-more}
+use Rattle.automata_hybrid.proofs.Storage.Clears.{absent-more}
 use Rattle.automata_hybrid.proofs.cache.clears.keep_row.Goals as goal
 
 pub returns-clause-absent : goal.returns-clause-absent

@@ -7,13 +7,13 @@ use Rattle.std.proofs.lemmas.Bool.{cases_lt}
 use Rattle.std.proofs.Math.Nat.{mul-le-mul_right}
 use Rattle.automata_hybrid.proofs.Words.{fresh, IsSlot, keep_slot, keep_slots, Kept, kept, Machine, row_cost, Rows}
 use Rattle.automata_hybrid.proofs.Words.{sum_by}
-use Rattle.automata_hybrid.proofs.Caches.Clears.{kept_step, AllStarts-none}
+use Rattle.automata_hybrid.proofs.Storage.Clears.{kept_step, AllStarts-none}
 use Rattle.automata_hybrid.proofs.cache.clears.keep_starts.Goals as goal
 
 pub loop-id-init : goal.loop-id-init
 unfolding keep_slots
 loop-id-init c =
-    let e = c.in_ok-table.ensures in
+    let e = c.in_ok-table.ensures.empty in
     record {
       kept = e;
       slots = c.in_ok-slots.ensures.items;
@@ -23,6 +23,7 @@ loop-id-init c =
       known = λ j h k. absurd (omega (arith, h));
       absent = λ q h. rw e refl;
       of = ap (λ (r : Rows). r.of) e;
+      sound = c.in_ok-table.ensures.sound;
     }
 
 pub keep_slot-requires-clause-leads : goal.keep_slot-requires-clause-leads
@@ -36,7 +37,7 @@ keep_slot-requires-clause-leads c =
 pub loop-id-preserved : goal.loop-id-preserved
 loop-id-preserved c =
     let i = c.loop-id.invariant in
-    let n = c.in_ok-keep_slot.ensures in
+    let n = c.in_ok-keep_slot.ensures.kept in
     let k : Kept = record { table = fresh c.args.old.now.of; starts = [] } in
     let within : c.loop-id.id-index < length c.args.starts.now = omega arith in
     let step : keep_slot c.args.old.now (record { table = c.loop-id.table; starts = c.loop-id.slots.items })
@@ -64,10 +65,11 @@ loop-id-preserved c =
       known = known;
       absent = λ q h. n.absent q h (i.absent q h);
       of = n.of ∙ i.of;
+      sound = c.in_ok-keep_slot.ensures.sound;
     }
 
-pub returns : goal.returns
-returns c =
+pub returns-clause-kept : goal.returns-clause-kept
+returns-clause-kept c =
     let i = c.loop-id.invariant in
     let all : c.loop-id.id-index ≡ length c.args.starts.now = omega arith in
     let whole : take c.loop-id.id-index c.args.starts.now ≡ c.args.starts.now =
@@ -101,7 +103,7 @@ keep_slot-requires-clause-fits c =
     let most = mul-le-mul_right c.args.old.now.of.stride few in
     let whole =
     subst (λ (m : Machine). length c.loop-id.table.cells ≡ (length c.loop-id.table.rows + 3) * m.stride)
-    c.loop-id.invariant.of c.see_rows.ensures.rows.whole in
+    c.loop-id.invariant.of c.loop-id.invariant.sound.rows.whole in
     omega (arith, whole, most, c.requires.offsets)
 
 pub keep_slot-requires-clause-costs : goal.keep_slot-requires-clause-costs
@@ -111,5 +113,5 @@ keep_slot-requires-clause-costs c =
     let most = mul-le-mul_right c.args.old.now.of.greatest few in
     let costs =
     subst (λ (m : Machine). sum_by row_cost c.loop-id.table.rows ≤ length c.loop-id.table.rows * m.greatest)
-    c.loop-id.invariant.of c.see_rows.ensures.costs in
+    c.loop-id.invariant.of c.loop-id.invariant.sound.costs in
     omega (arith, costs, most, c.requires.costs)

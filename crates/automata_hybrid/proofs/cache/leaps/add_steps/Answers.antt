@@ -1,6 +1,6 @@
 use Rattle.std.proofs.Common.{subst, sym, arith}
 use Rattle.automata_hybrid.specs.Private.Cache.Leaps.{AreLeapSteps}
-use Rattle.automata_hybrid.proofs.Caches.Leaps.{steps_more}
+use Rattle.automata_hybrid.proofs.Storage.Leaps.{steps_more}
 use Rattle.automata_hybrid.proofs.cache.leaps.add_steps.Goals as goal
 
 pub loop-class-preserved : goal.loop-class-preserved

@@ -2,7 +2,7 @@ use Rattle.std.proofs.Common.{ℕ, suc, ◌≡◌, ◌≤◌, ◌+◌, ◌*◌, 
 use Rattle.std.proofs.Math.Nat.{mul-le-mul_right, pow-suc, pow-zero}
 use Rattle.std.proofs.lemmas.List.{get_or-take, length-take-le}
 use Rattle.automata_hybrid.specs.Private.Cache.Leaps.{IsLevel}
-use Rattle.automata_hybrid.proofs.Caches.Leaps.{level_fits, level_one}
+use Rattle.automata_hybrid.proofs.Storage.Leaps.{level_fits, level_one}
 use Rattle.automata_hybrid.proofs.cache.leaps.last_level.Goals as goal
 
 pub loop-init : goal.loop-init

@@ -1,6 +1,6 @@
 use Rattle.std.proofs.Common.{ℕ, ◌≡◌, ◌≤◌, ◌+◌, ◌*◌, length, slice_index, arith}
 use Rattle.std.proofs.Math.Nat.{mul-le-mul_right}
-use Rattle.automata_hybrid.proofs.Caches.Leaps.{level_append, slice_at, slice_long}
+use Rattle.automata_hybrid.proofs.Storage.Leaps.{level_append, slice_at, slice_long}
 use Rattle.automata_hybrid.proofs.cache.leaps.next_level.Goals as goal
 
 pub loop-row-preserved : goal.loop-row-preserved

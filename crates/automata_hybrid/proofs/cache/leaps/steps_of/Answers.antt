@@ -1,6 +1,6 @@
 use Rattle.std.proofs.Common.{◌∙◌, ◌+◌, ◌*◌, ◌≤◌, length, refl, arith}
 use Rattle.std.proofs.Math.Nat.{mul-le-mul_right}
-use Rattle.automata_hybrid.proofs.Caches.Leaps.{steps_none}
+use Rattle.automata_hybrid.proofs.Storage.Leaps.{steps_none}
 use Rattle.automata_hybrid.proofs.cache.leaps.steps_of.Goals as goal
 
 pub returns-clause-steps : goal.returns-clause-steps

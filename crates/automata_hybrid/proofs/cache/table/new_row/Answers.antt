@@ -2,7 +2,7 @@ use Rattle.std.proofs.Common.{◌≡◌, ◌∙◌, ap, sym, length, arith, repl
 use Rattle.std.proofs.lemmas.List.{length-replicate}
 use Rattle.std.proofs.lemmas.Grind.{common_steps}
 use Rattle.automata_hybrid.proofs.Words.{class_in}
-use Rattle.automata_hybrid.proofs.Caches.NewRows.{marked-zero, marked-step, marked-none, length-cond}
+use Rattle.automata_hybrid.proofs.Storage.NewRows.{marked-zero, marked-step, marked-none, length-cond}
 use Rattle.automata_hybrid.proofs.cache.table.new_row.Goals as goal
 
 pub loop-byte-init : goal.loop-byte-init

@@ -1,5 +1,5 @@
 use Rattle.std.proofs.Common.{◌≤◌, ◌<◌, ◌*◌, ◌/◌, ◌^◌, ◌∙◌, sym, ap, subst}
-use Rattle.automata_hybrid.proofs.Caches.Strides.{stride_log}
+use Rattle.automata_hybrid.proofs.Storage.Strides.{stride_log}
 use Rattle.automata_hybrid.proofs.cache.table.rows_before.Goals as goal
 
 pub returns : goal.returns

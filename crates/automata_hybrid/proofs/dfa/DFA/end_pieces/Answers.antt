@@ -1,11 +1,12 @@
 use Rattle.std.proofs.Common.{◌∙◌, ap₂, subst, sym}
 use Rattle.automata_hybrid.proofs.Words.{Automaton, half_at, known_of, Leads, ReportedEndsAreRight, ReportedIsRight}
 use Rattle.automata_hybrid.proofs.Words.{ReportedLiesWithin, result_err, Rows}
-use Rattle.automata_hybrid.specs.Known.Pieces.{IsAnswerRun, NotBack}
+use Rattle.automata_hybrid.specs.Known.Pieces.{IsAnswerRun, EndNotRestored}
 use Rattle.automata_hybrid.specs.Pieces.Answers.{EndsHere}
 use Rattle.automata_hybrid.proofs.Pieces.Answers.{ends_none, ends_some}
 use Rattle.automata_hybrid.proofs.Pieces.Progress.{answer_ends, answer_left, named_there}
 use Rattle.automata_hybrid.proofs.Searches.Reads.{at_err}
+use Rattle.automata_hybrid.proofs.Storage.Sound.{sound_searched, sound_still}
 use Rattle.automata_hybrid.proofs.dfa.DFA.end_pieces.Goals as goal
 
 pub returns-in_err-from-clause-effect : goal.returns-in_err-from-clause-effect
@@ -14,7 +15,7 @@ returns-in_err-from-clause-effect c =
     at_err c.from_residual.result _
     (λ r. IsAnswerRun c.args.self.now c.args.look_ahead c.args.pieces.now (known_of c.args.cache.now)
     (known_of c.resume_pieces.new.cache) (result_err r))
-    c.from_residual.ensures.1 (NotBack left.state left.stood left.fails)
+    c.from_residual.ensures.1 (EndNotRestored left.state left.stood left.fails)
 
 pub returns-in_default-clause-answer : goal.returns-in_default-clause-answer
 returns-in_default-clause-answer c =
@@ -53,3 +54,11 @@ returns-clause-effect c =
     let on = rw c.in-Some.is at c.in_ok-from.ensures.resumed in
     answer_ends on c.bytes_read-at.ensures c.search_start.ensures.value c.in_ok-next.ensures.read
     c.end_search.ensures.value
+
+pub read-requires-clause-sound : goal.read-requires-clause-sound
+read-requires-clause-sound c =
+    sound_still c.search_start.ensures.value (sound_searched _ c.in_ok-from.ensures.sound)
+
+pub found_at-requires-clause-sound : goal.found_at-requires-clause-sound
+found_at-requires-clause-sound c =
+    sound_still c.end_search.ensures.value (sound_searched _ c.in_ok-next.ensures.sound)

@@ -37,7 +37,7 @@ returns-then-pattern-pattern_len-clause-behind c =
     let k : ℕ = behind_of c.args.self.now.nfa.flags.line_terminator c.args.prev in
     let few : c.args.self.now.slots ≤ 12 + 6 * length c.args.self.now.nfa.start_pattern =
     few_slots c.args.self.now.nfa (starts_for_each_pattern_of c.args.self.now.config) c.args.self.now.slots
-    c.see_machine.ensures.machine.sizes.slots in
+    c.requires.sizes.slots in
     let past : c.args.self.now.slots ≤ suc (suc c.in-Pattern.pattern) * 6 + k =
     omega (arith, few, c.if-pattern-pattern_len.true, c.pattern_len.ensures, c.as_usize-pattern.ensures.value) in
     subst (λ (m : Anchored). c.args.self.now.slots ≤ slot_of m k) (sym c.in-Pattern.is) past

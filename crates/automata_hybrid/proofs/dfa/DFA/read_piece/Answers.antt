@@ -2,11 +2,11 @@ use Rattle.std.proofs.Common.{suc, ◌≡◌, ◌∙◌, ◌-◌, ap, ap₂, ari
 use Rattle.automata_hybrid.proofs.Words.{begun, known_of, result_err}
 use Rattle.automata_config.specs.declared.error.SearchError.TheVariants as search
 use Rattle.automata_base.specs.declared.util.search.MatchErrorKind.TheVariants.{GaveUp}
-use Rattle.automata_hybrid.specs.Known.Pieces.{IsPieceRun, NotHeld, NotPutBack, Through, TooLong, Upto}
+use Rattle.automata_hybrid.specs.Known.Pieces.{IsPieceRun, NotHeld, NotRestored, Through, TooLong, Upto}
 use Rattle.automata_hybrid.specs.Private.Pieces.State.{found_in}
 use Rattle.automata_hybrid.specs.Searches.PieceRuns.{piece_state}
 use Rattle.automata_hybrid.proofs.Pieces.Answers.{reads_over, reads_through}
-use Rattle.automata_hybrid.proofs.Pieces.Progress.{goes_on, run_left, run_through, run_upto}
+use Rattle.automata_hybrid.proofs.Pieces.Progress.{begins_piece, run_left, run_through, run_upto}
 use Rattle.automata_hybrid.proofs.Pieces.Runs.{found_fits}
 use Rattle.automata_hybrid.proofs.Searches.Reads.{at_err}
 use Rattle.automata_hybrid.proofs.dfa.DFA.read_piece.Goals as goal
@@ -17,7 +17,7 @@ returns-in_err-from-clause-effect c =
     at_err c.from_residual.result _
     (λ r. IsPieceRun c.args.self.now c.args.piece.now c.args.pieces.now c.args.pieces.now (known_of c.args.cache.now)
     (known_of c.resume_pieces.new.cache) (result_err r))
-    c.from_residual.ensures.1 (NotPutBack left.state left.stood left.fails)
+    c.from_residual.ensures.1 (NotRestored left.state left.stood left.fails)
 
 pub returns-in_default-checked_add-clause-effect : goal.returns-in_default-checked_add-clause-effect
 returns-in_default-checked_add-clause-effect c =
@@ -34,7 +34,7 @@ returns-in_err-at-clause-effect c =
     (known_of c.run_piece.new.cache) (result_err r))
     c.from_residual-in_err-at.ensures.1
     (run_left on c.args.piece.now c.run_piece.new.cache c.is_earliest.ensures c.bytes_read-base.ensures
-    c.in_err-at.ensures.ran)
+    (let a = c.in-Some-checked_add.ensures in omega (arith, a)) c.in_err-at.ensures.ran)
 
 pub found_in-found-requires : goal.found_in-found-requires
 found_in-found-requires c =
@@ -65,7 +65,10 @@ returns-in_err-handle-in-At-clause-effect c =
     at_err c.from_residual-in_err-handle-in-At.result search.OutOfMemory
     (λ r. IsPieceRun c.args.self.now c.args.piece.now c.args.pieces.now c.args.pieces.now (known_of c.args.cache.now)
     (known_of c.run_piece.new.cache) (result_err r))
-    c.from_residual-in_err-handle-in-At.ensures.1 (NotHeld on.state _ (goes_on on 0) through.all refl)
+    c.from_residual-in_err-handle-in-At.ensures.1 (NotHeld on.state _
+    (begins_piece on c.args.piece.now c.bytes_read-base.result c.bytes_read-base.ensures
+    (let a = c.in-Some-checked_add.ensures in omega (arith, a)))
+    through.all refl)
 
 pub returns-in-Over-clause-reads : goal.returns-in-Over-clause-reads
 returns-in-Over-clause-reads c =
@@ -86,7 +89,10 @@ returns-in-Over-clause-effect c =
     let over =
     run_upto on c.args.piece.now c.run_piece.new.cache c.is_earliest.ensures c.in_ok-at.field-0 c.in_ok-at.ensures.ran
     c.in-Over.is in
-    Upto on.state _ c.in-Over.at (goes_on on 0) over.upto c.end.ensures.state
+    Upto on.state _ c.in-Over.at
+    (begins_piece on c.args.piece.now c.bytes_read-base.result c.bytes_read-base.ensures
+    (let a = c.in-Some-checked_add.ensures in omega (arith, a)))
+    over.upto c.end.ensures.state
     (let e = c.bytes_read-base.ensures in let r = c.end.ensures.read in omega (arith, e, r))
 
 pub returns-in_ok-handle-in-At-clause-reads : goal.returns-in_ok-handle-in-At-clause-reads
@@ -113,6 +119,9 @@ returns-in_ok-handle-in-At-clause-effect c =
     let through =
     run_through on c.args.piece.now c.run_piece.new.cache c.is_earliest.ensures c.in_ok-at.field-0
     c.in_ok-at.ensures.ran c.in-At.is in
-    Through on.state _ (goes_on on 0) through.all
+    Through on.state _
+    (begins_piece on c.args.piece.now c.bytes_read-base.result c.bytes_read-base.ensures
+    (let a = c.in-Some-checked_add.ensures in omega (arith, a)))
+    through.all
     (let e = c.bytes_read-base.ensures in let r = c.stand.ensures.read in let a = c.in-Some-checked_add.ensures in
     omega (arith, e, r, a))

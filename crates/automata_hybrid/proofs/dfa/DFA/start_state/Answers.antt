@@ -2,7 +2,6 @@ use Rattle.std.proofs.Common.{rules, ◌≡◌, ◌≤◌, Some, refl}
 use Rattle.automata_hybrid.specs.Known.Steps.{IsQuitBehind}
 use Rattle.automata_hybrid.proofs.Words.{MayStart, quit_behind, slot_behind}
 use Rattle.automata_hybrid.proofs.Known.Calls.{past_start_run}
-use Rattle.automata_hybrid.proofs.Searches.Contracts.{is_store}
 use Rattle.automata_hybrid.proofs.dfa.DFA.start_state.Goals as goal
 
 pub returns-in-Some-clause-refusal : goal.returns-in-Some-clause-refusal
@@ -16,5 +15,5 @@ returns-in-None-clause-run c =
     let past : c.args.self.now.slots
     ≤ slot_behind c.args.self.now c.args.config.now.anchored c.args.config.now.look_behind = search rules in
     past_start_run c.args.self.now c.args.config.now.anchored c.args.config.now.look_behind c.args.cache.now
-    c.see_machine.ensures.machine
-    (is_store c.args.cache.now.store c.args.self.now c.requires c.see_bounds.ensures.bounds) may past
+    c.reveal_invariant_of.ensures.machine
+    c.reveal_invariant_of.ensures.store may past

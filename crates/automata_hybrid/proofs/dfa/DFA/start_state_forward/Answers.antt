@@ -2,7 +2,7 @@ use Rattle.std.proofs.Common.{ℕ, ◌≡◌, ◌-◌, ◌∙◌, ap, subst}
 use Rattle.automata_base.specs.Haystacks.StartConfig.{StartConfig}
 use Rattle.automata_hybrid.specs.Known.Steps.{IsStartRun, StartFails}
 use Rattle.automata_hybrid.proofs.Words.{IsStartAnswer, known_of, start_search_error}
-use Rattle.automata_hybrid.proofs.Steps.BySteps.{stands_first}
+use Rattle.automata_hybrid.proofs.Steps.BySteps.{stands_first, tagged_of}
 use Rattle.automata_hybrid.proofs.dfa.DFA.start_state_forward.Goals as goal
 
 pub returns-in-Ok-clause-answer : goal.returns-in-Ok-clause-answer
@@ -37,11 +37,7 @@ returns-in-Err-clause-refusal c =
 pub returns-in-Ok-clause-stands : goal.returns-in-Ok-clause-stands
 returns-in-Ok-clause-stands c = λ early undone.
     stands_first c.args.self.now c.args.input.now c.args.cache.now c.start_state.new.cache c.in-Ok.id
-    (record {
-      of = c.in-Ok.ensures.of;
-      low = c.see_bounds.ensures.sound.low;
-      small = c.see_bounds.ensures.bounds.small;
-    })
+    (tagged_of c.reveal_invariant_of.ensures)
     early undone c.start-at.ensures.valid.within.1
     (subst (λ (s : StartConfig). IsStartAnswer c.args.self.now s.anchored s.look_behind c.args.cache.now
     c.start_state.new.cache c.in-Ok.id)

@@ -5,7 +5,6 @@ use Rattle.automata_config.specs.declared.error.StartError.TheVariants.{Unsuppor
 use Rattle.automata_hybrid.specs.Private.Steps.Starts.{IsStartSlot}
 use Rattle.automata_hybrid.proofs.Known.Calls.{cached_start_run}
 use Rattle.automata_hybrid.proofs.Steps.Starts.{known_answer}
-use Rattle.automata_hybrid.proofs.Searches.Contracts.{is_store}
 use Rattle.automata_hybrid.proofs.Searches.PassState.{none_is}
 use Rattle.automata_hybrid.proofs.dfa.DFA.start_state_known.Goals as goal
 
@@ -37,11 +36,12 @@ slot_here c =
 pub returns-clause-answer : goal.returns-clause-answer
 returns-clause-answer c = λ low.
     known_answer c.args.self.now c.args.mode c.args.prev c.args.cache.now c.in-Ok-Some.slot c.start_slot.result
-    c.requires (slot_here c) c.start_slot.ensures.value low c.start_slot.ensures.leads c.start_slot.ensures.tag
+    c.requires.of (slot_here c) c.start_slot.ensures.value low c.start_slot.ensures.leads
+    (c.requires.table.tagged c.start_slot.result)
 
 pub returns-clause-run : goal.returns-clause-run
 returns-clause-run c = λ low.
     cached_start_run c.args.self.now c.args.mode c.args.prev c.in-Ok-Some.slot c.args.cache.now
-    c.see_machine.ensures.machine
-    (is_store c.args.cache.now.store c.args.self.now c.requires c.see_bounds.ensures.bounds) (slot_here c)
+    c.requires.machine
+    c.requires.store (slot_here c)
     (subst (λ n. n < 2 ^ 31) c.start_slot.ensures.value low)

@@ -42,7 +42,7 @@ loop-later-init c =
     let none : 0 ≡ skipped c.args.input.now c.copied-later.result =
     subst (λ (i : Input). 0 ≡ skipped c.args.input.now i) (sym whole) (omega arith) in
     record {
-      of = c.requires;
+      sound = c.requires;
       few =
           subst (λ (i : Input). i.end + 1 - i.start ≤ c.args.input.now.end + 1 - c.args.input.now.start) (sym whole)
           (omega arith);
@@ -73,7 +73,7 @@ loop-later-preserved c =
     skipped_more c.args.input.now c.loop-later.later c.loop-later.invariant.few ahead c.begin_later.new.input
     (c.if-not-begin_later.ensures.shorter refl) in
     record {
-      of = c.in-Ok.ensures.of;
+      sound = c.in-Ok.ensures.sound;
       few = omega (arith, c.if-not-begin_later.ensures.shorter refl, c.loop-later.invariant.few);
       same =
           subst (λ n. c.begin_later.new.input ≡ later d n c.args.input.now) next

@@ -1,11 +1,12 @@
 use Rattle.std.proofs.Common.{◌≡◌, ◌≤◌, ◌+◌, ◌-◌}
-use Rattle.automata_hybrid.proofs.Words.{Finds, IsCacheOf, known_of, later, PassesEnd, Skips, Tries}
+use Rattle.automata_hybrid.proofs.Words.{Finds, known_of, later, PassesEnd, Skips, Tries}
 use Rattle.automata_hybrid.proofs.Searches.Directions.{skipped}
+use Rattle.automata_hybrid.specs.Private.Cache.Sound.{IsSoundCacheOf}
 use Rattle.automata_hybrid.proofs.search.half.search_spans.Given as goal
 
 abbrev pub invariant-loop-later : goal.invariant-loop-later
 invariant-loop-later l = record {
-  of : IsCacheOf l.cache l.dfa;
+  sound : IsSoundCacheOf l.cache l.dfa;
   few : l.later.end + 1 - l.later.start ≤ l.input.end + 1 - l.input.start;
   same : l.later ≡ later l.way (skipped l.input l.later) l.input;
   progress : PassesEnd l.way l.dfa l.input (skipped l.input l.later) (known_of l.fn.cache) (known_of l.cache);

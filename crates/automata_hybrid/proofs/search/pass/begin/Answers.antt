@@ -3,13 +3,14 @@ use Rattle.automata_hybrid.proofs.Words.{begun, dead, Direction, ended, Err, giv
 use Rattle.automata_hybrid.proofs.Words.{known_of, Names, Ok, option_map, Result, Rows, SearchError, state_in}
 use Rattle.std.specs.Prelude.{Option}
 use Rattle.automata_base.specs.Haystacks.Input.{IsAllowed}
-use Rattle.automata_hybrid.specs.Private.Searches.PassContracts.{IsKnownUpto, IsPassResult, IsRest, IsTakenUp}
+use Rattle.automata_hybrid.specs.Private.Searches.PassContracts.{IsKnownUpto, IsPassResult, IsRest, MayContinue}
 use Rattle.automata_hybrid.specs.Private.Searches.PassContracts.{input_at}
 use Rattle.automata_hybrid.proofs.Searches.Directions.{begins_alive, begins_dead}
 use Rattle.automata_hybrid.proofs.Searches.PassContracts.{same_input}
 use Rattle.automata_hybrid.proofs.Searches.Reads.{at_err}
 use Rattle.automata_hybrid.proofs.Searches.Goes.{begun_here, ended_here, pass_dies, rest_passes, start_fails_pass}
 use Rattle.automata_hybrid.proofs.Searches.PassState.{clean_start, false_true, starts_at, starts_dead, stops_start}
+use Rattle.automata_hybrid.proofs.Storage.Sound.{sound_searched, sound_still}
 use Rattle.automata_hybrid.proofs.search.pass.begin.Goals as goal
 use Rattle.automata_hybrid.proofs.search.pass.begin.Goals.{After-get_earliest, After-rest, After-search_start}
 
@@ -54,7 +55,7 @@ pub rest-requires-clause-may : goal.rest-requires-clause-may
 rest-requires-clause-may c =
     let same = same (goal.at.rest-requires-clause-may c).After-get_earliest in
     record {
-      of = ap (λ (t : Rows). t.of) c.search_start.ensures.table ∙ c.in-Ok.ensures.of;
+      sound = sound_still c.search_start.ensures.value (sound_searched _ c.in-Ok.ensures.sound);
       allowed = subst IsAllowed (sym same) c.get_span.ensures.valid.within;
     }
 
@@ -74,11 +75,11 @@ rest-requires-clause-at c =
             (subst (λ (t : Rows). Names t c.in-Ok.start (state_in d m c.args.input.now 0))
             (sym c.search_start.ensures.table)
             (begins_alive d m c.walk_start.new.cache.store.table c.args.input.now c.in-Ok.start
-            c.in-Ok.ensures.started.answer.named (c.see_bounds-2.ensures.sound.low c.in-Ok.start)
-            c.see_bounds-2.ensures.bounds.small (λ b. false_true (c.if-is_dead.ensures.1 b))));
+            c.in-Ok.ensures.started.answer.named (c.in-Ok.ensures.sound.table.low c.in-Ok.start)
+            c.in-Ok.ensures.sound.store.small (λ b. false_true (c.if-is_dead.ensures.1 b))));
       };
     } in
-    subst (λ (i : Input). IsTakenUp d m c.search_start.new.self.store i 0 c.in-Ok.start) (sym same)
+    subst (λ (i : Input). MayContinue d m c.search_start.new.self.store i 0 c.in-Ok.start) (sym same)
     (record { found = None; upto = at; there = λ q named. refl })
 
 pub returns-in-Err-clause-passed : goal.returns-in-Err-clause-passed
@@ -94,7 +95,7 @@ returns-then-is_dead-clause-passed c =
     let dies : state_in d m c.args.input.now 0 ≡ dead =
     begins_dead d m c.walk_start.new.cache.store.table c.args.input.now c.in-Ok.start
     c.in-Ok.ensures.started.answer.named
-    (c.see_bounds-2.ensures.sound.low c.in-Ok.start) c.see_bounds-2.ensures.bounds.small
+    (c.in-Ok.ensures.sound.table.low c.in-Ok.start) c.in-Ok.ensures.sound.store.small
     (c.if-is_dead.ensures.0 refl) in
     record {
       answer = record {
@@ -129,3 +130,8 @@ returns-in_err-found-clause-passed c =
     c.from_residual.ensures.1
     (rest_passed past.After-rest (Err c.in_err-found.field-0.0) (same past.After-get_earliest)
     (begins past.After-search_start) c.in_err-found.ensures.rest)
+
+pub returns-then-is_dead-clause-sound : goal.returns-then-is_dead-clause-sound
+returns-then-is_dead-clause-sound c =
+    sound_still c.end_search.ensures.value (sound_searched _
+    (sound_still c.search_start.ensures.value (sound_searched _ c.in-Ok.ensures.sound)))

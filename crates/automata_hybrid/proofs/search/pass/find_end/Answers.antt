@@ -4,6 +4,7 @@ use Rattle.automata_hybrid.proofs.Words.{Powerset, Rows, state_in, successor, ta
 use Rattle.automata_hybrid.proofs.Searches.Directions.{units_in}
 use Rattle.automata_hybrid.proofs.Searches.PassContracts.{last_answer}
 use Rattle.automata_hybrid.proofs.Searches.Goes.{ended_here, left_here, taken_here}
+use Rattle.automata_hybrid.proofs.Storage.Sound.{sound_searched, sound_still}
 use Rattle.automata_hybrid.proofs.search.pass.find_end.Goals as goal
 use Rattle.automata_hybrid.proofs.search.pass.find_end.Goals.{After-unit_at-unit}
 
@@ -77,3 +78,11 @@ returns-in-Err-clause-last c =
     left_here d c.args.dfa.now c.args.input.now k c.args.id c.span_offset-at.result c.unit_at-unit.result
     c.args.cache.now c.read.new.cache (unit at) (given at) c.requires.at.at.named c.unit_offset.result c.in-Err.error
     (sym quits) c.in-Err.ensures.read.fails
+
+pub returns-clause-sound : goal.returns-clause-sound
+returns-clause-sound c =
+    sound_still c.end_search.ensures.value (sound_searched _ c.in-Ok.ensures.sound)
+
+pub found_at-requires-clause-sound : goal.found_at-requires-clause-sound
+found_at-requires-clause-sound c =
+    sound_still c.end_search.ensures.value (sound_searched _ c.in-Ok.ensures.sound)

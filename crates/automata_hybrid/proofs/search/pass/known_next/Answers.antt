@@ -3,15 +3,15 @@ use Rattle.automata_hybrid.proofs.Words.{IsStepAnswer, known_step, unit_class}
 use Rattle.automata_hybrid.proofs.search.pass.known_next.Goals as goal
 
 pub returns-clause-value : goal.returns-clause-value
-returns-clause-value c = λ low. (c.requires.met low).cached
+returns-clause-value c = λ low. (c.requires.peeked low).cached
 
 pub returns-clause-answer : goal.returns-clause-answer
 returns-clause-answer c = λ low.
-    let same : c.known_step-next.result ≡ c.args.met =
+    let same : c.known_step-next.result ≡ c.args.peeked =
     c.known_step-next.ensures.value
     ∙ (ap (known_step c.args.dfa.now c.args.cache.now.store c.args.id) (sym c.byte_at.ensures)
-    ∙ sym (c.requires.met low).cached) in
-    subst (λ (u : Option ℕ). IsStepAnswer c.args.dfa.now c.args.id u c.args.cache.now c.args.cache.now c.args.met)
+    ∙ sym (c.requires.peeked low).cached) in
+    subst (λ (u : Option ℕ). IsStepAnswer c.args.dfa.now c.args.id u c.args.cache.now c.args.cache.now c.args.peeked)
     (sym c.byte_at.ensures)
     (subst (IsStepAnswer c.args.dfa.now c.args.id (Some c.byte_at.result) c.args.cache.now c.args.cache.now) same
     (c.known_step-next.ensures.answer (subst (λ n. n < 2 ^ 31) (sym same) low)))

@@ -1,7 +1,7 @@
-use Rattle.std.proofs.Common.{ℕ, ◌≡◌, ◌∙◌, ◌-◌, ◌<◌, ◌≤◌, ◌^◌, length, subst, sym, refl, arith}
+use Rattle.std.proofs.Common.{ℕ, ◌∙◌, ◌<◌, ◌≤◌, ◌^◌, length, subst, sym, refl, arith}
 use Rattle.std.proofs.lemmas.Grind.{common_steps}
 use Rattle.automata_hybrid.proofs.Words.{Direction, tape_in}
-use Rattle.automata_hybrid.specs.Private.Searches.PassContracts.{IsKnownUpto, IsTakenUp}
+use Rattle.automata_hybrid.specs.Private.Searches.PassContracts.{IsKnownUpto, MayContinue}
 use Rattle.automata_hybrid.proofs.Searches.Directions.{units_in}
 use Rattle.automata_hybrid.proofs.Searches.KnownPasses.{known_dead, known_first, known_last, known_leads}
 use Rattle.automata_hybrid.proofs.Searches.PassState.{false_true, some_is}
@@ -32,7 +32,7 @@ few c =
 -- the rest of the pass can continue there
 left :
     (c : After-run_to_match-run)
-    → IsTakenUp c.args.way c.args.dfa.now c.args.cache.now.store c.args.input.now c.run_to_match-run.result.at
+    → MayContinue c.args.way c.args.dfa.now c.args.cache.now.store c.args.input.now c.run_to_match-run.result.at
     c.run_to_match-run.result.id
 left c = record {
   found = c.run_to_match-run.result.found;
@@ -51,7 +51,7 @@ found_at-found-requires-clause-leads c =
       _,
       known_leads d c.args.dfa.now c.args.input.now k c.run_to_match-run.result.id c.args.cache.now
           c.run_to_match-run.result.found
-          c.known_next-next.result c.requires.of c.see_bounds.ensures.sound upto few
+          c.known_next-next.result c.requires.sound.of c.requires.sound.table upto few
           (subst (λ n. n < 2 ^ 31) (c.known_next-next.ensures.value low) low) (c.known_next-next.ensures.answer low)
           (c.known_next-next.ensures.below low) (λ b. false_true (c.if-is_quit.ensures.1 b)),
     )
@@ -67,11 +67,11 @@ returns-then-is_dead-clause-stop c =
     let end =
     known_dead d c.args.dfa.now c.args.input.now k c.run_to_match-run.result.id c.args.cache.now
     c.run_to_match-run.result.found
-    c.known_next-next.result c.requires.of c.see_bounds.ensures.sound upto few
+    c.known_next-next.result c.requires.sound.of c.requires.sound.table upto few
     (subst (λ n. n < 2 ^ 31) (c.known_next-next.ensures.value low) low) (c.known_next-next.ensures.answer low)
     (c.known_next-next.ensures.below low)
     (dead_clear c.args.cache.now c.known_next-next.result (c.known_next-next.ensures.answer low).row
-    (c.see_bounds.ensures.sound.low c.known_next-next.result) c.see_bounds.ensures.bounds.small
+    (c.requires.sound.table.low c.known_next-next.result) c.requires.sound.store.small
     (c.if-is_dead.ensures.0 refl)) (c.if-is_dead.ensures.0 refl) in
     (c.run_to_match-run.result.id, end)
 
@@ -86,7 +86,7 @@ returns-then-run-last-clause-stop c =
     let end =
     known_last d c.args.dfa.now c.args.input.now k c.run_to_match-run.result.id c.args.cache.now
     c.run_to_match-run.result.found
-    c.known_next-next.result c.requires.of c.see_bounds.ensures.sound upto few
+    c.known_next-next.result c.requires.sound.of c.requires.sound.table upto few
     (subst (λ n. n < 2 ^ 31) (c.known_next-next.ensures.value low) low) (c.known_next-next.ensures.answer low)
     (c.known_next-next.ensures.below low) (λ b. false_true (c.if-is_quit.ensures.1 b)) c.found_at-found.result
     c.place_offset-offset.result c.place_offset-offset.ensures.value c.found_at-found.ensures
@@ -105,7 +105,7 @@ returns-then-is_some-clause-stop c =
     let end =
     known_first d c.args.dfa.now c.args.input.now k c.run_to_match-run.result.id c.args.cache.now
     c.run_to_match-run.result.found
-    c.known_next-next.result c.requires.of c.see_bounds.ensures.sound upto few
+    c.known_next-next.result c.requires.sound.of c.requires.sound.table upto few
     (subst (λ n. n < 2 ^ 31) (c.known_next-next.ensures.value low) low) (c.known_next-next.ensures.answer low)
     (c.known_next-next.ensures.below low) (λ b. false_true (c.if-is_quit.ensures.1 b)) c.found_at-found.result
     c.place_offset-offset.result c.place_offset-offset.ensures.value c.found_at-found.ensures
@@ -124,7 +124,7 @@ returns-then-is_quit-clause-stop c = left (goal.at.returns-then-is_quit-clause-s
 pub run_to_match-run-requires : goal.run_to_match-run-requires
 run_to_match-run-requires c =
     let trace = pass_is_trace c.args.way c.args.dfa.now c.args.input.now in (
-      c.requires.of,
+      c.requires.sound,
       (
         record {
           on = record { trace = trace; named = c.requires.at.at.named };

@@ -1,18 +1,18 @@
 use Rattle.automata_hybrid.proofs.Words.{begun, CacheView, Direction, Err, given_up_offset, HalfMatch, Input, known_of}
-use Rattle.automata_hybrid.proofs.Words.{Ok, option_map, Result, Rows, saturated, SearchError, total_len, with_searched}
+use Rattle.automata_hybrid.proofs.Words.{Ok, option_map, Result, saturated, SearchError, total_len, with_searched}
 use Rattle.automata_hybrid.proofs.Words.{with_store}
-use Rattle.std.proofs.Common.{ℕ, Option, ◌≡◌, ◌∙◌, ◌+◌, ◌<◌, ◌^◌, None, ap, subst, sym, arith}
+use Rattle.std.proofs.Common.{ℕ, Option, ◌≡◌, ◌+◌, ◌<◌, ◌^◌, None, ap, subst, sym, arith}
 use Rattle.std.proofs.lemmas.Grind.{common_steps}
 use Rattle.automata_base.specs.Haystacks.Input.{IsAllowed}
-use Rattle.automata_hybrid.specs.Private.Searches.PassContracts.{IsPassResult, IsRest, IsTakenUp, input_at}
+use Rattle.automata_hybrid.specs.Private.Searches.PassContracts.{IsPassResult, IsRest, MayContinue, input_at}
 use Rattle.automata_hybrid.proofs.Searches.Directions.{begins_alive}
 use Rattle.automata_hybrid.proofs.Searches.KnownPasses.{known_ended}
 use Rattle.automata_hybrid.proofs.Searches.PassContracts.{same_input}
-use Rattle.automata_hybrid.proofs.Searches.Contracts.{is_store}
 use Rattle.automata_hybrid.proofs.Searches.Goes.{begun_here, rest_passes}
 use Rattle.automata_hybrid.proofs.Searches.PassState.{starts_at}
 use Rattle.automata_hybrid.proofs.Searches.Units.{units_in}
 use Rattle.automata_hybrid.proofs.Steps.Ids.{low_bit}
+use Rattle.automata_hybrid.proofs.Storage.Sound.{sound_searched, sound_still}
 use Rattle.automata_hybrid.proofs.search.pass.pass.Goals as goal
 use Rattle.automata_hybrid.proofs.search.pass.pass.Goals.{After-get_earliest, After-rest}
 
@@ -57,7 +57,7 @@ known_pass-requires-clause-at c =
       at =
           starts_at c.args.way c.args.dfa.now c.args.cache.now.store.table c.args.input.now start
           (begins_alive c.args.way c.args.dfa.now c.args.cache.now.store.table c.args.input.now start a.named
-          (c.see_bounds.ensures.sound.low start) c.see_bounds.ensures.bounds.small
+          (c.requires.sound.table.low start) c.requires.sound.store.small
           (λ b. (
           let l : start < 2 ^ 29 = grind (arith, common_steps, c.if-is_fixed.ensures) in
           low_bit 30 start (omega (arith, l)) b)));
@@ -83,10 +83,10 @@ returns-in-Ended-clause-passed c =
         starts = ap (option_map (begun (given_up_offset d c.args.input.now 0))) run.does;
         ends =
             known_ended d c.args.dfa.now c.args.input.now c.in-Ended.at end.0 old c.in-Ended.found
-            c.count_search.new.self c.see_machine.ensures.machine
+            c.count_search.new.self c.requires.sound.machine
             (units_in d c.args.input.now
             (c.in-Ended.ensures.valid.bytes, c.in-Ended.ensures.valid.within.1) c.requires.«open»)
-            end.1 (is_store old.store c.args.dfa.now c.requires.of c.see_bounds.ensures.bounds) counted;
+            end.1 c.requires.sound.store counted;
       };
     }
 
@@ -94,7 +94,7 @@ pub rest-requires-clause-may : goal.rest-requires-clause-may
 rest-requires-clause-may c =
     let same = same (goal.at.rest-requires-clause-may c).After-get_earliest in
     record {
-      of = ap (λ (t : Rows). t.of) c.search_start.ensures.table ∙ c.requires.of;
+      sound = sound_still c.search_start.ensures.value (sound_searched _ c.requires.sound);
       allowed = subst IsAllowed (sym same) c.get_span.ensures.valid.within;
     }
 
@@ -104,9 +104,9 @@ rest-requires-clause-at c =
     let m = c.args.dfa.now in
     let from = c.in-Left.from in
     let same = same (goal.at.rest-requires-clause-at c).After-get_earliest in
-    let k : IsTakenUp d m c.args.cache.now.store c.args.input.now from.at from.id = c.in-Left.ensures.stop in
-    subst (λ (i : Input). IsTakenUp d m c.search_start.new.self.store i from.at from.id) (sym same)
-    (subst (λ (v : CacheView). IsTakenUp d m v.store c.args.input.now from.at from.id)
+    let k : MayContinue d m c.args.cache.now.store c.args.input.now from.at from.id = c.in-Left.ensures.stop in
+    subst (λ (i : Input). MayContinue d m c.search_start.new.self.store i from.at from.id) (sym same)
+    (subst (λ (v : CacheView). MayContinue d m v.store c.args.input.now from.at from.id)
     (sym c.search_start.ensures.value)
     (record {
       found = k.found;
@@ -123,3 +123,7 @@ pub returns-in-Err-clause-passed : goal.returns-in-Err-clause-passed
 returns-in-Err-clause-passed c =
     let past = goal.at.returns-in-Err-clause-passed c in
     rest_passed past.After-rest (Err c.in-Err.error) (same past.After-get_earliest) c.in-Err.ensures.rest
+
+pub returns-in-Ended-clause-sound : goal.returns-in-Ended-clause-sound
+returns-in-Ended-clause-sound c =
+    sound_still c.count_search.ensures.value (sound_searched _ c.requires.sound)

@@ -1,6 +1,6 @@
 use Rattle.std.proofs.Common.{◌∙◌, ap, refl, sym, subst}
 use Rattle.automata_hybrid.proofs.Words.{known_of, SearchError}
-use Rattle.automata_hybrid.specs.Known.Walks.{IsNotBack}
+use Rattle.automata_hybrid.specs.Known.Walks.{IsNotRestored}
 use Rattle.automata_hybrid.specs.Pieces.State.{IsPiecesOf, PiecesView}
 use Rattle.automata_hybrid.specs.Private.Pieces.State.{held_state}
 use Rattle.automata_hybrid.proofs.search.pieces.resume_pieces.Goals as goal
@@ -28,11 +28,11 @@ returns-in-Err-clause-resumed c = record {
   stood = sym (ap (λ (p : PiecesView). p.state) c.pieces.view_is) ∙ ap held_state c.in-Some.is;
   fails =
       subst
-      (λ (p : PiecesView). IsNotBack c.args.dfa.now c.in-Some.handle.state p.read (known_of c.args.cache.now)
+      (λ (p : PiecesView). IsNotRestored c.args.dfa.now c.in-Some.handle.state p.read (known_of c.args.cache.now)
       (known_of c.row_of.new.cache) c.step_error.result)
       c.pieces.view_is
       (subst
-      (λ (e : SearchError). IsNotBack c.args.dfa.now c.in-Some.handle.state c.pieces.inside.read
+      (λ (e : SearchError). IsNotRestored c.args.dfa.now c.in-Some.handle.state c.pieces.inside.read
       (known_of c.args.cache.now) (known_of c.row_of.new.cache) e)
       (sym c.step_error.ensures) (c.in-Err.ensures.back c.pieces.inside.read));
 }

@@ -15,17 +15,17 @@ run_span-requires c =
     let same : c.earliest-own.result ≡ piece_input c.args.piece.now c.args.earliest =
     c.earliest-own.ensures ∙ ap (λ (i : Input). record i { earliest = c.args.earliest }) c.new.ensures.input in
     let positive : 0 < c.args.cache.now.store.table.of.stride =
-    subst (λ (d : Machine). 0 < d.stride) (sym c.requires.of) c.see_machine.ensures.machine.template.positive in
+    subst (λ (d : Machine). 0 < d.stride) (sym c.requires.sound.of) c.requires.sound.machine.template.positive in
     let q : Powerset = state_named c.args.cache.now.store.table c.args.from in
     let named : Names c.args.cache.now.store.table c.args.from q =
     subst (λ p. Names c.args.cache.now.store.table c.args.from p)
-    (sym (names_state c.args.cache.now.store.table c.args.from c.requires.valid.0 c.see_bounds.ensures.bounds.rows
+    (sym (names_state c.args.cache.now.store.table c.args.from c.requires.valid.0 c.requires.sound.store.rows
     positive c.requires.valid.1))
     c.requires.valid.1 in
     let on : IsOnTrace (piece_trace m c.args.piece.now c.args.earliest q) Forward m c.args.cache.now.store.table
     (piece_input c.args.piece.now c.args.earliest) 0 c.args.from =
     record { trace = piece_is_trace m c.args.piece.now c.args.earliest q; named = named } in (
-      c.requires.of,
+      c.requires.sound,
       (
         subst
             (λ (i : Input). IsOnTrace (piece_trace m i.haystack i.earliest q) Forward m c.args.cache.now.store.table i
@@ -41,11 +41,11 @@ returns-in-Ok-clause-ran c = λ q named.
     let same : c.earliest-own.result ≡ piece_input c.args.piece.now c.args.earliest =
     c.earliest-own.ensures ∙ ap (λ (i : Input). record i { earliest = c.args.earliest }) c.new.ensures.input in
     let positive : 0 < c.args.cache.now.store.table.of.stride =
-    subst (λ (d : Machine). 0 < d.stride) (sym c.requires.of) c.see_machine.ensures.machine.template.positive in
+    subst (λ (d : Machine). 0 < d.stride) (sym c.requires.sound.of) c.requires.sound.machine.template.positive in
     subst
     (λ p. IsEndAlong (piece_trace m c.args.piece.now c.args.earliest p) m (piece_input c.args.piece.now c.args.earliest)
     (begun 0 (known_of c.args.cache.now)) c.run_span.new.cache c.in-Ok.end)
-    (names_state c.args.cache.now.store.table c.args.from q c.see_bounds.ensures.bounds.rows positive named)
+    (names_state c.args.cache.now.store.table c.args.from q c.requires.sound.store.rows positive named)
     (subst
     (λ (i : Input). IsEndAlong (piece_trace m i.haystack i.earliest (state_named c.args.cache.now.store.table
     c.args.from)) m i (begun (given_up_offset Forward i 0) (known_of c.args.cache.now)) c.run_span.new.cache
@@ -74,7 +74,7 @@ returns-in-Err-clause-ran c = λ q named.
     let same : c.earliest-own.result ≡ piece_input c.args.piece.now c.args.earliest =
     c.earliest-own.ensures ∙ ap (λ (i : Input). record i { earliest = c.args.earliest }) c.new.ensures.input in
     let positive : 0 < c.args.cache.now.store.table.of.stride =
-    subst (λ (d : Machine). 0 < d.stride) (sym c.requires.of) c.see_machine.ensures.machine.template.positive in
+    subst (λ (d : Machine). 0 < d.stride) (sym c.requires.sound.of) c.requires.sound.machine.template.positive in
     let fails : FailsAlong (piece_trace m c.args.piece.now c.args.earliest q) m
     (piece_input c.args.piece.now c.args.earliest) 0 (begun 0 (known_of c.args.cache.now))
     (known_of c.run_span.new.cache) c.in-Err.error =
@@ -82,7 +82,7 @@ returns-in-Err-clause-ran c = λ q named.
     (λ p. FailsAlong (piece_trace m c.args.piece.now c.args.earliest p) m
     (piece_input c.args.piece.now c.args.earliest) 0 (begun 0 (known_of c.args.cache.now))
     (known_of c.run_span.new.cache) c.in-Err.error)
-    (names_state c.args.cache.now.store.table c.args.from q c.see_bounds.ensures.bounds.rows positive named)
+    (names_state c.args.cache.now.store.table c.args.from q c.requires.sound.store.rows positive named)
     (subst
     (λ (i : Input). FailsAlong (piece_trace m i.haystack i.earliest (state_named c.args.cache.now.store.table
     c.args.from)) m i i.start (begun (given_up_offset Forward i 0) (known_of c.args.cache.now))

@@ -1,15 +1,17 @@
 use Rattle.std.proofs.Common.{ℕ, Option, suc, ◌≡◌, ◌∙◌, ◌+◌, ◌-◌, ◌<◌, true, Some, None, ap, refl, sym, subst, arith}
-use Rattle.automata_hybrid.proofs.Words.{begun, CacheView, ended, Forward, given_up_offset, IsAtAlong, IsCacheOf}
-use Rattle.automata_hybrid.proofs.Words.{IsCellRead, IsStoreOf, IsUnit, Known, known_of, Names, option_map, Rows}
+use Rattle.automata_hybrid.proofs.Words.{begun, CacheView, ended, Forward, given_up_offset, IsAtAlong}
+use Rattle.automata_hybrid.proofs.Words.{IsCellRead, IsUnit, Known, known_of, Names, option_map, Rows}
 use Rattle.automata_hybrid.proofs.Words.{tape_in}
 use Rattle.automata_base.specs.Paths.Paths.{next as unit_at}
-use Rattle.automata_hybrid.proofs.Searches.Contracts.{is_store}
 use Rattle.automata_hybrid.proofs.Searches.Goes.{GoesToAlong, ended_here, goes_all, goes_known, goes_none}
 use Rattle.automata_hybrid.proofs.Searches.PassState.{false_true, none_is, some_is}
 use Rattle.automata_hybrid.proofs.Searches.PieceRuns.{at_next, goes_on, leads_on, over_dead, over_first, stopped_along}
 use Rattle.automata_hybrid.proofs.Searches.Traces.{begins_along, half_of_none}
 use Rattle.automata_hybrid.proofs.Searches.Units.{units_in}
 use Rattle.automata_hybrid.proofs.Steps.Ids.{dead_tagged}
+use Rattle.automata_hybrid.specs.Private.Cache.Sound.{IsSoundCacheOf}
+use Rattle.automata_hybrid.proofs.Storage.Sound.{sound_searched, sound_still}
+use Rattle.automata_hybrid.proofs.Storage.Places.{Names-alive}
 use Rattle.automata_hybrid.proofs.search.pieces.run_span.Goals as goal
 use Rattle.automata_hybrid.proofs.search.pieces.run_span.Goals.{else-get_earliest-via-then-get_earliest+else-is_some}
 use Rattle.automata_hybrid.proofs.search.pieces.run_span.Goals.{else-get_earliest-via-else-get_earliest}
@@ -19,7 +21,7 @@ next_known-requires g c =
     let named =
     subst (λ (t : Rows). Names t c.args.from (g.trace.state 0)) (sym c.search_start.ensures.table)
     c.requires.1.0.named in (
-      subst (λ (t : Rows). t.of ≡ c.args.dfa.now) (sym c.search_start.ensures.table) c.requires.0,
+      sound_still c.search_start.ensures.value (sound_searched _ c.requires.0),
       record {
         on = record { trace = c.requires.1.0.trace; named = named };
         undone = c.requires.1.1;
@@ -36,7 +38,7 @@ loop-run-init g c =
     ap known_of c.search_start.ensures.value
     ∙ ap (λ o. begun o (known_of c.args.cache.now)) c.span_offset.ensures.value in
     record {
-      of = subst (λ (t : Rows). t.of ≡ c.args.dfa.now) (sym c.search_start.ensures.table) c.requires.0;
+      sound = sound_still c.search_start.ensures.value (sound_searched _ c.requires.0);
       within = omega arith;
       upto = omega (arith, c.near_end-end.ensures);
       at =
@@ -52,11 +54,11 @@ loop-run-init g c =
           (goes_none Forward c.args.dfa.now c.args.input.now 0 (known_of c.search_start.new.self));
     }
 
-pub read_met-requires-clause-valid : goal.read_met-requires-clause-valid
-read_met-requires-clause-valid g c = (_, c.loop-run.invariant.at.named)
+pub read_peeked-requires-clause-valid : goal.read_peeked-requires-clause-valid
+read_peeked-requires-clause-valid g c = (_, c.loop-run.invariant.at.named)
 
-pub read_met-requires-clause-cell : goal.read_met-requires-clause-cell
-read_met-requires-clause-cell g c =
+pub read_peeked-requires-clause-cell : goal.read_peeked-requires-clause-cell
+read_peeked-requires-clause-cell g c =
     subst
     (λ (u : Option ℕ). IsCellRead c.args.dfa.now c.loop-run.cache.store c.loop-run.run.id u c.loop-run.run.next)
     c.byte_at-byte.ensures
@@ -85,16 +87,16 @@ run_to_match-near-requires g c =
     let more : suc c.loop-run.run.at ≡ c.loop-run.run.at + 1 = omega arith in
     let at =
     subst
-    (λ n. IsAtAlong g.trace Forward c.args.dfa.now c.read_met.new.cache.store.table c.args.input.now n c.in-Ok.next
+    (λ n. IsAtAlong g.trace Forward c.args.dfa.now c.read_peeked.new.cache.store.table c.args.input.now n c.in-Ok.next
     c.found_at-found.result)
     more
     (at_next c.requires.1.0.trace c.loop-run.cache c.loop-run.invariant.at c.byte_at-byte.ensures inside
     c.byte_offset-offset.ensures.unit c.loop-run.invariant.progress c.in-Ok.ensures.read
     (c.place_offset.result, c.place_offset.ensures.value, c.found_at-found.ensures) first
-    (λ l. (dead_tagged c.read_met.new.cache.store.table c.in-Ok.next (c.see_bounds.ensures.sound.low c.in-Ok.next)
-    c.see_bounds.ensures.bounds.small _ l).1
+    (λ l. (dead_tagged c.read_peeked.new.cache.store.table c.in-Ok.next (c.in-Ok.ensures.sound.table.low c.in-Ok.next)
+    c.in-Ok.ensures.sound.store.small _ l).1
     (λ b. false_true (c.if-is_dead.ensures.1 b)))) in (
-      c.in-Ok.ensures.of,
+      c.in-Ok.ensures.sound,
       (
         record {
           on = record { trace = c.requires.1.0.trace; named = at.named };
@@ -109,7 +111,7 @@ run_to_match-near-requires g c =
 pub follow_with_leaps-far-requires : goal.follow_with_leaps-far-requires
 follow_with_leaps-far-requires g c =
     let near = c.run_to_match-near.ensures.runs in (
-      c.in-Ok.ensures.of,
+      c.in-Ok.ensures.sound,
       (
         record {
           on = record { trace = c.requires.1.0.trace; named = near.at.named };
@@ -117,7 +119,7 @@ follow_with_leaps-far-requires g c =
           within = near.run.within;
           upto = c.loop-run.invariant.upto;
         },
-        (near.met, c.run_to_match-near.ensures.read),
+        (near.peeked, c.run_to_match-near.ensures.read),
       ),
     )
 
@@ -130,9 +132,8 @@ loop-run-preserved g c =
     let units : (j : ℕ) → IsUnit (unit_at (tape_in Forward c.args.input.now) j) =
     units_in Forward c.args.input.now (c.last_place-last.ensures.valid.bytes, c.last_place-last.ensures.valid.within.1)
     c.requires.1.1 in
-    let sound : IsStoreOf c.follow_with_leaps-far.new.cache.store c.args.dfa.now =
-    subst (λ (v : CacheView). IsStoreOf v.store c.args.dfa.now) (sym same)
-    (is_store c.read_met.new.cache.store c.args.dfa.now c.in-Ok.ensures.of c.see_bounds.ensures.bounds) in
+    let sound : IsSoundCacheOf c.follow_with_leaps-far.new.cache c.args.dfa.now =
+    sound_still same c.in-Ok.ensures.sound in
     let first : Known = begun (given_up_offset Forward c.args.input.now 0) (known_of c.args.cache.now) in
     let behind :
     GoesToAlong g.trace Forward c.args.dfa.now c.args.input.now 0 (c.loop-run.run.at + 1) first
@@ -142,20 +143,21 @@ loop-run-preserved g c =
     (known_of v))
     (sym same)
     (subst
-    (λ n. GoesToAlong g.trace Forward c.args.dfa.now c.args.input.now 0 n first (known_of c.read_met.new.cache))
+    (λ n. GoesToAlong g.trace Forward c.args.dfa.now c.args.input.now 0 n first (known_of c.read_peeked.new.cache))
     more
     (goes_on c.requires.1.0.trace c.loop-run.cache c.loop-run.invariant.at c.byte_at-byte.ensures inside
     c.byte_offset-offset.ensures.unit c.loop-run.invariant.progress c.in-Ok.ensures.read)) in
     let far = c.follow_with_leaps-far.ensures.runs (c.loop-run.run.at + 1) c.run_to_match-near.ensures.runs in
     record {
-      of = subst (λ (v : CacheView). IsCacheOf v c.args.dfa.now) (sym same) c.in-Ok.ensures.of;
+      sound = sound;
       within = omega (arith, far.run.within, c.last_place-last.ensures.place);
       upto = c.follow_with_leaps-far.ensures.upto;
       at = far.at;
       read = c.follow_with_leaps-far.ensures.read;
       progress =
-          goes_known Forward c.args.dfa.now c.args.input.now 0 first c.see_machine.ensures.machine units
-          (c.loop-run.run.at + 1) c.follow_with_leaps-far.result.0.at c.follow_with_leaps-far.new.cache sound behind
+          goes_known Forward c.args.dfa.now c.args.input.now 0 first c.requires.0.machine units
+          (c.loop-run.run.at + 1) c.follow_with_leaps-far.result.0.at c.follow_with_leaps-far.new.cache sound.store
+          behind
           far.run.more far.at.clean
           far.run.known;
     }
@@ -182,8 +184,8 @@ returns-then-is_dead-clause-ran g c =
     c.byte_offset-offset.ensures.unit c.loop-run.invariant.progress c.in-Ok.ensures.read in
     over_dead c.requires.1.0.trace c.loop-run.cache c.loop-run.invariant.at c.byte_at-byte.ensures inside
     c.byte_offset-offset.ensures.unit c.loop-run.invariant.progress c.in-Ok.ensures.read c.end_search.ensures.value
-    ((dead_tagged c.read_met.new.cache.store.table c.in-Ok.next (c.see_bounds.ensures.sound.low c.in-Ok.next)
-    c.see_bounds.ensures.bounds.small _ leads).0 (c.if-is_dead.ensures.0 refl))
+    ((dead_tagged c.read_peeked.new.cache.store.table c.in-Ok.next (c.in-Ok.ensures.sound.table.low c.in-Ok.next)
+    c.in-Ok.ensures.sound.store.small _ leads).0 (c.if-is_dead.ensures.0 refl))
 
 pub returns-then-is_some-clause-ran : goal.returns-then-is_some-clause-ran
 returns-then-is_some-clause-ran g c =
@@ -217,6 +219,9 @@ returns-clause-ran g c =
         clean = at.clean;
         nothing = λ early.
             half_of_none Forward c.args.input.now (g.trace.reported k) (sym at.reported ∙ at.nothing early);
+        alive =
+            Names-alive c.loop-run.cache.store.table c.loop-run.run.id (g.trace.state k)
+            c.loop-run.invariant.sound.table.rows at.named;
         run =
             ap (option_map (ended (given_up_offset Forward c.args.input.now k))) (goes_all gone)
             ∙ ap Some (sym (ended_here Forward c.args.input.now k c.span_offset-2.result c.loop-run.cache
@@ -231,3 +236,15 @@ returns-clause-ran g c =
           c.loop-run.run.found)
           (sym c.end_search-2.ensures.table) at;
     }
+
+pub returns-then-is_dead-clause-sound : goal.returns-then-is_dead-clause-sound
+returns-then-is_dead-clause-sound g c =
+    sound_still c.end_search.ensures.value (sound_searched _ c.in-Ok.ensures.sound)
+
+pub returns-then-is_some-clause-sound : goal.returns-then-is_some-clause-sound
+returns-then-is_some-clause-sound g c =
+    sound_still c.end_search-then-is_some.ensures.value (sound_searched _ c.in-Ok.ensures.sound)
+
+pub returns-clause-sound : goal.returns-clause-sound
+returns-clause-sound g c =
+    sound_still c.end_search-2.ensures.value (sound_searched _ c.loop-run.invariant.sound)

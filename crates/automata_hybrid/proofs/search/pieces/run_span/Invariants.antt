@@ -1,7 +1,8 @@
 use Rattle.std.proofs.Common.{◌<◌, ◌≤◌, ◌-◌}
-use Rattle.automata_hybrid.proofs.Words.{begun, Forward, given_up_offset, IsAtAlong, IsCacheOf, known_of}
+use Rattle.automata_hybrid.proofs.Words.{begun, Forward, given_up_offset, IsAtAlong, known_of}
 use Rattle.automata_hybrid.specs.Private.Searches.PassState.{IsNextCell}
 use Rattle.automata_hybrid.proofs.Searches.Goes.{GoesToAlong}
+use Rattle.automata_hybrid.specs.Private.Cache.Sound.{IsSoundCacheOf}
 use Rattle.automata_hybrid.proofs.search.pieces.run_span.Given as goal
 
 abbrev pub ghost-next_known : goal.ghost-next_known
@@ -15,7 +16,7 @@ ghost-follow_with_leaps g a = g.trace
 
 abbrev pub invariant-loop-run : goal.invariant-loop-run
 invariant-loop-run g l = record {
-  of : IsCacheOf l.cache l.dfa;
+  sound : IsSoundCacheOf l.cache l.dfa;
   within : l.run.at ≤ l.last;
   upto : l.end ≤ l.input.end - l.input.start;
   at : IsAtAlong g.trace Forward l.dfa l.cache.store.table l.input l.run.at l.run.id l.run.found;

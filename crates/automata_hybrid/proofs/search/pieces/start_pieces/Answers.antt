@@ -11,15 +11,17 @@ pub returns-then-is_dead-clause-begun : goal.returns-then-is_dead-clause-begun
 returns-then-is_dead-clause-begun c =
     begun_dead c.args.dfa.now c.args.config.now.anchored c.args.config.now.look_behind c.args.earliest c.args.cache.now
     c.start_state.new.cache
-    c.in-Ok.id (c.skips.ensures.no c.if-skips.false) c.in-Ok.ensures.answer (c.see_bounds.ensures.sound.low c.in-Ok.id)
-    c.see_bounds.ensures.bounds.small
+    c.in-Ok.id (c.skips.ensures.no c.if-skips.false) c.in-Ok.ensures.answer
+    (c.reveal_invariant_of.ensures.table.low c.in-Ok.id)
+    c.reveal_invariant_of.ensures.store.small
     (c.if-is_dead.ensures.0 refl)
 
 pub invariant_of-result-in-Ok-handle : goal.invariant_of-result-in-Ok-handle
 invariant_of-result-in-Ok-handle c =
     let named = start_named c.args.dfa.now c.args.config.now.anchored c.args.config.now.look_behind c.args.cache.now
     c.start_state.new.cache
-    c.in-Ok.id c.in-Ok.ensures.answer (c.see_bounds.ensures.sound.low c.in-Ok.id) c.see_bounds.ensures.bounds.small
+    c.in-Ok.id c.in-Ok.ensures.answer (c.reveal_invariant_of.ensures.table.low c.in-Ok.id)
+    c.reveal_invariant_of.ensures.store.small
     (λ b. false_true (c.if-is_dead.ensures.1 b)) in
     let handle = c.in-Ok-handle.ensures _ named in
     (refl, subst (λ q. c.in-Ok-handle.handle.key ≡ q) (sym handle.0) handle.1)
@@ -28,7 +30,8 @@ pub returns-in-Ok-handle-clause-pieces : goal.returns-in-Ok-handle-clause-pieces
 returns-in-Ok-handle-clause-pieces c q e =
     let named = start_named c.args.dfa.now c.args.config.now.anchored c.args.config.now.look_behind c.args.cache.now
     c.start_state.new.cache
-    c.in-Ok.id c.in-Ok.ensures.answer (c.see_bounds.ensures.sound.low c.in-Ok.id) c.see_bounds.ensures.bounds.small
+    c.in-Ok.id c.in-Ok.ensures.answer (c.reveal_invariant_of.ensures.table.low c.in-Ok.id)
+    c.reveal_invariant_of.ensures.store.small
     (λ b. false_true (c.if-is_dead.ensures.1 b)) in
     subst (λ (m : Machine). IsRowState m q) c.start_state.ensures.of
     (subst (IsRowState c.start_state.new.cache.store.table.of)
@@ -39,8 +42,9 @@ pub returns-in-Ok-handle-clause-begun : goal.returns-in-Ok-handle-clause-begun
 returns-in-Ok-handle-clause-begun c =
     begun_alive c.args.dfa.now c.args.config.now.anchored c.args.config.now.look_behind c.args.earliest
     c.args.cache.now c.start_state.new.cache
-    c.in-Ok.id (c.skips.ensures.no c.if-skips.false) c.in-Ok.ensures.answer (c.see_bounds.ensures.sound.low c.in-Ok.id)
-    c.see_bounds.ensures.bounds.small
+    c.in-Ok.id (c.skips.ensures.no c.if-skips.false) c.in-Ok.ensures.answer
+    (c.reveal_invariant_of.ensures.table.low c.in-Ok.id)
+    c.reveal_invariant_of.ensures.store.small
     c.in-Ok-handle.handle.state (λ b. false_true (c.if-is_dead.ensures.1 b)) (λ q n. (c.in-Ok-handle.ensures q n).0)
 
 pub returns-in-Err-clause-effect : goal.returns-in-Err-clause-effect
@@ -53,14 +57,16 @@ pub returns-then-is_dead-clause-walk : goal.returns-then-is_dead-clause-walk
 returns-then-is_dead-clause-walk c =
     walk_begun_dead c.args.dfa.now c.args.config.now.anchored c.args.config.now.look_behind c.args.earliest
     c.args.cache.now c.start_state.new.cache
-    c.in-Ok.id (c.skips.ensures.no c.if-skips.false) c.in-Ok.ensures.answer (c.see_bounds.ensures.sound.low c.in-Ok.id)
-    c.see_bounds.ensures.bounds.small
+    c.in-Ok.id (c.skips.ensures.no c.if-skips.false) c.in-Ok.ensures.answer
+    (c.reveal_invariant_of.ensures.table.low c.in-Ok.id)
+    c.reveal_invariant_of.ensures.store.small
     (c.if-is_dead.ensures.0 refl)
 
 pub returns-in-Ok-handle-clause-walk : goal.returns-in-Ok-handle-clause-walk
 returns-in-Ok-handle-clause-walk c =
     walk_begun_alive c.args.dfa.now c.args.config.now.anchored c.args.config.now.look_behind c.args.earliest
     c.args.cache.now c.start_state.new.cache
-    c.in-Ok.id (c.skips.ensures.no c.if-skips.false) c.in-Ok.ensures.answer (c.see_bounds.ensures.sound.low c.in-Ok.id)
-    c.see_bounds.ensures.bounds.small
+    c.in-Ok.id (c.skips.ensures.no c.if-skips.false) c.in-Ok.ensures.answer
+    (c.reveal_invariant_of.ensures.table.low c.in-Ok.id)
+    c.reveal_invariant_of.ensures.store.small
     c.in-Ok-handle.handle.state (λ b. false_true (c.if-is_dead.ensures.1 b)) (λ q n. (c.in-Ok-handle.ensures q n).0)

@@ -9,6 +9,7 @@ returns-in-Ok-true c = record {
   result = Ok true;
   told = search rules;
   returned = search rules;
+  reported = search rules;
   effect =
       subst (λ (r : Regex). IsTruthRun r c.args.input.now c.args.self.now.cache c.is_match.new.cache None)
       c.deref.ensures c.in-Ok-true.ensures.effect;
@@ -21,6 +22,7 @@ returns-in-Ok-false c = record {
   result = Ok false;
   told = search rules;
   returned = search rules;
+  reported = search rules;
   effect =
       subst (λ (r : Regex). IsTruthRun r c.args.input.now c.args.self.now.cache c.is_match.new.cache None)
       c.deref.ensures c.in-Ok-false.ensures.effect;
@@ -33,6 +35,7 @@ returns-in-Err c = record {
   result = Err c.in-Err.error;
   told = search rules;
   returned = search rules;
+  reported = tt;
   effect =
       subst (λ (r : Regex). IsTruthRun r c.args.input.now c.args.self.now.cache c.is_match.new.cache
       (Some c.in-Err.error)) c.deref.ensures c.in-Err.ensures.effect;

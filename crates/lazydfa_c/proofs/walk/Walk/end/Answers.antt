@@ -1,6 +1,7 @@
 use Rattle.std.proofs.Common.{subst, sym, Some, None}
 use Rattle.automata_hybrid.specs.Machines.Machine.{Machine}
 use Rattle.automata_hybrid.specs.Pieces.State.{IsPiecesOf}
+use Rattle.automata_hybrid.specs.Pieces.Walks.{EndsWith}
 use Rattle.automata_hybrid.specs.Known.Pieces.{IsWalkEndRun}
 use Rattle.automata_hybrid.specs.Known.Stores.{known_of}
 use Rattle.regex_automata.specs.declared.hybrid.regex.Regex.{Regex}
@@ -12,6 +13,13 @@ end_walk-requires-clause-walk c =
     let p = c.self.inside.walk in
     subst (λ (m : Machine). IsPiecesOf p m) (sym c.forward.ensures)
     (subst (λ (r : Regex). IsPiecesOf p r.forward) (sym c.deref.ensures) c.self.invariant)
+
+pub returns-in-Ok-clause-ends : goal.returns-in-Ok-clause-ends
+returns-in-Ok-clause-ends c =
+    let w = c.self.inside.walk in let ahead = c.args.ahead in let end = c.in-Ok.end in
+    subst (λ (v : WalkView). EndsWith v.machine v.walk ahead end) c.self.view_is
+    (subst (λ (r : Regex). EndsWith r.forward w ahead end) c.deref.ensures
+    (subst (λ (m : Machine). EndsWith m w ahead end) c.forward.ensures c.in-Ok.ensures.ends))
 
 pub returns-in-Ok-clause-effect : goal.returns-in-Ok-clause-effect
 returns-in-Ok-clause-effect c =

@@ -25,5 +25,5 @@ returns-clause-read c =
 pub returns-clause-refused : goal.returns-clause-refused
 returns-clause-refused c =
     refused c.add.result _ _
-    (text_fault c.args.options.now c.args.text.now c.in_ok-nfa.nfa c.in_ok-nfa.ensures.compiled)
+    (text_fault c.args.options.now c.args.text.now c.args.self.now c.in_ok-nfa.nfa c.in_ok-nfa.ensures.compiled)
     c.add.ensures.refused

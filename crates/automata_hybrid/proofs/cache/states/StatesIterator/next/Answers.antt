@@ -1,5 +1,5 @@
 use Rattle.std.proofs.Common.{rules, ◌<◌, length}
-use Rattle.automata_hybrid.proofs.Caches.States.{first_row}
+use Rattle.automata_hybrid.proofs.Storage.States.{first_row}
 use Rattle.automata_hybrid.proofs.cache.states.StatesIterator.next.Goals as goal
 
 pub split_at-requires : goal.split_at-requires

@@ -1,8 +1,8 @@
-use Rattle.std.proofs.Common.{ap, subst, sym}
+use Rattle.std.proofs.Common.{◌≡◌, ap, length, subst, sym}
 use Rattle.automata_hybrid.proofs.Words.{AllStarts, cost, Fits, Row, Rows, Stored, with_table}
 use Rattle.automata_hybrid.specs.Private.Cache.Changes.{HasGrown}
-use Rattle.automata_hybrid.proofs.Caches.Clears.{AllStarts-more}
-use Rattle.automata_hybrid.proofs.Caches.Usage.{IsCache-grown}
+use Rattle.automata_hybrid.proofs.Storage.Clears.{AllStarts-more}
+use Rattle.automata_hybrid.proofs.Storage.Usage.{IsCache-grown}
 use Rattle.automata_hybrid.proofs.cache.store.Store.add_row.Goals as goal
 
 pub invariant_of-self-2 : goal.invariant_of-self-2
@@ -20,7 +20,9 @@ invariant_of-self-2 c =
     let starts : AllStarts c.add.new.self old.starts =
     subst (λ (t : Rows). AllStarts t old.starts) (sym c.in_ok-added.ensures.added.more)
     (AllStarts-more c.self.inside.table r old.starts c.self.invariant.named) in
-    IsCache-grown old c.self.inside.settings c.add.new.self r c.self.invariant c.see_rows.ensures.template.whole starts
+    IsCache-grown old c.self.inside.settings c.add.new.self r c.self.invariant
+    (subst (λ (v : Stored). length v.table.of.template ≡ v.table.of.stride) (sym c.self.view_is)
+    c.requires.sound.template.whole) starts
     c.in_ok-added.ensures.added.more fits
 
 pub returns-clause-grown : goal.returns-clause-grown

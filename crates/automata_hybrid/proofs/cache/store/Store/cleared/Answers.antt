@@ -1,12 +1,12 @@
 use Rattle.std.proofs.Common.{◌≡◌, ◌+◌, ◌≤◌, ◌∙◌, ap, sym, subst, length, List, ℕ, rules, arith}
 use Rattle.automata_hybrid.specs.Private.Cache.Clears.{KeepsAllStarts}
 use Rattle.automata_hybrid.proofs.Words.{cleared_in_store, Stored}
-use Rattle.automata_hybrid.proofs.Caches.Usage.{Fits-few, IsCache-cleared}
+use Rattle.automata_hybrid.proofs.Storage.Usage.{Fits-few, IsCache-cleared}
 use Rattle.automata_hybrid.proofs.cache.store.Store.cleared.Goals as goal
 
 pub invariant_of-result : goal.invariant_of-result
 invariant_of-result c =
-    let e = c.in_ok-table.ensures in
+    let e = c.in_ok-table.ensures.kept in
     let n : length c.in_ok-table.starts.items ≡ length c.self.inside.starts.items =
     e.slots ∙ ap (λ (xs : List ℕ). length xs) c.as_slice.ensures.value in
     IsCache-cleared
@@ -18,12 +18,12 @@ invariant_of-result c =
           c.self.inside.searched;
     }) c.self.inside.settings c.in_ok-table.table c.in_ok-table.starts.items
     c.saturating_add.result c.cleared.result c.self.invariant e.named e.of n
-    (subst (λ k. length c.in_ok-table.table.rows ≤ k) (sym e.slots) e.few) c.see_rows.ensures.rows.whole
-    c.see_rows.ensures.costs
+    (subst (λ k. length c.in_ok-table.table.rows ≤ k) (sym e.slots) e.few) c.in_ok-table.ensures.sound.rows.whole
+    c.in_ok-table.ensures.sound.costs (omega arith)
 
 pub returns-clause-cleared : goal.returns-clause-cleared
 returns-clause-cleared c =
-    let e = c.in_ok-table.ensures in
+    let e = c.in_ok-table.ensures.kept in
     let table : c.in_ok-table.table ≡ (cleared_in_store c.args.self.now).table = search rules in
     let starts : c.in_ok-table.starts.items ≡ (cleared_in_store c.args.self.now).starts = search rules in
     let clears : c.saturating_add.result ≡ (cleared_in_store c.args.self.now).clears = search rules in
@@ -42,7 +42,7 @@ returns-clause-cleared c =
 
 pub returns-clause-room : goal.returns-clause-room
 returns-clause-room c =
-    let e = c.in_ok-table.ensures in
+    let e = c.in_ok-table.ensures.kept in
     Fits-few
     (record {
       table = c.in_ok-table.table;
@@ -52,4 +52,4 @@ returns-clause-room c =
           c.cleared.result;
     }) c.self.inside.settings (invariant_of-result c)
     (subst (λ k. length c.in_ok-table.table.rows ≤ k + 1) (sym e.slots) (omega (arith, e.few)))
-    c.see_rows.ensures.rows.whole c.see_rows.ensures.costs
+    c.in_ok-table.ensures.sound.rows.whole c.in_ok-table.ensures.sound.costs

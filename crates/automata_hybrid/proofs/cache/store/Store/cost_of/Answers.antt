@@ -1,6 +1,6 @@
 use Rattle.std.proofs.Common.{◌<◌, ◌^◌, arith, subst}
 use Rattle.automata_hybrid.proofs.Words.{Stored}
-use Rattle.automata_hybrid.proofs.Caches.Usage.{IsCache-most}
+use Rattle.automata_hybrid.proofs.Storage.Usage.{IsCache-most}
 use Rattle.automata_hybrid.proofs.cache.store.Store.cost_of.Goals as goal
 
 pub cost-requires : goal.cost-requires

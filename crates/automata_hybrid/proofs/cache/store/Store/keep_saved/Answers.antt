@@ -1,22 +1,22 @@
 use Rattle.std.proofs.Common.{◌≡◌, ◌∙◌, ◌+◌, ◌≤◌, length, arith, rules, ap, subst, sym}
 use Rattle.std.proofs.lemmas.Grind.{common_steps}
 use Rattle.automata_hybrid.proofs.Words.{AllStarts, IsCache, Rows, Stored, with_table}
-use Rattle.automata_hybrid.proofs.Caches.Usage.{Fits-few, IsCache-few}
-use Rattle.automata_hybrid.proofs.Caches.Clears.{AllStarts-put, IsPut-length, IsPut-of}
+use Rattle.automata_hybrid.proofs.Storage.Usage.{Fits-few, IsCache-few}
+use Rattle.automata_hybrid.proofs.Storage.Clears.{AllStarts-put, IsPut-length, IsPut-of}
 use Rattle.automata_hybrid.proofs.cache.store.Store.keep_saved.Goals as goal
 
-kept_of : (c : goal.After-see_rows-2) → c.keep_row.new.kept.of ≡ c.self.inside.table.of
+kept_of : (c : goal.In_ok-kept) → c.keep_row.new.kept.of ≡ c.self.inside.table.of
 kept_of c =
     IsPut-of c.args.old.now c.self.inside.table c.keep_row.new.kept c.args.id c.in_ok-kept.kept c.in_ok-kept.ensures.row
 
-kept_few : (c : goal.After-see_rows-2) → length c.keep_row.new.kept.rows ≤ length c.self.inside.starts.items + 1
+kept_few : (c : goal.In_ok-kept) → length c.keep_row.new.kept.rows ≤ length c.self.inside.starts.items + 1
 kept_few c =
     let more =
     IsPut-length c.args.old.now c.self.inside.table c.keep_row.new.kept c.args.id c.in_ok-kept.kept
     c.in_ok-kept.ensures.row in
     grind (arith, common_steps, more, c.requires.few, c.self.view_is)
 
-before : (c : goal.After-see_rows-2) → Stored
+before : (c : goal.In_ok-kept) → Stored
 before c =
     record {
       table = c.self.inside.table;
@@ -25,7 +25,7 @@ before c =
       searched = c.self.inside.searched;
     }
 
-kept : (c : goal.After-see_rows-2) → IsCache (with_table (before c) c.keep_row.new.kept) c.self.inside.settings
+kept : (c : goal.In_ok-kept) → IsCache (with_table (before c) c.keep_row.new.kept) c.self.inside.settings
 unfolding before
 kept c =
     let n = c.in_ok-kept.ensures in
@@ -33,7 +33,7 @@ kept c =
     subst (λ (t : Rows). AllStarts t c.self.inside.starts.items) (sym n.row.put_there)
     (AllStarts-put c.self.inside.table n.row.row c.self.inside.starts.items c.self.invariant.named) in
     IsCache-few (before c) c.self.inside.settings c.keep_row.new.kept c.self.invariant named (kept_of c) (kept_few c)
-    c.see_rows-2.ensures.rows.whole c.see_rows-2.ensures.costs
+    c.in_ok-kept.ensures.sound.rows.whole c.in_ok-kept.ensures.sound.costs
 
 pub invariant_of-self-2 : goal.invariant_of-self-2
 unfolding before
@@ -50,6 +50,6 @@ returns-clause-saved c =
       named = search rules;
       room =
           Fits-few (with_table (before c) c.keep_row.new.kept) c.self.inside.settings (kept c) (kept_few c)
-          c.see_rows-2.ensures.rows.whole c.see_rows-2.ensures.costs;
+          c.in_ok-kept.ensures.sound.rows.whole c.in_ok-kept.ensures.sound.costs;
       absent = search rules;
     }

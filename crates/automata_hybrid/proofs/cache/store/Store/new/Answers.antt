@@ -2,7 +2,7 @@ use Rattle.std.proofs.Common.{◌≡◌, ◌+◌, ◌*◌, replicate, ◌^◌, �
 use Rattle.std.proofs.lemmas.Grind.{common_steps}
 use Rattle.automata_hybrid.proofs.Words.{IsCache, Machine, minimum_capacity, Settings}
 use Rattle.automata_hybrid.specs.Cache.Stores.{fresh_store}
-use Rattle.automata_hybrid.proofs.Caches.Usage.{IsCache-fresh}
+use Rattle.automata_hybrid.proofs.Storage.Usage.{IsCache-fresh}
 use Rattle.automata_hybrid.proofs.cache.store.Store.new.Goals as goal
 
 pub invariant_of-result : goal.invariant_of-result
@@ -19,4 +19,4 @@ invariant_of-result c =
     let offsets : (m.slots + 4) * m.stride < 2 ^ 27 = rw (← c.requires.stride, ← c.requires.slots) c.requires.offsets in
     let fresh : IsCache (fresh_store m) c.args.settings =
     IsCache-fresh m c.args.settings c.requires.settings enough offsets bounded in
-    rw (starts, c.in_ok-table.ensures, c.requires.slots) fresh
+    rw (starts, c.in_ok-table.ensures.empty, c.requires.slots) fresh

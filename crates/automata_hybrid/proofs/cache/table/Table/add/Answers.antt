@@ -2,8 +2,9 @@ use Rattle.std.proofs.Common.{◌≡◌, [], ◌∷◌, ◌++◌, ◌^◌, ◌<�
 use Rattle.std.specs.HashMap.{get}
 use Rattle.std.proofs.lemmas.Grind.{common_steps}
 use Rattle.automata_hybrid.proofs.Words.{cost, id_of, IsStateOf, Names, Powerset, powerset_eq, Row, row_id, Rows}
-use Rattle.automata_hybrid.proofs.Caches.Rows.{IsHeld-with_row, IsHeld-map, Names-new, Names-more}
+use Rattle.automata_hybrid.proofs.Storage.Rows.{IsHeld-with_row, IsHeld-map, Names-new, Names-more}
 use Rattle.automata_hybrid.specs.Private.Cache.Table.{HasNewRow}
+use Rattle.automata_hybrid.proofs.Storage.SoundTables.{sound_table}
 use Rattle.automata_hybrid.proofs.cache.table.Table.add.Goals as goal
 
 pub invariant_of-self-in_err-reserve-3 : goal.invariant_of-self-in_err-reserve-3
@@ -66,3 +67,6 @@ returns-clause-added c =
       named = named;
       kept = λ n p there. rw rows (Names-more old r n p there);
     })
+
+pub returns-clause-sound : goal.returns-clause-sound
+returns-clause-sound c = sound_table _ (invariant_of-self-2 c).rows (invariant_of-self-2 c).cells

@@ -2,7 +2,7 @@ use Rattle.std.proofs.Common.{◌≡◌, ◌∙◌, ℕ, List, sym, ap, ◌+◌,
 use Rattle.std.proofs.lemmas.Grind.{common_steps, get_or_default_zero}
 use Rattle.std.proofs.lemmas.List.{get_or-drop, get_or-take}
 use Rattle.automata_hybrid.proofs.Words.{cell_at, IsCell, Names, offset_limit, Powerset, Rows, RowsFitCells}
-use Rattle.automata_hybrid.proofs.Caches.Places.{Names-Placed, Placed-cell, Placed-IsCell}
+use Rattle.automata_hybrid.proofs.Storage.Places.{Names-own, Names-Placed, Names-tagged, Placed-cell, Placed-IsCell}
 use Rattle.automata_hybrid.proofs.cache.table.Table.cell_in_row.Goals as goal
 
 -- the cell of a row lies in the table
@@ -53,3 +53,12 @@ returns-clause-named c = λ q h.
     let i : RowsFitCells t = subst RowsFitCells c.self.view_is c.self.invariant.rows in
     let p = Names-Placed t c.args.id q i h in
     subst (IsCell t q c.args.class) (sym (read c)) (Placed-IsCell t c.args.id c.args.class q i p c.requires.class)
+
+pub returns-clause-tag : goal.returns-clause-tag
+returns-clause-tag c = λ q h.
+    Names-tagged c.args.self.now c.index-column-row.result q
+    (subst RowsFitCells c.self.view_is c.self.invariant.rows) h
+
+pub returns-clause-own : goal.returns-clause-own
+returns-clause-own c = λ q h.
+    (Names-own c.args.self.now c.args.id q (subst RowsFitCells c.self.view_is c.self.invariant.rows) h).own

@@ -1,5 +1,5 @@
 use Rattle.std.proofs.Common.{subst}
-use Rattle.automata_hybrid.proofs.Caches.Places.{RowsFitCells-costs}
+use Rattle.automata_hybrid.proofs.Storage.Places.{RowsFitCells-costs}
 use Rattle.automata_hybrid.proofs.Words.{RowsFitCells}
 use Rattle.automata_hybrid.proofs.cache.table.Table.costs.Goals as goal
 

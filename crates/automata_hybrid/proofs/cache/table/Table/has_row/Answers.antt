@@ -3,7 +3,7 @@ use Rattle.std.proofs.Common.{length, vec_len, get_or, slice_get, Some}
 use Rattle.std.proofs.lemmas.Bool.{eqb-true, eq-eqb}
 use Rattle.std.proofs.lemmas.Option.{slice_get_read}
 use Rattle.automata_hybrid.proofs.Words.{IsRowId, Row, row_id, Rows, RowsFitCells}
-use Rattle.automata_hybrid.proofs.Caches.Places.{placed_valid, valid_at}
+use Rattle.automata_hybrid.proofs.Storage.Places.{placed_valid, valid_at}
 use Rattle.automata_base.proofs.Paths.Orders.{some_inj}
 use Rattle.automata_hybrid.proofs.cache.table.Table.has_row.Goals as goal
 use Rattle.automata_hybrid.proofs.cache.table.Table.has_row.Goals.{then-index-lt3-via-then-index-lt3}

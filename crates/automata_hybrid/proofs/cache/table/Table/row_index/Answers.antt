@@ -1,5 +1,5 @@
 use Rattle.std.proofs.Common.{◌≡◌, ◌∙◌, ap, ◌+◌, ◌/◌, ◌%◌, ◌^◌, ◌<◌, arith, subst, refl, sym}
-use Rattle.automata_hybrid.proofs.Caches.Places.{Names-Placed, Placed-place, Placed-HasState}
+use Rattle.automata_hybrid.proofs.Storage.Places.{Names-Placed, Placed-place, Placed-HasState}
 use Rattle.automata_hybrid.proofs.Words.{Rows, RowsFitCells}
 use Rattle.automata_hybrid.proofs.cache.table.Table.row_index.Goals as goal
 

@@ -1,7 +1,8 @@
 use Rattle.std.proofs.Common.{◌≡◌, ap, ℕ, ◌+◌, ◌%◌, ◌^◌, ◌<◌, length, set, arith, subst, refl}
 use Rattle.std.proofs.lemmas.Grind.{common_steps}
-use Rattle.automata_hybrid.proofs.Caches.Places.{RowsFitCells-with_cell, Names-Placed, Placed-cell}
+use Rattle.automata_hybrid.proofs.Storage.Places.{RowsFitCells-with_cell, Names-Placed, Placed-cell}
 use Rattle.automata_hybrid.proofs.Words.{cell_at, Rows, RowsFitCells, with_cell}
+use Rattle.automata_hybrid.proofs.Storage.SoundTables.{sound_table}
 use Rattle.automata_hybrid.proofs.cache.table.Table.set_cell.Goals as goal
 
 pub index_mut-requires : goal.index_mut-requires
@@ -37,3 +38,6 @@ invariant_of-self c =
       mapped = c.self.invariant.mapped;
       costs_of = c.self.invariant.costs_of;
     }
+
+pub returns-clause-sound : goal.returns-clause-sound
+returns-clause-sound c = sound_table _ (invariant_of-self c).rows c.self.invariant.cells

@@ -4,7 +4,7 @@ use Rattle.std.specs.Map.{lookup}
 use Rattle.std.proofs.lemmas.Map.Entries.{entries_from_clone}
 use Rattle.automata_hybrid.proofs.Words.{powerset_eq, Rows}
 use Rattle.automata_hybrid.specs.Private.Cache.Table.{IsHeld}
-use Rattle.automata_hybrid.proofs.Caches.Rows.{IsHeld-map}
+use Rattle.automata_hybrid.proofs.Storage.Rows.{IsHeld-map}
 use Rattle.automata_hybrid.proofs.cache.table.TableClone.clone.Goals as goal
 
 -- the rows and the cells are the same

@@ -11,7 +11,7 @@ returns-then-not-has_only-clause-to g c =
       followed =
           followed_none c.args.way c.args.dfa.now c.args.cache.now.store c.args.input.now c.args.tag c.args.start
           c.args.from c.requires.1.0.on.named;
-      met = c.next_known.ensures.met;
+      peeked = c.next_known.ensures.peeked;
     }
 
 pub returns-then-not-has_only-clause-only : goal.returns-then-not-has_only-clause-only
@@ -32,7 +32,7 @@ returns-then-end-lt8-clause-to g c =
     record {
       within = c.follow_rest.ensures.within;
       followed = c.follow_rest.ensures.run.followed;
-      met = c.follow_rest.ensures.met;
+      peeked = c.follow_rest.ensures.peeked;
     }
 
 pub returns-then-end-lt8-clause-only : goal.returns-then-end-lt8-clause-only
@@ -95,7 +95,7 @@ returns-then-eight-at-clause-to g c =
           omega
           (arith, c.eights-test.true, c.if-end-lt8.false, c.follow_eight-eight.ensures.upto, c.requires.1.0.upto);
       followed = (run_on c.eights.invariant.run c.follow_eight-eight.ensures.run).followed;
-      met = c.follow_eight-eight.ensures.met;
+      peeked = c.follow_eight-eight.ensures.peeked;
     }
 
 pub returns-then-eight-at-clause-read : goal.returns-then-eight-at-clause-read
@@ -124,7 +124,7 @@ returns-clause-to g c =
     record {
       within = c.follow_rest-2.ensures.within;
       followed = (run_on c.eights.invariant.run c.follow_rest-2.ensures.run).followed;
-      met = c.follow_rest-2.ensures.met;
+      peeked = c.follow_rest-2.ensures.peeked;
     }
 
 pub returns-clause-only : goal.returns-clause-only

@@ -1,8 +1,8 @@
 use Rattle.std.proofs.Common.{◌∙◌, ◌<◌, ◌≡◌, Some, ap, subst, sym, arith}
 use Rattle.automata_hybrid.proofs.Words.{cell_at, cell_of, class_in, IsCell, IsRowId, Machine, Names, Powerset, Rows}
 use Rattle.automata_hybrid.proofs.Words.{slice_index}
-use Rattle.automata_hybrid.specs.Private.Searches.PassState.{IsMetAlong}
-use Rattle.automata_hybrid.proofs.Fast.Runs.{met_at, next_cell}
+use Rattle.automata_hybrid.specs.Private.Searches.PassState.{IsPeekedAlong}
+use Rattle.automata_hybrid.proofs.Fast.Runs.{peeked_at, next_cell}
 use Rattle.automata_hybrid.proofs.Steps.Steps.{cell_leads, cell_quits}
 use Rattle.automata_hybrid.proofs.search.fast.follow.follow_byte.Goals as goal
 use Rattle.automata_hybrid.proofs.search.fast.follow.follow_byte.Given.{Over}
@@ -15,7 +15,7 @@ cell_in_row-requires-clause-row g c =
 pub cell_in_row-requires-clause-class : goal.cell_in_row-requires-clause-class
 cell_in_row-requires-clause-class g c =
     subst (λ (t : Rows). c.class_of-class.result < t.of.stride) (sym c.table.ensures)
-    (subst (λ (d : Machine). c.class_of-class.result < d.stride) (sym c.requires.0) c.class_of-class.ensures.below)
+    (subst (λ (d : Machine). c.class_of-class.result < d.stride) (sym c.requires.0.of) c.class_of-class.ensures.below)
 
 pub cell_in_row-requires-clause-offset : goal.cell_in_row-requires-clause-offset
 cell_in_row-requires-clause-offset g c =
@@ -28,11 +28,11 @@ cell_in_row-requires-clause-offset g c =
       c.requires.1.0.only.below,
     )
 
-met :
+peeked :
     (g : Over) (c : After-cell_in_row g)
-    → IsMetAlong g.trace c.args.way c.args.dfa.now c.args.cache.now.store c.args.input.now c.args.place c.args.id
+    → IsPeekedAlong g.trace c.args.way c.args.dfa.now c.args.cache.now.store c.args.input.now c.args.place c.args.id
     c.cell_in_row.result
-met g c =
+peeked g c =
     let m : Machine = c.args.dfa.now in
     let value : c.cell_in_row.result ≡ cell_of c.args.cache.now.store c.args.id c.class_of-class.result =
     c.cell_in_row.ensures.value
@@ -41,18 +41,18 @@ met g c =
     → IsCell c.args.cache.now.store.table q c.class_of-class.result c.cell_in_row.result =
     subst (λ (t : Rows). (q : Powerset) → Names t c.args.id q → IsCell t q c.class_of-class.result c.cell_in_row.result)
     c.table.ensures c.cell_in_row.ensures.named in
-    met_at c.args.way m c.args.cache.now.store c.args.input.now c.args.place c.args.id c.cell_in_row.result
+    peeked_at c.args.way m c.args.cache.now.store c.args.input.now c.args.place c.args.id c.cell_in_row.result
     c.byte_at.result
     c.requires.1.1.1 c.byte_at.ensures
     (value ∙ ap (cell_of c.args.cache.now.store c.args.id) c.class_of-class.ensures.value)
-    (subst (λ (d : Machine). class_in m.classes c.byte_at.result < d.stride) (sym c.requires.0)
+    (subst (λ (d : Machine). class_in m.classes c.byte_at.result < d.stride) (sym c.requires.0.of)
     (subst (λ n. n < m.stride) c.class_of-class.ensures.value c.class_of-class.ensures.below))
     (cell_quits m c.args.id (Some c.byte_at.result) c.args.cache.now c.class_of-class.result c.cell_in_row.result
-    c.requires.0 (_, c.requires.1.0.on.named)
+    c.requires.0.of (_, c.requires.1.0.on.named)
     c.class_of-class.ensures.value c.class_of-class.ensures.small c.class_of-class.ensures.quit
     c.class_of-class.ensures.free value cell)
     (cell_leads m c.args.id (Some c.byte_at.result) c.args.cache.now c.class_of-class.result c.cell_in_row.result
-    c.requires.0 (_, c.requires.1.0.on.named)
+    c.requires.0.of (_, c.requires.1.0.on.named)
     c.class_of-class.ensures.value c.class_of-class.ensures.small c.class_of-class.ensures.quit
     c.class_of-class.ensures.free value cell
     (omega arith))
@@ -69,7 +69,7 @@ returns-clause-read g c =
 
 pub returns-clause-run : goal.returns-clause-run
 returns-clause-run g c =
-    λ only. (met g c (omega (arith, only.below, c.requires.1.0.kind.upto))).run c.args.tag c.requires.1.0.kind only
+    λ only. (peeked g c (omega (arith, only.below, c.requires.1.0.kind.upto))).run c.args.tag c.requires.1.0.kind only
 
-pub returns-clause-met : goal.returns-clause-met
-returns-clause-met g c = met g c
+pub returns-clause-peeked : goal.returns-clause-peeked
+returns-clause-peeked g c = peeked g c

@@ -1,12 +1,12 @@
 use Rattle.std.proofs.Common.{◌^◌, arith}
 use Rattle.automata_hybrid.proofs.Fast.Runs.{followed_on, match_tag}
-use Rattle.automata_hybrid.proofs.Caches.Places.{match_tagged}
+use Rattle.automata_hybrid.proofs.Storage.Places.{match_tagged}
 use Rattle.automata_hybrid.proofs.search.fast.follow.follow_matches.Goals as goal
 
 pub follow-requires : goal.follow-requires
 follow-requires g c =
     let only = c.requires.1.1.0.only in
-    let one = c.requires.1.1.0.met (omega (arith, only.below)) in (
+    let one = c.requires.1.1.0.peeked (omega (arith, only.below)) in (
       c.requires.0,
       (
         record {
@@ -22,7 +22,7 @@ follow-requires g c =
 pub returns-clause-run : goal.returns-clause-run
 returns-clause-run g c =
     let only = c.requires.1.1.0.only in
-    let one = (c.requires.1.1.0.met (omega (arith, only.below))).run (2 ^ 27) match_tag only in
+    let one = (c.requires.1.1.0.peeked (omega (arith, only.below))).run (2 ^ 27) match_tag only in
     record {
       further = omega (arith, c.follow.ensures.to.followed.more);
       within = c.follow.ensures.to.within;
@@ -30,5 +30,5 @@ returns-clause-run g c =
       reports = match_tagged c.follow.result.id (c.follow.ensures.only only);
     }
 
-pub returns-clause-met : goal.returns-clause-met
-returns-clause-met g c = c.follow.ensures.to.met
+pub returns-clause-peeked : goal.returns-clause-peeked
+returns-clause-peeked g c = c.follow.ensures.to.peeked

@@ -14,7 +14,7 @@ follow_far-far-requires g c =
     c.haystack.ensures.same
     c.get_span.ensures.start c.get_span.ensures.end c.get_anchored.ensures c.get_earliest.ensures in (
       record {
-        of = c.requires.0;
+        sound = c.requires.0;
         allowed = subst (λ (i : Input). IsAllowed i) (sym same)
             c.get_span.ensures.valid.within;
       },

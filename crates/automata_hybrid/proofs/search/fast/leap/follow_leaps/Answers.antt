@@ -20,8 +20,8 @@ leap_from-far-requires-clause-valid g c = (_, c.turns.invariant.run.followed.nam
 pub follow-few-requires : goal.follow-few-requires
 follow-few-requires g c =
     let far =
-    run_over {c = c.args.cache.now.store} c.bytes_from.result.now c.see_machine.ensures.machine
-    c.see_machine.ensures.rising c.requires.0 c.see_bounds.ensures.bounds.rows
+    run_over {c = c.args.cache.now.store} c.bytes_from.result.now c.requires.0.machine
+    c.requires.0.rising c.requires.0.of c.requires.0.store.rows
     c.leap_from-far.ensures.bytes c.bytes_from.ensures.units
     (run_at no_tag c.requires.1.1.0.on.trace c.turns.invariant.run) c.leap_from-far.ensures.leads in (
       c.requires.0,
@@ -46,8 +46,8 @@ follow-few-requires g c =
 pub turns-preserved : goal.turns-preserved
 turns-preserved g c =
     let far =
-    run_over {c = c.args.cache.now.store} c.bytes_from.result.now c.see_machine.ensures.machine
-    c.see_machine.ensures.rising c.requires.0 c.see_bounds.ensures.bounds.rows
+    run_over {c = c.args.cache.now.store} c.bytes_from.result.now c.requires.0.machine
+    c.requires.0.rising c.requires.0.of c.requires.0.store.rows
     c.leap_from-far.ensures.bytes c.bytes_from.ensures.units
     (run_at no_tag c.requires.1.1.0.on.trace c.turns.invariant.run) c.leap_from-far.ensures.leads in
     record {
@@ -62,15 +62,15 @@ turns-preserved g c =
 pub returns-then-few-end-clause-run : goal.returns-then-few-end-clause-run
 returns-then-few-end-clause-run g c =
     let far =
-    run_over {c = c.args.cache.now.store} c.bytes_from.result.now c.see_machine.ensures.machine
-    c.see_machine.ensures.rising c.requires.0 c.see_bounds.ensures.bounds.rows
+    run_over {c = c.args.cache.now.store} c.bytes_from.result.now c.requires.0.machine
+    c.requires.0.rising c.requires.0.of c.requires.0.store.rows
     c.leap_from-far.ensures.bytes c.bytes_from.ensures.units
     (run_at no_tag c.requires.1.1.0.on.trace c.turns.invariant.run) c.leap_from-far.ensures.leads in
     run_on (run_on c.turns.invariant.run far)
     (record { followed = c.follow-few.ensures.to.followed; only = c.follow-few.ensures.only far.only })
 
-pub returns-then-few-end-clause-met : goal.returns-then-few-end-clause-met
-returns-then-few-end-clause-met g c = c.follow-few.ensures.to.met
+pub returns-then-few-end-clause-peeked : goal.returns-then-few-end-clause-peeked
+returns-then-few-end-clause-peeked g c = c.follow-few.ensures.to.peeked
 
 pub returns-clause-run : goal.returns-clause-run
 returns-clause-run g c = c.turns.invariant.run

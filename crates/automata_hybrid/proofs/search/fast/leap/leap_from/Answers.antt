@@ -7,7 +7,7 @@ pub returns-then-index-leaps-clause-leads : goal.returns-then-index-leaps-clause
 returns-then-index-leaps-clause-leads c =
     let begins : c.args.id ≡ (c.row_index-index.result + 3) * c.args.cache.now.store.table.of.stride =
     row_of_id c.args.cache.now.store.table c.args.id c.row_index-index.result c.requires.valid.0
-    c.see_bounds.ensures.bounds.rows
+    c.requires.sound.store.rows
     c.requires.valid.1 c.requires.untagged (c.row_index-index.ensures.row c.requires.valid.0 c.requires.valid.1) in
     record {
       row = c.row_index-index.result;
@@ -38,7 +38,7 @@ returns-clause-leads c =
     let here = row_of_place c.requires.leaps c.leap-leapt.ensures in
     let begins : c.args.id ≡ (c.row_index-index.result + 3) * c.args.cache.now.store.table.of.stride =
     row_of_id c.args.cache.now.store.table c.args.id c.row_index-index.result c.requires.valid.0
-    c.see_bounds.ensures.bounds.rows
+    c.requires.sound.store.rows
     c.requires.valid.1 c.requires.untagged (c.row_index-index.ensures.row c.requires.valid.0 c.requires.valid.1) in
     record {
       row = c.row_index-index.result;

@@ -32,5 +32,5 @@ returns-clause-far g c =
       followed =
           followed_none c.args.way c.args.dfa.now c.args.cache.now.store c.args.input.now 0 c.args.start c.args.from
           c.requires.1.0.named;
-      met = c.next_known.ensures.met;
+      peeked = c.next_known.ensures.peeked;
     }

@@ -24,6 +24,6 @@ pub returns : goal.returns
 returns c = λ _.
     loops_among c.args.dfa.now c.args.cache.now.store c.args.id c.args.from c.args.to c.class_of-first.result
     c.class_of-last.result
-    c.see_machine.ensures.machine c.see_machine.ensures.rising c.requires.of c.requires.valid c.requires.plain
+    c.requires.sound.machine c.requires.sound.rising c.requires.sound.of c.requires.valid c.requires.plain
     c.if-from-to.false c.requires.within c.class_of-first.ensures.value c.class_of-last.ensures.value
     (λ k l below. c.loop-class.invariant k l (omega (arith, below, c.loop-class-test.false)))

@@ -36,14 +36,14 @@ mixed-preserved g c =
     let within : c.mixed.at + 1 < c.args.input.now.end - c.args.input.now.start =
     omega (arith, c.mixed-test.true, c.min-end.ensures, c.last_place-last.ensures.place, c.requires.1.1.1.0) in
     let trace = c.requires.1.0 in
-    let met = c.next_known-next.ensures.met in
+    let peeked = c.next_known-next.ensures.peeked in
     let here = c.mixed.invariant.here in
     elim c.if-has_only.branch [
       | then-has_only w ↦
           rw w.reported-is (rw w.reported_at-is (record {
             mark = omega (arith, inside);
             here =
-                run_on_match trace inside met here
+                run_on_match trace inside peeked here
                 (λ e. some_is c.args.from.found (sym c.if-is_none.ensures) (c.requires.1.1.0.nothing e))
                 (w.if-has_only.ensures.0 refl);
             within = within;
@@ -55,7 +55,7 @@ mixed-preserved g c =
           (λ high. false_true (w.if-has_only.ensures.1 (record { from = high; below = omega (arith, plain) }))) in
           rw w.reported-is (rw w.reported_at-is (record {
             mark = c.mixed.invariant.mark;
-            here = run_on_quiet trace inside met here low;
+            here = run_on_quiet trace inside peeked here low;
             within = within;
           }))
     ]
@@ -63,7 +63,7 @@ mixed-preserved g c =
 pub last_found-requires : goal.last_found-requires
 last_found-requires g c =
     record {
-      of = c.requires.0;
+      sound = c.requires.0;
       «open» = omega (arith, c.requires.1.1.1.0);
       within = c.mixed.invariant.mark;
       reports = λ low. (let r = c.mixed.invariant.here.some low in ((r.state, r.named), r.tagged));

@@ -9,7 +9,7 @@ pub first_pattern-requires : goal.first_pattern-requires
 first_pattern-requires c =
     let reports =
     c.requires.reports (lt_of_not-le (λ h. false_true (c.if-is_unknown.ensures.size.1 h))) in
-    record { of = c.requires.of; valid = reports.0; tagged = reports.1 }
+    record { sound = c.requires.sound; valid = reports.0; tagged = reports.1 }
 
 pub returns-then-is_unknown-clause-some : goal.returns-then-is_unknown-clause-some
 returns-then-is_unknown-clause-some c = λ low. absurd (omega (arith, low, c.if-is_unknown.ensures.size.0 refl))
@@ -18,5 +18,5 @@ pub returns-clause-some : goal.returns-clause-some
 returns-clause-some c = λ low q n before.
     ap (λ (h : HalfMatch). Some h) c.new.ensures
     ∙ (first_half q.patterns c.first_pattern.result c.place_offset-offset.result before
-    ((c.see_bounds.ensures.sound.tagged c.args.reported q n).0 (c.requires.reports low).1) (c.first_pattern.ensures q n)
+    ((c.requires.sound.table.tagged c.args.reported q n).0 (c.requires.reports low).1) (c.first_pattern.ensures q n)
     ∙ ap (λ at. half_at q.patterns at before) c.place_offset-offset.ensures.value)

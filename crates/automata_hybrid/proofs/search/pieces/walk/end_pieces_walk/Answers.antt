@@ -1,9 +1,10 @@
 use Rattle.std.proofs.Common.{subst, sym}
 use Rattle.automata_hybrid.proofs.Words.{known_of, Leads, match_kind_of, Powerset, result_err, Rows, successor}
-use Rattle.automata_hybrid.specs.Known.Pieces.{AsForAnswer, CannotHoldEnd, IsWalkEndRun, NotBack}
+use Rattle.automata_hybrid.specs.Known.Pieces.{AsForAnswer, CannotHoldEnd, IsWalkEndRun, EndNotRestored}
 use Rattle.automata_hybrid.proofs.Pieces.Progress.{answer_ends, answer_left, named_there}
 use Rattle.automata_hybrid.proofs.Pieces.Walks.{walk_ends, walk_ends_none}
 use Rattle.automata_hybrid.proofs.Searches.Reads.{at_err}
+use Rattle.automata_hybrid.proofs.Storage.Sound.{sound_searched, sound_still}
 use Rattle.automata_hybrid.proofs.search.pieces.walk.end_pieces_walk.Goals as goal
 
 pub returns-in_err-from-clause-effect : goal.returns-in_err-from-clause-effect
@@ -12,7 +13,7 @@ returns-in_err-from-clause-effect c =
     at_err c.from_residual.result _
     (λ r. IsWalkEndRun c.args.dfa.now c.args.look_ahead c.args.pieces.now (known_of c.args.cache.now)
     (known_of c.resume_pieces.new.cache) (result_err r))
-    c.from_residual.ensures.1 (AsForAnswer (NotBack left.state left.stood left.fails))
+    c.from_residual.ensures.1 (AsForAnswer (EndNotRestored left.state left.stood left.fails))
 
 pub returns-in_default-clause-ends : goal.returns-in_default-clause-ends
 returns-in_default-clause-ends c =
@@ -58,7 +59,20 @@ returns-in-Ok-clause-effect c =
 pub returns-in-Err-clause-effect : goal.returns-in-Err-clause-effect
 returns-in-Err-clause-effect c =
     let on = rw c.in-Some.is at c.in_ok-from.ensures.resumed in
-    CannotHoldEnd
+    CannotHoldEnd on.state on.stood
     (answer_ends on c.bytes_read-at.ensures c.search_start.ensures.value c.in_ok-next.ensures.read
     c.end_search.ensures.value)
-    c.in-Err.ensures.error
+    (c.in-Err.ensures.error.1 _
+    (subst (λ (t : Rows). Leads t c.in_ok-next.next (successor c.args.dfa.now.nfa
+    (match_kind_of c.args.dfa.now.config) on.state c.args.look_ahead)) (sym c.end_search.ensures.table)
+    (c.in_ok-next.ensures.read.answer.named on.state
+    (named_there on c.bytes_read-at.ensures c.search_start.ensures.value))))
+    c.in-Err.ensures.error.0
+
+pub read-requires-clause-sound : goal.read-requires-clause-sound
+read-requires-clause-sound c =
+    sound_still c.search_start.ensures.value (sound_searched _ c.in_ok-from.ensures.sound)
+
+pub end_at-requires-clause-sound : goal.end_at-requires-clause-sound
+end_at-requires-clause-sound c =
+    sound_still c.end_search.ensures.value (sound_searched _ c.in_ok-next.ensures.sound)

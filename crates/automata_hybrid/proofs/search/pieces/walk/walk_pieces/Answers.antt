@@ -3,16 +3,16 @@ use Rattle.std.specs.Prelude.{not}
 use Rattle.automata_hybrid.proofs.Words.{begun, known_of, result_err}
 use Rattle.automata_base.specs.declared.util.search.MatchErrorKind.TheVariants.{GaveUp}
 use Rattle.automata_config.specs.declared.error.SearchError.TheVariants as search
-use Rattle.automata_hybrid.specs.Known.Pieces.{AsSearch, IsWalkCallRun, NotHeld, NotHeldAt, NotPutBack, TooLong}
+use Rattle.automata_hybrid.specs.Known.Pieces.{AsSearch, IsWalkCallRun, NotHeld, NotHeldAt, NotRestored, TooLong}
 use Rattle.automata_hybrid.specs.Known.Pieces.{WalksThrough, WalksUpto}
 use Rattle.automata_hybrid.specs.Pieces.State.{IsPiecesOf, PiecesView}
 use Rattle.automata_hybrid.specs.Private.Pieces.State.{found_in}
 use Rattle.automata_hybrid.specs.Pieces.Walks.{IsWalked}
 use Rattle.automata_hybrid.specs.Private.Pieces.Walks.{IsPiecesWalk}
 use Rattle.automata_hybrid.specs.Searches.PieceRuns.{piece_state}
-use Rattle.automata_hybrid.proofs.Pieces.Progress.{goes_on, run_left, run_through, run_upto}
+use Rattle.automata_hybrid.proofs.Pieces.Progress.{begins_piece, run_left, run_through, run_upto}
 use Rattle.automata_hybrid.proofs.Pieces.Runs.{found_fits}
-use Rattle.automata_hybrid.proofs.Pieces.Walks.{named_upto, stands_as, walks_dead, walks_match, walks_none}
+use Rattle.automata_hybrid.proofs.Pieces.Walks.{alive_upto, named_upto, stands_as, walks_dead, walks_match, walks_none}
 use Rattle.automata_hybrid.proofs.Pieces.Walks.{walks_through}
 use Rattle.automata_hybrid.proofs.Searches.PassState.{none_is, some_is}
 use Rattle.automata_hybrid.proofs.Searches.Reads.{at_err}
@@ -24,7 +24,7 @@ returns-in_err-from-clause-effect c =
     at_err c.from_residual.result _
     (λ r. IsWalkCallRun c.args.dfa.now c.args.piece.now c.args.pieces.now c.args.pieces.now
     (known_of c.args.cache.now) (known_of c.resume_pieces.new.cache) (result_err r))
-    c.from_residual.ensures.1 (AsSearch (NotPutBack left.state left.stood left.fails))
+    c.from_residual.ensures.1 (AsSearch (NotRestored left.state left.stood left.fails))
 
 pub returns-in_default-clause-walked : goal.returns-in_default-clause-walked
 returns-in_default-clause-walked c =
@@ -46,7 +46,7 @@ returns-in_err-at-clause-effect c =
     (known_of c.args.cache.now) (known_of c.run_piece.new.cache) (result_err r))
     c.from_residual-in_err-at.ensures.1
     (AsSearch (run_left on c.args.piece.now c.run_piece.new.cache (sym c.requires.walk.early)
-    c.bytes_read-base.ensures c.in_err-at.ensures.ran))
+    c.bytes_read-base.ensures (let a = c.in-Some-checked_add.ensures in omega (arith, a)) c.in_err-at.ensures.ran))
 
 pub returns-then-is_none-clause-walked : goal.returns-then-is_none-clause-walked
 returns-then-is_none-clause-walked c =
@@ -65,7 +65,10 @@ returns-then-is_none-clause-effect c =
     let over =
     run_upto on c.args.piece.now c.run_piece.new.cache (sym c.requires.walk.early) c.in_ok-at.field-0
     c.in_ok-at.ensures.ran c.in-Over.is in
-    WalksUpto on.state _ c.in-Over.at (goes_on on 0) over.upto
+    WalksUpto on.state _ c.in-Over.at
+    (begins_piece on c.args.piece.now c.bytes_read-base.result c.bytes_read-base.ensures
+    (let a = c.in-Some-checked_add.ensures in omega (arith, a)))
+    over.upto
     (let e = c.bytes_read-base.ensures in let r = c.end.ensures.read in omega (arith, e, r))
 
 pub found_in-found-requires : goal.found_in-found-requires
@@ -96,7 +99,15 @@ returns-in_err-hold_row-in-Over-clause-effect c =
     (λ r. IsWalkCallRun c.args.dfa.now c.args.piece.now c.args.pieces.now c.hold_row.new.pieces
     (known_of c.args.cache.now) (known_of c.run_piece.new.cache) (result_err r))
     c.from_residual-in_err-hold_row-in-Over.ensures.1
-    (NotHeldAt on.state _ c.in-Over.at (goes_on on 0) over.upto c.in_err-hold_row-in-Over.ensures.fails.0)
+    (NotHeldAt on.state _ c.in-Over.at
+    (begins_piece on c.args.piece.now c.bytes_read-base.result c.bytes_read-base.ensures
+    (let a = c.in-Some-checked_add.ensures in omega (arith, a)))
+    over.upto
+    (alive_upto c.args.dfa.now on.state c.args.piece.now c.args.pieces.now c.hold_row.new.pieces on.stood
+    c.requires.walk.early c.in-Over.at c.in-Over.found (begun 0 (known_of c.resume_pieces.new.cache))
+    (known_of c.run_piece.new.cache) over.upto over.reported
+    (some_is c.in-Over.found (sym (c.is_none.ensures ∙ ap not c.if-is_none.false))))
+    c.in_err-hold_row-in-Over.ensures.fails.0)
 
 pub returns-in_err-hold_row-in-At-clause-walk : goal.returns-in_err-hold_row-in-At-clause-walk
 returns-in_err-hold_row-in-At-clause-walk c =
@@ -115,7 +126,10 @@ returns-in_err-hold_row-in-At-clause-effect c =
     (λ r. IsWalkCallRun c.args.dfa.now c.args.piece.now c.args.pieces.now c.hold_row-in-At.new.pieces
     (known_of c.args.cache.now) (known_of c.run_piece.new.cache) (result_err r))
     c.from_residual-in_err-hold_row-in-At.ensures.1
-    (AsSearch (NotHeld on.state _ (goes_on on 0) through.all c.in_err-hold_row-in-At.ensures.fails.0))
+    (AsSearch (NotHeld on.state _
+    (begins_piece on c.args.piece.now c.bytes_read-base.result c.bytes_read-base.ensures
+    (let a = c.in-Some-checked_add.ensures in omega (arith, a)))
+    through.all c.in_err-hold_row-in-At.ensures.fails.0))
 
 pub returns-in_ok-hold_row-in-Over-clause-walked : goal.returns-in_ok-hold_row-in-Over-clause-walked
 returns-in_ok-hold_row-in-Over-clause-walked c =
@@ -143,7 +157,10 @@ returns-in_ok-hold_row-in-Over-clause-effect c =
     let over =
     run_upto on c.args.piece.now c.run_piece.new.cache (sym c.requires.walk.early) c.in_ok-at.field-0
     c.in_ok-at.ensures.ran c.in-Over.is in
-    WalksUpto on.state _ c.in-Over.at (goes_on on 0) over.upto
+    WalksUpto on.state _ c.in-Over.at
+    (begins_piece on c.args.piece.now c.bytes_read-base.result c.bytes_read-base.ensures
+    (let a = c.in-Some-checked_add.ensures in omega (arith, a)))
+    over.upto
     (let e = c.bytes_read-base.ensures in let r = c.in_ok-hold_row-in-Over.ensures.stands.1.read in
     omega (arith, e, r))
 
@@ -166,6 +183,31 @@ returns-in_ok-hold_row-in-At-clause-effect c =
     let through =
     run_through on c.args.piece.now c.run_piece.new.cache (sym c.requires.walk.early) c.in_ok-at.field-0
     c.in_ok-at.ensures.ran c.in-At.is in
-    WalksThrough on.state _ (goes_on on 0) through.all
+    WalksThrough on.state _
+    (begins_piece on c.args.piece.now c.bytes_read-base.result c.bytes_read-base.ensures
+    (let a = c.in-Some-checked_add.ensures in omega (arith, a)))
+    through.all
     (let e = c.bytes_read-base.ensures in let r = c.in_ok-hold_row-in-At.ensures.stands.1.read in
     let a = c.in-Some-checked_add.ensures in omega (arith, e, r, a))
+
+pub hold_row-requires-clause-valid : goal.hold_row-requires-clause-valid
+hold_row-requires-clause-valid c =
+    let on = rw c.in-Some.is at c.in_ok-from.ensures.resumed in
+    let over =
+    run_upto on c.args.piece.now c.run_piece.new.cache (sym c.requires.walk.early) c.in_ok-at.field-0
+    c.in_ok-at.ensures.ran c.in-Over.is in
+    let some = some_is c.in-Over.found (sym (c.is_none.ensures ∙ ap not c.if-is_none.false)) in (
+      _,
+      named_upto c.args.dfa.now on.state c.args.piece.now c.args.pieces.now c.args.pieces.now on.stood
+          c.requires.walk.early c.in-Over.at c.in-Over.found (begun 0 (known_of c.resume_pieces.new.cache))
+          (known_of c.run_piece.new.cache) over.upto over.reported c.run_piece.new.cache.store.table c.in-Over.id some
+          over.leads,
+    )
+
+pub hold_row-requires-in-At-clause-valid : goal.hold_row-requires-in-At-clause-valid
+hold_row-requires-in-At-clause-valid c =
+    let on = rw c.in-Some.is at c.in_ok-from.ensures.resumed in
+    let through =
+    run_through on c.args.piece.now c.run_piece.new.cache (sym c.requires.walk.early) c.in_ok-at.field-0
+    c.in_ok-at.ensures.ran c.in-At.is in
+    (_, through.at.named)

@@ -5,7 +5,6 @@ use Rattle.automata_hybrid.specs.declared.search.walk.advance.Arrival.{Arrival}
 use Rattle.automata_hybrid.specs.Private.Searches.PassState.{IsFollowed}
 use Rattle.automata_hybrid.specs.Private.Walks.Parts.{IsAdvanceResult}
 use Rattle.automata_hybrid.specs.Walks.Answers.{IsSilent, WalkReads}
-use Rattle.automata_hybrid.proofs.Searches.Contracts.{is_store}
 use Rattle.automata_hybrid.proofs.Searches.Directions.{units_in}
 use Rattle.automata_hybrid.proofs.Searches.Goes.{GoesTo, goes_more, goes_none}
 use Rattle.automata_hybrid.proofs.Searches.PassState.{false_true}
@@ -38,17 +37,16 @@ goes :
 goes c =
     goes_followed c.args.way c.args.dfa.now c.args.input.now c.args.units (known_of c.args.cache.now)
     c.loop-read.read c.walk_with_leaps-stop.result.0.at c.walk_with_leaps-stop.result.0.id c.loop-read.cache
-    c.walk_with_leaps-stop.new.cache c.see_machine.ensures.machine
+    c.walk_with_leaps-stop.new.cache c.requires.sound.machine
     (c.last_place-last.ensures.valid.bytes, c.last_place-last.ensures.valid.within.1) c.requires.from.undone
-    c.loop-read.invariant.sound c.walk_with_leaps-stop.ensures.same c.loop-read.invariant.progress (followed c)
+    c.loop-read.invariant.sound.store c.walk_with_leaps-stop.ensures.same c.loop-read.invariant.progress (followed c)
     c.loop-read.invariant.clean
 
 pub loop-read-init : goal.loop-read-init
 loop-read-init c =
     let d : Direction = c.args.way in
     record {
-      of = c.requires.of;
-      sound = is_store c.args.cache.now.store c.args.dfa.now c.requires.of c.see_bounds.ensures.bounds;
+      sound = c.requires.sound;
       from = omega arith;
       within = omega (arith, c.requires.from.left);
       named = c.requires.from.named;
@@ -69,7 +67,7 @@ loop-read-preserved c =
     let named : Names c.read_unit.new.cache.store.table c.in_ok-next.next
     (state_in d c.args.dfa.now c.args.input.now (suc k)) =
     (dead_tagged c.read_unit.new.cache.store.table c.in_ok-next.next
-    (c.see_bounds-in-loop-read.ensures.sound.low c.in_ok-next.next) c.see_bounds-in-loop-read.ensures.bounds.small _
+    (c.in_ok-next.ensures.sound.table.low c.in_ok-next.next) c.in_ok-next.ensures.sound.store.small _
     c.in_ok-next.ensures.unit.leads).1 (λ b. false_true (c.if-is_dead.ensures.1 b)) in
     let clean : HasReadNoQuit d c.args.dfa.now c.args.input.now (suc k) =
     clean_more d c.args.dfa.now c.args.input.now k (followed_clean f c.loop-read.invariant.clean)
@@ -79,10 +77,7 @@ loop-read-preserved c =
     (⊎_elim (λ s. inl s) (λ none. inr (none (state_in d c.args.dfa.now c.args.input.now (suc k)) named))
     (c.reports.ensures.no c.if-reports.false)) in
     record {
-      of = c.in_ok-next.ensures.of;
-      sound =
-          is_store c.read_unit.new.cache.store c.args.dfa.now c.in_ok-next.ensures.of
-          c.see_bounds-in-loop-read.ensures.bounds;
+      sound = c.in_ok-next.ensures.sound;
       from = omega (arith, c.loop-read.invariant.from, f.more);
       within = omega (arith, c.walk_with_leaps-stop.ensures.far.within);
       named =
@@ -106,7 +101,7 @@ pub reports-requires-clause-valid : goal.reports-requires-clause-valid
 reports-requires-clause-valid c = (
   state_in c.args.way c.args.dfa.now c.args.input.now (suc c.walk_with_leaps-stop.result.0.at),
   (dead_tagged c.read_unit.new.cache.store.table c.in_ok-next.next
-      (c.see_bounds-in-loop-read.ensures.sound.low c.in_ok-next.next) c.see_bounds-in-loop-read.ensures.bounds.small _
+      (c.in_ok-next.ensures.sound.table.low c.in_ok-next.next) c.in_ok-next.ensures.sound.store.small _
       c.in_ok-next.ensures.unit.leads).1
       (λ b. false_true (c.if-is_dead.ensures.1 b)),
 )
@@ -134,7 +129,7 @@ returns-then-is_dead-clause-advanced c =
     units_in d c.args.input.now c.requires.from.undone c.last_place-last.ensures.valid.within.1 in
     let dies : state_in d c.args.dfa.now c.args.input.now (suc k) ≡ dead =
     (dead_tagged c.read_unit.new.cache.store.table c.in_ok-next.next
-    (c.see_bounds-in-loop-read.ensures.sound.low c.in_ok-next.next) c.see_bounds-in-loop-read.ensures.bounds.small _
+    (c.in_ok-next.ensures.sound.table.low c.in_ok-next.next) c.in_ok-next.ensures.sound.store.small _
     c.in_ok-next.ensures.unit.leads).0 (c.if-is_dead.ensures.0 refl) in
     has_advanced d c.args.dfa.now c.args.input.now c.args.units k (record { id = None; units = k + 1 })
     c.args.cache.now c.read_unit.new.cache (omega (arith, c.loop-read.invariant.from, f.more)) (omega arith)
@@ -159,7 +154,7 @@ returns-then-reports-clause-advanced c =
     let named : Names c.read_unit.new.cache.store.table c.in_ok-next.next
     (state_in d c.args.dfa.now c.args.input.now (suc k)) =
     (dead_tagged c.read_unit.new.cache.store.table c.in_ok-next.next
-    (c.see_bounds-in-loop-read.ensures.sound.low c.in_ok-next.next) c.see_bounds-in-loop-read.ensures.bounds.small _
+    (c.in_ok-next.ensures.sound.table.low c.in_ok-next.next) c.in_ok-next.ensures.sound.store.small _
     c.in_ok-next.ensures.unit.leads).1 (λ b. false_true (c.if-is_dead.ensures.1 b)) in
     let yes = c.reports.ensures.yes c.if-reports.true in
     has_advanced d c.args.dfa.now c.args.input.now c.args.units k
@@ -208,4 +203,4 @@ returns-clause-advanced c =
 pub walk_with_leaps-stop-requires-clause-near : goal.walk_with_leaps-stop-requires-clause-near
 walk_with_leaps-stop-requires-clause-near c =
     follows_none c.follow_walk-near.result c.follow_walk-near.ensures.within c.follow_walk-near.ensures.followed.named
-    c.follow_walk-near.ensures.met
+    c.follow_walk-near.ensures.peeked

@@ -1,13 +1,13 @@
 use Rattle.std.proofs.Common.{ℕ, suc, ◌≡◌, ◌<◌, ◌≤◌, ◌+◌, ◌-◌}
-use Rattle.automata_hybrid.proofs.Words.{HasReadNoQuit, IsCacheOf, IsStoreOf, known_of, Names, state_in}
+use Rattle.automata_hybrid.proofs.Words.{HasReadNoQuit, known_of, Names, state_in}
 use Rattle.automata_hybrid.specs.Walks.Answers.{IsSilent, WalkReads}
 use Rattle.automata_hybrid.proofs.Searches.Goes.{GoesTo}
+use Rattle.automata_hybrid.specs.Private.Cache.Sound.{IsSoundCacheOf}
 use Rattle.automata_hybrid.proofs.search.walk.advance.advance.Given as goal
 
 abbrev pub invariant-loop-read : goal.invariant-loop-read
 invariant-loop-read l = record {
-  of : IsCacheOf l.cache l.dfa;
-  sound : IsStoreOf l.cache.store l.dfa;
+  sound : IsSoundCacheOf l.cache l.dfa;
   from : l.units ≤ l.read;
   within : l.read ≤ l.input.end - l.input.start + 1;
   upto : l.end ≤ l.input.end - l.input.start;

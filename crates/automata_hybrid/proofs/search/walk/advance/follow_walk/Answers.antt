@@ -15,7 +15,7 @@ follow-requires c =
       trace = pass_is_trace c.args.way c.args.dfa.now c.args.input.now;
       named = c.leave_tag-first.ensures.followed.named;
     } in (
-      c.requires.of,
+      c.requires.sound,
       (
         record {
           on =
@@ -38,7 +38,7 @@ follow-requires-in-Backward c =
       trace = pass_is_trace c.args.way c.args.dfa.now c.args.input.now;
       named = c.leave_tag-first.ensures.followed.named;
     } in (
-      c.requires.of,
+      c.requires.sound,
       (
         record {
           on =
@@ -58,7 +58,7 @@ returns-then-not-has_only c =
     record {
       within = c.leave_tag-first.ensures.within;
       followed = c.leave_tag-first.ensures.followed;
-      met = c.leave_tag-first.ensures.met;
+      peeked = c.leave_tag-first.ensures.peeked;
     }
 
 pub returns-in-Forward : goal.returns-in-Forward
@@ -74,7 +74,7 @@ returns-in-Forward c =
     record {
       within = c.leave_tag-first.ensures.within;
       followed = c.leave_tag-first.ensures.followed;
-      met = c.leave_tag-first.ensures.met;
+      peeked = c.leave_tag-first.ensures.peeked;
     } in
     follows_on near
     (subst (λ (way : Direction). FollowsTo way c.args.dfa.now c.args.cache.now.store c.args.input.now 0
@@ -98,7 +98,7 @@ returns-in-Backward c =
     record {
       within = c.leave_tag-first.ensures.within;
       followed = c.leave_tag-first.ensures.followed;
-      met = c.leave_tag-first.ensures.met;
+      peeked = c.leave_tag-first.ensures.peeked;
     } in
     follows_on near
     (subst (λ (way : Direction). FollowsTo way c.args.dfa.now c.args.cache.now.store c.args.input.now 0

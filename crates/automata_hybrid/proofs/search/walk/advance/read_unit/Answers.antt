@@ -4,9 +4,9 @@ use Rattle.automata_hybrid.proofs.Searches.Directions.{units_in}
 use Rattle.automata_hybrid.proofs.Walks.Units.{read_alive, unit_result}
 use Rattle.automata_hybrid.proofs.search.walk.advance.read_unit.Goals as goal
 
-pub read-requires-clause-met : goal.read-requires-clause-met
-read-requires-clause-met c = λ low.
-    (c.requires.met low).cached
+pub read-requires-clause-peeked : goal.read-requires-clause-peeked
+read-requires-clause-peeked c = λ low.
+    (c.requires.peeked low).cached
     ∙ ap (known_step c.args.dfa.now c.args.cache.now.store c.args.id) (sym c.unit_at.ensures)
 
 pub returns-clause-unit : goal.returns-clause-unit

@@ -3,4 +3,4 @@ use Rattle.automata_hybrid.proofs.search.walk.advance.walk_with_leaps.Goals as g
 
 pub follow_any_leaps-far-requires : goal.follow_any_leaps-far-requires
 follow_any_leaps-far-requires c =
-    (c.requires.of, (c.requires.near, (pass_is_trace c.args.way c.args.dfa.now c.args.input.now, c.requires.«open»)))
+    (c.requires.sound, (c.requires.near, (pass_is_trace c.args.way c.args.dfa.now c.args.input.now, c.requires.«open»)))

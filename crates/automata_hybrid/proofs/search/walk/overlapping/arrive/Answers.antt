@@ -16,7 +16,7 @@ returns-clause-reports c =
     let state : q ≡ state_in d c.args.dfa.now c.args.input.now c.args.units =
     c.snapshot.ensures.state _ c.requires.arrives.named in
     let row : IsRowState c.args.dfa.now q =
-    subst (λ (m : Machine). IsRowState m q) c.requires.of c.snapshot.ensures.row in
+    subst (λ (m : Machine). IsRowState m q) c.requires.sound.of c.snapshot.ensures.row in
     let pattern =
     c.match_pattern.ensures (state_in d c.args.dfa.now c.args.input.now c.args.units) c.requires.arrives.named
     ∙ ap (λ (x : Powerset). get_or x.patterns 0 0) (sym state) in

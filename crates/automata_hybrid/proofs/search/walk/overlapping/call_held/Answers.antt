@@ -12,6 +12,7 @@ use Rattle.automata_hybrid.proofs.Walks.Progress.{left_reads}
 use Rattle.automata_hybrid.proofs.Walks.Reach.{call_memory}
 use Rattle.automata_hybrid.proofs.Walks.Calls.{still_walk}
 use Rattle.automata_hybrid.proofs.Walks.Bounds.{reported_lies}
+use Rattle.automata_hybrid.proofs.Machines.Powersets.{reported_walked}
 use Rattle.automata_hybrid.proofs.search.walk.overlapping.call_held.Goals as goal
 
 pub report_next-requires-clause-walk : goal.report_next-requires-clause-walk
@@ -51,7 +52,8 @@ returns-in-Ok-clause-call c =
       reports = reports;
       paths = λ free k pairs reported overlapping.
           ((reports k reported).1 pairs
-          (law d (match_kind_of m.config) input pairs free (haystack.bytes, haystack.within.1) overlapping)).0;
+          (reported_walked d m input pairs
+          (law d (match_kind_of m.config) input pairs free (haystack.bytes, haystack.within.1) overlapping))).0;
       within =
           reported_lies d m input (subst WalksAreReported c.get_nfa.ensures c.walk_is_right.ensures.reported)
           (subst WalkLiesWithin c.get_nfa.ensures c.walk_is_right.ensures.within) haystack.within.1

@@ -17,8 +17,10 @@ use Rattle.automata_hybrid.proofs.Walks.Parts.{going_on}
 use Rattle.automata_hybrid.proofs.Walks.Progress.{call_leaves, reads_some}
 use Rattle.automata_hybrid.proofs.Walks.Reports.{finish_start}
 use Rattle.automata_hybrid.proofs.Walks.Units.{run_dead, run_on, run_unheld}
+use Rattle.automata_hybrid.specs.Private.Cache.Sound.{IsSoundCacheOf}
+use Rattle.automata_hybrid.proofs.Storage.Sound.{sound_searched, sound_still}
 use Rattle.automata_hybrid.proofs.search.walk.overlapping.search_next.Goals as goal
-use Rattle.automata_hybrid.proofs.search.walk.overlapping.search_next.Goals.{After-see_bounds, In_ok-arrival}
+use Rattle.automata_hybrid.proofs.search.walk.overlapping.search_next.Goals.{After-search_start, In_ok-arrival}
 
 pub returns-in_err-from-clause-called : goal.returns-in_err-from-clause-called
 returns-in_err-from-clause-called c =
@@ -34,7 +36,7 @@ returns-in_err-from-clause-called c =
 
 -- the call resumes the walk, and its search begins
 begun :
-    (c : After-see_bounds)
+    (c : After-search_start)
     → after_going_on c.args.way c.args.dfa.now c.args.input.now c.args.walk.now.stage c.args.walk.now.units
     (known_of c.args.cache.now) ≡ Some (known_of c.search_start.new.self)
 begun c =
@@ -57,9 +59,11 @@ returns-then-is_dead-clause-called c =
     let leads : Leads c.search_start.new.self.store.table c.in_ok-from.from (state_in d m input w.units) =
     subst (λ (t : Rows). Leads t c.in_ok-from.from (state_in d m input w.units)) (sym c.search_start.ensures.table)
     c.in_ok-from.ensures.resumed.leads in
+    let sound : IsSoundCacheOf c.search_start.new.self m =
+    sound_still c.search_start.ensures.value (sound_searched _ c.in_ok-from.ensures.sound) in
     let dies : state_in d m input w.units ≡ dead =
     (dead_tagged c.search_start.new.self.store.table c.in_ok-from.from
-    (c.see_bounds.ensures.sound.low c.in_ok-from.from) c.see_bounds.ensures.bounds.small _ leads).0
+    (sound.table.low c.in_ok-from.from) sound.store.small _ leads).0
     (c.if-is_dead.ensures.0 refl) in
     let units : input.end - input.start ≡ length (tape_in d input).bytes =
     units_in d input r.undone c.span_offset-place.ensures.valid.within.1 in
@@ -81,7 +85,7 @@ returns-then-is_dead-clause-called c =
       effect =
           run_dead d m input w (known_of c.args.cache.now) c.search_start.new.self r
           (λ fresh. c.in_ok-from.ensures.resumed.may)
-          (begun (goal.at.returns-then-is_dead-clause-called c).After-see_bounds) dies new c.span_offset-place.result
+          (begun (goal.at.returns-then-is_dead-clause-called c).After-search_start) dies new c.span_offset-place.result
           first
           c.end_search.ensures.value;
     })
@@ -102,7 +106,7 @@ returns-in_err-arrival-clause-called c =
     (known_of c.args.cache.now) new x)
     c.from_residual-in_err-arrival.ensures.1
     (FailsOnItsWay (reads_some input w c.requires.walk.reads) (λ fresh. c.in_ok-from.ensures.resumed.may) first
-    (begun (goal.at.returns-in_err-arrival-clause-called c).After-see_bounds)
+    (begun (goal.at.returns-in_err-arrival-clause-called c).After-search_start)
     (call_leaves (keeping_of c.args.held.now) d m input w.units first new c.in_err-arrival.field-0.0 left))
 
 -- it has reached a state that reports patterns, or its end
@@ -143,7 +147,7 @@ returns-in_default-clause-called c =
       effect =
           run_on d m input w (known_of c.args.cache.now) c.search_start.new.self c.advance.new.cache r
           (λ fresh. c.in_ok-from.ensures.resumed.may)
-          (begun (goal.at.returns-in_default-clause-called c).After-see_bounds) arrival advanced
+          (begun (goal.at.returns-in_default-clause-called c).After-search_start) arrival advanced
           (ended_walk w arrival.units)
           c.end_search-in_default.new.self c.span_offset-last.result refl c.span_offset-last.ensures.value
           c.end_search-in_default.ensures.value (λ over. (refl, finish.stops arrival.units (omega arith)));
@@ -169,7 +173,7 @@ returns-in_err-move_to-clause-called c =
     (sym c.in_err-move_to.ensures.refused)
     (run_unheld d m input w (known_of c.args.cache.now) c.search_start.new.self c.advance.new.cache
     c.requires.walk.reads (λ fresh. c.in_ok-from.ensures.resumed.may)
-    (begun (goal.at.returns-in_err-move_to-clause-called c).After-see_bounds) arrival advanced c.in-Some.id there))
+    (begun (goal.at.returns-in_err-move_to-clause-called c).After-search_start) arrival advanced c.in-Some.id there))
 
 pub arrive-requires-clause-here : goal.arrive-requires-clause-here
 arrive-requires-clause-here c = λ k t.
@@ -215,7 +219,7 @@ returns-clause-called c =
       effect =
           run_on d m input w (known_of c.args.cache.now) c.search_start.new.self c.advance.new.cache
           c.requires.walk.reads (λ fresh. c.in_ok-from.ensures.resumed.may)
-          (begun (goal.at.returns-clause-called c).After-see_bounds) arrival advanced c.arrive.new.walk
+          (begun (goal.at.returns-clause-called c).After-search_start) arrival advanced c.arrive.new.walk
           c.end_search-2.new.self c.span_offset-last.result s.units c.span_offset-last.ensures.value
           c.end_search-2.ensures.value (λ ended. absurd (ended_at s.at.0 (sym ended ∙ s.at.1)));
     }
@@ -230,3 +234,33 @@ returns-clause-held c =
           (subst (λ (t : Rows). Names t c.in-Some.id s.at.0) c.end_search-2.ensures.table s.at.2)));
       keeping = c.in_ok-move_to.ensures.keeping;
     }
+
+pub advance-requires-clause-sound : goal.advance-requires-clause-sound
+advance-requires-clause-sound c =
+    sound_still c.search_start.ensures.value (sound_searched _ c.in_ok-from.ensures.sound)
+
+pub returns-then-is_dead-clause-sound : goal.returns-then-is_dead-clause-sound
+returns-then-is_dead-clause-sound c =
+    sound_still c.end_search.ensures.value (sound_searched _
+    (sound_still c.search_start.ensures.value (sound_searched _ c.in_ok-from.ensures.sound)))
+
+pub returns-in_default-clause-sound : goal.returns-in_default-clause-sound
+returns-in_default-clause-sound c =
+    sound_still c.end_search-in_default.ensures.value (sound_searched _ c.in_ok-arrival.ensures.sound)
+
+pub arrive-requires-clause-sound : goal.arrive-requires-clause-sound
+arrive-requires-clause-sound c =
+    sound_still c.end_search-2.ensures.value (sound_searched _ c.in_ok-arrival.ensures.sound)
+
+pub returns-clause-sound : goal.returns-clause-sound
+returns-clause-sound c =
+    sound_still c.end_search-2.ensures.value (sound_searched _ c.in_ok-arrival.ensures.sound)
+
+pub span_offset-last-requires-clause-within : goal.span_offset-last-requires-clause-within
+span_offset-last-requires-clause-within c =
+    let advanced = arrived (goal.at.span_offset-last-requires-clause-within c).In_ok-arrival in
+    let counted = advanced.counted in
+    let read = advanced.reads.0 in
+    let units =
+    units_in c.args.way c.args.input.now c.requires.walk.reads.undone c.span_offset-place.ensures.valid.within.1 in
+    omega (arith, counted, read, units)

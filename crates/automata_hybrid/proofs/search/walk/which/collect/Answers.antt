@@ -1,7 +1,7 @@
 use Rattle.std.proofs.Common.{suc, inl, inr, length-set, ◌≡◌, ◌∙◌, List, Bool, true, length, set, Some, rules, refl}
 use Rattle.std.proofs.Common.{sym, ap, subst, arith}
-use Rattle.automata_hybrid.proofs.Words.{Err, Forward, Input, Known, known_of, Machine, match_kind_of, members, Pair}
-use Rattle.automata_hybrid.proofs.Words.{Result, result_err, SearchError, WalksAreReported}
+use Rattle.automata_hybrid.proofs.Words.{Err, Forward, Input, Known, known_of, Machine, members, Pair, Result}
+use Rattle.automata_hybrid.proofs.Words.{result_err, SearchError, WalksAreReported}
 use Rattle.std.specs.Prelude.{IsTrue}
 use Rattle.automata_base.specs.Answers.Answers.{ArePatterns}
 use Rattle.automata_determinize.specs.Laws.Walks.{WalkIsRight}
@@ -18,6 +18,7 @@ use Rattle.automata_hybrid.proofs.Searches.PassState.{false_true}
 use Rattle.automata_hybrid.proofs.Walks.Sets.{IsLacking, Joins, calls_more, closes, joins_all, joins_begin, joins_first}
 use Rattle.automata_hybrid.proofs.Walks.Sets.{joins_full, joined_more, joins_more, lacking, on_found, open_after}
 use Rattle.automata_hybrid.proofs.Walks.Sets.{patterns_of, stands_well, steps_less, reported_undone}
+use Rattle.automata_hybrid.proofs.Machines.Powersets.{walks_are}
 use Rattle.automata_hybrid.proofs.search.walk.which.collect.Goals as goal
 
 pub returns-in_err-report_next-clause-reported : goal.returns-in_err-report_next-clause-reported
@@ -90,7 +91,7 @@ returns-in_default-clause-reported c =
     let reports = c.in_ok-report_next.ensures.called.answer.reports in
     let reported : WalksAreReported m.nfa = subst WalksAreReported c.get_nfa.ensures c.walk_is_right.ensures.reported in
     let list : (pairs : List Pair) × AreWalked Forward m input pairs =
-    reported Forward (match_kind_of m.config) input in
+    walks_are Forward m input reported in
     let found =
     joins_all m input old c.walk.walk c.report_next.new.walk set j reports list
     (sym c.get_match.ensures ∙ c.in_default.«is») in
@@ -116,7 +117,7 @@ returns-in_default-clause-effect c =
     let j = v.joins.0 in
     let reported : WalksAreReported m.nfa = subst WalksAreReported c.get_nfa.ensures c.walk_is_right.ensures.reported in
     let list : (pairs : List Pair) × AreWalked Forward m input pairs =
-    reported Forward (match_kind_of m.config) input in
+    walks_are Forward m input reported in
     let a = c.in_ok-report_next.ensures.called.answer in
     let after = (a.reports j.k j.reported).1 list.0 list.1 in
     let last : next.stage ≡ Ended =
@@ -144,7 +145,7 @@ returns-then-is_full-clause-reported c =
     let a = c.in_ok-report_next.ensures.called.answer in
     let reported : WalksAreReported m.nfa = subst WalksAreReported c.get_nfa.ensures c.walk_is_right.ensures.reported in
     let list : (pairs : List Pair) × AreWalked Forward m input pairs =
-    reported Forward (match_kind_of m.config) input in
+    walks_are Forward m input reported in
     let seen : next.found ≡ Some half = sym c.get_match.ensures ∙ c.in-Some.«is» in
     let put : c.try_insert.new.self ≡ set before half.pattern true =
     c.try_insert.ensures.inserted ∙ ap (λ n. set before n true) c.pattern.ensures in
@@ -211,7 +212,7 @@ returns-then-get_earliest-clause-reported c =
     let a = c.in_ok-report_next.ensures.called.answer in
     let reported : WalksAreReported m.nfa = subst WalksAreReported c.get_nfa.ensures c.walk_is_right.ensures.reported in
     let list : (pairs : List Pair) × AreWalked Forward m input pairs =
-    reported Forward (match_kind_of m.config) input in
+    walks_are Forward m input reported in
     let seen : next.found ≡ Some half = sym c.get_match.ensures ∙ c.in-Some.«is» in
     let put : c.try_insert.new.self ≡ set before half.pattern true =
     c.try_insert.ensures.inserted ∙ ap (λ n. set before n true) c.pattern.ensures in
@@ -278,7 +279,7 @@ walk-smaller c =
 
 pub walk-init : goal.walk-init
 walk-init c = record {
-  of = search rules;
+  sound = c.reveal_invariant_of.ensures;
   there = search rules;
   begins = λ u. (ap (λ (w : Walk). w.stage) c.start-walk.ensures, refl);
   done = λ past. refl;
@@ -295,7 +296,7 @@ walk-preserved c =
     let reported : WalksAreReported c.args.dfa.now.nfa =
     subst WalksAreReported c.get_nfa.ensures c.walk_is_right.ensures.reported in
     let list : (pairs : List Pair) × AreWalked Forward c.args.dfa.now c.args.input.now pairs =
-    reported Forward (match_kind_of c.args.dfa.now.config) c.args.input.now in
+    walks_are Forward c.args.dfa.now c.args.input.now reported in
     let found : c.report_next.new.walk.found ≡ Some c.in-Some.half = sym c.get_match.ensures ∙ c.in-Some.«is» in
     let put : c.try_insert.new.self ≡ set c.walk.patset c.in-Some.half.pattern true =
     c.try_insert.ensures.inserted ∙ ap (λ n. set c.walk.patset n true) c.pattern.ensures in
@@ -307,7 +308,7 @@ walk-preserved c =
     c.is_full.ensures.1 (subst (λ (s : List Bool). length (members s) ≡ length s) (sym put) full) in
     false_true (sym c.if-is_full.false ∙ whole)) in
     record {
-      of = c.in_ok-report_next.ensures.of;
+      sound = c.in_ok-report_next.ensures.sound;
       there =
           held_there c.report_next.new.cache c.report_next.new.walk.stage c.report_next.new.held
           c.in_ok-report_next.ensures.held.holds

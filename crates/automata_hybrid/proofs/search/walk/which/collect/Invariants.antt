@@ -1,15 +1,16 @@
 use Rattle.std.proofs.Common.{◌≡◌, ◌<◌, true}
-use Rattle.automata_hybrid.proofs.Words.{Forward, IsCacheOf, known_of}
+use Rattle.automata_hybrid.proofs.Words.{Forward, known_of}
 use Rattle.automata_hybrid.specs.Searches.Contracts.{IsUnsupported}
 use Rattle.automata_hybrid.specs.Known.Walks.{HaveCalled, has_its_row}
 use Rattle.automata_hybrid.specs.Walks.State.{Ended, Fresh, Ids}
 use Rattle.automata_hybrid.specs.Private.Walks.State.{IsHeldAt, keeping_of}
 use Rattle.automata_hybrid.proofs.Walks.Sets.{Joins, steps_left}
+use Rattle.automata_hybrid.specs.Private.Cache.Sound.{IsSoundCacheOf}
 use Rattle.automata_hybrid.proofs.search.walk.which.collect.Given as goal
 
 abbrev pub invariant-walk : goal.invariant-walk
 invariant-walk l = record {
-  of : IsCacheOf l.cache l.dfa;
+  sound : IsSoundCacheOf l.cache l.dfa;
   there : has_its_row (known_of l.cache) l.walk.stage ≡ true;
   begins : IsUnsupported Forward l.dfa l.input → (l.walk.stage ≡ Fresh) × (l.patset ≡ l.fn.patset);
   done : l.input.end < l.input.start → l.patset ≡ l.fn.patset;

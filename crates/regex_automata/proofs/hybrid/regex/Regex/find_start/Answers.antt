@@ -1,5 +1,5 @@
 use Rattle.std.specs.Result.{result_err}
-use Rattle.std.proofs.Common.{◌≡◌, ◌∙◌, Some, None, inl, inr, refl, sym, ap, subst, arith}
+use Rattle.std.proofs.Common.{◌≡◌, ◌∙◌, Some, None, refl, sym, ap, subst, arith}
 use Rattle.automata_base.specs.Answers.Spans.{StartIsBase, StartIsFound, back}
 use Rattle.automata_base.specs.Haystacks.Input.{Input}
 use Rattle.automata_base.specs.declared.util.search.Direction.TheVariants.{Backward}

@@ -18,7 +18,7 @@ use Rattle.automata_hybrid.specs.Steps.Starts.{quit_behind}
 use Rattle.automata_hybrid.proofs.Searches.PassState.{if_err}
 use Rattle.regex_automata.proofs.Spans.Truths.{asked_from, asked_to, match_right, truth_found, truth_nearest}
 use Rattle.regex_automata.proofs.Spans.Truths.{truth_reported}
-use Rattle.regex_automata.proofs.Replies.Contracts.{truth_returned}
+use Rattle.regex_automata.proofs.Spans.Returned.{truth_returned}
 use Rattle.regex_automata.proofs.Results.{err_ok, if_ok, is_err, ok_err, same_err, same_ok}
 use Rattle.regex_automata.proofs.hybrid.regex.Regex.is_match.Goals as goal
 

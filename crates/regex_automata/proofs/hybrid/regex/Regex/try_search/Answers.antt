@@ -4,7 +4,7 @@ use Rattle.std.specs.Result.{result_err}
 use Rattle.automata_base.specs.Nfas.Nodes.{Automaton}
 use Rattle.automata_base.specs.Answers.Spans.{Found}
 use Rattle.automata_determinize.specs.Answers.OfPasses.{ReportedEndsAreRight, ReportedIsRight}
-use Rattle.regex_automata.proofs.Replies.Contracts.{span_returned}
+use Rattle.regex_automata.proofs.Spans.Returned.{span_returned}
 use Rattle.regex_automata.proofs.Spans.ByPaths.{match_right, outcome_right, refusals}
 use Rattle.regex_automata.proofs.Spans.Follows.{span_refused}
 use Rattle.regex_automata.proofs.hybrid.regex.Regex.try_search.Goals as goal

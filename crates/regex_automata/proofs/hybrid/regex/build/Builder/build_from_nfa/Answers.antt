@@ -1,4 +1,6 @@
-use Rattle.std.proofs.Common.{sym}
+use Rattle.std.proofs.Common.{sym, ap, ◌∙◌, Some}
+use Rattle.automata_config.specs.declared.error.BuildError.{BuildError}
+use Rattle.regex_automata.proofs.Regexes.Turned.{unicode_of}
 use Rattle.regex_automata.proofs.Regexes.Capacities.{enough_of}
 use Rattle.regex_automata.proofs.Regexes.Reversals.{refused_of, sound_of}
 use Rattle.regex_automata.proofs.hybrid.regex.build.Builder.build_from_nfa.Goals as goal
@@ -22,5 +24,8 @@ returns-in-Err-build_from_nfas-clause-refused c =
       reverse = c.in-Ok.reverse;
       reversed = c.in-Ok.ensures.reversed;
       fails = refused;
+      unicode = λ e.
+          unicode_of c.args.self.now c.args.forward c.in-Ok.reverse c.in-Ok.ensures.reversed
+          (refused ∙ ap (λ (v : BuildError). Some v) e);
       enough = enough_of c.args.self.now c.args.forward c.in-Ok.reverse c.in-Err-build_from_nfas.error refused;
     }

@@ -1,0 +1,13 @@
+pub mod Rows
+pub mod Strides
+pub mod Additions
+pub mod Places
+pub mod Starts
+pub mod States
+pub mod Clears
+pub mod Usage
+pub mod Leaps
+pub mod NewRows
+pub mod Searched
+pub mod Sound
+pub mod SoundTables

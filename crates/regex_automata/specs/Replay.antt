@@ -1,4 +1,0 @@
-pub mod Replies
-pub mod Histories
-pub mod Players
-pub mod Caches

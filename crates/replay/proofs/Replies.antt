@@ -1,0 +1,12 @@
+pub mod Contracts
+pub mod WalkCalls
+pub mod KeptWalks
+pub mod SetLists
+pub mod MatchLists
+pub mod Histories
+pub mod Lists
+pub mod WalkReplies
+pub mod WalkReports
+pub mod Effects
+pub mod Ends
+pub mod TokenLists
