@@ -37,13 +37,88 @@ taken_out xs at l =
     next (x ∷ xs) zero l = refl
     next (x ∷ xs) (suc at) l = ap (λ ys. false ∷ ys) (next xs at (omega (arith, l)))
 
-pub all_out :
-    (xs : List Bool) (at : ℕ) → length xs ≤ at → at ≤ length xs
+-- the flag at `at` is unchanged while the flags below it are cleared
+pub flag_at :
+    (xs : List Bool) (at : ℕ) → at < length xs
+    → get_or (replicate at false ++ drop at xs) at false ≡ get_or xs at false
+flag_at [] at l = absurd (omega (arith, l))
+flag_at (x ∷ xs) zero l = refl
+flag_at (x ∷ xs) (suc at) l = flag_at xs at (omega (arith, l))
+
+-- a flag that is not set is as if it were cleared
+pub not_in :
+    (xs : List Bool) (at : ℕ) → at < length xs → get_or xs at false ≡ false
+    → replicate at false ++ drop at xs ≡ replicate (at + 1) false ++ drop (at + 1) xs
+not_in xs at l e =
+    let more : suc at ≡ at + 1 = omega arith in
+    subst (λ k. replicate at false ++ drop at xs ≡ replicate k false ++ drop k xs) more (next xs at l e)
+  where
+    next :
+        (xs : List Bool) (at : ℕ) → at < length xs → get_or xs at false ≡ false
+        → replicate at false ++ drop at xs ≡ replicate (suc at) false ++ drop (suc at) xs
+    next [] at l e = absurd (omega (arith, l))
+    next (true ∷ xs) zero l e = absurd (true≢false e)
+    next (false ∷ xs) zero l e = refl
+    next (x ∷ xs) (suc at) l e = ap (λ ys. false ∷ ys) (next xs at (omega (arith, l)) e)
+
+-- members are left only at flags that there are
+pub left_within :
+    (xs : List Bool) (at k : ℕ) → 0 < length (members_from k (drop at xs)) → at < length xs
+left_within [] zero k l = absurd (omega (arith, l))
+left_within [] (suc at) k l = absurd (omega (arith, l))
+left_within (x ∷ xs) zero k l = omega arith
+left_within (x ∷ xs) (suc at) k l = omega (arith, left_within xs at k l)
+
+-- the number of members does not depend on the number of the first flag
+pub members-from :
+    (xs : List Bool) (k n : ℕ) → length (members_from k xs) ≡ length (members_from n xs)
+members-from [] k n = refl
+members-from (true ∷ xs) k n = ap suc (members-from xs (suc k) (suc n))
+members-from (false ∷ xs) k n = members-from xs (suc k) (suc n)
+
+-- one member fewer is left after a flag that is set
+pub left_in :
+    (xs : List Bool) (at : ℕ) → get_or xs at false ≡ true
+    → length (members_from at (drop at xs)) ≡ suc (length (members_from (at + 1) (drop (at + 1) xs)))
+left_in xs at e =
+    let more : suc at ≡ at + 1 = omega arith in
+    subst (λ k. length (members_from at (drop at xs)) ≡ suc (length (members_from (at + 1) (drop k xs)))) more
+    (next xs at at (at + 1) e)
+  where
+    next :
+        (xs : List Bool) (at k n : ℕ) → get_or xs at false ≡ true
+        → length (members_from k (drop at xs)) ≡ suc (length (members_from n (drop (suc at) xs)))
+    next [] at k n e = absurd (true≢false (sym e))
+    next (true ∷ xs) zero k n e = ap suc (members-from xs (suc k) n)
+    next (false ∷ xs) zero k n e = absurd (true≢false (sym e))
+    next (x ∷ xs) (suc at) k n e = next xs at k n e
+
+-- as many members are left after a flag that is not set
+pub left_out :
+    (xs : List Bool) (at : ℕ) → at < length xs → get_or xs at false ≡ false
+    → length (members_from at (drop at xs)) ≡ length (members_from (at + 1) (drop (at + 1) xs))
+left_out xs at l e =
+    let more : suc at ≡ at + 1 = omega arith in
+    subst (λ k. length (members_from at (drop at xs)) ≡ length (members_from (at + 1) (drop k xs))) more
+    (next xs at at (at + 1) l e)
+  where
+    next :
+        (xs : List Bool) (at k n : ℕ) → at < length xs → get_or xs at false ≡ false
+        → length (members_from k (drop at xs)) ≡ length (members_from n (drop (suc at) xs))
+    next [] at k n l e = absurd (omega (arith, l))
+    next (true ∷ xs) zero k n l e = absurd (true≢false e)
+    next (false ∷ xs) zero k n l e = members-from xs (suc k) n
+    next (x ∷ xs) (suc at) k n l e = next xs at k n (omega (arith, l)) e
+
+-- where no member is left, all flags are cleared
+pub none_left :
+    (xs : List Bool) (at k : ℕ) → at ≤ length xs → length (members_from k (drop at xs)) ≡ 0
     → replicate at false ++ drop at xs ≡ replicate (length xs) false
-all_out [] zero l m = refl
-all_out [] (suc at) l m = absurd (omega (arith, m))
-all_out (x ∷ xs) zero l m = absurd (omega (arith, l))
-all_out (x ∷ xs) (suc at) l m = ap (λ ys. false ∷ ys) (all_out xs at (omega (arith, l)) (omega (arith, m)))
+none_left [] zero k l e = refl
+none_left [] (suc at) k l e = absurd (omega (arith, l))
+none_left (true ∷ xs) zero k l e = absurd (omega (arith, e))
+none_left (false ∷ xs) zero k l e = ap (λ ys. false ∷ ys) (none_left xs zero (suc k) (omega arith) e)
+none_left (x ∷ xs) (suc at) k l e = ap (λ ys. false ∷ ys) (none_left xs at k (omega (arith, l)) e)
 
 pub members-few : (xs : List Bool) (k : ℕ) → length (members_from k xs) ≤ length xs
 members-few [] k = omega arith

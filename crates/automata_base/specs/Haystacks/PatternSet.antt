@@ -1,5 +1,5 @@
 -- A set of patterns as contracts see it: a flag for each pattern below its capacity.
-use Rattle.std.specs.Prelude.{ℕ, suc, ◌≡◌, Bool, true, false, List, [], ◌∷◌, length, slice_index_or}
+use Rattle.std.specs.Prelude.{ℕ, suc, ◌≡◌, Bool, true, false, List, [], ◌∷◌, drop, length, slice_index_or}
 use Rattle.automata_base.specs.Powersets.Powerset.{IsId}
 
 -- Whether the pattern is a member.
@@ -24,6 +24,13 @@ AreSmall set = (pattern : ℕ) → has set pattern ≡ true → IsId pattern
 pub record IsCounted (set : List Bool) (len : ℕ) : Type 0 where
   -- the count is the number of members
   pub counted : len ≡ length (members set)
+  -- each member is a number that a pattern may have
+  pub small : AreSmall set
+
+-- So many members are at a flag or after it, each of which is a number that a pattern may have.
+pub record AreLeft (set : List Bool) (at left : ℕ) : Type 0 where
+  -- the number of these members
+  pub counted : left ≡ length (members_from at (drop at set))
   -- each member is a number that a pattern may have
   pub small : AreSmall set
 

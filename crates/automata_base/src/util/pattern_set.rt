@@ -89,14 +89,18 @@ impl PatternSet {
         Ok(true)
     }
 
-    /// Removes all patterns. The capacity stays.
+    /// Removes all patterns. The capacity stays. It reads the flags up to the last member.
     pub fn clear(&mut self)
         ensures { self.new ≡ replicate (length self.old) false }
     {
-        for at in 0..self.which.len() {
-            self.which[at] = false;
+        let mut at = 0;
+        while self.len > 0 {
+            if self.which[at] {
+                self.which[at] = false;
+                self.len -= 1;
+            }
+            at += 1;
         }
-        self.len = 0;
     }
 
     /// Whether a pattern is in the set. It is false for a pattern that is not below the capacity.
@@ -134,13 +138,14 @@ impl PatternSet {
         self.which.len()
     }
 
-    /// Returns an iterator over the members, in increasing order.
+    /// Returns an iterator over the members, in increasing order. It reads the flags up to the last member.
     pub fn iter(&self) -> PatternSetIter<'_>
         ensures { result ≡ members self.now }
     {
         PatternSetIter {
             which: self.which.as_slice(),
             at: 0,
+            left: self.len,
         }
     }
 }
@@ -150,17 +155,18 @@ impl PatternSet {
 pub struct PatternSetIter<'a> {
     which: &'a [bool],
     at: usize,
+    left: usize,
 }
 
 impl<'a> Model for PatternSetIter<'a> {
     ghost use Rattle.std.specs.Prelude.{List, ℕ, drop};
-    ghost use Rattle.automata_base.specs.Haystacks.PatternSet.{members_from, AreSmall};
+    ghost use Rattle.automata_base.specs.Haystacks.PatternSet.{members_from, AreLeft};
 
     ghost Value = { List ℕ };
 
     ghost view = { λ i. members_from i.at (drop i.at i.which.now) };
 
-    ghost invariant = { λ i. AreSmall i.which.now };
+    ghost invariant = { λ i. AreLeft i.which.now i.at i.left };
 }
 
 impl<'a> Iterator for PatternSetIter<'a> {
@@ -173,10 +179,11 @@ impl<'a> Iterator for PatternSetIter<'a> {
     ghost remaining = { item_count (λ rest. rest) };
 
     fn next(&mut self) -> Option<PatternID> {
-        while self.at < self.which.len() {
+        while self.left > 0 {
             let at = self.at;
             self.at += 1;
             if self.which[at] {
+                self.left -= 1;
                 return PatternID::new(at);
             }
         }
