@@ -1,0 +1,89 @@
+/* The library for C, with its defaults. */
+#include "../engine.h"
+#include <lazydfa.h>
+#include <stdlib.h>
+#include <string.h>
+
+enum { BATCH = 1024 };
+
+const char *const engine_name = "project";
+
+struct engine {
+    lazydfa_regex regex;
+    lazydfa_cache cache;
+    size_t patterns;
+    uint32_t *found;
+};
+
+void *engine_new(const struct work *work) {
+    struct engine *it = calloc(1, sizeof *it);
+    lazydfa_settings settings;
+    lazydfa_text_options options;
+    lazydfa_text *texts = malloc(sizeof *texts * work->patterns);
+    lazydfa_refusal refusal;
+    lazydfa_status status;
+    char message[256];
+    memset(&settings, 0, sizeof settings);
+    memset(&options, 0, sizeof options);
+    settings.match_kind = work->set ? LAZYDFA_ALL : LAZYDFA_LEFTMOST_FIRST;
+    options.nest_limit = 200;
+    options.no_unicode = options.bytes = !work->unicode;
+    for (size_t i = 0; i < work->patterns; i++) {
+        texts[i].text = work->text[i];
+        texts[i].length = work->length[i];
+    }
+    status = lazydfa_regex_any_of(&it->regex, texts, work->patterns, &options, &settings, NULL, 0, &refusal, message,
+                                  sizeof message);
+    free(texts);
+    if (status.code == LAZYDFA_OK) status = lazydfa_cache_new(&it->cache, &it->regex);
+    if (status.code != LAZYDFA_OK) {
+        lazydfa_regex_close(&it->regex);
+        free(it);
+        return NULL;
+    }
+    it->patterns = work->patterns;
+    it->found = malloc(sizeof *it->found * work->patterns);
+    return it;
+}
+
+void engine_free(void *engine) {
+    struct engine *it = engine;
+    lazydfa_cache_close(&it->cache);
+    lazydfa_regex_close(&it->regex);
+    free(it->found);
+    free(it);
+}
+
+int engine_all(void *engine, const uint8_t *text, size_t length, struct total *total) {
+    static lazydfa_match found[BATCH];
+    struct engine *it = engine;
+    lazydfa_iteration at = lazydfa_iterate(lazydfa_whole(length));
+    lazydfa_status status;
+    do {
+        size_t count;
+        status = lazydfa_next_all(&it->cache, text, length, &at, found, BATCH, &count);
+        for (size_t i = 0; i < count; i++) {
+            total->count++;
+            total->sum += found[i].end - found[i].start;
+        }
+    } while (status.code == LAZYDFA_OK);
+    return status.code != LAZYDFA_NONE;
+}
+
+int engine_is_match(void *engine, const uint8_t *text, size_t length) {
+    struct engine *it = engine;
+    lazydfa_input input = lazydfa_whole(length);
+    lazydfa_status status = lazydfa_is_match(&it->cache, text, length, &input);
+    return status.code == LAZYDFA_OK ? 1 : status.code == LAZYDFA_NONE ? 0 : -1;
+}
+
+int engine_which(void *engine, const uint8_t *text, size_t length, struct total *total) {
+    struct engine *it = engine;
+    lazydfa_input input = lazydfa_whole(length);
+    size_t count = 0;
+    lazydfa_status status =
+        lazydfa_which(&it->cache, text, length, &input, it->patterns, it->found, it->patterns, &count);
+    for (size_t i = 0; i < count; i++) total->sum += it->found[i];
+    total->count += count;
+    return status.code != LAZYDFA_OK && status.code != LAZYDFA_NONE;
+}
