@@ -1,4 +1,5 @@
-//! Links `liblazydfa.a`: from the folder that `LAZYDFA_LIB` names, or as `make` in `bindings/c` builds it.
+//! Links `liblazydfa.a`: from the folder that `LAZYDFA_LIB` names, from this crate's folder `lib`, from `bindings/c`,
+//! where `make` builds it, or as pkg-config finds it.
 use std::path::{Path, PathBuf};
 use std::process::Command;
 use std::{env, fs};
@@ -23,13 +24,32 @@ fn library() -> Result<PathBuf, String> {
         let is_there = folder.join("liblazydfa.a").is_file();
         return if is_there { Ok(folder) } else { Err(no("LAZYDFA_LIB names a folder without it")) };
     }
-    let crate_folder = env::var_os("CARGO_MANIFEST_DIR").expect("cargo sets it");
-    let c = Path::new(&crate_folder).join("../c");
+    let crate_folder = PathBuf::from(env::var_os("CARGO_MANIFEST_DIR").expect("cargo sets it"));
+    let packaged = crate_folder.join("lib").join(env::var("TARGET").expect("cargo sets it"));
+    if packaged.join("liblazydfa.a").is_file() {
+        return Ok(packaged);
+    }
+    let c = crate_folder.join("../c");
+    if !c.join("lazydfa.pc.in").is_file() {
+        return installed();
+    }
     let folder = c.join("out");
     if !folder.join("liblazydfa.a").is_file() {
         make(&c)?;
     }
     Ok(folder)
+}
+
+/// Returns the folder with the archive that is installed, by pkg-config.
+fn installed() -> Result<PathBuf, String> {
+    let asked = Command::new("pkg-config").args(["--variable=libdir", "lazydfa"]).output();
+    let folder = asked
+        .ok()
+        .filter(|said| said.status.success())
+        .map(|said| PathBuf::from(String::from_utf8_lossy(&said.stdout).trim()));
+    folder
+        .filter(|folder| folder.join("liblazydfa.a").is_file())
+        .ok_or_else(|| no("LAZYDFA_LIB names no folder with it, and pkg-config finds no package `lazydfa`"))
 }
 
 /// Builds `liblazydfa.a`. This proves the library if that was not done before, which takes a while.

@@ -40,5 +40,5 @@ pub use util::search::{Anchored, HalfMatch, Input, Match, MatchKind, PatternSet,
 
 /// The programs in the documentation of this crate.
 #[cfg(doctest)]
-#[doc = include_str!("../../../docs/RUST.md")]
+#[doc = include_str!("../README.md")]
 struct Document;

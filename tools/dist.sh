@@ -1,0 +1,139 @@
+#!/bin/bash
+# Makes a release for machines without a kit:
+#     tools/dist.sh FOLDER [--clean-root]
+# In FOLDER are then, for Linux on x86-64-v2: a tarball with the library for C (archive, shared library, header, files
+# for pkg-config and CMake, a manual page, guides, licences, and BUILD, which says of what it was made); the Debian
+# packages liblazydfa0, liblazydfa-dev, lgrep (the example grep) and, if the server's headers are there,
+# postgresql-15-lazydfa; the Rust crate with the archive in it; and SHA256SUMS. Equal commits and archives give equal
+# bytes: times are those of the commit.
+#
+# With --clean-root all of it is installed in a new Debian root, which mmdebstrap makes, and used there
+# (dist/clean_root.sh); that takes root and Debian's packages, and some minutes.
+#
+# Archive and program are those that `make -C bindings/c` and `rt ci` prove and build here. ARCHIVE and PROGRAM name
+# others, which BUILD calls not proved. It needs rt, make, cc, binutils and dpkg-deb, and git, for the commit.
+set -euo pipefail
+tools=$(cd "$(dirname "$0")" && pwd)
+top=$(dirname "$tools")
+[ "$#" -gt 0 ] || { echo "usage: tools/dist.sh FOLDER [--clean-root]" >&2; exit 2; }
+mkdir -p "$1"
+out=$(cd "$1" && pwd)
+kit=$(dirname "$(realpath "$(command -v rt)")")/..
+room=$(mktemp -d)
+trap 'rm -rf "$room"' EXIT
+SOURCE_DATE_EPOCH=$(git -C "$top" log -1 --format=%ct)
+export SOURCE_DATE_EPOCH LC_ALL=C TZ=UTC
+umask 022
+header=$top/bindings/c/include/lazydfa.h
+version=$(sed -n 's/^#define LAZYDFA_VERSION "\(.*\)"$/\1/p' "$header")
+abi=$(sed -n 's/^ABI = //p' "$top/bindings/c/Makefile")
+date=$(date -u -d "@$SOURCE_DATE_EPOCH" +%Y-%m-%d)
+name=lazydfa-$version-x86_64-linux
+
+# Replaces what a template names.
+filled() { # TEMPLATE
+    sed "s/@VERSION@/$version/g; s/@ABI@/$abi/g" "$tools/dist/$1"
+}
+
+# Writes a manual page with this text from standard input.
+manual() { # NAME SECTION SHORT
+    printf '.TH %s %s %s "lazydfa %s"\n.SH NAME\n%s \\- %s\n' "${1^^}" "$2" "$date" "$version" "$1" "$3"
+    printf '.SH DESCRIPTION\n.nf\n'
+    sed -e 's/\\/\\e/g' -e "s/^[.']/\\\\\&&/"
+    printf '.fi\n'
+}
+
+# Gives all files of a folder the time of the commit.
+dated() { # FOLDER
+    find "$1" -exec touch -h -d "@$SOURCE_DATE_EPOCH" {} +
+}
+
+# Packs a folder of the room.
+packed() { # FOLDER ARCHIVE
+    dated "$room/$1"
+    tar -C "$room" --sort=name --owner=0 --group=0 --numeric-owner --format=gnu -cf - "$1" | gzip -9n >"$out/$2"
+}
+
+build_library() {
+    cp -r "$top/bindings/c" "$room/c"
+    rm -rf "$room/c/out"
+    make -s -C "$room/c" KIT="$kit" ARCHIVE="$archive" LDFLAGS='-Wl,--build-id=sha1 -Wl,-z,relro -Wl,-z,now'
+    strip --strip-unneeded "$room/c/out/liblazydfa.so.$abi"
+}
+
+# Installs the library in a folder.
+install_library() { # ROOT LIBDIR
+    make -s -C "$room/c" install KIT="$kit" DESTDIR="$1" PREFIX=/usr LIBDIR="$2"
+    mkdir -p "$1$2/cmake/lazydfa"
+    filled lazydfa-config.cmake.in >"$1$2/cmake/lazydfa/lazydfa-config.cmake"
+    filled lazydfa-config-version.cmake.in >"$1$2/cmake/lazydfa/lazydfa-config-version.cmake"
+}
+
+# Writes the documents of the library: guides, an example, licences, and what it was made of.
+install_documents() { # FOLDER
+    mkdir -p "$1/examples"
+    cp "$top/docs/C.md" "$top/docs/PATTERNS.md" "$top/docs/CALLING.md" "$top/docs/DIFFERENCES.md" "$1"
+    cp "$top/CHANGELOG.md" "$top"/LICENSE-* "$1"
+    cp -r "$top/LICENSES" "$1"
+    cp "$top/bindings/c/examples/grep.c" "$1/examples"
+    {
+        echo "version $version"
+        echo "commit $(git -C "$top" rev-parse HEAD)$([ -z "$(git -C "$top" status --porcelain)" ] || echo ', changed')"
+        echo "kit $(rt version | tail -n 1)"
+        echo "archive $(sha256sum <"$archive" | cut -d ' ' -f 1)"
+        echo "proved $proved"
+    } >"$1/BUILD"
+}
+
+make_tarball() {
+    root=$room/$name
+    install_library "$room/root" /usr/lib
+    mv "$room/root/usr" "$root"
+    # The tarball can be unpacked anywhere.
+    sed -i 's|^prefix=.*|prefix=${pcfiledir}/../..|' "$root/lib/pkgconfig/lazydfa.pc"
+    install_documents "$root/share/doc/lazydfa"
+    filled README.in >"$root/README"
+    mkdir -p "$root/share/man/man3"
+    sed -n '1,/\*\//p' "$header" | sed -e 's|^/\* ||' -e 's|^ \*/\?||' |
+        manual lazydfa 3 'regular expressions by a lazy DFA' | gzip -9n >"$root/share/man/man3/lazydfa.3.gz"
+    (cd "$root" && find . -type f | sort | xargs sha256sum) >"$room/sums"
+    mv "$room/sums" "$root/SHA256SUMS"
+    packed "$name" "$name.tar.gz"
+}
+
+make_program() {
+    mkdir -p "$room/lgrep"
+    strip -o "$room/lgrep/lgrep" "$program"
+    chmod 755 "$room/lgrep/lgrep"
+    sed -n 's|^//! \?||p' "$top/crates/example_grep/src/main.rt" | sed -e '/^|---/d' -e 's/example_grep/lgrep/g' |
+        manual lgrep 1 'print the lines of files that patterns match' | gzip -9n >"$room/lgrep/lgrep.1.gz"
+}
+
+make_crate() {
+    crate=$room/lazydfa-$version
+    cp -rL "$top/bindings/rust" "$crate"
+    rm -rf "$crate/target"
+    mkdir -p "$crate/lib/x86_64-unknown-linux-gnu"
+    cp "$room/c/out/liblazydfa.a" "$crate/lib/x86_64-unknown-linux-gnu"
+    cp "$top"/LICENSE-* "$crate"
+    cp -r "$top/LICENSES" "$crate"
+    packed "lazydfa-$version" "lazydfa-$version-rust.tar.gz"
+}
+
+if [ -n "${ARCHIVE:-}" ]; then
+    archive=$(realpath "$ARCHIVE")
+    proved=no
+else
+    (cd "$top/crates/lazydfa_c" && rt lib >&2)
+    archive=$top/crates/lazydfa_c/out/liblazydfa_c.a
+    proved=yes
+fi
+program=${PROGRAM:-$top/crates/example_grep/out/example_grep}
+build_library
+make_tarball
+make_crate
+if [ -x "$program" ]; then make_program; else echo "there is no $program, so no package lgrep" >&2; fi
+# shellcheck source=tools/dist/debs.sh
+. "$tools/dist/debs.sh"
+(cd "$out" && sha256sum ./*.tar.gz ./*.deb | tee SHA256SUMS)
+if [ "${2:-}" = --clean-root ]; then "$tools/dist/clean_root.sh" "$out"; fi
