@@ -4,8 +4,8 @@
 # In FOLDER are then, for Linux on x86-64-v2: a tarball with the library for C (archive, shared library, header, files
 # for pkg-config and CMake, a manual page, guides, licences, and BUILD, which says of what it was made); the Debian
 # packages liblazydfa0, liblazydfa-dev, lgrep (the example grep) and, if the server's headers are there,
-# postgresql-15-lazydfa; the Rust crate with the archive in it; and SHA256SUMS. Equal commits and archives give equal
-# bytes: times are those of the commit.
+# postgresql-15-lazydfa; the Rust crate with the archive in it; the Python package; and SHA256SUMS. Equal commits and
+# archives give equal bytes: times are those of the commit.
 #
 # With --clean-root all of it is installed in a new Debian root, which mmdebstrap makes, and used there
 # (dist/clean_root.sh); that takes root and Debian's packages, and some minutes.
@@ -120,6 +120,14 @@ make_crate() {
     packed "lazydfa-$version" "lazydfa-$version-rust.tar.gz"
 }
 
+make_python() {
+    package=$room/lazydfa-python-$version
+    cp -r "$top/bindings/python" "$package"
+    cp "$top"/LICENSE-* "$package"
+    find "$package" -name __pycache__ -prune -exec rm -rf {} +
+    packed "lazydfa-python-$version" "lazydfa-$version-python.tar.gz"
+}
+
 if [ -n "${ARCHIVE:-}" ]; then
     archive=$(realpath "$ARCHIVE")
     proved=no
@@ -132,6 +140,7 @@ program=${PROGRAM:-$top/crates/example_grep/out/example_grep}
 build_library
 make_tarball
 make_crate
+make_python
 if [ -x "$program" ]; then make_program; else echo "there is no $program, so no package lgrep" >&2; fi
 # shellcheck source=tools/dist/debs.sh
 . "$tools/dist/debs.sh"

@@ -23,7 +23,8 @@ prints() { # NAME WANTED COMMAND..
 
 # Extracts a program of a guide: the block that has this name in its text before it.
 program() { # GUIDE FILE
-    awk -v name="\`$2\`" 'index($0, name) { near = 1 } near && /^```c$/ { on = 1; next } on && /^```$/ { exit } on' "$1" >"$2"
+    awk -v name="\`$2\`" 'index($0, name) { near = 1 } near && /^```c$/ { on = 1; next } on && /^```$/ { exit } on' \
+        "$1" >"$2"
 }
 
 compiled() { # PROGRAM WORD..
@@ -44,7 +45,8 @@ use_library() { # NAME GUIDE [RPATH]
     prints "$1: a static program" "$words" compiled words gcc -static words.c "${flags[@]}" "$archive"
     prints "$1: the shared library" "$words" compiled words gcc words.c "${libs[@]}" ${3:+"-Wl,-rpath,$3"}
     for standard in c++11 c++14 c++17 c++20; do
-        prints "$1: $standard" "$words" compiled words g++ "-std=$standard" -Wall -Wextra -Werror words.cc "${flags[@]}" "$archive"
+        prints "$1: $standard" "$words" \
+            compiled words g++ "-std=$standard" -Wall -Wextra -Werror words.cc "${flags[@]}" "$archive"
     done
     rm -rf built
     cmake -S . -B built >/dev/null && cmake --build built >/dev/null
@@ -70,12 +72,22 @@ use_crate() {
     tar -xf lazydfa-*-rust.tar.gz
     mkdir -p user/src
     crate=$(echo lazydfa-*/)
-    printf '[package]\nname = "user"\nversion = "0.1.0"\nedition = "2021"\n[dependencies]\nlazydfa = { path = "../%s" }\n' \
-        "$crate" >user/Cargo.toml
+    {
+        printf '[package]\nname = "user"\nversion = "0.1.0"\nedition = "2021"\n'
+        printf '[dependencies]\nlazydfa = { path = "../%s" }\n' "$crate"
+    } >user/Cargo.toml
     awk '/^```rust$/ { on = 1; next } on && /^```$/ { exit } on' "$crate/README.md" >user/src/main.rs
     prints "the Rust crate" $'0..3\n7..11' sh -c 'cd user && cargo run --quiet --offline'
     prints "its package" "" sh -c "cd $crate && cargo package --quiet --offline --allow-dirty"
     prints "its tests" "" sh -c "cd $crate && cargo test --quiet --offline >tested 2>&1 || cat tested"
+}
+
+use_python() {
+    tar -xf lazydfa-*-python.tar.gz
+    prints "the Python package" "[(0, 3), (7, 10)]" env PYTHONPATH="$(echo lazydfa-python-*/src)" python3 -c \
+        'import lazydfa; print([it.span() for it in lazydfa.Regex(r"\pL+").finditer("foo 12 bär")])'
+    prints "its tests" "" sh -c "PYTHONPATH=$(echo lazydfa-python-*/src) python3 lazydfa-python-*/tests/test_lazydfa.py \
+        >tested 2>&1 || cat tested"
 }
 
 use_program() {
@@ -94,13 +106,15 @@ use_extension() {
     as_postgres "initdb -D cluster -A trust -E UTF8 --locale=C.UTF-8 >initdb.log &&
         pg_ctl -D cluster -w -o '-c listen_addresses= -c unix_socket_directories=/tmp' -l server.log start >start.log"
     prints "the extension" $'t\n{2,3}' as_postgres "psql -XAtq postgres -c 'CREATE EXTENSION lazydfa' \
-        -c \"SELECT 'foo 12' =~ '[a-z]+ \\d'\" -c \"SELECT lazydfa_which('500 refused', array['timeout', 'refused', '5\\d\\d'])\""
+        -c \"SELECT 'foo 12' =~ '[a-z]+ \\d'\" \
+        -c \"SELECT lazydfa_which('500 refused', array['timeout', 'refused', '5\\d\\d'])\""
     as_postgres "pg_ctl -D cluster -m fast stop >stop.log"
 }
 
 use_tarball
 use_packages
 use_crate
+use_python
 if ls lgrep*.deb >/dev/null 2>&1; then use_program; fi
 if ls postgresql-15-lazydfa*.deb >/dev/null 2>&1; then use_extension; fi
 echo "$passed passed, $failed failed"

@@ -1,0 +1,113 @@
+"""The shared library `liblazydfa.so.0`, by ctypes: the structs of `lazydfa.h`, and the calls that the package makes."""
+import ctypes
+import ctypes.util
+import os
+from ctypes import POINTER, c_char_p, c_size_t, c_uint32, c_uint64, c_void_p
+
+OK, NONE = 0, 1
+MEMORY, TOO_LARGE, CAPACITY = 6, 14, 25
+NO_TOKEN, SYNTAX, NOT_TEXT, NOT_COMPILED = 34, 40, 41, 42
+LEFTMOST_FIRST, ALL = 0, 1
+
+# Words for the codes of searches and of limits.
+CODES = {
+    TOO_LARGE: "the patterns exceed the size limit",
+    CAPACITY: "the capacity of the cache is too small",
+    30: "a Unicode word boundary was searched for in text that is not ASCII",
+    31: "the search gave up, since its cache was cleared too often",
+    NOT_COMPILED: "the pattern could not be compiled",
+}
+
+
+def _struct(name: str, **members):
+    """Returns a struct with these members."""
+    return type(name, (ctypes.Structure,), {"_fields_": list(members.items())})
+
+
+Status = _struct("Status", code=c_uint32, byte=c_uint32, offset=c_size_t)
+Handle = _struct("Handle", at=c_void_p, live=c_uint64)
+Input = _struct(
+    "Input", start=c_size_t, end=c_size_t, anchored=c_uint32, pattern=c_uint32, earliest=c_uint32, reserved=c_uint32
+)
+Match = _struct("Match", start=c_size_t, end=c_size_t, pattern=c_uint32, reserved=c_uint32)
+Iteration = _struct("Iteration", left=Input, last=c_size_t, has_last=c_uint32, ended=c_uint32)
+Refusal = _struct("Refusal", pattern=c_size_t, start=c_size_t, end=c_size_t, length=c_size_t)
+Settings = _struct(
+    "Settings",
+    cache_capacity=c_size_t,
+    minimum_cache_clear_count=c_size_t,
+    minimum_bytes_per_state=c_size_t,
+    **dict.fromkeys(
+        (
+            "has_cache_capacity",
+            "has_minimum_cache_clear_count",
+            "has_minimum_bytes_per_state",
+            "match_kind",
+            "starts_for_each_pattern",
+            "no_byte_classes",
+            "unicode_word_boundary",
+            "specialize_start_states",
+            "skip_cache_capacity_check",
+            "always_anchored",
+        ),
+        c_uint32,
+    ),
+)
+Options = _struct(
+    "Options",
+    size_limit=c_size_t,
+    text_limit=c_size_t,
+    class_limit=c_size_t,
+    **dict.fromkeys(
+        (
+            "has_size_limit",
+            "has_text_limit",
+            "has_class_limit",
+            "nest_limit",
+            "no_unicode",
+            "case_insensitive",
+            "multi_line",
+            "dot_matches_new_line",
+            "crlf",
+            "swap_greed",
+            "ignore_whitespace",
+            "octal",
+            "bytes",
+            "forward_only",
+        ),
+        c_uint32,
+    ),
+)
+
+
+def _load() -> ctypes.CDLL:
+    """Returns the library that LAZYDFA_LIBRARY names, or the installed one."""
+    path = os.environ.get("LAZYDFA_LIBRARY") or ctypes.util.find_library("lazydfa") or "liblazydfa.so.0"
+    try:
+        return ctypes.CDLL(path)
+    except OSError as error:
+        raise ImportError(f"there is no shared library of lazydfa: {error}") from error
+
+
+_library = _load()
+
+
+def _call(name: str, *types):
+    function = getattr(_library, f"lazydfa_raw_{name}")
+    function.argtypes, function.restype = types, Status
+    return function
+
+
+_handle, _text = POINTER(Handle), (c_char_p, c_size_t)
+close = _call("close", _handle)
+cache_new = _call("cache_new", _handle, _handle)
+regex_any_of = _call(
+    "regex_any_of",
+    *(_handle, c_char_p, c_size_t, POINTER(c_size_t), c_size_t),
+    *(POINTER(Options), POINTER(Settings), c_char_p, c_size_t, POINTER(Refusal), c_char_p, c_size_t),
+)
+find = _call("find", _handle, *_text, POINTER(Input), POINTER(Match))
+is_match = _call("is_match", _handle, *_text, POINTER(Input))
+next_all = _call("next_all", _handle, *_text, POINTER(Iteration), POINTER(Match), c_size_t, POINTER(c_size_t))
+tokens = _call("tokens", _handle, *_text, POINTER(Input), POINTER(Match), c_size_t, POINTER(c_size_t))
+which = _call("which", _handle, *_text, POINTER(Input), c_size_t, POINTER(c_uint32), c_size_t, POINTER(c_size_t))
