@@ -16,7 +16,12 @@ PG_MODULE_MAGIC;
 
 void _PG_init(void);
 
-void _PG_init(void) { define_settings(); }
+void _PG_init(void) {
+    if (!lazydfa_is_supported())
+        ereport(ERROR, (errcode(ERRCODE_FEATURE_NOT_SUPPORTED),
+                        errmsg("the processor lacks instructions that lazydfa uses: SSSE3 and SSE4.1")));
+    define_settings();
+}
 
 /* Returns the value of argument 0, to be searched for the patterns of argument 1. */
 static Value value_of(FunctionCallInfo fcinfo, uint32 flags) {

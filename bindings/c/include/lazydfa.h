@@ -55,9 +55,9 @@
  *   6. malloc, realloc and free, which the library calls, belong to one allocator and behave as the C standard says; a
  *      handle is used and closed in the process, and with the allocator, that opened it.
  *   7. This header belongs to the library that is linked, and the compiler passes arguments according to the System V
- *      ABI of x86-64. The processor has the instructions of x86-64-v2, of which SSSE3 and SSE4.1 are used. The stack
- *      has room for a call: 16 KiB are enough for any NFA. For a pattern's text add 1 KiB for each level to which it
- *      may nest, since groups are parsed recursively: 48 KiB in all by default.
+ *      ABI of x86-64. The processor has SSSE3 and SSE4.1, as each of the level x86-64-v2 (lazydfa_is_supported). The
+ *      stack has room for a call: 16 KiB are enough for any NFA. For a pattern's text add 1 KiB for each level to which
+ *      it may nest, since groups are parsed recursively: 48 KiB in all by default.
  *
  * Nothing else is required of the program: every number is allowed in every argument.
  */
@@ -78,6 +78,13 @@
 #ifdef __cplusplus
 extern "C" {
 #endif
+
+/* Returns whether the processor has the instructions that the library uses. On one that has not, which is older than
+   2008 or set up so, other calls end the process. */
+static inline int lazydfa_is_supported(void) {
+    __builtin_cpu_init();
+    return __builtin_cpu_supports("ssse3") && __builtin_cpu_supports("sse4.1");
+}
 
 enum lazydfa_code {
     LAZYDFA_OK = 0,              /* done; a search found a match */

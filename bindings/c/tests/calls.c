@@ -8,6 +8,10 @@
 
 /* ---- Valid calls ---- */
 
+static void processor(void) {
+    CHECK(lazydfa_is_supported() == 1);
+}
+
 static void searches(void) {
     lazydfa_cache c = LAZYDFA_INIT;
     const uint8_t *hay = bytes("foo 12 bar");
@@ -752,6 +756,7 @@ static void null_of_searches(void) {
 }
 
 int main(void) {
+    processor();
     searches();
     iterations();
     sets();

@@ -21,7 +21,13 @@ unsafe impl Send for Handle {}
 
 impl Handle {
     /// Returns a handle that owns nothing.
+    ///
+    /// # Panics
+    ///
+    /// If the processor lacks instructions that the library uses.
     pub fn closed() -> Handle {
+        let is_supported = is_x86_feature_detected!("ssse3") && is_x86_feature_detected!("sse4.1");
+        assert!(is_supported, "the processor lacks SSSE3 or SSE4.1, which lazydfa uses");
         Handle { at: ptr::null_mut(), live: 0 }
     }
 }
