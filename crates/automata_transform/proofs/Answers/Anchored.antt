@@ -93,9 +93,11 @@ before_tail e xs ys (TakesSame same rest) = rest
 abbrev pub at_once : Engine → Engine
 at_once d = record d { unanchored = d.anchored }
 
-module _ (d : Engine)
-    (needs : (q : ℕ) (path : List ℕ) → IsPathAt d.nfa all_but_start [] d.anchored path q → ends_at (node d.nfa q) ≡ false)
-    (skip : ℕ) (loops : LoopsLazily d.nfa d.anchored d.unanchored skip) where
+-- Where `Look::Start` does not hold, no path from the anchored start accepts.
+abbrev Needs : Engine → Type 0
+Needs d = (q : ℕ) (path : List ℕ) → IsPathAt d.nfa all_but_start [] d.anchored path q → ends_at (node d.nfa q) ≡ false
+
+module _ (d : Engine) (needs : Needs d) (skip : ℕ) (loops : LoopsLazily d.nfa d.anchored d.unanchored skip) where
   -- An accepting path from the loop skips no byte.
   skips_none :
       (t : Tape) (i p : ℕ) (path : List ℕ) → Accepts d.nfa t d.unanchored i p path
@@ -314,16 +316,12 @@ abbrev AcceptsFrom : Nfa → Tape → ℕ → ℕ → ℕ → Type 0
 AcceptsFrom n t start i p = (path : List ℕ) × Accepts n t start i p path
 
 any_alike :
-    (d : Engine)
-    → ((q : ℕ) (path : List ℕ) → IsPathAt d.nfa all_but_start [] d.anchored path q → ends_at (node d.nfa q) ≡ false)
-    → BeginsLazily d.nfa d.anchored d.unanchored → AnswerAlike d (at_once d)
+    (d : Engine) → Needs d → BeginsLazily d.nfa d.anchored d.unanchored → AnswerAlike d (at_once d)
 any_alike d needs (SharedStart e) = subst (λ v. AnswerAlike d (record d { unanchored = v })) e (alike_self d)
 any_alike d needs (LazyLoop skip loops) = lazy_alike d needs skip loops
 
 any_accepts :
-    (d : Engine)
-    → ((q : ℕ) (path : List ℕ) → IsPathAt d.nfa all_but_start [] d.anchored path q → ends_at (node d.nfa q) ≡ false)
-    → BeginsLazily d.nfa d.anchored d.unanchored → (t : Tape) (i p : ℕ) → IsHaystack t.bytes
+    (d : Engine) → Needs d → BeginsLazily d.nfa d.anchored d.unanchored → (t : Tape) (i p : ℕ) → IsHaystack t.bytes
     → AcceptsFrom d.nfa t d.unanchored i p ↔ AcceptsFrom d.nfa t d.anchored i p
 any_accepts d needs (SharedStart e) t i p bytes =
     subst (λ v. AcceptsFrom d.nfa t d.unanchored i p ↔ AcceptsFrom d.nfa t v i p) e ((λ h. h), (λ h. h))

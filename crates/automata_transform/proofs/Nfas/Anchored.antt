@@ -1,6 +1,6 @@
 -- The test whether matches begin only at the start of a haystack.
-use Rattle.std.proofs.Common.{ℕ, zero, suc, ◌≡◌, ◌<◌, ◌≤◌, ◌+◌, ◌⊎◌, ◌↔◌, Bool, true, false, List, [], ◌∷◌, ◌++◌, length}
-use Rattle.std.proofs.Common.{get_or, take, inl, inr, refl, sym, ap, ap₂, ◌∙◌, subst, true≢false}
+use Rattle.std.proofs.Common.{ℕ, zero, suc, ◌≡◌, ◌<◌, ◌≤◌, ◌+◌, ◌⊎◌, ◌↔◌, Bool, true, false, List, [], ◌∷◌, ◌++◌}
+use Rattle.std.proofs.Common.{length, get_or, take, inl, inr, refl, sym, ap, ap₂, ◌∙◌, subst, true≢false}
 use Rattle.std.specs.Prelude.{IsTrue}
 use Rattle.std.proofs.lemmas.List.{take_more, take_all}
 use Rattle.automata_base.specs.Haystacks.LookSets.{truth_of}
@@ -90,24 +90,22 @@ pub needs_found :
     → IsTrue b ↔ NeedsStart a
 needs_found a looks slice items b same e closure found = (
   λ t q path w.
-      found.0 t q (subst (λ z. In q z) (sym e)
-      (closure.0 q (0 ∷ path) (a.start_anchored, refl, walk_more (nfa_of a) all_but_start (truth_of looks) [] a.start_anchored path q back w))),
+      let more = walk_more (nfa_of a) all_but_start (truth_of looks) [] a.start_anchored path q back w in
+      found.0 t q (subst (λ z. In q z) (sym e) (closure.0 q (0 ∷ path) (a.start_anchored, refl, more))),
   λ needs. found.1 (λ q i.
-      let key = sorted_has (From (λ root path q. IsPathAt (nfa_of a) (truth_of looks) [] root path q) (a.start_anchored ∷ []))
-      items q closure.1 (subst (λ z. In q z) e i) in
-      ended q key.0 key.1 needs),
+      let key = sorted_has IsKey items q closure.1 (subst (λ z. In q z) e i) in ended q key.0 key.1 needs),
 )
   where
+    IsKey : ℕ → List ℕ → Type 0
+    IsKey = From (λ root path q. IsPathAt (nfa_of a) (truth_of looks) [] root path q) (a.start_anchored ∷ [])
+
     there : Includes (truth_of looks) all_but_start
     there look h = sym (same look ∙ start_mask look) ∙ h
 
     back : Includes all_but_start (truth_of looks)
     back look h = same look ∙ start_mask look ∙ h
 
-    ended :
-        (q : ℕ) (key : List ℕ)
-        → From (λ root path q. IsPathAt (nfa_of a) (truth_of looks) [] root path q) (a.start_anchored ∷ []) q key
-        → NeedsStart a → ends_at (node_in a.states q) ≡ false
+    ended : (q : ℕ) (key : List ℕ) → IsKey q key → NeedsStart a → ends_at (node_in a.states q) ≡ false
     ended q [] h needs = absurd h
     ended q (zero ∷ path) (root, is, w) needs =
         needs q path

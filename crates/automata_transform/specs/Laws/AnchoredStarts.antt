@@ -1,4 +1,5 @@
--- The statements that an NFA whose matches begin only at the start of a haystack answers the same without its lazy loop.
+-- The statements that an NFA whose matches begin only at the start of a haystack answers the same without its lazy
+-- loop.
 use Rattle.std.specs.Prelude.{◌↔◌}
 use Rattle.automata_base.specs.Answers.TruePairs.{KeepsUtf8}
 use Rattle.automata_base.specs.Haystacks.Input.{Input}
