@@ -291,8 +291,9 @@ typedef struct {
 
    A regex that only searches forward is for programs that ask whether there is a match and where it ends: it takes less
    memory, and less time to build. lazydfa_is_match, lazydfa_find_end, lazydfa_all_ends, lazydfa_which, tokens, pieces
-   and walks return what they return with any other regex. lazydfa_find and iterations report a match that begins where
-   the search does, or whose input is anchored, and fail with LAZYDFA_NOT_A_PAIR for any other match. Backward searches
+   and walks return what they return with any other regex. lazydfa_find and iterations report a match that ends where
+   the search begins, or that is anchored, by its input or since all matches of the texts begin at the start of the
+   haystack, as those of ^abc do; they fail with LAZYDFA_NOT_A_PAIR for any other match. Backward searches
    (lazydfa_find_start, lazydfa_all_starts, and searches with the regex of lazydfa_regex_reverse) find nothing. */
 typedef struct {
     size_t size_limit;             /* bytes for the tables of all patterns, and 24 each, if has_size_limit is not 0 */

@@ -97,9 +97,10 @@ static void forward_only(const char *pattern, const char *hay, uint32_t kind) {
     CHECK(lazydfa_which(&other, bytes(hay), whole.end, &whole, 1, &which, 1, &count).code == LAZYDFA_OK);
     CHECK(count == wanted_count && which == wanted_which);
     /* The start of a match is known without a backward search if the match ends where the search began, or is
-       anchored. */
+       anchored, by its mode or by the pattern. */
     if (status.code == LAZYDFA_OK && wanted.offset > 0) {
-        CHECK(lazydfa_find(&other, bytes(hay), whole.end, &whole, &match).code == LAZYDFA_NOT_A_PAIR);
+        CHECK(lazydfa_find(&other, bytes(hay), whole.end, &whole, &match).code
+              == (*pattern == '^' ? LAZYDFA_OK : LAZYDFA_NOT_A_PAIR));
         whole.anchored = LAZYDFA_ANCHORED_YES;
         half = wanted;
         status = lazydfa_find_end(&cache, bytes(hay), strlen(hay), &whole, &half);

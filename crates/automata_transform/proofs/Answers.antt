@@ -1,2 +1,3 @@
+pub mod Anchored
 pub mod Carried
 pub mod Merged

@@ -1,3 +1,4 @@
+pub mod Anchored
 pub mod Merges
 pub mod Captures
 pub mod Mirrors

@@ -1,1 +1,2 @@
+pub mod AnchoredStarts
 pub mod MergedUnions

@@ -1,3 +1,4 @@
+pub mod AnchoredNfas
 pub mod Merges
 pub mod MergedNfas
 pub mod Mirrors

@@ -1,4 +1,6 @@
-//! Laws about reversed and merged NFAs. Each function does nothing: its contract is the law.
+//! Laws about reversed, merged and anchored NFAs. Each function does nothing: its contract is the law.
+ghost use Rattle.automata_transform.specs.Laws.AnchoredStarts.{AnchoredAnswerAlike, AnchoredKeepUtf8};
+ghost use Rattle.automata_transform.specs.Laws.AnchoredStarts.{AnchoredPairsAlike};
 ghost use Rattle.automata_transform.specs.Nfas.Mirrors.{PatternsAreReversed, ReversedIsTrue};
 ghost use Rattle.automata_transform.specs.Laws.MergedUnions.{MergedAcceptAlike, MergedAnswerAlike, MergedBeginAlike};
 ghost use Rattle.automata_transform.specs.Laws.MergedUnions.{MergedKeepUtf8, MergedReadUtf8, MergedStayAcyclic};
@@ -26,4 +28,13 @@ pub fn merged_answers_alike()
     ensures reads { MergedReadUtf8 }
     ensures begins { MergedBeginAlike }
     ensures pair { MergedStayPaired }
+{}
+
+/// An NFA that `anchored` returns gives the same answers as the given one: if its matches begin only at the start of a
+/// haystack, what the lazy loop skips is no part of an accepting path. The accepting paths end at the same offsets, and
+/// the NFA keeps the UTF-8 promise exactly if the given one does.
+pub fn anchored_answers_alike()
+    ensures answers { AnchoredAnswerAlike }
+    ensures pairs { AnchoredPairsAlike }
+    ensures utf8 { AnchoredKeepUtf8 }
 {}

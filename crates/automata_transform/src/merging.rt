@@ -8,6 +8,8 @@
 ghost use Rattle.std.specs.Prelude.{◌≡◌, ◌≤◌, ◌+◌, IfOk, IfSome, IsTrue, OnOk, false, length};
 ghost use Rattle.automata_transform.specs.Answers.Alike.{AnswerAlike};
 ghost use Rattle.automata_base.specs.Nfas.Engines.{engine_of};
+ghost use Rattle.automata_base.specs.Nfas.Nfa.{Read};
+ghost use Rattle.automata_base.specs.Nfas.Nodes.{dense_from, node_of};
 ghost use Rattle.automata_transform.specs.Nfas.MergedNfas.{BeginsAs, IsMergedNfa, KeepsBounds};
 ghost use Rattle.automata_transform.specs.Nfas.MergedNfas.{KeepsCaptures, most_merged};
 ghost use Rattle.automata_base.specs.declared.util.search.MatchKind.{MatchKind};
@@ -57,13 +59,17 @@ struct Merging {
 }
 
 /// Returns a copy of a dense state.
-fn copy_dense(alloc: Global, targets: &[StateID; 256]) -> Result<State, AllocError> {
+fn copy_dense(alloc: Global, targets: &[StateID; 256]) -> Result<State, AllocError>
+    ensures { IfOk result (λ state. node_of state ≡ Read (dense_from 0 targets.now)) }
+{
     let targets = Box::new(alloc, *targets).map_err(AllocError::from)?;
     Ok(State::Dense(targets))
 }
 
 /// Returns a copy of a state.
-fn copy_of(alloc: Global, state: &State) -> Result<State, AllocError> {
+pub fn copy_of(alloc: Global, state: &State) -> Result<State, AllocError>
+    ensures { IfOk result (λ copy. node_of copy ≡ node_of state.now) }
+{
     match state {
         State::ByteRange { lo, hi, next } => Ok(State::ByteRange {
             lo: *lo,

@@ -12,7 +12,7 @@ use Rattle.regex_nfa.specs.Sizes.{table_bytes}
 use Rattle.regex_nfa.specs.declared.nfa.Nfa as kit_nfa
 use Rattle.regex_syntax.specs.declared.Config.{Config}
 use Rattle.automata_base.specs.Nfas.Engines.{Engine, any_byte, engine_of}
-use Rattle.automata_base.specs.Nfas.Nfa.{Node, Split}
+use Rattle.automata_base.specs.Nfas.Nfa.{Nfa, Node, Split}
 use Rattle.automata_base.specs.Nfas.Nodes as ours
 use Rattle.automata_base.specs.Nfas.Nodes.{Automaton}
 use Rattle.automata_base.specs.declared.nfa.thompson.state.Flags.{Flags}
@@ -22,12 +22,13 @@ use Rattle.meaning.specs.Agreeing.{Each, HasMeaning, HasNoUnicodeLook, Implement
 use Rattle.meaning.specs.Translated.{joined_engine, joined_nfa, nodes_of, nodes_of_all, size_of, starts_of}
 use Rattle.meaning.proofs.Lists.{our_nodes, length-our_nodes, length-starts_of, nodes_of_all_push, starts_of_push}
 use Rattle.meaning.proofs.Unions.{length-nodes_of_all}
-use Rattle.patterns.specs.Drafts.{Grows, Has, IsCompiled, IsDraftOf, IsLeft, IsMergedWithin}
+use Rattle.patterns.specs.Drafts.{Grows, Has, IsCompiled, IsDraftOf, IsLeft, IsMergedWithin, IsSimplified}
 use Rattle.patterns.specs.Faults.{IsFaultOf, IsFirstFault, IsJoinFault, IsUnjoined}
 use Rattle.patterns.specs.Patterns.{AreMeanings, IsMeaning, IsWithinLimit, config_of}
 use Rattle.patterns.specs.declared.compile.Draft.{Draft}
 use Rattle.patterns.specs.declared.compile.Options.{Options}
 use Rattle.patterns.specs.declared.error.Fault.{Fault}
+use Rattle.patterns.proofs.Building.{nfa_same}
 
 meanings_push : (config : Config) (texts : List (List ℕ)) (res : List Re) (text : List ℕ) (re : Re) →
     AreMeanings config texts res → IsMeaning config text re → AreMeanings config (texts ++ text ∷ []) (res ++ re ∷ [])
@@ -212,12 +213,24 @@ states_within o texts draft a is same =
     )
 
 -- the states are within the size limit also if unions are merged
-pub within_limit :
+merged_limit :
     (o : Options) (texts : List (List ℕ)) (draft : Draft) (a b : Automaton) (is : IsDraftOf o texts draft) →
     engine_of a LeftmostFirst ≡ joined_engine o.utf8 is.ks → IsMergedWithin o.size_limit a b → IsWithinLimit o texts b
-within_limit o texts draft a b is same into =
+merged_limit o texts draft a b is same into =
     ⊎_elim (λ (l : 12 * length b.states ≤ o.size_limit). omega (arith, l))
     (λ (e : b ≡ a). subst (λ v. IsWithinLimit o texts v) (sym e) (states_within o texts draft a is same)) into.small
+
+-- and if the lazy loop is left out
+pub within_limit :
+    (o : Options) (texts : List (List ℕ)) (draft : Draft) (a b : Automaton) (is : IsDraftOf o texts draft) →
+    engine_of a LeftmostFirst ≡ joined_engine o.utf8 is.ks → IsSimplified o.size_limit a b → IsWithinLimit o texts b
+within_limit o texts draft a b is same into =
+    let nodes : length (ours.nodes_of b.states) ≡ length (ours.nodes_of into.merged.states) =
+    ap (λ (n : Nfa). length n.nodes) (nfa_same into.merged b into.anchors) in
+    let count : length b.states ≡ length into.merged.states =
+    sym (length-our_nodes b.states) ∙ nodes ∙ length-our_nodes into.merged.states in
+    subst (λ v. 12 * v ≤ o.size_limit + 24 * length texts + 36) (sym count)
+    (merged_limit o texts draft a into.merged is same into.merges)
 
 -- the three states that join the patterns
 pub joined_nodes : (s0 s1 s2 s3 : List State) (x y z : State) (n1 n2 n3 : Node) →

@@ -5,6 +5,8 @@ use Rattle.regex_nfa.specs.declared.nfa.Nfa as kit_nfa
 use Rattle.regex_hir.specs.Re.{Re}
 use Rattle.regex_syntax.specs.declared.Config.{Config}
 use Rattle.automata_base.specs.Nfas.Accepted.{IsChecked}
+use Rattle.automata_base.specs.Nfas.Getters.{SkipsLazily}
+use Rattle.automata_transform.specs.Nfas.AnchoredNfas.{IsAnchoredNfa}
 use Rattle.automata_transform.specs.Nfas.MergedNfas.{IsMergedNfa}
 use Rattle.automata_base.specs.Nfas.Nodes as ours
 use Rattle.automata_base.specs.declared.nfa.thompson.state.State.{State}
@@ -79,5 +81,17 @@ pub record IsMergedWithin (limit : ℕ) (nfa merged : ours.Automaton) : Type 0 w
   pub checked : IsChecked nfa
   -- some of its unions are merged, or none
   pub merges : IsMergedNfa nfa merged
+  -- its unanchored searches skip bytes lazily if those of the first one do
+  pub skips : SkipsLazily nfa → SkipsLazily merged
   -- the states take no more bytes than the limit, 12 each, or none is merged
   pub small : (12 * length merged.states ≤ limit) ⊎ (merged ≡ nfa)
+
+-- the second NFA is the first one, with some of its unions merged if that is within a limit, and without its lazy loop
+-- if that is of no use
+pub record IsSimplified (limit : ℕ) (nfa simplified : ours.Automaton) : Type 0 where
+  -- the NFA after merging
+  pub merged : ours.Automaton
+  -- some unions are merged
+  pub merges : IsMergedWithin limit nfa merged
+  -- then the loop is left out
+  pub anchors : IsAnchoredNfa merged simplified

@@ -8,8 +8,10 @@ use Rattle.regex_nfa.specs.declared.nfa.Nfa as kit_nfa
 use Rattle.regex_syntax.specs.declared.Config.{Config}
 use Rattle.regex_syntax.specs.Verdict.{Reads}
 use Rattle.automata_transform.specs.Answers.Alike.{AnswerAlike}
+use Rattle.automata_transform.specs.Nfas.AnchoredNfas.{AssertsStart}
 use Rattle.automata_base.specs.Answers.TruePairs.{KeepsUtf8}
 use Rattle.automata_base.specs.Laws.Walks.{IsAccepted}
+use Rattle.automata_base.specs.Nfas.Getters.{IsAlwaysStartAnchored}
 use Rattle.automata_base.specs.Nfas.Nodes.{Automaton}
 use Rattle.automata_base.specs.Paths.Selections.{Pair}
 use Rattle.automata_base.specs.declared.util.search.MatchKind.{MatchKind}
@@ -79,6 +81,11 @@ AreNfasOf options ks res = ImplementAll ks res × Each (λ k. options.ascii ≡ 
 -- no cycle of epsilon transitions passes a look: such an NFA keeps its cycles without keeping unions
 abbrev pub HasNoLookCycle : Automaton → Type 0
 HasNoLookCycle nfa = IsLookAcyclic (nfa_of nfa)
+
+-- if its matches begin only at the start of a haystack, unanchored searches begin at the anchored start: they skip no
+-- bytes
+abbrev pub BeginsAnchoredIfItMay : Automaton → Type 0
+BeginsAnchoredIfItMay nfa = AssertsStart nfa → IsAlwaysStartAnchored nfa
 
 -- the second NFA answers as the first one: every search, walk and iteration finds the same
 pub record AnswersAs (first second : Automaton) : Type 0 where

@@ -9,15 +9,15 @@ ghost use Rattle.regex_nfa.specs.Sizes as sizes;
 ghost use Rattle.regex_nfa.specs.declared.nfa.Nfa as kit_nfa;
 ghost use Rattle.regex_syntax.specs.Verdict.{Reads};
 ghost use Rattle.regex_syntax.specs.WellFormed.{IsWellFormed};
-ghost use Rattle.patterns.specs.Drafts.{Grows, IsCompiled, IsDraftOf, IsMergedWithin, JoinsDraft};
+ghost use Rattle.patterns.specs.Drafts.{Grows, IsCompiled, IsDraftOf, IsMergedWithin, IsSimplified, JoinsDraft};
 ghost use Rattle.patterns.specs.Faults.{CannotJoin, IsAddFault, IsFaultOf, IsFirstFault, IsLookFault, IsNfaFault};
 ghost use Rattle.patterns.specs.Faults.{LacksRoom};
-ghost use Rattle.patterns.specs.Patterns.{HasNoLookCycle, IsNfaOf, IsWithinLimit, config_of};
+ghost use Rattle.patterns.specs.Patterns.{BeginsAnchoredIfItMay, HasNoLookCycle, IsNfaOf, IsWithinLimit, config_of};
 
 use crate::error::{Fault, PatternError};
 use crate::escapes::has_boundary_escape;
 use crate::translate::{Origin, has_unicode_look, id_of, push_states, shifted};
-use regex_automata::nfa::thompson::{Flags, NFA, State, merged};
+use regex_automata::nfa::thompson::{Flags, NFA, State, anchored, merged};
 use regex_automata::util::primitives::{PatternID, StateID};
 use regex_nfa::Nfa;
 use regex_syntax::{Config, Flags as SyntaxFlags, Parsed};
@@ -281,15 +281,15 @@ impl Draft {
         }
     }
 
-    /// Builds the NFA of all patterns, with its wide unions merged if the size limit leaves room.
-    fn finish_merged(&mut self, alloc: Global, options: &Options) -> Result<NFA, Fault>
-        ensures merged { IfOk result (λ nfa. (joined : nodes.Automaton)
-            × JoinsDraft options.now.utf8 self.old joined × IsMergedWithin options.now.size_limit joined nfa) }
+    /// Builds the NFA of all patterns, and simplifies it.
+    fn finish_simplified(&mut self, alloc: Global, options: &Options) -> Result<NFA, Fault>
+        ensures simplified { IfOk result (λ nfa. (joined : nodes.Automaton)
+            × JoinsDraft options.now.utf8 self.old joined × IsSimplified options.now.size_limit joined nfa) }
         ensures refused { IfErr result (CannotJoin self.old) }
     {
         let nfa = self.finish(alloc, options.utf8)?;
-        match merged_within(nfa, options.size_limit) {
-            Ok(merged) => Ok(merged),
+        match simplified(nfa, options.size_limit) {
+            Ok(simplified) => Ok(simplified),
             Err(error) => Err(Fault::from(error)),
         }
     }
@@ -308,6 +308,15 @@ fn merged_within(nfa: NFA, limit: usize) -> Result<NFA, AllocError>
     }
 }
 
+/// Returns the NFA with its wide unions merged, if the limit leaves room for that, and without its lazy loop, if its
+/// matches begin only at the start of a haystack.
+fn simplified(nfa: NFA, limit: usize) -> Result<NFA, AllocError>
+    ensures { IfOk result (IsSimplified limit nfa) }
+{
+    let merged = merged_within(nfa, limit)?;
+    anchored(&merged)
+}
+
 /// Compiles patterns to one NFA, in which each pattern is numbered by its position in the list. It fails at the first
 /// text that is not a valid pattern, or that makes the patterns too large.
 ///
@@ -315,15 +324,21 @@ fn merged_within(nfa: NFA, limit: usize) -> Result<NFA, AllocError>
 /// eight patterns or more that union is merged where `merged` does so, if the size limit leaves room for 12 bytes
 /// per state: states that read bytes for several patterns at once come after the loop. No cycle of epsilon transitions
 /// passes a look-around assertion, whatever the patterns.
+///
+/// If all matches begin at the start of the haystack, as those of `^abc` do without the flag `m`, the loop is not used:
+/// the union is the start of unanchored searches, too. So they end where no match can follow, and not at the end of the
+/// haystack. This is decided by `anchored`: the NFA has `Look::Start`, and each path from the union passes it before it
+/// reads a byte or matches.
 pub fn nfa_of(alloc: Global, texts: &[&str], options: &Options) -> Result<NFA, PatternError>
     ensures meant { IfOk result (IsNfaOf options.now (map (λ text. text.now) texts.now)) }
     ensures acyclic { IfOk result HasNoLookCycle }
+    ensures anchored { IfOk result BeginsAnchoredIfItMay }
     ensures small { IfOk result (IsWithinLimit options.now (map (λ text. text.now) texts.now)) }
     ensures refused { IfErr result (IsNfaFault options.now (map (λ text. text.now) texts.now)) }
 {
     let mut draft = Draft::new(alloc, options.size_limit);
     draft.read(alloc, texts, options)?;
-    match draft.finish_merged(alloc, options) {
+    match draft.finish_simplified(alloc, options) {
         Ok(nfa) => Ok(nfa),
         Err(fault) => Err(PatternError { number: 0, fault }),
     }

@@ -17,7 +17,9 @@ pub use automata_hybrid::laws::{
     sizes_are_of_nfa, states_have_matching, steps_follow, walk_pieces_follow, walks_agree,
     walks_are_whole,
 };
-pub use automata_transform::laws::{merged_answers_alike, reversed_is_true};
+pub use automata_transform::laws::{
+    anchored_answers_alike, merged_answers_alike, reversed_is_true,
+};
 
 /// Two searches for a match with its start that succeed on one input find the same, over one regex, or over two of the
 /// same NFAs and match kinds. Earlier searches, the capacities of the caches and other settings make no difference.

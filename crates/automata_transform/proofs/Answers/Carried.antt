@@ -1,7 +1,8 @@
 -- If the accepting paths of two engines correspond and keep their order, both engines give the same answers.
 use Rattle.std.proofs.Common.{ℕ, zero, suc, ◌≡◌, ◌<◌, ◌≤◌, ◌+◌, ◌-◌, Bool, List, [], ◌∷◌, ◌↔◌, Option, Some, None}
-use Rattle.std.proofs.Common.{sym, ◌∙◌, subst}
+use Rattle.std.proofs.Common.{sym, ap, ◌∙◌, subst}
 use Rattle.std.proofs.Common.{take, drop, refl}
+use Rattle.std.specs.Prelude.{option_map}
 use Rattle.automata_base.specs.Answers.Answers.{Answers, ArePatternsFound, AreUnsplit, Half, IsAnswer, IsOverlapping}
 use Rattle.automata_base.specs.Answers.Answers.{IsOverlappingFrom, IsSplit}
 use Rattle.automata_base.specs.Answers.Answers.{HasNoAnswerAt, KeepsSplit, OverlapsOver, SelectsFrom, SelectsOver}
@@ -28,6 +29,7 @@ use Rattle.automata_base.specs.Paths.Selections.{Selects}
 use Rattle.automata_base.proofs.Answers.Answered.{haystack_later}
 use Rattle.automata_base.proofs.Answers.Bytes.{nth_drop}
 use Rattle.automata_base.proofs.Answers.Total.{reverse_bytes}
+use Rattle.automata_transform.specs.Answers.Alike.{AnswerAlike}
 use Rattle.automata_transform.proofs.Paths.Carried.{chosen_carried, selects_carried, overlapping_carried}
 use Rattle.automata_base.proofs.Paths.Orders.{none_some}
 
@@ -92,32 +94,41 @@ module _ (T U : Input → Option Pair → Type 0) (S V : Type 0) (way : Directio
     },
   )
 
--- What makes the second engine answer as the first does. `R` relates the corresponding paths on a tape from a state.
-pub record IsCarried (d e : Engine) (R : Tape → ℕ → List ℕ → List ℕ → Type 0) : Type 0 where
+-- What makes the second engine answer as the first does. In a mode, the second one begins at the state that `to` gives
+-- for the state where the first one begins, and `R` relates the corresponding paths on a tape from the two.
+pub record IsCarried (d e : Engine) (to : Anchored → ℕ → ℕ) (R : Anchored → Tape → ℕ → List ℕ → List ℕ → Type 0) :
+    Type 0 where
   pub kinds : d.kind ≡ e.kind
-  pub starts : (mode : Anchored) → first_state d mode ≡ first_state e mode
+  pub starts : (mode : Anchored) → option_map (to mode) (first_state d mode) ≡ first_state e mode
   pub there :
       (t : Tape) (mode : Anchored) (q : ℕ) → IsHaystack t.bytes → first_state d mode ≡ Some q
-      → (i p : ℕ) (a : List ℕ) → Accepts d.nfa t q i p a → (b : List ℕ) × R t q a b × Accepts e.nfa t q i p b
+      → (i p : ℕ) (a : List ℕ) → Accepts d.nfa t q i p a
+      → (b : List ℕ) × R mode t q a b × Accepts e.nfa t (to mode q) i p b
   pub back :
       (t : Tape) (mode : Anchored) (q : ℕ) → IsHaystack t.bytes → first_state d mode ≡ Some q
-      → (i p : ℕ) (b : List ℕ) → Accepts e.nfa t q i p b → (a : List ℕ) × R t q a b × Accepts d.nfa t q i p a
-  pub same : (t : Tape) (q : ℕ) (a b c f : List ℕ) → R t q a b → R t q c f → a ≡ c → b ≡ f
-  pub order : (t : Tape) (q : ℕ) (a b c f : List ℕ) → R t q a b → R t q c f → Before a c → Before b f
+      → (i p : ℕ) (b : List ℕ) → Accepts e.nfa t (to mode q) i p b
+      → (a : List ℕ) × R mode t q a b × Accepts d.nfa t q i p a
+  pub same :
+      (t : Tape) (mode : Anchored) (q : ℕ) (a b c f : List ℕ) → R mode t q a b → R mode t q c f → a ≡ c → b ≡ f
+  pub order :
+      (t : Tape) (mode : Anchored) (q : ℕ) (a b c f : List ℕ) → R mode t q a b → R mode t q c f → Before a c
+      → Before b f
   pub begins :
       (t : Tape) (mode : Anchored) (q place : ℕ) (a b : List ℕ) → IsHaystack t.bytes → first_state d mode ≡ Some q
-      → R t q a b → IsPathStart d mode t a place → IsPathStart e mode t b place
+      → R mode t q a b → IsPathStart d mode t a place → IsPathStart e mode t b place
   pub skips : IsSkipping d ↔ IsSkipping e
 
-module _ (d e : Engine) (R : Tape → ℕ → List ℕ → List ℕ → Type 0) (c : IsCarried d e R) where
+module _ (d e : Engine) (to : Anchored → ℕ → ℕ) (R : Anchored → Tape → ℕ → List ℕ → List ℕ → Type 0)
+    (c : IsCarried d e to R) where
   selects_from :
       (earliest : Bool) (t : Tape) (mode : Anchored) (o : Option ℕ) (answer : Option Pair) → IsHaystack t.bytes
-      → first_state d mode ≡ o → SelectsFrom d earliest t o answer → SelectsFrom e earliest t o answer
+      → first_state d mode ≡ o → SelectsFrom d earliest t o answer
+      → SelectsFrom e earliest t (option_map (to mode) o) answer
   selects_from earliest t mode None answer bytes is h = h
   selects_from earliest t mode (Some q) answer bytes is h =
-      subst (λ k. Selects k earliest e.nfa t q answer) c.kinds
-      (selects_carried d.nfa e.nfa t q (R t q) (c.there t mode q bytes is) (c.back t mode q bytes is) (c.same t q)
-      (c.order t q) d.kind earliest answer h)
+      subst (λ k. Selects k earliest e.nfa t (to mode q) answer) c.kinds
+      (selects_carried d.nfa e.nfa t q (to mode q) (R mode t q) (c.there t mode q bytes is) (c.back t mode q bytes is)
+      (c.same t mode q) (c.order t mode q) d.kind earliest answer h)
 
   selects_over :
       (way : Direction) (input : Input) (answer : Option Pair) → IsHaystack input.haystack
@@ -139,7 +150,7 @@ module _ (d e : Engine) (R : Tape → ℕ → List ℕ → List ℕ → Type 0) 
 
   nearest_carried :
       (t : Tape) (mode : Anchored) (q : ℕ) (answer : Option Pair) → IsHaystack t.bytes → first_state d mode ≡ Some q
-      → IsNearest d.nfa t q answer → IsNearest e.nfa t q answer
+      → IsNearest d.nfa t q answer → IsNearest e.nfa t (to mode q) answer
   nearest_carried t mode q None bytes is h =
       λ i p b acc. let f = c.back t mode q bytes is i p b acc in h i p f.0 f.2
   nearest_carried t mode q (Some pair) bytes is h =
@@ -148,7 +159,7 @@ module _ (d e : Engine) (R : Tape → ℕ → List ℕ → List ℕ → Type 0) 
 
   farthest_carried :
       (t : Tape) (mode : Anchored) (q : ℕ) (answer : Option Pair) → IsHaystack t.bytes → first_state d mode ≡ Some q
-      → IsFarthest d.nfa t q answer → IsFarthest e.nfa t q answer
+      → IsFarthest d.nfa t q answer → IsFarthest e.nfa t (to mode q) answer
   farthest_carried t mode q None bytes is h =
       λ i p b acc. let f = c.back t mode q bytes is i p b acc in h i p f.0 f.2
   farthest_carried t mode q (Some pair) bytes is h =
@@ -159,7 +170,7 @@ module _ (d e : Engine) (R : Tape → ℕ → List ℕ → List ℕ → Type 0) 
   ends_over :
       (Rule : Nfa → Tape → ℕ → Option Pair → Type 0)
       → ((t : Tape) (mode : Anchored) (q : ℕ) (answer : Option Pair) → IsHaystack t.bytes → first_state d mode ≡ Some q
-      → Rule d.nfa t q answer → Rule e.nfa t q answer)
+      → Rule d.nfa t q answer → Rule e.nfa t (to mode q) answer)
       → (way : Direction) (input : Input) (answer : Option Pair) → IsHaystack input.haystack
       → EndsOver Rule way d input answer
       → EndsOver Rule way e input answer
@@ -170,7 +181,8 @@ module _ (d e : Engine) (R : Tape → ℕ → List ℕ → List ℕ → Type 0) 
       t = tape_of way input.haystack input.start input.end
 
       go :
-          (o : Option ℕ) → first_state d input.anchored ≡ o → EndsFrom Rule d t o answer → EndsFrom Rule e t o answer
+          (o : Option ℕ) → first_state d input.anchored ≡ o → EndsFrom Rule d t o answer
+          → EndsFrom Rule e t (option_map (to input.anchored) o) answer
       go None is h = h
       go (Some q) is h =
           turn t input.anchored q answer (tape_bytes way input.haystack input.start input.end bytes) is h
@@ -197,12 +209,12 @@ module _ (d e : Engine) (R : Tape → ℕ → List ℕ → List ℕ → Type 0) 
 
   overlaps_from :
       (t : Tape) (mode : Anchored) (o : Option ℕ) (pairs : List Pair) → IsHaystack t.bytes
-      → first_state d mode ≡ o → IsOverlappingFrom d t o pairs → IsOverlappingFrom e t o pairs
+      → first_state d mode ≡ o → IsOverlappingFrom d t o pairs → IsOverlappingFrom e t (option_map (to mode) o) pairs
   overlaps_from t mode None pairs bytes is h = h
   overlaps_from t mode (Some q) pairs bytes is h =
-      subst (λ k. IsOverlappingOn k e.nfa t q pairs) c.kinds
-      (overlapping_carried d.nfa e.nfa t q (R t q) (c.there t mode q bytes is) (c.back t mode q bytes is) (c.same t q)
-      (c.order t q) d.kind pairs h)
+      subst (λ k. IsOverlappingOn k e.nfa t (to mode q) pairs) c.kinds
+      (overlapping_carried d.nfa e.nfa t q (to mode q) (R mode t q) (c.there t mode q bytes is)
+      (c.back t mode q bytes is) (c.same t mode q) (c.order t mode q) d.kind pairs h)
 
   overlaps_over :
       (way : Direction) (input : Input) (pairs : List Pair) → IsHaystack input.haystack → OverlapsOver way d input pairs
@@ -246,19 +258,19 @@ module _ (d e : Engine) (R : Tape → ℕ → List ℕ → List ℕ → Type 0) 
       let there = c.there t input.anchored s.first b s.is_first in
       let back = c.back t input.anchored s.first b s.is_first in
       let f = there s.length s.half.pattern s.path s.chosen.0 in
-      let chosen : Chooses e input.earliest t s.first s.length s.half.pattern f.0 = (
+      let chosen : Chooses e input.earliest t (to input.anchored s.first) s.length s.half.pattern f.0 = (
         f.2,
         λ j r other acc.
             let g = back j r other acc in
             subst (λ k. IsChosen k input.earliest s.length f.0 j other) c.kinds
-            (chosen_carried d.nfa e.nfa t s.first (R t s.first) there back (c.same t s.first) (c.order t s.first) d.kind
-            input.earliest
+            (chosen_carried d.nfa e.nfa t s.first (to input.anchored s.first) (R input.anchored t s.first) there back
+            (c.same t input.anchored s.first) (c.order t input.anchored s.first) d.kind input.earliest
             s.length j s.path f.0 g.0 other f.1 g.1 (s.chosen.1 j r g.0 g.2)),
       ) in record {
         half = s.half;
         answer = answer_carried Forward input (Some s.half) bytes s.answer;
-        first = s.first;
-        is_first = sym (c.starts input.anchored) ∙ s.is_first;
+        first = to input.anchored s.first;
+        is_first = sym (c.starts input.anchored) ∙ ap (option_map (to input.anchored)) s.is_first;
         length = s.length;
         ends = s.ends;
         path = f.0;
@@ -289,3 +301,52 @@ module _ (d e : Engine) (R : Tape → ℕ → List ℕ → List ℕ → Type 0) 
   pub spans_carried :
       (input : Input) (ms : List Match) → IsHaystack input.haystack → AreSpans d input ms → AreSpans e input ms
   spans_carried input ms bytes h = matches_carried input input.start None ms bytes h
+
+-- Engines each of which answers as the other does.
+pub both_alike :
+    (d e : Engine) (to from : Anchored → ℕ → ℕ) (R S : Anchored → Tape → ℕ → List ℕ → List ℕ → Type 0)
+    → IsCarried d e to R → IsCarried e d from S → AnswerAlike d e
+both_alike d e to from R S c k = record {
+  searches = record {
+    answer =
+        λ way input o bytes.
+        (answer_carried d e to R c way input o bytes, answer_carried e d from S k way input o bytes);
+    truth =
+        λ input o bytes. (match_carried d e to R c input o bytes, match_carried e d from S k input o bytes);
+    nearest =
+        λ way input o bytes. (near_carried d e to R c way input o bytes, near_carried e d from S k way input o bytes);
+    farthest =
+        λ way input o bytes. (far_carried d e to R c way input o bytes, far_carried e d from S k way input o bytes);
+  };
+  matches = record {
+    span = λ input o bytes. (span_carried d e to R c input o bytes, span_carried e d from S k input o bytes);
+    list = λ input ms bytes. (spans_carried d e to R c input ms bytes, spans_carried e d from S k input ms bytes);
+    overlapping =
+        λ way input found bytes.
+        (walk_carried d e to R c way input found bytes, walk_carried e d from S k way input found bytes);
+    patterns =
+        λ input capacity given found bytes. (
+          set_carried d e to R c input capacity given found bytes,
+          set_carried e d from S k input capacity given found bytes,
+        );
+  };
+  skipping = c.skips;
+}
+
+-- An engine answers as itself.
+pub alike_self : (d : Engine) → AnswerAlike d d
+alike_self d = record {
+  searches = record {
+    answer = λ way input o bytes. ((λ h. h), (λ h. h));
+    truth = λ input o bytes. ((λ h. h), (λ h. h));
+    nearest = λ way input o bytes. ((λ h. h), (λ h. h));
+    farthest = λ way input o bytes. ((λ h. h), (λ h. h));
+  };
+  matches = record {
+    span = λ input o bytes. ((λ h. h), (λ h. h));
+    list = λ input ms bytes. ((λ h. h), (λ h. h));
+    overlapping = λ way input found bytes. ((λ h. h), (λ h. h));
+    patterns = λ input capacity given found bytes. ((λ h. h), (λ h. h));
+  };
+  skipping = ((λ h. h), (λ h. h));
+}

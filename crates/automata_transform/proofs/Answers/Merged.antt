@@ -1,7 +1,7 @@
 -- Merging unions does not change the answers of an NFA.
 use Rattle.std.proofs.Common.{ℕ, ◌≡◌, ◌<◌, ◌-◌, List, [], ◌∷◌, ◌++◌, ◌↔◌, length, Some, inl, inr, refl, sym, ap, ap₂}
 use Rattle.std.proofs.Common.{◌∙◌, subst}
-use Rattle.std.specs.Prelude.{slice_get}
+use Rattle.std.specs.Prelude.{None, Option, option_map, slice_get}
 use Rattle.automata_transform.specs.Answers.Alike.{AnswerAlike}
 use Rattle.automata_base.specs.Answers.Spans.{IsPathStart}
 use Rattle.automata_base.specs.Answers.TruePairs.{IsTruePair, Joins, KeepsUtf8}
@@ -31,10 +31,7 @@ use Rattle.automata_base.specs.Paths.Paths.{Tape, IsPath}
 use Rattle.automata_base.specs.Paths.Selections.{Accepts, Pair}
 use Rattle.automata_base.specs.declared.util.search.MatchKind.TheVariants.{All}
 use Rattle.automata_base.specs.declared.util.search.MatchKind.{MatchKind}
-use Rattle.automata_transform.proofs.Answers.Carried.{IsCarried, tape_bytes, answer_carried, match_carried}
-use Rattle.automata_transform.proofs.Answers.Carried.{near_carried}
-use Rattle.automata_transform.proofs.Answers.Carried.{far_carried}
-use Rattle.automata_transform.proofs.Answers.Carried.{walk_carried, set_carried, span_carried, spans_carried}
+use Rattle.automata_transform.proofs.Answers.Carried.{IsCarried, both_alike, tape_bytes}
 use Rattle.automata_transform.proofs.Nfas.Merges.Back.{path_back}
 use Rattle.automata_transform.proofs.Nfas.Merges.Comparing.{Compares, IsBeginning, IsPrefix, before_from, before_to}
 use Rattle.automata_transform.proofs.Nfas.Merges.Comparing.{begins_from}
@@ -211,10 +208,14 @@ module _ (a b : Automaton) (kind : MatchKind) (checked : IsChecked a) (into : Is
       (subst (λ v. IsFirstOn m t v a.start_anchored o place) into.begins.unanchored
       (subst (λ v. IsFirstOn m t b.start_unanchored v o place) into.begins.anchored h))
 
-  carried_there : IsCarried d e There
+  one_turned : (o p : Option ℕ) → o ≡ p → option_map (λ (q : ℕ). q) o ≡ p
+  one_turned None p is = is
+  one_turned (Some q) p is = is
+
+  carried_there : IsCarried d e (λ mode q. q) (λ mode. There)
   carried_there = record {
     kinds = refl;
-    starts = one_start;
+    starts = λ mode. one_turned (first_state d mode) (first_state e mode) (one_start mode);
     there =
         λ t mode q bytes is. accepts_forth n m a.start_anchored lists into.merged checked.range t bytes q
         (below mode q is);
@@ -222,19 +223,19 @@ module _ (a b : Automaton) (kind : MatchKind) (checked : IsChecked a) (into : Is
         λ t mode q bytes is. accepts_back n m a.start_anchored lists into.merged checked.range t bytes q
         (below mode q is);
     same =
-        λ t q w x y z f g h.
+        λ t mode q w x y z f g h.
         equal_from x z ((compared n m lists t q (Unit {0}) ⊥ ⊥ w x y z f g).1 (equal_to w y h));
     order =
-        λ t q w x y z f g h.
+        λ t mode q w x y z f g h.
         before_from x z ((compared n m lists t q ⊥ (Unit {0}) (Unit {0}) w x y z f g).1 (before_to w y h));
     begins = begins_there;
     skips = skipping_alike;
   }
 
-  carried_back : IsCarried e d Back
+  carried_back : IsCarried e d (λ mode q. q) (λ mode. Back)
   carried_back = record {
     kinds = refl;
-    starts = λ mode. sym (one_start mode);
+    starts = λ mode. one_turned (first_state e mode) (first_state d mode) (sym (one_start mode));
     there =
         λ t mode q bytes is.
         accepts_back n m a.start_anchored lists into.merged checked.range t bytes q
@@ -244,59 +245,17 @@ module _ (a b : Automaton) (kind : MatchKind) (checked : IsChecked a) (into : Is
         accepts_forth n m a.start_anchored lists into.merged checked.range t bytes q
         (below mode q (one_start mode ∙ is));
     same =
-        λ t q w x y z f g h.
+        λ t mode q w x y z f g h.
         equal_from x z ((compared n m lists t q (Unit {0}) ⊥ ⊥ x w z y f g).0 (equal_to w y h));
     order =
-        λ t q w x y z f g h.
+        λ t mode q w x y z f g h.
         before_from x z ((compared n m lists t q ⊥ (Unit {0}) (Unit {0}) x w z y f g).0 (before_to w y h));
     begins = begins_back;
     skips = (skipping_alike.1, skipping_alike.0);
   }
 
-  both_alike : AnswerAlike d e
-  both_alike = record {
-    searches = record {
-      answer =
-          λ way input o bytes. (
-            answer_carried d e There carried_there way input o bytes,
-            answer_carried e d Back carried_back way input o
-                bytes,
-          );
-      truth =
-          λ input o bytes.
-          (match_carried d e There carried_there input o bytes, match_carried e d Back carried_back input o bytes);
-      nearest =
-          λ way input o bytes. (
-            near_carried d e There carried_there way input o bytes,
-            near_carried e d Back carried_back way input o
-                bytes,
-          );
-      farthest =
-          λ way input o bytes.
-          (far_carried d e There carried_there way input o bytes, far_carried e d Back carried_back way input o bytes);
-    };
-    matches = record {
-      span =
-          λ input o bytes.
-          (span_carried d e There carried_there input o bytes, span_carried e d Back carried_back input o bytes);
-      list =
-          λ input ms bytes.
-          (spans_carried d e There carried_there input ms bytes, spans_carried e d Back carried_back input ms bytes);
-      overlapping =
-          λ way input found bytes. (
-            walk_carried d e There carried_there way input found bytes,
-            walk_carried e d Back carried_back way input
-                found bytes,
-          );
-      patterns =
-          λ input capacity given found bytes. (
-            set_carried d e There carried_there input capacity given found bytes,
-            set_carried e d Back carried_back input
-                capacity given found bytes,
-          );
-    };
-    skipping = skipping_alike;
-  }
+  merged_both : AnswerAlike d e
+  merged_both = both_alike d e (λ mode q. q) (λ mode q. q) (λ mode. There) (λ mode. Back) carried_there carried_back
 
   -- From each state of the first NFA, both accept the same patterns at the same positions.
   accepts_alike :
@@ -425,7 +384,7 @@ module _ (f : Engine) (a b : Automaton) (checked : IsChecked a) (into : IsMerged
   }
 
 pub merged_alike : MergedAnswerAlike
-merged_alike a b kind checked into = both_alike a b kind checked into
+merged_alike a b kind checked into = merged_both a b kind checked into
 
 pub merged_accepts : MergedAcceptAlike
 merged_accepts a b t start i pattern checked into bytes l = accepts_alike a b All checked into t start i pattern bytes l

@@ -11,9 +11,9 @@ use Rattle.automata_base.specs.Paths.Selections.{ByEdges, ByPlace, IsChosen, Rep
 use Rattle.automata_base.specs.declared.util.search.MatchKind.{MatchKind}
 use Rattle.automata_base.specs.declared.util.search.MatchKind.TheVariants.{All, LeftmostFirst}
 
-module _ (n m : Nfa) (t : Tape) (q : ℕ) (R : List ℕ → List ℕ → Type 0)
-    (there : (i p : ℕ) (a : List ℕ) → Accepts n t q i p a → (b : List ℕ) × R a b × Accepts m t q i p b)
-    (back : (i p : ℕ) (b : List ℕ) → Accepts m t q i p b → (a : List ℕ) × R a b × Accepts n t q i p a)
+module _ (n m : Nfa) (t : Tape) (q z : ℕ) (R : List ℕ → List ℕ → Type 0)
+    (there : (i p : ℕ) (a : List ℕ) → Accepts n t q i p a → (b : List ℕ) × R a b × Accepts m t z i p b)
+    (back : (i p : ℕ) (b : List ℕ) → Accepts m t z i p b → (a : List ℕ) × R a b × Accepts n t q i p a)
     (same : (a b c d : List ℕ) → R a b → R c d → a ≡ c → b ≡ d)
     (order : (a b c d : List ℕ) → R a b → R c d → Before a c → Before b d) where
   upto_carried : (a b c d : List ℕ) → R a b → R c d → Upto a c → Upto b d
@@ -33,7 +33,7 @@ module _ (n m : Nfa) (t : Tape) (q : ℕ) (R : List ℕ → List ℕ → Type 0)
 
   pub selects_carried :
       (kind : MatchKind) (earliest : Bool) (answer : Option Pair) → Selects kind earliest n t q answer
-      → Selects kind earliest m t q answer
+      → Selects kind earliest m t z answer
   selects_carried kind earliest None h = λ i p b acc. let c = back i p b acc in h i p c.0 c.2
   selects_carried kind earliest (Some pair) h =
       let c = there pair.place pair.pattern h.0 h.1 in (
@@ -46,7 +46,7 @@ module _ (n m : Nfa) (t : Tape) (q : ℕ) (R : List ℕ → List ℕ → Type 0)
 
   sorted_carried :
       (i : ℕ) (ps : List ℕ) → Sorted (λ p path. Accepts n t q i p path) ps
-      → Sorted (λ p path. Accepts m t q i p path) ps
+      → Sorted (λ p path. Accepts m t z i p path) ps
   sorted_carried i [] h = tt
   sorted_carried i (p ∷ ps) h =
       let c = there i p h.0.key h.0.has in (
@@ -62,10 +62,10 @@ module _ (n m : Nfa) (t : Tape) (q : ℕ) (R : List ℕ → List ℕ → Type 0)
         sorted_carried i ps h.1,
       )
 
-  all_carried : (i : ℕ) (ps : List ℕ) → IsAllAt n t q i ps → IsAllAt m t q i ps
+  all_carried : (i : ℕ) (ps : List ℕ) → IsAllAt n t q i ps → IsAllAt m t z i ps
   all_carried i ps h = ((λ p path acc. let c = back i p path acc in h.0 p c.0 c.2), sorted_carried i ps h.1)
 
-  first_carried : (i : ℕ) (ps : List ℕ) → IsFirstAt n t q i ps → IsFirstAt m t q i ps
+  first_carried : (i : ℕ) (ps : List ℕ) → IsFirstAt n t q i ps → IsFirstAt m t z i ps
   first_carried i ps (ReportsNoneAt none h) = ReportsNoneAt none (λ p path acc.
       let c = back i p path acc in
       let less = h p c.0 c.2 in
@@ -88,13 +88,13 @@ module _ (n m : Nfa) (t : Tape) (q : ℕ) (R : List ℕ → List ℕ → Type 0)
       })
 
   patterns_carried :
-      (kind : MatchKind) (i : ℕ) (ps : List ℕ) → ArePatternsAt kind n t q i ps → ArePatternsAt kind m t q i ps
+      (kind : MatchKind) (i : ℕ) (ps : List ℕ) → ArePatternsAt kind n t q i ps → ArePatternsAt kind m t z i ps
   patterns_carried All i ps h = all_carried i ps h
   patterns_carried LeftmostFirst i ps h = first_carried i ps h
 
   pairs_carried :
       (kind : MatchKind) (k : ℕ) (pairs : List Pair) → Pairs (ArePatternsAt kind n t q) k pairs
-      → Pairs (ArePatternsAt kind m t q) k pairs
+      → Pairs (ArePatternsAt kind m t z) k pairs
   pairs_carried kind zero pairs h = h
   pairs_carried kind (suc k) pairs h = record {
     earlier = h.earlier;
@@ -105,5 +105,5 @@ module _ (n m : Nfa) (t : Tape) (q : ℕ) (R : List ℕ → List ℕ → Type 0)
   }
 
   pub overlapping_carried :
-      (kind : MatchKind) (pairs : List Pair) → IsOverlappingOn kind n t q pairs → IsOverlappingOn kind m t q pairs
+      (kind : MatchKind) (pairs : List Pair) → IsOverlappingOn kind n t q pairs → IsOverlappingOn kind m t z pairs
   overlapping_carried kind pairs h = pairs_carried kind (suc (length t.bytes)) pairs h

@@ -1,0 +1,8 @@
+use Rattle.std.proofs.lemmas.Result.{IfOk-weaker}
+use Rattle.patterns.proofs.compile.simplified.Goals as goal
+
+pub returns : goal.returns
+returns c =
+    IfOk-weaker c.anchored.result _ _
+    (λ nfa anchors. record { merged = c.in_ok-merged.merged; merges = c.in_ok-merged.ensures; anchors = anchors })
+    c.anchored.ensures.anchored
