@@ -82,8 +82,8 @@ AreNfasOf options ks res = ImplementAll ks res × Each (λ k. options.ascii ≡ 
 abbrev pub HasNoLookCycle : Automaton → Type 0
 HasNoLookCycle nfa = IsLookAcyclic (nfa_of nfa)
 
--- if its matches begin only at the start of a haystack, unanchored searches begin at the anchored start: they skip no
--- bytes
+-- if each path passes `Look::Start` before it reads a byte or matches, unanchored searches begin at the anchored start:
+-- they skip no bytes
 abbrev pub BeginsAnchoredIfItMay : Automaton → Type 0
 BeginsAnchoredIfItMay nfa = AssertsStart nfa → IsAlwaysStartAnchored nfa
 

@@ -24,7 +24,7 @@ NeedsStart a =
 abbrev pub AssertsStart : Automaton → Type 0
 AssertsStart a = Occurs (nfa_of a) Start × NeedsStart a
 
--- The lazy loop before the anchored start is of no use: what it skips is at the start of the haystack.
+-- The lazy loop before the anchored start is of no use: no match begins after a byte that it skips.
 pub record MayBeginAnchored (a : Automaton) : Type 0 where
   -- matches begin only at the start of a haystack
   pub asserts : AssertsStart a
@@ -49,7 +49,7 @@ pub record BeginsAnchoredAs (a b : Automaton) : Type 0 where
 
 -- The second NFA is the first one, without its lazy loop if that is of no use.
 pub data IsAnchoredNfa (a b : Automaton) : Type 0 where
-  -- matches begin only at the start of a haystack, and so do unanchored searches
+  -- the loop is of no use, and unanchored searches begin at the anchored start
   DropsLoop : MayBeginAnchored a → BeginsAnchoredAs a b → IsAnchoredNfa a b
-  -- otherwise it is unchanged
+  -- the loop may be of use, and the NFA is unchanged
   KeepsLoop : (MayBeginAnchored a → ⊥) → b ≡ a → IsAnchoredNfa a b
