@@ -20,6 +20,8 @@ pub record Options : Type 0 where
   pub specialize_start_states : Option Bool
   -- the most bytes that a cache may account for
   pub cache_capacity : Option ℕ
+  -- the bytes up to which the capacity is raised for an NFA whose minimum is large
+  pub cache_limit : Option ℕ
   -- whether a capacity below the minimum is raised to it, instead of being an error
   pub skip_cache_capacity_check : Option Bool
   -- the number of clears after which a search may give up; if it is set to none, it never does
@@ -38,6 +40,7 @@ unset = record {
   quits = None;
   specialize_start_states = None;
   cache_capacity = None;
+  cache_limit = None;
   skip_cache_capacity_check = None;
   minimum_cache_clear_count = None;
   minimum_bytes_per_state = None;
@@ -53,6 +56,7 @@ overwritten old new = record {
   quits = option_or new.quits old.quits;
   specialize_start_states = option_or new.specialize_start_states old.specialize_start_states;
   cache_capacity = option_or new.cache_capacity old.cache_capacity;
+  cache_limit = option_or new.cache_limit old.cache_limit;
   skip_cache_capacity_check = option_or new.skip_cache_capacity_check old.skip_cache_capacity_check;
   minimum_cache_clear_count = option_or new.minimum_cache_clear_count old.minimum_cache_clear_count;
   minimum_bytes_per_state = option_or new.minimum_bytes_per_state old.minimum_bytes_per_state;
@@ -89,6 +93,10 @@ specialize_start_states_of o = unwrap_or o.specialize_start_states false
 -- The most bytes that a cache may account for: by default two mebibytes.
 abbrev pub cache_capacity_of : Options → ℕ
 cache_capacity_of o = unwrap_or o.cache_capacity 2097152
+
+-- The bytes up to which the capacity is raised for an NFA whose minimum is large: by default 0, and it is not raised.
+abbrev pub cache_limit_of : Options → ℕ
+cache_limit_of o = unwrap_or o.cache_limit 0
 
 -- Whether a capacity below the minimum is raised to it: by default it is an error.
 abbrev pub skip_cache_capacity_check_of : Options → Bool

@@ -1,6 +1,6 @@
 -- What a configuration settles for an NFA: a quit set, byte classes and a capacity, or an error.
 use Rattle.std.specs.Prelude.{ℕ, ◌≡◌, ◌+◌, ◌*◌, ◌<◌, ◌≤◌, Bool, not, ◌&&◌, ◌||◌, nat_le, nat_lt, eqb, if◌then◌else◌}
-use Rattle.std.specs.Prelude.{List, [], ◌∷◌, map, Option, Some, None}
+use Rattle.std.specs.Prelude.{List, [], ◌∷◌, map, max, min, Option, Some, None}
 use Rattle.std.specs.List.{list_all, list_any, range_with_len}
 use Rattle.automata_determinize.specs.Powersets.Accounting.{start_slots, max_cost, fixed_cost, minimum_capacity}
 use Rattle.automata_determinize.specs.Powersets.Accounting.{effective_capacity}
@@ -13,7 +13,7 @@ use Rattle.automata_base.specs.declared.util.look.Look.TheVariants.{WordUnicode,
 use Rattle.automata_base.specs.declared.util.look.Look.TheVariants.{WordEndUnicode, WordStartHalfUnicode}
 use Rattle.automata_base.specs.declared.util.look.Look.TheVariants.{WordEndHalfUnicode}
 use Rattle.automata_config.specs.Options.{Options, starts_for_each_pattern_of, byte_classes_of}
-use Rattle.automata_config.specs.Options.{unicode_word_boundary_of, quits_of, cache_capacity_of}
+use Rattle.automata_config.specs.Options.{unicode_word_boundary_of, quits_of, cache_capacity_of, cache_limit_of}
 use Rattle.automata_config.specs.Options.{skip_cache_capacity_check_of}
 use Rattle.automata_config.specs.Settled.{Settled}
 use Rattle.automata_config.specs.declared.error.BuildError.{BuildError}
@@ -72,15 +72,24 @@ max_offset = 134217727
 unfoldable pub greatest_offset : Options → Automaton → ℕ
 greatest_offset o a = (4 + settled_slots o a) * settled_stride o a
 
+-- The capacity of a cache that needs this minimum: the configured one, raised to four times the minimum as far as the
+-- limit allows.
+abbrev pub capacity_for : Options → (minimum : ℕ) → ℕ
+capacity_for o minimum = max (cache_capacity_of o) (min (cache_limit_of o) (4 * minimum))
+
+-- The capacity that the settings give a cache of the DFA.
+abbrev pub given_capacity : Options → Automaton → ℕ
+given_capacity o a = capacity_for o (settled_minimum o a)
+
 -- Whether the capacity is below the minimum, and the check is not skipped.
 abbrev pub is_too_small : Options → Automaton → Bool
-is_too_small o a = not (skip_cache_capacity_check_of o) && nat_lt (cache_capacity_of o) (settled_minimum o a)
+is_too_small o a = not (skip_cache_capacity_check_of o) && nat_lt (given_capacity o a) (settled_minimum o a)
 
 -- Why no DFA of the NFA can be built, or none if one can.
 abbrev pub settling_error : Options → Automaton → Option BuildError
 settling_error o a =
     if is_unsupported o a then Some Unsupported
-    else (if is_too_small o a then Some (InsufficientCacheCapacity (settled_minimum o a) (cache_capacity_of o))
+    else (if is_too_small o a then Some (InsufficientCacheCapacity (settled_minimum o a) (given_capacity o a))
     else (if nat_lt max_offset (greatest_offset o a) then Some (InsufficientStateIDCapacity (greatest_offset o a))
     else None))
 
@@ -90,7 +99,7 @@ pub record IsSettled (o : Options) (a : Automaton) (s : Settled) : Type 0 where
   pub quits : s.quits ≡ settled_quits o a
   -- the class of each byte
   pub classes : (byte : ℕ) → byte < 256 → class_in s.classes byte ≡ class_of a s.quits (byte_classes_of o) byte
-  -- the effective capacity: the configured one, or the minimum if that is larger
-  pub capacity : s.capacity ≡ effective_capacity (cache_capacity_of o) (settled_minimum o a)
+  -- the effective capacity: the one that the settings give, or the minimum if that is larger
+  pub capacity : s.capacity ≡ effective_capacity (given_capacity o a) (settled_minimum o a)
   -- the offset of each row in a table of the minimum capacity fits into its ID
   pub offsets : greatest_offset o a ≤ max_offset

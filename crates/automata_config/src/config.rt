@@ -24,6 +24,7 @@ pub struct Config {
     quits: Option<ByteSet>,
     specialize_start_states: Option<bool>,
     cache_capacity: Option<usize>,
+    cache_limit: Option<usize>,
     skip_cache_capacity_check: Option<bool>,
     minimum_cache_clear_count: Option<Option<usize>>,
     minimum_bytes_per_state: Option<Option<usize>>,
@@ -42,6 +43,7 @@ impl Model for Config {
       quits = c.quits;
       specialize_start_states = c.specialize_start_states;
       cache_capacity = c.cache_capacity;
+      cache_limit = c.cache_limit;
       skip_cache_capacity_check = c.skip_cache_capacity_check;
       minimum_cache_clear_count = c.minimum_cache_clear_count;
       minimum_bytes_per_state = c.minimum_bytes_per_state;
@@ -55,6 +57,7 @@ impl Model for Config {
       quits = o.quits;
       specialize_start_states = o.specialize_start_states;
       cache_capacity = o.cache_capacity;
+      cache_limit = o.cache_limit;
       skip_cache_capacity_check = o.skip_cache_capacity_check;
       minimum_cache_clear_count = o.minimum_cache_clear_count;
       minimum_bytes_per_state = o.minimum_bytes_per_state;
@@ -66,6 +69,7 @@ impl Config {
     ghost use Rattle.std.specs.Prelude.{slice_set};
     ghost use Rattle.std.specs.Result.{result_err};
     ghost use Rattle.automata_config.specs.Settling.{settled_minimum, settled_stride, settled_quits, greatest_offset};
+    ghost use Rattle.automata_config.specs.Settling.{capacity_for};
     ghost use Rattle.automata_config.specs.Settling.{is_unsupported, settling_error, IsSettled};
     ghost use Rattle.automata_base.specs.ByteClasses.Classes.{is_quit};
     ghost use Rattle.automata_config.specs.Options.{unset, overwritten};
@@ -183,6 +187,21 @@ impl Config {
         }
     }
 
+    /// Sets the bytes up to which the capacity is raised for an NFA whose minimum is large: each DFA then has the
+    /// configured capacity, or four times its minimum if that is more, but not more than this limit. The default is 0,
+    /// so that the capacity is not raised.
+    ///
+    /// A cache that holds only few states is cleared again and again. With a limit, large NFAs get large caches, and
+    /// others do not.
+    pub fn cache_limit(self, bytes: usize) -> Config
+        ensures { result ≡ record self { cache_limit = Some bytes } }
+    {
+        Config {
+            cache_limit: Some(bytes),
+            ..self
+        }
+    }
+
     /// Sets whether a capacity below the minimum is raised to it. By default such a capacity is an error.
     pub fn skip_cache_capacity_check(self, yes: bool) -> Config
         ensures { result ≡ record self { skip_cache_capacity_check = Some yes } }
@@ -266,6 +285,13 @@ impl Config {
         self.cache_capacity.unwrap_or(2 * (1 << 20))
     }
 
+    /// Returns the bytes up to which the capacity is raised for an NFA whose minimum is large. The default is 0.
+    pub fn get_cache_limit(&self) -> usize
+        ensures { result ≡ options.cache_limit_of self.now }
+    {
+        self.cache_limit.unwrap_or(0)
+    }
+
     /// Whether a capacity below the minimum is raised to it. By default it is an error.
     pub fn get_skip_cache_capacity_check(&self) -> bool
         ensures { result ≡ options.skip_cache_capacity_check_of self.now }
@@ -301,6 +327,7 @@ impl Config {
             quits: new.quits.or(self.quits),
             specialize_start_states: new.specialize_start_states.or(self.specialize_start_states),
             cache_capacity: new.cache_capacity.or(self.cache_capacity),
+            cache_limit: new.cache_limit.or(self.cache_limit),
             skip_cache_capacity_check: new
                 .skip_cache_capacity_check
                 .or(self.skip_cache_capacity_check),
@@ -335,7 +362,7 @@ impl Config {
         let classes = ByteClasses::of(nfa, &quits, self.get_byte_classes());
         let stride = classes.stride();
         let minimum = self.minimum_for(nfa, stride);
-        let given = self.get_cache_capacity();
+        let given = self.capacity_for(minimum);
         if self.is_too_small_for(minimum) {
             return Err(BuildError::InsufficientCacheCapacity { minimum, given });
         }
@@ -350,12 +377,21 @@ impl Config {
         })
     }
 
-    /// Whether the configured capacity is below this minimum, in bytes, and the check is not skipped.
+    /// Returns the capacity of a cache that needs this minimum, both in bytes: the configured one, raised to four times
+    /// the minimum as far as the limit allows.
+    fn capacity_for(&self, minimum: usize) -> usize
+        ensures { result ≡ capacity_for self.now minimum }
+    {
+        let raised = self.get_cache_limit().min(minimum.saturating_mul(4));
+        self.get_cache_capacity().max(raised)
+    }
+
+    /// Whether the capacity of a cache that needs this minimum, in bytes, is below it, and the check is not skipped.
     fn is_too_small_for(&self, minimum: usize) -> bool
         ensures { result ≡ (not (options.skip_cache_capacity_check_of self.now) && nat_lt
-            (options.cache_capacity_of self.now) minimum) }
+            (capacity_for self.now minimum) minimum) }
     {
-        !self.get_skip_cache_capacity_check() && self.get_cache_capacity() < minimum
+        !self.get_skip_cache_capacity_check() && self.capacity_for(minimum) < minimum
     }
 
     /// Returns the minimum capacity, in bytes, of a cache for the NFA at this stride.

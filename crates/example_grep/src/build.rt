@@ -27,7 +27,7 @@ use regex_automata::util::search::MatchKind;
 use std::alloc::Global;
 
 /// Returns the options that patterns are read with: they match bytes, and not only UTF-8.
-fn bytewise(case_insensitive: bool) -> Options
+pub fn bytewise(case_insensitive: bool) -> Options
     ensures { result ≡ bytewise case_insensitive }
 {
     Options {
@@ -43,6 +43,8 @@ fn bytewise(case_insensitive: bool) -> Options
         ascii: false,
         size_limit: 10 << 20,
         nest_limit: 250,
+        cache_capacity: 8 << 20,
+        cache_limit: 256 << 20,
     }
 }
 

@@ -57,7 +57,7 @@ mod stats;
 mod view;
 
 use crate::args::Args;
-use crate::build::{grep_of, patterns_nfa};
+use crate::build::{bytewise, grep_of, patterns_nfa};
 use crate::files::Search;
 use crate::show::Show;
 use anyhow::Result;
@@ -69,9 +69,14 @@ use std::process::ExitCode;
 use std::time::Instant;
 
 /// Shows the error of a pattern, and returns the status 2.
-fn report(rt: &HostRuntime, patterns: &[&str], error: PatternError) -> Result<ExitCode> {
+fn report(
+    rt: &HostRuntime,
+    patterns: &[&str],
+    case_insensitive: bool,
+    error: PatternError,
+) -> Result<ExitCode> {
     let pattern = patterns.get(error.number).copied().unwrap_or("");
-    let shown = error.show(rt.alloc(), pattern)?;
+    let shown = error.show(rt.alloc(), pattern, &bytewise(case_insensitive))?;
     eprintln!(rt; "example_grep: {shown}")?;
     Ok(ExitCode::from(2))
 }
@@ -120,7 +125,7 @@ fn run(rt: &HostRuntime) -> Result<ExitCode> {
     let texts = texts_of(rt.alloc(), args.patterns.as_slice())?;
     match patterns_nfa(rt.alloc(), texts.as_slice(), args.case_insensitive) {
         Ok(nfa) => search_files(rt, &args, nfa),
-        Err(error) => report(rt, texts.as_slice(), error),
+        Err(error) => report(rt, texts.as_slice(), args.case_insensitive, error),
     }
 }
 

@@ -22,7 +22,7 @@ fn push_error(alloc: Global, size_limit: usize, texts: &[&str], shown: &mut Stri
         Ok(_) => writeln!(shown, "no error")?,
         Err(error) => {
             let text = texts.get(error.number).copied().unwrap_or("");
-            writeln!(shown, "{error}\n{}", error.show(alloc, text)?)?;
+            writeln!(shown, "{error}\n{}", error.show(alloc, text, &options)?)?;
         }
     }
     Ok(())

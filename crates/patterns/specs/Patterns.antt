@@ -39,6 +39,8 @@ default_options = record {
   ascii = false;
   size_limit = 10485760;
   nest_limit = 250;
+  cache_capacity = 8388608;
+  cache_limit = 268435456;
 }
 
 -- the parser's configuration for these options: each flag, and the limit on nesting, is the option of its name
@@ -128,10 +130,18 @@ IsNfaOf options texts nfa =
 abbrev pub IsWithinLimit : Options → (texts : List (List ℕ)) → Automaton → Type 0
 IsWithinLimit options texts nfa = 12 * length nfa.states ≤ options.size_limit + 24 * length texts + 36
 
--- the settings of the DFAs: the library's defaults, with Unicode word boundaries if the text is ASCII
+-- what the options decide of the settings of a DFA: Unicode word boundaries if the text is ASCII, and the capacity of
+-- its caches, which is raised to four times the minimum as far as the limit allows (`capacity_for` of the settings)
+abbrev pub dfa_settings : Options → settings.Options
+dfa_settings options = record settings.unset {
+  unicode_word_boundary = Some options.ascii;
+  cache_capacity = Some options.cache_capacity;
+  cache_limit = Some options.cache_limit;
+}
+
+-- the settings of the DFAs: those that the options decide, and otherwise the library's defaults
 abbrev pub settings_of : Options → settings.Options
-settings_of options = settings.overwritten settings.unset
-    (record settings.unset { unicode_word_boundary = Some options.ascii })
+settings_of options = settings.overwritten settings.unset (dfa_settings options)
 
 -- these settings, except for the match kind, which is `MatchKind::LeftmostFirst`, and for Unicode word boundaries,
 -- which the options decide

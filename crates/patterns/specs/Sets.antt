@@ -27,13 +27,14 @@ use Rattle.regex_automata.specs.declared.hybrid.regex.build.RegexBuildError.TheV
 use Rattle.meaning.specs.Patterns.{span_input}
 use Rattle.patterns.specs.Faults.{IsNfaFault, IsUnbuilt}
 use Rattle.patterns.specs.Patterns.{AreMeanings, IsFor, IsJoinedNfa, IsNfaOf, IsWithinLimit, config_of}
+use Rattle.patterns.specs.Patterns.{dfa_settings}
 use Rattle.patterns.specs.declared.compile.Options.{Options}
 use Rattle.patterns.specs.declared.error.PatternError.{PatternError}
 
 -- the settings of the DFA: those of a pattern's DFAs, but with `MatchKind::All`
 abbrev pub set_settings_of : Options → settings.Options
-set_settings_of options = settings.overwritten settings.unset
-    (record settings.unset { match_kind = Some KindAll; unicode_word_boundary = Some options.ascii })
+set_settings_of options =
+    settings.overwritten settings.unset (record (dfa_settings options) { match_kind = Some KindAll })
 
 -- the DFA searches for all matches of what the patterns mean
 pub record IsDfaOf (options : Options) (res : List Re) (m : Machine) : Type 0 where

@@ -17,6 +17,7 @@ ghost use Rattle.patterns.specs.Patterns.{BeginsAnchoredIfItMay, HasNoLookCycle,
 use crate::error::{Fault, PatternError};
 use crate::escapes::has_boundary_escape;
 use crate::translate::{Origin, has_unicode_look, id_of, push_states, shifted};
+use regex_automata::hybrid::dfa::Config as DfaConfig;
 use regex_automata::nfa::thompson::{Flags, NFA, State, anchored, merged};
 use regex_automata::util::primitives::{PatternID, StateID};
 use regex_nfa::Nfa;
@@ -58,6 +59,11 @@ pub struct Options {
     /// How deep groups, repetitions and classes may nest. The parser recurses as deep, so a higher limit needs a larger
     /// stack.
     pub nest_limit: u32,
+    /// How many bytes each cache may account for. A regex has two, one for each direction, and a set has one.
+    pub cache_capacity: usize,
+    /// The bytes up to which the capacity of a cache is raised for large patterns, to four times the least capacity
+    /// that they need. Patterns that need more than this limit and than `cache_capacity` are an error.
+    pub cache_limit: usize,
 }
 
 impl Default for Options {
@@ -79,7 +85,30 @@ impl Default for Options {
             ascii: false,
             size_limit: 10 << 20,
             nest_limit: 250,
+            cache_capacity: 8 << 20,
+            cache_limit: 256 << 20,
         }
+    }
+}
+
+impl Options {
+    ghost use Rattle.std.specs.Prelude.{◌≡◌};
+    ghost use Rattle.patterns.specs.Patterns.{dfa_settings};
+
+    /// Returns the settings of a DFA that these options decide: `ascii`, `cache_capacity` and `cache_limit`. Set others
+    /// for `Pattern::from_nfa_with`:
+    ///
+    /// ```rust
+    /// let config = options.dfa_config().minimum_cache_clear_count(Some(8));
+    /// let pattern = Pattern::from_nfa_with(nfa, &options, config)?;
+    /// ```
+    pub fn dfa_config(&self) -> DfaConfig
+        ensures { result ≡ dfa_settings self.now }
+    {
+        DfaConfig::new()
+            .unicode_word_boundary(self.ascii)
+            .cache_capacity(self.cache_capacity)
+            .cache_limit(self.cache_limit)
     }
 }
 

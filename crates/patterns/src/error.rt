@@ -2,11 +2,12 @@ ghost use Rattle.std.specs.Prelude.{◌≡◌};
 ghost use Rattle.patterns.specs.Faults.{compile_fault, joining_fault, span_of};
 ghost use Rattle.patterns.specs.declared.error.Fault.TheVariants as fault;
 
+use regex_automata::hybrid::BuildError;
 use regex_automata::hybrid::regex::RegexBuildError;
 use regex_automata::nfa::thompson::NfaError;
 use regex_syntax::Span;
-use std::alloc::{AllocError, AllocFailed, Global};
-use std::fmt::Write;
+use std::alloc::{AllocError, AllocFailed};
+use std::fmt;
 use thiserror::Error;
 
 /// What is wrong with a pattern.
@@ -28,7 +29,7 @@ pub enum Fault {
     #[error("{0}")]
     Refused(NfaError),
     /// No regex, or no DFA of a set, can be built from the NFA.
-    #[error("{0}")]
+    #[error("{}", BuildText(*.0))]
     Unbuilt(RegexBuildError),
     /// An allocation failed.
     #[error("out of memory")]
@@ -76,7 +77,7 @@ impl From<NfaError> for Fault {
 
 /// The first pattern that cannot be compiled, and why.
 #[derive(Clone, Copy, Debug, PartialEq, Eq, Error)]
-#[error("pattern {number}: {fault}")]
+#[error("{}{fault}", NumberText(*.number, *.fault))]
 pub struct PatternError {
     /// The position of the pattern in the list, counted from 0. It is 0 if the error is about all patterns.
     pub number: usize,
@@ -94,33 +95,43 @@ impl PatternError {
             _ => None,
         }
     }
+}
 
-    /// Formats what is wrong, the pattern's text, and below it a caret for each character that the error is about.
-    pub fn show(&self, alloc: Global, text: &str) -> Result<String, AllocError> {
-        let mut shown = String::new(alloc);
-        let fault = self.fault;
-        write!(shown, "{fault}\n  {text}")?;
-        if let Some(span) = self.span() {
-            shown.push_str("\n  ")?;
-            push_carets(&mut shown, text, span)?;
+/// Whether the fault is about all patterns together, and not about the one whose number the error has.
+pub(crate) fn is_about_all(fault: &Fault) -> bool {
+    matches!(fault, Fault::Refused(_) | Fault::Unbuilt(_))
+}
+
+// The number of the pattern that an error is about, or nothing if it is about all.
+#[derive(Clone, Copy)]
+struct NumberText(usize, Fault);
+
+impl fmt::Display for NumberText {
+    fn fmt<W: fmt::Write>(&self, f: &mut fmt::Formatter<W>) -> fmt::Result {
+        let number = self.0;
+        if is_about_all(&self.1) {
+            Ok(())
+        } else {
+            write!(f, "pattern {number}: ")
         }
-        Ok(shown)
     }
 }
 
-/// Appends a space for each character before the span, and a caret for each character in it, at least one.
-fn push_carets(shown: &mut String, text: &str, span: Span) -> Result<(), AllocError> {
-    let mut carets = 0;
-    for (offset, _) in text.char_indices() {
-        if offset < span.start {
-            shown.push(' ')?;
-        } else if offset < span.end {
-            shown.push('^')?;
-            carets = 1;
+// Why nothing is built from an NFA. If a cache may take too little, the text says how much it needs, and which option
+// raises that.
+#[derive(Clone, Copy)]
+struct BuildText(RegexBuildError);
+
+impl fmt::Display for BuildText {
+    fn fmt<W: fmt::Write>(&self, f: &mut fmt::Formatter<W>) -> fmt::Result {
+        let error = self.0;
+        match error {
+            RegexBuildError::Build(BuildError::InsufficientCacheCapacity { minimum, given }) =>
+                write!(
+                    f,
+                    "a cache of the patterns needs at least {minimum} bytes, and may take {given}; raise cache_limit"
+                ),
+            _ => write!(f, "{error}"),
         }
     }
-    if carets == 0 {
-        shown.push('^')?;
-    }
-    Ok(())
 }

@@ -16,6 +16,7 @@
 mod compile;
 mod error;
 mod escapes;
+mod explain;
 mod facts;
 pub mod laws;
 mod matches;

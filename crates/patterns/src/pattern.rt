@@ -23,7 +23,7 @@ ghost use Rattle.patterns.specs.declared.compile.Options as options;
 use crate::compile::{Options, nfa_of};
 use crate::error::{Fault, PatternError};
 use regex_automata::hybrid::SearchError;
-use regex_automata::hybrid::dfa::{Config, DFA};
+use regex_automata::hybrid::dfa::Config;
 use regex_automata::hybrid::regex::{Cache, Regex, RegexBuildError};
 use regex_automata::laws::{matches_are_spans, spans_follow};
 use regex_automata::nfa::thompson::NFA;
@@ -99,14 +99,15 @@ impl Pattern {
         ensures built { IfOk result (λ pattern. BuildsOne (settings_of options.now) nfa pattern.regex) }
         ensures refused { IfErr result (IsBuildError (settings_of options.now) nfa) }
     {
-        let config = DFA::config().unicode_word_boundary(options.ascii);
+        let config = options.dfa_config();
         let regex = regex_of(nfa, config)?;
         Ok(Pattern { regex })
     }
 
     /// Builds patterns as `from_nfa` does, but with settings of your own: for example what its caches may take, and
     /// when a search gives up. The match kind is `MatchKind::LeftmostFirst`, and the options decide about Unicode word
-    /// boundaries, whatever the settings say about these two.
+    /// boundaries, whatever the settings say about these two. The capacity is that of the settings: begin with
+    /// `Options::dfa_config` to keep that of the options.
     pub fn from_nfa_with(
         nfa: NFA,
         options: &Options,

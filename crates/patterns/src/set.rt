@@ -53,9 +53,7 @@ fn dfa_of(nfa: NFA, options: &Options) -> Result<DFA, RegexBuildError>
     ensures refused { IfErr result (IsDfaError options.now nfa) }
 {
     let mut builder = DFA::builder();
-    let config = DFA::config()
-        .match_kind(MatchKind::All)
-        .unicode_word_boundary(options.ascii);
+    let config = options.dfa_config().match_kind(MatchKind::All);
     builder.configure(config);
     match test_utf8(&nfa) {
         Err(error) => Err(error),

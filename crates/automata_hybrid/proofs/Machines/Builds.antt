@@ -11,9 +11,9 @@ use Rattle.automata_base.specs.ByteClasses.Classes.{is_boundary, boundary_count,
 use Rattle.automata_base.specs.ByteClasses.Classes.{alphabet_length, stride_of, stride_for}
 use Rattle.automata_determinize.proofs.Powersets.AlikeClasses.{class_step}
 use Rattle.automata_base.proofs.Powersets.AlikeClasses.{class_quits}
-use Rattle.automata_config.specs.Options.{starts_for_each_pattern_of, byte_classes_of, cache_capacity_of}
+use Rattle.automata_config.specs.Options.{starts_for_each_pattern_of, byte_classes_of}
 use Rattle.automata_config.specs.Settled.{Settled}
-use Rattle.automata_config.specs.Settling.{IsSettled, settled_minimum, greatest_offset}
+use Rattle.automata_config.specs.Settling.{IsSettled, given_capacity, settled_minimum, greatest_offset}
 use Rattle.automata_hybrid.specs.Machines.Machine.{IsSized}
 use Rattle.automata_base.proofs.ByteClasses.Boundaries.{count_grows}
 
@@ -192,7 +192,7 @@ IsBuilt-IsMachine s m i =
 
       enough : minimum_capacity m.stride m.slots m.greatest m.fixed ≤ m.capacity
       enough =
-          let given : m.capacity ≡ effective_capacity (cache_capacity_of m.config) (settled_minimum m.config m.nfa) =
+          let given : m.capacity ≡ effective_capacity (given_capacity m.config m.nfa) (settled_minimum m.config m.nfa) =
           i.capacity ∙ i.settled.capacity in
           subst (λ n. n ≤ m.capacity) minimum_is
           (subst (λ n. settled_minimum m.config m.nfa ≤ n) (sym given) (omega arith))

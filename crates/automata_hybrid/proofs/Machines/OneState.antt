@@ -7,8 +7,9 @@ use Rattle.automata_base.specs.Nfas.Nodes.{stack_room}
 use Rattle.automata_base.specs.declared.nfa.thompson.state.State.{State}
 use Rattle.automata_base.specs.declared.nfa.thompson.state.State.TheVariants.{Match, Fail}
 use Rattle.automata_config.specs.Options.{quits_of, unicode_word_boundary_of, unset}
-use Rattle.automata_config.specs.Settling.{greatest_offset, has_unicode_word, holds_non_ascii, is_too_small}
-use Rattle.automata_config.specs.Settling.{is_unsupported, settling_error, settled_minimum, settled_stride}
+use Rattle.automata_config.specs.Settling.{given_capacity, greatest_offset, has_unicode_word, holds_non_ascii}
+use Rattle.automata_config.specs.Settling.{is_too_small, is_unsupported, settling_error, settled_minimum}
+use Rattle.automata_config.specs.Settling.{settled_stride}
 use Rattle.automata_base.proofs.ByteClasses.Boundaries.{stride_for-few}
 
 no_reason :
@@ -27,6 +28,9 @@ minimum_fits a one few room =
     let stride : settled_stride unset a ≤ 512 = stride_for-few _ in
     omega (arith, stride, one, few, room)
 
+within_given : (a : Automaton) → settled_minimum unset a ≤ 2097152 → settled_minimum unset a ≤ given_capacity unset a
+within_given a fits = omega (arith, fits)
+
 offset_fits : (a : Automaton) → greatest_offset unset a ≤ 134217727
 unfolding greatest_offset
 offset_fits a = let stride : settled_stride unset a ≤ 512 = stride_for-few _ in omega (arith, stride)
@@ -38,7 +42,7 @@ one_settles :
 one_settles a one few room word =
     no_reason (is_unsupported unset a) (is_too_small unset a) (ltb 134217727 (greatest_offset unset a)) _ _ _
     (ap (λ b. b && not (unicode_word_boundary_of unset || holds_non_ascii (quits_of unset))) word)
-    (le-ltb 2097152 (settled_minimum unset a) (minimum_fits a one few room))
+    (le-ltb (given_capacity unset a) (settled_minimum unset a) (within_given a (minimum_fits a one few room)))
     (le-ltb 134217727 (greatest_offset unset a) (offset_fits a))
 
 pub match_settles : (a : Automaton) → a.states ≡ Match 0 ∷ [] → a.start_pattern ≡ 0 ∷ [] → settling_error unset a ≡ None

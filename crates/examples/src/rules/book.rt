@@ -36,13 +36,14 @@ fn is_rule(line: &str) -> bool {
 
 /// Whether a line is a valid pattern. If it is not, its error is appended.
 fn is_pattern(alloc: Global, line: u64, text: &str, shown: &mut String) -> Result<bool> {
-    match nfa_of(alloc, &[text], &Options::default()) {
+    let options = Options::default();
+    match nfa_of(alloc, &[text], &options) {
         Ok(_) => Ok(true),
         Err(error) => {
             writeln!(
                 shown,
                 "line {line} is left out: {}",
-                error.show(alloc, text)?
+                error.show(alloc, text, &options)?
             )?;
             Ok(false)
         }

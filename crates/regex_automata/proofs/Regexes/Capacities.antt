@@ -1,13 +1,13 @@
 -- The capacity that an error names is enough for both DFAs.
 use Rattle.std.proofs.Common.{ℕ, ◌≡◌, ◌∙◌, ◌<◌, ◌≤◌, ◌==◌, ◌&&◌, ◌⊎◌, inl, inr, Bool, Option, None, Some, true, false}
-use Rattle.std.proofs.Common.{cond, max, not}
+use Rattle.std.proofs.Common.{cond, max, min, not, ◌*◌}
 use Rattle.std.proofs.Common.{ltb, arith, ap, refl, sym, subst}
 use Rattle.std.specs.Prelude.{IfErr, Result, Ok, Err}
 use Rattle.std.specs.Result.{result_err}
 use Rattle.std.proofs.Math.Nat.{le-max_left, le-max_right}
 use Rattle.std.proofs.lemmas.Bool.{eq-eqb, lt-ltb, ltb-true}
 use Rattle.automata_base.specs.Nfas.Nodes.{Automaton}
-use Rattle.automata_config.specs.Options.{Options, cache_capacity_of, skip_cache_capacity_check_of}
+use Rattle.automata_config.specs.Options.{Options, cache_capacity_of, cache_limit_of, skip_cache_capacity_check_of}
 use Rattle.automata_config.specs.Settling.{greatest_offset, has_unicode_word, is_unsupported, max_offset}
 use Rattle.automata_config.specs.Settling.{settled_minimum}
 use Rattle.automata_config.specs.Settling.{settled_quits, settling_error}
@@ -46,19 +46,28 @@ small_of :
     → tested u s d b capacity minimum attempted ≡ Some (InsufficientCacheCapacity minimum capacity)
 small_of u s d b c m n fine kept small = rw (fine, kept, small) refl
 
+-- a capacity that is raised to four times the minimum as far as the limit allows
+abbrev raised : (capacity limit minimum : ℕ) → ℕ
+raised capacity limit minimum = max capacity (min limit (4 * minimum))
+
+abbrev tested_at : (u s b : Bool) (limit minimum attempted capacity : ℕ) → Option BuildError
+tested_at u s b limit minimum attempted capacity =
+    tested u s (ltb (raised capacity limit minimum) minimum) b (raised capacity limit minimum) minimum attempted
+
 -- if each minimum that was named is within a greater capacity, the settings do not fail for that capacity
-module _ (u s b : Bool) (capacity greater minimum attempted : ℕ) (grows : capacity ≤ greater) where
+module _ (u s b : Bool) (limit capacity greater minimum attempted : ℕ) (grows : capacity ≤ greater) where
   within :
-      ((a g : ℕ) → tested u s (ltb capacity minimum) b capacity minimum attempted ≡ Some (InsufficientCacheCapacity a g)
+      ((a g : ℕ) → tested_at u s b limit minimum attempted capacity ≡ Some (InsufficientCacheCapacity a g)
       → a ≤ greater)
-      → IsOfCapacity (tested u s (ltb greater minimum) b greater minimum attempted) → ⊥
+      → IsOfCapacity (tested_at u s b limit minimum attempted greater) → ⊥
   within named (a, g, is) =
-      let (fine, kept, less, _) = small_is u s (ltb greater minimum) b greater minimum attempted a g is in
-      let below : greater < minimum = ltb-true greater minimum less in
-      let small : capacity < minimum = omega (arith, grows, below) in
+      let old : ℕ = raised capacity limit minimum in
+      let new : ℕ = raised greater limit minimum in
+      let (fine, kept, less, _) = small_is u s (ltb new minimum) b new minimum attempted a g is in
+      let below : new < minimum = ltb-true new minimum less in
+      let small : old < minimum = omega (arith, grows, below) in
       let most : minimum ≤ greater =
-      named minimum capacity
-      (small_of u s (ltb capacity minimum) b capacity minimum attempted fine kept (lt-ltb capacity minimum small))
+      named minimum old (small_of u s (ltb old minimum) b old minimum attempted fine kept (lt-ltb old minimum small))
       in
       omega (arith, below, most)
 
@@ -85,49 +94,53 @@ second_of (Some (InsufficientCacheCapacity a h)) b k m g is =
     let e : max a b ≡ m = cc in subst (λ n. b ≤ n) e (le-max_right a b)
 second_of (Some e) b k m g is = absurd (let f : ⊥ = cc in f)
 
-abbrev tested_at : (u s b : Bool) (minimum attempted capacity : ℕ) → Option BuildError
-tested_at u s b minimum attempted capacity = tested u s (ltb capacity minimum) b capacity minimum attempted
-
 -- two DFAs over the same capacity
-module _ (u v s b d : Bool) (m n i j capacity minimum given : ℕ)
-    (is : error_of_two (tested_at u s b m i capacity) (tested_at v s d n j capacity)
+module _ (u v s b d : Bool) (limit m n i j capacity minimum given : ℕ)
+    (is : error_of_two (tested_at u s b limit m i capacity) (tested_at v s d limit n j capacity)
     ≡ Some (InsufficientCacheCapacity minimum given)) where
   first_named :
-      (a g : ℕ) → tested_at u s b m i capacity ≡ Some (InsufficientCacheCapacity a g) → a ≤ minimum
+      (a g : ℕ) → tested_at u s b limit m i capacity ≡ Some (InsufficientCacheCapacity a g) → a ≤ minimum
   first_named a g e =
-      first_of a g (tested_at v s d n j capacity) minimum given
-      (subst (λ x. error_of_two x (tested_at v s d n j capacity) ≡ Some (InsufficientCacheCapacity minimum given)) e is)
+      first_of a g (tested_at v s d limit n j capacity) minimum given
+      (subst
+      (λ x. error_of_two x (tested_at v s d limit n j capacity) ≡ Some (InsufficientCacheCapacity minimum given)) e is)
 
   second_named :
-      (a g : ℕ) → tested_at v s d n j capacity ≡ Some (InsufficientCacheCapacity a g) → a ≤ minimum
+      (a g : ℕ) → tested_at v s d limit n j capacity ≡ Some (InsufficientCacheCapacity a g) → a ≤ minimum
   second_named a g e =
-      second_of (tested_at u s b m i capacity) a g minimum given
-      (subst (λ x. error_of_two (tested_at u s b m i capacity) x ≡ Some (InsufficientCacheCapacity minimum given)) e is)
+      second_of (tested_at u s b limit m i capacity) a g minimum given
+      (subst
+      (λ x. error_of_two (tested_at u s b limit m i capacity) x ≡ Some (InsufficientCacheCapacity minimum given)) e is)
 
   grows_by :
-      IsOfCapacity (tested_at u s b m i capacity) ⊎ IsOfCapacity (tested_at v s d n j capacity) → capacity ≤ minimum
+      IsOfCapacity (tested_at u s b limit m i capacity) ⊎ IsOfCapacity (tested_at v s d limit n j capacity)
+      → capacity ≤ minimum
   grows_by (inl (a, g, e)) =
-      let (_, _, less, same) = small_is u s (ltb capacity m) b capacity m i a g e in
-      omega (arith, ltb-true capacity m less, same, first_named a g e)
+      let old : ℕ = raised capacity limit m in
+      let (_, _, less, same) = small_is u s (ltb old m) b old m i a g e in
+      omega (arith, ltb-true old m less, same, first_named a g e)
   grows_by (inr (a, g, e)) =
-      let (_, _, less, same) = small_is v s (ltb capacity n) d capacity n j a g e in
-      omega (arith, ltb-true capacity n less, same, second_named a g e)
+      let old : ℕ = raised capacity limit n in
+      let (_, _, less, same) = small_is v s (ltb old n) d old n j a g e in
+      omega (arith, ltb-true old n less, same, second_named a g e)
 
   grows : capacity ≤ minimum
-  grows = grows_by (either_of (tested_at u s b m i capacity) (tested_at v s d n j capacity) (minimum, given, is))
+  grows =
+      grows_by
+      (either_of (tested_at u s b limit m i capacity) (tested_at v s d limit n j capacity) (minimum, given, is))
 
-  enough_by : IsOfCapacity (tested_at u s b m i minimum) ⊎ IsOfCapacity (tested_at v s d n j minimum) → ⊥
-  enough_by (inl of) = within u s b capacity minimum m i grows first_named of
-  enough_by (inr of) = within v s d capacity minimum n j grows second_named of
+  enough_by : IsOfCapacity (tested_at u s b limit m i minimum) ⊎ IsOfCapacity (tested_at v s d limit n j minimum) → ⊥
+  enough_by (inl of) = within u s b limit capacity minimum m i grows first_named of
+  enough_by (inr of) = within v s d limit capacity minimum n j grows second_named of
 
-  enough : IsOfCapacity (error_of_two (tested_at u s b m i minimum) (tested_at v s d n j minimum)) → ⊥
-  enough of = enough_by (either_of (tested_at u s b m i minimum) (tested_at v s d n j minimum) of)
+  enough : IsOfCapacity (error_of_two (tested_at u s b limit m i minimum) (tested_at v s d limit n j minimum)) → ⊥
+  enough of = enough_by (either_of (tested_at u s b limit m i minimum) (tested_at v s d limit n j minimum) of)
 
 -- the errors of settings have this form, also with another capacity
 abbrev settings_error : Options → Automaton → (capacity : ℕ) → Option BuildError
 settings_error o a capacity =
     tested_at (is_unsupported o a) (skip_cache_capacity_check_of o) (ltb max_offset (greatest_offset o a))
-    (settled_minimum o a) (greatest_offset o a) capacity
+    (cache_limit_of o) (settled_minimum o a) (greatest_offset o a) capacity
 
 settled_with :
     (o : Options) (a : Automaton) (capacity : ℕ)
@@ -157,8 +170,9 @@ enough_if o a b minimum given m g false counts others is again =
     others m g (let e : counts ≡ InsufficientCacheCapacity m g = cc in e)
 enough_if o a b minimum given m g true counts others is again =
     enough (is_unsupported o a) (is_unsupported (backward o) b) (skip_cache_capacity_check_of o)
-    (ltb max_offset (greatest_offset o a)) (ltb max_offset (greatest_offset (backward o) b)) (settled_minimum o a)
-    (settled_minimum (backward o) b) (greatest_offset o a) (greatest_offset (backward o) b) (cache_capacity_of o)
+    (ltb max_offset (greatest_offset o a)) (ltb max_offset (greatest_offset (backward o) b)) (cache_limit_of o)
+    (settled_minimum o a) (settled_minimum (backward o) b) (greatest_offset o a) (greatest_offset (backward o) b)
+    (cache_capacity_of o)
     minimum given is
     (m, g, again)
 
