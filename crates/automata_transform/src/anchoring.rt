@@ -1,9 +1,9 @@
 //! NFAs whose matches begin only at the start of a haystack: their unanchored searches need no lazy loop.
-ghost use Rattle.std.specs.Prelude.{◌≡◌, ◌<◌, ◌++◌, ◌^◌, ◌≤◌, ◌↔◌, [], ℕ, false, length, IfOk, IsTrue, OnOk};
+ghost use Rattle.std.specs.Prelude.{◌≡◌, ◌<◌, ◌↔◌, ℕ, false, length, IfOk, IsTrue};
 ghost use Rattle.automata_base.specs.Lists.{In};
 ghost use Rattle.automata_base.specs.Nfas.Engines.{engine_of};
 ghost use Rattle.automata_base.specs.Nfas.Nfa.{ends_at};
-ghost use Rattle.automata_base.specs.Nfas.Nodes.{nfa_of, node_of, nodes_of};
+ghost use Rattle.automata_base.specs.Nfas.Nodes.{node_of, nodes_of};
 ghost use Rattle.automata_base.specs.Retraced.Reach.{node_in};
 ghost use Rattle.automata_base.specs.declared.util.search.MatchKind.{MatchKind};
 ghost use Rattle.automata_transform.specs.Answers.Alike.{AnswerAlike};
