@@ -40,7 +40,8 @@ void fail(lazydfa_status status) {
                 errhint("Write (?-u:\\b) for a word boundary of ASCII."));
     if (status.code == LAZYDFA_TOO_LARGE || status.code == LAZYDFA_STATE_IDS)
         ereport(ERROR, errcode(ERRCODE_PROGRAM_LIMIT_EXCEEDED), errmsg("regular expression is too large"),
-                errhint("lazydfa.pattern_size is the limit."));
+                errdetail("Its tables need more than %d kB.", setting_pattern_size),
+                errhint("The superuser can raise lazydfa.pattern_size."));
     ereport(ERROR, errcode(sqlstate_of(status.code)),
             errmsg("regular expression failed: %s", lazydfa_code_text(status.code)),
             status.code == LAZYDFA_NOT_TEXT
@@ -59,7 +60,8 @@ static bool too_long(uint32 flags) {
     if (kept_is_estimating) return false;
     ereport(ERROR, errcode(ERRCODE_PROGRAM_LIMIT_EXCEEDED), errmsg("regular expression is too long"),
             errdetail("lazydfa.pattern_length allows %d bytes%s.", setting_pattern_length,
-                      flags & IS_LIST ? " and as many patterns" : ""));
+                      flags & IS_LIST ? " and as many patterns" : ""),
+            errhint("The superuser can raise lazydfa.pattern_length."));
 }
 
 bool limit_length(Datum patterns, uint32 flags) {
@@ -133,9 +135,10 @@ static bool read_source(Source *source, const Key *key) {
     memset(source, 0, sizeof *source);
     source->texts = texts_of(key, &source->count);
     source->options = text_options(key->flags);
-    settings->has_cache_capacity = 1;
+    settings->has_cache_capacity = settings->has_cache_limit = 1;
     settings->cache_capacity = (size_t)Min(setting_pattern_cache_size, setting_cache_size) * 1024;
-    if (!(key->flags & ENDS_ONLY)) settings->cache_capacity /= 2; /* one for each direction */
+    settings->cache_limit = Min(4 * settings->cache_capacity, (size_t)setting_cache_size * 1024 / 2);
+    if (!(key->flags & ENDS_ONLY)) settings->cache_capacity /= 2, settings->cache_limit /= 2; /* for each direction */
     settings->skip_cache_capacity_check = 1;
     settings->unicode_word_boundary = 1;
     settings->match_kind = key->flags & FINDS_ALL ? LAZYDFA_ALL : LAZYDFA_LEFTMOST_FIRST;
@@ -180,7 +183,9 @@ static void limit_classes(const Source *source) {
         count += class_escapes(source->texts[i].text, source->texts[i].length);
     if (count > source->options.class_limit)
         ereport(ERROR, errcode(ERRCODE_PROGRAM_LIMIT_EXCEEDED), errmsg("regular expression has too many classes"),
-                errdetail("lazydfa.pattern_classes allows %d escapes \\d, \\p, \\s or \\w.", setting_pattern_classes));
+                errdetail("It has %zu escapes \\d, \\p, \\s or \\w, and lazydfa.pattern_classes allows %d.", count,
+                          setting_pattern_classes),
+                errhint("The superuser can raise lazydfa.pattern_classes."));
 }
 
 /* Reports the error of a pattern. The first line of the library's message says what is wrong; then come the pattern and

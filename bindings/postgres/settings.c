@@ -13,7 +13,7 @@
 
 int setting_cached_patterns = 256;
 int setting_cache_size = 65536;
-int setting_pattern_cache_size = 4096;
+int setting_pattern_cache_size = 8192;
 int setting_pattern_size = 10240;
 int setting_pattern_length = 65536;
 int setting_pattern_classes = 2000;
@@ -77,7 +77,7 @@ void define_settings(void) {
                             &setting_cache_size, 65536, 64, MAX_KILOBYTES, PGC_USERSET, GUC_UNIT_KB, NULL,
                             assign_cache_size, NULL);
     DefineCustomIntVariable("lazydfa.pattern_cache_size", "Memory for the cache of one pattern, or of one array.",
-                            "A pattern that needs more gets the least that it needs.", &setting_pattern_cache_size,
-                            4096, 64, MAX_KILOBYTES, PGC_USERSET, GUC_UNIT_KB, NULL, assign_pattern_cache_size, NULL);
+                            "A large pattern gets up to four times as much, within half of lazydfa.cache_size.",
+                            &setting_pattern_cache_size, 8192, 64, MAX_KILOBYTES, PGC_USERSET, GUC_UNIT_KB, NULL, assign_pattern_cache_size, NULL);
     MarkGUCPrefixReserved("lazydfa");
 }

@@ -244,12 +244,19 @@ typedef struct {
 } lazydfa_starts;
 
 /* The settings of a regex. The default settings are all zeros. A number is used only if its has_ member is not 0. For
-   the other members 0 is no, and any other number is yes. */
+   the other members 0 is no, and any other number is yes.
+
+   A cache has a part for each direction, and each part has a capacity of its own: cache_capacity, or four times the
+   least that the regex needs for it, if that is more, but then not more than cache_limit. The default limit is for the
+   default capacity: a capacity that is set is raised only if the limit is set too. A regex that needs more than both is
+   the error LAZYDFA_CAPACITY. */
 typedef struct {
-    size_t cache_capacity;              /* in bytes; by default 2 MB */
+    size_t cache_capacity;              /* in bytes; by default 8 MiB */
+    size_t cache_limit;                 /* in bytes; by default 256 MiB, but 0 if has_cache_capacity is not 0 */
     size_t minimum_cache_clear_count;   /* clears after which a search may give up; by default it never does */
     size_t minimum_bytes_per_state;     /* and it does so only if it searched fewer bytes than this per state */
     uint32_t has_cache_capacity;
+    uint32_t has_cache_limit;
     uint32_t has_minimum_cache_clear_count;
     uint32_t has_minimum_bytes_per_state;
     uint32_t match_kind;                /* an enum lazydfa_match_kind */
@@ -315,9 +322,9 @@ typedef struct {
     uint32_t forward_only;         /* the regex has no part that finds where matches start */
 } lazydfa_text_options;
 
-/* Why no regex was built from a pattern's text. */
+/* Why no regex was built from the texts of patterns. */
 typedef struct {
-    size_t pattern;    /* the index of the text that has the error, from 0 */
+    size_t pattern;    /* the index of the text that has the error, from 0; 0 if the error is about all texts */
     size_t start, end; /* the span of the text that the error is about, or the offset where it stops being UTF-8 */
     size_t length;     /* the length of the whole message, in bytes, without the zero at its end */
 } lazydfa_refusal;
@@ -645,7 +652,7 @@ static inline lazydfa_status lazydfa_add_unanchored_prefix(lazydfa_builder *buil
 static inline lazydfa_status lazydfa_regex_build(lazydfa_regex *regex, lazydfa_builder *builder, lazydfa_starts starts,
                                                  const lazydfa_settings *settings, const uint8_t *quits,
                                                  size_t length) {
-    static const lazydfa_settings defaults = { 0, 0, 0, 0, 0, 0, 0, 0, 0, 0, 0, 0, 0 };
+    static const lazydfa_settings defaults = { 0, 0, 0, 0, 0, 0, 0, 0, 0, 0, 0, 0, 0, 0, 0 };
     LAZYDFA_NEED(regex);
     LAZYDFA_NEED(builder);
     LAZYDFA_NEED_ALL(quits, length);
@@ -664,7 +671,7 @@ static inline lazydfa_status lazydfa_regex_build_pair(lazydfa_regex *regex, lazy
                                                       lazydfa_starts reverse_starts,
                                                       const lazydfa_settings *settings, const uint8_t *quits,
                                                       size_t length) {
-    static const lazydfa_settings defaults = { 0, 0, 0, 0, 0, 0, 0, 0, 0, 0, 0, 0, 0 };
+    static const lazydfa_settings defaults = { 0, 0, 0, 0, 0, 0, 0, 0, 0, 0, 0, 0, 0, 0, 0 };
     LAZYDFA_NEED(regex);
     LAZYDFA_NEED(forward);
     LAZYDFA_NEED(reverse);
@@ -703,7 +710,7 @@ static inline lazydfa_status lazydfa_regex_new(lazydfa_regex *regex, const char 
                                                const lazydfa_text_options *options, const lazydfa_settings *settings,
                                                const uint8_t *quits, size_t quit_count, lazydfa_refusal *refusal,
                                                char *message, size_t room) {
-    static const lazydfa_settings defaults = { 0, 0, 0, 0, 0, 0, 0, 0, 0, 0, 0, 0, 0 };
+    static const lazydfa_settings defaults = { 0, 0, 0, 0, 0, 0, 0, 0, 0, 0, 0, 0, 0, 0, 0 };
     static const lazydfa_text_options plain = { 0, 0, 0, 0, 0, 0, 0, 0, 0, 0, 0, 0, 0, 0, 0, 0, 0 };
     lazydfa_refusal unread;
     uint8_t none;
@@ -727,7 +734,7 @@ static inline lazydfa_status lazydfa_regex_any_of(lazydfa_regex *regex, const la
                                                   const lazydfa_settings *settings, const uint8_t *quits,
                                                   size_t quit_count, lazydfa_refusal *refusal, char *message,
                                                   size_t room) {
-    static const lazydfa_settings defaults = { 0, 0, 0, 0, 0, 0, 0, 0, 0, 0, 0, 0, 0 };
+    static const lazydfa_settings defaults = { 0, 0, 0, 0, 0, 0, 0, 0, 0, 0, 0, 0, 0, 0, 0 };
     static const lazydfa_text_options plain = { 0, 0, 0, 0, 0, 0, 0, 0, 0, 0, 0, 0, 0, 0, 0, 0, 0 };
     lazydfa_status status = { LAZYDFA_MEMORY, 0, 0 };
     lazydfa_refusal unread;

@@ -63,7 +63,9 @@ static void refused(void) {
     FINDS("a{2,1}", "", "40 at 1, 1..6: invalid repetition count range, the start must be <= the end");
     FINDS("\\bx", "",
           "24 at 0, 0..0: a Unicode word boundary is not supported: write (?-u:\\b) for an ASCII word boundary");
-    FINDS("(a{1000}){1000}", "", "14 at 0, 0..0: the patterns are too large");
+    FINDS("(a{1000}){1000}", "",
+          "14 at 0, 0..0: the patterns are too large: up to this one their tables take more than 10485760 bytes; raise "
+          "size_limit");
     FINDS("ab\xFF", "", "41 at 2, 2..2: ");
 }
 
@@ -245,6 +247,75 @@ static void quit_bytes(void) {
     }
 }
 
+/* Builds a regex of so many rules, which is closed again, and returns the status. */
+static lazydfa_status build_rules(size_t many, const lazydfa_settings *settings, char *message, size_t room) {
+    static lazydfa_text texts[10000];
+    static char rules[10000][40];
+    lazydfa_regex regex = LAZYDFA_INIT;
+    lazydfa_cache cache = LAZYDFA_INIT;
+    lazydfa_input in = lazydfa_whole(20);
+    lazydfa_status status;
+    lazydfa_usage usage;
+    uint32_t which[2];
+    size_t i, count;
+    for (i = 0; i < many; i++) {
+        texts[i].text = rules[i];
+        texts[i].length =
+            (size_t)sprintf(rules[i], "user%lu took [0-9]*%lu ms", (unsigned long)i, (unsigned long)i % 10);
+    }
+    status = lazydfa_regex_any_of(&regex, texts, many, NULL, settings, NULL, 0, NULL, message, room);
+    if (status.code != LAZYDFA_OK) return status;
+    CHECK(lazydfa_cache_new(&cache, &regex).code == LAZYDFA_OK);
+    CHECK(lazydfa_cache_usage(&cache, &usage).code == LAZYDFA_OK && usage.held < 32 << 20);
+    CHECK(lazydfa_which(&cache, bytes("xuser37 took 1237 ms"), 20, &in, many, which, 2, &count).code == LAZYDFA_OK);
+    CHECK(count == 1 && which[0] == 37);
+    CHECK(lazydfa_cache_close(&cache).code == LAZYDFA_OK);
+    CHECK(lazydfa_regex_close(&regex).code == LAZYDFA_OK);
+    return status;
+}
+
+/* By default many rules build, for sets and for matches, and a new cache holds little of its capacity. Otherwise a
+   message says what is needed. */
+static void many_rules(void) {
+    lazydfa_settings s;
+    lazydfa_status status;
+    char message[256], wanted[256];
+    memset(&s, 0, sizeof s);
+    for (s.match_kind = 0; s.match_kind <= LAZYDFA_ALL; s.match_kind++) {
+        CHECK(build_rules(1000, &s, NULL, 0).code == LAZYDFA_OK);
+        CHECK(build_rules(10000, &s, NULL, 0).code == LAZYDFA_OK);
+    }
+    s.match_kind = 0;
+    s.has_cache_capacity = 1;
+    s.cache_capacity = 2 << 20;
+    status = build_rules(1000, &s, message, sizeof message);
+    CHECK(status.code == LAZYDFA_CAPACITY && status.offset > 2 << 20);
+    sprintf(wanted,
+            "a cache of the patterns needs at least %lu bytes, and may take only 2097152 (cache_capacity) or 0 "
+            "(cache_limit); raise cache_limit",
+            (unsigned long)status.offset);
+    CHECK(!strcmp(message, wanted));
+    s.has_cache_limit = 1;
+    s.cache_limit = status.offset - 1;
+    CHECK(build_rules(1000, &s, NULL, 0).code == LAZYDFA_CAPACITY);
+    s.cache_limit++;
+    CHECK(build_rules(1000, &s, NULL, 0).code == LAZYDFA_OK);
+}
+
+/* Texts beyond the limits on text and on class escapes: the message names the limit. */
+static void long_texts(void) {
+    lazydfa_text_options o;
+    memset(&o, 0, sizeof o);
+    o.has_text_limit = o.has_class_limit = 1;
+    o.text_limit = 8;
+    o.class_limit = 2;
+    CHECK(!strcmp(found("[0-9]{10}", 9, "", &o, NULL),
+                  "14 at 0, 0..0: the patterns have 9 bytes, and may have 8; raise text_limit"));
+    CHECK(!strcmp(found("\\w\\d\\s", 6, "", &o, NULL),
+                  "14 at 0, 0..0: the patterns have 3 class escapes, and may have 2; raise class_limit"));
+    CHECK(!strcmp(found("\\w\\da", 5, "x1a", &o, NULL), "[0,3]"));
+}
+
 /* A message with any amount of room is cut at a character, and nothing is written outside the room. */
 static void messages(void) {
     static const char pattern[] = "\xC3\xA9(\xC3\xA9";
@@ -324,6 +395,8 @@ int main(void) {
     options();
     sets();
     quit_bytes();
+    many_rules();
+    long_texts();
     messages();
     writes();
     nulls();

@@ -49,7 +49,7 @@ SELECT compiled - :before AS one FROM lazydfa_stats();
 RESET lazydfa.cache_size;
 
 -- Setting the same values, or the length of pieces, does not compile anything again
-CREATE FUNCTION in_pieces(pattern text) RETURNS bool LANGUAGE plpgsql SET lazydfa.piece_size = 1 SET lazydfa.pattern_cache_size = '4MB'
+CREATE FUNCTION in_pieces(pattern text) RETURNS bool LANGUAGE plpgsql SET lazydfa.piece_size = 1 SET lazydfa.pattern_cache_size = '8MB'
     SET lazydfa.cached_patterns = 256 AS $$ BEGIN RETURN 'abab' =~ pattern; END $$;
 SELECT 'a' =~ 'kept';
 SELECT compiled AS before FROM lazydfa_stats() \gset

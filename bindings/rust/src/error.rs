@@ -22,10 +22,10 @@ pub struct BuildError {
     text: Option<Box<TextError>>,
 }
 
-/// What an error about a pattern's text contains in addition.
+/// What an error about the texts of patterns contains in addition: which of them it is about, if it is not about all.
 #[derive(Clone, Debug, PartialEq, Eq)]
 struct TextError {
-    pattern: PatternID,
+    pattern: Option<PatternID>,
     span: Range<usize>,
     message: String,
 }
@@ -45,7 +45,8 @@ pub enum BuildErrorKind {
     /// There is a Unicode word boundary, and
     /// [`unicode_word_boundary`](crate::hybrid::dfa::Config::unicode_word_boundary) does not enable it.
     Unsupported,
-    /// The cache capacity is below the minimum of one of the two DFAs.
+    /// The cache capacity is below the minimum of one of the two DFAs, and
+    /// [`cache_limit`](crate::hybrid::dfa::Config::cache_limit) does not raise it.
     InsufficientCacheCapacity {
         /// The minimum for both DFAs, in bytes.
         minimum: usize,
@@ -92,7 +93,7 @@ impl BuildError {
     /// Returns the pattern whose text has the error, by its index in the list, or `None` if the error is not
     /// about a text.
     pub fn pattern(&self) -> Option<PatternID> {
-        self.text.as_ref().map(|text| text.pattern)
+        self.text.as_ref()?.pattern
     }
 
     /// Returns the span of the pattern's text that the error is about, in bytes, or `None` if it is about no
@@ -102,14 +103,16 @@ impl BuildError {
         (!span.is_empty()).then_some(span)
     }
 
-    /// Returns the same error, with what the library reports about the text. The message ends at a zero.
+    /// Returns the same error, with what the library reports about the texts. The message ends at a zero.
     pub(crate) fn of_text(self, pattern: usize, span: Range<usize>, message: &[u8]) -> BuildError {
         let message = message.split(|byte| *byte == 0).next().unwrap_or_default();
+        if message.is_empty() {
+            return self;
+        }
         let message = String::from_utf8_lossy(message).into_owned();
-        let text = PatternID::new(pattern)
-            .filter(|_| !message.is_empty())
-            .map(|pattern| Box::new(TextError { pattern, span, message }));
-        BuildError { text, ..self }
+        let is_about_all = matches!(self.kind, BuildErrorKind::InsufficientCacheCapacity { .. });
+        let pattern = PatternID::new(pattern).filter(|_| !is_about_all);
+        BuildError { text: Some(Box::new(TextError { pattern, span, message })), ..self }
     }
 }
 
@@ -139,7 +142,7 @@ impl fmt::Display for BuildErrorKind {
             BuildErrorKind::TooLarge => "too many states, patterns, groups or alternates, or a limit is exceeded",
             BuildErrorKind::Unsupported => "Unicode word boundaries are not enabled",
             BuildErrorKind::InsufficientCacheCapacity { minimum } => {
-                return write!(f, "the cache capacity is smaller than the minimum, {minimum}");
+                return write!(f, "a cache needs at least {minimum} bytes; raise cache_capacity or cache_limit");
             }
             BuildErrorKind::InsufficientStateIDCapacity { attempted } => {
                 return write!(f, "the ID {attempted} is too large");

@@ -90,9 +90,11 @@ pub struct Starts {
 #[derive(Clone, Copy, Debug, Default)]
 pub struct Settings {
     pub cache_capacity: usize,
+    pub cache_limit: usize,
     pub minimum_cache_clear_count: usize,
     pub minimum_bytes_per_state: usize,
     pub has_cache_capacity: u32,
+    pub has_cache_limit: u32,
     pub has_minimum_cache_clear_count: u32,
     pub has_minimum_bytes_per_state: u32,
     pub match_kind: u32,

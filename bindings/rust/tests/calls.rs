@@ -391,6 +391,31 @@ fn options_of_patterns() -> Tested {
     Ok(())
 }
 
+/// By default many rules build, as a regex and as a DFA that reports all. An error of a limit names what is needed.
+#[test]
+fn many_rules() -> Tested {
+    let rules: Vec<_> = (0..10_000).map(|n| format!("user{n} took [0-9]*{} ms", n % 10)).collect();
+    for rules in [&rules[..1000], &rules] {
+        let regex = Regex::new_many(rules)?;
+        assert_eq!(regex.find(&mut regex.create_cache(), "user37 took 1237 ms"), Some(Match::must(37, 0..19)));
+        let all = dfa::Config::new().match_kind(MatchKind::All);
+        let dfa = DFA::builder().configure(all).build_many(rules)?;
+        let mut set = PatternSet::new(dfa.pattern_len());
+        let input = Input::new("user37 took 1237 ms");
+        dfa.try_which_overlapping_matches(&mut dfa.create_cache(), &input, &mut set)?;
+        assert_eq!(set.iter().collect::<Vec<_>>(), [PatternID::must(37)]);
+    }
+    let small = |limit| dfa::Config::new().cache_capacity(2 << 20).cache_limit(limit);
+    let error = Regex::builder().dfa(small(0)).build_many(&rules[..1000]).unwrap_err();
+    let BuildErrorKind::InsufficientCacheCapacity { minimum } = error.kind() else {
+        panic!("2 MiB are enough: {error}");
+    };
+    assert_eq!((error.pattern(), error.span()), (None, None));
+    assert!(error.to_string().contains(&format!("needs at least {minimum} bytes")));
+    Regex::builder().dfa(small(minimum)).build_many(&rules[..1000])?;
+    Ok(())
+}
+
 /// By default patterns nest up to 250 levels deep, as in regex-automata; the limit can be set.
 #[test]
 fn nesting() -> Tested {

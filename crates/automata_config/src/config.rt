@@ -175,7 +175,8 @@ impl Config {
     }
 
     /// Sets the most bytes that a cache may account for. The default is 2 MiB. A capacity below
-    /// `get_minimum_cache_capacity` is an error when a DFA is built, unless `skip_cache_capacity_check` is set.
+    /// `get_minimum_cache_capacity` is an error when a DFA is built, unless `cache_limit` raises it or
+    /// `skip_cache_capacity_check` is set.
     ///
     /// A full cache is cleared, and its states are determinized again, so a small cache costs time.
     pub fn cache_capacity(self, bytes: usize) -> Config

@@ -13,12 +13,13 @@ use Rattle.patterns.specs.declared.error.Fault.TheVariants.{OutOfMemory}
 use Rattle.regex_automata.specs.declared.hybrid.regex.Regex.{Regex}
 use Rattle.regex_automata.specs.declared.hybrid.regex.build.RegexBuildError.{RegexBuildError}
 use Rattle.lazydfa_c.specs.Builds.{IsBuildErrorStatus, IsBuiltRegex, IsNotOpened, IsPairOf, OpensRegex, LacksObject}
-use Rattle.lazydfa_c.specs.Builds.{RefusesRegex}
+use Rattle.lazydfa_c.specs.Builds.{HoldsRegex, RefusesRegex}
 use Rattle.lazydfa_c.specs.Codes.{number_of}
 use Rattle.lazydfa_c.specs.Facts.{ExceedsLimits, Fails, HasFacts, IsFactsFailure, IsNotText, IsNoPattern, LacksMemory}
 use Rattle.lazydfa_c.specs.Facts.{Reports, ReportsFacts, no_facts}
 use Rattle.lazydfa_c.specs.Statuses.{done_status, fault_status, nfa_code, plain, regex_status, status_at}
-use Rattle.lazydfa_c.specs.Texts.{CannotCut, HasFault, IsCutError, IsFailure, IsForwardOnly, IsRegexErrorStatus}
+use Rattle.lazydfa_c.specs.Texts.{CannotCut, HasFault, HoldsTexts, IsCutError, IsFailure, IsForwardOnly}
+use Rattle.lazydfa_c.specs.Texts.{IsRegexErrorStatus, IsReportOfAll, LacksRegex}
 use Rattle.lazydfa_c.specs.Texts.{IsRegexFor, LacksNfa, LacksParts, MatchesNothing, NotText, OpensTexts, RegexFails}
 use Rattle.lazydfa_c.specs.Texts.{TextsFail, WrongLengths, reading_of, texts_in}
 use Rattle.lazydfa_c.specs.declared.code.Code.TheVariants as code
@@ -122,16 +123,23 @@ opens_forward o nfa zero old new done is_not opened = elim (is_not refl) [ ]
 opens_forward o nfa (suc n) old new done is_not opened = opened
 
 module _ (o : Options) (options : TextOptions) (settings : Settings) (bytes lengths : List ℕ) where
-  -- the texts have an NFA
+  -- a regex is built from the NFA of the texts
   pub opens_texts :
-      (nfa : Automaton) (old new : Handle) (from to : Report) (done : Result (Unit {0}) Status)
+      (nfa : Automaton) (new : Handle) (from to : Report)
       → sum lengths ≡ length bytes → IsNfaOf (reading_of options settings) (texts_in bytes lengths) nfa → to ≡ from
-      → OpensRegex (IsRegexFor options.forward_only o nfa) (IsRegexErrorStatus options.forward_only o nfa) old new done
-      → OpensTexts o options settings bytes lengths old new from to done
-  opens_texts nfa old new from to (Ok u) whole meant same opened =
+      → HoldsRegex (IsRegexFor options.forward_only o nfa) new
+      → HoldsTexts o options settings bytes lengths new × (to ≡ from)
+  opens_texts nfa new from to whole meant same opened =
       (record { whole = whole; nfa = nfa; meant = meant; holds = opened }, same)
-  opens_texts nfa old new from to (Err e) whole meant same (kept, why) =
-      (kept, opening_fails options.forward_only o nfa e why, RegexFails nfa meant why same)
+
+  -- no regex is built from it
+  pub regex_lacks :
+      (nfa : Automaton) (old new : Handle) (from to : Report) (e : Status)
+      → IsNfaOf (reading_of options settings) (texts_in bytes lengths) nfa → IsReportOfAll to
+      → (new ≡ old) × IsNotOpened (IsRegexErrorStatus options.forward_only o nfa) e
+      → (new ≡ old) × IsFailure e × LacksRegex o options settings bytes lengths from to e
+  regex_lacks nfa old new from to e meant all (kept, why) =
+      (kept, opening_fails options.forward_only o nfa e why, RegexFails nfa meant why all)
 
   -- the texts have no NFA
   pub texts_fail :

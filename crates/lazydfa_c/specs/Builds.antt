@@ -103,9 +103,15 @@ kind_of zero = Ok LeftmostFirst
 kind_of (suc zero) = Ok All
 kind_of (suc (suc n)) = Err (plain code.Argument)
 
--- a number that C gave, if it is set
-abbrev pub number_if : (has number : ℕ) → Option ℕ
-number_if has number = if has == 0 then None else Some number
+-- the capacity of a cache, in bytes: 8 MiB, unless it is set
+abbrev pub capacity_of : Settings → ℕ
+capacity_of s = if s.has_cache_capacity == 0 then 8388608 else s.cache_capacity
+
+-- the bytes up to which the capacity is raised for a regex whose minimum is large: 256 MiB, unless they are set; a
+-- capacity that is set is raised only if they are set too
+abbrev pub limit_of : Settings → ℕ
+limit_of s =
+    if s.has_cache_limit == 0 then (if s.has_cache_capacity == 0 then 268435456 else 0) else s.cache_limit
 
 -- a limit that C gave: it is set to the number, or it is not set
 abbrev pub limit_if : (has number : ℕ) → Option (Option ℕ)
@@ -129,7 +135,8 @@ options_in s kind = record {
   unicode_word_boundary = Some (not (s.unicode_word_boundary == 0));
   quits = None;
   specialize_start_states = Some (not (s.specialize_start_states == 0));
-  cache_capacity = number_if s.has_cache_capacity s.cache_capacity;
+  cache_capacity = Some (capacity_of s);
+  cache_limit = Some (limit_of s);
   skip_cache_capacity_check = Some (not (s.skip_cache_capacity_check == 0));
   minimum_cache_clear_count = limit_if s.has_minimum_cache_clear_count s.minimum_cache_clear_count;
   minimum_bytes_per_state = limit_if s.has_minimum_bytes_per_state s.minimum_bytes_per_state;

@@ -20,9 +20,11 @@ use Rattle.lazydfa_c.specs.declared.text.TextOptions.{TextOptions}
 abbrev pub default_settings : Settings
 default_settings = record {
   cache_capacity = 0;
+  cache_limit = 0;
   minimum_cache_clear_count = 0;
   minimum_bytes_per_state = 0;
   has_cache_capacity = 0;
+  has_cache_limit = 0;
   has_minimum_cache_clear_count = 0;
   has_minimum_bytes_per_state = 0;
   match_kind = 0;

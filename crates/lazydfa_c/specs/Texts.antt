@@ -15,7 +15,7 @@ use Rattle.patterns.specs.declared.error.Fault.TheVariants.{OutOfMemory}
 use Rattle.patterns.specs.declared.error.PatternError.{PatternError}
 use Rattle.regex_automata.specs.declared.hybrid.regex.Regex.{Regex}
 use Rattle.lazydfa_c.specs.Builds.{HoldsRegex, IsBuildErrorStatus, IsBuiltRegex, IsNotOpened, IsPairOf, WithOptions}
-use Rattle.lazydfa_c.specs.Builds.{kind_of, options_of}
+use Rattle.lazydfa_c.specs.Builds.{capacity_of, kind_of, limit_of, options_of}
 use Rattle.lazydfa_c.specs.Caches.{written_over}
 use Rattle.lazydfa_c.specs.Codes.{number_of}
 use Rattle.lazydfa_c.specs.Handles.{is_open}
@@ -58,6 +58,8 @@ reading_of options settings = record {
   ascii = not (settings.unicode_word_boundary == 0);
   size_limit = size_limit_of options;
   nest_limit = nest_limit_of options;
+  cache_capacity = capacity_of settings;
+  cache_limit = limit_of settings;
 }
 
 -- the status says that a call failed
@@ -151,6 +153,10 @@ pub data LacksNfa (reading : Reading) (bytes lengths : List ℕ) (old new : Repo
       → new.refusal ≡ refusal_of error (length (string_bytes new.message))
       → LacksNfa reading bytes lengths old new status
 
+-- the report is about all texts
+abbrev pub IsReportOfAll : Report → Type 0
+IsReportOfAll report = report.refusal ≡ refusal_alone 0 (length (string_bytes report.message))
+
 -- why texts have no regex with these settings, and what is reported of it
 pub data LacksRegex (o : Options) (options : TextOptions) (settings : Settings) (bytes lengths : List ℕ)
     (from to : Report) (status : Status) : Type 0 where
@@ -158,10 +164,10 @@ pub data LacksRegex (o : Options) (options : TextOptions) (settings : Settings) 
   TextsFail :
       LacksNfa (reading_of options settings) bytes lengths from to status
       → LacksRegex o options settings bytes lengths from to status
-  -- no regex is built from their NFA; nothing is reported of the texts
+  -- no regex is built from their NFA; the message is about all texts
   RegexFails :
       (nfa : Automaton) → IsNfaOf (reading_of options settings) (texts_in bytes lengths) nfa
-      → IsNotOpened (IsRegexErrorStatus options.forward_only o nfa) status → to ≡ from
+      → IsNotOpened (IsRegexErrorStatus options.forward_only o nfa) status → IsReportOfAll to
       → LacksRegex o options settings bytes lengths from to status
 
 -- the regex of texts is that of an NFA that matches what the texts mean
@@ -191,7 +197,7 @@ abbrev pub OpensAdmitted : (is_within : Bool) → Options → TextOptions → Se
 OpensAdmitted true o options settings bytes lengths old new from to done =
     OpensTexts o options settings bytes lengths old new from to done
 OpensAdmitted false o options settings bytes lengths old new from to done =
-    (new ≡ old) × (to ≡ from) × (done ≡ Err (plain code.TooLarge))
+    (new ≡ old) × IsReportOfAll to × (done ≡ Err (plain code.TooLarge))
 
 -- the handle is opened if the concatenated texts are within the limits
 abbrev pub OpensWithin : Options → TextOptions → Settings → (bytes lengths : List ℕ) → (old new : Handle)

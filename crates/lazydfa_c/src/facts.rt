@@ -67,9 +67,11 @@ fn default_settings() -> Settings
 {
     Settings {
         cache_capacity: 0,
+        cache_limit: 0,
         minimum_cache_clear_count: 0,
         minimum_bytes_per_state: 0,
         has_cache_capacity: 0,
+        has_cache_limit: 0,
         has_minimum_cache_clear_count: 0,
         has_minimum_bytes_per_state: 0,
         match_kind: 0,

@@ -8,6 +8,7 @@
 mod builder;
 mod closing;
 mod code;
+mod explain;
 mod facts;
 mod forward;
 mod handle;

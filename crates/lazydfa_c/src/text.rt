@@ -5,11 +5,13 @@ ghost use Rattle.patterns.specs.Patterns.{IsNfaOf};
 ghost use Rattle.lazydfa_c.specs.Builds.{OpensRegex};
 ghost use Rattle.lazydfa_c.specs.Limits.{admits};
 ghost use Rattle.lazydfa_c.specs.Statuses.{fault_status};
-ghost use Rattle.lazydfa_c.specs.Texts.{BuildsAnyOf, BuildsTexts, IsCutError, IsRegexErrorStatus, IsRegexFor, LacksNfa};
-ghost use Rattle.lazydfa_c.specs.Texts.{OpensTexts, OpensWithin, WritesMessage, nest_limit_of, none_refused};
+ghost use Rattle.lazydfa_c.specs.Texts.{BuildsAnyOf, BuildsTexts, IsCutError, IsRegexErrorStatus, IsRegexFor};
+ghost use Rattle.lazydfa_c.specs.Texts.{IsReportOfAll, LacksNfa, OpensTexts, OpensWithin, WritesMessage};
+ghost use Rattle.lazydfa_c.specs.Texts.{nest_limit_of, none_refused};
 ghost use Rattle.lazydfa_c.specs.Texts.{reading_of, refusal_at, refusal_of, size_limit_of, texts_in};
 
 use crate::code::Code;
+use crate::explain::{not_built, too_many};
 use crate::forward::open_forward;
 use crate::handle::Handle;
 use crate::limits::class_escapes;
@@ -20,7 +22,7 @@ use crate::status::Status;
 use patterns::{Fault, Options, PatternError, nfa_of};
 use regex_automata::hybrid::dfa::Config;
 use regex_automata::nfa::thompson::{BuildError as NfaBuildError, NFA};
-use std::alloc::Global;
+use std::alloc::{AllocError, Global};
 
 /// How patterns are parsed, as C lays it out. The default options are all zeros. A limit is used only if its `has` is
 /// not 0; the limits on size and on text are in bytes. A limit on nesting of 0 is the default limit.
@@ -132,15 +134,33 @@ impl Report {
         }
     }
 
-    /// Returns the report of an error in one of these texts. If there is no memory for the message, it is empty.
-    fn of(alloc: Global, error: &PatternError, texts: &[&str]) -> Report
+    /// Returns the report of an error that is about all texts. Without memory for the message, it is empty.
+    fn of_all(alloc: Global, message: Result<String, AllocError>) -> Report
+        ensures { IsReportOfAll result }
+    {
+        let message = match message {
+            Ok(message) => message,
+            Err(_) => String::new(alloc),
+        };
+        let refusal = Refusal {
+            pattern: 0,
+            start: 0,
+            end: 0,
+            length: message.len(),
+        };
+        Report { refusal, message }
+    }
+
+    /// Returns the report of an error in one of these texts, which were read with these options. Without memory for the
+    /// message, it is empty.
+    fn of(alloc: Global, error: &PatternError, texts: &[&str], options: &Options) -> Report
         ensures { result.refusal ≡ refusal_of error.now (length (string_bytes result.message)) }
     {
         let text = match texts.get(error.number) {
             Some(text) => *text,
             None => "",
         };
-        let message = match error.show(alloc, text) {
+        let message = match error.show(alloc, text, options) {
             Ok(message) => message,
             Err(_) => String::new(alloc),
         };
@@ -180,6 +200,23 @@ impl TextOptions {
             && (self.has_class_limit == 0 || class_escapes(texts) <= self.class_limit)
     }
 
+    /// Formats which limit concatenated texts exceed, if they are not admitted.
+    fn exceeded(&self, alloc: Global, texts: &[u8]) -> Result<String, AllocError> {
+        let length = texts.len();
+        if self.has_text_limit != 0 && length > self.text_limit {
+            too_many(alloc, length, "bytes", self.text_limit, "text_limit")
+        } else {
+            let count = class_escapes(texts);
+            too_many(
+                alloc,
+                count,
+                "class escapes",
+                self.class_limit,
+                "class_limit",
+            )
+        }
+    }
+
     /// Returns the options for parsing patterns. A Unicode word boundary is allowed if the settings allow it.
     pub(crate) fn options(&self, settings: &Settings) -> Options
         ensures { result ≡ reading_of self.now settings.now }
@@ -199,6 +236,8 @@ impl TextOptions {
             ascii: settings.unicode_word_boundary != 0,
             size_limit,
             nest_limit,
+            cache_capacity: settings.capacity(),
+            cache_limit: settings.limit(),
         }
     }
 }
@@ -284,7 +323,7 @@ fn nfa_of_texts(
     match nfa_of(alloc, parts.as_slice(), options) {
         Ok(nfa) => Ok(nfa),
         Err(error) => {
-            *report = Report::of(alloc, &error, parts.as_slice());
+            *report = Report::of(alloc, &error, parts.as_slice(), options);
             Err(status_of(&error))
         }
     }
@@ -327,7 +366,13 @@ fn open_texts(
 {
     let reading = options.options(settings);
     let nfa = nfa_of_texts(alloc, texts, lengths, &reading, report)?;
-    open_nfa(alloc, regex, nfa, config, options.forward_only)
+    match open_nfa(alloc, regex, nfa, config, options.forward_only) {
+        Ok(()) => Ok(()),
+        Err(status) => {
+            *report = Report::of_all(alloc, not_built(alloc, status, settings));
+            Err(status)
+        }
+    }
 }
 
 /// Opens a handle on the regex of the texts of patterns, if they are within the limits. Otherwise it fails with
@@ -347,6 +392,7 @@ fn open_within(
         regex.old regex.new report.old report.new result }
 {
     if !options.admits(texts) {
+        *report = Report::of_all(alloc, options.exceeded(alloc, texts));
         return Err(Status::from(Code::TooLarge));
     }
     open_texts(

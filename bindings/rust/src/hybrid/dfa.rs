@@ -81,9 +81,17 @@ impl Config {
         self
     }
 
-    /// Sets how many bytes a cache of each DFA may account for at most. By default it is 2 MiB.
+    /// Sets how many bytes a cache of each DFA may account for at most. By default it is 8 MiB, and more for
+    /// large patterns: [`cache_limit`](Config::cache_limit) bounds that.
     pub fn cache_capacity(mut self, bytes: usize) -> Config {
         (self.settings.has_cache_capacity, self.settings.cache_capacity) = (1, bytes);
+        self
+    }
+
+    /// Sets the bytes up to which the capacity is raised for large patterns: to four times the least that a DFA
+    /// needs. By default it is 256 MiB; but a capacity that is set is raised only if this limit is set too.
+    pub fn cache_limit(mut self, bytes: usize) -> Config {
+        (self.settings.has_cache_limit, self.settings.cache_limit) = (1, bytes);
         self
     }
 

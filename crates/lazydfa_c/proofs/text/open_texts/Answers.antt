@@ -3,19 +3,28 @@ use Rattle.automata_config.specs.Options.{overwritten, unset}
 use Rattle.patterns.specs.Patterns.{IsNfaOf}
 use Rattle.lazydfa_c.specs.Texts.{LacksNfa, OpensTexts, texts_in}
 use Rattle.lazydfa_c.proofs.Cutting.{error_at}
-use Rattle.lazydfa_c.proofs.Texts.{opens_texts, texts_fail}
+use Rattle.lazydfa_c.proofs.Texts.{opens_texts, regex_lacks, texts_fail}
 use Rattle.lazydfa_c.proofs.text.open_texts.Goals as goal
 
-pub returns : goal.returns
-returns c =
+pub returns-in-Ok : goal.returns-in-Ok
+returns-in-Ok c =
     let bytes = c.args.texts.now in
     let lengths = c.args.lengths.now in
     opens_texts (overwritten unset c.args.config) c.args.options.now c.args.settings.now bytes lengths c.in_ok-nfa.nfa
-    c.args.regex.now c.open_nfa.new.regex c.args.report.now c.nfa_of_texts.new.report c.open_nfa.result
-    c.in_ok-nfa.ensures.whole
+    c.open_nfa.new.regex c.args.report.now c.nfa_of_texts.new.report c.in_ok-nfa.ensures.whole
     (subst (λ reading. IsNfaOf reading (texts_in bytes lengths) c.in_ok-nfa.nfa) c.options-reading.ensures
     c.in_ok-nfa.ensures.meant)
-    c.in_ok-nfa.ensures.kept c.open_nfa.ensures
+    c.in_ok-nfa.ensures.kept c.in-Ok.ensures
+
+pub returns-in-Err : goal.returns-in-Err
+returns-in-Err c =
+    let bytes = c.args.texts.now in
+    let lengths = c.args.lengths.now in
+    regex_lacks (overwritten unset c.args.config) c.args.options.now c.args.settings.now bytes lengths c.in_ok-nfa.nfa
+    c.args.regex.now c.open_nfa.new.regex c.args.report.now c.of_all.result c.in-Err.status
+    (subst (λ reading. IsNfaOf reading (texts_in bytes lengths) c.in_ok-nfa.nfa) c.options-reading.ensures
+    c.in_ok-nfa.ensures.meant)
+    c.of_all.ensures c.in-Err.ensures
 
 pub returns-in_err-nfa : goal.returns-in_err-nfa
 returns-in_err-nfa c =
