@@ -138,6 +138,8 @@ class Worked(unittest.TestCase):
             lazydfa.Regex(["a", b"a"])
         with self.assertRaises(lazydfa.PatternError):
             lazydfa.Regex(r"\w{500}", size_limit=1000)
+        with self.assertRaisesRegex(lazydfa.PatternError, "cache_limit"):
+            lazydfa.Regex(r"\w{50}", cache_capacity=1000)
         with self.assertRaises(UnicodeEncodeError):
             lazydfa.Regex("a").search("\ud800")
 
@@ -145,6 +147,10 @@ class Worked(unittest.TestCase):
         self.assertEqual(lazydfa.RegexSet([]).which("a"), [])
         self.assertIsNone(lazydfa.Regex([]).search("a"))
         self.assertEqual(lazydfa.Regex("").search("").span(), (0, 0))
+
+    def test_many_rules(self):
+        rules = lazydfa.RegexSet([f"w{n}.*took [0-9]+" for n in range(1000)])
+        self.assertEqual(rules.which("w917 took 12 ms"), [9, 91, 917])
 
     def test_zeros(self):
         self.assertEqual(lazydfa.Regex("\0+").search("a\0\0b").span(), (1, 3))

@@ -140,19 +140,20 @@ class _Text(Generic[AnyStr]):
 class _Automaton(Generic[AnyStr]):
     """Compiled patterns, and the caches of searches that are not running."""
 
-    def __init__(self, patterns: Sequence[AnyStr], match_kind: int, capacity, size_limit, flags) -> None:
+    def __init__(self, patterns: Sequence[AnyStr], match_kind: int, limits, flags) -> None:
         self.patterns = list(patterns)
         self.is_text = all(isinstance(it, str) for it in self.patterns)
         if not self.is_text and any(isinstance(it, str) for it in self.patterns):
             raise TypeError("patterns are all str, or all bytes")
         self._regex, self._caches = _Owner(), []
         settings = native.Settings(match_kind=match_kind)
-        if capacity is not None:
-            settings.has_cache_capacity, settings.cache_capacity = 1, capacity
         options = native.Options(nest_limit=NEST_LIMIT, **{name: int(bool(it)) for name, it in flags.items()})
         options.bytes = options.no_unicode = int(not self.is_text)
-        if size_limit is not None:
-            options.has_size_limit, options.size_limit = 1, size_limit
+        for name, limit in limits.items():
+            if limit is not None:
+                owner = options if name == "size_limit" else settings
+                setattr(owner, name, limit)
+                setattr(owner, f"has_{name}", 1)
         self._compile(settings, options)
 
     def _compile(self, settings: native.Settings, options: native.Options) -> None:
@@ -169,8 +170,6 @@ class _Automaton(Generic[AnyStr]):
         if status.code != native.OK:
             said = message.value.decode(errors="replace")
             said = said or native.CODES.get(status.code, f"the pattern is refused with code {status.code}")
-            if status.code == native.CAPACITY:
-                said += f": cache_capacity={status.offset} is enough"
             raise PatternError(said, refusal.pattern)
 
     def _take(self) -> _Owner:
@@ -197,8 +196,9 @@ class _Automaton(Generic[AnyStr]):
 class Regex(_Automaton[AnyStr]):
     """One pattern, or several, of which the first one that matches at the leftmost place is preferred.
 
-    The flags are those of Rust's regex crate. `cache_capacity` is what the automata of a search may take, in bytes, and
-    `size_limit` what compiled patterns may take. A regex may be used by several threads at once.
+    The flags are those of Rust's regex crate. `cache_capacity` is what each automaton of a search may take, in bytes, by
+    default 8 MiB; for large patterns it is raised up to `cache_limit`. `size_limit` is what compiled patterns may take. A
+    regex may be used by several threads at once.
     """
 
     def __init__(
@@ -212,6 +212,7 @@ class Regex(_Automaton[AnyStr]):
         swap_greed: bool = False,
         ignore_whitespace: bool = False,
         cache_capacity: Optional[int] = None,
+        cache_limit: Optional[int] = None,
         size_limit: Optional[int] = None,
     ) -> None:
         flags = {
@@ -222,8 +223,9 @@ class Regex(_Automaton[AnyStr]):
             "swap_greed": swap_greed,
             "ignore_whitespace": ignore_whitespace,
         }
+        limits = {"cache_capacity": cache_capacity, "cache_limit": cache_limit, "size_limit": size_limit}
         every = [patterns] if isinstance(patterns, (str, bytes)) else patterns
-        super().__init__(every, native.LEFTMOST_FIRST, cache_capacity, size_limit, flags)
+        super().__init__(every, native.LEFTMOST_FIRST, limits, flags)
 
     def search(self, text: AnyStr) -> Optional[Match[AnyStr]]:
         """Returns the leftmost match, or None."""
@@ -283,10 +285,12 @@ class RegexSet(_Automaton[AnyStr]):
         patterns: Sequence[AnyStr],
         *,
         cache_capacity: Optional[int] = None,
+        cache_limit: Optional[int] = None,
         size_limit: Optional[int] = None,
         **flags: bool,
     ) -> None:
-        super().__init__(patterns, native.ALL, cache_capacity, size_limit, flags)
+        limits = {"cache_capacity": cache_capacity, "cache_limit": cache_limit, "size_limit": size_limit}
+        super().__init__(patterns, native.ALL, limits, flags)
 
     def which(self, text: AnyStr) -> List[int]:
         """Returns the indices of the patterns that match somewhere in the text, in increasing order."""
@@ -320,12 +324,14 @@ class Lexer(_Automaton[AnyStr]):
         rules: Sequence[Tuple[str, AnyStr]],
         *,
         cache_capacity: Optional[int] = None,
+        cache_limit: Optional[int] = None,
         size_limit: Optional[int] = None,
         **flags: bool,
     ) -> None:
         self.names = [name for name, _ in rules]
+        limits = {"cache_capacity": cache_capacity, "cache_limit": cache_limit, "size_limit": size_limit}
         every = [pattern for _, pattern in rules]
-        super().__init__(every, native.LEFTMOST_FIRST, cache_capacity, size_limit, flags)
+        super().__init__(every, native.LEFTMOST_FIRST, limits, flags)
 
     def tokens(self, text: AnyStr) -> Iterator[Token]:
         """Yields the tokens. Raises `TokenError` where none begins."""

@@ -35,11 +35,13 @@ Refusal = _struct("Refusal", pattern=c_size_t, start=c_size_t, end=c_size_t, len
 Settings = _struct(
     "Settings",
     cache_capacity=c_size_t,
+    cache_limit=c_size_t,
     minimum_cache_clear_count=c_size_t,
     minimum_bytes_per_state=c_size_t,
     **dict.fromkeys(
         (
             "has_cache_capacity",
+            "has_cache_limit",
             "has_minimum_cache_clear_count",
             "has_minimum_bytes_per_state",
             "match_kind",
