@@ -196,9 +196,9 @@ class _Automaton(Generic[AnyStr]):
 class Regex(_Automaton[AnyStr]):
     """One pattern, or several, of which the first one that matches at the leftmost place is preferred.
 
-    The flags are those of Rust's regex crate. `cache_capacity` is what each automaton of a search may take, in bytes, by
-    default 8 MiB; for large patterns it is raised up to `cache_limit`. `size_limit` is what compiled patterns may take. A
-    regex may be used by several threads at once.
+    The flags are those of Rust's regex crate. `cache_capacity` is what each automaton of a search may take, in bytes,
+    by default 8 MiB; for large patterns it is raised up to `cache_limit`. `size_limit` is what compiled patterns may
+    take. A regex may be used by several threads at once.
     """
 
     def __init__(
