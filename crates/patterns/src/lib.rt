@@ -19,6 +19,7 @@ mod escapes;
 mod facts;
 pub mod laws;
 mod matches;
+mod needles;
 mod pattern;
 mod set;
 mod threads;
