@@ -1,9 +1,10 @@
 -- What a finder searches for, and how.
-use Rattle.std.specs.Prelude.{ℕ, ◌≡◌, List, [], ◌∷◌, length, Option, is_some}
+use Rattle.std.specs.Prelude.{ℕ, ◌≡◌, List, [], ◌∷◌, Option, Result, is_some}
+use Rattle.std.specs.Result.{result_err}
+use Rattle.automata_base.specs.Haystacks.Matches.{Match}
 use Rattle.automata_config.specs.declared.error.SearchError.{SearchError}
-use Rattle.regex_automata.specs.Spans.Runs.{IsSpanRun}
-use Rattle.meaning.specs.Patterns.{span_input}
 use Rattle.patterns.specs.Patterns.{IsRegexOfTexts}
+use Rattle.patterns.specs.Searches.{IsSpanSearch}
 use Rattle.examples.specs.Finding.{IsSimulated, in_bytes}
 use Rattle.examples.specs.declared.fallback.finder.Finder.{Finder}
 use Rattle.examples.specs.declared.fallback.finder.Found.{Found}
@@ -17,9 +18,9 @@ pub record IsFinderOf (text : List ℕ) (finder : Finder) : Type 0 where
 
 -- The lazy DFAs searched a line first; it is reported that the NFA was simulated exactly if they failed.
 pub record IsLineSearched (line : List ℕ) (old new : Finder) (found : Found) : Type 0 where
-  -- why the lazy DFAs failed, if they did
-  pub error : Option SearchError
-  -- their search, by its effect on their caches
-  pub run : IsSpanRun old.pattern.regex (span_input line 0 (length line)) old.cache new.cache error
+  -- what the lazy DFAs returned: a match, none, or why they failed
+  pub result : Result (Option Match) SearchError
+  -- their search, with its effect on their caches
+  pub search : IsSpanSearch old.pattern line 0 old.cache new.cache result
   -- whether the NFA was simulated
-  pub simulated : found.simulated ≡ is_some error
+  pub simulated : found.simulated ≡ is_some (result_err result)

@@ -1,28 +1,22 @@
 -- What the searches for a pattern find, by what the pattern means.
-use Rattle.std.proofs.Common.{ℕ, ◌≡◌, ◌<◌, ◌≤◌, List, [], ◌∷◌, Option, Bool, true, false, is_some, length, option_map}
+use Rattle.std.proofs.Common.{ℕ, ◌≡◌, ◌<◌, List, [], ◌∷◌, Option, Bool, true, false, is_some, length, option_map}
 use Rattle.std.proofs.Common.{◌∙◌, ap, sym, subst, ⊎_elim, All}
-use Rattle.std.specs.Prelude.{Result, Ok, Err, IfOk, IsAscii}
+use Rattle.std.specs.Prelude.{IsAscii}
 use Rattle.std.specs.Option.{unwrap_or}
 use Rattle.std.proofs.lemmas.Bool.{cases_Bool}
 use Rattle.std.proofs.lemmas.List.{get_or_default}
 use Rattle.regex_hir.specs.Re.{Re}
 use Rattle.regex_nfa.specs.declared.nfa.Nfa as kit_nfa
 use Rattle.automata_base.specs.Answers.Answers.{IsAnswer}
-use Rattle.automata_base.specs.Answers.Spans.{IsNextItem, IsSpan}
-use Rattle.automata_base.specs.Haystacks.Input.{Input}
+use Rattle.automata_base.specs.Answers.Spans.{IsMatch, IsNextItem, IsSpan}
 use Rattle.automata_base.specs.Haystacks.Matches.{HalfMatch, Match}
 use Rattle.automata_base.specs.Haystacks.Tapes.{IsHaystack}
 use Rattle.automata_base.specs.Nfas.Engines.{engine_of}
 use Rattle.automata_base.specs.declared.util.search.Direction.TheVariants.{Forward}
 use Rattle.automata_base.specs.declared.util.search.MatchKind.TheVariants.{LeftmostFirst}
 use Rattle.automata_base.specs.Answers.TruePairs.{KeepsUtf8}
-use Rattle.automata_config.specs.declared.error.SearchError.{SearchError}
-use Rattle.automata_hybrid.specs.Searches.Contracts.{IsHalf}
 use Rattle.automata_hybrid.specs.Searches.Passes.{WithoutBase}
 use Rattle.regex_automata.specs.Regexes.SoundPairs.{forward_engine}
-use Rattle.regex_automata.specs.Spans.Contracts.{IsSpanOf, IsTruthOf}
-use Rattle.regex_automata.specs.Spans.Iteration.{IsNextMatch}
-use Rattle.regex_automata.specs.Spans.OfPaths.{MatchesAreSpans}
 use Rattle.regex_automata.specs.declared.hybrid.regex.Regex.{Regex}
 use Rattle.meaning.specs.Agreeing.{Each, HasNoUnicodeLook, HasSameLooks}
 use Rattle.meaning.specs.Patterns.{IsFirstLeft, end_of, find_any, left_any, numbered_match, span_input}
@@ -31,7 +25,6 @@ use Rattle.meaning.proofs.Ascii.{same_looks_ascii}
 use Rattle.meaning.proofs.Iterations.{end_is, item_left, span_is, truth_is}
 use Rattle.meaning.proofs.Looking.{same_looks}
 use Rattle.meaning.proofs.Means.{any_means}
-use Rattle.patterns.specs.Iteration.{IsNextMeant, rest_of}
 use Rattle.patterns.specs.Patterns.{IsFor, IsJoinedNfa, IsRegexOf}
 use Rattle.patterns.specs.declared.compile.Options.{Options}
 
@@ -80,11 +73,9 @@ module _ (p : Regex) (o : Options) (res : List Re) (is : IsRegexOf o res p) (hay
       found ≡ option_map (numbered_match res hay) (find_any o.utf8 res hay s)
   find_means s found h = span_is (forward_engine p) res hay (find_any o.utf8 res hay) spans s found h
 
-  pub truth_means : (r : Result Bool SearchError) → IsTruthOf p (span_input hay 0 (length hay)) r →
-      IfOk r (λ truth. truth ≡ is_some (find_any o.utf8 res hay 0))
-  truth_means (Err error) h = tt
-  truth_means (Ok truth) h =
-      truth_is (forward_engine p) res hay (find_any o.utf8 res hay) spans 0 truth (h.answer is.sound.cycles)
+  pub truth_is_meant : (truth : Bool) → IsMatch (forward_engine p) (span_input hay 0 (length hay)) truth →
+      truth ≡ is_some (find_any o.utf8 res hay 0)
+  truth_is_meant truth h = truth_is (forward_engine p) res hay (find_any o.utf8 res hay) spans 0 truth h
 
   pub end_means : (s : ℕ) (found : Option HalfMatch) →
       WithoutBase (IsAnswer Forward (forward_engine p) (span_input hay s (length hay))) found →
@@ -98,41 +89,3 @@ module _ (p : Regex) (o : Options) (res : List Re) (is : IsRegexOf o res p) (hay
       IsFirstLeft (left_any o.utf8 res hay) last found
   next_means begin last found h =
       item_left (forward_engine p) res hay (find_any o.utf8 res hay) spans begin last found h
-
--- for every meaning that the regex has
-pub found_means : (p : Regex) (hay : List ℕ) (s : ℕ) (input : Input) (r : Result (Option Match) SearchError) →
-    input ≡ span_input hay s (length hay) → IsHaystack input.haystack → IsSpanOf p input r →
-    IfOk r (λ found. (o : Options) (res : List Re) → IsRegexOf o res p → IsFor o hay →
-    found ≡ option_map (numbered_match res hay) (find_any o.utf8 res hay s))
-found_means p hay s input (Err e) same bytes h = tt
-found_means p hay s input (Ok found) same bytes h = λ o res is for.
-    find_means p o res is hay for (subst (λ (v : Input). IsHaystack v.haystack) same bytes) s found
-    (subst (λ v. IsSpan (forward_engine p) v found) same (h.span is.sound))
-
-pub truth_found : (p : Regex) (hay : List ℕ) (input : Input) (r : Result Bool SearchError) →
-    input ≡ span_input hay 0 (length hay) → IsHaystack input.haystack → IsTruthOf p input r →
-    IfOk r (λ truth. (o : Options) (res : List Re) → IsRegexOf o res p → IsFor o hay →
-    truth ≡ is_some (find_any o.utf8 res hay 0))
-truth_found p hay input (Err e) same bytes h = tt
-truth_found p hay input (Ok truth) same bytes h = λ o res is for.
-    truth_means p o res is hay for (subst (λ (v : Input). IsHaystack v.haystack) same bytes) (Ok truth)
-    (subst (λ v. IsTruthOf p v (Ok truth)) same h)
-
-pub end_found : (p : Regex) (hay : List ℕ) (s : ℕ) (input : Input) (r : Result (Option HalfMatch) SearchError) →
-    input ≡ span_input hay s (length hay) → IsHaystack input.haystack → IsHalf Forward p.forward input r →
-    IfOk r (λ found. (o : Options) (res : List Re) → IsRegexOf o res p → IsFor o hay →
-    found ≡ option_map (end_of res hay) (find_any o.utf8 res hay s))
-end_found p hay s input (Err e) same bytes h = tt
-end_found p hay s input (Ok found) same bytes h = λ o res is for.
-    end_means p o res is hay for (subst (λ (v : Input). IsHaystack v.haystack) same bytes) s found
-    (subst (λ v. WithoutBase (IsAnswer Forward (forward_engine p) v) found) same (h.answer is.sound.cycles))
-
-pub next_found : (p : Regex) → MatchesAreSpans p → (hay : List ℕ) (last : Option ℕ) (input : Input)
-    (r : Result (Option Match) SearchError) → input ≡ rest_of hay last → IsHaystack input.haystack
-    → input.end ≤ length input.haystack → IfOk r (IsNextMatch p input last) → IfOk r (IsNextMeant p hay last)
-next_found p law hay last input (Err e) same bytes within h = tt
-next_found p law hay last input (Ok found) same bytes within h = λ o res is for.
-    next_means p o res is hay for (subst (λ (v : Input). IsHaystack v.haystack) same bytes) (unwrap_or last 0) last
-    found
-    (subst (λ (v : Input). IsNextItem (IsSpan (forward_engine p)) v v.start last found) same
-    ((law is.sound input (bytes, within)).next last found h))

@@ -37,7 +37,7 @@ seen None = refl
 seen (Some t) = refl
 
 -- patterns that match alike for every continuation match the same spans
-same_matches :
+pub same_matches :
     (a b : Re) → SameCaptures a b → (hay : List ℕ) → All (λ x. x < 256) hay → (i j : ℕ) → Matches hay a i j
     → Matches hay b i j
 same_matches a b s hay ok i j m =
@@ -67,7 +67,7 @@ both P Q None p q = absurd p
 both P Q (Some x) p q = (x, p, q)
 
 -- two trees of one text match alike
-trees_same :
+pub trees_same :
     (config : Config) (text : List ℕ) (h k : kit_hir.Hir) (names other : Names) → Reads config text h names
     → Reads config text k other → SameCaptures (meaning h) (meaning k)
 unfolding Reads

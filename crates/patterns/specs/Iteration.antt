@@ -5,13 +5,14 @@ use Rattle.regex_hir.specs.Re.{Re}
 use Rattle.automata_base.specs.Haystacks.Input.{Input}
 use Rattle.automata_base.specs.Haystacks.Matches.{Match}
 use Rattle.automata_config.specs.declared.error.SearchError.{SearchError}
-use Rattle.regex_automata.specs.Spans.Errors.{IsNextError}
 use Rattle.regex_automata.specs.Spans.Outcomes.{MatchLiesIn}
 use Rattle.regex_automata.specs.declared.hybrid.regex.Regex.{Regex}
 use Rattle.regex_automata.specs.declared.hybrid.regex.caches.Cache.{Cache}
 use Rattle.meaning.specs.Patterns.{IsFirstLeft, left_any, span_input}
 use Rattle.patterns.specs.Patterns.{IsFor, IsRegexOf}
+use Rattle.patterns.specs.Searches.{FailsNext}
 use Rattle.patterns.specs.declared.compile.Options.{Options}
+use Rattle.patterns.specs.declared.pattern.Pattern.{Pattern}
 
 -- the remaining input after a match that ended at `last`
 abbrev pub rest_of : List ℕ → (last : Option ℕ) → Input
@@ -44,14 +45,14 @@ pub record GivesNext (regex : Regex) (hay : List ℕ) (m : Match) (last last' : 
 -- one item of an iteration, and the caches before it and after it; where the last match ended, and whether the
 -- iteration has ended, before it and after it
 abbrev pub GivesMatch :
-    Regex → (old new : Cache) → List ℕ → Option (Result Match SearchError) → (last last' : Option ℕ)
+    Pattern → (old new : Cache) → List ℕ → Option (Result Match SearchError) → (last last' : Option ℕ)
     → (ended ended' : Bool) → Type 0
-GivesMatch regex old new hay item last last' true ended' = (item ≡ None) × HasNoMore last last' ended'
-GivesMatch regex old new hay None last last' false ended' =
-    IsNextMeant regex hay last None × HasNoMore last last' ended'
-GivesMatch regex old new hay (Some (Ok m)) last last' false ended' = GivesNext regex hay m last last' ended'
-GivesMatch regex old new hay (Some (Err e)) last last' false ended' =
-    IsNextError regex old new (rest_of hay last) last e × HasNoMore last last' ended'
+GivesMatch pattern old new hay item last last' true ended' = (item ≡ None) × HasNoMore last last' ended'
+GivesMatch pattern old new hay None last last' false ended' =
+    IsNextMeant pattern.regex hay last None × HasNoMore last last' ended'
+GivesMatch pattern old new hay (Some (Ok m)) last last' false ended' = GivesNext pattern.regex hay m last last' ended'
+GivesMatch pattern old new hay (Some (Err e)) last last' false ended' =
+    FailsNext pattern old new hay last e × HasNoMore last last' ended'
 
 -- an upper bound on the number of remaining items: ends increase, and an error may be the last item
 abbrev pub most_left : (ended : Bool) → List ℕ → (last : Option ℕ) → ℕ

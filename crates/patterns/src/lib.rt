@@ -20,6 +20,7 @@ mod explain;
 mod facts;
 pub mod laws;
 mod matches;
+mod needles;
 mod pattern;
 mod set;
 mod threads;

@@ -3,8 +3,8 @@ ghost use Rattle.std.specs.Prelude.{◌≡◌, ◌≤◌, None, false, length};
 ghost use Rattle.std.specs.Iterator.{at_most};
 ghost use Rattle.std.specs.Option.{unwrap_or};
 ghost use Rattle.regex_automata.specs.Promises.{AreCachesOf, LiesInHaystack};
-ghost use Rattle.regex_automata.specs.Spans.Runs.{IsItemRun};
-ghost use Rattle.patterns.specs.Iteration.{GivesMatch, most_left, rest_of};
+ghost use Rattle.patterns.specs.Iteration.{GivesMatch, most_left};
+ghost use Rattle.patterns.specs.Searches.{IsItemSearch};
 
 use crate::pattern::Pattern;
 use regex_automata::hybrid::SearchError;
@@ -75,10 +75,10 @@ impl<'p, 'c, 'h> Iterator for Matches<'p, 'c, 'h> {
     type Item = Result<Match, SearchError>;
 
     ghost next_gives = { λ s r t.
-        GivesMatch s.pattern.now.regex s.cache.now t.cache.now s.haystack.now r s.last t.last s.ended t.ended
+        GivesMatch s.pattern.now s.cache.now t.cache.now s.haystack.now r s.last t.last s.ended t.ended
         × (t.pattern.now ≡ s.pattern.now) × (t.haystack.now ≡ s.haystack.now)
         × (t.cache.ghost_name ≡ s.cache.ghost_name) × LiesInHaystack s.haystack.now r
-        × IsItemRun s.pattern.now.regex (rest_of s.haystack.now s.last) s.last s.ended s.cache.now t.cache.now r };
+        × IsItemSearch s.pattern.now s.haystack.now s.last s.ended s.cache.now t.cache.now r };
 
     ghost remaining = { λ s. at_most (most_left s.ended s.haystack.now s.last) };
 

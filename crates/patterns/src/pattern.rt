@@ -1,20 +1,17 @@
 //! Patterns to search for.
-ghost use Rattle.std.specs.Prelude.{◌≡◌, ◌≤◌, List, [], ◌∷◌, IfErr, IfOk, IfSome, is_some};
-ghost use Rattle.std.specs.Prelude.{length, map, option_map};
+ghost use Rattle.std.specs.Prelude.{◌≡◌, ◌≤◌, ℕ, List, [], ◌∷◌, Some, IfErr, IfOk, IfSome, is_some};
+ghost use Rattle.std.specs.Prelude.{length, map, option_map, true};
 ghost use Rattle.std.specs.Option.{unwrap_or};
-ghost use Rattle.std.specs.Result.{result_err};
 ghost use Rattle.regex_hir.specs.Re.{Re};
-ghost use Rattle.regex_automata.specs.Spans.Errors.{IsNextError};
 ghost use Rattle.regex_automata.specs.Spans.Iteration.{GoesPast};
 ghost use Rattle.automata_base.specs.Haystacks.Input.{IsValidInput};
 ghost use Rattle.automata_config.specs.Options.{overwritten, unset};
-ghost use Rattle.regex_automata.specs.Promises.{AreCachesOf, Forward, IsHalf, IsSoundPair, IsSpanOf, IsTruthOf};
-ghost use Rattle.regex_automata.specs.Promises.{IsSearchRun, IsSpanRun, IsTruthRun, known_of};
-ghost use Rattle.regex_automata.specs.Spans.Runs.{IsNextRun};
+ghost use Rattle.regex_automata.specs.Promises.{AreCachesOf, IsSoundPair, forward_engine};
 ghost use Rattle.regex_automata.specs.Regexes.Builds.{BuildsOne, IsBuildError};
 ghost use Rattle.regex_automata.specs.Regexes.Caches.{AreFresh};
 ghost use Rattle.meaning.specs.Patterns.{end_of, find_any, numbered_match, span_input};
-ghost use Rattle.patterns.specs.Iteration.{IsNextMeant, rest_of};
+ghost use Rattle.prefilters.specs.Needles.{BeginsWith};
+ghost use Rattle.prefilters.specs.Skipping.{IsLazy};
 ghost use Rattle.patterns.specs.Faults.{IsPatternFault};
 ghost use Rattle.patterns.specs.Patterns.{IsBuiltOf, IsFor, IsJoinedNfa, IsRegexOfTexts, IsRegexOf};
 ghost use Rattle.patterns.specs.Patterns.{settings_of, settings_with};
@@ -22,6 +19,8 @@ ghost use Rattle.patterns.specs.declared.compile.Options as options;
 
 use crate::compile::{Options, nfa_of};
 use crate::error::{Fault, PatternError};
+use crate::needles::prefilter_of;
+use prefilters::Prefilter;
 use regex_automata::hybrid::SearchError;
 use regex_automata::hybrid::dfa::Config;
 use regex_automata::hybrid::regex::{Cache, Regex, RegexBuildError};
@@ -32,15 +31,23 @@ use std::alloc::{AllocError, Global};
 
 /// One pattern, or several. Of several patterns, a match belongs to the first one that matches where it begins, and has
 /// that pattern's number.
+///
+/// If every match begins with one of a few literals, the needles, searches begin at the first of them in the haystack.
 pub struct Pattern {
-    /// The regex that searches for it.
+    /// The regex that searches for it. Its own searches use no needles.
     pub regex: Regex,
+    prefilter: Option<Prefilter>,
+    ghost begins: { (needles : List (List ℕ)) → prefilter ≡ Some needles
+        → BeginsWith (forward_engine regex) needles },
 }
 
 // With its own `drop`, the proof of an owner has one step for it instead of one for each part.
 impl Drop for Pattern {
     fn drop(self) {
-        let Self { regex: _regex } = self;
+        let Self {
+            regex: _regex,
+            prefilter: _prefilter,
+        } = self;
     }
 }
 
@@ -55,6 +62,14 @@ fn regex_of(nfa: NFA, config: Config) -> Result<Regex, RegexBuildError>
     builder.build_from_nfa(nfa)
 }
 
+/// Whether unanchored searches of the forward DFA skip bytes lazily, and do not all begin anchored.
+fn is_lazy(regex: &Regex) -> bool
+    ensures { result ≡ true → IsLazy (forward_engine regex.now) }
+{
+    let nfa = regex.forward().get_nfa();
+    nfa.skips_lazily() && !nfa.is_always_start_anchored()
+}
+
 /// Returns the input for the haystack from an offset on.
 fn rest<'h>(hay: &'h [u8], start: usize) -> Input<'h>
     requires { start ≤ length hay.now }
@@ -65,6 +80,10 @@ fn rest<'h>(hay: &'h [u8], start: usize) -> Input<'h>
 }
 
 impl Pattern {
+    ghost use Rattle.patterns.specs.Iteration.{IsNextMeant, rest_of};
+    ghost use Rattle.patterns.specs.Searches.{HasNeedles, IsBegin, IsEndSearch, IsNextSearch, IsSpanSearch};
+    ghost use Rattle.patterns.specs.Searches.{IsTruthSearch};
+
     /// Compiles a text to a pattern.
     pub fn new(alloc: Global, text: &str, options: &Options) -> Result<Pattern, PatternError>
         ensures meant { IfOk result (λ pattern. IsRegexOfTexts options.now (text.now ∷ []) pattern.regex) }
@@ -84,7 +103,10 @@ impl Pattern {
     {
         let nfa = nfa_of(alloc, texts, options)?;
         match Pattern::from_nfa(nfa, options) {
-            Ok(pattern) => Ok(pattern),
+            Ok(mut pattern) => {
+                pattern.skip_by(prefilter_of(alloc, texts, options));
+                Ok(pattern)
+            }
             Err(error) => {
                 let fault = Fault::Unbuilt(error);
                 Err(PatternError { number: 0, fault })
@@ -101,7 +123,10 @@ impl Pattern {
     {
         let config = options.dfa_config();
         let regex = regex_of(nfa, config)?;
-        Ok(Pattern { regex })
+        Ok(Pattern {
+            regex,
+            prefilter: None,
+        })
     }
 
     /// Builds patterns as `from_nfa` does, but with settings of your own: for example what its caches may take, and
@@ -122,7 +147,32 @@ impl Pattern {
             .match_kind(MatchKind::LeftmostFirst)
             .unicode_word_boundary(options.ascii);
         let regex = regex_of(nfa, config)?;
-        Ok(Pattern { regex })
+        Ok(Pattern {
+            regex,
+            prefilter: None,
+        })
+    }
+
+    /// Lets searches begin at needles, unless offsets inside characters are skipped.
+    fn skip_by(&mut self, prefilter: Option<Prefilter>)
+        requires { (needles : List (List ℕ)) → prefilter ≡ Some needles → HasNeedles self.old.regex needles }
+        ensures { self.new.regex ≡ self.old.regex }
+    {
+        if !self.regex.forward().skips() {
+            self.prefilter = prefilter;
+        }
+    }
+
+    /// Returns the offset where a search from `start` on begins, or none if no match begins there or later.
+    fn begin(&self, hay: &[u8], start: usize) -> Option<usize>
+        requires { start ≤ length hay.now }
+        ensures begin { IsBegin self.now hay.now start result }
+        ensures within { IfSome result (λ at. (start ≤ at) × (at ≤ length hay.now)) }
+    {
+        match &self.prefilter {
+            Some(prefilter) if is_lazy(&self.regex) => prefilter.skip(hay, start, hay.len()),
+            _ => Some(start),
+        }
     }
 
     /// Returns a new cache for searches, which serves one search after another.
@@ -137,15 +187,16 @@ impl Pattern {
     pub fn is_match(&self, cache: &mut Cache, hay: &[u8]) -> Result<bool, SearchError>
         requires { AreCachesOf cache.old self.now.regex }
         ensures of { AreCachesOf cache.new self.now.regex }
-        ensures returned { IsTruthOf self.now.regex (span_input hay.now 0 (length hay.now)) result }
+        ensures searched { IsTruthSearch self.now hay.now cache.old cache.new result }
         ensures found { IfOk result (λ truth. (o : options.Options) (res : List Re)
             → IsRegexOf o res self.now.regex → IsFor o hay.now
             → truth ≡ is_some (find_any o.utf8 res hay.now 0)) }
-        ensures effect { IsTruthRun self.now.regex (span_input hay.now 0 (length hay.now)) cache.old cache.new
-            (result_err result) }
     {
-        let input = Input::new(hay);
-        self.regex.is_match(cache, &input)
+        let Some(at) = self.begin(hay, 0) else {
+            return Ok(false);
+        };
+        let searched = rest(hay, at);
+        self.regex.is_match(cache, &searched)
     }
 
     /// Returns the leftmost match that begins at `start` or later; of those that begin there, the one that the pattern
@@ -159,14 +210,15 @@ impl Pattern {
         requires of { AreCachesOf cache.old self.now.regex }
         requires within { start ≤ length hay.now }
         ensures of { AreCachesOf cache.new self.now.regex }
-        ensures returned { IsSpanOf self.now.regex (span_input hay.now start (length hay.now)) result }
+        ensures searched { IsSpanSearch self.now hay.now start cache.old cache.new result }
         ensures found { IfOk result (λ found. (o : options.Options) (res : List Re)
             → IsRegexOf o res self.now.regex → IsFor o hay.now
             → found ≡ option_map (numbered_match res hay.now) (find_any o.utf8 res hay.now start)) }
-        ensures effect { IsSpanRun self.now.regex (span_input hay.now start (length hay.now)) cache.old cache.new
-            (result_err result) }
     {
-        let input = rest(hay, start);
+        let Some(at) = self.begin(hay, start) else {
+            return Ok(None);
+        };
+        let input = rest(hay, at);
         self.regex.find(cache, &input)
     }
 
@@ -181,15 +233,16 @@ impl Pattern {
         requires of { AreCachesOf cache.old self.now.regex }
         requires within { start ≤ length hay.now }
         ensures of { AreCachesOf cache.new self.now.regex }
-        ensures returned { IsHalf Forward self.now.regex.forward (span_input hay.now start (length hay.now)) result }
+        ensures searched { IsEndSearch self.now hay.now start cache.old cache.new result }
         ensures found { IfOk result (λ found. (o : options.Options) (res : List Re)
             → IsRegexOf o res self.now.regex → IsFor o hay.now
             → found ≡ option_map (end_of res hay.now) (find_any o.utf8 res hay.now start)) }
-        ensures effect { IsSearchRun Forward self.now.regex.forward (span_input hay.now start (length hay.now))
-            (known_of cache.old.forward) (known_of cache.new.forward) (result_err result) }
         ensures reverse { cache.new.reverse ≡ cache.old.reverse }
     {
-        let left = rest(hay, start);
+        let Some(at) = self.begin(hay, start) else {
+            return Ok(None);
+        };
+        let left = rest(hay, at);
         self.regex
             .forward()
             .try_search_fwd(cache.forward_mut(), &left)
@@ -208,12 +261,14 @@ impl Pattern {
         ensures of { AreCachesOf cache.new self.now.regex }
         ensures found { IfOk result (IsNextMeant self.now.regex hay.now last) }
         ensures past { IfOk result (λ o. IfSome o (GoesPast self.now.regex (rest_of hay.now last) last)) }
-        ensures refusal { IfErr result (IsNextError self.now.regex cache.old cache.new (rest_of hay.now last) last) }
-        ensures effect { IsNextRun self.now.regex (rest_of hay.now last) last cache.old cache.new (result_err result) }
+        ensures searched { IsNextSearch self.now hay.now last cache.old cache.new result }
     {
         matches_are_spans(&self.regex);
         spans_follow(&self.regex);
-        let input = rest(hay, last.unwrap_or(0));
-        self.regex.next_match(cache, &input, last)
+        let Some(at) = self.begin(hay, last.unwrap_or(0)) else {
+            return Ok(None);
+        };
+        let remaining = rest(hay, at);
+        self.regex.next_match(cache, &remaining, last)
     }
 }

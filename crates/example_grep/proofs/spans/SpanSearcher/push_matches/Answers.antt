@@ -13,7 +13,7 @@ loop-found-preserved c =
     let t = c.next.new.self in
     let steps = rw c.in_ok-found.was at c.in-Some.ensures.steps in
     let item =
-    item_match s.pattern.now.regex s.cache.now t.cache.now s.haystack.now c.in_ok-found.found s.last t.last s.ended
+    item_match s.pattern.now s.cache.now t.cache.now s.haystack.now c.in_ok-found.found s.last t.last s.ended
     t.ended steps.0 in
     record {
       shown =
@@ -39,5 +39,5 @@ returns-clause-shown c =
     match_end c.args.self.now.pattern.regex c.args.prefix.now c.args.line.now c.args.shown.now.items s.pattern.now.regex
     s.haystack.now
     (ap (λ (p : Pattern). p.regex) i.pattern) i.haystack c.loop-found.shown.items s.last i.shown
-    (item_none s.pattern.now.regex s.cache.now t.cache.now s.haystack.now s.last t.last s.ended t.ended
+    (item_none s.pattern.now s.cache.now t.cache.now s.haystack.now s.last t.last s.ended t.ended
     c.in-None.ensures.steps.0 i.going)

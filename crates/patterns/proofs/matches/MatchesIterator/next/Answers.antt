@@ -1,26 +1,29 @@
-use Rattle.std.proofs.Common.{None, Some, refl}
+use Rattle.std.proofs.Common.{None, Some, ap, ◌∙◌, refl, subst}
 use Rattle.std.specs.Prelude.{Ok, Err}
 use Rattle.regex_automata.specs.Spans.Iteration.{GoesPast}
 use Rattle.patterns.specs.Iteration.{rest_of}
-use Rattle.patterns.proofs.Items.{fewer_left, gives_error, gives_match, gives_none, given, item_run, some_left}
+use Rattle.patterns.specs.Searches.{IsNextSearch}
+use Rattle.patterns.proofs.Items.{fails_next, fewer_left, gives_error, gives_match, gives_none, given, item_search}
+use Rattle.patterns.proofs.Items.{some_left}
 use Rattle.patterns.proofs.matches.MatchesIterator.next.Goals as goal
 
 pub returns-in-Ok-Some-clause-steps : goal.returns-in-Ok-Some-clause-steps
 returns-in-Ok-Some-clause-steps c =
     let s = c.args.self.now in
+    let p = s.pattern.now in
     let goes =
-    given (GoesPast s.pattern.now.regex (rest_of s.haystack.now s.last) s.last) c.in-Ok-Some.field-0-is
-    c.in-Ok-Some.ensures.past in (
-      gives_match s.pattern.now.regex s.cache.now c.next_match.new.cache s.haystack.now s.last s.ended
+    given (GoesPast p.regex (rest_of s.haystack.now s.last) s.last) c.in-Ok-Some.field-0-is c.in-Ok-Some.ensures.past in (
+      gives_match p s.cache.now c.next_match.new.cache s.haystack.now s.last s.ended
           c.in-Ok-Some.found c.end.result c.if-self.false
           c.in-Ok-Some.field-0-is c.in-Ok-Some.ensures.found goes.0 c.end.ensures.end,
       refl,
       refl,
       refl,
       (goes.0.1, goes.0.2),
-      item_run s.pattern.now.regex (rest_of s.haystack.now s.last) s.last s.ended s.cache.now c.next_match.new.cache
-          (Some (Ok c.in-Ok-Some.found))
-          c.if-self.false c.in-Ok-Some.ensures.effect,
+      item_search p s.cache.now c.next_match.new.cache s.haystack.now s.last s.ended (Ok (Some c.in-Ok-Some.found))
+          c.if-self.false
+          (subst (IsNextSearch p s.haystack.now s.last s.cache.now c.next_match.new.cache)
+          (c.in-Ok-Some.is ∙ ap Ok c.in-Ok-Some.field-0-is) c.next_match.ensures.searched),
     )
 
 pub returns-in-Ok-Some-clause-goes : goal.returns-in-Ok-Some-clause-goes
@@ -43,16 +46,20 @@ returns-in-Ok-Some-clause-goes c =
 
 pub returns-in-Err-clause-steps : goal.returns-in-Err-clause-steps
 returns-in-Err-clause-steps c =
-    let s = c.args.self.now in (
-      gives_error s.pattern.now.regex s.cache.now c.next_match.new.cache s.haystack.now s.last s.ended c.in-Err.error
-          c.if-self.false c.in-Err.ensures.refusal,
+    let s = c.args.self.now in
+    let p = s.pattern.now in
+    let searched =
+    subst (IsNextSearch p s.haystack.now s.last s.cache.now c.next_match.new.cache) c.in-Err.is
+    c.next_match.ensures.searched in (
+      gives_error p s.cache.now c.next_match.new.cache s.haystack.now s.last s.ended c.in-Err.error
+          c.if-self.false
+          (fails_next p s.cache.now c.next_match.new.cache s.haystack.now s.last c.in-Err.error searched),
       refl,
       refl,
       refl,
       tt,
-      item_run s.pattern.now.regex (rest_of s.haystack.now s.last) s.last s.ended s.cache.now c.next_match.new.cache
-          (Some (Err c.in-Err.error))
-          c.if-self.false c.in-Err.ensures.effect,
+      item_search p s.cache.now c.next_match.new.cache s.haystack.now s.last s.ended (Err c.in-Err.error)
+          c.if-self.false searched,
     )
 
 pub returns-in-Err-clause-goes : goal.returns-in-Err-clause-goes
@@ -66,14 +73,16 @@ returns-in-Err-clause-goes c =
 
 pub returns-in-Ok-None-clause-steps : goal.returns-in-Ok-None-clause-steps
 returns-in-Ok-None-clause-steps c =
-    let s = c.args.self.now in (
-      gives_none s.pattern.now.regex s.cache.now c.next_match.new.cache s.haystack.now s.last s.ended c.if-self.false
+    let s = c.args.self.now in
+    let p = s.pattern.now in (
+      gives_none p s.cache.now c.next_match.new.cache s.haystack.now s.last s.ended c.if-self.false
           c.in-Ok-None.field-0-is c.in-Ok-None.ensures.found,
       refl,
       refl,
       refl,
       tt,
-      item_run s.pattern.now.regex (rest_of s.haystack.now s.last) s.last s.ended s.cache.now c.next_match.new.cache
-          None
-          c.if-self.false c.in-Ok-None.ensures.effect,
+      item_search p s.cache.now c.next_match.new.cache s.haystack.now s.last s.ended (Ok None)
+          c.if-self.false
+          (subst (IsNextSearch p s.haystack.now s.last s.cache.now c.next_match.new.cache)
+          (c.in-Ok-None.is ∙ ap Ok c.in-Ok-None.field-0-is) c.next_match.ensures.searched),
     )

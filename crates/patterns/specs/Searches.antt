@@ -1,0 +1,120 @@
+-- How patterns with needles are searched for: as without needles, but from a later offset before which no match begins,
+-- or not at all.
+use Rattle.std.specs.Prelude.{ℕ, ◌≡◌, ◌⊎◌, Bool, true, false, List, length, Option, Some, None, Result, Ok}
+use Rattle.std.specs.Prelude.{IfErr}
+use Rattle.std.specs.Option.{unwrap_or}
+use Rattle.std.specs.Result.{result_err}
+use Rattle.regex_hir.specs.Re.{Re}
+use Rattle.automata_base.specs.Haystacks.Input.{Input}
+use Rattle.automata_base.specs.Haystacks.Matches.{HalfMatch, Match}
+use Rattle.automata_config.specs.declared.error.SearchError.{SearchError}
+use Rattle.regex_automata.specs.Promises.{Forward, IsHalf, IsSearchRun, IsSpanOf, IsSpanRun, IsTruthOf, IsTruthRun}
+use Rattle.regex_automata.specs.Promises.{forward_engine, known_of}
+use Rattle.regex_automata.specs.Spans.Errors.{IsNextError}
+use Rattle.regex_automata.specs.Spans.Runs.{IsNextRun, item_error}
+use Rattle.regex_automata.specs.declared.hybrid.regex.Regex.{Regex}
+use Rattle.regex_automata.specs.declared.hybrid.regex.caches.Cache.{Cache}
+use Rattle.meaning.specs.Patterns.{span_input}
+use Rattle.prefilters.specs.Needles.{AllStartWith}
+use Rattle.prefilters.specs.Skipping.{MaySkipAll, MaySkipTo}
+use Rattle.patterns.specs.Patterns.{AreMeanings, IsRegexOf, config_of}
+use Rattle.patterns.specs.declared.compile.Options.{Options}
+use Rattle.patterns.specs.declared.pattern.Pattern.{Pattern}
+
+-- every match of each of these texts begins with one of these needles
+abbrev pub AreNeedlesOf : Options → (texts needles : List (List ℕ)) → Type 0
+AreNeedlesOf options texts needles =
+    (res : List Re) → AreMeanings (config_of options) texts res → AllStartWith res needles
+
+-- the regex searches for patterns each match of which begins with one of these needles, over every haystack
+abbrev pub HasNeedles : Regex → (needles : List (List ℕ)) → Type 0
+HasNeedles regex needles =
+    (options : Options) × (res : List Re) × IsRegexOf options res regex × (options.ascii ≡ false)
+    × AllStartWith res needles
+
+-- the rest of the haystack from an offset on
+abbrev pub rest_from : List ℕ → (at : ℕ) → Input
+rest_from hay at = span_input hay at (length hay)
+
+-- what a search of the haystack from `start` on does: the patterns have needles or not, and `Searches at` says what a
+-- search without needles does from offset `at` on
+pub data IsSearched (pattern : Pattern) (hay : List ℕ) (start : ℕ) (Searches : (at : ℕ) → Type 0)
+    (FindsNone : Type 0) : Type 0 where
+  -- it is the search without needles
+  SearchesAll : Searches start → IsSearched pattern hay start Searches FindsNone
+  -- there are needles: it is the search from a later offset on, before which no match begins
+  SearchesFrom :
+      (pattern.prefilter ≡ None → ⊥) → (at : ℕ)
+      → MaySkipTo (forward_engine pattern.regex) (rest_from hay start) at → Searches at
+      → IsSearched pattern hay start Searches FindsNone
+  -- there are needles, and no match begins in the rest of the haystack: it finds none
+  SearchesNothing :
+      (pattern.prefilter ≡ None → ⊥) → MaySkipAll (forward_engine pattern.regex) (rest_from hay start) → FindsNone
+      → IsSearched pattern hay start Searches FindsNone
+
+-- where a search begins that uses needles: at `start`, or at a later offset; none if no match begins there or later
+abbrev pub IsBegin : Pattern → List ℕ → (start : ℕ) → Option ℕ → Type 0
+IsBegin pattern hay start None =
+    (pattern.prefilter ≡ None → ⊥) × MaySkipAll (forward_engine pattern.regex) (rest_from hay start)
+IsBegin pattern hay start (Some at) =
+    (at ≡ start)
+    ⊎ ((pattern.prefilter ≡ None → ⊥) × MaySkipTo (forward_engine pattern.regex) (rest_from hay start) at)
+
+-- a search finds nothing, reads nothing, and changes nothing in its caches
+abbrev pub ReadsNothing : {A : Type 0} → A → (old new : Cache) → Result A SearchError → Type 0
+ReadsNothing nothing old new result = (result ≡ Ok nothing) × (new ≡ old)
+
+-- a search for a span: what it returns, and what it does to the caches
+abbrev pub IsSpanSearch : Pattern → List ℕ → (start : ℕ) → (old new : Cache) → Result (Option Match) SearchError → Type 0
+IsSpanSearch pattern hay start old new result =
+    IsSearched pattern hay start
+    (λ at.
+    IsSpanOf pattern.regex (rest_from hay at) result
+    × IsSpanRun pattern.regex (rest_from hay at) old new (result_err result))
+    (ReadsNothing None old new result)
+
+-- a search for whether there is a match
+abbrev pub IsTruthSearch : Pattern → List ℕ → (old new : Cache) → Result Bool SearchError → Type 0
+IsTruthSearch pattern hay old new result =
+    IsSearched pattern hay 0
+    (λ at.
+    IsTruthOf pattern.regex (rest_from hay at) result
+    × IsTruthRun pattern.regex (rest_from hay at) old new (result_err result))
+    (ReadsNothing false old new result)
+
+-- a search for the end of a match, with the forward DFA alone
+abbrev pub IsEndSearch :
+    Pattern → List ℕ → (start : ℕ) → (old new : Cache) → Result (Option HalfMatch) SearchError → Type 0
+IsEndSearch pattern hay start old new result =
+    IsSearched pattern hay start
+    (λ at.
+    IsHalf Forward pattern.regex.forward (rest_from hay at) result
+    × IsSearchRun Forward pattern.regex.forward (rest_from hay at) (known_of old.forward) (known_of new.forward)
+    (result_err result) × (new.reverse ≡ old.reverse))
+    (ReadsNothing None old new result)
+
+-- a search for the match after one that ended at `last`, and why it fails
+abbrev pub IsNextSearch :
+    Pattern → List ℕ → (last : Option ℕ) → (old new : Cache) → Result (Option Match) SearchError → Type 0
+IsNextSearch pattern hay last old new result =
+    IsSearched pattern hay (unwrap_or last 0)
+    (λ at.
+    IsNextRun pattern.regex (rest_from hay at) last old new (result_err result)
+    × IfErr result (IsNextError pattern.regex old new (rest_from hay at) last))
+    (ReadsNothing None old new result)
+
+-- why a search for the match after one that ended at `last` fails
+abbrev pub FailsNext : Pattern → (old new : Cache) → List ℕ → (last : Option ℕ) → SearchError → Type 0
+FailsNext pattern old new hay last error =
+    IsSearched pattern hay (unwrap_or last 0)
+    (λ at. IsNextError pattern.regex old new (rest_from hay at) last error) ⊥
+
+-- the search for an item of an iteration; nothing changes once the iteration has ended
+abbrev pub IsItemSearch :
+    Pattern → List ℕ → (last : Option ℕ) → (ended : Bool) → (old new : Cache) → Option (Result Match SearchError)
+    → Type 0
+IsItemSearch pattern hay last true old new item = new ≡ old
+IsItemSearch pattern hay last false old new item =
+    IsSearched pattern hay (unwrap_or last 0)
+    (λ at. IsNextRun pattern.regex (rest_from hay at) last old new (item_error item))
+    ((item ≡ None) × (new ≡ old))

@@ -1,0 +1,6 @@
+pub mod Moving
+pub mod Answering
+pub mod Nowhere
+pub mod Meaning
+pub mod Joining
+mod Skips

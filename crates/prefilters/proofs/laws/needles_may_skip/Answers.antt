@@ -1,0 +1,18 @@
+use Rattle.prefilters.proofs.Joining.{beginnings, needles_grow, needles_join}
+use Rattle.prefilters.proofs.Meaning.{meaning_none, needles_none}
+use Rattle.prefilters.proofs.laws.needles_may_skip.Goals as goal
+
+pub returns-clause-needles : goal.returns-clause-needles
+returns-clause-needles c = needles_none
+
+pub returns-clause-meaning : goal.returns-clause-meaning
+returns-clause-meaning c = meaning_none
+
+pub returns-clause-join : goal.returns-clause-join
+returns-clause-join c = needles_join
+
+pub returns-clause-grow : goal.returns-clause-grow
+returns-clause-grow c = needles_grow
+
+pub returns-clause-beginnings : goal.returns-clause-beginnings
+returns-clause-beginnings c = beginnings
