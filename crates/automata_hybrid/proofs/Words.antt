@@ -59,18 +59,14 @@ unfoldable pub use Rattle.automata_hybrid.specs.Machines.Machine.{marked}
 unfoldable pub use Rattle.automata_hybrid.specs.Machines.OwnStates.{IsOwn}
 pub use Rattle.automata_hybrid.specs.Machines.Reachable.{IsStateOf}
 pub use Rattle.automata_hybrid.specs.Machines.StartSlots.{slot_behind, supports}
-pub use Rattle.automata_hybrid.specs.Private.Cache.Caches.{counted_in_store, IsStoreOf}
-pub use Rattle.automata_hybrid.specs.Private.Cache.Changes.{AddsNext, AddsRow, grown, IsComputed, IsStarted, put_found}
-pub use Rattle.automata_hybrid.specs.Private.Cache.Changes.{WritesAdded, WritesKnown}
-pub use Rattle.automata_hybrid.specs.Private.Cache.Clears.{AllStarts, IsSlot, keep_slot, Kept, kept, LeadsToStart}
-unfoldable pub use Rattle.automata_hybrid.specs.Private.Cache.Clears.{keep_slots}
+pub use Rattle.automata_hybrid.specs.Private.Cache.Caches.{IsStoreOf, with_count}
+pub use Rattle.automata_hybrid.specs.Private.Cache.Clears.{AllStarts, IsSlot, LeadsToStart}
 pub use Rattle.automata_hybrid.specs.Private.Cache.Ids.{HasOnly, IsRunTag}
-pub use Rattle.automata_hybrid.specs.Private.Cache.Stores.{IsKnownStart, KeepsStarts, with_next, with_start_in_store}
+pub use Rattle.automata_hybrid.specs.Private.Cache.Stores.{IsKnownStart, known_in, with_next, with_slot}
 pub use Rattle.automata_hybrid.specs.Private.Cache.Stores.{with_table}
 pub use Rattle.automata_hybrid.specs.Private.Cache.Table.{CellLeads, CellQuits, CellUnknown, IsCell, IsNewState, Lacks}
-pub use Rattle.automata_hybrid.specs.Private.Cache.Table.{RowsFitCells, with_cell, with_row_in_store}
-pub use Rattle.automata_hybrid.specs.Private.Cache.Usage.{cleared_in_store, Fits, GivesUpInStore, IsCache}
-pub use Rattle.automata_hybrid.specs.Private.Cache.Usage.{usage_in_store}
+pub use Rattle.automata_hybrid.specs.Private.Cache.Table.{RowsFitCells, with_cell, with_row_cells}
+pub use Rattle.automata_hybrid.specs.Private.Cache.Usage.{IsCache, MustGiveUp}
 pub use Rattle.automata_hybrid.specs.Private.Machines.Machine.{IsMachine, IsTemplate}
 pub use Rattle.automata_hybrid.specs.Private.Searches.Traces.{IsTrace}
 pub use Rattle.automata_hybrid.specs.Private.Steps.Steps.{IsCellRead, KnowsStep}

@@ -26,9 +26,10 @@
 --
 -- Machines defines what a DFA is; Cache.Ids, Cache.Table and Cache.States define its IDs, for steps and for inspecting
 -- a cache. Private has, in the same folders, the definitions for private functions and for proofs: no contract of a
--- public call reaches them. There the cache's own functions use rows, cells and slots; a definition that Known has too
--- ends with in_store there. Steps.BySteps uses `IsPassAnswer` and `IsUnderway` of Searches.PassContracts to say where a
--- search by steps is. `marked` of Machines.Machine follows a loop of the code.
+-- public call reaches them. There the cache's own functions use rows, cells and slots, and cite the rules of Known by
+-- what a store knows (`known_in`); `with_row_cells`, `with_cell` and `with_slot` write cells and slots, whose IDs Known
+-- does not have. Steps.BySteps uses `IsPassAnswer` and `IsUnderway` of Searches.PassContracts to say where a search by
+-- steps is. `marked` of Machines.Machine follows a loop of the code.
 pub mod Machines
 pub mod Cache
 pub mod Steps

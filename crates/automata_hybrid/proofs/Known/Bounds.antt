@@ -130,9 +130,7 @@ pub emptied_within :
     → usage m (with_row r emptied) ≤ m.capacity
 emptied_within m emptied r bounds few cheap little =
     subst (λ n. n ≤ m.capacity) (sym (used_more m emptied r))
-    (few_fits (length emptied.rows) ((length emptied.rows + 3) * m.stride) m.greatest m.stride m.slots
-    (sum_by row_cost emptied.rows) m.fixed m.capacity (cost r.state) few refl
-    (sum_cheap m.greatest emptied.rows cheap) bounds.enough little)
+    (few_fits m emptied (cost r.state) few (sum_cheap m.greatest emptied.rows cheap) bounds.enough little)
 
 -- what a cache of the DFA knows is within the bounds
 stored_known : (c : CacheView) → IsStoreOf c.store c.store.table.of → IsKnown c.store.table.of (known_of c)
@@ -140,7 +138,7 @@ stored_known c s = record {
   alive = λ r has. (s.rows.states has.0 r has.1).alive;
   cheap = λ r has. (s.rows.states has.0 r has.1).cheap;
   slots = length-map c.store.starts (start_named c.store.table) ∙ s.slots;
-  within = omega (arith, s.within, s.rows.whole, s.slots);
+  within = s.within;
   clears = s.clears;
 }
 

@@ -1,11 +1,11 @@
 -- The effect of steps and of calls for a start state on what a cache knows.
-use Rattle.std.proofs.Common.{ℕ, ◌≡◌, ◌∙◌, ◌*◌, ◌<◌, ◌≤◌, Option, Some, true, false, cond, refl, sym, ap}
+use Rattle.std.proofs.Common.{ℕ, ◌≡◌, ◌∙◌, ◌+◌, ◌*◌, ◌<◌, ◌≤◌, Option, Some, true, false, cond, refl, sym, ap}
 use Rattle.std.proofs.Common.{subst, arith}
-use Rattle.automata_hybrid.proofs.Words.{after_event, Anchored, CacheView, counted_in_store, Event, EventFails, find_id}
-use Rattle.automata_hybrid.proofs.Words.{fixed_from, GivesUp, GivesUpInStore, is_cached, IsKnownStart, IsMachine}
+use Rattle.automata_hybrid.proofs.Words.{after_event, Anchored, CacheView, cost, Event, EventFails, find_id}
+use Rattle.automata_hybrid.proofs.Words.{fixed_from, GivesUp, is_cached, IsKnownStart, IsMachine, Lacks, MustGiveUp}
 use Rattle.automata_hybrid.proofs.Words.{IsStoreOf, IsUnit, Known, known_of, KnowsStep, LacksMemory, Machine, made}
 use Rattle.automata_hybrid.proofs.Words.{match_kind_of, MayStart, moved, Names, Powerset, quits_on, slot_behind, Start}
-use Rattle.automata_hybrid.proofs.Words.{start_state_of, Step, StepError, successor, unit_class}
+use Rattle.automata_hybrid.proofs.Words.{start_state_of, Step, StepError, successor, unit_class, with_count}
 use Rattle.automata_config.specs.declared.error.StepError.TheVariants as step
 use Rattle.automata_hybrid.specs.Cache.Stores.{IsCacheError}
 use Rattle.automata_hybrid.specs.Known.Steps.{FailsFrom, GivesUpOnStart, IsStartRun, IsStepRun, RunsOutOnStart}
@@ -13,8 +13,7 @@ use Rattle.automata_hybrid.specs.Known.Steps.{StartFails, StepFails, id_in}
 use Rattle.automata_hybrid.specs.Private.Searches.PassState.{step_error}
 use Rattle.automata_hybrid.specs.Private.Searches.Units.{StepMakes}
 use Rattle.automata_hybrid.specs.Private.Steps.Starts.{IsStartSlot, start_error}
-use Rattle.automata_hybrid.proofs.Steps.Events.{Makes, MakesStep}
-use Rattle.automata_hybrid.proofs.Known.Events.{cached_known, gives_up_known, made_known, uncached_known}
+use Rattle.automata_hybrid.proofs.Known.Events.{cached_known, gives_up_known, uncached_known}
 use Rattle.automata_hybrid.proofs.Searches.PassState.{false_true}
 use Rattle.automata_hybrid.proofs.Steps.Steps.{step_unknown}
 
@@ -82,20 +81,20 @@ module _ (m : Machine) (id : ℕ) (unit : Option ℕ) (old new : CacheView) (mac
       (step_unknown m id unit old unknown q (named_in m old q id sound named))
 
   pub made_run :
-      IsStoreOf new.store m → ((q : Powerset) → Names old.store.table id q → MakesStep m q unit old new)
+      ((q : Powerset) → Names old.store.table id q → made m (Step q unit) (known_of old) ≡ Some (known_of new))
       → IsStepRun m id unit (known_of old) (known_of new)
-  made_run after makes = record {
+  made_run makes = record {
     fixed = λ high. absurd (omega (arith, low, high));
     quit = λ quits. absurd (false_true (sym clean ∙ quits));
     does = λ _ q named. after_made m (Step q unit) (known_of old) (known_of old) (known_of new) (uncached q named)
-        (made_known m (Step q unit) old new machine sound after (clean, below) is
-        (makes q (named_in m old q id sound named)));
+        (makes q (named_in m old q id sound named));
   }
 
   pub failed_run :
-      (e : StepError) → new ≡ counted_in_store old
+      (e : StepError) → new ≡ with_count old (old.count + 1)
       → (IsCacheError e → (q : Powerset) → Names old.store.table id q
-      → GivesUpInStore old.store (successor m.nfa (match_kind_of m.config) q unit))
+      → Lacks old.store.table (successor m.nfa (match_kind_of m.config) q unit)
+      × MustGiveUp m (known_of old) (cost (successor m.nfa (match_kind_of m.config) q unit)))
       → StepFails m id unit (known_of old) (known_of new) e
   failed_run e unchanged gives_up = record {
     low = low;
@@ -103,8 +102,9 @@ module _ (m : Machine) (id : ℕ) (unit : Option ℕ) (old new : CacheView) (mac
     fails = λ q named. (record {
       unknown = uncached q named;
       unchanged = ap known_of unchanged;
-      gives_up = λ room. (gives_up_known m (Step q unit) old sound).0
-          (gives_up room q (named_in m old q id sound named));
+      gives_up = λ room.
+          (let must = gives_up room q (named_in m old q id sound named) in
+          gives_up_known m (Step q unit) old must.0 must.1);
     });
   }
 
@@ -163,25 +163,25 @@ unknown_start m mode behind slot c machine sound at unknown =
     (cached (omega (arith, at.at, at.within)))))
 
 -- a start state that is not cached
-module _ (m : Machine) (mode : Anchored) (behind : Option ℕ) (old new : CacheView) (machine : IsMachine m)
-    (sound : IsStoreOf old.store m) (may : MayStart m mode behind)
+module _ (m : Machine) (mode : Anchored) (behind : Option ℕ) (old new : CacheView)
+    (may : MayStart m mode behind)
     (unknown : is_cached m (Start mode behind) (known_of old) ≡ false) where
   pub made_start_run :
-      IsStoreOf new.store m → Makes m (Start mode behind) old new
+      made m (Start mode behind) (known_of old) ≡ Some (known_of new)
       → IsStartRun m mode behind (known_of old) (known_of new)
-  made_start_run after makes = record {
+  made_start_run makes = record {
     may = may;
-    does =
-        after_made m (Start mode behind) (known_of old) (known_of old) (known_of new) unknown
-        (made_known m (Start mode behind) old new machine sound after may tt makes);
+    does = after_made m (Start mode behind) (known_of old) (known_of old) (known_of new) unknown makes;
   }
 
   pub failed_start_run :
-      (e : StepError) → new ≡ counted_in_store old
-      → (IsCacheError e → GivesUpInStore old.store (start_state_of m.nfa mode behind))
+      (e : StepError) → new ≡ with_count old (old.count + 1)
+      → (IsCacheError e → Lacks old.store.table (start_state_of m.nfa mode behind)
+      × MustGiveUp m (known_of old) (cost (start_state_of m.nfa mode behind)))
       → StartFails m mode behind (known_of old) (known_of new) (start_error e)
   failed_start_run (step.Cache err) unchanged gives_up =
-      GivesUpOnStart may unknown ((gives_up_known m (Start mode behind) old sound).0 (gives_up tt)) err refl
+      GivesUpOnStart may unknown
+      (let must = gives_up tt in gives_up_known m (Start mode behind) old must.0 must.1) err refl
       (ap known_of unchanged)
   failed_start_run step.OutOfMemory unchanged gives_up =
       RunsOutOnStart may unknown refl (ap known_of unchanged)

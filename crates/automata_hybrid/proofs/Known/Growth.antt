@@ -1,8 +1,8 @@
 -- How what a cache knows grows: over steps and searches one after another, and while there is room for more states.
 use Rattle.std.proofs.Common.{◌≡◌, ◌∙◌, ℕ, ◌+◌, ◌-◌, ◌*◌, ◌<◌, ◌≤◌, ◌⊎◌, inl, inr, List, [], ◌∷◌, ◌++◌, length, Bool}
 use Rattle.std.proofs.Common.{true, Some, refl, sym, ap, subst, arith, append_assoc, append-nil, length-append}
-use Rattle.automata_hybrid.proofs.Words.{cell_size, cost, counted, entry_size, fits, fixed_rows_cost, is_cached, Known}
-use Rattle.automata_hybrid.proofs.Words.{Machine, nat_le, nat_lt, offset_limit, Powerset, Row, row_cost, row_size}
+use Rattle.automata_hybrid.proofs.Words.{cost, counted, fits, is_cached, Known, Machine, nat_le, nat_lt, offset_limit}
+use Rattle.automata_hybrid.proofs.Words.{Powerset, Row, row_cost}
 use Rattle.automata_hybrid.proofs.Words.{slice_get, Start, sum_by, usage, with_row, ◌&&◌}
 use Rattle.std.proofs.Math.Nat.{mul-le-mul_right, lt_of_le_of_lt}
 use Rattle.std.proofs.lemmas.Bool.Decides.{nat_tests}
@@ -10,17 +10,12 @@ use Rattle.std.proofs.lemmas.List.Sums.{sum_by_push}
 use Rattle.automata_hybrid.specs.Cache.Usage.{row_usage}
 use Rattle.automata_hybrid.specs.Known.Growth.{ClearedNothing, HasRoom, HasRow, IsGrown, IsStartRow, IsStill, Keeps}
 
--- the accounted bytes, computed from the rows
-abbrev usage_of : Machine → List Row → ℕ
-usage_of m rows =
-    cell_size * ((length rows + 3) * m.stride) + cell_size * m.slots + row_size * (length rows + 3)
-    + entry_size * (length rows + 1) + fixed_rows_cost + sum_by row_cost rows + m.fixed
-
 -- whether there is room depends only on the rows
 pub room_by : (m : Machine) (old new : Known) (n : ℕ) → new.rows ≡ old.rows → HasRoom m old n → HasRoom m new n
 room_by m old new n same room = record {
   capacity =
-      subst (λ rows. usage_of m rows + n * (row_usage m + m.greatest) ≤ m.capacity) (sym same) room.capacity;
+      subst (λ rows. usage m (record old { rows = rows }) + n * (row_usage m + m.greatest) ≤ m.capacity) (sym same)
+      room.capacity;
   offsets = subst (λ (rows : List Row). (length rows + 2 + n) * m.stride < offset_limit) (sym same) room.offsets;
 }
 
@@ -50,7 +45,7 @@ used_more m c r =
     omega (arith, rows, costs, cells)
 
 pub used_by : (m : Machine) (old new : Known) → new.rows ≡ old.rows → usage m new ≡ usage m old
-used_by m old new same = ap (usage_of m) same
+used_by m old new same = ap (λ rows. usage m (record old { rows = rows })) same
 
 -- both tests of whether a state fits succeed
 pub both_fit : (a b x y : ℕ) → a ≤ b → x < y → (nat_le a b && nat_lt x y) ≡ true
@@ -61,9 +56,15 @@ fit_both a b x y h = (grind (arith, nat_tests), grind (arith, nat_tests))
 
 -- what fits stays within the capacity
 pub fits_within :
-    (m : Machine) (c : Known) (q : Powerset) → fits m c q ≡ true → usage m c + row_usage m + cost q ≤ m.capacity
-fits_within m c q fit =
-    (fit_both (usage m c + row_usage m + cost q) m.capacity ((length c.rows + 3) * m.stride) offset_limit fit).0
+    (m : Machine) (c : Known) (bytes : ℕ) → fits m c bytes ≡ true → usage m c + row_usage m + bytes ≤ m.capacity
+fits_within m c bytes fit =
+    (fit_both (usage m c + row_usage m + bytes) m.capacity ((length c.rows + 3) * m.stride) offset_limit fit).0
+
+-- and so does its row's offset
+pub fits_below :
+    (m : Machine) (c : Known) (bytes : ℕ) → fits m c bytes ≡ true → (length c.rows + 3) * m.stride < offset_limit
+fits_below m c bytes fit =
+    (fit_both (usage m c + row_usage m + bytes) m.capacity ((length c.rows + 3) * m.stride) offset_limit fit).1
 
 -- a state that costs at most the greatest cost takes at most the room for one
 one_room :
@@ -89,7 +90,7 @@ module _ (m : Machine) (c : Known) (r : Row) (n : ℕ) (cheap : cost r.state ≤
     }
 
     -- it fits
-    pub room_fits : fits m c r.state ≡ true
+    pub room_fits : fits m c (row_cost r) ≡ true
     room_fits =
         let one = one_room (usage m c) n (row_usage m) m.greatest (cost r.state) m.capacity cheap room.capacity in
         let few : length c.rows + 3 ≤ length c.rows + 2 + (n + 1) = omega arith in

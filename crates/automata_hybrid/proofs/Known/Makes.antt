@@ -4,7 +4,7 @@ use Rattle.std.proofs.Common.{length, Bool, true, false, cond, Option, None, Som
 use Rattle.std.proofs.Common.{append-nil, length-set}
 use Rattle.automata_hybrid.proofs.Words.{after_event, Anchored, cleared, cost, counted, dead, Event, fits, has_state}
 use Rattle.automata_hybrid.proofs.Words.{is_cached, is_some, Known, Machine, made, match_kind_of, option_map, Powerset}
-use Rattle.automata_hybrid.proofs.Words.{powerset_eq, powerset_eq-Decides, quits_on, Row, row_in, rows_of_starts}
+use Rattle.automata_hybrid.proofs.Words.{powerset_eq, powerset_eq-Decides, quits_on, Row, row_cost, row_in, rows_of_starts}
 use Rattle.automata_hybrid.proofs.Words.{saturated, Searched, slice_get, slot_behind, Start, start_row, start_state_of}
 use Rattle.automata_hybrid.proofs.Words.{StartError, Step, StepError, successor, unit_class, unwrap_or, usage}
 use Rattle.automata_hybrid.proofs.Words.{with_new_row, with_row, ◌&&◌, ◌||◌}
@@ -90,9 +90,10 @@ absent_alive c q free dies =
 data IsAdded (m : Machine) (emptied : Known) (r : Row) (old new : Known) : Type 0 where
   WasThere : has_state old r.state ≡ true → new ≡ old → IsAdded m emptied r old new
   DidFit :
-      has_state old r.state ≡ false → fits m old r.state ≡ true → new ≡ with_row r old → IsAdded m emptied r old new
+      has_state old r.state ≡ false → fits m old (row_cost r) ≡ true → new ≡ with_row r old
+      → IsAdded m emptied r old new
   WasCleared :
-      has_state old r.state ≡ false → fits m old r.state ≡ false → refuses_to_clear m old ≡ false
+      has_state old r.state ≡ false → fits m old (row_cost r) ≡ false → refuses_to_clear m old ≡ false
       → new ≡ with_row r emptied → IsAdded m emptied r old new
 
 added :
@@ -100,13 +101,13 @@ added :
     → IsAdded m emptied r old new
 added m emptied r old new is = there (has_state old r.state) refl is where
   cleared_first :
-      (b : Bool) → has_state old r.state ≡ false → fits m old r.state ≡ false → refuses_to_clear m old ≡ b
+      (b : Bool) → has_state old r.state ≡ false → fits m old (row_cost r) ≡ false → refuses_to_clear m old ≡ b
       → ◌≡◌ {A = Option Known} (cond b None (Some (with_row r emptied))) (Some new) → IsAdded m emptied r old new
   cleared_first true free full refuses is = absurd (none_some is)
   cleared_first false free full allows is = WasCleared free full allows (sym (some_inj is))
 
   absent :
-      (b : Bool) → has_state old r.state ≡ false → fits m old r.state ≡ b
+      (b : Bool) → has_state old r.state ≡ false → fits m old (row_cost r) ≡ b
       → ◌≡◌ {A = Option Known}
       (cond b (Some (with_row r old)) (cond (refuses_to_clear m old) None (Some (with_row r emptied)))) (Some new)
       → IsAdded m emptied r old new
@@ -116,12 +117,12 @@ added m emptied r old new is = there (has_state old r.state) refl is where
   there :
       (b : Bool) → has_state old r.state ≡ b
       → ◌≡◌ {A = Option Known}
-      (cond b (Some old) (cond (fits m old r.state) (Some (with_row r old))
+      (cond b (Some old) (cond (fits m old (row_cost r)) (Some (with_row r old))
       (cond (refuses_to_clear m old) None (Some (with_row r emptied)))))
       (Some new)
       → IsAdded m emptied r old new
   there true has is = WasThere has (sym (some_inj is))
-  there false free is = absent (fits m old r.state) free refl is
+  there false free is = absent (fits m old (row_cost r)) free refl is
 
 -- adding the row does not change the start states
 starts_between :
@@ -274,7 +275,7 @@ module _ (m : Machine) (emptied : Known) (r : Row) (old between new : Known) (so
     used (WasThere there e) = subst (λ (c : Known). usage m c ≤ m.capacity) (sym e) sound.within
     used (DidFit free fit e) =
         subst (λ (c : Known). usage m c ≤ m.capacity) (sym e)
-        (subst (λ n. n ≤ m.capacity) (sym (used_more m old r)) (fits_within m old r.state fit))
+        (subst (λ n. n ≤ m.capacity) (sym (used_more m old r)) (fits_within m old (row_cost r) fit))
     used (WasCleared free full allows e) =
         subst (λ (c : Known). usage m c ≤ m.capacity) (sym e)
         (emptied_within m emptied r bounds (few empties.few sound.slots)

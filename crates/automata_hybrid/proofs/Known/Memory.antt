@@ -7,7 +7,7 @@ use Rattle.automata_hybrid.proofs.Words.{is_quit, IsSearchRun, Known, LacksMemor
 use Rattle.automata_hybrid.proofs.Words.{MeetsQuit, minimum_cache_clear_count_of, moved, offset_in, Ok, option_map}
 use Rattle.automata_hybrid.proofs.Words.{pass_trace, PassFails, QuitsBehind, Result, result_err, Row, SearchError}
 use Rattle.automata_hybrid.proofs.Words.{slot_behind, Start, start_event, start_state_of, Step, supports, tape_in}
-use Rattle.automata_hybrid.proofs.Words.{unit_class, unit_event, UnitFails, with_row}
+use Rattle.automata_hybrid.proofs.Words.{row_cost, unit_class, unit_event, UnitFails, with_row}
 use Rattle.automata_base.proofs.Paths.Orders.{some_none}
 use Rattle.automata_hybrid.specs.Known.Effects.{asked_row}
 use Rattle.automata_hybrid.specs.Known.Events.{refuses_past, refuses_to_clear, with_start, with_state}
@@ -45,11 +45,11 @@ state_made m emptied r c free none = there (has_state c r.state) none where
   there :
       (b : Bool)
       → ◌≡◌ {A = Option Known}
-      (cond b (Some c) (cond (fits m c r.state) (Some (with_row r c))
+      (cond b (Some c) (cond (fits m c (row_cost r)) (Some (with_row r c))
       (cond (refuses_to_clear m c) None (Some (with_row r emptied)))))
       None → ⊥
   there true none = some_none none
-  there false none = absent (fits m c r.state) none
+  there false none = absent (fits m c (row_cost r)) none
 
 none_mapped : {A B : Type 0} (f : A → B) (o : Option A) → option_map f o ≡ None → o ≡ None
 none_mapped f None none = refl

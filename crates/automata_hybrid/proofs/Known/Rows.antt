@@ -4,12 +4,12 @@ use Rattle.std.proofs.Common.{true, false, cond, Option, None, Some, slice_get, 
 use Rattle.std.proofs.Common.{length-append, length-set, zero, suc}
 use Rattle.automata_hybrid.proofs.Words.{cell_at, find_id, has_patterns, is_some, Names, Powerset, powerset_eq}
 use Rattle.automata_hybrid.proofs.Words.{powerset_eq-Decides, Row, row_id, row_in, row_of, Rows, RowsFitCells}
-use Rattle.automata_hybrid.proofs.Words.{with_cell, with_row_in_store}
+use Rattle.automata_hybrid.proofs.Words.{with_cell, with_row_cells}
 use Rattle.std.proofs.lemmas.Option.{slice_get_within}
 use Rattle.std.proofs.lemmas.Nat.{div-mul-add}
 use Rattle.automata_base.proofs.Paths.Orders.{some_inj}
 use Rattle.automata_hybrid.specs.Cache.Survival.{HaveDistinctStates}
-use Rattle.automata_hybrid.specs.Private.Cache.Table.{HasRowIds}
+use Rattle.automata_hybrid.specs.Private.Cache.Table.{HasRowIds, IsSoundTable}
 use Rattle.automata_hybrid.proofs.Storage.Places.{find_id-Found, tags_low, tags_mod}
 use Rattle.automata_hybrid.proofs.Storage.Rows.{Names-more, inside}
 
@@ -71,6 +71,9 @@ pub places_of :
     (t : Rows) → 0 < t.of.stride → t.of.stride ≤ 512 → length t.of.template ≡ t.of.stride → RowsFitCells t → HasPlaces t
 places_of t positive small wide rows =
     record { positive = positive; small = small; wide = wide; whole = rows.whole; ids = rows.ids }
+
+pub places_sound : (t : Rows) → IsSoundTable t → HasPlaces t
+places_sound t s = places_of t s.template.positive s.template.small s.template.whole s.rows
 
 -- rows with the same offset are the same row
 one_place : (s j k : ℕ) → 0 < s → (j + 3) * s ≡ (k + 3) * s → j ≡ k
@@ -170,7 +173,7 @@ slice_get-more (y ∷ xs) ys zero x h = h
 slice_get-more (y ∷ xs) ys (suc k) x h = slice_get-more xs ys k x h
 
 -- a table has places if it has them with one more row
-pub places_before : (t : Rows) (r : Row) → HasPlaces (with_row_in_store t r) → HasPlaces t
+pub places_before : (t : Rows) (r : Row) → HasPlaces (with_row_cells t r) → HasPlaces t
 places_before t r p =
     let cells : length (t.cells ++ t.of.template) ≡ length t.cells + length t.of.template =
     length-append t.cells t.of.template in

@@ -1,22 +1,23 @@
 -- What the start slots name, and what a clear keeps of it.
 use Rattle.std.proofs.Common.{◌≡◌, ◌∙◌, ℕ, ◌+◌, ◌*◌, ◌^◌, ◌<◌, ◌≤◌, ◌⊎◌, inl, inr, List, [], ◌∷◌, ◌++◌, length, Bool}
 use Rattle.std.proofs.Common.{true, false, cond, Option, None, Some, get_or, replicate, slice_get, refl, sym, ap, subst}
-use Rattle.std.proofs.Common.{arith, length-append, suc, append_assoc, append-nil}
-use Rattle.automata_hybrid.proofs.Words.{AllStarts, dead, dead_id, fresh, id_of, is_some, IsSlot, keep_row, keep_slot}
-use Rattle.automata_hybrid.proofs.Words.{keep_slots, Kept, kept, LeadsToDead, LeadsToNamed, Machine, Names, nat_le}
-use Rattle.automata_hybrid.proofs.Words.{option_and_then, option_map, Powerset, quit_id, Row, row_id, row_in, row_of}
-use Rattle.automata_hybrid.proofs.Words.{Rows, rows_of_starts, RowsFitCells, start_named, unknown_id, unwrap_or}
-use Rattle.automata_hybrid.proofs.Words.{with_row_in_store}
-use Rattle.std.specs.Prelude.{fold, map}
+use Rattle.std.proofs.Common.{arith, length-append, suc, take}
+use Rattle.automata_hybrid.proofs.Words.{AllStarts, dead, dead_id, fresh, id_of, is_some, IsSlot, keep_row, Leads}
+use Rattle.automata_hybrid.proofs.Words.{LeadsToDead, LeadsToNamed, LeadsToStart, Machine, Names, nat_le, option_map}
+use Rattle.automata_hybrid.proofs.Words.{Powerset, quit_id, Row, row_in, row_of, Rows, rows_of_starts, RowsFitCells}
+use Rattle.automata_hybrid.proofs.Words.{slot_behind, start_named, start_state_of, unknown_id, with_row_cells}
+use Rattle.std.specs.Prelude.{map}
 use Rattle.std.proofs.lemmas.Bool.{cases_lt}
 use Rattle.std.proofs.lemmas.Bool.Decides.{nat_tests}
-use Rattle.std.proofs.lemmas.List.{get_or_append_left, get_or-append-add, length-replicate}
-use Rattle.automata_hybrid.specs.Private.Cache.Clears.{keep_found}
-use Rattle.automata_hybrid.specs.Private.Cache.Clears.{with_row_once}
+use Rattle.std.proofs.lemmas.Grind.{get_or_default_zero}
+use Rattle.std.proofs.lemmas.List.{get_or_append_left, get_or-append-add, length-replicate, map-append, take_more}
+use Rattle.std.proofs.lemmas.List.Sums.{fold-append}
+use Rattle.automata_hybrid.specs.Private.Cache.Clears.{IsPut, IsUnwritten, KeepsSlot, with_row_once}
+use Rattle.automata_hybrid.specs.Private.Cache.Table.{IsSoundTable}
 use Rattle.automata_hybrid.specs.Known.Known.{keep_start}
-use Rattle.automata_hybrid.proofs.Storage.Clears.{with_row_once-of}
-use Rattle.automata_hybrid.proofs.Storage.Rows.{Names-more, Names-new, inside}
-use Rattle.automata_hybrid.proofs.Known.Rows.{HasPlaces, Met, NamedRow, named_row, row_in-Met, row_in-is}
+use Rattle.automata_hybrid.proofs.Storage.Clears.{AllStarts-push, IsPut-AllStarts, IsPut-length, IsPut-of}
+use Rattle.automata_hybrid.proofs.Storage.Rows.{Leads-Names, Names-more, inside}
+use Rattle.automata_hybrid.proofs.Known.Rows.{HasPlaces, Met, NamedRow, named_row, places_sound, row_in-Met, row_in-is}
 
 -- what an ID in a slot names
 pub data IsNamed (t : Rows) (id : ℕ) (start : Option Powerset) : Type 0 where
@@ -33,7 +34,7 @@ AreNamed t (id ∷ ids) (start ∷ starts) = IsNamed t id start × AreNamed t id
 
 named_more :
     (t : Rows) (r : Row) (id : ℕ) (start : Option Powerset) → IsNamed t id start
-    → IsNamed (with_row_in_store t r) id start
+    → IsNamed (with_row_cells t r) id start
 named_more t r id start (NamesNone e f) = NamesNone e f
 named_more t r id start (NamesDead e f) = NamesDead e f
 named_more t r id start (NamesRow q n f) = NamesRow q (Names-more t r id q n) f
@@ -41,7 +42,7 @@ named_more t r id start (NamesRow q n f) = NamesRow q (Names-more t r id q n) f
 -- they name the same with one more row
 pub AreNamed-more :
     (t : Rows) (r : Row) (ids : List ℕ) (starts : List (Option Powerset)) → AreNamed t ids starts
-    → AreNamed (with_row_in_store t r) ids starts
+    → AreNamed (with_row_cells t r) ids starts
 AreNamed-more t r [] [] all = tt
 AreNamed-more t r [] (start ∷ starts) all = absurd all
 AreNamed-more t r (id ∷ ids) [] all = absurd all
@@ -52,7 +53,7 @@ AreNamed-once :
     (t : Rows) (r : Row) (ids : List ℕ) (starts : List (Option Powerset)) → AreNamed t ids starts
     → AreNamed (with_row_once t r) ids starts
 AreNamed-once t r ids starts all = go (is_some (id_of t r.state)) where
-  go : (b : Bool) → AreNamed (cond b t (with_row_in_store t r)) ids starts
+  go : (b : Bool) → AreNamed (cond b t (with_row_cells t r)) ids starts
   go true = all
   go false = AreNamed-more t r ids starts all
 
@@ -117,14 +118,8 @@ pub AllStarts-named :
     (t : Rows) (ids : List ℕ) → HasPlaces t → AllStarts t ids → AreNamed t ids (map (start_named t) ids)
 AllStarts-named t ids p all = slots_named t ids p (λ k id h. (k, all k id h))
 
--- no cell of a table was written
-pub record IsUnwritten (t : Rows) : Type 0 where
-  pub whole : length t.cells ≡ (length t.rows + 3) * t.of.stride
-  pub cells :
-      (k class : ℕ) → k < length t.rows → class < t.of.stride
-      → get_or t.cells ((k + 3) * t.of.stride + class) 0 ≡ get_or t.of.template class 0
-
-unwritten_fresh : (m : Machine) → IsUnwritten (fresh m)
+-- no cell of a new table was written
+pub unwritten_fresh : (m : Machine) → IsUnwritten (fresh m)
 unwritten_fresh m =
     let a = length-replicate m.stride unknown_id in
     let b = length-replicate m.stride (dead_id m.stride) in
@@ -144,7 +139,7 @@ unwritten_fresh m =
     }
 
 pub unwritten_more :
-    (t : Rows) (r : Row) → length t.of.template ≡ t.of.stride → IsUnwritten t → IsUnwritten (with_row_in_store t r)
+    (t : Rows) (r : Row) → length t.of.template ≡ t.of.stride → IsUnwritten t → IsUnwritten (with_row_cells t r)
 unwritten_more t r wide u = record {
   whole =
       length-append t.cells t.of.template ∙ ap (λ n. length t.cells + n) wide ∙ more
@@ -174,7 +169,7 @@ unwritten_more t r wide u = record {
 unwritten_once :
     (t : Rows) (r : Row) → length t.of.template ≡ t.of.stride → IsUnwritten t → IsUnwritten (with_row_once t r)
 unwritten_once t r wide u = go (is_some (id_of t r.state)) where
-  go : (b : Bool) → IsUnwritten (cond b t (with_row_in_store t r))
+  go : (b : Bool) → IsUnwritten (cond b t (with_row_cells t r))
   go true = u
   go false = unwritten_more t r wide u
 
@@ -184,25 +179,9 @@ rows_once t r =
     go (is_some (id_of t r.state))
     ∙ ap (λ b. cond b t.rows (t.rows ++ r ∷ [])) (row_in-is t.of.stride (3 * t.of.stride) r.state t.rows)
   where
-    go : (b : Bool) → (cond b t (with_row_in_store t r)).rows ≡ cond b t.rows (t.rows ++ r ∷ [])
+    go : (b : Bool) → (cond b t (with_row_cells t r)).rows ≡ cond b t.rows (t.rows ++ r ∷ [])
     go true = refl
     go false = refl
-
--- that row's state has an ID afterwards
-named_once :
-    (t : Rows) (r : Row) → length t.cells ≡ (length t.rows + 3) * t.of.stride
-    → (id : ℕ) × Names (with_row_once t r) id r.state
-named_once t r whole = go (id_of t r.state) refl where
-  go : (o : Option ℕ) → id_of t r.state ≡ o → (id : ℕ) × Names (cond (is_some o) t (with_row_in_store t r)) id r.state
-  go None e = (row_id (length t.cells) r, Names-new t r whole e)
-  go (Some id) e = (id, e)
-
--- what is kept of an old table, of which these are the start states
-pub record IsKept (old : Rows) (starts : List (Option Powerset)) (rows : List Row) (k : Kept) : Type 0 where
-  pub of : k.table.of ≡ old.of
-  pub rows_are : k.table.rows ≡ rows
-  pub unwritten : IsUnwritten k.table
-  pub named : AreNamed k.table k.starts starts
 
 -- no row has the dead state
 pub none_dead : (t : Rows) → RowsFitCells t → row_in t.rows dead ≡ None
@@ -212,107 +191,130 @@ none_dead t rows = go (row_in t.rows dead) refl where
   go (Some r) e =
       let m : Met t.rows dead r = row_in-Met t.rows dead r e in absurd ((rows.states m.place r m.has).alive m.state)
 
--- one more slot, which does not name a row
-keeps_fixed :
-    (old : Rows) (starts : List (Option Powerset)) (rows : List Row) (k : Kept) (id : ℕ) (start : Option Powerset)
-    → IsKept old starts rows k → 2 ^ 29 ≤ id → option_and_then (row_in old.rows) start ≡ None → IsNamed k.table id start
-    → IsKept old (starts ++ start ∷ []) (keep_start old.rows rows start) (keep_slot old k id)
-keeps_fixed old starts rows k id start i high none one =
-    let fixed : nat_le (2 ^ 29) id ≡ true = grind (arith, nat_tests) in
-    subst
-    (λ b. IsKept old (starts ++ start ∷ []) (keep_start old.rows rows start)
-    (cond b (record { table = k.table; starts = k.starts ++ id ∷ [] }) (keep_found (row_of old id) k)))
-    (sym fixed)
+-- a slot that does not name a row is kept unchanged
+pub keeps_fixed :
+    (old t : Rows) (starts after : List ℕ) (id : ℕ) → IsSoundTable old → IsSoundTable t → 2 ^ 29 ≤ id
+    → after ≡ starts ++ id ∷ [] → t.of ≡ old.of → AllStarts t starts → IsSlot old (length starts) id
+    → KeepsSlot old id (record { table = t; starts = starts }) (record { table = t; starts = after })
+keeps_fixed old t starts after id was sound high push of all leads =
+    subst (λ (xs : List ℕ). KeepsSlot old id (record { table = t; starts = starts })
+    (record { table = t; starts = xs })) (sym push)
     (record {
-      of = i.of;
-      rows_are = i.rows_are ∙ ap (keep_row rows) (sym none);
-      unwritten = i.unwritten;
-      named = AreNamed-push k.table k.starts starts id start i.named one;
+      rows = (read (slot_named old (length starts) id (places_sound old was) leads)).0;
+      names =
+          map-append (start_named t) starts (id ∷ [])
+          ∙ ap (λ o. map (start_named t) starts ++ o ∷ [])
+          (read (slot_named old (length starts) id (places_sound old was) leads)).1;
+      unwritten = λ u. u;
+      named = AllStarts-push t starts id all (there leads);
+      few = omega arith;
+      slots = length-append starts (id ∷ []);
+      absent = λ q o n. n;
+      of = refl;
     })
-
--- one more slot, which names a row
-keeps_row :
-    (old : Rows) (starts : List (Option Powerset)) (rows : List Row) (k : Kept) (id : ℕ) (start : Option Powerset)
-    (q : Powerset)
-    → length old.of.template ≡ old.of.stride → IsKept old starts rows k → NamedRow old id q → start ≡ Some q
-    → IsKept old (starts ++ start ∷ []) (keep_start old.rows rows start) (keep_slot old k id)
-keeps_row old starts rows k id start q wide i r f =
-    let below : id < 2 ^ 29 = r.low in
-    let free : nat_le (2 ^ 29) id ≡ false = grind (arith, nat_tests) in
-    subst
-    (λ b. IsKept old (starts ++ start ∷ []) (keep_start old.rows rows start)
-    (cond b (record { table = k.table; starts = k.starts ++ id ∷ [] }) (keep_found (row_of old id) k)))
-    (sym free)
-    (subst (λ o. IsKept old (starts ++ start ∷ []) (keep_start old.rows rows start) (keep_found o k)) (sym r.at)
-    (record {
-      of = with_row_once-of k.table r.row ∙ i.of;
-      rows_are =
-          rows_once k.table r.row ∙ ap (λ rs. keep_row rs (Some r.row)) i.rows_are
-          ∙ ap (keep_row rows) (sym r.found) ∙ ap (λ o. keep_row rows (option_and_then (row_in old.rows) o)) (sym f);
-      unwritten =
-          unwritten_once k.table r.row (subst (λ (m : Machine). length m.template ≡ m.stride) (sym i.of) wide)
-          i.unwritten;
-      named = named (named_once k.table r.row i.unwritten.whole);
-    }))
   where
+    read :
+        IsNamed old id (start_named old id)
+        → (t.rows ≡ keep_start old.rows t.rows (start_named old id)) × (start_named t id ≡ start_named old id)
+    read (NamesNone e f) = (
+      sym (ap (keep_start old.rows t.rows) f),
+      named_read t id None (places_sound t sound) (NamesNone e refl) ∙ sym f,
+    )
+    read (NamesDead e f) = (
+      sym (ap (keep_start old.rows t.rows) f ∙ ap (keep_row t.rows) (none_dead old was.rows)),
+      named_read t id (Some dead) (places_sound t sound)
+          (NamesDead (e ∙ ap (λ (m : Machine). dead_id m.stride) (sym of)) refl) ∙ sym f,
+    )
+    read (NamesRow q n f) = let l : id < 2 ^ 29 = was.low id q n in absurd (omega (arith, l, high))
+
+    there : IsSlot old (length starts) id → IsSlot t (length starts) id
+    there (inl e) = inl e
+    there (inr (q, leads, first)) = inr (
+      q,
+      step q leads,
+      λ mode behind at.
+          first mode behind (subst (λ (m : Machine). slot_behind m mode behind ≡ length starts) of at)
+          ∙ ap (λ (m : Machine). start_state_of m.nfa mode behind) (sym of),
+    ) where
+      step : (q : Powerset) → Leads old id q → Leads t id q
+      step q (LeadsToDead e d) = LeadsToDead (e ∙ ap (λ (m : Machine). dead_id m.stride) (sym of)) d
+      step q (LeadsToNamed n) = let l : id < 2 ^ 29 = was.low id q n in absurd (omega (arith, l, high))
+
+-- the row that a slot names is kept
+pub keeps_row :
+    (old before after : Rows) (starts slots : List ℕ) (id n : ℕ) → IsSoundTable old → IsSoundTable before
+    → IsSoundTable after → id < 2 ^ 29 → slots ≡ starts ++ n ∷ []
+    → before.of ≡ old.of → AllStarts before starts → IsSlot old (length starts) id
+    → IsPut old before after id n → ((q : Powerset) → Names old id q → Names after n q)
+    → ((q : Powerset) → id_of old q ≡ None → id_of before q ≡ None → id_of after q ≡ None)
+    → KeepsSlot old id (record { table = before; starts = starts }) (record { table = after; starts = slots })
+keeps_row old before after starts slots id n was sound still below push of all leads put names absent =
+    subst (λ (xs : List ℕ). KeepsSlot old id (record { table = before; starts = starts })
+    (record { table = after; starts = xs })) (sym push)
+    (record {
+      rows = (start leads).1.0;
+      names = map-append (start_named after) starts (n ∷ []) ∙ (λ i. kept i ++ (start leads).1.1 i ∷ []);
+      unwritten = λ u. subst IsUnwritten (sym put.put_there) (unwritten_once before put.row sound.template.whole u);
+      named = IsPut-AllStarts old before after starts id n put all (start leads).0;
+      few = IsPut-length old before after id n put;
+      slots = length-append starts (n ∷ []);
+      absent = absent;
+      of = IsPut-of old before after id n put;
+    })
+  where
+    same : after.of ≡ old.of
+    same = IsPut-of old before after id n put ∙ of
+
+    kept : map (start_named after) starts ≡ map (start_named before) starts
+    kept =
+        AreNamed-read after starts (map (start_named before) starts) (places_sound after still)
+        (subst (λ (t : Rows). AreNamed t starts (map (start_named before) starts)) (sym put.put_there)
+        (AreNamed-once before put.row starts (map (start_named before) starts)
+        (AllStarts-named before starts (places_sound before sound) all)))
+
     named :
-        (id : ℕ) × Names (with_row_once k.table r.row) id r.row.state
-        → AreNamed (with_row_once k.table r.row)
-        (k.starts ++ unwrap_or (id_of (with_row_once k.table r.row) r.row.state) unknown_id ∷ []) (starts ++ start ∷ [])
-    named (n, is) =
-        AreNamed-push (with_row_once k.table r.row) k.starts starts
-        (unwrap_or (id_of (with_row_once k.table r.row) r.row.state) unknown_id) start
-        (AreNamed-once k.table r.row k.starts starts i.named)
-        (NamesRow r.row.state (is ∙ ap Some (sym (ap (λ o. unwrap_or o unknown_id) is))) (f ∙ ap Some (sym r.state)))
+        (q : Powerset) → Names old id q
+        → (after.rows ≡ keep_start old.rows before.rows (start_named old id))
+        × (start_named after n ≡ start_named old id)
+    named q is =
+        let r : NamedRow old id q = named_row old id q (places_sound old was) is in
+        let read : start_named old id ≡ Some q =
+        named_read old id (Some q) (places_sound old was) (NamesRow q is refl) in (
+          ap (λ (t : Rows). t.rows) put.put_there ∙ rows_once before put.row
+              ∙ ap (keep_row before.rows) (sym put.at ∙ r.at ∙ sym r.found)
+              ∙ ap (keep_start old.rows before.rows) (sym read),
+          named_read after n (Some q) (places_sound after still) (NamesRow q (names q is) refl) ∙ sym read,
+        )
 
-keeps_one :
-    (old : Rows) (starts : List (Option Powerset)) (rows : List Row) (k : Kept) (id : ℕ) (start : Option Powerset)
-    → HasPlaces old → row_in old.rows dead ≡ None → IsKept old starts rows k → IsNamed old id start
-    → IsKept old (starts ++ start ∷ []) (keep_start old.rows rows start) (keep_slot old k id)
-keeps_one old starts rows k id start p none i (NamesNone e f) =
-    keeps_fixed old starts rows k id start i (omega (arith, e)) (ap (option_and_then (row_in old.rows)) f)
-    (NamesNone e f)
-keeps_one old starts rows k id start p none i (NamesDead e f) =
-    keeps_fixed old starts rows k id start i (omega (arith, e)) (ap (option_and_then (row_in old.rows)) f ∙ none)
-    (NamesDead (e ∙ ap (λ (m : Machine). dead_id m.stride) (sym i.of)) f)
-keeps_one old starts rows k id start p none i (NamesRow q n f) =
-    keeps_row old starts rows k id start q p.wide i (named_row old id q p n) f
+    start :
+        IsSlot old (length starts) id
+        → LeadsToStart after n (length starts)
+        × ((after.rows ≡ keep_start old.rows before.rows (start_named old id))
+        × (start_named after n ≡ start_named old id))
+    start (inl e) = absurd (omega (arith, e, below))
+    start (inr (q, leads, first)) = (
+      (
+        q,
+        LeadsToNamed (names q (Leads-Names old id q leads below)),
+        λ mode behind at.
+            first mode behind (subst (λ (m : Machine). slot_behind m mode behind ≡ length starts) same at)
+            ∙ ap (λ (m : Machine). start_state_of m.nfa mode behind) (sym same),
+      ),
+      named q (Leads-Names old id q leads below),
+    )
 
--- all remaining slots
-keeps_all :
-    (old : Rows) (starts : List (Option Powerset)) (rows : List Row) (k : Kept) (ids : List ℕ)
-    (more : List (Option Powerset))
-    → HasPlaces old → row_in old.rows dead ≡ None → IsKept old starts rows k → AreNamed old ids more
-    → IsKept old (starts ++ more) (fold (keep_start old.rows) rows more) (keep_slots old k ids)
-unfolding keep_slots
-keeps_all old starts rows k [] [] p none i all = subst (λ ss. IsKept old ss rows k) (sym (append-nil starts)) i
-keeps_all old starts rows k [] (start ∷ more) p none i all = absurd all
-keeps_all old starts rows k (id ∷ ids) [] p none i all = absurd all
-keeps_all old starts rows k (id ∷ ids) (start ∷ more) p none i (one, all) =
-    subst
-    (λ ss. IsKept old ss (fold (keep_start old.rows) (keep_start old.rows rows start) more)
-    (keep_slots old (keep_slot old k id) ids))
-    (append_assoc starts (start ∷ []) more)
-    (keeps_all old (starts ++ start ∷ []) (keep_start old.rows rows start) (keep_slot old k id) ids more p none
-    (keeps_one old starts rows k id start p none i one) all)
+-- the start states that the first slots name, one slot after another
+pub names_more :
+    (old : Rows) (xs : List ℕ) (i id : ℕ) → i < length xs → id ≡ get_or xs i id
+    → map (start_named old) (take (i + 1) xs) ≡ map (start_named old) (take i xs) ++ start_named old id ∷ []
+names_more old xs i id l is =
+    ap (map (start_named old))
+    (take_more xs i 0 l ∙ ap (λ n. take i xs ++ n ∷ []) (sym (is ∙ get_or_default_zero xs i id l)))
+    ∙ map-append (start_named old) (take i xs) (id ∷ [])
 
--- what a clear keeps
-pub clear_keeps :
-    (old : Rows) (ids : List ℕ) (starts : List (Option Powerset)) → HasPlaces old → row_in old.rows dead ≡ None
-    → AreNamed old ids starts → IsKept old starts (rows_of_starts old.rows starts) (kept old ids)
-clear_keeps old ids starts p none all =
-    keeps_all old [] [] (record { table = fresh old.of; starts = [] }) ids starts p none
-    (record { of = refl; rows_are = refl; unwritten = unwritten_fresh old.of; named = tt }) all
-
--- with the row of one more state
-pub saving_keeps :
-    (old : Rows) (starts : List (Option Powerset)) (rows : List Row) (k : Kept) (r : Row)
-    → length old.of.template ≡ old.of.stride → IsKept old starts rows k
-    → IsKept old starts (keep_row rows (Some r)) (record { table = with_row_once k.table r; starts = k.starts })
-saving_keeps old starts rows k r wide i = record {
-  of = with_row_once-of k.table r ∙ i.of;
-  rows_are = rows_once k.table r ∙ ap (λ rs. keep_row rs (Some r)) i.rows_are;
-  unwritten =
-      unwritten_once k.table r (subst (λ (m : Machine). length m.template ≡ m.stride) (sym i.of) wide) i.unwritten;
-  named = AreNamed-once k.table r k.starts starts i.named;
-}
+-- and the rows that are kept for them
+pub rows_more :
+    (old : List Row) (names more : List (Option Powerset)) (start : Option Powerset) → more ≡ names ++ start ∷ []
+    → rows_of_starts old more ≡ keep_start old (rows_of_starts old names) start
+rows_more old names more start e =
+    ap (rows_of_starts old) e ∙ fold-append (keep_start old) [] names (start ∷ [])

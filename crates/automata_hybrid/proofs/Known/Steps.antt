@@ -5,7 +5,7 @@ use Rattle.std.proofs.Common.{true, false, Option, None, Some, get_or, set, slic
 use Rattle.std.proofs.Common.{arith}
 use Rattle.automata_hybrid.proofs.Words.{cell_at, has_patterns, id_of, Machine, Names, nat_lt, option_map, Powerset}
 use Rattle.automata_hybrid.proofs.Words.{powerset_eq, powerset_eq-Decides, Row, row_id, Rows, unknown_id, unwrap_or}
-use Rattle.automata_hybrid.proofs.Words.{with_cell, with_row_in_store, ◌&&◌, ◌||◌}
+use Rattle.automata_hybrid.proofs.Words.{with_cell, with_row_cells, ◌&&◌, ◌||◌}
 use Rattle.std.specs.Prelude.{nat_eq}
 use Rattle.std.proofs.lemmas.Bool.{cases_Bool, cases_eq, and_from}
 use Rattle.std.proofs.lemmas.Bool.Decides.{nat_tests}
@@ -13,10 +13,10 @@ use Rattle.std.proofs.lemmas.List.{get_or-set_same, get_or-set_other, get_or_app
 use Rattle.std.proofs.lemmas.Nat.{same_from_place}
 use Rattle.automata_base.proofs.Paths.Orders.{none_some, some_inj}
 use Rattle.automata_hybrid.specs.Known.Stores.{has_steps_at}
+use Rattle.automata_hybrid.specs.Private.Cache.Clears.{IsUnwritten}
 use Rattle.automata_hybrid.proofs.Storage.Places.{tags_mod}
 use Rattle.automata_hybrid.proofs.Storage.Rows.{Names-new, find_id-push_other}
 use Rattle.automata_hybrid.proofs.Known.Rows.{HasPlaces, NamedRow, cell_inside, named_row, places_before}
-use Rattle.automata_hybrid.proofs.Known.Starts.{IsUnwritten}
 
 -- whether the transition in the cell of an ID's row is cached; false if there is no ID
 abbrev pub is_known_at : Rows → (class : ℕ) → Option ℕ → Bool
@@ -55,16 +55,16 @@ last_of (x ∷ xs) y = last_of xs y
 
 -- no transition of a new row is cached
 new_row :
-    (t : Rows) (r : Row) (class : ℕ) → HasPlaces (with_row_in_store t r)
+    (t : Rows) (r : Row) (class : ℕ) → HasPlaces (with_row_cells t r)
     → length t.cells ≡ (length t.rows + 3) * t.of.stride
     → id_of t r.state ≡ None → HasSteps t.of class
-    → is_known_at (with_row_in_store t r) class (id_of (with_row_in_store t r) r.state) ≡ false
+    → is_known_at (with_row_cells t r) class (id_of (with_row_cells t r) r.state) ≡ false
 new_row t r class p whole none has =
     let low : length t.cells < 2 ^ 27 =
     subst (λ n. n < 2 ^ 27) (sym whole) (p.ids (length t.rows) r (last_of t.rows r)).1 in
     let at : row_id (length t.cells) r % 2 ^ 27 + class ≡ length t.cells + class =
     ap (λ n. n + class) (tags_mod (length t.cells) r.started (has_patterns r.state) low) in
-    ap (is_known_at (with_row_in_store t r) class) (Names-new t r whole none)
+    ap (is_known_at (with_row_cells t r) class) (Names-new t r whole none)
     ∙ ap (λ n. nat_lt (get_or (t.cells ++ t.of.template) n 0) unknown_id) at
     ∙ unknown_cell (get_or (t.cells ++ t.of.template) (length t.cells + class) 0)
     (get_or-append-add t.cells t.of.template class 0 ∙ has.free)
@@ -72,7 +72,7 @@ new_row t r class p whole none has =
 -- the transitions of other rows are unchanged
 other_row :
     (t : Rows) (r : Row) (q : Powerset) (class : ℕ) → HasPlaces t → class < t.of.stride → (o : Option ℕ) → id_of t q ≡ o
-    → is_known_at (with_row_in_store t r) class o ≡ is_known_at t class o
+    → is_known_at (with_row_cells t r) class o ≡ is_known_at t class o
 other_row t r q class p below None named = refl
 other_row t r q class p below (Some id) named =
     ap (λ n. nat_lt n unknown_id)
@@ -81,10 +81,10 @@ other_row t r q class p below (Some id) named =
 
 -- adding a row does not change which transitions are cached
 pub added_step :
-    (t : Rows) (r : Row) → HasPlaces (with_row_in_store t r) → id_of t r.state ≡ None → (q : Powerset) (class : ℕ)
-    → is_cached_in (with_row_in_store t r) q class ≡ is_cached_in t q class
+    (t : Rows) (r : Row) → HasPlaces (with_row_cells t r) → id_of t r.state ≡ None → (q : Powerset) (class : ℕ)
+    → is_cached_in (with_row_cells t r) q class ≡ is_cached_in t q class
 added_step t r p none q class =
-    same_at (has_steps_at t.of class) (is_known_at (with_row_in_store t r) class (id_of (with_row_in_store t r) q))
+    same_at (has_steps_at t.of class) (is_known_at (with_row_cells t r) class (id_of (with_row_cells t r) q))
     (is_known_at t class (id_of t q))
     (λ h. go (steps_at t.of class h) (cases_Bool (powerset_eq q r.state)))
   where
@@ -93,14 +93,14 @@ added_step t r p none q class =
 
     go :
         HasSteps t.of class → (powerset_eq q r.state ≡ true) ⊎ (powerset_eq q r.state ≡ false)
-        → is_known_at (with_row_in_store t r) class (id_of (with_row_in_store t r) q) ≡ is_known_at t class (id_of t q)
+        → is_known_at (with_row_cells t r) class (id_of (with_row_cells t r) q) ≡ is_known_at t class (id_of t q)
     go has (inl e) =
         let same : r.state ≡ q = sym ((powerset_eq-Decides q r.state).0 e) in
-        subst (λ w. is_known_at (with_row_in_store t r) class (id_of (with_row_in_store t r) w)
+        subst (λ w. is_known_at (with_row_cells t r) class (id_of (with_row_cells t r) w)
         ≡ is_known_at t class (id_of t w)) same
         (new_row t r class p old.whole none has ∙ sym (ap (is_known_at t class) none))
     go has (inr e) =
-        ap (is_known_at (with_row_in_store t r) class) (find_id-push_other t.of.stride (3 * t.of.stride) q t.rows r e)
+        ap (is_known_at (with_row_cells t r) class) (find_id-push_other t.of.stride (3 * t.of.stride) q t.rows r e)
         ∙ other_row t r q class old has.below (id_of t q) refl
 
 -- if no cell was written, no transition is cached

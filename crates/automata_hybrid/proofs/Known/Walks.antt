@@ -1,16 +1,14 @@
 -- The current state of a walk: whether a cache has its row, and the effect of putting it back on what the cache knows.
 use Rattle.std.proofs.Common.{◌≡◌, ◌∙◌, ℕ, ◌*◌, true, false, Option, None, Some, cond, refl, sym, ap, subst}
-use Rattle.automata_hybrid.proofs.Words.{CacheView, cleared, id_of, is_some, IsMachine, IsStoreOf, Known, known_of}
-use Rattle.automata_hybrid.proofs.Words.{LeadsToNamed, Machine, Names, option_map, Powerset, Row, row_in, StepError}
-use Rattle.automata_hybrid.proofs.Words.{Stored, with_new_row}
+use Rattle.automata_hybrid.proofs.Words.{CacheView, cleared, id_of, is_some, IsStoreOf, Known, known_of}
+use Rattle.automata_hybrid.proofs.Words.{Lacks, LeadsToNamed, Machine, Names, option_map, Powerset, Row, row_in}
+use Rattle.automata_hybrid.proofs.Words.{StepError, Stored, with_new_row}
 use Rattle.automata_config.specs.declared.error.StepError.TheVariants as step
 use Rattle.automata_hybrid.specs.Known.Walks.{GivesUpOnIt, IsNotRestored, RunsOutOnIt, with_restored_row}
 use Rattle.automata_hybrid.specs.Private.Cache.Growth.{AddFails, HasAdded}
 use Rattle.automata_hybrid.specs.Private.Searches.PassState.{step_error}
-use Rattle.automata_hybrid.proofs.Storage.Places.{Names-alive}
-use Rattle.automata_hybrid.proofs.Known.Events.{gives_up_if, gives_up_so, store_places}
-use Rattle.automata_hybrid.proofs.Known.Made.{restored_known}
-use Rattle.automata_hybrid.proofs.Known.Rooms.{known_with, state_there}
+use Rattle.automata_hybrid.proofs.Known.Events.{gives_up_if, gives_up_so}
+use Rattle.automata_hybrid.proofs.Known.Rooms.{state_lacks, state_there}
 use Rattle.automata_hybrid.proofs.Known.Rows.{row_in-is}
 
 -- a state that an ID names has a row
@@ -40,26 +38,19 @@ row_there m q id c named =
     (state_there c.store c.count id q (LeadsToNamed named))
 
 -- a state that was not there is restored
-restored_row_here :
-    (q : Powerset) (old new : CacheView) → IsMachine old.store.table.of → IsStoreOf old.store old.store.table.of
-    → IsStoreOf new.store old.store.table.of → id_of old.store.table q ≡ None → (id : ℕ)
-    → HasAdded old new (record { state = q; started = false }) id
-    → with_restored_row old.store.table.of q (known_of old) ≡ Some (known_of new)
-restored_row_here q old new machine sound after none id adds =
-    restored_known old.store new.store old.count sound (store_places old.store.table.of old.store machine sound)
-    (store_places old.store.table.of new.store machine after) after.of (record { state = q; started = false })
-    (none, Names-alive new.store.table id q after.rows adds.row.named) adds.row.effect
-    ∙ ap (λ n. Some (known_with new.store n)) (sym adds.counted)
-
 pub restored_row :
-    (m : Machine) (q : Powerset) (old new : CacheView) → IsMachine m → IsStoreOf old.store m → IsStoreOf new.store m
-    → id_of old.store.table q ≡ None → (id : ℕ) → HasAdded old new (record { state = q; started = false }) id
+    (m : Machine) (q : Powerset) (old new : CacheView) → IsStoreOf old.store m → Lacks old.store.table q → (id : ℕ)
+    → HasAdded old new (record { state = q; started = false }) id
     → with_restored_row m q (known_of old) ≡ Some (known_of new)
-restored_row m q old new machine sound after none id adds =
-    subst
-    (λ (d : Machine). IsMachine d → IsStoreOf old.store d → IsStoreOf new.store d
-    → with_restored_row d q (known_of old) ≡ Some (known_of new))
-    sound.of (λ d s a. restored_row_here q old new d s a none id adds) machine sound after
+restored_row m q old new sound lacks id adds =
+    ap
+    (λ b. cond b (Some (known_of old))
+    (with_new_row m (cleared (known_of old)) (record { state = q; started = false }) (known_of old)))
+    (state_lacks old.store old.count q lacks)
+    ∙ subst
+    (λ (d : Machine). with_new_row d (cleared (known_of old)) (record { state = q; started = false }) (known_of old)
+    ≡ Some (known_of new))
+    sound.of adds.effect
 
 -- a state that was not there could not be added
 none_of : (o : Option Known) → option_map (λ c. c) o ≡ None → o ≡ None
@@ -67,27 +58,26 @@ none_of None e = refl
 none_of (Some c) e = cc
 
 fails_here :
-    (q : Powerset) (old new : CacheView) (e : StepError) (at : ℕ) → IsStoreOf old.store old.store.table.of
-    → id_of old.store.table q ≡ None → AddFails old new q e
+    (q : Powerset) (old new : CacheView) (e : StepError) (at : ℕ) → Lacks old.store.table q → AddFails old new q e
     → IsNotRestored old.store.table.of q at (known_of old) (known_of new) (step_error e at)
-fails_here q old new (step.Cache err) at sound none fails =
+fails_here q old new (step.Cache err) at lacks fails =
     GivesUpOnIt
     (none_of (with_restored_row old.store.table.of q (known_of old))
-    (gives_up_if old.store old.count (cleared (known_of old)) (record { state = q; started = false }) (λ k. k) sound
-    (fails.gives_up.0 tt)))
+    (gives_up_if old.store.table.of old.store old.count (cleared (known_of old))
+    (record { state = q; started = false }) (λ k. k) lacks (fails.gives_up.0 tt)))
     refl (ap known_of fails.kept)
-fails_here q old new step.OutOfMemory at sound none fails =
-    RunsOutOnIt (no_row old.store q none)
+fails_here q old new step.OutOfMemory at lacks fails =
+    RunsOutOnIt (no_row old.store q lacks.0)
     (λ gives. fails.gives_up.1
-    (gives_up_so old.store old.count (cleared (known_of old)) (record { state = q; started = false }) (λ k. k) sound
-    (ap (option_map (λ k. k)) gives)))
+    (gives_up_so old.store.table.of (known_of old) (cleared (known_of old)) (record { state = q; started = false })
+    gives))
     refl (ap known_of fails.kept)
 
 pub row_fails :
     (m : Machine) (q : Powerset) (old new : CacheView) (e : StepError) → IsStoreOf old.store m
-    → id_of old.store.table q ≡ None → AddFails old new q e → (at : ℕ)
+    → Lacks old.store.table q → AddFails old new q e → (at : ℕ)
     → IsNotRestored m q at (known_of old) (known_of new) (step_error e at)
-row_fails m q old new e sound none fails at =
+row_fails m q old new e sound lacks fails at =
     subst
-    (λ (d : Machine). IsStoreOf old.store d → IsNotRestored d q at (known_of old) (known_of new) (step_error e at))
-    sound.of (λ s. fails_here q old new e at s none fails) sound
+    (λ (d : Machine). IsNotRestored d q at (known_of old) (known_of new) (step_error e at))
+    sound.of (fails_here q old new e at lacks fails)

@@ -1,21 +1,19 @@
 -- Steps: what a call answers and changes, by what its parts do.
 use Rattle.std.proofs.Common.{ℕ, ◌≡◌, ◌+◌, ◌<◌, ◌≤◌, Bool, true, false, Option, None, Some, refl, sym, ap, ◌∙◌, subst}
 use Rattle.std.proofs.Common.{arith, inl, inr, ◌^◌}
-use Rattle.automata_hybrid.proofs.Words.{AddsNext, CacheView, cell_of, CellLeads, CellQuits, CellUnknown, class_in}
-use Rattle.automata_hybrid.proofs.Words.{counted_in_store, fixed_from, HoldsRow, is_quit, IsCacheOf, IsCell, IsCellRead}
-use Rattle.automata_hybrid.proofs.Words.{IsComputed, IsMachine, IsRowId, IsStepAnswer, IsUnit, KeepsStarts, known_step}
-use Rattle.automata_hybrid.proofs.Words.{KnowsStep, Lacks, Leads, LeadsToNamed, Machine, match_kind_of, Names, Powerset}
+use Rattle.automata_hybrid.proofs.Words.{CacheView, cell_of, CellLeads, CellQuits, CellUnknown, class_in}
+use Rattle.automata_hybrid.proofs.Words.{with_count, fixed_from, HoldsRow, is_quit, IsCacheOf, IsCell, IsCellRead}
+use Rattle.automata_hybrid.proofs.Words.{IsMachine, IsRowId, IsStepAnswer, IsUnit, known_step}
+use Rattle.automata_hybrid.proofs.Words.{KnowsStep, Leads, LeadsToNamed, Machine, match_kind_of, Names, Powerset}
 use Rattle.automata_hybrid.proofs.Words.{quit_id, quits_on, Rows, Searched, slice_index, Step, Stored, successor}
-use Rattle.automata_hybrid.proofs.Words.{unit_class, unknown_id, with_next, with_searched, with_store, WritesAdded}
-use Rattle.automata_hybrid.proofs.Words.{WritesKnown}
+use Rattle.automata_hybrid.proofs.Words.{unit_class, unknown_id, with_next, with_searched, with_store}
 use Rattle.automata_base.proofs.Paths.Orders.{none_some, some_inj}
 use Rattle.automata_hybrid.specs.Private.Cache.Stores.{IsKnownTransition}
-use Rattle.automata_hybrid.specs.Private.Cache.Changes.{IsStateAdded}
-use Rattle.automata_hybrid.specs.Private.Cache.Changes.{cleared_saving_in_store}
-use Rattle.automata_hybrid.proofs.Steps.Events.{IsCached, MakesStep}
+use Rattle.automata_hybrid.specs.Private.Cache.Growth.{HasAddedNext}
+use Rattle.automata_hybrid.proofs.Steps.Events.{IsCached}
 use Rattle.automata_hybrid.specs.Private.Cache.Table.{HasCells, LeadsByClass}
 use Rattle.automata_hybrid.specs.Cache.Table.{HasItsMatchTag}
-use Rattle.automata_hybrid.proofs.Steps.Effects.{cached-computed, one_id}
+use Rattle.automata_hybrid.proofs.Steps.Effects.{cached-written, one_id}
 use Rattle.automata_hybrid.proofs.Searches.PassState.{false_true}
 use Rattle.automata_hybrid.proofs.Steps.Starts.{leads_row}
 use Rattle.automata_hybrid.proofs.Storage.Rows.{leads_on}
@@ -199,19 +197,20 @@ key_leads m t q key unit class to of at alike leads other is here =
 
 -- a transition was computed and written
 pub record ComputesStep (m : Machine) (id : ℕ) (unit : Option ℕ) (old new : CacheView) (class next : ℕ) : Type 0 where
-  pub done :
-      (q : Powerset) → Names old.store.table id q
-      → IsComputed old.store id class q (successor m.nfa (match_kind_of m.config) q unit) new.store next
+  -- its ID leads to the successor
   pub leads :
       (q : Powerset) → Names old.store.table id q
       → Leads new.store.table next (successor m.nfa (match_kind_of m.config) q unit)
-  pub starts : KeepsStarts old.store.starts new.store.starts
-  pub counted : new.count ≡ old.count + 1
+  -- it was written in the row of the state, last of all
+  pub written :
+      (q : Powerset) → Names old.store.table id q
+      → (from : ℕ) × (between : Stored) × (new.store ≡ with_next between from class next)
+      × Names between.table from q
 
 -- the next state was already there
 pub computes_known :
     (m : Machine) (id : ℕ) (unit : Option ℕ) (old mid new : CacheView) (class next : ℕ) (key : Powerset)
-    → mid ≡ counted_in_store old → new ≡ with_store mid (with_next mid.store id class next)
+    → mid ≡ with_count old (old.count + 1) → new ≡ with_store mid (with_next mid.store id class next)
     → Leads mid.store.table next key
     → ((q : Powerset) → Names old.store.table id q → key ≡ successor m.nfa (match_kind_of m.config) q unit)
     → ComputesStep m id unit old new class next
@@ -219,10 +218,8 @@ computes_known m id unit old mid new class next key was e leads same =
     subst (λ (v : CacheView). ComputesStep m id unit old v class next)
     (sym (e ∙ ap (λ (v : CacheView). with_store v (with_next v.store id class next)) was))
     (record {
-      done = λ q n. WritesKnown (there q n) refl;
       leads = λ q n. leads_on old.store.table id class next (there q n);
-      starts = λ slot k. k;
-      counted = refl;
+      written = λ q n. (id, old.store, refl, n);
     })
   where
     there :
@@ -236,69 +233,41 @@ computes_known m id unit old mid new class next key was e leads same =
 pub computes_new :
     (m : Machine) (id : ℕ) (unit : Option ℕ) (old mid between new : CacheView) (class from next : ℕ)
     (state key : Powerset)
-    → mid ≡ counted_in_store old → AddsNext mid.store between.store id state from next → between.count ≡ mid.count
-    → new ≡ with_store between (with_next between.store from class next) → state ≡ key → Lacks mid.store.table key
+    → mid ≡ with_count old (old.count + 1) → HasAddedNext mid between id state from next
+    → new ≡ with_store between (with_next between.store from class next) → state ≡ key
     → ((q : Powerset) → Names old.store.table id q → key ≡ successor m.nfa (match_kind_of m.config) q unit)
     → ComputesStep m id unit old new class next
-computes_new m id unit old mid between new class from next state key was adds count e is lacks same =
+computes_new m id unit old mid between new class from next state key was added e is same =
     subst (λ (v : CacheView). ComputesStep m id unit old v class next) (sym e)
     (record {
-      done = λ q n.
-          (let to : key ≡ successor m.nfa (match_kind_of m.config) q unit = same q n in
-          let none : Lacks old.store.table (successor m.nfa (match_kind_of m.config) q unit) =
-          subst (λ (s : Stored). Lacks s.table (successor m.nfa (match_kind_of m.config) q unit)) before
-          (subst (λ (p : Powerset). Lacks mid.store.table p) to lacks) in
-          let grew : IsStateAdded old.store (cleared_saving_in_store old.store id)
-          (record { state = successor m.nfa (match_kind_of m.config) q unit; started = false }) between.store =
-          subst (λ (p : Powerset). IsStateAdded old.store (cleared_saving_in_store old.store id)
-          (record { state = p; started = false }) between.store) (is ∙ to) added.row.effect in
-          WritesAdded none from between.store grew (added.saved q n)
-          (subst (λ (p : Powerset). Names between.store.table next p) (is ∙ to) added.row.named) refl);
       leads = λ q n. LeadsToNamed
-          (subst (λ (p : Powerset). Names between.store.table next p) (is ∙ same q n) added.row.named);
-      starts = added.row.starts;
-      counted = count ∙ ap (λ (v : CacheView). v.count) was;
+          (subst (λ (p : Powerset). Names between.store.table next p) (is ∙ same q n) added.named);
+      written = λ q n. (
+        from,
+        between.store,
+        refl,
+        added.saved q (subst (λ (v : CacheView). Names v.store.table id q) (sym was) n),
+      );
     })
-  where
-    before : mid.store ≡ old.store
-    before = ap (λ (v : CacheView). v.store) was
 
-    added : AddsNext old.store between.store id state from next
-    added = subst (λ (s : Stored). AddsNext s between.store id state from next) before adds
-
--- what computing a step answers, and its effect on the cache
-module _ (m : Machine) (id : ℕ) (unit : Option ℕ) (old new : CacheView) (class next : ℕ)
-    (step : ComputesStep m id unit old new class next)
-    (valid : IsRowId old.store.table id) (low : id < fixed_from)
-    (clean : quits_on m unit ≡ false) (unknown : KnowsStep m old.store id unit → ⊥)
-    (at : class ≡ unit_class m unit) (below : class < m.stride) where
-  pub computed_answer :
-      IsCacheOf new m → HasCells new.store.table → HasItsMatchTag new.store.table next
-      → IsStepAnswer m id unit old new next
-  computed_answer of cells tag = record {
-    row = leads_row new next _ (step.leads valid.0 valid.1);
-    tag = tag;
-    fixed = λ high. absurd (omega (arith, low, high));
-    quit = λ _ q. absurd (false_true (sym clean ∙ q));
-    named = λ _ q n. step.leads q n;
-    cached = λ q n.
-        subst (λ k. (now : ℕ) × Names new.store.table now q × (cell_of new.store now k ≡ next)) at
-        (cached-computed old.store new.store id class next q _ n (step.done q n) cells
-        (subst (λ (d : Machine). class < d.stride) (sym of) below));
-  }
-
-  pub computed_makes : (q : Powerset) → Names old.store.table id q → MakesStep m q unit old new
-  computed_makes q n = record {
-    id = id;
-    named = n;
-    next = next;
-    computed =
-        subst (λ k. IsComputed old.store id k q (successor m.nfa (match_kind_of m.config) q unit) new.store next) at
-        (step.done q n);
-    leads = step.leads q n;
-    starts = step.starts;
-    counted = step.counted;
-  }
+-- what computing a step answers
+pub computed_answer :
+    (m : Machine) (id : ℕ) (unit : Option ℕ) (old new : CacheView) (class next : ℕ)
+    → ComputesStep m id unit old new class next → IsRowId old.store.table id → id < fixed_from
+    → quits_on m unit ≡ false → class ≡ unit_class m unit → class < m.stride → IsCacheOf new m
+    → HasCells new.store.table → HasItsMatchTag new.store.table next → IsStepAnswer m id unit old new next
+computed_answer m id unit old new class next step valid low clean at below of cells tag = record {
+  row = leads_row new next _ (step.leads valid.0 valid.1);
+  tag = tag;
+  fixed = λ high. absurd (omega (arith, low, high));
+  quit = λ _ q. absurd (false_true (sym clean ∙ q));
+  named = λ _ q n. step.leads q n;
+  cached = λ q n.
+      (let w = step.written q n in
+      subst (λ k. (now : ℕ) × Names new.store.table now q × (cell_of new.store now k ≡ next)) at
+      (cached-written w.1 new.store w.0 class next q w.2 w.3 cells
+      (subst (λ (d : Machine). class < d.stride) (sym of) below)));
+}
 
 -- a unit that is not a quit byte, stated in two ways
 pub unit_no_quit :

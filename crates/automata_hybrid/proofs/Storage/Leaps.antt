@@ -1,7 +1,7 @@
 -- How leaps are built from a table: steps on one class, levels of them, and the cells of the last level.
 use Rattle.std.proofs.Common.{ℕ, zero, suc, ◌≡◌, ◌∙◌, ◌+◌, ◌-◌, ◌*◌, ◌/◌, ◌%◌, ◌^◌, ◌<◌, ◌≤◌, ◌⊎◌, inl, inr, Bool, true}
 use Rattle.std.proofs.Common.{false, List, [], ◌∷◌, ◌++◌, length, refl, slice_index, sym, ap, subst, arith, Option}
-use Rattle.std.proofs.Common.{None, Some, drop, slice_get, slice_set, sum_by, take}
+use Rattle.std.proofs.Common.{None, Some, drop, slice_get, slice_set, take}
 use Rattle.std.proofs.Math.Nat.{mul-le-mul_left, mul-le-mul_right, pow-le-pow_left}
 use Rattle.std.proofs.Math.Arith.{digits_lt}
 use Rattle.std.proofs.lemmas.Bool.{cases_lt}
@@ -9,10 +9,11 @@ use Rattle.std.proofs.lemmas.List.{get_or-append-add, get_or-drop, get_or-set_ot
 use Rattle.std.proofs.lemmas.List.{get_or_push, length-append, length-drop, length-set, length-take-le}
 use Rattle.std.proofs.lemmas.Nat.{div-mul-add, mod-mul-add}
 use Rattle.std.specs.Global.{Box}
-use Rattle.automata_hybrid.proofs.Words.{AllStarts, Automaton, cell_at, cell_size, entry_size, fixed_rows_cost, IsCache}
-use Rattle.automata_hybrid.proofs.Words.{IsSlot, LeadsToStart, Machine, minimum_capacity, offset_limit, row_cost}
-use Rattle.automata_hybrid.proofs.Words.{row_size, Rows, RowsFitCells, Settings, Stored, unknown_id, usage_in_store}
-use Rattle.automata_hybrid.proofs.Words.{with_cell, with_next, with_start_in_store}
+use Rattle.automata_hybrid.proofs.Words.{AllStarts, Automaton, cell_at, IsCache, IsSlot, known_in, LeadsToStart}
+use Rattle.automata_hybrid.proofs.Words.{Machine, minimum_capacity, offset_limit, Rows, RowsFitCells, Settings}
+use Rattle.automata_hybrid.proofs.Words.{Stored, unknown_id, usage}
+use Rattle.automata_hybrid.proofs.Words.{with_cell, with_next, with_slot}
+use Rattle.automata_hybrid.proofs.Known.Growth.{used_by}
 use Rattle.automata_hybrid.proofs.Storage.Rows.{leads_on}
 use Rattle.automata_hybrid.specs.Private.Cache.Leaps.{AreCacheParts, AreLeaps, AreLeapSteps, IsLevel, IsLevelCell}
 use Rattle.automata_hybrid.specs.Private.Cache.Leaps.{IsLeapStep, LeadsToRow, LeapsTo, ReachesRow, leaps_bytes, mark}
@@ -228,7 +229,7 @@ parts_none c nfa same = record { scratch = same; leaps = _; within = _ }
 
 parts_kept :
     (c new : Stored) (nfa : Automaton) (held : Option (Box Leaps)) → new.table.of ≡ c.table.of
-    → ((l : Leaps) → AreLeaps c.table l → AreLeaps new.table l) → usage_in_store new ≡ usage_in_store c
+    → ((l : Leaps) → AreLeaps c.table l → AreLeaps new.table l) → new.table.rows ≡ c.table.rows
     → AreCacheParts c nfa held → AreCacheParts new nfa held
 parts_kept c new nfa None of stay same parts =
     record { scratch = parts.scratch ∙ ap (λ (m : Machine). m.nfa) (sym of); leaps = _; within = _ }
@@ -236,21 +237,15 @@ parts_kept c new nfa (Some l) of stay same parts = record {
   scratch = parts.scratch ∙ ap (λ (m : Machine). m.nfa) (sym of);
   leaps = stay l.value parts.leaps;
   within =
-      subst (λ (m : Machine). usage_in_store new + leaps_bytes (length l.value.cells.items) ≤ m.capacity) (sym of)
-      (subst (λ k. k + leaps_bytes (length l.value.cells.items) ≤ c.table.of.capacity) (sym same) parts.within);
+      subst (λ (m : Machine). usage m (known_in new) + leaps_bytes (length l.value.cells.items) ≤ m.capacity) (sym of)
+      (subst (λ k. k + leaps_bytes (length l.value.cells.items) ≤ c.table.of.capacity)
+      (sym (used_by c.table.of (known_in c) (known_in new) same)) parts.within);
 }
-
--- writing a transition does not change the accounted bytes
-used_next : (c : Stored) (id class next : ℕ) → usage_in_store (with_next c id class next) ≡ usage_in_store c
-used_next c id class next =
-    ap (λ k. cell_size * k + cell_size * length c.starts + row_size * (length c.table.rows + 3)
-    + entry_size * (length c.table.rows + 1) + fixed_rows_cost + sum_by row_cost c.table.rows + c.table.of.fixed)
-    (length-set c.table.cells (cell_at id class) next)
 
 pub cache_next : (c : Stored) (s : Settings) (id class next : ℕ) → IsCache c s → IsCache (with_next c id class next) s
 cache_next c s id class next held = record {
   named = λ slot at is. stays (held.named slot at is);
-  within = subst (λ k. k ≤ c.table.of.capacity) (sym (used_next c id class next)) held.within;
+  within = held.within;
   enough = held.enough;
   offsets = held.offsets;
   slots = held.slots;
@@ -268,8 +263,7 @@ parts_next :
     → unknown_id ≤ slice_index c.table.cells (cell_at id class)
     → AreCacheParts c nfa held → AreCacheParts (with_next c id class next) nfa held
 parts_next c nfa held id class next unknown =
-    parts_kept c (with_next c id class next) nfa held refl (leaps_kept c.table id class next unknown)
-    (used_next c id class next)
+    parts_kept c (with_next c id class next) nfa held refl (leaps_kept c.table id class next unknown) refl
 
 -- the parts of a cache after a transition is written; leaps are kept only if the cell was unknown
 pub parts_written :
@@ -309,12 +303,12 @@ starts_set t xs slot id all leads s i e = go (slice_get_set xs slot id s i e) wh
 
 pub cache_start :
     (c : Stored) (s : Settings) (slot id : ℕ) → LeadsToStart c.table id slot → IsCache c s
-    → IsCache (with_start_in_store c slot id) s
+    → IsCache (with_slot c slot id) s
 cache_start c s slot id leads held =
     let long : length (slice_set c.starts slot id) ≡ length c.starts = length-set c.starts slot id in
     record {
       named = starts_set c.table c.starts slot id held.named leads;
-      within = omega (arith, held.within, long);
+      within = held.within;
       enough =
           subst (λ n. minimum_capacity c.table.of.stride n c.table.of.greatest c.table.of.fixed ≤ c.table.of.capacity)
           (sym long) held.enough;

@@ -11,7 +11,7 @@ use Rattle.std.proofs.lemmas.List.Sums.{sum_by_push}
 use Rattle.automata_hybrid.proofs.Words.{CellLeads, CellQuits, CellUnknown, cost, dead, find_id, id_of, IsCell}
 use Rattle.automata_hybrid.proofs.Words.{IsRowState, IsStateOf, IsTemplate, Leads, LeadsToDead, LeadsToNamed, Names}
 use Rattle.automata_hybrid.proofs.Words.{Powerset, powerset_eq, powerset_eq-Decides, quit_id, Row, row_cost, row_id}
-use Rattle.automata_hybrid.proofs.Words.{Rows, RowsFitCells, with_cell, with_row_in_store}
+use Rattle.automata_hybrid.proofs.Words.{Rows, RowsFitCells, with_cell, with_row_cells}
 use Rattle.automata_hybrid.specs.Private.Cache.Table.{IsStepped, IsHeld, StateMap}
 
 -- a state that has a row keeps its ID when more rows are added
@@ -66,15 +66,15 @@ find_id-push_other s at p (x ∷ rs) r h = rw (find_id-push_other s (at + s) p r
 flipped : (q p : Powerset) → powerset_eq q p ≡ false → powerset_eq p q ≡ false
 flipped q p h = (decided powerset_eq powerset_eq-Decides).symm p q ∙ h
 
-pub Names-more : (t : Rows) (r : Row) (id : ℕ) (q : Powerset) → Names t id q → Names (with_row_in_store t r) id q
+pub Names-more : (t : Rows) (r : Row) (id : ℕ) (q : Powerset) → Names t id q → Names (with_row_cells t r) id q
 Names-more t r id q h = find_id-more t.of.stride (3 * t.of.stride) q t.rows (r ∷ []) id h
 
-pub Leads-more : (t : Rows) (r : Row) (id : ℕ) (q : Powerset) → Leads t id q → Leads (with_row_in_store t r) id q
+pub Leads-more : (t : Rows) (r : Row) (id : ℕ) (q : Powerset) → Leads t id q → Leads (with_row_cells t r) id q
 Leads-more t r id q (LeadsToDead e d) = LeadsToDead e d
 Leads-more t r id q (LeadsToNamed h) = LeadsToNamed (Names-more t r id q h)
 
 IsCell-more :
-    (t : Rows) (r : Row) (q : Powerset) (class id : ℕ) → IsCell t q class id → IsCell (with_row_in_store t r) q class id
+    (t : Rows) (r : Row) (q : Powerset) (class id : ℕ) → IsCell t q class id → IsCell (with_row_cells t r) q class id
 IsCell-more t r q class id (CellQuits h e) = CellQuits h e
 IsCell-more t r q class id (CellUnknown h e) = CellUnknown h e
 IsCell-more t r q class id (CellLeads h l) = CellLeads h (λ unit is at. Leads-more t r id _ (l unit is at))
@@ -82,7 +82,7 @@ IsCell-more t r q class id (CellLeads h l) = CellLeads h (λ unit is at. Leads-m
 -- a new row's ID names its state
 pub Names-new :
     (t : Rows) (r : Row) → length t.cells ≡ (length t.rows + 3) * t.of.stride → id_of t r.state ≡ None
-    → Names (with_row_in_store t r) (row_id (length t.cells) r) r.state
+    → Names (with_row_cells t r) (row_id (length t.cells) r) r.state
 Names-new t r whole none =
     let e : 3 * t.of.stride + length t.rows * t.of.stride ≡ length t.cells = omega (arith, whole) in
     find_id-push_new t.of.stride (3 * t.of.stride) t.rows r none ∙ ap (λ n. Some (row_id n r)) e
@@ -108,26 +108,26 @@ inside k n s class h l =
 
 stepped-with_row :
     (t : Rows) (r : Row) → IsTemplate t.of.stride t.of.template → length t.cells ≡ (length t.rows + 3) * t.of.stride
-    → IsStepped t → IsStepped (with_row_in_store t r)
+    → IsStepped t → IsStepped (with_row_cells t r)
 stepped-with_row t r template whole old k class x h l = go (at_push t.rows r k x h) where
   go :
       (slice_get t.rows k ≡ Some x) ⊎ ((k ≡ length t.rows) × (r ≡ x))
-      → IsCell (with_row_in_store t r) x.state class
+      → IsCell (with_row_cells t r) x.state class
       (get_or (t.cells ++ t.of.template) ((k + 3) * t.of.stride + class) 0)
   go (inl e) =
       let within : (k + 3) * t.of.stride + class < length t.cells =
       rw whole (inside k (length t.rows) t.of.stride class (slice_get_within t.rows k x e) l) in
-      subst (IsCell (with_row_in_store t r) x.state class)
+      subst (IsCell (with_row_cells t r) x.state class)
       (sym (get_or_append_left t.cells t.of.template 0 ((k + 3) * t.of.stride + class) within))
       (IsCell-more t r x.state class _ (old k class x e l))
   go (inr (e, f)) =
       let at : length t.cells + class ≡ (k + 3) * t.of.stride + class = rw (e, whole) refl in
       let read : get_or t.of.template class 0 ≡ get_or (t.cells ++ t.of.template) ((k + 3) * t.of.stride + class) 0 =
       sym (get_or-append-add t.cells t.of.template class 0) ∙ ap (λ i. get_or (t.cells ++ t.of.template) i 0) at in
-      subst (IsCell (with_row_in_store t r) x.state class) read (new (template.cells class l)) where
+      subst (IsCell (with_row_cells t r) x.state class) read (new (template.cells class l)) where
         new :
             (get_or t.of.template class 0 ≡ quit_id t.of.stride) ⊎ (get_or t.of.template class 0 ≡ 2 ^ 31)
-            → IsCell (with_row_in_store t r) x.state class (get_or t.of.template class 0)
+            → IsCell (with_row_cells t r) x.state class (get_or t.of.template class 0)
         new (inl q) = CellQuits q q
         new (inr u) = CellUnknown u u
 
@@ -135,7 +135,7 @@ stepped-with_row t r template whole old k class x h l = go (at_push t.rows r k x
 RowsFitCells-with_row :
     (t : Rows) (r : Row) → RowsFitCells t → IsTemplate t.of.stride t.of.template → id_of t r.state ≡ None
     → (r.state ≡ dead → ⊥) → cost r.state ≤ t.of.greatest → IsStateOf t.of r.state → length t.cells < 2 ^ 27
-    → RowsFitCells (with_row_in_store t r)
+    → RowsFitCells (with_row_cells t r)
 RowsFitCells-with_row t r i template none live cheap of fits =
     let more : length (t.cells ++ t.of.template) ≡ length t.cells + t.of.stride =
     length-append t.cells t.of.template ∙ ap (λ k. length t.cells + k) template.whole in
@@ -151,12 +151,12 @@ RowsFitCells-with_row t r i template none live cheap of fits =
     } where
       ids :
           (k : ℕ) (x : Row) → (slice_get t.rows k ≡ Some x) ⊎ ((k ≡ length t.rows) × (r ≡ x))
-          → Names (with_row_in_store t r) (row_id ((k + 3) * t.of.stride) x) x.state × ((k + 3) * t.of.stride < 2 ^ 27)
+          → Names (with_row_cells t r) (row_id ((k + 3) * t.of.stride) x) x.state × ((k + 3) * t.of.stride < 2 ^ 27)
       ids k x (inl e) = let old = i.ids k x e in (Names-more t r _ x.state old.0, old.1)
       ids k x (inr (e, f)) =
           let at : length t.cells ≡ (k + 3) * t.of.stride = i.whole ∙ rw e refl in (
-            subst (λ y. Names (with_row_in_store t r) (row_id ((k + 3) * t.of.stride) y) y.state) f
-                (subst (λ n. Names (with_row_in_store t r) (row_id n r) r.state) at (Names-new t r i.whole none)),
+            subst (λ y. Names (with_row_cells t r) (row_id ((k + 3) * t.of.stride) y) y.state) f
+                (subst (λ n. Names (with_row_cells t r) (row_id n r) r.state) at (Names-new t r i.whole none)),
             subst (λ n. n < 2 ^ 27) at fits,
           )
 
@@ -173,7 +173,7 @@ pub IsHeld-with_row :
     → length t.cells < 2 ^ 27
     → ((p : Powerset)
     → get powerset_eq n p ≡ cond (powerset_eq r.state p) (Some (row_id (length t.cells) r)) (get powerset_eq m p))
-    → IsHeld (with_row_in_store t r) s row n (costs + cost r.state)
+    → IsHeld (with_row_cells t r) s row n (costs + cost r.state)
 IsHeld-with_row t r s row m n costs i none live cheap of fits new = record {
   rows = RowsFitCells-with_row t r i.rows i.cells none live cheap of fits;
   cells = i.cells;
@@ -184,13 +184,13 @@ IsHeld-with_row t r s row m n costs i none live cheap of fits new = record {
       (cases_Bool (powerset_eq r.state p));
   costs_of = ap (λ n. n + cost r.state) i.costs_of ∙ sym (sum_by_push row_cost t.rows r);
 } where
-  same : (p : Powerset) → powerset_eq r.state p ≡ true → get powerset_eq n p ≡ id_of (with_row_in_store t r) p
+  same : (p : Powerset) → powerset_eq r.state p ≡ true → get powerset_eq n p ≡ id_of (with_row_cells t r) p
   same p e =
       new p ∙ rw e
-      (sym (subst (λ w. id_of (with_row_in_store t r) w ≡ Some (row_id (length t.cells) r))
+      (sym (subst (λ w. id_of (with_row_cells t r) w ≡ Some (row_id (length t.cells) r))
       ((powerset_eq-Decides r.state p).0 e) (Names-new t r i.rows.whole none)))
 
-  other : (p : Powerset) → powerset_eq r.state p ≡ false → get powerset_eq n p ≡ id_of (with_row_in_store t r) p
+  other : (p : Powerset) → powerset_eq r.state p ≡ false → get powerset_eq n p ≡ id_of (with_row_cells t r) p
   other p e =
       new p ∙ rw e
       (i.mapped p ∙ sym (find_id-push_other t.of.stride (3 * t.of.stride) p t.rows r (flipped r.state p e)))

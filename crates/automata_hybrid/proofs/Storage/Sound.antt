@@ -1,6 +1,6 @@
-use Rattle.std.proofs.Common.{◌≡◌, refl, subst, sym}
-use Rattle.automata_hybrid.proofs.Words.{CacheView, counted_in_store, IsCache, IsStoreOf, Machine, Searched, Settings}
-use Rattle.automata_hybrid.proofs.Words.{Stored, with_searched, with_store}
+use Rattle.std.proofs.Common.{ℕ, ◌≡◌, refl, subst, sym}
+use Rattle.automata_hybrid.proofs.Words.{CacheView, IsCache, IsStoreOf, Machine, Searched, Settings}
+use Rattle.automata_hybrid.proofs.Words.{Stored, with_count, with_searched, with_store}
 use Rattle.automata_hybrid.specs.Private.Cache.Sound.{IsSoundCacheOf}
 use Rattle.automata_hybrid.specs.Private.Cache.Table.{IsSoundTable}
 
@@ -35,7 +35,8 @@ store_of c s held sound = record {
 }
 
 -- counting a determinization keeps a cache sound
-pub sound_counted : {c : CacheView} {m : Machine} → IsSoundCacheOf c m → IsSoundCacheOf (counted_in_store c) m
+pub sound_counted :
+    {c : CacheView} {m : Machine} {n : ℕ} → IsSoundCacheOf c m → IsSoundCacheOf (with_count c n) m
 sound_counted sound = record {
   of = sound.of;
   machine = sound.machine;

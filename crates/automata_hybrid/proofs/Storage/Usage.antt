@@ -1,55 +1,53 @@
-use Rattle.std.proofs.Common.{◌≡◌, ℕ, ◌+◌, ◌*◌, ◌^◌, ◌<◌, ◌≤◌, length, List, sym, ◌∙◌, subst, arith, length-append}
-use Rattle.std.proofs.Common.{replicate, slice_get, Some, inl, ap, [], ◌∷◌, ◌++◌}
+use Rattle.std.proofs.Common.{◌≡◌, ℕ, ◌+◌, ◌*◌, ◌^◌, ◌<◌, ◌≤◌, length, List, sym, ◌∙◌, subst, arith, true}
+use Rattle.std.proofs.Common.{replicate, slice_get, Some, inl}
 use Rattle.std.specs.List.{sum_by}
-use Rattle.std.proofs.Math.Nat.{mul-le-mul_right}
-use Rattle.std.proofs.lemmas.List.Sums.{sum_by_push}
-use Rattle.automata_hybrid.proofs.Words.{AllStarts, cost, dead_id, Fits, IsCache, Leads, LeadsToDead, LeadsToNamed}
-use Rattle.automata_hybrid.proofs.Words.{Machine, minimum_capacity, Names, Powerset, quit_id, Row, row_cost, Rows}
-use Rattle.automata_hybrid.proofs.Words.{Searched, Settings, Stored, usage_in_store, with_row_in_store, with_table}
+use Rattle.std.proofs.Math.Nat.{lt_of_le_of_lt, mul-le-mul_right}
+use Rattle.automata_hybrid.proofs.Words.{AllStarts, fits, IsCache, Known, known_in, Leads, LeadsToDead, LeadsToNamed}
+use Rattle.automata_hybrid.proofs.Words.{Machine, minimum_capacity, Names, offset_limit, Powerset, Row, row_cost, Rows}
+use Rattle.automata_hybrid.proofs.Words.{Searched, Settings, Stored, usage, with_row, with_row_cells, with_table}
 use Rattle.std.proofs.lemmas.List.{length-replicate, get_or-replicate}
 use Rattle.std.proofs.lemmas.Option.{slice_get_within, get_or_from_slice_get}
-use Rattle.automata_hybrid.specs.Cache.Table.{fixed_rows}
+use Rattle.automata_hybrid.specs.Cache.Usage.{row_usage}
 use Rattle.automata_hybrid.specs.Cache.Stores.{fresh_store}
 use Rattle.automata_hybrid.specs.Private.Cache.Stores.{cache_settings}
+use Rattle.automata_hybrid.specs.Private.Cache.Usage.{FitsAny}
+use Rattle.automata_hybrid.proofs.Known.Growth.{both_fit, fits_within, used_more}
 
 -- a new state fits in a cache that has at most one row more than start slots
 pub few_fits :
-    (n cells most stride slots sum fixed capacity extra : ℕ) → n ≤ slots + 1 → cells ≡ (n + 3) * stride → sum ≤ n * most
-    → minimum_capacity stride slots most fixed ≤ capacity → extra ≤ most
-    → (4 * cells + 4 * slots + 16 * (n + 3) + 20 * (n + 1) + 39 + sum + fixed) + (4 * stride + 36) + extra ≤ capacity
-few_fits n cells most stride slots sum fixed capacity extra few whole cheap enough little =
-    let more : n + 3 ≤ slots + 4 = omega (arith, few) in
-    let le : (n + 3) * stride ≤ (slots + 4) * stride = mul-le-mul_right stride more in
-    let le2 : n * most ≤ (slots + 1) * most = mul-le-mul_right most few in
-    let e : (2 + slots) * most ≡ (slots + 1) * most + most = omega arith in
-    let f : (5 + slots) * stride ≡ (slots + 4) * stride + stride = omega arith in
-    omega (arith, few, whole, cheap, enough, le, le2, e, f, little)
+    (m : Machine) (c : Known) (bytes : ℕ) → length c.rows ≤ m.slots + 1
+    → sum_by row_cost c.rows ≤ length c.rows * m.greatest
+    → minimum_capacity m.stride m.slots m.greatest m.fixed ≤ m.capacity → bytes ≤ m.greatest
+    → usage m c + row_usage m + bytes ≤ m.capacity
+few_fits m c bytes few cheap enough little =
+    let more : length c.rows + 3 ≤ m.slots + 4 = omega (arith, few) in
+    let le : (length c.rows + 3) * m.stride ≤ (m.slots + 4) * m.stride = mul-le-mul_right m.stride more in
+    let le2 : length c.rows * m.greatest ≤ (m.slots + 1) * m.greatest = mul-le-mul_right m.greatest few in
+    let e : (2 + m.slots) * m.greatest ≡ (m.slots + 1) * m.greatest + m.greatest = omega arith in
+    let f : (5 + m.slots) * m.stride ≡ (m.slots + 4) * m.stride + m.stride = omega arith in
+    omega (arith, few, cheap, enough, le, le2, e, f, little)
 
 -- such a cache is within its capacity
 few_within :
-    (n cells most stride slots sum fixed capacity : ℕ) → n ≤ slots + 1 → cells ≡ (n + 3) * stride → sum ≤ n * most
-    → minimum_capacity stride slots most fixed ≤ capacity
-    → 4 * cells + 4 * slots + 16 * (n + 3) + 20 * (n + 1) + 39 + sum + fixed ≤ capacity
-few_within n cells most stride slots sum fixed capacity few whole cheap enough =
-    let fits : (4 * cells + 4 * slots + 16 * (n + 3) + 20 * (n + 1) + 39 + sum + fixed) + (4 * stride + 36) + 0
-    ≤ capacity =
-    few_fits n cells most stride slots sum fixed capacity 0 few whole cheap enough (omega arith) in
-    omega (arith, fits)
+    (m : Machine) (c : Known) → length c.rows ≤ m.slots + 1 → sum_by row_cost c.rows ≤ length c.rows * m.greatest
+    → minimum_capacity m.stride m.slots m.greatest m.fixed ≤ m.capacity → usage m c ≤ m.capacity
+few_within m c few cheap enough =
+    let fits = few_fits m c 0 few cheap enough (omega arith) in omega (arith, fits)
 
 pub Fits-few :
     (c : Stored) (settings : Settings) → IsCache c settings → length c.table.rows ≤ length c.starts + 1
-    → length c.table.cells ≡ (length c.table.rows + 3) * c.table.of.stride
-    → sum_by row_cost c.table.rows ≤ length c.table.rows * c.table.of.greatest
-    → (extra : ℕ) → extra ≤ c.table.of.greatest → Fits c extra
-Fits-few c settings i few whole cheap extra little =
-    let more : length c.table.rows + 3 ≤ length c.starts + 4 = omega (arith, few) in
-    let le : (length c.table.rows + 3) * c.table.of.stride ≤ (length c.starts + 4) * c.table.of.stride =
-    mul-le-mul_right c.table.of.stride more in (
-      few_fits (length c.table.rows) (length c.table.cells) c.table.of.greatest c.table.of.stride (length c.starts)
-          (sum_by row_cost c.table.rows) c.table.of.fixed c.table.of.capacity extra few whole cheap i.enough little,
-      omega
-          (arith, le, whole, i.offsets),
-    )
+    → sum_by row_cost c.table.rows ≤ length c.table.rows * c.table.of.greatest → FitsAny c
+Fits-few c settings i few cheap bytes little =
+    let m : Machine = c.table.of in
+    let enough : minimum_capacity m.stride m.slots m.greatest m.fixed ≤ m.capacity =
+    subst (λ k. minimum_capacity m.stride k m.greatest m.fixed ≤ m.capacity) i.slots i.enough in
+    let offsets : (m.slots + 4) * m.stride < offset_limit =
+    subst (λ k. (k + 4) * m.stride < offset_limit) i.slots i.offsets in
+    let less : length c.table.rows ≤ m.slots + 1 = subst (λ k. length c.table.rows ≤ k + 1) i.slots few in
+    let more : length c.table.rows + 3 ≤ m.slots + 4 = omega (arith, less) in
+    both_fit (usage m (known_in c) + row_usage m + bytes) m.capacity ((length c.table.rows + 3) * m.stride) offset_limit
+    (few_fits m (known_in c) bytes less cheap enough little)
+    (lt_of_le_of_lt (mul-le-mul_right m.stride more) offsets)
 
 -- the greatest cost of a state is at most the capacity
 most_fits :
@@ -66,20 +64,16 @@ IsCache-most c settings i =
 
 -- the cache after a row that fits was added
 pub IsCache-grown :
-    (c : Stored) (settings : Settings) (t : Rows) (r : Row) → IsCache c settings
-    → length c.table.of.template ≡ c.table.of.stride → AllStarts t c.starts → t ≡ with_row_in_store c.table r
-    → Fits c (cost r.state) → IsCache (with_table c t) settings
-IsCache-grown c settings t r i wide named e fits =
-    let cells : length (c.table.cells ++ c.table.of.template) ≡ length c.table.cells + c.table.of.stride =
-    length-append c.table.cells c.table.of.template ∙ ap (λ n. length c.table.cells + n) wide in
-    let rows : length (c.table.rows ++ r ∷ []) ≡ length c.table.rows + 1 = length-append c.table.rows (r ∷ []) in
-    let costs : sum_by row_cost (c.table.rows ++ r ∷ []) ≡ sum_by row_cost c.table.rows + cost r.state =
-    sum_by_push row_cost c.table.rows r in
-    let used : usage_in_store (with_table c (with_row_in_store c.table r)) ≤ c.table.of.capacity =
-    omega (arith, cells, rows, costs, fits.0) in
+    (c : Stored) (settings : Settings) (t : Rows) (r : Row) → IsCache c settings → AllStarts t c.starts
+    → t ≡ with_row_cells c.table r → fits c.table.of (known_in c) (row_cost r) ≡ true
+    → IsCache (with_table c t) settings
+IsCache-grown c settings t r i named e fit =
+    let used : usage c.table.of (with_row r (known_in c)) ≤ c.table.of.capacity =
+    subst (λ k. k ≤ c.table.of.capacity) (sym (used_more c.table.of (known_in c) r))
+    (fits_within c.table.of (known_in c) (row_cost r) fit) in
     record {
       named = named;
-      within = subst (λ (u : Rows). usage_in_store (with_table c u) ≤ u.of.capacity) (sym e) used;
+      within = subst (λ (u : Rows). usage u.of (known_in (with_table c u)) ≤ u.of.capacity) (sym e) used;
       enough = rw e i.enough;
       offsets = rw e i.offsets;
       slots = rw e i.slots;
@@ -91,19 +85,20 @@ IsCache-grown c settings t r i wide named e fits =
 -- the cache with another table of few rows that still has the rows named by the slots
 pub IsCache-few :
     (c : Stored) (settings : Settings) (t : Rows) → IsCache c settings → AllStarts t c.starts → t.of ≡ c.table.of
-    → length t.rows ≤ length c.starts + 1 → length t.cells ≡ (length t.rows + 3) * t.of.stride
-    → sum_by row_cost t.rows ≤ length t.rows * t.of.greatest → IsCache (with_table c t) settings
-IsCache-few c settings t i named s few whole cheap =
+    → length t.rows ≤ length c.starts + 1 → sum_by row_cost t.rows ≤ length t.rows * t.of.greatest
+    → IsCache (with_table c t) settings
+IsCache-few c settings t i named s few cheap =
     let enough : minimum_capacity t.of.stride (length c.starts) t.of.greatest t.of.fixed ≤ t.of.capacity =
     rw s i.enough in
+    let slots : length c.starts ≡ t.of.slots = rw s i.slots in
     record {
       named = named;
       within =
-          few_within (length t.rows) (length t.cells) t.of.greatest t.of.stride (length c.starts)
-          (sum_by row_cost t.rows) t.of.fixed t.of.capacity few whole cheap enough;
+          few_within t.of (known_in (with_table c t)) (subst (λ k. length t.rows ≤ k + 1) slots few) cheap
+          (subst (λ k. minimum_capacity t.of.stride k t.of.greatest t.of.fixed ≤ t.of.capacity) slots enough);
       enough = enough;
       offsets = rw s i.offsets;
-      slots = rw s i.slots;
+      slots = slots;
       same = rw s i.same;
       bounded = rw s i.bounded;
       counted = i.counted;
@@ -121,27 +116,9 @@ pub IsCache-fresh :
     → m.capacity < 2 ^ 64 → IsCache (fresh_store m) settings
 IsCache-fresh m settings same enough offsets bounded =
     let n : length (replicate m.slots (2 ^ 31)) ≡ m.slots = length-replicate m.slots (2 ^ 31) in
-    let a : length (replicate m.stride (2 ^ 31)) ≡ m.stride = length-replicate m.stride (2 ^ 31) in
-    let b : length (replicate m.stride (dead_id m.stride)) ≡ m.stride = length-replicate m.stride (dead_id m.stride) in
-    let d : length (replicate m.stride (quit_id m.stride)) ≡ m.stride = length-replicate m.stride (quit_id m.stride) in
-    let cells : length (fixed_rows m.stride) ≡ (0 + 3) * m.stride =
-    omega (
-      arith,
-      length-append (replicate m.stride (2 ^ 31))
-          (replicate m.stride (dead_id m.stride) ++ replicate m.stride (quit_id m.stride)),
-      length-append
-          (replicate m.stride (dead_id m.stride)) (replicate m.stride (quit_id m.stride)),
-      a,
-      b,
-      d,
-    ) in
     record {
       named = λ slot id h. inl (unknown_at m.slots slot id h);
-      within =
-          subst (λ k. 4 * length (fixed_rows m.stride) + 4 * k + 16 * (0 + 3) + 20 * (0 + 1) + 39 + 0 + m.fixed
-          ≤ m.capacity) (sym n)
-          (few_within 0 (length (fixed_rows m.stride)) m.greatest m.stride m.slots 0 m.fixed m.capacity (omega arith)
-          cells (omega arith) enough);
+      within = few_within m (known_in (fresh_store m)) (omega arith) (omega arith) enough;
       enough = rw n enough;
       offsets = rw n offsets;
       slots = n;
@@ -154,20 +131,22 @@ IsCache-fresh m settings same enough offsets bounded =
 pub IsCache-cleared :
     (c : Stored) (settings : Settings) (t : Rows) (starts : List ℕ) (clears : ℕ) (searched : Searched)
     → IsCache c settings → AllStarts t starts → t.of ≡ c.table.of → length starts ≡ length c.starts
-    → length t.rows ≤ length starts → length t.cells ≡ (length t.rows + 3) * t.of.stride
-    → sum_by row_cost t.rows ≤ length t.rows * t.of.greatest → clears < 2 ^ 64
+    → length t.rows ≤ length starts → sum_by row_cost t.rows ≤ length t.rows * t.of.greatest → clears < 2 ^ 64
     → IsCache (record { table = t; starts = starts; clears = clears; searched = searched }) settings
-IsCache-cleared c settings t starts clears searched i named s n few whole cheap counted =
+IsCache-cleared c settings t starts clears searched i named s n few cheap counted =
     let enough : minimum_capacity t.of.stride (length starts) t.of.greatest t.of.fixed ≤ t.of.capacity =
     rw (s, n) i.enough in
+    let slots : length starts ≡ t.of.slots = rw (s, n) i.slots in
     record {
       named = named;
       within =
-          few_within (length t.rows) (length t.cells) t.of.greatest t.of.stride (length starts) (sum_by row_cost t.rows)
-          t.of.fixed t.of.capacity (omega (arith, few)) whole cheap enough;
+          few_within t.of
+          (known_in (record { table = t; starts = starts; clears = clears; searched = searched }))
+          (subst (λ k. length t.rows ≤ k + 1) slots (omega (arith, few))) cheap
+          (subst (λ k. minimum_capacity t.of.stride k t.of.greatest t.of.fixed ≤ t.of.capacity) slots enough);
       enough = enough;
       offsets = rw (s, n) i.offsets;
-      slots = rw (s, n) i.slots;
+      slots = slots;
       same = rw s i.same;
       bounded = rw s i.bounded;
       counted = counted;

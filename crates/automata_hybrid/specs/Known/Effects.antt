@@ -7,6 +7,7 @@ use Rattle.automata_config.specs.declared.error.StepError.{StepError}
 use Rattle.automata_hybrid.specs.Machines.FullDfas.{full_dfa}
 use Rattle.automata_hybrid.specs.Cache.Ids.{fixed_from}
 use Rattle.automata_hybrid.specs.Cache.Progress.{progress_cleared, saturated}
+use Rattle.automata_hybrid.specs.Cache.Table.{row_cost}
 use Rattle.automata_hybrid.specs.Steps.Events.{Event, Start, Step}
 use Rattle.automata_hybrid.specs.Known.Bounds.{IsKnown}
 use Rattle.automata_hybrid.specs.Known.Events.{after_event, fits, is_cached, refuses_to_clear}
@@ -28,7 +29,7 @@ pub data ClearsFor (m : Machine) (r : Row) (old new : Known) : Type 0 where
   ClearsNothing : new.clears ≡ old.clears → new.searched ≡ old.searched → ClearsFor m r old new
   -- its state was not there and did not fit, and the clear rule allowed a clear
   ClearsAll :
-      has_state old r.state ≡ false → fits m old r.state ≡ false → refuses_to_clear m old ≡ false
+      has_state old r.state ≡ false → fits m old (row_cost r) ≡ false → refuses_to_clear m old ≡ false
       → new.clears ≡ saturated (old.clears + 1) → new.searched ≡ progress_cleared old.searched
       → ClearsFor m r old new
 

@@ -4,7 +4,7 @@ use Rattle.std.specs.Prelude.{ℕ, ◌+◌, ◌*◌, length, sum_by, Bool, true,
 use Rattle.std.specs.Prelude.{Option, None, Some, is_some, option_map, unwrap_or, slice_get, slice_set}
 use Rattle.automata_determinize.specs.Powersets.Accounting.{cell_size, entry_size, fixed_rows_cost, row_size}
 use Rattle.automata_determinize.specs.Powersets.Equal.{powerset_eq}
-use Rattle.automata_base.specs.Powersets.Powerset.{Powerset, cost}
+use Rattle.automata_base.specs.Powersets.Powerset.{Powerset}
 use Rattle.automata_config.specs.Options.{minimum_bytes_per_state_of, minimum_cache_clear_count_of}
 use Rattle.automata_hybrid.specs.Machines.FullDfas.{full_dfa}
 use Rattle.automata_hybrid.specs.Cache.Ids.{offset_limit}
@@ -25,10 +25,10 @@ usage m c =
     cell_size * ((length c.rows + 3) * m.stride) + cell_size * m.slots + row_size * (length c.rows + 3)
     + entry_size * (length c.rows + 1) + fixed_rows_cost + sum_by row_cost c.rows + m.fixed
 
--- a new state fits, and so does its row's offset
-abbrev pub fits : Machine → Known → Powerset → Bool
-fits m c q =
-    nat_le (usage m c + row_usage m + cost q) m.capacity && nat_lt ((length c.rows + 3) * m.stride) offset_limit
+-- a new state of this cost fits, and so does its row's offset
+abbrev pub fits : Machine → Known → (bytes : ℕ) → Bool
+fits m c bytes =
+    nat_le (usage m c + row_usage m + bytes) m.capacity && nat_lt ((length c.rows + 3) * m.stride) offset_limit
 
 -- no clear is allowed: the limit on clears is reached, and too few bytes were searched since the last one
 abbrev pub refuses_past : Machine → Known → (limit : Option ℕ) → Bool
@@ -45,7 +45,7 @@ refuses_to_clear m c = refuses_past m c (minimum_cache_clear_count_of m.config)
 -- not allow that
 abbrev pub with_new_row : Machine → (emptied : Known) → Row → Known → Option Known
 with_new_row m emptied r c =
-    cond (fits m c r.state) (Some (with_row r c)) (cond (refuses_to_clear m c) None (Some (with_row r emptied)))
+    cond (fits m c (row_cost r)) (Some (with_row r c)) (cond (refuses_to_clear m c) None (Some (with_row r emptied)))
 
 -- what is known with a row for a state, which is added unless the state is there; none if the call gives up
 abbrev pub with_state : Machine → (emptied : Known) → Row → Known → Option Known

@@ -1,22 +1,23 @@
 //! How a cache grows: a state is determinized, looked up, and if no row has it, added. If it does not fit, the cache is
 //! cleared first. A clear builds the new store next to the old one, so that an error leaves the cache unchanged.
-ghost use Rattle.std.specs.Prelude.{IfErr, IfOk, Option, false, length, slice_index, ℕ, ◌<◌, ◌≡◌, ◌≤◌};
+ghost use Rattle.std.specs.Prelude.{IfErr, IfOk, Option, false, length, slice_index, ℕ, ◌+◌, ◌<◌, ◌≡◌, ◌≤◌};
 ghost use Rattle.automata_determinize.specs.Powersets.Passes.{IsUnit};
 ghost use Rattle.automata_base.specs.Powersets.Powerset.{Powerset, cost};
 ghost use Rattle.automata_determinize.specs.Retraced.Steps.{start_state_of, successor};
 ghost use Rattle.automata_config.specs.Options.{match_kind_of};
-ghost use Rattle.automata_hybrid.specs.Cache.Caches.{with_store};
+ghost use Rattle.automata_hybrid.specs.Cache.Caches.{dfa_of, with_store};
 ghost use Rattle.automata_hybrid.specs.Cache.Ids.{unknown_id};
 ghost use Rattle.automata_hybrid.specs.Cache.Table.{IsRowId, Names};
+ghost use Rattle.automata_hybrid.specs.Known.Events.{fits};
+ghost use Rattle.automata_hybrid.specs.Known.Stores.{known_of};
 ghost use Rattle.automata_hybrid.specs.Machines.Machine.{quits_on, unit_class};
 ghost use Rattle.automata_hybrid.specs.Machines.Reachable.{IsStateOf};
-ghost use Rattle.automata_hybrid.specs.Private.Cache.Caches.{IsStoreOf, counted_in_store};
+ghost use Rattle.automata_hybrid.specs.Private.Cache.Caches.{IsStoreOf, with_count};
 ghost use Rattle.automata_hybrid.specs.Private.Cache.Clears.{LeadsToStart};
 ghost use Rattle.automata_hybrid.specs.Private.Cache.Growth.{AddFails, HasAdded, HasAddedNext};
 ghost use Rattle.automata_hybrid.specs.Private.Cache.Sound.{IsSoundCacheOf};
-ghost use Rattle.automata_hybrid.specs.Private.Cache.Stores.{with_next, with_start_in_store};
+ghost use Rattle.automata_hybrid.specs.Private.Cache.Stores.{with_next, with_slot};
 ghost use Rattle.automata_hybrid.specs.Private.Cache.Table.{IsNewState, IsSoundTable, LeadsByClass};
-ghost use Rattle.automata_hybrid.specs.Private.Cache.Usage.{Fits};
 ghost use Rattle.automata_hybrid.specs.Private.Steps.Starts.{IsStartSlot};
 
 use crate::cache::leaps::Leaping;
@@ -58,7 +59,7 @@ impl Cache {
             → k ≡ successor dfa.now.nfa (match_kind_of dfa.now.config) q other) }
         ensures cost { IfOk result (λ k. cost k ≤ dfa.now.greatest) }
         ensures is_of { IfOk result (λ k. IsStateOf dfa.now k) }
-        ensures counted { self.new ≡ counted_in_store self.old }
+        ensures counted { self.new ≡ with_count self.old (self.old.count + 1) }
     {
         let from = self.store.table.state(id);
         let kind = dfa.get_config().get_match_kind();
@@ -78,7 +79,7 @@ impl Cache {
         ensures value { IfOk result (λ k. k ≡ start_state_of dfa.now.nfa mode prev) }
         ensures cost { IfOk result (λ k. cost k ≤ dfa.now.greatest) }
         ensures is_of { IfOk result (λ k. IsStateOf dfa.now k) }
-        ensures counted { self.new ≡ counted_in_store self.old }
+        ensures counted { self.new ≡ with_count self.old (self.old.count + 1) }
     {
         let key = start_key(dfa.get_nfa(), &mut self.scratch, mode, prev)?;
         Ok(key)
@@ -141,7 +142,7 @@ impl Cache {
         requires valid { IsRowId self.old.store.table from }
         requires new { IsNewState self.old.store.table state }
         requires bytes { bytes ≡ cost state }
-        requires full { Fits self.old.store (cost state) → ⊥ }
+        requires full { fits (dfa_of self.old) (known_of self.old) (cost state) ≡ false }
         ensures added { IfOk result (λ p. HasAddedNext self.old self.new from state p.0 p.1) }
         ensures refused { IfErr result (AddFails self.old self.new state) }
     {
@@ -185,7 +186,7 @@ impl Cache {
         requires sound { IsSoundCacheOf self.old dfa.now }
         requires new { IsNewState self.old.store.table state }
         requires bytes { bytes ≡ cost state }
-        requires full { Fits self.old.store (cost state) → ⊥ }
+        requires full { fits (dfa_of self.old) (known_of self.old) (cost state) ≡ false }
         ensures added { IfOk result (HasAdded self.old self.new (record { state = state; started = started })) }
         ensures refused { IfErr result (AddFails self.old self.new state) }
     {
@@ -218,7 +219,7 @@ impl Cache {
     pub(crate) fn set_start(&mut self, slot: usize, id: LazyStateID)
         requires slot { slot < length self.old.store.starts }
         requires leads { LeadsToStart self.old.store.table id slot }
-        ensures value { self.new ≡ with_store self.old (with_start_in_store self.old.store slot id) }
+        ensures value { self.new ≡ with_store self.old (with_slot self.old.store slot id) }
         ensures written { slice_index self.new.store.starts slot ≡ id }
         ensures store { IsStoreOf self.new.store self.new.store.table.of }
         ensures table { IsSoundTable self.new.store.table }

@@ -11,13 +11,14 @@ ghost use Rattle.std.specs.Prelude.{ℕ, ◌≡◌, ◌*◌, ◌%◌, ◌<◌, �
 ghost use Rattle.std.specs.Prelude.{IfSome, IsSome, IsTrue, ◌+◌, ◌↔◌, ◌⊎◌, None, Option};
 ghost use Rattle.automata_base.specs.Powersets.Powerset.{Powerset};
 ghost use Rattle.automata_base.specs.declared.util.search.Anchored.{Anchored};
-ghost use Rattle.automata_hybrid.specs.Cache.Caches.{HoldsRow, IsCacheOf, fresh_cache, with_store};
+ghost use Rattle.automata_hybrid.specs.Cache.Caches.{HoldsRow, IsCacheOf, dfa_of, fresh_cache, with_store};
 ghost use Rattle.automata_hybrid.specs.Cache.Ids.{dead_id, unknown_id, offset_limit};
 ghost use Rattle.automata_hybrid.specs.Cache.Progress.{progress_finished, progress_started, progress_updated};
 ghost use Rattle.automata_hybrid.specs.Cache.Progress.{saturated, total_len};
 ghost use Rattle.automata_hybrid.specs.Cache.States.{IsHeldState, LeadsAsStart, held_states};
 ghost use Rattle.automata_hybrid.specs.Cache.Stores.{cell_of, with_searched};
 ghost use Rattle.automata_hybrid.specs.Cache.Table.{Names, IsRowId, HasItsMatchTag};
+ghost use Rattle.automata_hybrid.specs.Known.Events.{usage};
 ghost use Rattle.automata_hybrid.specs.Known.Stores.{known_of};
 ghost use Rattle.automata_hybrid.specs.Machines.OwnStates.{IsOwn};
 ghost use Rattle.automata_hybrid.specs.Private.Cache.Caches.{IsStoreOf};
@@ -25,7 +26,6 @@ ghost use Rattle.automata_hybrid.specs.Private.Cache.Clears.{IsSlot};
 ghost use Rattle.automata_hybrid.specs.Private.Cache.Leaps.{AreLeaps, IsShapeOf, making_bytes};
 ghost use Rattle.automata_hybrid.specs.Private.Cache.Sound.{IsSoundCacheOf};
 ghost use Rattle.automata_hybrid.specs.Private.Cache.Table.{IsCell, IsSoundTable, HasState};
-ghost use Rattle.automata_hybrid.specs.Private.Cache.Usage.{usage_in_store};
 
 mod add;
 pub(crate) mod clears;
@@ -325,7 +325,7 @@ impl Cache {
         requires sound { IsSoundCacheOf self.now dfa.now }
         requires of { IsShapeOf self.now.store.table shape }
         requires rows { shape.rows ≡ length self.now.store.table.rows }
-        requires room { usage_in_store self.now.store + making_bytes shape ≤ self.now.store.table.of.capacity }
+        requires room { usage (dfa_of self.now) (known_of self.now) + making_bytes shape ≤ (dfa_of self.now).capacity }
         ensures leaps { IfOk result (λ b. AreLeaps self.now.store.table b.value) }
         ensures shape { IfOk result (λ b. b.value.shape ≡ shape) }
     {

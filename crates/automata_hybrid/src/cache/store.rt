@@ -1,17 +1,18 @@
 //! What a clear replaces: the table of states, the start slots, the count of clears and the progress of searches. The
 //! rules of the settings are here: what a state costs, whether it fits, and whether a search gives up instead of
 //! clearing the cache.
-ghost use Rattle.std.specs.Prelude.{◌≡◌, ◌+◌, ◌*◌, ◌<◌, ◌≤◌, ◌↔◌, IfOk, IfErr, OnOk, OnErr, length, IsTrue, true};
+ghost use Rattle.std.specs.Prelude.{◌≡◌, ◌+◌, ◌*◌, ◌<◌, ◌≤◌, ◌↔◌, IfOk, IfErr, OnOk, OnErr, length, IsTrue};
+ghost use Rattle.std.specs.Prelude.{false, true};
 ghost use Rattle.automata_determinize.specs.Powersets.Accounting.{minimum_capacity};
 ghost use Rattle.automata_base.specs.Powersets.Powerset.{cost};
 ghost use Rattle.automata_hybrid.specs.Cache.Ids.{offset_limit};
 ghost use Rattle.automata_hybrid.specs.Cache.Stores.{IsCacheError, fresh_store};
 ghost use Rattle.automata_hybrid.specs.Cache.Table.{IsRowId, fresh};
+ghost use Rattle.automata_hybrid.specs.Known.Events.{fits, refuses_to_clear, usage};
 ghost use Rattle.automata_hybrid.specs.Private.Cache.Changes.{HasGrown, HasSavedRow};
-ghost use Rattle.automata_hybrid.specs.Private.Cache.Stores.{cache_settings};
+ghost use Rattle.automata_hybrid.specs.Private.Cache.Stores.{cache_settings, known_in};
 ghost use Rattle.automata_hybrid.specs.Private.Cache.Table.{IsNewState, IsSoundTable};
-ghost use Rattle.automata_hybrid.specs.Private.Cache.Usage.{usage_in_store, Fits, refuses_in_store, FitsAny};
-ghost use Rattle.automata_hybrid.specs.Private.Cache.Usage.{IsCleared};
+ghost use Rattle.automata_hybrid.specs.Private.Cache.Usage.{FitsAny, IsCleared, MustGiveUp};
 ghost use Rattle.automata_hybrid.specs.Private.Machines.Machine.{IsMachine, IsTemplate};
 
 use crate::cache::clears::{keep_row, keep_starts};
@@ -118,9 +119,7 @@ impl Store {
 
     /// Returns the number of accounted bytes.
     pub fn memory_usage(&self) -> usize
-        ensures usage { result ≡ usage_in_store self.now }
-        ensures whole { length self.now.table.cells ≡ (length self.now.table.rows + 3) * self.now.table.of.stride }
-        ensures slots { length self.now.starts ≡ self.now.table.of.slots }
+        ensures usage { result ≡ usage self.now.table.of (known_in self.now) }
         ensures within { result ≤ self.now.table.of.capacity }
     {
         let states = self.table.len();
@@ -151,7 +150,7 @@ impl Store {
     /// Whether a new state of `bytes` accounted bytes fits.
     pub fn fits(&self, bytes: usize) -> bool
         requires { bytes ≤ self.now.table.of.greatest }
-        ensures { IsTrue result ↔ Fits self.now bytes }
+        ensures { result ≡ fits self.now.table.of (known_in self.now) bytes }
     {
         let used = self.memory_usage();
         let room = self.settings.capacity - used;
@@ -168,14 +167,14 @@ impl Store {
 
     /// Returns the number of unused bytes of the capacity.
     pub fn room(&self) -> usize
-        ensures { usage_in_store self.now + result ≡ self.now.table.of.capacity }
+        ensures { usage self.now.table.of (known_in self.now) + result ≡ self.now.table.of.capacity }
     {
         self.settings.capacity - self.memory_usage()
     }
 
     /// Whether a search gives up instead of clearing the cache.
     pub fn refuses(&self) -> bool
-        ensures { result ≡ refuses_in_store self.now }
+        ensures { result ≡ refuses_to_clear self.now.table.of (known_in self.now) }
     {
         let Some(limit) = self.settings.minimum_clear_count else {
             return false;
@@ -192,7 +191,7 @@ impl Store {
     /// Whether a search gives up at a state that no row has, because it does not fit and no clear is allowed.
     pub fn gives_up(&self, state: &State) -> bool
         requires { cost state.now ≤ self.now.table.of.greatest }
-        ensures { IsTrue result ↔ ((Fits self.now (cost state.now) → ⊥) × (refuses_in_store self.now ≡ true)) }
+        ensures { IsTrue result ↔ MustGiveUp self.now.table.of (known_in self.now) (cost state.now) }
     {
         !self.fits(self.cost_of(state)) && self.refuses()
     }
@@ -205,7 +204,8 @@ impl Store {
         ensures sound { IfOk result (λ s. IsSoundTable s.table) }
         ensures cleared { IfOk result (IsCleared self.now) }
         ensures room { IfOk result FitsAny }
-        ensures gives_up { IfErr result (λ e. IsCacheError e ↔ (refuses_in_store self.now ≡ true)) }
+        ensures gives_up { IfErr result (λ e. IsCacheError e
+            ↔ (refuses_to_clear self.now.table.of (known_in self.now) ≡ true)) }
     {
         if self.refuses() {
             return Err(StepError::Cache(CacheError));
@@ -231,7 +231,7 @@ impl Store {
     ) -> Result<LazyStateID, AllocError>
         requires new { IsNewState self.old.table state }
         requires bytes { bytes ≡ cost state }
-        requires fits { Fits self.old (cost state) }
+        requires fits { fits self.old.table.of (known_in self.old) (cost state) ≡ true }
         requires sound { IsSoundTable self.old.table }
         ensures grown { IfOk result (HasGrown self.old (record { state = state; started = started }) self.new) }
         ensures err { OnErr result (self.new ≡ self.old) }

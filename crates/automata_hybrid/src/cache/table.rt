@@ -151,7 +151,7 @@ impl Table {
 
     /// Returns the number of cells in all rows, the fixed ones included.
     pub fn cell_count(&self) -> usize
-        ensures { result ≡ length self.now.cells }
+        ensures { result ≡ (length self.now.rows + 3) * self.now.of.stride }
     {
         self.cells.len()
     }

@@ -7,7 +7,8 @@ use Rattle.automata_base.specs.Nfas.Nodes.{Automaton}
 use Rattle.automata_hybrid.specs.Cache.Ids.{offset_limit}
 use Rattle.automata_hybrid.specs.Cache.Stores.{Stored}
 use Rattle.automata_hybrid.specs.Cache.Table.{Rows}
-use Rattle.automata_hybrid.specs.Private.Cache.Usage.{usage_in_store}
+use Rattle.automata_hybrid.specs.Known.Events.{usage}
+use Rattle.automata_hybrid.specs.Private.Cache.Stores.{known_in}
 use Rattle.automata_hybrid.specs.declared.cache.leaps.Leaps.{Leaps}
 use Rattle.automata_hybrid.specs.declared.cache.leaps.Shape.{Shape}
 
@@ -91,7 +92,8 @@ pub record AreCacheParts (c : Stored) (nfa : Automaton) (held : Option (Box Leap
   -- leaps are leaps of its table
   pub leaps : IfSome held (λ l. AreLeaps c.table l.value)
   -- the accounted bytes and those of the leaps are within the capacity
-  pub within : IfSome held (λ l. usage_in_store c + leaps_bytes (length l.value.cells.items) ≤ c.table.of.capacity)
+  pub within :
+      IfSome held (λ l. usage c.table.of (known_in c) + leaps_bytes (length l.value.cells.items) ≤ c.table.of.capacity)
 
 -- a step on one class, from a row to a row or, if it is not cached or its ID has a tag, to "no row", which is the index
 -- after the last row

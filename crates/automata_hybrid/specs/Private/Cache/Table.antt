@@ -80,9 +80,9 @@ HasOwnStates t = (id : ℕ) (q : Powerset) → Names t id q → IsOwn t.of.nfa q
 abbrev pub Lacks : Rows → Powerset → Type 0
 Lacks t q = (id_of t q ≡ None) × (q ≡ dead → ⊥)
 
--- a table with one more row
-abbrev pub with_row_in_store : Rows → Row → Rows
-with_row_in_store t r = record { of = t.of; cells = t.cells ++ t.of.template; rows = t.rows ++ r ∷ [] }
+-- a table with the cells of one more row
+abbrev pub with_row_cells : Rows → Row → Rows
+with_row_cells t r = record { of = t.of; cells = t.cells ++ t.of.template; rows = t.rows ++ r ∷ [] }
 
 -- a table with a cell written
 abbrev pub with_cell : Rows → ℕ → ℕ → ℕ → Rows
@@ -91,7 +91,7 @@ with_cell t id class next = record { of = t.of; cells = slice_set t.cells (cell_
 -- a row was added to a table, with this ID
 pub record HasNewRow (old : Rows) (r : Row) (new : Rows) (id : ℕ) : Type 0 where
   -- It has the row after the others.
-  pub more : new ≡ with_row_in_store old r
+  pub more : new ≡ with_row_cells old r
   -- The ID names the state of the row.
   pub named : Names new id r.state
   -- Each ID still names the state that it named.
@@ -105,13 +105,6 @@ pub record IsCopiedRow (t : Rows) (k : ℕ) (r : Row) : Type 0 where
   pub state : IsRowState t.of r.state
   -- The table has its state.
   pub had : id_of t r.state ≡ None → ⊥
-
--- some row has this state
-pub record IsKnownState (t : Rows) (q : Powerset) : Type 0 where
-  -- the ID of that row
-  pub id : ℕ
-  -- it names the state
-  pub named : Names t id q
 
 -- the map from states to IDs
 abbrev pub StateMap : Type 0

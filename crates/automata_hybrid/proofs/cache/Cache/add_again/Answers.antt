@@ -6,7 +6,7 @@ use Rattle.automata_hybrid.proofs.cache.Cache.add_again.Goals as goal
 
 pub returns-clause-sound : goal.returns-clause-sound
 returns-clause-sound c =
-    sound_of c.requires.sound (c.in_ok-id.ensures.added.row.of ∙ c.requires.sound.of) c.reveal_invariant.ensures.store
+    sound_of c.requires.sound (c.in_ok-id.ensures.added.of ∙ c.requires.sound.of) c.reveal_invariant.ensures.store
     c.reveal_invariant.ensures.table
 
 pub returns-in_err-id-clause-sound : goal.returns-in_err-id-clause-sound

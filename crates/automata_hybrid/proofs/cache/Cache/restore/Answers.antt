@@ -28,13 +28,10 @@ returns-clause-back c =
     let none : id_of c.args.self.now.store.table c.args.handle.now.state ≡ None =
     subst (λ q. id_of c.args.self.now.store.table q ≡ None) c.requires.key (sym c.find.ensures ∙ c.in_default.is) in
     record {
-      named = c.in_ok-id.ensures.added.row.named;
+      named = c.in_ok-id.ensures.added.named;
       back =
           restored_row c.args.dfa.now c.args.handle.now.state c.args.self.now c.add_again.new.self
-          c.requires.sound.machine
-          c.requires.sound.store
-          c.add_again.ensures.sound.store
-          none c.in_ok-id.id c.in_ok-id.ensures.added;
+          c.requires.sound.store (none, c.requires.state.alive) c.in_ok-id.id c.in_ok-id.ensures.added;
     }
 
 pub returns-in_err-id-clause-back : goal.returns-in_err-id-clause-back
@@ -45,5 +42,4 @@ returns-in_err-id-clause-back c =
     (IsRestoreResult c.args.dfa.now c.args.handle.now.state c.args.self.now c.add_again.new.self)
     c.from_residual.ensures.1
     (row_fails c.args.dfa.now c.args.handle.now.state c.args.self.now c.add_again.new.self _
-    c.requires.sound.store none
-    c.in_err-id.ensures.refused)
+    c.requires.sound.store (none, c.requires.state.alive) c.in_err-id.ensures.refused)

@@ -1,6 +1,9 @@
-use Rattle.std.proofs.Common.{◌≡◌, ap, length, subst, sym}
-use Rattle.automata_hybrid.proofs.Words.{AllStarts, cost, Fits, Row, Rows, Stored, with_table}
+use Rattle.std.proofs.Common.{◌≡◌, ◌∙◌, None, ap, refl, subst, sym, true}
+use Rattle.automata_hybrid.proofs.Words.{AllStarts, cost, fits, id_of, known_in, Row, Rows, Stored, with_row_cells}
+use Rattle.automata_hybrid.proofs.Words.{with_table}
 use Rattle.automata_hybrid.specs.Private.Cache.Changes.{HasGrown}
+use Rattle.automata_hybrid.proofs.Known.Made.{grown_known}
+use Rattle.automata_hybrid.proofs.Known.Rows.{HasPlaces, places_sound}
 use Rattle.automata_hybrid.proofs.Storage.Clears.{AllStarts-more}
 use Rattle.automata_hybrid.proofs.Storage.Usage.{IsCache-grown}
 use Rattle.automata_hybrid.proofs.cache.store.Store.add_row.Goals as goal
@@ -14,16 +17,15 @@ invariant_of-self-2 c =
       clears = c.self.inside.clears;
       searched = c.self.inside.searched;
     } in
-    let fits : Fits old (cost c.args.state) =
-    subst (λ (v : Stored). Fits v (cost c.args.state)) (sym c.self.view_is) c.requires.fits in
+    let fit : fits old.table.of (known_in old) (cost c.args.state) ≡ true =
+    subst (λ (v : Stored). fits v.table.of (known_in v) (cost c.args.state) ≡ true) (sym c.self.view_is)
+    c.requires.fits in
     let r : Row = record { state = c.args.state; started = c.args.started } in
     let starts : AllStarts c.add.new.self old.starts =
     subst (λ (t : Rows). AllStarts t old.starts) (sym c.in_ok-added.ensures.added.more)
     (AllStarts-more c.self.inside.table r old.starts c.self.invariant.named) in
-    IsCache-grown old c.self.inside.settings c.add.new.self r c.self.invariant
-    (subst (λ (v : Stored). length v.table.of.template ≡ v.table.of.stride) (sym c.self.view_is)
-    c.requires.sound.template.whole) starts
-    c.in_ok-added.ensures.added.more fits
+    IsCache-grown old c.self.inside.settings c.add.new.self r c.self.invariant starts c.in_ok-added.ensures.added.more
+    fit
 
 pub returns-clause-grown : goal.returns-clause-grown
 returns-clause-grown c =
@@ -36,5 +38,15 @@ returns-clause-grown c =
     } in
     let r : Row = record { state = c.args.state; started = c.args.started } in
     let added = c.in_ok-added.ensures.added in
+    let places : HasPlaces (with_row_cells old.table r) =
+    subst HasPlaces added.more (places_sound c.add.new.self c.in_ok-added.ensures.sound) in
+    let none : id_of old.table r.state ≡ None =
+    subst (λ (v : Stored). id_of v.table r.state ≡ None) (sym c.self.view_is) c.requires.new.lacks.0 in
     subst (λ (v : Stored). HasGrown v r (with_table old c.add.new.self) c.in_ok-added.added) c.self.view_is
-    (record { grown = ap (λ (t : Rows). with_table old t) added.more; row = added })
+    (record {
+      known =
+          ap (λ (t : Rows). known_in (with_table old t)) added.more
+          ∙ sym (grown_known old 0 r c.self.invariant.named places none);
+      row = added;
+      starts = refl;
+    })

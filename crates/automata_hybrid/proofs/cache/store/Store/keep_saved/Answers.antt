@@ -1,6 +1,9 @@
 use Rattle.std.proofs.Common.{◌≡◌, ◌∙◌, ◌+◌, ◌≤◌, length, arith, rules, ap, subst, sym}
 use Rattle.std.proofs.lemmas.Grind.{common_steps}
-use Rattle.automata_hybrid.proofs.Words.{AllStarts, IsCache, Rows, Stored, with_table}
+use Rattle.automata_hybrid.proofs.Words.{AllStarts, IsCache, keep_row, known_in, row_of, Rows, Stored, with_table}
+use Rattle.automata_hybrid.specs.Private.Cache.Clears.{with_row_once}
+use Rattle.automata_hybrid.proofs.Known.Made.{saved_known}
+use Rattle.automata_hybrid.proofs.Known.Rows.{HasPlaces, places_sound}
 use Rattle.automata_hybrid.proofs.Storage.Usage.{Fits-few, IsCache-few}
 use Rattle.automata_hybrid.proofs.Storage.Clears.{AllStarts-put, IsPut-length, IsPut-of}
 use Rattle.automata_hybrid.proofs.cache.store.Store.keep_saved.Goals as goal
@@ -33,7 +36,7 @@ kept c =
     subst (λ (t : Rows). AllStarts t c.self.inside.starts.items) (sym n.row.put_there)
     (AllStarts-put c.self.inside.table n.row.row c.self.inside.starts.items c.self.invariant.named) in
     IsCache-few (before c) c.self.inside.settings c.keep_row.new.kept c.self.invariant named (kept_of c) (kept_few c)
-    c.in_ok-kept.ensures.sound.rows.whole c.in_ok-kept.ensures.sound.costs
+    c.in_ok-kept.ensures.sound.costs
 
 pub invariant_of-self-2 : goal.invariant_of-self-2
 unfolding before
@@ -45,11 +48,23 @@ returns-clause-of c = kept_of c ∙ ap (λ (v : Stored). v.table.of) c.self.view
 pub returns-clause-saved : goal.returns-clause-saved
 unfolding before
 returns-clause-saved c =
+    let put = c.in_ok-kept.ensures.row in
+    let places : HasPlaces (with_row_once c.self.inside.table put.row) =
+    subst HasPlaces put.put_there (places_sound c.keep_row.new.kept c.in_ok-kept.ensures.sound) in
+    let known : known_in (with_table (before c) c.keep_row.new.kept)
+    ≡ record (known_in (before c)) { rows = keep_row c.self.inside.table.rows (row_of c.args.old.now c.args.id) } =
+    ap (λ (t : Rows). known_in (with_table (before c) t)) put.put_there
+    ∙ saved_known (before c) 0 put.row c.self.invariant.named places
+    ∙ ap (λ o. record (known_in (before c)) { rows = keep_row c.self.inside.table.rows o }) (sym put.at) in
     record {
-      put = search rules;
+      known =
+          subst
+          (λ (v : Stored). known_in (with_table (before c) c.keep_row.new.kept)
+          ≡ record (known_in v) { rows = keep_row v.table.rows (row_of c.args.old.now c.args.id) })
+          c.self.view_is known;
       named = search rules;
       room =
           Fits-few (with_table (before c) c.keep_row.new.kept) c.self.inside.settings (kept c) (kept_few c)
-          c.in_ok-kept.ensures.sound.rows.whole c.in_ok-kept.ensures.sound.costs;
+          c.in_ok-kept.ensures.sound.costs;
       absent = search rules;
     }
