@@ -111,7 +111,7 @@ make_program() {
 
 make_crate() {
     crate=$room/lazydfa-$version
-    cp -rL "$top/bindings/rust" "$crate"
+    cp -r "$top/bindings/rust" "$crate"
     rm -rf "$crate/target"
     mkdir -p "$crate/lib/x86_64-unknown-linux-gnu"
     cp "$room/c/out/liblazydfa.a" "$crate/lib/x86_64-unknown-linux-gnu"

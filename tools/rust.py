@@ -3,7 +3,7 @@
 
     tools/rust.py ['N passed, M failed']
 
-These are the tests of bindings/rust/tests, the examples, and the programs of docs/RUST.md, which are doctests. Cargo
+These are the tests of bindings/rust/tests, the examples, and the programs of bindings/rust/README.md, which are doctests. Cargo
 needs no network and builds in a temporary folder. If cargo is missing, or too old for the crate, the script says so and
 tests nothing. The last line counts the tests, added to those that the given line counts.
 """

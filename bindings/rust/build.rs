@@ -56,7 +56,7 @@ fn installed() -> Result<PathBuf, String> {
 fn make(c: &Path) -> Result<(), String> {
     for (program, option) in [("rt", "version"), ("make", "--version")] {
         if Command::new(program).arg(option).output().is_err() {
-            return Err(no(&format!("`{program}`, which makes it, is not there either (docs/RUST.md)")));
+            return Err(no(&format!("`{program}`, which makes it, is not there either (README.md)")));
         }
     }
     let log = PathBuf::from(env::var_os("OUT_DIR").expect("cargo sets it")).join("make.log");
