@@ -1,6 +1,7 @@
 -- Patterns whose matches begin with needles: no match begins where no needle occurs.
 use Rattle.std.proofs.Common.{ℕ, ◌≡◌, ◌+◌, ◌<◌, ◌≤◌, List, [], ◌∷◌, ◌++◌, All, Bor, None, false, true, true≢false}
-use Rattle.std.proofs.Common.{Option, Some, IfSome, refl, sym, ap, ◌∙◌, subst, arith, length, map, take, get_or, add-one}
+use Rattle.std.proofs.Common.{Option, Some, IfSome, refl, sym, ap, ◌∙◌, subst, arith, length, map}
+use Rattle.std.proofs.Common.{take, get_or, add-one}
 use Rattle.std.specs.Prelude.{Vec}
 use Rattle.std.specs.declared.alloc.Global.{Global}
 use Rattle.std.proofs.lemmas.List.{map-append}
@@ -26,7 +27,7 @@ use Rattle.regex_automata.specs.Regexes.SoundPairs.{forward_engine}
 use Rattle.regex_automata.specs.declared.hybrid.regex.Regex.{Regex}
 use Rattle.meaning.specs.Patterns.{any_of}
 use Rattle.meaning.specs.Translated.{joined_engine}
-use Rattle.prefilters.specs.Needles.{AllStartWith, BeginsWith}
+use Rattle.prefilters.specs.Needles.{AllStartWith, BeginsAtNeedle}
 use Rattle.prefilters.specs.Skipping.{IsLazy, NoneBeginsAt}
 use Rattle.prefilters.proofs.Joining.{needles_grow, needles_join}
 use Rattle.prefilters.proofs.Meaning.{meaning_none, needles_none}
@@ -63,7 +64,7 @@ module _ (regex : Regex) (needles : List (List ℕ)) (plain : IsSkipping (forwar
   not_ascii only = absurd (true≢false (sym only ∙ has.3))
 
   -- the regex answers as the joined engine, where no match begins by what the patterns mean
-  pub begins_with : BeginsWith (forward_engine regex) needles
+  pub begins_with : BeginsAtNeedle (forward_engine regex) needles
   begins_with hay e s p bytes within short nowhere at l k =
       anchored_none (forward_engine regex) hay e at plain upto
       (subst (λ d. IsAnswer Forward d (anchored hay at e) None) (sym own)

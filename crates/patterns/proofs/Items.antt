@@ -51,7 +51,8 @@ module _ (p : Pattern) (old new : Cache) (hay : List ℕ) (last : Option ℕ) wh
   pub gives_none : (ended : Bool) → ended ≡ false → {o : Option Match} → o ≡ None → IsNextMeant p.regex hay last o →
       GivesMatch p old new hay None last last ended true
   gives_none true on is next = open_is on
-  gives_none false on is next = (subst (λ v. IsNextMeant p.regex hay last v) is next, record { place = refl; over = refl })
+  gives_none false on is next =
+      (subst (λ v. IsNextMeant p.regex hay last v) is next, record { place = refl; over = refl })
 
   pub gives_error : (ended : Bool) (e : SearchError) → ended ≡ false → FailsNext p old new hay last e →
       GivesMatch p old new hay (Some (Err e)) last last ended true

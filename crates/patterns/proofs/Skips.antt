@@ -1,6 +1,7 @@
 -- A search that begins at a later offset, before which no match begins, finds what one from the start finds.
 use Rattle.std.proofs.Common.{ℕ, suc, ◌≡◌, ◌<◌, ◌≤◌, List, Option, Bool, false, is_some, length, option_map}
-use Rattle.std.proofs.Common.{Some, None, inl, inr, refl, sym, ap, ap₂, ◌∙◌, subst, arith, get_or, ⊎_elim, eq-or-lt_of_le}
+use Rattle.std.proofs.Common.{Some, None, inl, inr, refl, sym, ap, ap₂, ◌∙◌, subst}
+use Rattle.std.proofs.Common.{arith, get_or, ⊎_elim, eq-or-lt_of_le}
 use Rattle.std.specs.Prelude.{Result, Ok, Err, IfErr, IfOk, IfSome}
 use Rattle.std.specs.Option.{unwrap_or}
 use Rattle.std.specs.Result.{result_err}
@@ -24,14 +25,14 @@ use Rattle.regex_automata.specs.Spans.OfPaths.{MatchesAreSpans}
 use Rattle.regex_automata.specs.Spans.Runs.{IsNextRun}
 use Rattle.regex_automata.specs.declared.hybrid.regex.caches.Cache.{Cache}
 use Rattle.meaning.specs.Patterns.{end_of, find_any, numbered_match}
-use Rattle.prefilters.specs.Needles.{BeginsWith, SkipsTo}
+use Rattle.prefilters.specs.Needles.{BeginsAtNeedle, SkipsTo}
 use Rattle.prefilters.specs.Skipping.{IsLazy, MovesAnswer}
 use Rattle.prefilters.proofs.Answering.{answer_moves, span_moves, truth_moves}
 use Rattle.prefilters.proofs.Nowhere.{none_found}
 use Rattle.patterns.specs.Iteration.{IsNextMeant, rest_of}
 use Rattle.patterns.specs.Patterns.{IsFor, IsRegexOf}
 use Rattle.patterns.specs.Searches.{IsNextSearch, ReadsNothing}
-use Rattle.patterns.specs.Searches.{IsBegin, IsSearched, SearchesAll, SearchesFrom, SearchesNothing, rest_from}
+use Rattle.patterns.specs.Searches.{IsBegin, IsSearchedFrom, SearchesAll, SearchesFrom, SearchesNothing, rest_from}
 use Rattle.patterns.specs.declared.compile.Options.{Options}
 use Rattle.patterns.specs.declared.pattern.Pattern.{Pattern}
 use Rattle.patterns.proofs.Searching.{end_means, find_means, next_means, truth_is_meant}
@@ -39,7 +40,7 @@ use Rattle.patterns.proofs.Searching.{end_means, find_means, next_means, truth_i
 -- where a prefilter skips to, a search may begin
 pub skips :
     (p : Pattern) (needles : List (List ℕ)) (hay : List ℕ) (start : ℕ) (found : Option ℕ) → p.prefilter ≡ Some needles
-    → IsLazy (forward_engine p.regex) → BeginsWith (forward_engine p.regex) needles → IsHaystack hay
+    → IsLazy (forward_engine p.regex) → BeginsAtNeedle (forward_engine p.regex) needles → IsHaystack hay
     → start ≤ length hay → SkipsTo hay needles start (length hay) found → IsBegin p hay start found
 skips p needles hay start None has lazy begins bytes within none = (
   λ no. absurd (cc),
@@ -66,18 +67,18 @@ skips p needles hay start (Some at) has lazy begins bytes within to = inr (
 -- how it is searched then
 pub searched_from :
     {Searches : ℕ → Type 0} {FindsNone : Type 0} (p : Pattern) (hay : List ℕ) (start at : ℕ)
-    → IsBegin p hay start (Some at) → Searches at → IsSearched p hay start Searches FindsNone
+    → IsBegin p hay start (Some at) → Searches at → IsSearchedFrom p hay start Searches FindsNone
 searched_from {Searches = Searches} p hay start at (inl e) s = SearchesAll (subst Searches e s)
 searched_from p hay start at (inr b) s = SearchesFrom b.0 at b.1 s
 
 pub searched_nothing :
     {Searches : ℕ → Type 0} {FindsNone : Type 0} (p : Pattern) (hay : List ℕ) (start : ℕ)
-    → IsBegin p hay start None → FindsNone → IsSearched p hay start Searches FindsNone
+    → IsBegin p hay start None → FindsNone → IsSearchedFrom p hay start Searches FindsNone
 searched_nothing p hay start b none = SearchesNothing b.0 b.1 none
 
 pub searched_as :
     {S T : ℕ → Type 0} {M N : Type 0} (p : Pattern) (hay : List ℕ) (start : ℕ) → ((at : ℕ) → S at → T at)
-    → (M → N) → IsSearched p hay start S M → IsSearched p hay start T N
+    → (M → N) → IsSearchedFrom p hay start S M → IsSearchedFrom p hay start T N
 searched_as p hay start f g (SearchesAll s) = SearchesAll (f start s)
 searched_as p hay start f g (SearchesFrom has at may s) = SearchesFrom has at may (f at s)
 searched_as p hay start f g (SearchesNothing has may none) = SearchesNothing has may (g none)
@@ -172,7 +173,7 @@ pub next_searched :
     → IsNextRun p.regex (rest_from hay at) last old new (result_err r)
     → IfErr r (IsNextError p.regex old new (rest_from hay at) last) → IsNextSearch p hay last old new r
 next_searched p hay start at last old new r begin b run fails =
-    subst (λ v. IsSearched p hay v (Runs p hay last old new r) (ReadsNothing None old new r)) begin
+    subst (λ v. IsSearchedFrom p hay v (Runs p hay last old new r) (ReadsNothing None old new r)) begin
     (searched_from p hay start at b (run, fails))
 
 pub next_unsearched :
@@ -180,7 +181,7 @@ pub next_unsearched :
     (r : Result (Option Match) SearchError) → start ≡ unwrap_or last 0 → IsBegin p hay start None
     → ReadsNothing None old new r → IsNextSearch p hay last old new r
 next_unsearched p hay start last old new r begin b none =
-    subst (λ v. IsSearched p hay v (Runs p hay last old new r) (ReadsNothing None old new r)) begin
+    subst (λ v. IsSearchedFrom p hay v (Runs p hay last old new r) (ReadsNothing None old new r)) begin
     (searched_nothing p hay start b none)
 
 -- So what is found is what the patterns mean, for every meaning that the regex has.

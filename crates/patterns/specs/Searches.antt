@@ -38,19 +38,19 @@ rest_from hay at = span_input hay at (length hay)
 
 -- what a search of the haystack from `start` on does: the patterns have needles or not, and `Searches at` says what a
 -- search without needles does from offset `at` on
-pub data IsSearched (pattern : Pattern) (hay : List ℕ) (start : ℕ) (Searches : (at : ℕ) → Type 0)
+pub data IsSearchedFrom (pattern : Pattern) (hay : List ℕ) (start : ℕ) (Searches : (at : ℕ) → Type 0)
     (FindsNone : Type 0) : Type 0 where
   -- it is the search without needles
-  SearchesAll : Searches start → IsSearched pattern hay start Searches FindsNone
+  SearchesAll : Searches start → IsSearchedFrom pattern hay start Searches FindsNone
   -- there are needles: it is the search from a later offset on, before which no match begins
   SearchesFrom :
       (pattern.prefilter ≡ None → ⊥) → (at : ℕ)
       → MaySkipTo (forward_engine pattern.regex) (rest_from hay start) at → Searches at
-      → IsSearched pattern hay start Searches FindsNone
+      → IsSearchedFrom pattern hay start Searches FindsNone
   -- there are needles, and no match begins in the rest of the haystack: it finds none
   SearchesNothing :
       (pattern.prefilter ≡ None → ⊥) → MaySkipAll (forward_engine pattern.regex) (rest_from hay start) → FindsNone
-      → IsSearched pattern hay start Searches FindsNone
+      → IsSearchedFrom pattern hay start Searches FindsNone
 
 -- where a search begins that uses needles: at `start`, or at a later offset; none if no match begins there or later
 abbrev pub IsBegin : Pattern → List ℕ → (start : ℕ) → Option ℕ → Type 0
@@ -65,9 +65,10 @@ abbrev pub ReadsNothing : {A : Type 0} → A → (old new : Cache) → Result A 
 ReadsNothing nothing old new result = (result ≡ Ok nothing) × (new ≡ old)
 
 -- a search for a span: what it returns, and what it does to the caches
-abbrev pub IsSpanSearch : Pattern → List ℕ → (start : ℕ) → (old new : Cache) → Result (Option Match) SearchError → Type 0
+abbrev pub IsSpanSearch :
+    Pattern → List ℕ → (start : ℕ) → (old new : Cache) → Result (Option Match) SearchError → Type 0
 IsSpanSearch pattern hay start old new result =
-    IsSearched pattern hay start
+    IsSearchedFrom pattern hay start
     (λ at.
     IsSpanOf pattern.regex (rest_from hay at) result
     × IsSpanRun pattern.regex (rest_from hay at) old new (result_err result))
@@ -76,7 +77,7 @@ IsSpanSearch pattern hay start old new result =
 -- a search for whether there is a match
 abbrev pub IsTruthSearch : Pattern → List ℕ → (old new : Cache) → Result Bool SearchError → Type 0
 IsTruthSearch pattern hay old new result =
-    IsSearched pattern hay 0
+    IsSearchedFrom pattern hay 0
     (λ at.
     IsTruthOf pattern.regex (rest_from hay at) result
     × IsTruthRun pattern.regex (rest_from hay at) old new (result_err result))
@@ -86,7 +87,7 @@ IsTruthSearch pattern hay old new result =
 abbrev pub IsEndSearch :
     Pattern → List ℕ → (start : ℕ) → (old new : Cache) → Result (Option HalfMatch) SearchError → Type 0
 IsEndSearch pattern hay start old new result =
-    IsSearched pattern hay start
+    IsSearchedFrom pattern hay start
     (λ at.
     IsHalf Forward pattern.regex.forward (rest_from hay at) result
     × IsSearchRun Forward pattern.regex.forward (rest_from hay at) (known_of old.forward) (known_of new.forward)
@@ -97,7 +98,7 @@ IsEndSearch pattern hay start old new result =
 abbrev pub IsNextSearch :
     Pattern → List ℕ → (last : Option ℕ) → (old new : Cache) → Result (Option Match) SearchError → Type 0
 IsNextSearch pattern hay last old new result =
-    IsSearched pattern hay (unwrap_or last 0)
+    IsSearchedFrom pattern hay (unwrap_or last 0)
     (λ at.
     IsNextRun pattern.regex (rest_from hay at) last old new (result_err result)
     × IfErr result (IsNextError pattern.regex old new (rest_from hay at) last))
@@ -106,7 +107,7 @@ IsNextSearch pattern hay last old new result =
 -- why a search for the match after one that ended at `last` fails
 abbrev pub FailsNext : Pattern → (old new : Cache) → List ℕ → (last : Option ℕ) → SearchError → Type 0
 FailsNext pattern old new hay last error =
-    IsSearched pattern hay (unwrap_or last 0)
+    IsSearchedFrom pattern hay (unwrap_or last 0)
     (λ at. IsNextError pattern.regex old new (rest_from hay at) last error) ⊥
 
 -- the search for an item of an iteration; nothing changes once the iteration has ended
@@ -115,6 +116,6 @@ abbrev pub IsItemSearch :
     → Type 0
 IsItemSearch pattern hay last true old new item = new ≡ old
 IsItemSearch pattern hay last false old new item =
-    IsSearched pattern hay (unwrap_or last 0)
+    IsSearchedFrom pattern hay (unwrap_or last 0)
     (λ at. IsNextRun pattern.regex (rest_from hay at) last old new (item_error item))
     ((item ≡ None) × (new ≡ old))

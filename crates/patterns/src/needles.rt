@@ -35,8 +35,8 @@ fn needles_of(alloc: Global, texts: &[&str], options: &Options) -> Result<Option
     Ok(Some(needles))
 }
 
-/// Whether a search for needles pays: for one, or for two that begin with different bytes. More of them are looked up in
-/// tables, which takes longer than a lazy DFA does, unless the processor can look up sixteen bytes at once.
+/// Whether a search for needles pays: for one, or for two that begin with different bytes. More of them are looked up
+/// in tables, which takes longer than a lazy DFA does, unless the processor can look up sixteen bytes at once.
 fn is_fast(needles: &[Vec<u8>]) -> bool {
     match needles.len() {
         1 => true,

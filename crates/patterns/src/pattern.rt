@@ -10,7 +10,7 @@ ghost use Rattle.regex_automata.specs.Promises.{AreCachesOf, IsSoundPair, forwar
 ghost use Rattle.regex_automata.specs.Regexes.Builds.{BuildsOne, IsBuildError};
 ghost use Rattle.regex_automata.specs.Regexes.Caches.{AreFresh};
 ghost use Rattle.meaning.specs.Patterns.{end_of, find_any, numbered_match, span_input};
-ghost use Rattle.prefilters.specs.Needles.{BeginsWith};
+ghost use Rattle.prefilters.specs.Needles.{BeginsAtNeedle};
 ghost use Rattle.prefilters.specs.Skipping.{IsLazy};
 ghost use Rattle.patterns.specs.Faults.{IsPatternFault};
 ghost use Rattle.patterns.specs.Patterns.{IsBuiltOf, IsFor, IsJoinedNfa, IsRegexOfTexts, IsRegexOf};
@@ -38,7 +38,7 @@ pub struct Pattern {
     pub regex: Regex,
     prefilter: Option<Prefilter>,
     ghost begins: { (needles : List (List ℕ)) → prefilter ≡ Some needles
-        → BeginsWith (forward_engine regex) needles },
+        → BeginsAtNeedle (forward_engine regex) needles },
 }
 
 // With its own `drop`, the proof of an owner has one step for it instead of one for each part.

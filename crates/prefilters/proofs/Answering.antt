@@ -1,5 +1,6 @@
 -- A search over the whole span selects, answers and finds what one does that begins later.
-use Rattle.std.proofs.Common.{ℕ, zero, suc, ◌≡◌, ◌<◌, ◌≤◌, ◌+◌, ◌-◌, Bool, true, false, List, ◌⊎◌, Option, Some, None, is_some}
+use Rattle.std.proofs.Common.{ℕ, zero, suc, ◌≡◌, ◌<◌, ◌≤◌, ◌+◌, ◌-◌, Bool, true, false, List, ◌⊎◌}
+use Rattle.std.proofs.Common.{Option, Some, None, is_some}
 use Rattle.std.proofs.Common.{inl, inr, refl, sym, ap, ◌∙◌, subst, arith, ⊎_elim}
 use Rattle.std.proofs.lemmas.Bool.{cases_lt}
 use Rattle.automata_base.specs.Paths.Selections.{Pair, Selects}
@@ -9,8 +10,9 @@ use Rattle.automata_base.specs.Haystacks.Matches.{Match}
 use Rattle.automata_base.specs.declared.util.search.Direction.TheVariants.{Forward}
 use Rattle.automata_base.specs.declared.util.search.Anchored.TheVariants.{No}
 use Rattle.automata_base.specs.Nfas.Engines.{Engine, IsSkipping, first_state}
-use Rattle.automata_base.specs.Answers.Answers.{Half, HasAnswerAt, HasNoAnswerAt, IsAnswer, IsFirstSpan, IsSplit, SelectsFrom}
-use Rattle.automata_base.specs.Answers.Answers.{SelectsOver, SkipsToIt, SpanIsDone, SpanReportsNone, StopsAtSplit, Tries}
+use Rattle.automata_base.specs.Answers.Answers.{Half, HasAnswerAt, HasNoAnswerAt, IsAnswer, IsFirstSpan, IsSplit}
+use Rattle.automata_base.specs.Answers.Answers.{SelectsFrom, SelectsOver, SkipsToIt, SpanIsDone, SpanReportsNone}
+use Rattle.automata_base.specs.Answers.Answers.{StopsAtSplit, Tries}
 use Rattle.automata_base.specs.Answers.Spans.{Chooses, IsMatch, IsPathStart, IsSpan, from, in_full}
 use Rattle.automata_base.proofs.Answers.Tried.{tries_on}
 use Rattle.automata_base.proofs.Answers.Backs.{forward_bytes, end_inside}

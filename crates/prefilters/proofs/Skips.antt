@@ -1,5 +1,6 @@
 -- Where a search for needles may begin, by what the beginning of the haystack has.
-use Rattle.std.proofs.Common.{ℕ, suc, ◌≡◌, ◌+◌, ◌-◌, ◌<◌, ◌≤◌, ◌⊎◌, List, inl, inr, length, take, arith, refl, subst, ⊎_elim}
+use Rattle.std.proofs.Common.{ℕ, suc, ◌≡◌, ◌+◌, ◌-◌, ◌<◌, ◌≤◌, ◌⊎◌, List, inl, inr, length, take}
+use Rattle.std.proofs.Common.{arith, refl, subst, ⊎_elim}
 use Rattle.std.specs.Prelude.{Option, None, Some, min}
 use Rattle.std.proofs.lemmas.Bool.{cases_lt}
 use Rattle.std.proofs.lemmas.List.{length-take}

@@ -27,14 +27,15 @@ abbrev pub AllStartWith : List Re → (needles : List (List ℕ)) → Type 0
 AllStartWith res needles = All (λ re. StartsWithNeedle re needles) res
 
 -- where no needle occurs, no match begins, wherever the span ends
-abbrev pub BeginsWith : Engine → (needles : List (List ℕ)) → Type 0
-BeginsWith d needles =
+abbrev pub BeginsAtNeedle : Engine → (needles : List (List ℕ)) → Type 0
+BeginsAtNeedle d needles =
     (hay : List ℕ) (e s p : ℕ) → IsHaystack hay → e ≤ length hay → p ≤ suc e → NoneOccurs hay needles s p
     → NoneBegins d hay e s p
 
 -- If every match of each pattern begins with a needle, so does every match of their alternation.
 abbrev pub NeedlesJoin : Type 0
-NeedlesJoin = (res : List Re) (needles : List (List ℕ)) → AllStartWith res needles → StartsWithNeedle (any_of res) needles
+NeedlesJoin =
+    (res : List Re) (needles : List (List ℕ)) → AllStartWith res needles → StartsWithNeedle (any_of res) needles
 
 -- More needles may be added.
 abbrev pub NeedlesGrow : Type 0

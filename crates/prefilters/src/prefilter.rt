@@ -65,8 +65,8 @@ impl Prefilter {
     }
 
     /// Returns the first offset of the span `start..end`, its end included, at which a needle occurs; none if there is
-    /// no such offset. If it reads many bytes that only look like needles, it gives up, and returns an offset before the
-    /// first needle. It reads no bytes after the span but those of a needle that begins in it.
+    /// no such offset. If it reads many bytes that only look like needles, it gives up, and returns an offset before
+    /// the first needle. It reads no bytes after the span but those of a needle that begins in it.
     pub fn skip(&self, hay: &[u8], start: usize, end: usize) -> Option<usize>
         requires span { start ≤ end }
         requires within { end ≤ length hay.now }

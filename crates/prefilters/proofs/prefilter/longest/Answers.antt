@@ -15,8 +15,10 @@ loop-needle-preserved c =
     ∙ ap (λ v. v.items) (sym c.needle-item.is) in
     let len = c.len.ensures in
     let most : (l.longest ≤ new) × (length needle.items ≤ new) = (elim c.if-len-longest.branch [
-      | then-len-longest w ↦ (let i = w.longest-is in let t = w.if-len-longest.true in let e = w.len-longest.ensures in (omega (arith, i, t, e, len), omega (arith, i, e)))
-      | else-len-longest w ↦ (let i = w.longest-is in let t = w.if-len-longest.false in (omega (arith, i), omega (arith, i, t, len)))
+      | then-len-longest w ↦ (let i = w.longest-is in let t = w.if-len-longest.true in let e = w.len-longest.ensures in
+          (omega (arith, i, t, e, len), omega (arith, i, e)))
+      | else-len-longest w ↦ (let i = w.longest-is in let t = w.if-len-longest.false in
+          (omega (arith, i), omega (arith, i, t, len)))
     ]) in
     below_more (λ n. length (needle_at all n) ≤ new) l.needle-index
     (λ n lt. let at = l.invariant n lt in let m : l.longest ≤ new = most.0 in omega (arith, at, m))

@@ -12,7 +12,8 @@ returns-in-Ok-Some-clause-steps c =
     let s = c.args.self.now in
     let p = s.pattern.now in
     let goes =
-    given (GoesPast p.regex (rest_of s.haystack.now s.last) s.last) c.in-Ok-Some.field-0-is c.in-Ok-Some.ensures.past in (
+    given (GoesPast p.regex (rest_of s.haystack.now s.last) s.last) c.in-Ok-Some.field-0-is
+    c.in-Ok-Some.ensures.past in (
       gives_match p s.cache.now c.next_match.new.cache s.haystack.now s.last s.ended
           c.in-Ok-Some.found c.end.result c.if-self.false
           c.in-Ok-Some.field-0-is c.in-Ok-Some.ensures.found goes.0 c.end.ensures.end,

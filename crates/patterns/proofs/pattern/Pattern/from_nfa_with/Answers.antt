@@ -21,11 +21,13 @@ returns-clause-meant c = λ res is.
     regex_is (overwritten unset c.unicode_word_boundary-config.result) c.args.options.now res c.args.nfa
     c.in_ok-regex.regex
     (ap match_kind_of (same c.args.config c.match_kind.result c.unicode_word_boundary-config.result c.args.options.now
-    c.match_kind.ensures c.unicode_word_boundary-config.ensures)) is c.in_ok-regex.ensures.built c.in_ok-regex.ensures.sound
+    c.match_kind.ensures c.unicode_word_boundary-config.ensures)) is c.in_ok-regex.ensures.built
+    c.in_ok-regex.ensures.sound
 
 pub returns-clause-built : goal.returns-clause-built
 returns-clause-built c =
-    subst (λ (o : Options). BuildsOne o c.args.nfa c.in_ok-regex.regex) (same c.args.config c.match_kind.result c.unicode_word_boundary-config.result c.args.options.now
+    subst (λ (o : Options). BuildsOne o c.args.nfa c.in_ok-regex.regex)
+    (same c.args.config c.match_kind.result c.unicode_word_boundary-config.result c.args.options.now
     c.match_kind.ensures c.unicode_word_boundary-config.ensures) c.in_ok-regex.ensures.built
 
 pub returns-in_err-regex-clause-refused : goal.returns-in_err-regex-clause-refused
