@@ -4,7 +4,8 @@ use Rattle.std.proofs.Common.{length, Bool, true, false, cond, Option, None, Som
 use Rattle.std.proofs.Common.{append-nil, length-set}
 use Rattle.automata_hybrid.proofs.Words.{after_event, Anchored, cleared, cost, counted, dead, Event, fits, has_state}
 use Rattle.automata_hybrid.proofs.Words.{is_cached, is_some, Known, Machine, made, match_kind_of, option_map, Powerset}
-use Rattle.automata_hybrid.proofs.Words.{powerset_eq, powerset_eq-Decides, quits_on, Row, row_cost, row_in, rows_of_starts}
+use Rattle.automata_hybrid.proofs.Words.{powerset_eq, powerset_eq-Decides, quits_on, Row, row_cost, row_in}
+use Rattle.automata_hybrid.proofs.Words.{rows_of_starts}
 use Rattle.automata_hybrid.proofs.Words.{saturated, Searched, slice_get, slot_behind, Start, start_row, start_state_of}
 use Rattle.automata_hybrid.proofs.Words.{StartError, Step, StepError, successor, unit_class, unwrap_or, usage}
 use Rattle.automata_hybrid.proofs.Words.{with_new_row, with_row, ◌&&◌, ◌||◌}
