@@ -10,8 +10,8 @@
 # With --clean-root all of it is installed in a new Debian root, which mmdebstrap makes, and used there
 # (dist/clean_root.sh); that takes root and Debian's packages, and some minutes.
 #
-# Archive and program are those that `make -C bindings/c` and `rt ci` prove and build here. ARCHIVE and PROGRAM name
-# others, which BUILD calls not proved. It needs rt, make, cc, binutils and dpkg-deb, and git, for the commit.
+# The archive is the one that `rt lib` proves and builds, and the program the one that `rt ci` does. ARCHIVE and PROGRAM
+# name others; BUILD then says that the archive was not proved by this call. It needs rt, make, cc, binutils and dpkg-deb, and git, for the commit.
 set -euo pipefail
 tools=$(cd "$(dirname "$0")" && pwd)
 top=$(dirname "$tools")
@@ -130,7 +130,7 @@ make_python() {
 
 if [ -n "${ARCHIVE:-}" ]; then
     archive=$(realpath "$ARCHIVE")
-    proved=no
+    proved="not by this call"
 else
     (cd "$top/crates/lazydfa_c" && rt lib >&2)
     archive=$top/crates/lazydfa_c/out/liblazydfa_c.a

@@ -1,13 +1,15 @@
 #!/bin/bash
 # Makes a release twice and compares the two, and builds a program with the tarball:
 #     tools/dist_test.sh ['N passed, M failed']
-# The release is of the library for C and the programs that are built here. The last line counts the tests, added to
-# those that the given line counts. `tools/dist.sh FOLDER --clean-root` tests a release in a new Debian root.
+# The release is of the library that is built in bindings/c, and of the programs that are built here. The last line
+# counts the tests, added to those that the given line counts. `tools/dist.sh FOLDER --clean-root` tests a release in a
+# new Debian root.
 set -u
 top=$(cd "$(dirname "$0")/.." && pwd)
 room=$(mktemp -d)
 trap 'rm -rf "$room"' EXIT
 read -r passed _ failed _ <<<"${1:-0 passed, 0 failed}"
+export ARCHIVE=${ARCHIVE:-$top/bindings/c/out/liblazydfa.a}
 
 # Counts a test, which passed if the command succeeds.
 test_that() { # NAME COMMAND..
@@ -31,8 +33,8 @@ has_sums() {
     cd "$room/lazydfa" && sha256sum -c --quiet SHA256SUMS
 }
 
-says_proved() {
-    grep '^proved yes$' "$room/lazydfa/share/doc/lazydfa/BUILD"
+names_archive() {
+    grep -q "^archive $(sha256sum <"$ARCHIVE" | cut -d ' ' -f 1)$" "$room/lazydfa/share/doc/lazydfa/BUILD"
 }
 
 packages_crate() {
@@ -49,7 +51,7 @@ else
     mkdir "$room/lazydfa"
     test_that "the tarball" tar -C "$room/lazydfa" --strip-components=1 -xf "$room"/first/lazydfa-*-linux.tar.gz
     test_that "its sums" has_sums
-    test_that "its archive is proved" says_proved
+    test_that "what it is made of" names_archive
     test_that "a program with the archive" prints_words "$room/lazydfa/lib/liblazydfa.a"
     test_that "a program with the shared library" prints_words "$room/lazydfa/lib/liblazydfa.so"
     if command -v cargo >/dev/null; then test_that "the Rust crate as a package" packages_crate; fi
