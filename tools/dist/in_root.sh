@@ -54,12 +54,13 @@ use_library() { # NAME GUIDE [RPATH]
 }
 
 use_tarball() {
-    mkdir -p /opt/lazydfa && tar -xf lazydfa-*-x86_64-linux.tar.gz -C /opt/lazydfa --strip-components=1
-    prints "the sums of the tarball" "" sh -c 'cd /opt/lazydfa && sha256sum -c --quiet SHA256SUMS'
-    export PKG_CONFIG_PATH=/opt/lazydfa/lib/pkgconfig CMAKE_PREFIX_PATH=/opt/lazydfa
-    use_library tarball /opt/lazydfa/share/doc/lazydfa/C.md /opt/lazydfa/lib
+    unpacked=$(mktemp -d)
+    tar -xf lazydfa-*-x86_64-linux.tar.gz -C "$unpacked" --strip-components=1
+    prints "the sums of the tarball" "" sh -c "cd $unpacked && sha256sum -c --quiet SHA256SUMS"
+    export PKG_CONFIG_PATH=$unpacked/lib/pkgconfig CMAKE_PREFIX_PATH=$unpacked
+    use_library tarball "$unpacked/share/doc/lazydfa/C.md" "$unpacked/lib"
     unset PKG_CONFIG_PATH CMAKE_PREFIX_PATH
-    rm -rf /opt/lazydfa
+    rm -rf "$unpacked"
 }
 
 use_packages() {

@@ -247,7 +247,7 @@ static void quit_bytes(void) {
     }
 }
 
-/* Builds a regex of so many rules, which is closed again, and returns the status. */
+/* Builds a regex of this many rules, closes it, and returns the status of the build. */
 static lazydfa_status build_rules(size_t many, const lazydfa_settings *settings, char *message, size_t room) {
     static lazydfa_text texts[10000];
     static char rules[10000][40];
