@@ -31,7 +31,7 @@ pub fn merged_answers_alike()
 {}
 
 /// An NFA that `anchored` returns gives the same answers as the given one: if its matches begin only at the start of a
-/// haystack, what the lazy loop skips is no part of an accepting path. The accepting paths end at the same offsets, and
+/// haystack, an accepting path skips no byte in the lazy loop. The accepting paths end at the same offsets, and
 /// the NFA keeps the UTF-8 promise exactly if the given one does.
 pub fn anchored_answers_alike()
     ensures answers { AnchoredAnswerAlike }

@@ -51,9 +51,9 @@ abbrev pub lead_on : List Edge → Bool
 lead_on es = list_all (λ e. is_state e.next) es
 
 -- the result of the library's call, with its error as a status
-abbrev pub told_by : {A : Type 0} → Result A BuildError → Result A Status
-told_by (Ok a) = Ok a
-told_by (Err e) = Err (builder_status e)
+abbrev pub answer_of_build : {A : Type 0} → Result A BuildError → Result A Status
+answer_of_build (Ok a) = Ok a
+answer_of_build (Err e) = Err (builder_status e)
 
 -- what the library's call that adds a state of this group does: a group that is too large is an error
 abbrev pub AddsGroup : (group : ℕ) → (shape : ℕ → Shape) → Draft → Draft → Result ℕ BuildError → Type 0
@@ -104,7 +104,7 @@ has_list (add.UnanchoredPrefix start) = false
 
 -- the library's call is made, and its result is returned with the error as a status
 abbrev pub IsPassed : {A : Type 0} → (Does : Result A BuildError → Type 0) → Result A Status → Type 0
-IsPassed {A = A} Does result = (r : Result A BuildError) × Does r × (result ≡ told_by r)
+IsPassed {A = A} Does result = (r : Result A BuildError) × Does r × (result ≡ answer_of_build r)
 
 -- the builder is unchanged, and this status is returned
 abbrev pub RefusesWith : Status → Draft → Draft → Result ℕ Status → Type 0
@@ -184,7 +184,7 @@ Becomes wanted c result = (c ≡ wanted) × (result ≡ Ok 0)
 -- a state is patched, and the value of the result is 0
 abbrev pub IsPatched : (from to : ℕ) → Draft → Draft → Result ℕ Status → Type 0
 IsPatched from to b c result =
-    (r : Result (Unit {0}) BuildError) × Patches from to b c r × (result ≡ told_by (zeroed r))
+    (r : Result (Unit {0}) BuildError) × Patches from to b c r × (result ≡ answer_of_build (zeroed r))
 
 -- the builder is changed, and the value of the result is the pattern that the change starts or finishes, or else 0
 abbrev pub Changes : Change → Draft → Draft → Result ℕ Status → Type 0

@@ -143,7 +143,7 @@ pub data IsCutError (bytes lengths : List ℕ) (old new : Refusal) (status : Sta
 
 -- why texts have no NFA, and what is reported of it
 pub data LacksNfa (reading : Reading) (bytes lengths : List ℕ) (old new : Report) (status : Status) : Type 0 where
-  -- they are not split; there is no message
+  -- they are not split; the message is empty
   CannotCut :
       IsCutError bytes lengths old.refusal new.refusal status → new.message ≡ old.message
       → LacksNfa reading bytes lengths old new status
@@ -228,11 +228,11 @@ pub record WritesMessage (message old new : List ℕ) : Type 0 where
 -- `lazydfa_regex_new` and `lazydfa_regex_any_of`
 pub record BuildsAnyOf (settings : Settings) (quits : List ℕ) (options : TextOptions) (bytes lengths : List ℕ)
     (old new : Handle) (refusal : Refusal) (before after : List ℕ) (status : Status) : Type 0 where
-  -- before the call nothing is to be reported
+  -- nothing is to be reported before the call
   pub from : Report
   -- no text has an error yet
   pub none : from.refusal ≡ none_refused
-  -- there is no message yet
+  -- the message is empty so far
   pub empty : string_bytes from.message ≡ []
   -- what is reported after it
   pub to : Report
@@ -241,4 +241,5 @@ pub record BuildsAnyOf (settings : Settings) (quits : List ℕ) (options : TextO
   -- it is opened on the regex of the texts, or is unchanged
   pub builds : BuildsTexts settings quits options bytes lengths old new from to done
   -- the refusal, the message and the status are written
-  pub told : (refusal ≡ to.refusal) × WritesMessage (string_bytes to.message) before after × (status ≡ done_status done)
+  pub reported :
+    (refusal ≡ to.refusal) × WritesMessage (string_bytes to.message) before after × (status ≡ done_status done)

@@ -3,7 +3,7 @@ ghost use Rattle.std.specs.Prelude.{◌≡◌, ◌⊎◌, ◌==◌, not, IfErr, 
 ghost use Rattle.automata_base.specs.Haystacks.LookSets.{nth_look};
 ghost use Rattle.lazydfa_c.specs.Drafts.{AddsToHandle, AddsTo, Changes, ChangesDraft, ChangesPattern, CreatesDraft};
 ghost use Rattle.lazydfa_c.specs.Drafts.{IsNumberTold, NewsDraft, OfBuilder, OfDraft, OpensDraft, are_states};
-ghost use Rattle.lazydfa_c.specs.Drafts.{is_state, lead_on, state_of, told_by, transition_of, zeroed};
+ghost use Rattle.lazydfa_c.specs.Drafts.{answer_of_build, is_state, lead_on, state_of, transition_of, zeroed};
 ghost use Rattle.lazydfa_c.specs.Statuses.{plain};
 ghost use Rattle.lazydfa_c.specs.declared.builder.Added.TheVariants as add;
 ghost use Rattle.lazydfa_c.specs.declared.builder.Change.TheVariants as change;
@@ -114,8 +114,8 @@ fn look_of(number: u32) -> Result<Look, Status>
 }
 
 /// Returns the number of the state that a builder's call added, or the status of that call's error.
-fn told_state(answer: Result<StateID, BuildError>) -> Result<u32, Status>
-    ensures { result ≡ told_by answer }
+fn added_state(answer: Result<StateID, BuildError>) -> Result<u32, Status>
+    ensures { result ≡ answer_of_build answer }
 {
     match answer {
         Ok(id) => Ok(id.as_u32()),
@@ -124,8 +124,8 @@ fn told_state(answer: Result<StateID, BuildError>) -> Result<u32, Status>
 }
 
 /// Returns the number of the pattern that a builder's call started or finished, or the status of that call's error.
-fn told_pattern(answer: Result<PatternID, BuildError>) -> Result<u32, Status>
-    ensures { result ≡ told_by answer }
+fn added_pattern(answer: Result<PatternID, BuildError>) -> Result<u32, Status>
+    ensures { result ≡ answer_of_build answer }
 {
     match answer {
         Ok(pattern) => Ok(pattern.as_u32()),
@@ -134,8 +134,8 @@ fn told_pattern(answer: Result<PatternID, BuildError>) -> Result<u32, Status>
 }
 
 /// Returns zero for a builder's call that returns no number, or the status of that call's error.
-fn told_done(answer: Result<(), BuildError>) -> Result<u32, Status>
-    ensures { result ≡ told_by (zeroed answer) }
+fn patched(answer: Result<(), BuildError>) -> Result<u32, Status>
+    ensures { result ≡ answer_of_build (zeroed answer) }
 {
     match answer {
         Ok(()) => Ok(0),
@@ -150,26 +150,26 @@ fn add_to(alloc: Global, builder: &mut Builder, added: Added<'_>) -> Result<u32,
     ensures { AddsTo added.entry builder.old builder.new result }
 {
     match added {
-        Added::Empty => told_state(builder.add_empty()),
-        Added::Range(edge) => told_state(builder.add_range(transition(edge)?)),
-        Added::Sparse(edges) => told_state(builder.add_sparse(transitions(alloc, edges)?)),
+        Added::Empty => added_state(builder.add_empty()),
+        Added::Range(edge) => added_state(builder.add_range(transition(edge)?)),
+        Added::Sparse(edges) => added_state(builder.add_sparse(transitions(alloc, edges)?)),
         Added::Look { look, next } => {
-            told_state(builder.add_look(state_id(next)?, look_of(look)?))
+            added_state(builder.add_look(state_id(next)?, look_of(look)?))
         }
-        Added::Union(alternates) => told_state(builder.add_union(state_ids(alloc, alternates)?)),
+        Added::Union(alternates) => added_state(builder.add_union(state_ids(alloc, alternates)?)),
         Added::UnionReverse(alternates) => {
-            told_state(builder.add_union_reverse(state_ids(alloc, alternates)?))
+            added_state(builder.add_union_reverse(state_ids(alloc, alternates)?))
         }
         Added::CaptureStart { next, group } => {
-            told_state(builder.add_capture_start(state_id(next)?, group))
+            added_state(builder.add_capture_start(state_id(next)?, group))
         }
         Added::CaptureEnd { next, group } => {
-            told_state(builder.add_capture_end(state_id(next)?, group))
+            added_state(builder.add_capture_end(state_id(next)?, group))
         }
-        Added::Fail => told_state(builder.add_fail()),
-        Added::Match => told_state(builder.add_match()),
+        Added::Fail => added_state(builder.add_fail()),
+        Added::Match => added_state(builder.add_match()),
         Added::UnanchoredPrefix { start } => {
-            told_state(builder.add_unanchored_prefix(state_id(start)?))
+            added_state(builder.add_unanchored_prefix(state_id(start)?))
         }
     }
 }
@@ -235,12 +235,12 @@ fn change_to(builder: &mut Builder, change: Change) -> Result<u32, Status>
 {
     match change {
         Change::Clear => builder.clear(),
-        Change::StartPattern => return told_pattern(builder.start_pattern()),
+        Change::StartPattern => return added_pattern(builder.start_pattern()),
         Change::FinishPattern { start } => {
-            return told_pattern(builder.finish_pattern(state_id(start)?));
+            return added_pattern(builder.finish_pattern(state_id(start)?));
         }
         Change::Patch { from, to } => {
-            return told_done(builder.patch(state_id(from)?, state_id(to)?));
+            return patched(builder.patch(state_id(from)?, state_id(to)?));
         }
         Change::Utf8(yes) => builder.set_utf8(yes),
         Change::Reverse(yes) => builder.set_reverse(yes),

@@ -17,7 +17,7 @@ use Rattle.prefilters.specs.Skipping.{NoneBegins, NoneBeginsAt}
 abbrev pub NoneOccurs : List ℕ → (needles : List (List ℕ)) → (s p : ℕ) → Type 0
 NoneOccurs hay needles s p = Nowhere (AnyOccursAt hay needles) s p
 
--- the first offset from `s` to `e` at which a needle may occur: none occurs before it; or there is no such offset
+-- the first offset from `s` to `e` at which a needle may occur, as none occurs before it; or None
 abbrev pub SkipsTo : List ℕ → (needles : List (List ℕ)) → (s e : ℕ) → Option ℕ → Type 0
 SkipsTo hay needles s e None = NoneOccurs hay needles s (suc e)
 SkipsTo hay needles s e (Some p) = (s ≤ p) × (p ≤ e) × NoneOccurs hay needles s p

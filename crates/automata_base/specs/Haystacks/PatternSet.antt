@@ -27,7 +27,7 @@ pub record IsCounted (set : List Bool) (len : ℕ) : Type 0 where
   -- each member is a number that a pattern may have
   pub small : AreSmall set
 
--- So many members are at a flag or after it, each of which is a number that a pattern may have.
+-- The members from a flag on: how many they are, and that each is a number that a pattern may have.
 pub record AreLeft (set : List Bool) (at left : ℕ) : Type 0 where
   -- the number of these members
   pub counted : left ≡ length (members_from at (drop at set))

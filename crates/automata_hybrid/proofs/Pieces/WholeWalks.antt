@@ -52,7 +52,7 @@ module _ (m : Machine) (mode : Anchored) (earliest : Bool) (h : List ℕ) (plain
       → AreReportedBy m input (suc k) (pairs ++ at_place (0 + k) (state_in Forward m input (suc k)).patterns)
   more_reported k pairs r = reported_more Forward m input k pairs (λ skips. absurd (plain skips)) r
 
-  -- while no pattern matches, further units leave the list of pairs unchanged
+  -- units after which nothing matches leave the list of pairs unchanged
   silent_reported :
       (k n : ℕ) (pairs : List Pair) → HasNoMatch m input k (k + n) → AreReportedBy m input k pairs
       → AreReportedBy m input (k + n) pairs

@@ -13,8 +13,8 @@ returns-in_ok-state_id-in-CaptureStart c =
     let e = c.add_capture_start.ensures in
     let done =
     subst (λ (n : ℕ). AddsGroup group (λ p. CaptureShape n p group (2 * group)) b d r) is.1 (e.added, e.large) in
-    subst (λ (added : Added). AddsTo added b d c.told_state-in-CaptureStart.result) (sym c.in-CaptureStart.is)
-    (PassesState is.0 (r, done, c.told_state-in-CaptureStart.ensures))
+    subst (λ (added : Added). AddsTo added b d c.added_state-in-CaptureStart.result) (sym c.in-CaptureStart.is)
+    (PassesState is.0 (r, done, c.added_state-in-CaptureStart.ensures))
 
 pub returns-in_ok-state_id-in-CaptureEnd : goal.returns-in_ok-state_id-in-CaptureEnd
 returns-in_ok-state_id-in-CaptureEnd c =
@@ -24,5 +24,5 @@ returns-in_ok-state_id-in-CaptureEnd c =
     let e = c.add_capture_end.ensures in
     let done = subst (λ (n : ℕ). AddsGroup group (λ p. CaptureShape n p group (2 * group + 1)) b d r) is.1
     (e.added, e.large) in
-    subst (λ (added : Added). AddsTo added b d c.told_state-in-CaptureEnd.result) (sym c.in-CaptureEnd.is)
-    (PassesState is.0 (r, done, c.told_state-in-CaptureEnd.ensures))
+    subst (λ (added : Added). AddsTo added b d c.added_state-in-CaptureEnd.result) (sym c.in-CaptureEnd.is)
+    (PassesState is.0 (r, done, c.added_state-in-CaptureEnd.ensures))

@@ -21,5 +21,5 @@ returns-in-Patch c =
     } in
     let moved : Patches from to b d r =
     subst (λ (n : ℕ). Patches from n b d r) is_to.1 (subst (λ (n : ℕ). Patches n j b d r) is_from.1 done) in
-    subst (λ (change : Change). Changes change b d c.told_done.result) (sym c.in-Patch.is)
-    (HasStates (both (is_state from) (is_state to) is_from.0 is_to.0) (r, moved, c.told_done.ensures))
+    subst (λ (change : Change). Changes change b d c.patched.result) (sym c.in-Patch.is)
+    (HasStates (both (is_state from) (is_state to) is_from.0 is_to.0) (r, moved, c.patched.ensures))
