@@ -3,17 +3,18 @@
 
     tools/c.py [--archive FILE] ['N passed, M failed']
 
-Every call, with valid and with every kind of invalid arguments (calls.c, texts.c, limits.c, facts.c, pieces.c,
-walks.c); each allocation made to fail in turn (faults.c); the memory that caches take from malloc, compared with what
+Every call, with valid and with every kind of invalid arguments (calls.c, texts.c, options.c, limits.c, facts.c,
+pieces.c, walks.c); each allocation made to fail in turn (faults.c); the memory that caches take from malloc, compared with what
 they report (memory.c); four threads over one regex (threads.c), under helgrind too if it is installed; the script of
 the program `lazydfa`, run by a C program (script.c), which has to print what `lazydfa` prints; the example grep.c,
 which has to print what `grep -E` prints, if that is installed; and the programs of docs/C.md, which have to print what
 is said there. Each C program is compiled twice, the second time with the address and undefined behaviour sanitizers, if
 the compiler has them.
 
-Then the symbols of the archive and of the shared library, programs over the shared library, the version, what is
-installed and removed, calls with arguments in a wrong order, which the compiler must reject, the header in C++ if there
-is a C++ compiler, and the pkg-config file if pkg-config is installed.
+Then that the headers, lazydfa.map and lazydfa.symbols have the same names, and the archive and the shared library
+exactly these symbols; programs over the shared library, the version, what is installed and removed, calls with
+arguments in a wrong order, which the compiler must reject, the headers and the source of the calls without a warning,
+in C and, if there is a C++ compiler, in C++, and the pkg-config file if pkg-config is installed.
 
 The last line counts these tests, added to those that the given line counts. It needs Python 3, the kit's rt, make, cc
 and binutils. The library uses the crates as `rt ci` proved and left them, if it did so since they were last changed,
@@ -55,10 +56,10 @@ ORDERS = [
 # The installed files, below the folder for libraries or the folder for headers.
 INSTALLED = [
     "include/lazydfa.h",
+    "include/lazydfa_automata.h",
     "lib/liblazydfa.a",
     "lib/liblazydfa.so",
-    "lib/liblazydfa.so.0",
-    "lib/liblazydfa.so.{version}",
+    "lib/liblazydfa.so.1",
     "lib/pkgconfig/lazydfa.pc",
 ]
 # Arguments of grep.c, with which `grep -E` has to print the same.
@@ -117,8 +118,8 @@ class Tests:
         self.room, self.passed, self.failed = room, 0, 0
         self.include, self.archive = f"{room}/include", f"{room}/lib/liblazydfa.a"
         self.shared = f"{room}/lib/liblazydfa.so"
+        self.exports = text("bindings/c/lazydfa.symbols").split()
         header = text("bindings/c/include/lazydfa.h")
-        self.exports = sorted(re.findall(r"^lazydfa_status (lazydfa_raw_\w+)\(", header, re.M))
         self.version = (re.search(r'^#define LAZYDFA_VERSION "(.*)"$', header, re.M) or [0, ""])[1]
 
     def count(self, name, fault):
@@ -155,6 +156,7 @@ class Tests:
     def try_all(self, kind, flags):
         self.try_program(f"calls{kind}", f"{C}/tests/calls.c", flags)
         self.try_program(f"texts{kind}", f"{C}/tests/texts.c", ["-pthread", *flags])
+        self.try_program(f"options{kind}", f"{C}/tests/options.c", flags)
         self.try_program(f"limits{kind}", f"{C}/tests/limits.c", flags)
         self.try_program(f"facts{kind}", f"{C}/tests/facts.c", flags)
         self.try_program(f"pieces{kind}", f"{C}/tests/pieces.c", flags)
@@ -194,10 +196,20 @@ class Tests:
                 fault += f"a full disk: status {status}\n{err}"
         return fault
 
-    def try_header(self):
-        words = ["c++", "-std=c++11", "-Wall", "-Wextra", "-pedantic", "-Werror", "-fsyntax-only"]
-        status, out, err = run([*words, "-x", "c++", f"{self.include}/lazydfa.h"])
-        self.count("the header in C++", f"it does not compile\n{out}{err}" if status else "")
+    def try_headers(self):
+        """Tests that the headers, and the source of the calls, compile without a warning."""
+        strict, fault = ["-Wall", "-Wextra", "-Wpedantic", "-Werror", "-fsyntax-only", f"-I{self.include}"], ""
+        headers = "".join(f"#include <{it}>\n" for it in ("lazydfa_automata.h", "lazydfa.h"))
+        inits = "lazydfa_regex r = LAZYDFA_INIT;\nlazydfa_options o = LAZYDFA_OPTIONS_INIT;\n"
+        source = self.write("headers.cc", f"{headers}{inits}lazydfa_error e = LAZYDFA_ERROR_INIT;\n")
+        found = [["cc", f"-std={it}", "-x", "c"] for it in ("c99", "c11", "c17")]
+        if not run(["c++", "--version"])[0]:
+            found += [["c++", f"-std={it}", "-x", "c++"] for it in ("c++11", "c++14", "c++17", "c++20")]
+        for words in found:
+            status, out, err = run([*words, *strict, source])
+            fault += f"{words[1]}: it does not compile\n{out}{err}" if status else ""
+        status, out, err = run(["cc", "-std=c99", *strict, f"{C}/src/lazydfa.c"])
+        self.count("the headers without a warning", f"{fault}{out}{err}")
 
     def try_package(self):
         """Tests that the installed pkg-config file names the header's folder, the library, the archive and the
@@ -208,17 +220,28 @@ class Tests:
         said = [run(["pkg-config", it, "lazydfa"]) for it in asked]
         self.count("pkg-config", "" if [it[1].strip() for it in said] == wanted else f"{said}")
 
+    def try_names(self):
+        """Tests that the headers declare, and the map of the shared library has, the names of lazydfa.symbols."""
+        headers = "".join(text(f"bindings/c/include/{it}") for it in ("lazydfa.h", "lazydfa_automata.h"))
+        declared = sorted(re.findall(r"^\w[\w ]*[ *](lazydfa_\w+)\(", headers, re.M))
+        nodes = re.findall(r"^(\w+) \{\n    global:\n((?:        \w+;\n)+)", text("bindings/c/lazydfa.map"), re.M)
+        mapped = [name for _, names in nodes for name in re.findall(r"\w+", names)]
+        fault = "" if sorted(set(self.exports)) == self.exports else "lazydfa.symbols is not sorted\n"
+        fault += "" if declared == self.exports else f"the headers differ in {set(declared) ^ set(self.exports)}\n"
+        fault += "" if mapped == self.exports else f"lazydfa.map differs in {set(mapped) ^ set(self.exports)}\n"
+        self.count("names", fault + ("" if [it[0] for it in nodes] == ["LAZYDFA_1"] else f"the nodes are {nodes}\n"))
+
     def try_symbols(self):
-        """Tests that the archive and the shared library define what the header declares, and nothing else that is
-        visible."""
+        """Tests that the archive and the shared library define the names of lazydfa.symbols, in the shared library with
+        their version, and nothing else that is visible."""
         fault = ""
-        for words in (["nm", "-g", self.archive], ["nm", "-D", self.shared]):
+        for words, version in ((["nm", "-g", self.archive], ""), (["nm", "-D", self.shared], "@@LAZYDFA_1")):
             symbols = [it.split()[-2:] for it in run(words)[1].splitlines() if " " in it.strip()]
-            defined = sorted(name.partition("@")[0] for kind, name in symbols if kind not in "UwvA")
+            defined = sorted(name for kind, name in symbols if kind not in "UwvA")
             used = sorted(name.partition("@")[0] for kind, name in symbols if kind == "U")
-            if defined != self.exports or used != NEEDS:
+            if defined != [f"{it}{version}" for it in self.exports] or used != NEEDS:
                 fault += f"{words[-1]} defines {defined} and uses {used}\n"
-        if "Library soname: [liblazydfa.so.0]" not in run(["readelf", "-d", self.shared])[1]:
+        if "Library soname: [liblazydfa.so.1]" not in run(["readelf", "-d", self.shared])[1]:
             fault += "the shared library has another name"
         self.count("symbols", fault)
 
@@ -235,18 +258,19 @@ class Tests:
         self.try_program(f"{name}.c beside another library", path, [], "", prints)
 
     def try_version(self):
-        """Tests that the header's four definitions of its version agree."""
+        """Tests that the header's four definitions of its version, and the library's version, agree."""
         parts = "LAZYDFA_VERSION_MAJOR, LAZYDFA_VERSION_MINOR, LAZYDFA_VERSION_PATCH"
         source = "#include <lazydfa.h>\n#include <stdio.h>\nint main(void) {\n"
-        source += f'    printf("%s %d.%d.%d\\n", LAZYDFA_VERSION, {parts});\n    return 0;\n}}\n'
-        self.try_program("version", self.write("version.c", source), [], "", f"{self.version} {self.version}\n")
+        source += f'    printf("%s %s %d.%d.%d\\n", LAZYDFA_VERSION, lazydfa_version(), {parts});\n    return 0;\n}}\n'
+        version = " ".join([self.version] * 3)
+        self.try_program("version", self.write("version.c", source), [], "", f"{version}\n")
 
     def try_orders(self):
         """Tests that the compiler accepts arguments in their order, and in no other order that the header's types
         distinguish."""
         fault = ""
         for number, calls in enumerate(ORDERS):
-            source = "#include <lazydfa.h>\nint main(void) {\n    lazydfa_builder b = LAZYDFA_INIT;\n"
+            source = "#include <lazydfa_automata.h>\nint main(void) {\n    lazydfa_builder b = LAZYDFA_INIT;\n"
             source += "    lazydfa_state_id id = { 0 };\n    uint32_t pattern = 0;\n"
             source += f"    {calls};\n    return (int)(id.number + pattern);\n}}\n"
             target, wrong = self.compile(self.write("orders.c", source), [])
@@ -305,13 +329,13 @@ def main(words):
             if not run(["valgrind", "--version"])[0]:
                 held = {"under": HELGRIND, "words": ["held"]}
                 tests.try_program("threads, by helgrind", f"{C}/tests/threads.c", ["-pthread"], **held)
+            tests.try_names()
             tests.try_symbols()
             tests.try_shared()
             tests.try_version()
             tests.try_orders()
             tests.try_install()
-            if not run(["c++", "--version"])[0]:
-                tests.try_header()
+            tests.try_headers()
             if not run(["pkg-config", "--version"])[0]:
                 tests.try_package()
         passed, failed = passed + tests.passed, failed + tests.failed

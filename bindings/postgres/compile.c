@@ -13,7 +13,6 @@
 /* The default limit on nesting of Rust's regex crate. It takes some 270 KiB of the stack; the server leaves 512 KiB
    below max_stack_depth. */
 #define NEST_LIMIT 250
-#define MESSAGE_ROOM 4096
 
 /* For tables up to this size, pieces are as long as the setting says. With larger tables a byte can take proportionally
    longer, and pieces are shorter: with tables of 10 MB a byte takes at most 14 ms, and a piece has 64 bytes. */
@@ -74,10 +73,8 @@ bool limit_length(Datum patterns, uint32 flags) {
 typedef struct {
     lazydfa_text *texts;
     size_t count;
-    lazydfa_text_options options;
-    lazydfa_settings settings;
-    lazydfa_refusal refusal;
-    char message[MESSAGE_ROOM];
+    lazydfa_options options;
+    lazydfa_error error;
 } Source;
 
 /* Returns the elements of an array, or NULL if it is not valid, while the planner estimates. */
@@ -114,16 +111,15 @@ static lazydfa_text *texts_of(const Key *key, size_t *count) {
     return text;
 }
 
-lazydfa_text_options text_options(uint32 flags) {
-    lazydfa_text_options options;
-    memset(&options, 0, sizeof options);
+lazydfa_options text_options(uint32 flags) {
+    lazydfa_options options = LAZYDFA_OPTIONS_INIT;
     options.case_insensitive = (flags & FOLDS_CASE) != 0;
     options.bytes = (flags & READS_BYTES) || GetDatabaseEncoding() != PG_UTF8;
     options.nest_limit = NEST_LIMIT;
     options.forward_only = (flags & ENDS_ONLY) != 0;
-    options.has_text_limit = options.has_class_limit = options.has_size_limit = 1;
     options.text_limit = setting_pattern_length;
     options.class_limit = setting_pattern_classes;
+    options.zeros = LAZYDFA_ZERO_CLASS_LIMIT;
     options.size_limit = (size_t)setting_pattern_size * 1024;
     return options;
 }
@@ -131,17 +127,17 @@ lazydfa_text_options text_options(uint32 flags) {
 /* Reads the patterns of a key. Unicode word boundaries are allowed: a search for one fails if it reads text that is not
    ASCII. Returns false if the patterns are not valid, while the planner estimates. */
 static bool read_source(Source *source, const Key *key) {
-    lazydfa_settings *settings = &source->settings;
+    lazydfa_options *options = &source->options;
     memset(source, 0, sizeof *source);
     source->texts = texts_of(key, &source->count);
-    source->options = text_options(key->flags);
-    settings->has_cache_capacity = settings->has_cache_limit = 1;
-    settings->cache_capacity = (size_t)Min(setting_pattern_cache_size, setting_cache_size) * 1024;
-    settings->cache_limit = Min(4 * settings->cache_capacity, (size_t)setting_cache_size * 1024 / 2);
-    if (!(key->flags & ENDS_ONLY)) settings->cache_capacity /= 2, settings->cache_limit /= 2; /* for each direction */
-    settings->skip_cache_capacity_check = 1;
-    settings->unicode_word_boundary = 1;
-    settings->match_kind = key->flags & FINDS_ALL ? LAZYDFA_ALL : LAZYDFA_LEFTMOST_FIRST;
+    source->error.struct_size = sizeof source->error;
+    *options = text_options(key->flags);
+    options->cache_capacity = (size_t)Min(setting_pattern_cache_size, setting_cache_size) * 1024;
+    options->cache_limit = Min(4 * options->cache_capacity, (size_t)setting_cache_size * 1024 / 2);
+    if (!(key->flags & ENDS_ONLY)) options->cache_capacity /= 2, options->cache_limit /= 2; /* for each direction */
+    options->skip_cache_capacity_check = 1;
+    options->unicode_word_boundary = 1;
+    options->match_kind = key->flags & FINDS_ALL ? LAZYDFA_ALL : LAZYDFA_LEFTMOST_FIRST;
     return source->texts != NULL;
 }
 
@@ -149,8 +145,7 @@ static bool read_source(Source *source, const Key *key) {
 static lazydfa_status open_regex(Kept *kept, Source *source) {
     lazydfa_status status;
     CHECK_FOR_INTERRUPTS();
-    status = lazydfa_regex_any_of(&kept->regex, source->texts, source->count, &source->options, &source->settings, NULL,
-                                  0, &source->refusal, source->message, sizeof source->message);
+    status = lazydfa_regex_any_of(&kept->regex, source->texts, source->count, &source->options, &source->error);
     CHECK_FOR_INTERRUPTS();
     if (status.code == LAZYDFA_OK) status = lazydfa_regex_size(&kept->regex, &kept->size);
     return status.code == LAZYDFA_OK ? lazydfa_cache_new(&kept->cache, &kept->regex) : status;
@@ -193,20 +188,20 @@ static void limit_classes(const Source *source) {
 static NEVER_RETURNS(void refuse(lazydfa_status status, const Source *source));
 
 static void refuse(lazydfa_status status, const Source *source) {
-    const lazydfa_refusal *refusal = &source->refusal;
-    const lazydfa_text *refused = &source->texts[refusal->pattern];
-    const char *message = source->message, *end = strchr(message, '\n');
+    const lazydfa_error *error = &source->error;
+    const lazydfa_text *refused = &source->texts[error->pattern];
+    const char *message = error->message, *end = strchr(message, '\n');
     StringInfoData where;
     if (status.code == LAZYDFA_TOO_LARGE) limit_classes(source);
     if (!end || status.code == LAZYDFA_MEMORY || status.code == LAZYDFA_TOO_LARGE) fail(status);
     initStringInfo(&where);
-    if (source->count > 1) appendStringInfo(&where, "Pattern %zu of the array", refusal->pattern + 1);
+    if (source->count > 1) appendStringInfo(&where, "Pattern %zu of the array", error->pattern + 1);
     else appendStringInfoString(&where, "The pattern");
     /* The carets line up if the pattern has one line, and if there was room for all of it. */
-    if (refusal->length < MESSAGE_ROOM && !memchr(refused->text, '\n', refused->length))
+    if (error->length < sizeof error->message && !memchr(refused->text, '\n', refused->length))
         appendStringInfo(&where, ":\n%s", end + 1);
     else
-        appendStringInfo(&where, ", at its bytes %zu to %zu.", refusal->start + 1, refusal->end);
+        appendStringInfo(&where, ", at its bytes %zu to %zu.", error->start + 1, error->end);
     ereport(ERROR, errcode(ERRCODE_INVALID_REGULAR_EXPRESSION),
             errmsg("invalid regular expression: %.*s", (int)(end - message), message),
             errdetail_internal("%s", where.data));

@@ -12,7 +12,7 @@
 extern bool limit_length(Datum patterns, uint32 flags);
 
 /* Returns the options with which the text of a pattern is parsed. */
-extern lazydfa_text_options text_options(uint32 flags);
+extern lazydfa_options text_options(uint32 flags);
 
 /* Opens the regex and the cache of patterns. Returns false if there are no such patterns: this is an error unless the
    planner estimates. After an error nothing is open. */

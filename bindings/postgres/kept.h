@@ -7,7 +7,7 @@
 #include "fmgr.h"
 #include "lib/ilist.h"
 
-#include <lazydfa.h>
+#include <lazydfa_automata.h>
 
 #include "versions.h"
 

@@ -55,7 +55,7 @@ static size_t whole_characters(const char *bytes, size_t length) {
 
 /* Derives what a pattern's matches have in common. Returns false if the pattern is not valid, or is not parsed. */
 static bool read_facts(Known *known, const Key *key) {
-    lazydfa_text_options options = text_options(key->flags);
+    lazydfa_options options = text_options(key->flags);
     lazydfa_facts *facts = &known->facts;
     lazydfa_status status;
     options.class_limit = Min(options.class_limit, MOST_CLASSES);

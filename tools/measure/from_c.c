@@ -3,7 +3,7 @@
    `which_` read what made.py writes from standard input. The work `text` writes the lines of `dates` instead, for other
    programs. */
 #define _POSIX_C_SOURCE 200809L
-#include <lazydfa.h>
+#include <lazydfa_automata.h>
 #include <stdio.h>
 #include <stdlib.h>
 #include <string.h>
@@ -114,12 +114,12 @@ static lazydfa_status open_cache(lazydfa_cache *cache, const char *work) {
     lazydfa_builder builder = LAZYDFA_INIT;
     lazydfa_regex regex = LAZYDFA_INIT;
     lazydfa_starts starts;
-    lazydfa_settings settings = { 0, 0, 0, 0, 0, 0, LAZYDFA_LEFTMOST_FIRST, 0, 0, 0, 0, 0, 0 };
-    if (!strcmp(work, "sets")) settings.match_kind = LAZYDFA_ALL;
+    lazydfa_options options = LAZYDFA_OPTIONS_INIT;
+    if (!strcmp(work, "sets")) options.match_kind = LAZYDFA_ALL;
     TRY(lazydfa_builder_new(&builder));
     TRY(add_of(&builder, work, &starts.anchored));
     TRY(lazydfa_add_unanchored_prefix(&builder, starts.anchored, &starts.unanchored));
-    TRY(lazydfa_regex_build(&regex, &builder, starts, &settings, NULL, 0));
+    TRY(lazydfa_regex_build(&regex, &builder, starts, &options));
     TRY(lazydfa_cache_new(cache, &regex));
     lazydfa_builder_close(&builder);
     return lazydfa_regex_close(&regex);
@@ -145,17 +145,18 @@ static char *read_text(char **line) {
 static lazydfa_status open_read(lazydfa_cache *cache, const char *work, const char *line) {
     static lazydfa_text words[MANY];
     lazydfa_regex regex = LAZYDFA_INIT;
-    lazydfa_settings settings = { MEMORY, 0, 0, 1, 0, 0, LAZYDFA_LEFTMOST_FIRST, 0, 0, 0, 0, 0, 0 };
+    lazydfa_options options = LAZYDFA_OPTIONS_INIT;
     size_t count = 0;
+    options.cache_capacity = MEMORY;
     if (is_which(work)) {
-        settings.match_kind = LAZYDFA_ALL;
+        options.match_kind = LAZYDFA_ALL;
         for (const char *bar = line; bar && count < MANY; line = bar ? bar + 1 : line) {
             bar = strchr(line, '|');
             words[count].text = line;
             words[count++].length = bar ? (size_t)(bar - line) : strlen(line);
         }
-        TRY(lazydfa_regex_any_of(&regex, words, count, NULL, &settings, NULL, 0, NULL, NULL, 0));
-    } else TRY(lazydfa_regex_new(&regex, line, strlen(line), NULL, &settings, NULL, 0, NULL, NULL, 0));
+        TRY(lazydfa_regex_any_of(&regex, words, count, &options, NULL));
+    } else TRY(lazydfa_regex_new(&regex, line, strlen(line), &options, NULL));
     TRY(lazydfa_cache_new(cache, &regex));
     return lazydfa_regex_close(&regex);
 }

@@ -97,7 +97,7 @@ static int search_file(lazydfa_cache *cache, const shown *how, const char *name,
 }
 
 /* Reads the flags and patterns. Returns the index of the first file, or 0 if the arguments do not fit the usage. */
-static int read_arguments(char **argv, shown *how, lazydfa_text_options *options, lazydfa_text *texts, size_t *count) {
+static int read_arguments(char **argv, shown *how, lazydfa_options *options, lazydfa_text *texts, size_t *count) {
     int i;
     for (i = 1; argv[i] && argv[i][0] == '-'; i++) {
         const char *letter = argv[i] + 1;
@@ -122,23 +122,23 @@ static int read_arguments(char **argv, shown *how, lazydfa_text_options *options
 int main(int argc, char **argv) {
     lazydfa_regex regex = LAZYDFA_INIT;
     lazydfa_cache cache = LAZYDFA_INIT;
-    lazydfa_text_options options;
+    lazydfa_options options = LAZYDFA_OPTIONS_INIT;
+    lazydfa_error error = LAZYDFA_ERROR_INIT;
     lazydfa_text texts[64];
     lazydfa_status status;
     shown how = { 0, 0, 0, 0 };
     size_t count = 0, found = 0;
-    char message[1024];
     int i, well = 1;
-    memset(&options, 0, sizeof options);
     options.bytes = 1;
     i = argc ? read_arguments(argv, &how, &options, texts, &count) : 0;
     if (!i) {
         fprintf(stderr, "usage: grep [-cino] -e PATTERN.. FILE..\n");
         return 2;
     }
-    status = lazydfa_regex_any_of(&regex, texts, count, &options, NULL, NULL, 0, NULL, message, sizeof message);
+    status = lazydfa_regex_any_of(&regex, texts, count, &options, &error);
     if (status.code == LAZYDFA_OK) status = lazydfa_cache_new(&cache, &regex);
-    if (status.code != LAZYDFA_OK) fprintf(stderr, "%s\n", *message ? message : lazydfa_code_text(status.code));
+    if (status.code != LAZYDFA_OK)
+        fprintf(stderr, "%s\n", *error.message ? error.message : lazydfa_code_text(status.code));
     for (; status.code == LAZYDFA_OK && argv[i]; i++) well &= search_file(&cache, &how, argv[i], &found);
     lazydfa_cache_close(&cache);
     lazydfa_regex_close(&regex);

@@ -73,12 +73,11 @@ static void iterations(void) {
 
 static void sets(void) {
     lazydfa_cache c = LAZYDFA_INIT;
-    lazydfa_settings all;
+    lazydfa_options all = LAZYDFA_OPTIONS_INIT;
     lazydfa_input in = lazydfa_whole(2);
     lazydfa_half halves[8];
     uint32_t patterns[2] = { 9, 9 };
     size_t count = 0;
-    memset(&all, 0, sizeof all);
     all.match_kind = LAZYDFA_ALL;
     CODE(open_cache(&c, two, &all, NULL, 0), LAZYDFA_OK);
     CODE(lazydfa_which(&c, bytes("1 "), 2, &in, 2, patterns, 2, &count), LAZYDFA_OK);
@@ -166,11 +165,10 @@ static void quits(void) {
 
 static void capacities(void) {
     lazydfa_cache c = LAZYDFA_INIT;
-    lazydfa_settings small;
+    lazydfa_options small = LAZYDFA_OPTIONS_INIT;
     lazydfa_status status;
     size_t enough;
-    memset(&small, 0, sizeof small);
-    small.has_cache_capacity = 1;
+    small.zeros |= LAZYDFA_ZERO_CACHE_CAPACITY;
     status = open_cache(&c, word, &small, NULL, 0);
     CHECK(status.code == LAZYDFA_CAPACITY && status.offset > 100);
     /* the reverse DFA needs more than the forward one: the reported capacity is enough for both, and a byte less is
@@ -191,7 +189,7 @@ static void capacities(void) {
 static void clears(void) {
     enum { LENGTH = 4096 };
     lazydfa_cache c = LAZYDFA_INIT;
-    lazydfa_settings small;
+    lazydfa_options small = LAZYDFA_OPTIONS_INIT;
     lazydfa_status status;
     lazydfa_usage usage;
     lazydfa_match m;
@@ -199,14 +197,14 @@ static void clears(void) {
     uint8_t hay[LENGTH];
     int i;
     for (i = 0; i < LENGTH; i++) hay[i] = (uint8_t)(i % 9 == 8 ? '-' : "ab"[(i * i + i / 7) % 3 % 2]);
-    memset(&small, 0, sizeof small);
-    small.has_cache_capacity = small.skip_cache_capacity_check = small.has_minimum_cache_clear_count = 1;
+    small.zeros |= LAZYDFA_ZERO_CACHE_CAPACITY | LAZYDFA_ZERO_CLEAR_COUNT;
+    small.skip_cache_capacity_check = 1;
     CODE(open_cache(&c, many, &small, NULL, 0), LAZYDFA_OK);
     while ((status = lazydfa_next(&c, hay, LENGTH, &at, &m)).code == LAZYDFA_OK) {}
     CHECK(status.code == LAZYDFA_GAVE_UP && status.offset > 0 && status.offset < LENGTH);
     CODE(lazydfa_next(&c, hay, LENGTH, &at, &m), LAZYDFA_NONE);
     CODE(lazydfa_cache_close(&c), LAZYDFA_OK);
-    small.has_minimum_bytes_per_state = 1;
+    small.zeros |= LAZYDFA_ZERO_BYTES_PER_STATE;
     CODE(open_cache(&c, many, &small, NULL, 0), LAZYDFA_OK);
     at = lazydfa_iterate(lazydfa_whole(LENGTH));
     while ((status = lazydfa_next(&c, hay, LENGTH, &at, &m)).code == LAZYDFA_OK) {}
@@ -218,7 +216,7 @@ static void clears(void) {
 
 static void modes(void) {
     lazydfa_cache c = LAZYDFA_INIT;
-    lazydfa_settings settings;
+    lazydfa_options settings = LAZYDFA_OPTIONS_INIT;
     lazydfa_input in = lazydfa_whole(3);
     lazydfa_match m;
     in.anchored = LAZYDFA_ANCHORED_PATTERN;
@@ -226,7 +224,6 @@ static void modes(void) {
     CODE(open_cache(&c, two, NULL, NULL, 0), LAZYDFA_OK);
     CODE(lazydfa_find(&c, bytes("abc"), 3, &in, &m), LAZYDFA_ANCHORED);
     CODE(lazydfa_cache_close(&c), LAZYDFA_OK);
-    memset(&settings, 0, sizeof settings);
     settings.starts_for_each_pattern = settings.no_byte_classes = settings.specialize_start_states = 1;
     CODE(open_cache(&c, two, &settings, NULL, 0), LAZYDFA_OK);
     CODE(lazydfa_find(&c, bytes("abc"), 3, &in, &m), LAZYDFA_OK);
@@ -244,10 +241,9 @@ static void builders(void) {
     lazydfa_builder b = LAZYDFA_INIT;
     lazydfa_regex re = LAZYDFA_INIT;
     lazydfa_starts starts = { { 0 }, { 0 } };
-    lazydfa_settings anchored;
+    lazydfa_options anchored = LAZYDFA_OPTIONS_INIT;
     lazydfa_state_id id = { 0 };
     uint32_t pattern;
-    memset(&anchored, 0, sizeof anchored);
     anchored.always_anchored = 1;
     CODE(lazydfa_builder_new(&b), LAZYDFA_OK);
     CODE(lazydfa_add_match(&b, &id), LAZYDFA_NO_PATTERN);
@@ -261,18 +257,18 @@ static void builders(void) {
     CODE(lazydfa_add_sparse(&b, NULL, 0, &id), LAZYDFA_OK);
     CODE(lazydfa_patch(&b, id, id), LAZYDFA_SPARSE_PATCH);
     CODE(lazydfa_add_capture_start(&b, 0x80000000u, id, &id), LAZYDFA_TOO_LARGE);
-    CODE(lazydfa_regex_build(&re, &b, starts, &anchored, NULL, 0), LAZYDFA_UNFINISHED);
+    CODE(lazydfa_regex_build(&re, &b, starts, &anchored), LAZYDFA_UNFINISHED);
     CODE(lazydfa_builder_clear(&b), LAZYDFA_OK);
-    CODE(lazydfa_regex_build(&re, &b, starts, &anchored, NULL, 0), LAZYDFA_START_RANGE);
+    CODE(lazydfa_regex_build(&re, &b, starts, &anchored), LAZYDFA_START_RANGE);
     CODE(lazydfa_start_pattern(&b, &pattern), LAZYDFA_OK);
     CODE(lazydfa_add_range(&b, 'z', 'a', lazydfa_state(0), &id), LAZYDFA_OK);
     CODE(lazydfa_finish_pattern(&b, id, &pattern), LAZYDFA_OK);
-    CODE(lazydfa_regex_build(&re, &b, starts, &anchored, NULL, 0), LAZYDFA_RANGES);
+    CODE(lazydfa_regex_build(&re, &b, starts, &anchored), LAZYDFA_RANGES);
     CODE(lazydfa_builder_clear(&b), LAZYDFA_OK);
     CODE(lazydfa_start_pattern(&b, &pattern), LAZYDFA_OK);
     CODE(lazydfa_add_range(&b, 'a', 'z', lazydfa_state(1000), &id), LAZYDFA_OK);
     CODE(lazydfa_finish_pattern(&b, id, &pattern), LAZYDFA_OK);
-    CODE(lazydfa_regex_build(&re, &b, starts, &anchored, NULL, 0), LAZYDFA_STATE_RANGE);
+    CODE(lazydfa_regex_build(&re, &b, starts, &anchored), LAZYDFA_STATE_RANGE);
     /* every kind of state, in a pattern that matches: a group around [a-z] at the start of a line */
     CODE(lazydfa_builder_clear(&b), LAZYDFA_OK);
     CODE(lazydfa_set_utf8(&b, 1), LAZYDFA_OK);
@@ -291,11 +287,11 @@ static void builders(void) {
     CODE(lazydfa_add_union_reverse(&b, &id, 1, &starts.anchored), LAZYDFA_OK);
     CODE(lazydfa_finish_pattern(&b, starts.anchored, &pattern), LAZYDFA_OK);
     starts.unanchored = starts.anchored;
-    CODE(lazydfa_regex_build(&re, &b, starts, &anchored, NULL, 0), LAZYDFA_OK);
+    CODE(lazydfa_regex_build(&re, &b, starts, &anchored), LAZYDFA_OK);
     CODE(lazydfa_regex_close(&re), LAZYDFA_OK);
     /* an unanchored start that is not a prefix of the anchored one */
     starts.unanchored = lazydfa_state(0);
-    CODE(lazydfa_regex_build(&re, &b, starts, NULL, NULL, 0), LAZYDFA_NOT_LAZY);
+    CODE(lazydfa_regex_build(&re, &b, starts, NULL), LAZYDFA_NOT_LAZY);
     CODE(lazydfa_builder_close(&b), LAZYDFA_OK);
 }
 
@@ -304,10 +300,9 @@ static void refusals(void) {
     lazydfa_builder b = LAZYDFA_INIT;
     lazydfa_regex re = LAZYDFA_INIT;
     lazydfa_starts starts;
-    lazydfa_settings settings;
+    lazydfa_options settings = LAZYDFA_OPTIONS_INIT;
     lazydfa_state_id look, end, both[2];
     uint32_t pattern;
-    memset(&settings, 0, sizeof settings);
     settings.always_anchored = 1;
     /* (?:^)* has a cycle through a look, and is not an error */
     CODE(lazydfa_builder_new(&b), LAZYDFA_OK);
@@ -320,7 +315,7 @@ static void refusals(void) {
     CODE(lazydfa_patch(&b, look, starts.anchored), LAZYDFA_OK);
     CODE(lazydfa_finish_pattern(&b, starts.anchored, &pattern), LAZYDFA_OK);
     starts.unanchored = starts.anchored;
-    CODE(lazydfa_regex_build(&re, &b, starts, &settings, NULL, 0), LAZYDFA_OK);
+    CODE(lazydfa_regex_build(&re, &b, starts, &settings), LAZYDFA_OK);
     CODE(lazydfa_regex_close(&re), LAZYDFA_OK);
     /* a Unicode \b */
     CODE(lazydfa_builder_clear(&b), LAZYDFA_OK);
@@ -329,9 +324,9 @@ static void refusals(void) {
     CODE(lazydfa_add_look(&b, LAZYDFA_LOOK_WORD_UNICODE, end, &starts.anchored), LAZYDFA_OK);
     CODE(lazydfa_finish_pattern(&b, starts.anchored, &pattern), LAZYDFA_OK);
     starts.unanchored = starts.anchored;
-    CODE(lazydfa_regex_build(&re, &b, starts, &settings, NULL, 0), LAZYDFA_UNSUPPORTED);
+    CODE(lazydfa_regex_build(&re, &b, starts, &settings), LAZYDFA_UNSUPPORTED);
     settings.unicode_word_boundary = 1;
-    CODE(lazydfa_regex_build(&re, &b, starts, &settings, NULL, 0), LAZYDFA_OK);
+    CODE(lazydfa_regex_build(&re, &b, starts, &settings), LAZYDFA_OK);
     CODE(lazydfa_regex_close(&re), LAZYDFA_OK);
     /* one byte from 0x80 on, in UTF-8 mode */
     CODE(lazydfa_builder_clear(&b), LAZYDFA_OK);
@@ -341,7 +336,7 @@ static void refusals(void) {
     CODE(lazydfa_add_range(&b, 0x80, 0xFF, end, &starts.anchored), LAZYDFA_OK);
     CODE(lazydfa_finish_pattern(&b, starts.anchored, &pattern), LAZYDFA_OK);
     CODE(lazydfa_add_unanchored_prefix(&b, starts.anchored, &starts.unanchored), LAZYDFA_OK);
-    CODE(lazydfa_regex_build(&re, &b, starts, NULL, NULL, 0), LAZYDFA_NOT_UTF8);
+    CODE(lazydfa_regex_build(&re, &b, starts, NULL), LAZYDFA_NOT_UTF8);
     CODE(lazydfa_builder_close(&b), LAZYDFA_OK);
 }
 
@@ -367,14 +362,14 @@ static void pairs(void) {
         starts[i].anchored = at;
         CODE(lazydfa_add_unanchored_prefix(&b[i], at, &starts[i].unanchored), LAZYDFA_OK);
     }
-    CODE(lazydfa_regex_build_pair(&re, &b[0], starts[0], &b[1], starts[1], NULL, NULL, 0), LAZYDFA_OK);
-    CODE(lazydfa_regex_build_pair(&re, &b[0], starts[0], &b[1], starts[1], NULL, NULL, 0), LAZYDFA_OPEN);
+    CODE(lazydfa_regex_build_pair(&re, &b[0], starts[0], &b[1], starts[1], NULL), LAZYDFA_OK);
+    CODE(lazydfa_regex_build_pair(&re, &b[0], starts[0], &b[1], starts[1], NULL), LAZYDFA_OPEN);
     CODE(lazydfa_cache_new(&c, &re), LAZYDFA_OK);
     CODE(lazydfa_find(&c, bytes("-ab-"), 4, &in, &m), LAZYDFA_OK);
     CHECK(m.start == 1 && m.end == 3);
     CODE(lazydfa_cache_close(&c), LAZYDFA_OK);
     CODE(lazydfa_regex_close(&re), LAZYDFA_OK);
-    CODE(lazydfa_regex_build_pair(&re, &b[1], starts[1], &b[0], starts[0], NULL, NULL, 0), LAZYDFA_OK);
+    CODE(lazydfa_regex_build_pair(&re, &b[1], starts[1], &b[0], starts[0], NULL), LAZYDFA_OK);
     CODE(lazydfa_cache_new(&c, &re), LAZYDFA_OK);
     CODE(lazydfa_find(&c, bytes("-ba-"), 4, &in, &m), LAZYDFA_OK);
     CODE(lazydfa_cache_close(&c), LAZYDFA_OK);
@@ -382,10 +377,10 @@ static void pairs(void) {
     CODE(lazydfa_builder_clear(&b[1]), LAZYDFA_OK);
     CODE(lazydfa_add_fail(&b[1], &at), LAZYDFA_OK);
     starts[1].anchored = starts[1].unanchored = at;
-    CODE(lazydfa_regex_build_pair(&re, &b[0], starts[0], &b[1], starts[1], NULL, NULL, 0), LAZYDFA_PATTERN_COUNTS);
+    CODE(lazydfa_regex_build_pair(&re, &b[0], starts[0], &b[1], starts[1], NULL), LAZYDFA_PATTERN_COUNTS);
     CODE(lazydfa_start_pattern(&b[1], &pattern), LAZYDFA_OK);
     CODE(lazydfa_finish_pattern(&b[1], at, &pattern), LAZYDFA_OK);
-    CODE(lazydfa_regex_build_pair(&re, &b[0], starts[0], &b[1], starts[1], NULL, NULL, 0), LAZYDFA_OK);
+    CODE(lazydfa_regex_build_pair(&re, &b[0], starts[0], &b[1], starts[1], NULL), LAZYDFA_OK);
     CODE(lazydfa_cache_new(&c, &re), LAZYDFA_OK);
     CODE(lazydfa_find(&c, bytes("-ab-"), 4, &in, &m), LAZYDFA_NOT_A_PAIR);
     CODE(lazydfa_is_match(&c, bytes("-ab-"), 4, &in), LAZYDFA_OK);
@@ -404,7 +399,7 @@ static void shares(void) {
         lazydfa_input in = lazydfa_whole(10);
         lazydfa_match m;
         int i;
-        CODE(lazydfa_regex_new(&re[0], "[0-9]+", 6, NULL, NULL, NULL, 0, NULL, NULL, 0), LAZYDFA_OK);
+        CODE(lazydfa_regex_new(&re[0], "[0-9]+", 6, NULL, NULL), LAZYDFA_OK);
         CODE(lazydfa_regex_share(&re[0], &re[1]), LAZYDFA_OK);
         CODE(lazydfa_regex_share(&re[0], &re[1]), LAZYDFA_OPEN);
         CODE(lazydfa_cache_new(&c[is_first], &re[is_first]), LAZYDFA_OK);
@@ -425,11 +420,10 @@ static void one_start(void) {
     lazydfa_regex re = LAZYDFA_INIT;
     lazydfa_cache c = LAZYDFA_INIT;
     lazydfa_starts one, both, end = { { 0 }, { 0 } };
-    lazydfa_settings settings;
+    lazydfa_options settings = LAZYDFA_OPTIONS_INIT;
     lazydfa_input in = lazydfa_whole(4);
     lazydfa_match m;
     uint32_t pattern;
-    memset(&settings, 0, sizeof settings);
     CODE(lazydfa_builder_new(&b), LAZYDFA_OK);
     CODE(lazydfa_start_pattern(&b, &pattern), LAZYDFA_OK);
     CODE(lazydfa_add_match(&b, &one.anchored), LAZYDFA_OK);
@@ -437,12 +431,12 @@ static void one_start(void) {
     CODE(lazydfa_finish_pattern(&b, one.anchored, &pattern), LAZYDFA_OK);
     one.unanchored = both.anchored = one.anchored;
     CODE(lazydfa_add_unanchored_prefix(&b, one.anchored, &both.unanchored), LAZYDFA_OK);
-    CODE(lazydfa_regex_build(&re, &b, one, NULL, NULL, 0), LAZYDFA_ONE_START);
+    CODE(lazydfa_regex_build(&re, &b, one, NULL), LAZYDFA_ONE_START);
     settings.match_kind = 2;
-    CODE(lazydfa_regex_build(&re, &b, one, &settings, NULL, 0), LAZYDFA_ONE_START);
+    CODE(lazydfa_regex_build(&re, &b, one, &settings), LAZYDFA_ONE_START);
     settings.match_kind = 0;
     settings.always_anchored = 9;
-    CODE(lazydfa_regex_build(&re, &b, one, &settings, NULL, 0), LAZYDFA_OK);
+    CODE(lazydfa_regex_build(&re, &b, one, &settings), LAZYDFA_OK);
     CODE(lazydfa_cache_new(&c, &re), LAZYDFA_OK);
     CODE(lazydfa_find(&c, bytes("-abc"), 4, &in, &m), LAZYDFA_NONE);
     CODE(lazydfa_find(&c, bytes("abc-"), 4, &in, &m), LAZYDFA_OK);
@@ -450,7 +444,7 @@ static void one_start(void) {
     CODE(lazydfa_cache_close(&c), LAZYDFA_OK);
     CODE(lazydfa_regex_close(&re), LAZYDFA_OK);
     /* two starts work with the setting as they do without it */
-    CODE(lazydfa_regex_build(&re, &b, both, &settings, NULL, 0), LAZYDFA_OK);
+    CODE(lazydfa_regex_build(&re, &b, both, &settings), LAZYDFA_OK);
     CODE(lazydfa_cache_new(&c, &re), LAZYDFA_OK);
     CODE(lazydfa_find(&c, bytes("-abc"), 4, &in, &m), LAZYDFA_OK);
     CHECK(m.start == 1 && m.end == 4);
@@ -464,8 +458,8 @@ static void one_start(void) {
     CODE(repeat(&back, 'a', 'c', 3, &end.anchored), LAZYDFA_OK);
     CODE(lazydfa_finish_pattern(&back, end.anchored, &pattern), LAZYDFA_OK);
     end.unanchored = end.anchored;
-    CODE(lazydfa_regex_build_pair(&re, &b, one, &back, end, NULL, NULL, 0), LAZYDFA_ONE_START);
-    CODE(lazydfa_regex_build_pair(&re, &b, both, &back, end, NULL, NULL, 0), LAZYDFA_OK);
+    CODE(lazydfa_regex_build_pair(&re, &b, one, &back, end, NULL), LAZYDFA_ONE_START);
+    CODE(lazydfa_regex_build_pair(&re, &b, both, &back, end, NULL), LAZYDFA_OK);
     CODE(lazydfa_cache_new(&c, &re), LAZYDFA_OK);
     CODE(lazydfa_find(&c, bytes("-abc"), 4, &in, &m), LAZYDFA_OK);
     CHECK(m.start == 1 && m.end == 4);
@@ -542,10 +536,10 @@ static void handles(void) {
     CODE(lazydfa_builder_new(&b), LAZYDFA_OPEN);
     CODE(lazydfa_builder_new((lazydfa_builder *)(void *)&b.handle), LAZYDFA_OPEN);
     CODE(word(&b, &starts), LAZYDFA_OK);
-    CODE(lazydfa_regex_build(&re, &b, starts, NULL, NULL, 0), LAZYDFA_OK);
-    CODE(lazydfa_regex_build(&re, &b, starts, NULL, NULL, 0), LAZYDFA_OPEN);
-    CODE(lazydfa_regex_build(&no_regex, &no_builder, starts, NULL, NULL, 0), LAZYDFA_CLOSED);
-    CODE(lazydfa_regex_build(&no_regex, (lazydfa_builder *)(void *)&re, starts, NULL, NULL, 0), LAZYDFA_KIND);
+    CODE(lazydfa_regex_build(&re, &b, starts, NULL), LAZYDFA_OK);
+    CODE(lazydfa_regex_build(&re, &b, starts, NULL), LAZYDFA_OPEN);
+    CODE(lazydfa_regex_build(&no_regex, &no_builder, starts, NULL), LAZYDFA_CLOSED);
+    CODE(lazydfa_regex_build(&no_regex, (lazydfa_builder *)(void *)&re, starts, NULL), LAZYDFA_KIND);
     CODE(lazydfa_cache_new(&c, &re), LAZYDFA_OK);
     CODE(lazydfa_cache_new(&c, &re), LAZYDFA_OPEN);
     CODE(lazydfa_cache_new(&no_cache, &no_regex), LAZYDFA_CLOSED);
@@ -641,10 +635,10 @@ static void numbers(void) {
         CODE(lazydfa_add_capture_end(&b, 0, none, &id), LAZYDFA_ARGUMENT);
         CODE(lazydfa_add_unanchored_prefix(&b, none, &id), LAZYDFA_ARGUMENT);
         starts.anchored = none;
-        CODE(lazydfa_regex_build(&re, &b, starts, NULL, NULL, 0), LAZYDFA_ARGUMENT);
+        CODE(lazydfa_regex_build(&re, &b, starts, NULL), LAZYDFA_ARGUMENT);
         starts.anchored = zero;
         starts.unanchored = none;
-        CODE(lazydfa_regex_build(&re, &b, starts, NULL, NULL, 0), LAZYDFA_ARGUMENT);
+        CODE(lazydfa_regex_build(&re, &b, starts, NULL), LAZYDFA_ARGUMENT);
         starts.unanchored = zero;
     }
     /* nothing was added, and nothing written */
@@ -661,7 +655,9 @@ static void null_of_builders(void) {
     lazydfa_regex re = LAZYDFA_INIT;
     lazydfa_starts starts = { { 0 }, { 0 } };
     lazydfa_state_id id, zero = { 0 };
+    lazydfa_options no_quits = LAZYDFA_OPTIONS_INIT;
     uint32_t pattern;
+    no_quits.quit_count = 1;
     CODE(lazydfa_builder_new(&b), LAZYDFA_OK);
     CODE(lazydfa_start_pattern(&b, NULL), LAZYDFA_ARGUMENT);
     CODE(lazydfa_start_pattern(&b, &pattern), LAZYDFA_OK);
@@ -680,13 +676,13 @@ static void null_of_builders(void) {
     CODE(lazydfa_add_fail(&b, NULL), LAZYDFA_ARGUMENT);
     CODE(lazydfa_add_match(&b, NULL), LAZYDFA_ARGUMENT);
     CODE(lazydfa_add_unanchored_prefix(&b, zero, NULL), LAZYDFA_ARGUMENT);
-    CODE(lazydfa_regex_build(NULL, &b, starts, NULL, NULL, 0), LAZYDFA_ARGUMENT);
-    CODE(lazydfa_regex_build(&re, NULL, starts, NULL, NULL, 0), LAZYDFA_ARGUMENT);
-    CODE(lazydfa_regex_build(&re, &b, starts, NULL, NULL, 1), LAZYDFA_ARGUMENT);
-    CODE(lazydfa_regex_build_pair(NULL, &b, starts, &b, starts, NULL, NULL, 0), LAZYDFA_ARGUMENT);
-    CODE(lazydfa_regex_build_pair(&re, NULL, starts, &b, starts, NULL, NULL, 0), LAZYDFA_ARGUMENT);
-    CODE(lazydfa_regex_build_pair(&re, &b, starts, NULL, starts, NULL, NULL, 0), LAZYDFA_ARGUMENT);
-    CODE(lazydfa_regex_build_pair(&re, &b, starts, &b, starts, NULL, NULL, 0), LAZYDFA_ARGUMENT);
+    CODE(lazydfa_regex_build(NULL, &b, starts, NULL), LAZYDFA_ARGUMENT);
+    CODE(lazydfa_regex_build(&re, NULL, starts, NULL), LAZYDFA_ARGUMENT);
+    CODE(lazydfa_regex_build(&re, &b, starts, &no_quits), LAZYDFA_ARGUMENT);
+    CODE(lazydfa_regex_build_pair(NULL, &b, starts, &b, starts, NULL), LAZYDFA_ARGUMENT);
+    CODE(lazydfa_regex_build_pair(&re, NULL, starts, &b, starts, NULL), LAZYDFA_ARGUMENT);
+    CODE(lazydfa_regex_build_pair(&re, &b, starts, NULL, starts, NULL), LAZYDFA_ARGUMENT);
+    CODE(lazydfa_regex_build_pair(&re, &b, starts, &b, starts, NULL), LAZYDFA_ARGUMENT);
     /* nothing was added: an empty union is the first state */
     CODE(lazydfa_add_union(&b, NULL, 0, &id), LAZYDFA_OK);
     CHECK(id.number == 0);

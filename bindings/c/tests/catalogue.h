@@ -2,7 +2,7 @@
 #ifndef CATALOGUE_H
 #define CATALOGUE_H
 
-#include "lazydfa.h"
+#include "lazydfa_automata.h"
 
 /* A state: its kind, up to two bytes or an assertion, and up to two next states. For ACCEPT, next is the pattern. */
 enum kind { RANGE, WORD, EITHER, ASSERT, ACCEPT, FAIL };

@@ -3,7 +3,7 @@
 #define CHECK_H
 
 #include <stdio.h>
-#include "lazydfa.h"
+#include "lazydfa_automata.h"
 
 static int failed, made;
 

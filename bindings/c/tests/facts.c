@@ -7,7 +7,7 @@
 
 /* Returns the facts of a pattern as text: ^, $ and = for the flags, then the prefix and the literals, with a bar after
    each. */
-static const char *shown(const char *pattern, size_t length, const lazydfa_text_options *options) {
+static const char *shown(const char *pattern, size_t length, const lazydfa_options *options) {
     static char out[512];
     uint8_t read[200];
     size_t lengths[20], at, i;
@@ -85,9 +85,8 @@ static void alternations(void) {
 
 #define HAS_WITH(option, pattern, wanted)                                                    \
     do {                                                                                     \
-        lazydfa_text_options o_;                                                             \
+        lazydfa_options o_ = LAZYDFA_OPTIONS_INIT;                                           \
         const char *is_;                                                                     \
-        memset(&o_, 0, sizeof o_);                                                           \
         o_.option = 1;                                                                       \
         is_ = shown(pattern, sizeof(pattern) - 1, &o_);                                      \
         CHECK(!strcmp(is_, wanted) || (printf("%s: %s\n", pattern, is_), 0));                \
@@ -105,7 +104,7 @@ static void options(void) {
     HAS("(?-u)\\xFF", "40 at 5");
     HAS_WITH(nest_limit, "(a)", "=a|a|");
     HAS_WITH(nest_limit, "((a))", "40 at 1");
-    HAS_WITH(has_size_limit, "a", "=a|a|");
+    HAS_WITH(size_limit, "a", "=a|a|");
 }
 
 static void errors(void) {
@@ -263,25 +262,21 @@ static void random_patterns(void) {
         lazydfa_regex regex = LAZYDFA_INIT;
         lazydfa_cache cache = LAZYDFA_INIT;
         lazydfa_facts facts;
-        lazydfa_text_options options;
-        lazydfa_settings settings;
+        lazydfa_options options = LAZYDFA_OPTIONS_INIT;
         char *end = expression(pattern, 1 + (int)below(4));
         size_t length;
         lazydfa_status status;
         if (i % 2) end = expression(end + sprintf(end, "(?s:.)*"), 1 + (int)below(3));
         length = (size_t)(end - pattern);
-        memset(&options, 0, sizeof options);
-        memset(&settings, 0, sizeof settings);
         options.bytes = below(3) == 0;
         options.case_insensitive = below(4) == 0;
         options.multi_line = below(8) == 0;
         options.swap_greed = below(8) == 0;
-        settings.match_kind = below(4) ? LAZYDFA_LEFTMOST_FIRST : LAZYDFA_ALL;
+        options.match_kind = below(4) ? LAZYDFA_LEFTMOST_FIRST : LAZYDFA_ALL;
         status = lazydfa_text_facts(pattern, length, &options, &facts, read, sizeof read, lengths, 1000);
         if (status.code == LAZYDFA_SYNTAX) continue;
         CHECK(status.code == LAZYDFA_OK && facts.length <= sizeof read && facts.count <= 1000);
-        if (lazydfa_regex_new(&regex, pattern, length, &options, &settings, NULL, 0, NULL, NULL, 0).code != LAZYDFA_OK)
-            continue;
+        if (lazydfa_regex_new(&regex, pattern, length, &options, NULL).code != LAZYDFA_OK) continue;
         CHECK(lazydfa_cache_new(&cache, &regex).code == LAZYDFA_OK);
         search(pattern, &cache, !options.bytes, &facts, read, lengths);
         lazydfa_cache_close(&cache);

@@ -4,7 +4,7 @@
 #include <stdio.h>
 #include <stdlib.h>
 #include <string.h>
-#include "lazydfa.h"
+#include "lazydfa_automata.h"
 
 void *__real_malloc(size_t size);
 void *__real_realloc(void *at, size_t size);
@@ -257,7 +257,7 @@ static void search_pair(lazydfa_builder *b, lazydfa_regex *re, lazydfa_cache *c)
         WANT(lazydfa_finish_pattern(&b[i], starts[i].anchored, &pattern), LAZYDFA_OK);
         WANT(lazydfa_add_unanchored_prefix(&b[i], starts[i].anchored, &starts[i].unanchored), LAZYDFA_OK);
     }
-    WANT(lazydfa_regex_build_pair(re, &b[0], starts[0], &b[1], starts[1], NULL, NULL, 0), LAZYDFA_OK);
+    WANT(lazydfa_regex_build_pair(re, &b[0], starts[0], &b[1], starts[1], NULL), LAZYDFA_OK);
     WANT(lazydfa_cache_new(c, re), LAZYDFA_OK);
     WANT(lazydfa_find(c, (const uint8_t *)"-abc-", 5, &in, &m), LAZYDFA_OK);
     IS(m.start == 1 && m.end == 4);
@@ -268,7 +268,7 @@ static void search_pair(lazydfa_builder *b, lazydfa_regex *re, lazydfa_cache *c)
 static void search_shared(lazydfa_regex *re, lazydfa_regex *other, lazydfa_cache *c) {
     lazydfa_input in = lazydfa_whole(5);
     lazydfa_match m;
-    WANT(lazydfa_regex_new(re, "[a-z]+", 6, NULL, NULL, NULL, 0, NULL, NULL, 0), LAZYDFA_OK);
+    WANT(lazydfa_regex_new(re, "[a-z]+", 6, NULL, NULL), LAZYDFA_OK);
     WANT(lazydfa_regex_share(re, other), LAZYDFA_OK);
     WANT(lazydfa_regex_close(re), LAZYDFA_OK);
     WANT(lazydfa_cache_new(c, other), LAZYDFA_OK);
@@ -283,32 +283,31 @@ static void search_shared(lazydfa_regex *re, lazydfa_regex *other, lazydfa_cache
 static void search_texts(lazydfa_regex *re, lazydfa_cache *c) {
     static const lazydfa_text texts[2] = { { "a\\pN+", 5 }, { "(?i)b|", 6 } };
     lazydfa_input in = lazydfa_whole(3);
-    lazydfa_settings settings;
-    lazydfa_refusal refusal;
+    lazydfa_options settings = LAZYDFA_OPTIONS_INIT;
+    lazydfa_error error = LAZYDFA_ERROR_INIT;
     lazydfa_status status;
     uint32_t patterns[2];
     size_t count;
-    char message[40];
-    memset(&settings, 0, sizeof settings);
     settings.match_kind = LAZYDFA_ALL;
-    WANT(lazydfa_regex_any_of(re, texts, 2, NULL, &settings, NULL, 0, NULL, NULL, 0), LAZYDFA_OK);
+    WANT(lazydfa_regex_any_of(re, texts, 2, &settings, NULL), LAZYDFA_OK);
     WANT(lazydfa_cache_new(c, re), LAZYDFA_OK);
     WANT(lazydfa_which(c, (const uint8_t *)"-a1", 3, &in, 2, patterns, 2, &count), LAZYDFA_OK);
     IS(count == 2);
     WANT(lazydfa_regex_close(re), LAZYDFA_OK);
-    status = lazydfa_regex_new(re, "a(b", 3, NULL, NULL, NULL, 0, &refusal, message, sizeof message);
+    status = lazydfa_regex_new(re, "a(b", 3, NULL, &error);
     if (is_refused(status))
-        status = lazydfa_regex_new(re, "a(b", 3, NULL, NULL, NULL, 0, &refusal, message, sizeof message);
-    IS(status.code == LAZYDFA_SYNTAX && refusal.start == 1 && refusal.end == 2);
+        status = lazydfa_regex_new(re, "a(b", 3, NULL, &error);
+    IS(status.code == LAZYDFA_SYNTAX && error.start == 1 && error.end == 2);
     if (only || from) {
-        /* a message whose allocation fails is empty, which no call reports */
-        reported += refusal.length == 0;
-        IS(refusal.length ? !strcmp(message, "unclosed group\n  a(b\n   ^") : !*message);
+        /* a message whose allocation fails is what the code means, and no call reports that */
+        reported += !strcmp(error.message, lazydfa_code_text(LAZYDFA_SYNTAX));
+        IS(!strcmp(error.message, "unclosed group\n  a(b\n   ^")
+           || !strcmp(error.message, lazydfa_code_text(LAZYDFA_SYNTAX)));
     } else {
-        IS(!strcmp(message, "unclosed group\n  a(b\n   ^"));
+        IS(!strcmp(error.message, "unclosed group\n  a(b\n   ^"));
     }
     only = from = 0;
-    WANT(lazydfa_regex_new(re, "b+", 2, NULL, NULL, NULL, 0, NULL, NULL, 0), LAZYDFA_OK);
+    WANT(lazydfa_regex_new(re, "b+", 2, NULL, NULL), LAZYDFA_OK);
 }
 
 /* What all matches of ^ab[cd]e(fg)+ have in common. */
@@ -331,14 +330,13 @@ typedef struct {
 /* Builds a builder, two regexes from it and a cache of each, and makes every search; also a pair, texts, and a regex
    with two handles. */
 static void run(handles *h) {
-    lazydfa_settings settings;
+    lazydfa_options settings = LAZYDFA_OPTIONS_INIT;
     lazydfa_starts starts = { { 0 }, { 0 } };
-    memset(&settings, 0, sizeof settings);
     settings.match_kind = LAZYDFA_ALL;
     WANT(lazydfa_builder_new(&h->builders[0]), LAZYDFA_OK);
     build(&h->builders[0], &starts);
-    WANT(lazydfa_regex_build(&h->regexes[0], &h->builders[0], starts, NULL, NULL, 0), LAZYDFA_OK);
-    WANT(lazydfa_regex_build(&h->regexes[1], &h->builders[0], starts, &settings, NULL, 0), LAZYDFA_OK);
+    WANT(lazydfa_regex_build(&h->regexes[0], &h->builders[0], starts, NULL), LAZYDFA_OK);
+    WANT(lazydfa_regex_build(&h->regexes[1], &h->builders[0], starts, &settings), LAZYDFA_OK);
     WANT(lazydfa_cache_new(&h->caches[0], &h->regexes[0]), LAZYDFA_OK);
     WANT(lazydfa_cache_new(&h->caches[1], &h->regexes[1]), LAZYDFA_OK);
     search(&h->caches[0], &h->caches[1], (const uint8_t *)"ab 1 cde-", 9);

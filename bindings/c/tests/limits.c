@@ -6,16 +6,16 @@
 #include "nfas.h"
 
 /* Returns the code of building a regex from texts with these options. */
-static uint32_t built(const lazydfa_text *texts, size_t count, const lazydfa_text_options *options) {
+static uint32_t built(const lazydfa_text *texts, size_t count, const lazydfa_options *options) {
     lazydfa_regex regex = LAZYDFA_INIT;
-    lazydfa_status status = lazydfa_regex_any_of(&regex, texts, count, options, NULL, NULL, 0, NULL, NULL, 0);
+    lazydfa_status status = lazydfa_regex_any_of(&regex, texts, count, options, NULL);
     CHECK(lazydfa_regex_close(&regex).code == (status.code == LAZYDFA_OK ? LAZYDFA_OK : LAZYDFA_CLOSED));
     CHECK(status.offset == 0 || status.code == LAZYDFA_SYNTAX);
     return status.code;
 }
 
 /* Returns the code of reporting the facts of a text with these options. */
-static uint32_t read_facts(const lazydfa_text *text, const lazydfa_text_options *options) {
+static uint32_t read_facts(const lazydfa_text *text, const lazydfa_options *options) {
     lazydfa_facts facts;
     lazydfa_status status = lazydfa_text_facts(text->text, text->length, options, &facts, NULL, 0, NULL, 0);
     CHECK(status.code == LAZYDFA_OK || (facts.prefix == 0 && facts.count == 0 && facts.length == 0));
@@ -24,11 +24,9 @@ static uint32_t read_facts(const lazydfa_text *text, const lazydfa_text_options 
 
 static void text_limit(void) {
     static const lazydfa_text texts[2] = { { "abc", 3 }, { "de", 2 } };
-    lazydfa_text_options options;
-    memset(&options, 0, sizeof options);
-    options.text_limit = 1;
+    lazydfa_options options = LAZYDFA_OPTIONS_INIT;
     CHECK(built(texts, 2, &options) == LAZYDFA_OK);
-    options.has_text_limit = 1;
+    options.text_limit = 1;
     CHECK(built(texts, 2, &options) == LAZYDFA_TOO_LARGE);
     options.text_limit = 4;
     CHECK(built(texts, 1, &options) == LAZYDFA_OK && built(texts, 2, &options) == LAZYDFA_TOO_LARGE);
@@ -37,6 +35,7 @@ static void text_limit(void) {
     options.text_limit = 2;
     CHECK(read_facts(&texts[0], &options) == LAZYDFA_TOO_LARGE && read_facts(&texts[1], &options) == LAZYDFA_OK);
     options.text_limit = 0;
+    options.zeros = LAZYDFA_ZERO_TEXT_LIMIT;
     CHECK(built(texts, 0, &options) == LAZYDFA_OK && built(texts, 1, &options) == LAZYDFA_TOO_LARGE);
 }
 
@@ -52,13 +51,12 @@ static void class_limit(void) {
         { { "[\\w\\d]x\\w", 9 }, 3, LAZYDFA_OK },    { { "\\\\w", 3 }, 1, LAZYDFA_OK },
         { { "pPwWdDsS", 8 }, 0, LAZYDFA_OK },        { { "\\w(", 3 }, 1, LAZYDFA_SYNTAX },
     };
-    lazydfa_text_options options;
+    lazydfa_options options = LAZYDFA_OPTIONS_INIT;
     size_t i;
-    memset(&options, 0, sizeof options);
     for (i = 0; i < sizeof rows / sizeof *rows; i++) {
-        options.has_class_limit = 0;
+        options.class_limit = options.zeros = 0;
         CHECK(built(&rows[i].text, 1, &options) == rows[i].code);
-        options.has_class_limit = 1;
+        options.zeros |= LAZYDFA_ZERO_CLASS_LIMIT;
         options.class_limit = rows[i].escapes;
         CHECK(built(&rows[i].text, 1, &options) == rows[i].code);
         CHECK(read_facts(&rows[i].text, &options) == rows[i].code);
@@ -73,20 +71,17 @@ static void class_limit(void) {
 static void forward_only(const char *pattern, const char *hay, uint32_t kind) {
     lazydfa_regex regex = LAZYDFA_INIT, forward = LAZYDFA_INIT, back = LAZYDFA_INIT;
     lazydfa_cache cache = LAZYDFA_INIT, other = LAZYDFA_INIT;
-    lazydfa_text_options options;
-    lazydfa_settings settings;
+    lazydfa_options options = LAZYDFA_OPTIONS_INIT;
     lazydfa_half wanted, half;
     lazydfa_input whole = lazydfa_whole(strlen(hay));
     lazydfa_status status;
     lazydfa_match match;
     uint32_t wanted_which = 9, which = 9;
     size_t wanted_count, count;
-    memset(&options, 0, sizeof options);
-    memset(&settings, 0, sizeof settings);
-    settings.match_kind = kind;
-    CHECK(lazydfa_regex_new(&regex, pattern, strlen(pattern), &options, &settings, NULL, 0, NULL, NULL, 0).code == 0);
+    options.match_kind = kind;
+    CHECK(lazydfa_regex_new(&regex, pattern, strlen(pattern), &options, NULL).code == 0);
     options.forward_only = 1;
-    CHECK(lazydfa_regex_new(&forward, pattern, strlen(pattern), &options, &settings, NULL, 0, NULL, NULL, 0).code == 0);
+    CHECK(lazydfa_regex_new(&forward, pattern, strlen(pattern), &options, NULL).code == 0);
     CHECK(lazydfa_cache_new(&cache, &regex).code == LAZYDFA_OK);
     CHECK(lazydfa_cache_new(&other, &forward).code == LAZYDFA_OK);
     status = lazydfa_find_end(&cache, bytes(hay), whole.end, &whole, &wanted);
@@ -135,7 +130,7 @@ static void sizes(void) {
     CHECK(lazydfa_finish_pattern(&b, starts.anchored, &pattern).code == LAZYDFA_OK);
     CHECK(lazydfa_add_unanchored_prefix(&b, starts.anchored, &starts.unanchored).code == LAZYDFA_OK);
     CHECK(lazydfa_regex_size(&closed, &size).code == LAZYDFA_CLOSED && size == 7);
-    CHECK(lazydfa_regex_build(&re, &b, starts, NULL, NULL, 0).code == LAZYDFA_OK);
+    CHECK(lazydfa_regex_build(&re, &b, starts, NULL).code == LAZYDFA_OK);
     /* a match state, a sparse state of two ranges, and the loop of a union and a range */
     CHECK(lazydfa_regex_size(&re, &size).code == LAZYDFA_OK && size == 4 * 16 + 2 * 8);
     CHECK(lazydfa_regex_size((lazydfa_regex *)(void *)&b, &size).code == LAZYDFA_KIND);

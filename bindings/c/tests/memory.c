@@ -82,15 +82,10 @@ static void fill(const char *letters, const char *word) {
 }
 
 static void open_regex(lazydfa_regex *regex, const char *pattern, size_t capacity) {
-    lazydfa_settings settings;
-    lazydfa_refusal refusal;
-    char message[200];
+    lazydfa_options settings = LAZYDFA_OPTIONS_INIT;
     lazydfa_status status;
-    memset(&settings, 0, sizeof settings);
     settings.cache_capacity = capacity;
-    settings.has_cache_capacity = 1;
-    status = lazydfa_regex_new(regex, pattern, strlen(pattern), NULL, &settings, NULL, 0, &refusal, message,
-                               sizeof message);
+    status = lazydfa_regex_new(regex, pattern, strlen(pattern), &settings, NULL);
     CHECK(status.code == LAZYDFA_OK, pattern);
 }
 

@@ -2,7 +2,7 @@
 #ifndef NFAS_H
 #define NFAS_H
 
-#include "lazydfa.h"
+#include "lazydfa_automata.h"
 
 #define TRY(call)                                            \
     do {                                                     \
@@ -91,15 +91,18 @@ static inline lazydfa_status many(lazydfa_builder *b, lazydfa_starts *starts) {
 }
 
 /* Opens a cache of an NFA, and closes the regex and the builder, which the cache does not need. */
-static inline lazydfa_status open_cache(lazydfa_cache *cache, make_nfa *make, const lazydfa_settings *settings,
+static inline lazydfa_status open_cache(lazydfa_cache *cache, make_nfa *make, const lazydfa_options *options,
                                         const uint8_t *quits, size_t length) {
     lazydfa_builder builder = LAZYDFA_INIT;
     lazydfa_regex regex = LAZYDFA_INIT;
     lazydfa_starts starts = { { 0 }, { 0 } };
+    lazydfa_options with_quits = LAZYDFA_OPTIONS_INIT;
     lazydfa_status status = lazydfa_builder_new(&builder);
+    if (options) with_quits = *options;
+    with_quits.quits = quits;
+    with_quits.quit_count = length;
     if (status.code == LAZYDFA_OK) status = make(&builder, &starts);
-    if (status.code == LAZYDFA_OK)
-        status = lazydfa_regex_build(&regex, &builder, starts, settings, quits, length);
+    if (status.code == LAZYDFA_OK) status = lazydfa_regex_build(&regex, &builder, starts, &with_quits);
     if (status.code == LAZYDFA_OK) status = lazydfa_cache_new(cache, &regex);
     lazydfa_regex_close(&regex);
     lazydfa_builder_close(&builder);

@@ -31,13 +31,14 @@
     } while (0)
 
 /* Opens a cache of a pattern's text, with the option `bytes`, so that empty matches are not skipped. */
-static void open_text(lazydfa_cache *cache, const char *pattern, const lazydfa_settings *settings, const char *quits) {
+static void open_text(lazydfa_cache *cache, const char *pattern, const lazydfa_options *settings, const char *quits) {
     lazydfa_regex regex = LAZYDFA_INIT;
-    lazydfa_text_options options;
-    memset(&options, 0, sizeof options);
+    lazydfa_options options = LAZYDFA_OPTIONS_INIT;
+    if (settings) options = *settings;
     options.bytes = options.no_unicode = 1;
-    CODE(lazydfa_regex_new(&regex, pattern, strlen(pattern), &options, settings, bytes(quits), strlen(quits), NULL,
-                           NULL, 0), LAZYDFA_OK);
+    options.quits = bytes(quits);
+    options.quit_count = strlen(quits);
+    CODE(lazydfa_regex_new(&regex, pattern, strlen(pattern), &options, NULL), LAZYDFA_OK);
     CODE(lazydfa_cache_new(cache, &regex), LAZYDFA_OK);
     CODE(lazydfa_regex_close(&regex), LAZYDFA_OK);
 }
@@ -103,9 +104,8 @@ static void beside(void) {
 
 static void modes(void) {
     lazydfa_cache c = LAZYDFA_INIT;
-    lazydfa_settings settings;
+    lazydfa_options settings = LAZYDFA_OPTIONS_INIT;
     lazydfa_half h;
-    memset(&settings, 0, sizeof settings);
     CODE(open_cache(&c, two, NULL, NULL, 0), LAZYDFA_OK);
     FAILS(lazydfa_pieces_begin(&c, LAZYDFA_ANCHORED_PATTERN, 1, -1, 0), LAZYDFA_ANCHORED, 0, 0);
     CODE(lazydfa_cache_close(&c), LAZYDFA_OK);
@@ -152,15 +152,15 @@ static void quits(void) {
 static void gives_up(void) {
     enum { LENGTH = 4096 };
     lazydfa_cache c = LAZYDFA_INIT;
-    lazydfa_settings small;
+    lazydfa_options small = LAZYDFA_OPTIONS_INIT;
     lazydfa_status status;
     lazydfa_half h;
     uint32_t done = 99;
     uint8_t hay[LENGTH];
     int i;
     for (i = 0; i < LENGTH; i++) hay[i] = (uint8_t)(i % 9 == 8 ? '-' : "ab"[(i * i + i / 7) % 3 % 2]);
-    memset(&small, 0, sizeof small);
-    small.has_cache_capacity = small.skip_cache_capacity_check = small.has_minimum_cache_clear_count = 1;
+    small.zeros |= LAZYDFA_ZERO_CACHE_CAPACITY | LAZYDFA_ZERO_CLEAR_COUNT;
+    small.skip_cache_capacity_check = 1;
     CODE(open_cache(&c, many, &small, NULL, 0), LAZYDFA_OK);
     CODE(lazydfa_pieces_begin(&c, LAZYDFA_UNANCHORED, 0, -1, 0), LAZYDFA_OK);
     READS(&c, "--", LAZYDFA_OK, 0);
@@ -177,7 +177,7 @@ static void skips(void) {
     lazydfa_cache c = LAZYDFA_INIT;
     lazydfa_regex regex = LAZYDFA_INIT;
     uint32_t done = 99;
-    CODE(lazydfa_regex_new(&regex, "a*", 2, NULL, NULL, NULL, 0, NULL, NULL, 0), LAZYDFA_OK);
+    CODE(lazydfa_regex_new(&regex, "a*", 2, NULL, NULL), LAZYDFA_OK);
     CODE(lazydfa_cache_new(&c, &regex), LAZYDFA_OK);
     CODE(lazydfa_regex_close(&regex), LAZYDFA_OK);
     FAILS(lazydfa_pieces_begin(&c, LAZYDFA_UNANCHORED, 0, -1, 0), LAZYDFA_SKIPS, 0, 0);
@@ -204,7 +204,7 @@ static void handles(void) {
     uint32_t done;
     int i;
     CODE(lazydfa_builder_new(&b), LAZYDFA_OK);
-    CODE(lazydfa_regex_new(&re, "a", 1, NULL, NULL, NULL, 0, NULL, NULL, 0), LAZYDFA_OK);
+    CODE(lazydfa_regex_new(&re, "a", 1, NULL, NULL), LAZYDFA_OK);
     wrong[0] = NULL;
     wrong[1] = &c;
     wrong[2] = (lazydfa_cache *)(void *)&re;
@@ -395,10 +395,10 @@ static void cuts(void) {
     for (i = 0; i < sizeof texts / sizeof *texts; i++) {
         for (small = 0; small < 2; small++) {
             lazydfa_cache pieces = LAZYDFA_INIT, whole = LAZYDFA_INIT;
-            lazydfa_settings settings;
+            lazydfa_options settings = LAZYDFA_OPTIONS_INIT;
             lazydfa_usage usage;
-            memset(&settings, 0, sizeof settings);
-            settings.has_cache_capacity = settings.skip_cache_capacity_check = (uint32_t)small;
+            settings.zeros = small ? LAZYDFA_ZERO_CACHE_CAPACITY : 0;
+            settings.skip_cache_capacity_check = (uint32_t)small;
             open_text(&pieces, texts[i].pattern, &settings, texts[i].quits);
             open_text(&whole, texts[i].pattern, NULL, texts[i].quits);
             for (turn = 0; turn < 150; turn++) {
@@ -419,10 +419,9 @@ static void cuts(void) {
 /* Opens two caches of a pattern's text: one of its regex, and one of the reversed regex. */
 static void open_both(lazydfa_cache *forward, lazydfa_cache *backward, const char *pattern) {
     lazydfa_regex regex = LAZYDFA_INIT, reversed = LAZYDFA_INIT;
-    lazydfa_text_options options;
-    memset(&options, 0, sizeof options);
+    lazydfa_options options = LAZYDFA_OPTIONS_INIT;
     options.bytes = options.no_unicode = 1;
-    CODE(lazydfa_regex_new(&regex, pattern, strlen(pattern), &options, NULL, NULL, 0, NULL, NULL, 0), LAZYDFA_OK);
+    CODE(lazydfa_regex_new(&regex, pattern, strlen(pattern), &options, NULL), LAZYDFA_OK);
     CODE(lazydfa_regex_reverse(&regex, &reversed), LAZYDFA_OK);
     CODE(lazydfa_cache_new(forward, &regex), LAZYDFA_OK);
     CODE(lazydfa_cache_new(backward, &reversed), LAZYDFA_OK);
@@ -436,7 +435,7 @@ static void reverses(void) {
     lazydfa_cache c = LAZYDFA_INIT;
     lazydfa_regex *no = &no_regex;
     CODE(lazydfa_builder_new(&b), LAZYDFA_OK);
-    CODE(lazydfa_regex_new(&re, "[a-z]+1", 7, NULL, NULL, NULL, 0, NULL, NULL, 0), LAZYDFA_OK);
+    CODE(lazydfa_regex_new(&re, "[a-z]+1", 7, NULL, NULL), LAZYDFA_OK);
     CODE(lazydfa_cache_new(&c, &re), LAZYDFA_OK);
     CODE(lazydfa_regex_reverse(NULL, no), LAZYDFA_ARGUMENT);
     CODE(lazydfa_regex_reverse(&re, NULL), LAZYDFA_ARGUMENT);

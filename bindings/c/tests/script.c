@@ -197,7 +197,7 @@ static lazydfa_status add_word(lazydfa_builder *b, struct outline *o, char *word
         return lazydfa_add_match(b, &id);
     default: bad_line();
     }
-    return lazydfa_bad_argument();
+    return (lazydfa_status){ LAZYDFA_ARGUMENT, 0, 0 };
 }
 
 /* Returns the start before which bytes are skipped lazily, if the two words from a state on do that; otherwise NULL. */
@@ -271,9 +271,8 @@ struct definition {
     const struct entry *entry;
     size_t forward, backward;
     int is_made;
-    lazydfa_settings settings;
+    lazydfa_options settings;
     uint8_t quits[256];
-    size_t quit_count;
 };
 
 static void set_option(struct definition *d, const char *option) {
@@ -284,15 +283,16 @@ static void set_option(struct definition *d, const char *option) {
     else if (!strcmp(option, "unicode")) d->settings.unicode_word_boundary = 1;
     else if (!strcmp(option, "tags")) d->settings.specialize_start_states = 1;
     else if (!strcmp(option, "skip")) d->settings.skip_cache_capacity_check = 1;
-    else if ((value = after(option, "quit=")) && d->quit_count < 256) d->quits[d->quit_count++] = byte(value);
+    else if ((value = after(option, "quit=")) && d->settings.quit_count < 256)
+        d->quits[d->settings.quit_count++] = byte(value);
     else if ((value = after(option, "capacity="))) {
-        d->settings.has_cache_capacity = 1;
+        d->settings.zeros |= LAZYDFA_ZERO_CACHE_CAPACITY;
         d->settings.cache_capacity = number(value);
     } else if ((value = after(option, "limit="))) {
-        d->settings.has_minimum_cache_clear_count = 1;
+        d->settings.zeros |= LAZYDFA_ZERO_CLEAR_COUNT;
         d->settings.minimum_cache_clear_count = number(value);
     } else if ((value = after(option, "perstate="))) {
-        d->settings.has_minimum_bytes_per_state = 1;
+        d->settings.zeros |= LAZYDFA_ZERO_BYTES_PER_STATE;
         d->settings.minimum_bytes_per_state = number(value);
     } else bad_line();
 }
@@ -349,9 +349,9 @@ static lazydfa_status build(const struct definition *d, lazydfa_cache *cache) {
     lazydfa_status status = fill(&forward, d, 0, &starts);
     if (status.code == LAZYDFA_OK && !d->is_made) status = fill(&backward, d, 1, &back_starts);
     if (status.code == LAZYDFA_OK)
-        status = d->is_made ? lazydfa_regex_build(&regex, &forward, starts, &d->settings, d->quits, d->quit_count)
-                            : lazydfa_regex_build_pair(&regex, &forward, starts, &backward, back_starts, &d->settings,
-                                                       d->quits, d->quit_count);
+        status = d->is_made ? lazydfa_regex_build(&regex, &forward, starts, &d->settings)
+                            : lazydfa_regex_build_pair(&regex, &forward, starts, &backward, back_starts,
+                                                       &d->settings);
     if (status.code == LAZYDFA_OK) status = lazydfa_cache_new(cache, &regex);
     lazydfa_regex_close(&regex);
     lazydfa_builder_close(&backward);
@@ -401,7 +401,9 @@ static void define(char *line) {
     struct definition d;
     lazydfa_status status;
     memset(&d, 0, sizeof d);
+    d.settings.struct_size = sizeof d.settings;
     d.settings.always_anchored = 1;
+    d.settings.quits = d.quits;
     set_source(&d, &line);
     if (regexes == MOST) bad_line();
     while ((option = next_word(&line))) set_option(&d, option);

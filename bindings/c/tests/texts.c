@@ -8,25 +8,24 @@
 
 /* Returns what a pattern finds: the spans of all matches in brackets, or the code, offset and first line of the
    message. */
-static const char *found(const char *pattern, size_t length, const char *hay, const lazydfa_text_options *options,
-                         const lazydfa_settings *settings) {
+static const char *found(const char *pattern, size_t length, const char *hay, const lazydfa_options *options) {
     static char out[512];
-    char message[200], *at = out;
+    char *at = out;
     lazydfa_regex regex = LAZYDFA_INIT;
     lazydfa_cache cache = LAZYDFA_INIT;
-    lazydfa_refusal refusal;
+    lazydfa_error error = LAZYDFA_ERROR_INIT;
     lazydfa_iteration left = lazydfa_iterate(lazydfa_whole(strlen(hay)));
     lazydfa_match match;
-    lazydfa_status status =
-        lazydfa_regex_new(&regex, pattern, length, options, settings, NULL, 0, &refusal, message, sizeof message);
+    lazydfa_status status = lazydfa_regex_new(&regex, pattern, length, options, &error);
+    CHECK(error.status.code == status.code && error.status.offset == status.offset && error.status.byte == 0);
     if (status.code != LAZYDFA_OK) {
-        message[strcspn(message, "\n")] = 0;
-        sprintf(out, "%u at %lu, %lu..%lu: %s", (unsigned)status.code, (unsigned long)status.offset,
-                (unsigned long)refusal.start, (unsigned long)refusal.end, message);
+        error.message[strcspn(error.message, "\n")] = 0;
+        sprintf(out, "%u at %lu, %lu..%lu: %.400s", (unsigned)status.code, (unsigned long)status.offset,
+                (unsigned long)error.start, (unsigned long)error.end, error.message);
         CHECK(lazydfa_regex_close(&regex).code == LAZYDFA_CLOSED);
         return out;
     }
-    CHECK(refusal.pattern == 0 && refusal.start == 0 && refusal.end == 0 && refusal.length == 0 && !*message);
+    CHECK(!error.pattern && !error.start && !error.end && !error.length && !*error.message);
     CHECK(lazydfa_cache_new(&cache, &regex).code == LAZYDFA_OK);
     CHECK(lazydfa_regex_close(&regex).code == LAZYDFA_OK);
     *at = 0;
@@ -39,7 +38,7 @@ static const char *found(const char *pattern, size_t length, const char *hay, co
 
 #define FINDS(pattern, hay, wanted)                                                          \
     do {                                                                                     \
-        const char *is_ = found(pattern, sizeof(pattern) - 1, hay, NULL, NULL);              \
+        const char *is_ = found(pattern, sizeof(pattern) - 1, hay, NULL);              \
         CHECK(!strcmp(is_, wanted) || (printf("%s: %s\n", pattern, is_), 0));                \
     } while (0)
 
@@ -66,7 +65,7 @@ static void refused(void) {
     FINDS("(a{1000}){1000}", "",
           "14 at 0, 0..0: the patterns are too large: up to this one their tables take more than 10485760 bytes; raise "
           "size_limit");
-    FINDS("ab\xFF", "", "41 at 2, 2..2: ");
+    FINDS("ab\xFF", "", "41 at 2, 2..2: the text of a pattern is not UTF-8");
 }
 
 /* Writes a pattern of this many nested groups, and returns its length. */
@@ -79,16 +78,15 @@ static size_t nest(char *pattern, size_t groups, const char *open, const char *c
 }
 
 /* Whether this many nested groups are a valid pattern. */
-static int nests(size_t groups, const lazydfa_text_options *options) {
+static int nests(size_t groups, const lazydfa_options *options) {
     char pattern[1000];
-    const char *is = found(pattern, nest(pattern, groups, "(", ")"), "a", options, NULL);
+    const char *is = found(pattern, nest(pattern, groups, "(", ")"), "a", options);
     CHECK(!strcmp(is, "[0,1]") || !strncmp(is, "40 at ", 6));
     return *is == '[';
 }
 
 static void nesting(void) {
-    lazydfa_text_options o;
-    memset(&o, 0, sizeof o);
+    lazydfa_options o = LAZYDFA_OPTIONS_INIT;
     CHECK(nests(LAZYDFA_NEST_LIMIT, NULL) && !nests(LAZYDFA_NEST_LIMIT + 1, NULL));
     o.nest_limit = 1;
     CHECK(nests(1, &o) && !nests(2, &o));
@@ -104,7 +102,7 @@ static void *nest_in_thread(void *codes) {
     size_t i, length;
     for (i = 0; i < 6; i++) {
         length = nest(pattern, LAZYDFA_NEST_LIMIT + i % 2, parts[i / 2][0], parts[i / 2][1]);
-        ((uint32_t *)codes)[i] = lazydfa_regex_new(&regex, pattern, length, NULL, NULL, NULL, 0, NULL, NULL, 0).code;
+        ((uint32_t *)codes)[i] = lazydfa_regex_new(&regex, pattern, length, NULL, NULL).code;
         lazydfa_regex_close(&regex);
     }
     return NULL;
@@ -124,10 +122,9 @@ static void small_stack(void) {
 /* Checks what a pattern finds with one option on. */
 #define FINDS_WITH(option, pattern, hay, wanted)                                             \
     do {                                                                                     \
-        lazydfa_text_options o_;                                                             \
-        memset(&o_, 0, sizeof o_);                                                           \
+        lazydfa_options o_ = LAZYDFA_OPTIONS_INIT;                                           \
         o_.option = 1;                                                                       \
-        CHECK(!strcmp(found(pattern, sizeof(pattern) - 1, hay, &o_, NULL), wanted));         \
+        CHECK(!strcmp(found(pattern, sizeof(pattern) - 1, hay, &o_), wanted));         \
     } while (0)
 
 static void flags(void) {
@@ -155,28 +152,25 @@ static void flags(void) {
 }
 
 static void options(void) {
-    lazydfa_text_options o;
-    lazydfa_settings s;
-    memset(&o, 0, sizeof o);
-    memset(&s, 0, sizeof s);
-    CHECK(!strncmp(found("(?-u)\\xFF", 9, "\xFF", &o, NULL), "40 at ", 6));
-    CHECK(!strncmp(found("\\141", 4, "a", &o, NULL), "40 at ", 6));
+    lazydfa_options o = LAZYDFA_OPTIONS_INIT, s = LAZYDFA_OPTIONS_INIT;
+    CHECK(!strncmp(found("(?-u)\\xFF", 9, "\xFF", &o), "40 at ", 6));
+    CHECK(!strncmp(found("\\141", 4, "a", &o), "40 at ", 6));
     o.no_unicode = 1;
-    CHECK(!strncmp(found(".", 1, "a", &o, NULL), "40 at ", 6));
+    CHECK(!strncmp(found(".", 1, "a", &o), "40 at ", 6));
     o.bytes = 1;
-    CHECK(!strcmp(found(".", 1, "\xC3\xA9", &o, NULL), "[0,1][1,2]"));
+    CHECK(!strcmp(found(".", 1, "\xC3\xA9", &o), "[0,1][1,2]"));
     o.no_unicode = o.bytes = 0;
-    o.has_size_limit = 1;
-    CHECK(!strncmp(found("a", 1, "a", &o, NULL), "14 at 0", 7));
+    o.zeros |= LAZYDFA_ZERO_SIZE_LIMIT;
+    CHECK(!strncmp(found("a", 1, "a", &o), "14 at 0", 7));
     o.size_limit = SIZE_MAX;
-    CHECK(!strcmp(found("a", 1, "a", &o, NULL), "[0,1]"));
+    CHECK(!strcmp(found("a", 1, "a", &o), "[0,1]"));
     s.unicode_word_boundary = 1;
-    CHECK(!strcmp(found("\\bx", 3, "ax x", NULL, &s), "[3,4]"));
+    CHECK(!strcmp(found("\\bx", 3, "ax x", &s), "[3,4]"));
     s.match_kind = 9;
-    CHECK(!strncmp(found("a", 1, "a", NULL, &s), "5 at 0", 6));
+    CHECK(!strncmp(found("a", 1, "a", &s), "5 at 0", 6));
     s.match_kind = 0;
-    s.has_cache_capacity = 1;
-    CHECK(!strncmp(found("a", 1, "a", NULL, &s), "25 at ", 6));
+    s.zeros |= LAZYDFA_ZERO_CACHE_CAPACITY;
+    CHECK(!strncmp(found("a", 1, "a", &s), "25 at ", 6));
 }
 
 static void sets(void) {
@@ -184,18 +178,16 @@ static void sets(void) {
     lazydfa_text wrong[3] = { { "a", 1 }, { "b(", 2 }, { "c", 1 } };
     lazydfa_regex regex = LAZYDFA_INIT;
     lazydfa_cache cache = LAZYDFA_INIT;
-    lazydfa_settings all;
+    lazydfa_options all = LAZYDFA_OPTIONS_INIT;
     lazydfa_input in = lazydfa_whole(6);
     lazydfa_match match;
-    lazydfa_refusal refusal;
+    lazydfa_error error = LAZYDFA_ERROR_INIT;
     lazydfa_status status;
     uint32_t which[3];
     size_t count;
-    char message[30];
-    memset(&all, 0, sizeof all);
     all.match_kind = LAZYDFA_ALL;
-    CHECK(lazydfa_regex_any_of(&regex, texts, 3, NULL, &all, NULL, 0, NULL, NULL, 0).code == LAZYDFA_OK);
-    CHECK(lazydfa_regex_any_of(&regex, texts, 3, NULL, &all, NULL, 0, NULL, NULL, 0).code == LAZYDFA_OPEN);
+    CHECK(lazydfa_regex_any_of(&regex, texts, 3, &all, NULL).code == LAZYDFA_OK);
+    CHECK(lazydfa_regex_any_of(&regex, texts, 3, &all, NULL).code == LAZYDFA_OPEN);
     CHECK(lazydfa_cache_new(&cache, &regex).code == LAZYDFA_OK);
     CHECK(lazydfa_which(&cache, bytes("foo 12"), 6, &in, 3, which, 3, &count).code == LAZYDFA_OK);
     CHECK(count == 3 && which[2] == 2);
@@ -203,38 +195,42 @@ static void sets(void) {
     CHECK(count == 2 && which[0] == 0 && which[1] == 1);
     CHECK(lazydfa_cache_close(&cache).code == LAZYDFA_OK);
     CHECK(lazydfa_regex_close(&regex).code == LAZYDFA_OK);
-    CHECK(lazydfa_regex_any_of(&regex, texts, 3, NULL, NULL, NULL, 0, NULL, NULL, 0).code == LAZYDFA_OK);
+    CHECK(lazydfa_regex_any_of(&regex, texts, 3, NULL, NULL).code == LAZYDFA_OK);
     CHECK(lazydfa_cache_new(&cache, &regex).code == LAZYDFA_OK);
     CHECK(lazydfa_find(&cache, bytes("12 foo"), 6, &in, &match).code == LAZYDFA_OK);
     CHECK(match.start == 0 && match.end == 2 && match.pattern == 0);
     CHECK(lazydfa_cache_close(&cache).code == LAZYDFA_OK);
     CHECK(lazydfa_regex_close(&regex).code == LAZYDFA_OK);
-    CHECK(lazydfa_regex_any_of(&regex, NULL, 0, NULL, NULL, NULL, 0, NULL, NULL, 0).code == LAZYDFA_OK);
+    CHECK(lazydfa_regex_any_of(&regex, NULL, 0, NULL, NULL).code == LAZYDFA_OK);
     CHECK(lazydfa_cache_new(&cache, &regex).code == LAZYDFA_OK);
     CHECK(lazydfa_is_match(&cache, bytes("12 foo"), 6, &in).code == LAZYDFA_NONE);
     CHECK(lazydfa_cache_close(&cache).code == LAZYDFA_OK);
     CHECK(lazydfa_regex_close(&regex).code == LAZYDFA_OK);
-    status = lazydfa_regex_any_of(&regex, wrong, 3, NULL, NULL, NULL, 0, &refusal, message, sizeof message);
+    status = lazydfa_regex_any_of(&regex, wrong, 3, NULL, &error);
     CHECK(status.code == LAZYDFA_SYNTAX && status.offset == 1);
-    CHECK(refusal.pattern == 1 && refusal.start == 1 && refusal.end == 2);
-    CHECK(!strcmp(message, "unclosed group\n  b(\n   ^") && refusal.length == strlen(message));
+    CHECK(error.pattern == 1 && error.start == 1 && error.end == 2);
+    CHECK(!strcmp(error.message, "unclosed group\n  b(\n   ^") && error.length == strlen(error.message));
     wrong[1].text = "b\xFF";
-    CHECK(lazydfa_regex_any_of(&regex, wrong, 3, NULL, NULL, NULL, 0, &refusal, message, 10).code == LAZYDFA_NOT_TEXT);
-    CHECK(refusal.pattern == 1 && refusal.start == 1 && refusal.end == 1 && !refusal.length && !*message);
+    CHECK(lazydfa_regex_any_of(&regex, wrong, 3, NULL, &error).code == LAZYDFA_NOT_TEXT);
+    CHECK(error.pattern == 1 && error.start == 1 && error.end == 1);
+    CHECK(!strcmp(error.message, lazydfa_code_text(LAZYDFA_NOT_TEXT)) && error.length == strlen(error.message));
     wrong[0].length = SIZE_MAX;
-    CHECK(lazydfa_regex_any_of(&regex, wrong, 1, NULL, NULL, NULL, 0, &refusal, NULL, 0).code == LAZYDFA_MEMORY);
+    CHECK(lazydfa_regex_any_of(&regex, wrong, 1, NULL, &error).code == LAZYDFA_MEMORY);
 }
 
 /* A quit byte ends a search of a regex built from text, as of any other regex. */
 static void quit_bytes(void) {
     static const lazydfa_text text = { "b+", 2 };
     static const uint8_t quits[2] = { '-', 'x' };
+    lazydfa_options options = LAZYDFA_OPTIONS_INIT;
     lazydfa_regex regex[2] = { LAZYDFA_INIT, LAZYDFA_INIT };
     lazydfa_input in = lazydfa_whole(4);
     lazydfa_match match;
     int i;
-    CHECK(lazydfa_regex_new(&regex[0], text.text, 2, NULL, NULL, quits, 2, NULL, NULL, 0).code == LAZYDFA_OK);
-    CHECK(lazydfa_regex_any_of(&regex[1], &text, 1, NULL, NULL, quits, 2, NULL, NULL, 0).code == LAZYDFA_OK);
+    options.quits = quits;
+    options.quit_count = 2;
+    CHECK(lazydfa_regex_new(&regex[0], text.text, 2, &options, NULL).code == LAZYDFA_OK);
+    CHECK(lazydfa_regex_any_of(&regex[1], &text, 1, &options, NULL).code == LAZYDFA_OK);
     for (i = 0; i < 2; i++) {
         lazydfa_cache cache = LAZYDFA_INIT;
         lazydfa_status status;
@@ -248,7 +244,7 @@ static void quit_bytes(void) {
 }
 
 /* Builds a regex of this many rules, closes it, and returns the status of the build. */
-static lazydfa_status build_rules(size_t many, const lazydfa_settings *settings, char *message, size_t room) {
+static lazydfa_status build_rules(size_t many, const lazydfa_options *options, lazydfa_error *error) {
     static lazydfa_text texts[10000];
     static char rules[10000][40];
     lazydfa_regex regex = LAZYDFA_INIT;
@@ -263,7 +259,7 @@ static lazydfa_status build_rules(size_t many, const lazydfa_settings *settings,
         texts[i].length =
             (size_t)sprintf(rules[i], "user%lu took [0-9]*%lu ms", (unsigned long)i, (unsigned long)i % 10);
     }
-    status = lazydfa_regex_any_of(&regex, texts, many, NULL, settings, NULL, 0, NULL, message, room);
+    status = lazydfa_regex_any_of(&regex, texts, many, options, error);
     if (status.code != LAZYDFA_OK) return status;
     CHECK(lazydfa_cache_new(&cache, &regex).code == LAZYDFA_OK);
     CHECK(lazydfa_cache_usage(&cache, &usage).code == LAZYDFA_OK && usage.held < 32 << 20);
@@ -277,112 +273,125 @@ static lazydfa_status build_rules(size_t many, const lazydfa_settings *settings,
 /* By default many rules build, for sets and for matches, and a new cache holds little of its capacity. Otherwise a
    message says what is needed. */
 static void many_rules(void) {
-    lazydfa_settings s;
+    lazydfa_options s = LAZYDFA_OPTIONS_INIT;
+    lazydfa_error error = LAZYDFA_ERROR_INIT;
     lazydfa_status status;
-    char message[256], wanted[256];
-    memset(&s, 0, sizeof s);
+    char wanted[256];
     for (s.match_kind = 0; s.match_kind <= LAZYDFA_ALL; s.match_kind++) {
-        CHECK(build_rules(1000, &s, NULL, 0).code == LAZYDFA_OK);
-        CHECK(build_rules(10000, &s, NULL, 0).code == LAZYDFA_OK);
+        CHECK(build_rules(1000, &s, NULL).code == LAZYDFA_OK);
+        CHECK(build_rules(10000, &s, NULL).code == LAZYDFA_OK);
     }
     s.match_kind = 0;
-    s.has_cache_capacity = 1;
+    s.zeros |= LAZYDFA_ZERO_CACHE_CAPACITY;
     s.cache_capacity = 2 << 20;
-    status = build_rules(1000, &s, message, sizeof message);
+    status = build_rules(1000, &s, &error);
     CHECK(status.code == LAZYDFA_CAPACITY && status.offset > 2 << 20);
     sprintf(wanted,
             "a cache of the patterns needs at least %lu bytes, and may take only 2097152 (cache_capacity) or 0 "
             "(cache_limit); raise cache_limit",
             (unsigned long)status.offset);
-    CHECK(!strcmp(message, wanted));
-    s.has_cache_limit = 1;
+    CHECK(!strcmp(error.message, wanted));
+    s.zeros |= LAZYDFA_ZERO_CACHE_LIMIT;
     s.cache_limit = status.offset - 1;
-    CHECK(build_rules(1000, &s, NULL, 0).code == LAZYDFA_CAPACITY);
+    CHECK(build_rules(1000, &s, NULL).code == LAZYDFA_CAPACITY);
     s.cache_limit++;
-    CHECK(build_rules(1000, &s, NULL, 0).code == LAZYDFA_OK);
+    CHECK(build_rules(1000, &s, NULL).code == LAZYDFA_OK);
 }
 
 /* Texts beyond the limits on text and on class escapes: the message names the limit. */
 static void long_texts(void) {
-    lazydfa_text_options o;
-    memset(&o, 0, sizeof o);
-    o.has_text_limit = o.has_class_limit = 1;
+    lazydfa_options o = LAZYDFA_OPTIONS_INIT;
+    o.zeros |= LAZYDFA_ZERO_TEXT_LIMIT | LAZYDFA_ZERO_CLASS_LIMIT;
     o.text_limit = 8;
     o.class_limit = 2;
-    CHECK(!strcmp(found("[0-9]{10}", 9, "", &o, NULL),
+    CHECK(!strcmp(found("[0-9]{10}", 9, "", &o),
                   "14 at 0, 0..0: the patterns have 9 bytes, and may have 8; raise text_limit"));
-    CHECK(!strcmp(found("\\w\\d\\s", 6, "", &o, NULL),
+    CHECK(!strcmp(found("\\w\\d\\s", 6, "", &o),
                   "14 at 0, 0..0: the patterns have 3 class escapes, and may have 2; raise class_limit"));
-    CHECK(!strcmp(found("\\w\\da", 5, "x1a", &o, NULL), "[0,3]"));
+    CHECK(!strcmp(found("\\w\\da", 5, "x1a", &o), "[0,3]"));
 }
 
-/* A message with any amount of room is cut at a character, and nothing is written outside the room. */
+/* A message that does not fit is cut at a character, and ends with a zero. */
 static void messages(void) {
-    static const char pattern[] = "\xC3\xA9(\xC3\xA9";
-    static const char whole[] = "unclosed group\n  \xC3\xA9(\xC3\xA9\n   ^";
+    static const char begin[] = "unclosed group\n  ";
+    static char pattern[6000];
     lazydfa_regex regex = LAZYDFA_INIT;
-    lazydfa_refusal refusal;
+    lazydfa_error error = LAZYDFA_ERROR_INIT;
     lazydfa_status status;
-    char message[40];
-    size_t room, shown;
-    for (room = 0; room < sizeof message; room++) {
-        memset(message, '#', sizeof message);
-        status = lazydfa_regex_new(&regex, pattern, sizeof pattern - 1, NULL, NULL, NULL, 0, &refusal, message, room);
-        CHECK(status.code == LAZYDFA_SYNTAX && status.offset == 2);
-        CHECK(refusal.length == sizeof whole - 1 && refusal.start == 2 && refusal.end == 3);
-        shown = room ? strlen(message) : 0;
-        CHECK(room == 0 || (shown < room && !memcmp(message, whole, shown)));
-        CHECK(room == 0 || shown + 2 >= room || shown == sizeof whole - 1);
-        CHECK(room == sizeof message || message[room] == '#');
+    size_t plain, length, room = sizeof error.message, shown, whole;
+    for (length = 1900; length < 2200; length++)
+        for (plain = 0; plain < 2; plain++) {
+            size_t i = 0;
+            while (i < plain) pattern[i++] = 'a';
+            while (i < length - 1) i += (size_t)sprintf(pattern + i, "\xC3\xA9");
+            pattern[i] = '(';
+            memset(error.message, '#', room);
+            status = lazydfa_regex_new(&regex, pattern, i + 1, NULL, &error);
+            CHECK(status.code == LAZYDFA_SYNTAX && status.offset == i && error.start == i && error.end == i + 1);
+            /* the carets are below characters */
+            whole = sizeof begin - 1 + i + 1 + 3 + plain + (i - plain) / 2 + 1;
+            shown = strlen(error.message);
+            CHECK(error.length == whole && shown <= whole && shown < room);
+            CHECK(shown == whole || shown + 2 >= room);
+            CHECK(!strncmp(error.message, begin, sizeof begin - 1));
+            CHECK(shown < sizeof begin + i || error.message[sizeof begin + i] == '\n');
+        }
+    for (length = 4071; length < 4101; length += 2) {
+        for (plain = 0; plain < length - 1; plain++) pattern[plain] = "\xC3\xA9"[plain % 2];
+        pattern[plain] = '(';
+        CHECK(lazydfa_regex_new(&regex, pattern, length, NULL, &error).code == LAZYDFA_SYNTAX);
+        shown = strlen(error.message);
+        CHECK(shown < room && shown + 2 >= room && error.length > shown);
+        shown -= sizeof begin - 1;
+        CHECK(!memcmp(error.message + sizeof begin - 1, pattern, shown < length ? shown : length));
+        CHECK(shown >= length || shown % 2 == 0);
     }
 }
 
-/* Checks that a call writes that no text has an error, over what was there before. */
+/* Checks that a call writes that no text has an error, over what was there before, with what the code means. */
 #define WRITES_NONE(call, wanted)                                                             \
     do {                                                                                      \
-        memset(&refusal, 9, sizeof refusal);                                                  \
-        memset(message, 9, sizeof message);                                                   \
-        CHECK((call).code == (wanted));                                                       \
-        CHECK(!refusal.pattern && !refusal.start && !refusal.end && !refusal.length);         \
-        CHECK(!*message);                                                                     \
+        memset(&error, 9, sizeof error);                                                      \
+        error.struct_size = sizeof error;                                                     \
+        CHECK((call).code == (wanted) && error.status.code == (wanted));                      \
+        CHECK(!error.status.offset && !error.pattern && !error.start && !error.end);          \
+        CHECK(!strcmp(error.message, (wanted) ? lazydfa_code_text(wanted) : ""));             \
+        CHECK(error.length == strlen(error.message));                                         \
     } while (0)
 
 static void writes(void) {
     lazydfa_text none = { NULL, 1 }, a = { "a", 1 };
+    lazydfa_options no_quits = LAZYDFA_OPTIONS_INIT;
     lazydfa_regex re = LAZYDFA_INIT;
-    lazydfa_refusal refusal;
-    char message[8];
-    WRITES_NONE(lazydfa_regex_new(NULL, "a", 1, NULL, NULL, NULL, 0, &refusal, message, 8), LAZYDFA_ARGUMENT);
-    WRITES_NONE(lazydfa_regex_new(&re, NULL, 1, NULL, NULL, NULL, 0, &refusal, message, 8), LAZYDFA_ARGUMENT);
-    WRITES_NONE(lazydfa_regex_new(&re, "a", 1, NULL, NULL, NULL, 1, &refusal, message, 8), LAZYDFA_ARGUMENT);
-    WRITES_NONE(lazydfa_regex_any_of(NULL, &a, 1, NULL, NULL, NULL, 0, &refusal, message, 8), LAZYDFA_ARGUMENT);
-    WRITES_NONE(lazydfa_regex_any_of(&re, NULL, 1, NULL, NULL, NULL, 0, &refusal, message, 8), LAZYDFA_ARGUMENT);
-    WRITES_NONE(lazydfa_regex_any_of(&re, &none, 1, NULL, NULL, NULL, 0, &refusal, message, 8), LAZYDFA_ARGUMENT);
-    WRITES_NONE(lazydfa_regex_any_of(&re, &a, 1, NULL, NULL, NULL, 1, &refusal, message, 8), LAZYDFA_ARGUMENT);
-    WRITES_NONE(lazydfa_regex_any_of(&re, &a, 1, NULL, NULL, NULL, 0, &refusal, message, 8), LAZYDFA_OK);
-    WRITES_NONE(lazydfa_regex_any_of(&re, &a, 1, NULL, NULL, NULL, 0, &refusal, message, 8), LAZYDFA_OPEN);
-    WRITES_NONE(lazydfa_regex_new(&re, "a", 1, NULL, NULL, NULL, 0, &refusal, message, 8), LAZYDFA_OPEN);
+    lazydfa_error error;
+    no_quits.quit_count = 1;
+    WRITES_NONE(lazydfa_regex_new(NULL, "a", 1, NULL, &error), LAZYDFA_ARGUMENT);
+    WRITES_NONE(lazydfa_regex_new(&re, NULL, 1, NULL, &error), LAZYDFA_ARGUMENT);
+    WRITES_NONE(lazydfa_regex_new(&re, "a", 1, &no_quits, &error), LAZYDFA_ARGUMENT);
+    WRITES_NONE(lazydfa_regex_any_of(NULL, &a, 1, NULL, &error), LAZYDFA_ARGUMENT);
+    WRITES_NONE(lazydfa_regex_any_of(&re, NULL, 1, NULL, &error), LAZYDFA_ARGUMENT);
+    WRITES_NONE(lazydfa_regex_any_of(&re, &none, 1, NULL, &error), LAZYDFA_ARGUMENT);
+    WRITES_NONE(lazydfa_regex_any_of(&re, &a, 1, &no_quits, &error), LAZYDFA_ARGUMENT);
+    WRITES_NONE(lazydfa_regex_any_of(&re, &a, 1, NULL, &error), LAZYDFA_OK);
+    WRITES_NONE(lazydfa_regex_any_of(&re, &a, 1, NULL, &error), LAZYDFA_OPEN);
+    WRITES_NONE(lazydfa_regex_new(&re, "a", 1, NULL, &error), LAZYDFA_OPEN);
     CHECK(lazydfa_regex_close(&re).code == LAZYDFA_OK);
-    memset(&refusal, 9, sizeof refusal);
-    CHECK(lazydfa_regex_new(&re, "a", 1, NULL, NULL, NULL, 0, &refusal, NULL, 1).code == LAZYDFA_ARGUMENT);
-    CHECK(!refusal.pattern && !refusal.start && !refusal.end && !refusal.length);
 }
 
 static void nulls(void) {
     lazydfa_text text = { NULL, 1 };
+    lazydfa_options no_quits = LAZYDFA_OPTIONS_INIT;
     lazydfa_regex regex = LAZYDFA_INIT;
-    char message[8];
-    CHECK(lazydfa_regex_new(NULL, "a", 1, NULL, NULL, NULL, 0, NULL, NULL, 0).code == LAZYDFA_ARGUMENT);
-    CHECK(lazydfa_regex_new(&regex, NULL, 1, NULL, NULL, NULL, 0, NULL, NULL, 0).code == LAZYDFA_ARGUMENT);
-    CHECK(lazydfa_regex_new(&regex, "a", 1, NULL, NULL, NULL, 0, NULL, NULL, 1).code == LAZYDFA_ARGUMENT);
-    CHECK(lazydfa_regex_new(&regex, "a", 1, NULL, NULL, NULL, 1, NULL, NULL, 0).code == LAZYDFA_ARGUMENT);
-    CHECK(lazydfa_regex_any_of(&regex, NULL, 0, NULL, NULL, NULL, 1, NULL, NULL, 0).code == LAZYDFA_ARGUMENT);
-    CHECK(lazydfa_regex_any_of(NULL, NULL, 0, NULL, NULL, NULL, 0, NULL, NULL, 0).code == LAZYDFA_ARGUMENT);
-    CHECK(lazydfa_regex_any_of(&regex, NULL, 1, NULL, NULL, NULL, 0, NULL, NULL, 0).code == LAZYDFA_ARGUMENT);
-    CHECK(lazydfa_regex_any_of(&regex, &text, 1, NULL, NULL, NULL, 0, NULL, NULL, 0).code == LAZYDFA_ARGUMENT);
-    CHECK(lazydfa_regex_any_of(&regex, NULL, 0, NULL, NULL, NULL, 0, NULL, NULL, 1).code == LAZYDFA_ARGUMENT);
-    CHECK(lazydfa_regex_new(&regex, NULL, 0, NULL, NULL, NULL, 0, NULL, message, 8).code == LAZYDFA_OK);
-    CHECK(lazydfa_regex_new(&regex, "a", 1, NULL, NULL, NULL, 0, NULL, message, 8).code == LAZYDFA_OPEN);
+    no_quits.quit_count = 1;
+    CHECK(lazydfa_regex_new(NULL, "a", 1, NULL, NULL).code == LAZYDFA_ARGUMENT);
+    CHECK(lazydfa_regex_new(&regex, NULL, 1, NULL, NULL).code == LAZYDFA_ARGUMENT);
+    CHECK(lazydfa_regex_new(&regex, "a", 1, &no_quits, NULL).code == LAZYDFA_ARGUMENT);
+    CHECK(lazydfa_regex_any_of(&regex, NULL, 0, &no_quits, NULL).code == LAZYDFA_ARGUMENT);
+    CHECK(lazydfa_regex_any_of(NULL, NULL, 0, NULL, NULL).code == LAZYDFA_ARGUMENT);
+    CHECK(lazydfa_regex_any_of(&regex, NULL, 1, NULL, NULL).code == LAZYDFA_ARGUMENT);
+    CHECK(lazydfa_regex_any_of(&regex, &text, 1, NULL, NULL).code == LAZYDFA_ARGUMENT);
+    CHECK(lazydfa_regex_new(&regex, NULL, 0, NULL, NULL).code == LAZYDFA_OK);
+    CHECK(lazydfa_regex_new(&regex, "a", 1, NULL, NULL).code == LAZYDFA_OPEN);
     CHECK(lazydfa_regex_close(&regex).code == LAZYDFA_OK);
 }
 

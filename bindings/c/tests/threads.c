@@ -90,7 +90,7 @@ static int open_all(lazydfa_regex *regex, struct job *jobs) {
     static const lazydfa_text texts[2] = { { "[a-z]+", 6 }, { "[0-9]+", 6 } };
     static const struct job none = { 0, 0, 0, 0, LAZYDFA_INIT, LAZYDFA_INIT };
     int i;
-    if (lazydfa_regex_any_of(regex, texts, 2, NULL, NULL, NULL, 0, NULL, NULL, 0).code != LAZYDFA_OK) return 0;
+    if (lazydfa_regex_any_of(regex, texts, 2, NULL, NULL).code != LAZYDFA_OK) return 0;
     for (i = 0; i < THREADS; i++) {
         jobs[i] = none;
         jobs[i].number = i;

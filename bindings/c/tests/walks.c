@@ -58,28 +58,25 @@ static int lists(lazydfa_cache *cache, size_t count, uint32_t which) { return li
 
 /* Opens a cache of patterns' texts, with the option `bytes`, so that empty matches are not skipped. All matches are
    reported. */
-static void open_texts(lazydfa_cache *cache, const char *const *patterns, lazydfa_settings settings,
-                       const char *quits) {
+static void open_texts(lazydfa_cache *cache, const char *const *patterns, lazydfa_options options, const char *quits) {
     lazydfa_regex regex = LAZYDFA_INIT;
-    lazydfa_text_options options;
     lazydfa_text texts[8];
     size_t count;
-    memset(&options, 0, sizeof options);
     options.bytes = options.no_unicode = 1;
-    settings.match_kind = LAZYDFA_ALL;
+    options.match_kind = LAZYDFA_ALL;
+    options.quits = bytes(quits);
+    options.quit_count = strlen(quits);
     for (count = 0; patterns[count]; count++) {
         texts[count].text = patterns[count];
         texts[count].length = strlen(patterns[count]);
     }
-    CODE(lazydfa_regex_any_of(&regex, texts, count, &options, &settings, bytes(quits), strlen(quits), NULL, NULL, 0),
-         LAZYDFA_OK);
+    CODE(lazydfa_regex_any_of(&regex, texts, count, &options, NULL), LAZYDFA_OK);
     CODE(lazydfa_cache_new(cache, &regex), LAZYDFA_OK);
     CODE(lazydfa_regex_close(&regex), LAZYDFA_OK);
 }
 
-static lazydfa_settings plain(void) {
-    lazydfa_settings settings;
-    memset(&settings, 0, sizeof settings);
+static lazydfa_options plain(void) {
+    lazydfa_options settings = LAZYDFA_OPTIONS_INIT;
     return settings;
 }
 
@@ -88,7 +85,7 @@ static lazydfa_settings plain(void) {
 /* [a-z]+ and [0-9a-z ], over "1ab": the second ends at 1, both at 2 and at 3. */
 static void walks(void) {
     lazydfa_cache c = LAZYDFA_INIT;
-    lazydfa_settings settings = plain();
+    lazydfa_options settings = plain();
     lazydfa_stop stop;
     lazydfa_half half;
     uint32_t done;
@@ -151,7 +148,7 @@ static void beside(void) {
 
 static void modes(void) {
     lazydfa_cache c = LAZYDFA_INIT;
-    lazydfa_settings settings = plain();
+    lazydfa_options settings = plain();
     lazydfa_stop stop;
     lazydfa_status status;
     settings.match_kind = LAZYDFA_ALL;
@@ -205,14 +202,15 @@ static void quits(void) {
 static void gives_up(void) {
     enum { LENGTH = 4096 };
     lazydfa_cache c = LAZYDFA_INIT;
-    lazydfa_settings small = plain();
+    lazydfa_options small = plain();
     lazydfa_status status;
     lazydfa_stop stop;
     uint8_t hay[LENGTH];
     int i;
     for (i = 0; i < LENGTH; i++) hay[i] = (uint8_t)(i % 9 == 8 ? '-' : "ab"[(i * i + i / 7) % 3 % 2]);
     small.match_kind = LAZYDFA_ALL;
-    small.has_cache_capacity = small.skip_cache_capacity_check = small.has_minimum_cache_clear_count = 1;
+    small.zeros |= LAZYDFA_ZERO_CACHE_CAPACITY | LAZYDFA_ZERO_CLEAR_COUNT;
+    small.skip_cache_capacity_check = 1;
     CODE(open_cache(&c, many, &small, NULL, 0), LAZYDFA_OK);
     CODE(lazydfa_walk_begin(&c, LAZYDFA_UNANCHORED, 0, -1), LAZYDFA_OK);
     PASSES(READ("--"), 2);
@@ -232,7 +230,7 @@ static void skips(void) {
     lazydfa_regex regex = LAZYDFA_INIT;
     lazydfa_stop stop;
     lazydfa_status status;
-    CODE(lazydfa_regex_new(&regex, "a*", 2, NULL, NULL, NULL, 0, NULL, NULL, 0), LAZYDFA_OK);
+    CODE(lazydfa_regex_new(&regex, "a*", 2, NULL, NULL), LAZYDFA_OK);
     CODE(lazydfa_cache_new(&c, &regex), LAZYDFA_OK);
     CODE(lazydfa_regex_close(&regex), LAZYDFA_OK);
     status = lazydfa_walk_begin(&c, LAZYDFA_UNANCHORED, 0, -1);
@@ -261,7 +259,7 @@ static void handles(void) {
     uint32_t pattern = 77;
     int i;
     CODE(lazydfa_builder_new(&b), LAZYDFA_OK);
-    CODE(lazydfa_regex_new(&re, "a", 1, NULL, NULL, NULL, 0, NULL, NULL, 0), LAZYDFA_OK);
+    CODE(lazydfa_regex_new(&re, "a", 1, NULL, NULL), LAZYDFA_OK);
     wrong[0] = NULL;
     wrong[1] = &c;
     wrong[2] = (lazydfa_cache *)(void *)&re;
@@ -456,9 +454,10 @@ static void cuts(void) {
     for (i = 0; i < sizeof texts / sizeof *texts; i++) {
         for (small = 0; small < 2; small++) {
             lazydfa_cache walk = LAZYDFA_INIT, whole = LAZYDFA_INIT;
-            lazydfa_settings settings = plain();
+            lazydfa_options settings = plain();
             lazydfa_usage usage;
-            settings.has_cache_capacity = settings.skip_cache_capacity_check = (uint32_t)small;
+            settings.zeros = small ? LAZYDFA_ZERO_CACHE_CAPACITY : 0;
+            settings.skip_cache_capacity_check = (uint32_t)small;
             open_texts(&walk, texts[i].patterns, settings, "");
             open_texts(&whole, texts[i].patterns, plain(), "");
             for (turn = 0; turn < 100; turn++) {

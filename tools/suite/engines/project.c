@@ -17,23 +17,17 @@ struct engine {
 
 void *engine_new(const struct work *work) {
     struct engine *it = calloc(1, sizeof *it);
-    lazydfa_settings settings;
-    lazydfa_text_options options;
+    lazydfa_options options = LAZYDFA_OPTIONS_INIT;
     lazydfa_text *texts = malloc(sizeof *texts * work->patterns);
-    lazydfa_refusal refusal;
     lazydfa_status status;
-    char message[256];
-    memset(&settings, 0, sizeof settings);
-    memset(&options, 0, sizeof options);
-    settings.match_kind = work->set ? LAZYDFA_ALL : LAZYDFA_LEFTMOST_FIRST;
+    options.match_kind = work->set ? LAZYDFA_ALL : LAZYDFA_LEFTMOST_FIRST;
     options.nest_limit = 200;
     options.no_unicode = options.bytes = !work->unicode;
     for (size_t i = 0; i < work->patterns; i++) {
         texts[i].text = work->text[i];
         texts[i].length = work->length[i];
     }
-    status = lazydfa_regex_any_of(&it->regex, texts, work->patterns, &options, &settings, NULL, 0, &refusal, message,
-                                  sizeof message);
+    status = lazydfa_regex_any_of(&it->regex, texts, work->patterns, &options, NULL);
     free(texts);
     if (status.code == LAZYDFA_OK) status = lazydfa_cache_new(&it->cache, &it->regex);
     if (status.code != LAZYDFA_OK) {
