@@ -5,8 +5,8 @@
 
 The environment's server, where a database is made for it, asks three others, which the script makes in the folder from
 the programs of that server (PG_PROGRAMS) and stops at the end. The tests are that conditions are sent to the clusters,
-that these work at the same time, and that they find what `~` finds. With ROUNDS, it then measures, for the README of the
-extension, how long a query takes over the three at once and over one after another; the median ratio is printed.
+that these work at the same time, and that they find what `~` finds. With ROUNDS, it then measures, for the README of
+the extension, how long a query takes over the three at once and over one after another; the median ratio is printed.
 """
 import os
 import re
@@ -57,7 +57,8 @@ class Cluster:
         self.socket = os.environ["PGHOST"]
 
     def start(self):
-        ran([f"{PROGRAMS}/initdb", "-D", self.data, "-U", "lazydfa", "-E", "UTF8", "--locale=C.UTF-8", "-A", "trust", "-N"])
+        how = ["-U", "lazydfa", "-E", "UTF8", "--locale=C.UTF-8", "-A", "trust", "-N"]
+        ran([f"{PROGRAMS}/initdb", "-D", self.data, *how])
         options = f"-c listen_addresses= -c unix_socket_directories={self.socket} -c port={self.port} -c fsync=off"
         options += " -c max_parallel_workers_per_gather=0 -c shared_buffers=1GB"
         ran([f"{PROGRAMS}/pg_ctl", "-D", self.data, "-w", "-l", f"{self.data}.log", "-o", options, "start"])
