@@ -25,8 +25,8 @@ CALLS_HEAD = """# The public calls
 
 Each call of the crates `patterns`, `regex_automata` and `replay`, in the module from which you import it: its signature
 without clauses and ghost parameters, and the first sentence of its docstring. Each type comes before its calls, with its public
-fields or its variants. [CLAUSES](CLAUSES.md) has what is proved of each call; `bindings/c/include/lazydfa.h` has the
-calls for C. `tools/documents.py --write` writes this page.
+fields or its variants. [CLAUSES](CLAUSES.md) has what is proved of each call; the headers in `bindings/c/include` have
+the calls for C. `tools/documents.py --write` writes this page.
 """
 CLAUSES_HEAD = """# The clauses of the public calls
 

@@ -1,9 +1,9 @@
 #!/bin/bash
 # Makes a release for machines without a kit:
 #     tools/dist.sh FOLDER [--clean-root]
-# In FOLDER are then, for Linux on x86-64-v2: a tarball with the library for C (archive, shared library, header, files
+# In FOLDER are then, for Linux on x86-64-v2: a tarball with the library for C (archive, shared library, headers, files
 # for pkg-config and CMake, a manual page, guides, licences, and BUILD, which says of what it was made); the Debian
-# packages liblazydfa0, liblazydfa-dev, lgrep (the example grep) and, if the server's headers are there,
+# packages liblazydfa1, liblazydfa-dev, lgrep (the example grep) and, if the server's headers are there,
 # postgresql-15-lazydfa; the Rust crate with the archive in it; the Python package; and SHA256SUMS. Equal commits and
 # archives give equal bytes: times are those of the commit.
 #

@@ -12,7 +12,7 @@ import subprocess
 import sys
 
 TOP = os.path.dirname(os.path.dirname(os.path.abspath(__file__)))
-PACKAGE, LIBRARY = f"{TOP}/bindings/python", f"{TOP}/bindings/c/out/liblazydfa.so.0"
+PACKAGE, LIBRARY = f"{TOP}/bindings/python", f"{TOP}/bindings/c/out/liblazydfa.so.1"
 NAMES = {"LAZYDFA_LIBRARY": LIBRARY, "PYTHONPATH": f"{PACKAGE}/src", "PYTHONDONTWRITEBYTECODE": "1"}
 BLOCK = re.compile(r"^```(?:python|text)\n(.*?)^```$", re.M | re.S)
 

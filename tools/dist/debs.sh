@@ -48,8 +48,8 @@ finish() { # NAME SECTION DEPENDS SHORT [FIELD..]
 package_library() {
     begin "liblazydfa$abi"
     mkdir -p "$it$libdir"
-    cp -d "$staged$libdir/liblazydfa.so.$abi"* "$it$libdir"
-    chmod 644 "$it$libdir/liblazydfa.so.$version"
+    cp "$staged$libdir/liblazydfa.so.$abi" "$it$libdir"
+    chmod 644 "$it$libdir/liblazydfa.so.$abi"
     echo "liblazydfa $abi liblazydfa$abi (>= $version)" >"$it/DEBIAN/shlibs"
     echo "activate-noawait ldconfig" >"$it/DEBIAN/triggers"
     finish "liblazydfa$abi" libs "libc6 (>= 2.14)" "regular expressions by a lazy DFA - shared library" \
@@ -70,7 +70,7 @@ package_development() {
     cp -r "$room/$name/share/doc/lazydfa/." "$it/usr/share/doc/liblazydfa-dev"
     finish liblazydfa-dev libdevel "liblazydfa$abi (= $revision)" \
         "regular expressions by a lazy DFA - development files" "Multi-Arch: same" <<END
-The header, the archive, the files for pkg-config and CMake, and documents.
+The headers, the archive, the files for pkg-config and CMake, and documents.
 END
 }
 

@@ -146,9 +146,10 @@ typedef struct { lazydfa_handle handle; } lazydfa_cache;
 #define LAZYDFA_INIT { { NULL, 0 } }
 
 /* Free what a handle owns. A closed handle may be opened again. Handles may be closed in any order, since a cache keeps
-   its regex alive. LAZYDFA_OK, or LAZYDFA_CLOSED if the handle owned nothing. */
+   its regex alive. LAZYDFA_OK, or LAZYDFA_CLOSED if the handle owned nothing. The last call takes any kind of handle. */
 lazydfa_status lazydfa_regex_close(lazydfa_regex *regex);
 lazydfa_status lazydfa_cache_close(lazydfa_cache *cache);
+lazydfa_status lazydfa_close(lazydfa_handle *handle);
 
 /* ---- Options ---- */
 
@@ -200,8 +201,6 @@ typedef struct {
     size_t cache_limit;                 /* in bytes; by default 256 MiB, or none if cache_capacity is set */
     size_t minimum_cache_clear_count;   /* clears after which a search may give up; by default it never does */
     size_t minimum_bytes_per_state;     /* and it does so only if it searched fewer bytes than this per state */
-    const uint8_t *quits;               /* the quit bytes, at which a search fails; by default there are none */
-    size_t quit_count;                  /* how many there are */
     uint32_t zeros;                     /* which numbers are 0 themselves: flags of enum lazydfa_zero */
     uint32_t match_kind;                /* an enum lazydfa_match_kind */
     uint32_t starts_for_each_pattern;   /* for LAZYDFA_ANCHORED_PATTERN */
@@ -209,9 +208,9 @@ typedef struct {
     uint32_t unicode_word_boundary;     /* allows one: bytes from 0x80 on are quit bytes if the regex has one */
     uint32_t specialize_start_states;
     uint32_t skip_cache_capacity_check; /* raises a capacity that is too small */
-
-    /* for a regex of a builder */
-    uint32_t always_anchored;           /* its two starts may be one state: every search is anchored then */
+    uint32_t always_anchored;           /* a builder's two starts may be one state: every search is anchored then */
+    const uint8_t *quits;               /* the quit bytes, at which a search fails; by default there are none */
+    size_t quit_count;                  /* how many there are */
 
     /* for a regex of texts. A pattern sets flags for a part of itself with (?imsRUx-u:...). */
     size_t size_limit;                  /* bytes for the tables of all patterns, and 24 each; by default 10 MiB */
@@ -231,8 +230,8 @@ typedef struct {
     uint32_t reserved;
 } lazydfa_options;
 
-#define LAZYDFA_OPTIONS_INIT { sizeof(lazydfa_options), 0, 0, 0, 0, NULL, 0, 0, 0, 0, 0, 0, 0, 0, 0, 0, 0, 0, \
-                               0, 0, 0, 0, 0, 0, 0, 0, 0, 0, 0, 0 }
+#define LAZYDFA_OPTIONS_INIT { sizeof(lazydfa_options), 0, 0, 0, 0, 0, 0, 0, 0, 0, 0, 0, 0, NULL, 0, \
+                               0, 0, 0, 0, 0, 0, 0, 0, 0, 0, 0, 0, 0, 0, 0 }
 
 /* ---- Regexes ----
  *
@@ -249,14 +248,15 @@ typedef struct {
 
 /* What a call that builds a regex returned, and why. LAZYDFA_ERROR_INIT sets the size, and the call writes the rest,
    with every code. If a text has an error, the message is what is wrong, the pattern, and carets below the part that
-   this is about, in lines separated by '\n'. For other errors it is one line, for LAZYDFA_OK nothing. It ends with a
-   zero, and is cut at a character if it does not fit. If the pattern contains a zero, so does the message. */
+   this is about, in lines separated by '\n'; if a limit is exceeded, which one. For other errors it is what the code
+   means, for LAZYDFA_OK it is empty. It ends with a zero, and is cut at a character if it does not fit. If the pattern
+   contains a zero, so does the message. */
 typedef struct {
     size_t struct_size;    /* sizeof(lazydfa_error) */
     lazydfa_status status; /* what the call returned */
     size_t pattern;        /* the index of the text that has the error, from 0; 0 if the error is about all texts */
     size_t start, end;     /* the span of the text that the error is about, or the offset where it stops being UTF-8 */
-    size_t length;         /* the length of the whole message, in bytes, even if it was cut */
+    size_t length;         /* of the whole message about the text or the limit, in bytes; 0 if there is none */
     char message[4096];
 } lazydfa_error;
 

@@ -152,10 +152,12 @@ static int clear_error(lazydfa_error *error) {
 /* Writes what a call returns to its error, with what the code means if there is no other message. */
 static lazydfa_status report(lazydfa_error *error, lazydfa_status status) {
     const char *text = lazydfa_code_text(status.code);
+    size_t i = 0;
     if (!error) return status;
     error->status = status;
     if (status.code == LAZYDFA_OK || error->length) return status;
-    while ((error->message[error->length] = text[error->length]) != 0) error->length++;
+    do error->message[i] = text[i];
+    while (text[i++]);
     return status;
 }
 
@@ -230,6 +232,11 @@ lazydfa_status lazydfa_regex_new(lazydfa_regex *regex, const char *pattern, size
     text.text = pattern;
     text.length = length;
     return lazydfa_regex_any_of(regex, &text, 1, options, error);
+}
+
+lazydfa_status lazydfa_close(lazydfa_handle *handle) {
+    NEED(handle);
+    return lazydfa_raw_close(handle);
 }
 
 lazydfa_status lazydfa_regex_close(lazydfa_regex *regex) {

@@ -570,13 +570,15 @@ static void handles(void) {
     CODE(lazydfa_builder_close(NULL), LAZYDFA_ARGUMENT);
     CODE(lazydfa_regex_close(NULL), LAZYDFA_ARGUMENT);
     CODE(lazydfa_cache_close(NULL), LAZYDFA_ARGUMENT);
+    CODE(lazydfa_close(NULL), LAZYDFA_ARGUMENT);
+    CODE(lazydfa_close(&no_cache.handle), LAZYDFA_CLOSED);
     CODE(lazydfa_builder_new(NULL), LAZYDFA_ARGUMENT);
     /* a cache keeps its regex alive */
     CODE(lazydfa_regex_close(&re), LAZYDFA_OK);
     CODE(lazydfa_regex_close(&re), LAZYDFA_CLOSED);
-    CODE(lazydfa_builder_close(&b), LAZYDFA_OK);
+    CODE(lazydfa_close(&b.handle), LAZYDFA_OK);
     CODE(on_cache(2, &c, &in), LAZYDFA_OK);
-    CODE(lazydfa_cache_close(&c), LAZYDFA_OK);
+    CODE(lazydfa_close(&c.handle), LAZYDFA_OK);
     CODE(on_cache(2, &c, &in), LAZYDFA_CLOSED);
 }
 

@@ -300,9 +300,8 @@ static void search_texts(lazydfa_regex *re, lazydfa_cache *c) {
     IS(status.code == LAZYDFA_SYNTAX && error.start == 1 && error.end == 2);
     if (only || from) {
         /* a message whose allocation fails is what the code means, and no call reports that */
-        reported += !strcmp(error.message, lazydfa_code_text(LAZYDFA_SYNTAX));
-        IS(!strcmp(error.message, "unclosed group\n  a(b\n   ^")
-           || !strcmp(error.message, lazydfa_code_text(LAZYDFA_SYNTAX)));
+        reported += error.length == 0;
+        IS(!strcmp(error.message, error.length ? "unclosed group\n  a(b\n   ^" : lazydfa_code_text(status.code)));
     } else {
         IS(!strcmp(error.message, "unclosed group\n  a(b\n   ^"));
     }

@@ -13,8 +13,8 @@ static void layouts(void) {
     const unsigned char *at = (const unsigned char *)&options;
     size_t i;
     CHECK(sizeof options == 160 && options.struct_size == 160 && sizeof error == 4152 && error.struct_size == 4152);
-    CHECK(offsetof(lazydfa_options, quits) == 40 && offsetof(lazydfa_options, zeros) == 56);
-    CHECK(offsetof(lazydfa_options, always_anchored) == 84 && offsetof(lazydfa_options, size_limit) == 88);
+    CHECK(offsetof(lazydfa_options, zeros) == 40 && offsetof(lazydfa_options, quits) == 72);
+    CHECK(offsetof(lazydfa_options, always_anchored) == 68 && offsetof(lazydfa_options, size_limit) == 88);
     CHECK(offsetof(lazydfa_options, nest_limit) == 112 && offsetof(lazydfa_options, reserved) == 156);
     CHECK(offsetof(lazydfa_error, status) == 8 && offsetof(lazydfa_error, length) == 48);
     CHECK(offsetof(lazydfa_error, message) == 56);

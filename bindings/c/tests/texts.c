@@ -213,7 +213,7 @@ static void sets(void) {
     wrong[1].text = "b\xFF";
     CHECK(lazydfa_regex_any_of(&regex, wrong, 3, NULL, &error).code == LAZYDFA_NOT_TEXT);
     CHECK(error.pattern == 1 && error.start == 1 && error.end == 1);
-    CHECK(!strcmp(error.message, lazydfa_code_text(LAZYDFA_NOT_TEXT)) && error.length == strlen(error.message));
+    CHECK(!error.length && !strcmp(error.message, lazydfa_code_text(LAZYDFA_NOT_TEXT)));
     wrong[0].length = SIZE_MAX;
     CHECK(lazydfa_regex_any_of(&regex, wrong, 1, NULL, &error).code == LAZYDFA_MEMORY);
 }
@@ -354,9 +354,8 @@ static void messages(void) {
         memset(&error, 9, sizeof error);                                                      \
         error.struct_size = sizeof error;                                                     \
         CHECK((call).code == (wanted) && error.status.code == (wanted));                      \
-        CHECK(!error.status.offset && !error.pattern && !error.start && !error.end);          \
+        CHECK(!error.pattern && !error.start && !error.end && !error.length);                 \
         CHECK(!strcmp(error.message, (wanted) ? lazydfa_code_text(wanted) : ""));             \
-        CHECK(error.length == strlen(error.message));                                         \
     } while (0)
 
 static void writes(void) {

@@ -25,39 +25,33 @@ impl Engine {
         config: &dfa::Config,
         forward_only: bool,
     ) -> Result<Arc<Engine>, BuildError> {
-        let mut options = syntax.options;
+        let (mut settings, mut options) = (config.settings, syntax.options);
         options.forward_only = u32::from(forward_only);
         options.bytes |= u32::from(thompson.bytes);
         if let Some(limit) = thompson.size_limit {
-            (options.has_size_limit, options.size_limit) = (1, limit.unwrap_or(usize::MAX));
+            options.size_limit = limit.unwrap_or(usize::MAX);
+            settings.set_zero(raw::ZERO_SIZE_LIMIT, true);
         }
-        let patterns: Vec<&str> = patterns.iter().map(AsRef::as_ref).collect();
-        let lengths: Vec<usize> = patterns.iter().map(|pattern| pattern.len()).collect();
-        let bytes = patterns.concat();
-        let texts = raw::Texts { bytes: &bytes, lengths: &lengths };
-        // Room for any message: what is wrong, the text, and as many carets below it.
-        let mut message = vec![0; 256 + 2 * lengths.iter().max().unwrap_or(&0)];
-        let mut refusal = raw::Refusal::default();
-        let mut regex = Handle::closed();
-        let (settings, quits) = (&config.settings, &config.quits);
-        let status =
-            raw::regex_any_of(&mut regex, texts, &options, settings, quits, &mut refusal, &mut message);
-        let span = refusal.start..refusal.end;
-        status.built().map_err(|error| error.of_text(refusal.pattern, span, &message))?;
+        let texts: Vec<raw::Text> = patterns.iter().map(|pattern| raw::Text::of(pattern.as_ref())).collect();
+        let options = raw::Options::of(&settings, &config.quits, &options);
+        let (mut regex, mut error) = (Handle::closed(), raw::Error::new());
+        let status = raw::regex_any_of(&mut regex, &texts, &options, &mut error);
+        let span = error.start..error.end;
+        status.built().map_err(|built| built.of_text(error.pattern, span, error.message()))?;
         Ok(Engine::new(regex, patterns.len()))
     }
 
     /// Builds the DFAs from one NFA: the second from the reversed NFA.
     pub fn of_nfa(nfa: &NFA, config: &dfa::Config) -> Result<Arc<Engine>, BuildError> {
         let mut regex = Handle::closed();
-        nfa.open(&mut regex, &config.settings, &config.quits)?;
+        nfa.open(&mut regex, &config.options())?;
         Ok(Engine::new(regex, nfa.pattern_len()))
     }
 
     /// Builds the DFAs from two NFAs, the second of which reads backward.
     pub fn of_nfas(forward: &NFA, reverse: &NFA, config: &dfa::Config) -> Result<Arc<Engine>, BuildError> {
         let mut regex = Handle::closed();
-        forward.open_pair(reverse, &mut regex, &config.settings, &config.quits)?;
+        forward.open_pair(reverse, &mut regex, &config.options())?;
         Ok(Engine::new(regex, forward.pattern_len()))
     }
 
@@ -78,7 +72,7 @@ impl Engine {
     /// Creates a fresh cache for searches with these DFAs.
     pub fn create_cache(self: &Arc<Engine>) -> Result<Cache, BuildError> {
         let mut cache = Handle::closed();
-        raw::lazydfa_raw_cache_new(&mut cache, &mut self.lock()).built()?;
+        raw::lazydfa_cache_new(&mut cache, &mut self.lock()).built()?;
         Ok(Cache { handle: Mutex::new(cache), engine: Arc::clone(self) })
     }
 }
@@ -157,14 +151,14 @@ impl Cache {
     fn usage(&self) -> raw::Usage {
         let mut usage = raw::Usage::default();
         let mut handle = self.handle.lock().unwrap_or_else(PoisonError::into_inner);
-        raw::lazydfa_raw_cache_usage(&mut handle, &mut usage);
+        raw::lazydfa_cache_usage(&mut handle, &mut usage);
         usage
     }
 
     /// Resets the cache to a fresh one of the same regex. If an allocation fails, it returns an error, and
     /// the cache is unchanged.
     pub fn try_reset(&mut self) -> Result<(), BuildError> {
-        raw::lazydfa_raw_cache_reset(self.handle()).built()
+        raw::lazydfa_cache_reset(self.handle()).built()
     }
 
     /// Whether the cache belongs to these DFAs.
@@ -297,7 +291,7 @@ impl Cache {
     pub(crate) fn begin_pieces(&mut self, config: &start::Config, earliest: bool) -> Result<(), MatchError> {
         let mode = config.get_anchored();
         let ((anchored, pattern), behind) = (mode.raw(), raw::beside(config.get_look_behind()));
-        let begin = raw::lazydfa_raw_pieces_begin;
+        let begin = raw::lazydfa_pieces_begin;
         begin(self.handle(), anchored, pattern, behind, earliest.into()).found(mode).map(|_| ())
     }
 
@@ -313,7 +307,7 @@ impl Cache {
     /// if any.
     pub(crate) fn end_pieces(&mut self, look_ahead: Option<u8>) -> Result<Option<HalfMatch>, MatchError> {
         let mut found = Half::default();
-        let status = raw::lazydfa_raw_pieces_end(self.handle(), raw::beside(look_ahead), &mut found);
+        let status = raw::lazydfa_pieces_end(self.handle(), raw::beside(look_ahead), &mut found);
         Ok(status.found(Anchored::No)?.then(|| found.into()))
     }
 
@@ -321,7 +315,7 @@ impl Cache {
     pub(crate) fn begin_walk(&mut self, config: &start::Config) -> Result<(), MatchError> {
         let mode = config.get_anchored();
         let ((anchored, pattern), behind) = (mode.raw(), raw::beside(config.get_look_behind()));
-        raw::lazydfa_raw_walk_begin(self.handle(), anchored, pattern, behind).found(mode).map(|_| ())
+        raw::lazydfa_walk_begin(self.handle(), anchored, pattern, behind).found(mode).map(|_| ())
     }
 
     /// Reads a piece up to the next offset where patterns match, and returns the walk's position.
@@ -334,14 +328,14 @@ impl Cache {
     /// follows them, if any.
     pub(crate) fn end_walk(&mut self, look_ahead: Option<u8>) -> Result<Stop, MatchError> {
         let mut stop = Stop::default();
-        let status = raw::lazydfa_raw_walk_end(self.handle(), raw::beside(look_ahead), &mut stop);
+        let status = raw::lazydfa_walk_end(self.handle(), raw::beside(look_ahead), &mut stop);
         status.found(Anchored::No).map(|_| stop)
     }
 
     /// Returns one of the matches at the walk's position, which the last call returned.
     pub(crate) fn walk_match(&mut self, stop: &Stop, index: usize) -> HalfMatch {
         let mut pattern = 0;
-        let status = raw::lazydfa_raw_walk_pattern(self.handle(), index, &mut pattern);
+        let status = raw::lazydfa_walk_pattern(self.handle(), index, &mut pattern);
         debug_assert_eq!(status.code, 0, "the walk has no pattern {index} of {}", stop.patterns);
         HalfMatch::new(PatternID(pattern), stop.offset)
     }

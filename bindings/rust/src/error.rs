@@ -7,7 +7,7 @@ use std::ops::Range;
 /// An error from building an NFA, a DFA or a regex.
 ///
 /// For the text of a pattern, its message says what is wrong, and shows the pattern with carets below the
-/// part that this is about:
+/// part that this is about, as far as this fits in 4 KiB:
 ///
 /// ```
 /// use lazydfa::hybrid::regex::Regex;
@@ -103,13 +103,11 @@ impl BuildError {
         (!span.is_empty()).then_some(span)
     }
 
-    /// Returns the same error, with what the library reports about the texts. The message ends at a zero.
-    pub(crate) fn of_text(self, pattern: usize, span: Range<usize>, message: &[u8]) -> BuildError {
-        let message = message.split(|byte| *byte == 0).next().unwrap_or_default();
+    /// Returns the same error, with what the library reports about the texts. The message may be empty.
+    pub(crate) fn of_text(self, pattern: usize, span: Range<usize>, message: String) -> BuildError {
         if message.is_empty() {
             return self;
         }
-        let message = String::from_utf8_lossy(message).into_owned();
         let is_about_all = matches!(self.kind, BuildErrorKind::InsufficientCacheCapacity { .. });
         let pattern = PatternID::new(pattern).filter(|_| !is_about_all);
         BuildError { text: Some(Box::new(TextError { pattern, span, message })), ..self }
@@ -139,10 +137,15 @@ impl fmt::Display for BuildErrorKind {
             BuildErrorKind::OutOfMemory => "out of memory",
             BuildErrorKind::Syntax => "the text is not a valid pattern",
             BuildErrorKind::NotCompiled => "the pattern was not compiled",
-            BuildErrorKind::TooLarge => "too many states, patterns, groups or alternates, or a limit is exceeded",
+            BuildErrorKind::TooLarge => {
+                "too many states, patterns, groups or alternates, or a limit is exceeded"
+            }
             BuildErrorKind::Unsupported => "Unicode word boundaries are not enabled",
             BuildErrorKind::InsufficientCacheCapacity { minimum } => {
-                return write!(f, "a cache needs at least {minimum} bytes; raise cache_capacity or cache_limit");
+                return write!(
+                    f,
+                    "a cache needs at least {minimum} bytes; raise cache_capacity or cache_limit"
+                );
             }
             BuildErrorKind::InsufficientStateIDCapacity { attempted } => {
                 return write!(f, "the ID {attempted} is too large");

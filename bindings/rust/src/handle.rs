@@ -35,6 +35,6 @@ impl Handle {
 impl Drop for Handle {
     fn drop(&mut self) {
         // If it owns nothing, this does nothing.
-        raw::lazydfa_raw_close(self);
+        raw::lazydfa_close(self);
     }
 }

@@ -22,7 +22,6 @@ __version__ = "0.1.0"
 # How many matches one call of the library writes.
 BATCH = 256
 MATCH = struct.Struct("=QQII")
-MESSAGE = 1024
 # The library's parser recurses as deep as a pattern nests; threads of Python have enough stack for this.
 NEST_LIMIT = 250
 
@@ -149,32 +148,29 @@ class _Automaton(Generic[AnyStr]):
         if not self.is_text and any(isinstance(it, str) for it in self.patterns):
             raise TypeError("patterns are all str, or all bytes")
         self._regex, self._caches = _Owner(), []
-        settings = native.Settings(match_kind=match_kind)
-        options = native.Options(nest_limit=NEST_LIMIT, **{name: int(bool(it)) for name, it in flags.items()})
+        options = native.Options(ctypes.sizeof(native.Options), match_kind=match_kind, nest_limit=NEST_LIMIT)
+        for name, it in flags.items():
+            if name not in native.FLAGS:
+                raise TypeError(f"there is no flag {name}")
+            setattr(options, name, int(bool(it)))
         options.bytes = options.no_unicode = int(not self.is_text)
         options.forward_only = int(self.is_forward_only)
         for name, limit in limits.items():
             if limit is not None:
-                owner = options if name == "size_limit" else settings
-                setattr(owner, name, limit)
-                setattr(owner, f"has_{name}", 1)
-        self._compile(settings, options)
+                setattr(options, name, limit)
+                options.zeros |= native.ZEROS[name]
+        self._compile(options)
 
-    def _compile(self, settings: native.Settings, options: native.Options) -> None:
+    def _compile(self, options: native.Options) -> None:
         texts = [it.encode() if isinstance(it, str) else bytes(it) for it in self.patterns]
-        lengths = (ctypes.c_size_t * (len(texts) + 1))(*map(len, texts))
-        refusal, message = native.Refusal(), ctypes.create_string_buffer(MESSAGE)
-        every = b"".join(texts)
-        status = native.regex_any_of(
-            *(self._regex.handle, every, len(every), lengths, len(texts), options, settings, b"", 0),
-            *(refusal, message, MESSAGE),
-        )
+        every = (native.Text * len(texts))(*((it, len(it)) for it in texts))
+        error = native.Error(ctypes.sizeof(native.Error))
+        status = native.regex_any_of(self._regex.handle, every, len(texts), options, error)
         if status.code == native.MEMORY:
             raise MemoryError
         if status.code != native.OK:
-            said = message.value.decode(errors="replace")
-            said = said or native.CODES.get(status.code, f"the pattern is refused with code {status.code}")
-            raise PatternError(said, refusal.pattern)
+            said = error.message.decode(errors="replace") if error.length else native.CODES.get(status.code)
+            raise PatternError(said or f"the pattern is refused with code {status.code}", error.pattern)
 
     def _take(self) -> _Owner:
         """Returns a cache that no search uses."""

@@ -1,8 +1,8 @@
-"""The shared library `liblazydfa.so.0`, by ctypes: the structs of `lazydfa.h`, and the calls that the package makes."""
+"""The shared library `liblazydfa.so.1`, by ctypes: the structs of `lazydfa.h`, and the calls that the package makes."""
 import ctypes
 import ctypes.util
 import os
-from ctypes import POINTER, c_char_p, c_size_t, c_uint32, c_uint64, c_void_p
+from ctypes import POINTER, c_char, c_char_p, c_size_t, c_uint32, c_uint64, c_void_p
 
 OK, NONE = 0, 1
 MEMORY, TOO_LARGE, CAPACITY = 6, 14, 25
@@ -31,60 +31,66 @@ Input = _struct(
 )
 Match = _struct("Match", start=c_size_t, end=c_size_t, pattern=c_uint32, reserved=c_uint32)
 Iteration = _struct("Iteration", left=Input, last=c_size_t, has_last=c_uint32, ended=c_uint32)
-Refusal = _struct("Refusal", pattern=c_size_t, start=c_size_t, end=c_size_t, length=c_size_t)
-Settings = _struct(
-    "Settings",
+Text = _struct("Text", text=c_char_p, length=c_size_t)
+Options = _struct(
+    "Options",
+    struct_size=c_size_t,
     cache_capacity=c_size_t,
     cache_limit=c_size_t,
     minimum_cache_clear_count=c_size_t,
     minimum_bytes_per_state=c_size_t,
-    **dict.fromkeys(
-        (
-            "has_cache_capacity",
-            "has_cache_limit",
-            "has_minimum_cache_clear_count",
-            "has_minimum_bytes_per_state",
-            "match_kind",
-            "starts_for_each_pattern",
-            "no_byte_classes",
-            "unicode_word_boundary",
-            "specialize_start_states",
-            "skip_cache_capacity_check",
-            "always_anchored",
-        ),
-        c_uint32,
-    ),
-)
-Options = _struct(
-    "Options",
+    zeros=c_uint32,
+    match_kind=c_uint32,
+    starts_for_each_pattern=c_uint32,
+    no_byte_classes=c_uint32,
+    unicode_word_boundary=c_uint32,
+    specialize_start_states=c_uint32,
+    skip_cache_capacity_check=c_uint32,
+    always_anchored=c_uint32,
+    quits=c_char_p,
+    quit_count=c_size_t,
     size_limit=c_size_t,
     text_limit=c_size_t,
     class_limit=c_size_t,
-    **dict.fromkeys(
-        (
-            "has_size_limit",
-            "has_text_limit",
-            "has_class_limit",
-            "nest_limit",
-            "no_unicode",
-            "case_insensitive",
-            "multi_line",
-            "dot_matches_new_line",
-            "crlf",
-            "swap_greed",
-            "ignore_whitespace",
-            "octal",
-            "bytes",
-            "forward_only",
-        ),
-        c_uint32,
-    ),
+    nest_limit=c_uint32,
+    no_unicode=c_uint32,
+    case_insensitive=c_uint32,
+    multi_line=c_uint32,
+    dot_matches_new_line=c_uint32,
+    crlf=c_uint32,
+    swap_greed=c_uint32,
+    ignore_whitespace=c_uint32,
+    octal=c_uint32,
+    bytes=c_uint32,
+    forward_only=c_uint32,
+    reserved=c_uint32,
+)
+# The members that are flags of patterns.
+FLAGS = (
+    "case_insensitive",
+    "multi_line",
+    "dot_matches_new_line",
+    "crlf",
+    "swap_greed",
+    "ignore_whitespace",
+)
+# Of each number that may be set to 0 its flag in `zeros`.
+ZEROS = {"cache_capacity": 1, "cache_limit": 2, "size_limit": 16}
+Error = _struct(
+    "Error",
+    struct_size=c_size_t,
+    status=Status,
+    pattern=c_size_t,
+    start=c_size_t,
+    end=c_size_t,
+    length=c_size_t,
+    message=c_char * 4096,
 )
 
 
 def _load() -> ctypes.CDLL:
     """Returns the library that LAZYDFA_LIBRARY names, or the installed one."""
-    path = os.environ.get("LAZYDFA_LIBRARY") or ctypes.util.find_library("lazydfa") or "liblazydfa.so.0"
+    path = os.environ.get("LAZYDFA_LIBRARY") or ctypes.util.find_library("lazydfa") or "liblazydfa.so.1"
     try:
         return ctypes.CDLL(path)
     except OSError as error:
@@ -95,7 +101,7 @@ _library = _load()
 
 
 def _call(name: str, *types):
-    function = getattr(_library, f"lazydfa_raw_{name}")
+    function = getattr(_library, f"lazydfa_{name}")
     function.argtypes, function.restype = types, Status
     return function
 
@@ -103,11 +109,7 @@ def _call(name: str, *types):
 _handle, _text = POINTER(Handle), (c_char_p, c_size_t)
 close = _call("close", _handle)
 cache_new = _call("cache_new", _handle, _handle)
-regex_any_of = _call(
-    "regex_any_of",
-    *(_handle, c_char_p, c_size_t, POINTER(c_size_t), c_size_t),
-    *(POINTER(Options), POINTER(Settings), c_char_p, c_size_t, POINTER(Refusal), c_char_p, c_size_t),
-)
+regex_any_of = _call("regex_any_of", _handle, POINTER(Text), c_size_t, POINTER(Options), POINTER(Error))
 find = _call("find", _handle, *_text, POINTER(Input), POINTER(Match))
 is_match = _call("is_match", _handle, *_text, POINTER(Input))
 next_all = _call("next_all", _handle, *_text, POINTER(Iteration), POINTER(Match), c_size_t, POINTER(c_size_t))

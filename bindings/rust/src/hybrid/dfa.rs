@@ -84,14 +84,16 @@ impl Config {
     /// Sets how many bytes a cache of each DFA may account for at most. By default it is 8 MiB, and more for
     /// large patterns: [`cache_limit`](Config::cache_limit) bounds that.
     pub fn cache_capacity(mut self, bytes: usize) -> Config {
-        (self.settings.has_cache_capacity, self.settings.cache_capacity) = (1, bytes);
+        self.settings.cache_capacity = bytes;
+        self.settings.set_zero(raw::ZERO_CACHE_CAPACITY, true);
         self
     }
 
     /// Sets the bytes up to which the capacity is raised for large patterns: to four times the least that a DFA
     /// needs. By default it is 256 MiB; but a capacity that is set is raised only if this limit is set too.
     pub fn cache_limit(mut self, bytes: usize) -> Config {
-        (self.settings.has_cache_limit, self.settings.cache_limit) = (1, bytes);
+        self.settings.cache_limit = bytes;
+        self.settings.set_zero(raw::ZERO_CACHE_LIMIT, true);
         self
     }
 
@@ -104,7 +106,7 @@ impl Config {
     /// Sets the number of clears after which a search may give up instead of clearing the cache once more. By
     /// default, `None`, it never gives up.
     pub fn minimum_cache_clear_count(mut self, min: Option<usize>) -> Config {
-        self.settings.has_minimum_cache_clear_count = min.is_some().into();
+        self.settings.set_zero(raw::ZERO_CLEAR_COUNT, min.is_some());
         self.settings.minimum_cache_clear_count = min.unwrap_or(0);
         self
     }
@@ -112,9 +114,14 @@ impl Config {
     /// Sets the number of bytes searched per state of the cache, since its last clear, from which on a search
     /// does not give up. By default, `None`, this does not keep a search from giving up.
     pub fn minimum_bytes_per_state(mut self, min: Option<usize>) -> Config {
-        self.settings.has_minimum_bytes_per_state = min.is_some().into();
+        self.settings.set_zero(raw::ZERO_BYTES_PER_STATE, min.is_some());
         self.settings.minimum_bytes_per_state = min.unwrap_or(0);
         self
+    }
+
+    /// Returns the options with these settings.
+    pub(crate) fn options(&self) -> raw::Options<'_> {
+        raw::Options::of(&self.settings, &self.quits, &raw::TextOptions::default())
     }
 }
 

@@ -88,27 +88,27 @@ impl Builder {
     #[allow(clippy::new_without_default)] // as the crate: a builder is no value of its settings
     pub fn new() -> Builder {
         let mut handle = Handle::closed();
-        raw::lazydfa_raw_builder_new(&mut handle).built().expect("a builder of an NFA");
+        raw::lazydfa_builder_new(&mut handle).built().expect("a builder of an NFA");
         Builder { handle, states: 0, patterns: 0 }
     }
 
     /// Removes all states and patterns. The settings are kept.
     pub fn clear(&mut self) {
-        raw::lazydfa_raw_builder_clear(&mut self.handle);
+        raw::lazydfa_builder_clear(&mut self.handle);
         (self.states, self.patterns) = (0, 0);
     }
 
     /// Starts the next pattern. The match states and groups that are added until it is finished belong to it.
     pub fn start_pattern(&mut self) -> Result<PatternID, BuildError> {
         let mut id = 0;
-        raw::lazydfa_raw_start_pattern(&mut self.handle, &mut id).built()?;
+        raw::lazydfa_start_pattern(&mut self.handle, &mut id).built()?;
         Ok(PatternID(id))
     }
 
     /// Finishes the pattern that was started, and sets the state in which searches for it alone start.
     pub fn finish_pattern(&mut self, start: StateID) -> Result<PatternID, BuildError> {
         let mut id = 0;
-        raw::lazydfa_raw_finish_pattern(&mut self.handle, start.0, &mut id).built()?;
+        raw::lazydfa_finish_pattern(&mut self.handle, start.0, &mut id).built()?;
         self.patterns += 1;
         Ok(PatternID(id))
     }
@@ -123,13 +123,13 @@ impl Builder {
 
     /// Adds a state that reads nothing, and leads to state 0 until it is patched.
     pub fn add_empty(&mut self) -> Result<StateID, BuildError> {
-        self.add(|builder, id| raw::lazydfa_raw_add_empty(builder, id))
+        self.add(|builder, id| raw::lazydfa_add_empty(builder, id))
     }
 
     /// Adds a state that reads a byte in a range.
     pub fn add_range(&mut self, range: Transition) -> Result<StateID, BuildError> {
         let Transition { start, end, next } = range;
-        self.add(|builder, id| raw::lazydfa_raw_add_range(builder, start, end, next.0, id))
+        self.add(|builder, id| raw::lazydfa_add_range(builder, start, end, next.0, id))
     }
 
     /// Adds a state that reads a byte in any of several ranges, which must be in order and must not overlap.
@@ -141,7 +141,7 @@ impl Builder {
 
     /// Adds a state that is passed only where an assertion holds.
     pub fn add_look(&mut self, next: StateID, look: Look) -> Result<StateID, BuildError> {
-        self.add(|builder, id| raw::lazydfa_raw_add_look(builder, next.0, look as u32, id))
+        self.add(|builder, id| raw::lazydfa_add_look(builder, look as u32, next.0, id))
     }
 
     /// Adds a state that leads to several states, of which the first is preferred.
@@ -158,27 +158,27 @@ impl Builder {
 
     /// Adds a state where a group of the pattern begins. Searches do not report groups.
     pub fn add_capture_start(&mut self, next: StateID, group_index: u32) -> Result<StateID, BuildError> {
-        self.add(|builder, id| raw::lazydfa_raw_add_capture_start(builder, next.0, group_index, id))
+        self.add(|builder, id| raw::lazydfa_add_capture_start(builder, group_index, next.0, id))
     }
 
     /// Adds a state where a group of the pattern ends.
     pub fn add_capture_end(&mut self, next: StateID, group_index: u32) -> Result<StateID, BuildError> {
-        self.add(|builder, id| raw::lazydfa_raw_add_capture_end(builder, next.0, group_index, id))
+        self.add(|builder, id| raw::lazydfa_add_capture_end(builder, group_index, next.0, id))
     }
 
     /// Adds a state from which nothing matches.
     pub fn add_fail(&mut self) -> Result<StateID, BuildError> {
-        self.add(|builder, id| raw::lazydfa_raw_add_fail(builder, id))
+        self.add(|builder, id| raw::lazydfa_add_fail(builder, id))
     }
 
     /// Adds a match state of the pattern that was started.
     pub fn add_match(&mut self) -> Result<StateID, BuildError> {
-        self.add(|builder, id| raw::lazydfa_raw_add_match(builder, id))
+        self.add(|builder, id| raw::lazydfa_add_match(builder, id))
     }
 
     /// Adds states that skip as few bytes as possible before a start state, and returns the unanchored start.
     pub fn add_unanchored_prefix(&mut self, start: StateID) -> Result<StateID, BuildError> {
-        let prefix = self.add(|builder, id| raw::lazydfa_raw_add_unanchored_prefix(builder, start.0, id))?;
+        let prefix = self.add(|builder, id| raw::lazydfa_add_unanchored_prefix(builder, start.0, id))?;
         self.states += 1; // the prefix is two states
         Ok(prefix)
     }
@@ -186,22 +186,22 @@ impl Builder {
     /// Makes a state lead to another one: a union gets one more alternate, and a state that leads to one
     /// other state is redirected.
     pub fn patch(&mut self, from: StateID, to: StateID) -> Result<(), BuildError> {
-        raw::lazydfa_raw_patch(&mut self.handle, from.0, to.0).built()
+        raw::lazydfa_patch(&mut self.handle, from.0, to.0).built()
     }
 
     /// Sets UTF-8 mode, in which no match splits an encoded character.
     pub fn set_utf8(&mut self, yes: bool) {
-        raw::lazydfa_raw_set_utf8(&mut self.handle, yes.into());
+        raw::lazydfa_set_utf8(&mut self.handle, yes.into());
     }
 
     /// Sets whether the NFA reads its haystack backward.
     pub fn set_reverse(&mut self, yes: bool) {
-        raw::lazydfa_raw_set_reverse(&mut self.handle, yes.into());
+        raw::lazydfa_set_reverse(&mut self.handle, yes.into());
     }
 
     /// Sets the byte that ends a line.
     pub fn set_line_terminator(&mut self, byte: u8) {
-        raw::lazydfa_raw_set_line_terminator(&mut self.handle, byte);
+        raw::lazydfa_set_line_terminator(&mut self.handle, byte);
     }
 
     /// Returns the NFA of the states that were added. If both starts are one state, every search is anchored.
@@ -237,13 +237,8 @@ impl NFA {
     }
 
     /// Opens a handle on the regex of this NFA.
-    pub(crate) fn open(
-        &self,
-        regex: &mut Handle,
-        settings: &raw::Settings,
-        quits: &[u8],
-    ) -> Result<(), BuildError> {
-        raw::regex_build(regex, &mut lock(self), &self.starts, settings, quits).built()
+    pub(crate) fn open(&self, regex: &mut Handle, options: &raw::Options) -> Result<(), BuildError> {
+        raw::lazydfa_regex_build(regex, &mut lock(self), self.starts, options).built()
     }
 
     /// Opens a handle on the regex of this NFA and of an NFA that reads backward.
@@ -251,8 +246,7 @@ impl NFA {
         &self,
         reverse: &NFA,
         regex: &mut Handle,
-        settings: &raw::Settings,
-        quits: &[u8],
+        options: &raw::Options,
     ) -> Result<(), BuildError> {
         if Arc::ptr_eq(&self.states, &reverse.states) {
             return Err(BuildErrorKind::Argument.into());
@@ -266,8 +260,8 @@ impl NFA {
             back = lock(reverse);
             front = lock(self);
         }
-        let (front, back) = ((&mut *front, &self.starts), (&mut *back, &reverse.starts));
-        raw::regex_build_pair(regex, front, back, settings, quits).built()
+        let (from, to) = (self.starts, reverse.starts);
+        raw::lazydfa_regex_build_pair(regex, &mut front, from, &mut back, to, options).built()
     }
 }
 

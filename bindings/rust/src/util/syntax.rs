@@ -1,6 +1,6 @@
 //! How the texts of patterns are parsed.
-use crate::BuildError;
 use crate::raw::{self, TextOptions};
+use crate::BuildError;
 
 /// How the texts of patterns are parsed. A pattern sets flags for a part of itself with `(?i:..)` and the
 /// like.
@@ -110,9 +110,10 @@ impl Config {
     /// ```
     pub fn facts(&self, pattern: &str) -> Result<Facts, BuildError> {
         let mut found = raw::Facts::default();
-        raw::text_facts(pattern, &self.options, &mut found, &mut [], &mut []).built()?;
+        let options = raw::Options::of(&raw::Settings::default(), &[], &self.options);
+        raw::text_facts(pattern, &options, &mut found, &mut [], &mut []).built()?;
         let (mut bytes, mut lengths) = (vec![0; found.length], vec![0; found.count]);
-        raw::text_facts(pattern, &self.options, &mut found, &mut bytes, &mut lengths).built()?;
+        raw::text_facts(pattern, &options, &mut found, &mut bytes, &mut lengths).built()?;
         let (prefix, mut rest) = bytes.split_at(found.prefix);
         let mut literals = Vec::with_capacity(found.count);
         for length in lengths {
