@@ -1,15 +1,15 @@
 #!/bin/bash
 # Makes a release twice and compares the two, and builds a program with the tarball:
 #     tools/dist_test.sh ['N passed, M failed']
-# The release is of the library that is built in bindings/c, and of the programs that are built here. The last line
-# counts the tests, added to those that the given line counts. `tools/dist.sh FOLDER --clean-root` tests a release in a
-# new Debian root.
+# The release is of the archive of which the library in bindings/c was built, and of the programs that are built here.
+# The last line counts the tests, added to those that the given line counts. `tools/dist.sh FOLDER --clean-root` tests a
+# release in a new Debian root.
 set -u
 top=$(cd "$(dirname "$0")/.." && pwd)
 room=$(mktemp -d)
 trap 'rm -rf "$room"' EXIT
 read -r passed _ failed _ <<<"${1:-0 passed, 0 failed}"
-export ARCHIVE=${ARCHIVE:-$top/bindings/c/out/liblazydfa.a}
+export ARCHIVE=${ARCHIVE:-$top/bindings/c/out/liblazydfa_c.a}
 
 # Counts a test, which passed if the command succeeds.
 test_that() { # NAME COMMAND..

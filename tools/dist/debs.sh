@@ -51,6 +51,10 @@ package_library() {
     cp "$staged$libdir/liblazydfa.so.$abi" "$it$libdir"
     chmod 644 "$it$libdir/liblazydfa.so.$abi"
     echo "liblazydfa $abi liblazydfa$abi (>= $version)" >"$it/DEBIAN/shlibs"
+    {
+        echo "liblazydfa.so.$abi liblazydfa$abi #MINVER#"
+        sed "s/.*/ &@LAZYDFA_1 $version/" "$top/bindings/c/lazydfa.symbols"
+    } >"$it/DEBIAN/symbols"
     echo "activate-noawait ldconfig" >"$it/DEBIAN/triggers"
     finish "liblazydfa$abi" libs "libc6 (>= 2.14)" "regular expressions by a lazy DFA - shared library" \
         "Multi-Arch: same" <<END

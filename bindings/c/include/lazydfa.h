@@ -146,7 +146,7 @@ typedef struct { lazydfa_handle handle; } lazydfa_cache;
 #define LAZYDFA_INIT { { NULL, 0 } }
 
 /* Free what a handle owns. A closed handle may be opened again. Handles may be closed in any order, since a cache keeps
-   its regex alive. LAZYDFA_OK, or LAZYDFA_CLOSED if the handle owned nothing. The last call takes any kind of handle. */
+   its regex alive. LAZYDFA_OK, or LAZYDFA_CLOSED if the handle owned nothing. The last takes any kind of handle. */
 lazydfa_status lazydfa_regex_close(lazydfa_regex *regex);
 lazydfa_status lazydfa_cache_close(lazydfa_cache *cache);
 lazydfa_status lazydfa_close(lazydfa_handle *handle);
@@ -198,7 +198,7 @@ typedef struct {
 
     /* for every regex */
     size_t cache_capacity;              /* in bytes, for each direction; by default 8 MiB */
-    size_t cache_limit;                 /* in bytes; by default 256 MiB, or none if cache_capacity is set */
+    size_t cache_limit;                 /* in bytes; by default 256 MiB, or cache_capacity if that is set */
     size_t minimum_cache_clear_count;   /* clears after which a search may give up; by default it never does */
     size_t minimum_bytes_per_state;     /* and it does so only if it searched fewer bytes than this per state */
     uint32_t zeros;                     /* which numbers are 0 themselves: flags of enum lazydfa_zero */
@@ -216,7 +216,7 @@ typedef struct {
     size_t size_limit;                  /* bytes for the tables of all patterns, and 24 each; by default 10 MiB */
     size_t text_limit;                  /* bytes that all texts may have in total; by default any number */
     size_t class_limit;                 /* class escapes, such as \w or \pL, in all texts; by default any number */
-    uint32_t nest_limit;                /* how deep groups and classes may nest; by default LAZYDFA_NEST_LIMIT */
+    uint32_t nest_limit;                /* levels of groups, repetitions and classes; by default LAZYDFA_NEST_LIMIT */
     uint32_t no_unicode;                /* turns u off: classes and . match bytes, and only ASCII letters have cases */
     uint32_t case_insensitive;          /* i: a letter matches in both cases */
     uint32_t multi_line;                /* m: ^ and $ match at the start and the end of each line */
@@ -227,7 +227,7 @@ typedef struct {
     uint32_t octal;                     /* \141 is the character with that octal number */
     uint32_t bytes;                     /* bytes are searched, not text: a match may split a character */
     uint32_t forward_only;              /* the regex has no part that finds where matches start */
-    uint32_t reserved;
+    uint32_t reserved;                  /* 0 */
 } lazydfa_options;
 
 #define LAZYDFA_OPTIONS_INIT { sizeof(lazydfa_options), 0, 0, 0, 0, 0, 0, 0, 0, 0, 0, 0, 0, NULL, 0, \

@@ -1,4 +1,4 @@
-/* The calls beside those of lazydfa.h: for engines that build NFAs themselves, for haystacks in pieces, for all overlapping
+/* The calls beside those of lazydfa.h: for engines that build NFAs themselves, for haystacks in pieces, for overlapping
    matches, for backward searches, and for what all matches of a pattern have in common. The head of lazydfa.h has the
    rules that a program keeps, and the codes that are common to all calls. */
 #ifndef LAZYDFA_AUTOMATA_H

@@ -131,7 +131,7 @@ static uint32_t choose(choices *it, const lazydfa_options *options) {
     it->quits = SLICE(it->quits, 0);
     if (!options) return LAZYDFA_OK;
     if (options->struct_size != sizeof *options) return LAZYDFA_STRUCT_SIZE;
-    if (options->zeros & ~(2u * LAZYDFA_ZERO_CLASS_LIMIT - 1)) return LAZYDFA_ARGUMENT;
+    if ((options->zeros & ~(2u * LAZYDFA_ZERO_CLASS_LIMIT - 1)) || options->reserved) return LAZYDFA_ARGUMENT;
     if (!options->quits && options->quit_count) return LAZYDFA_ARGUMENT;
     choose_settings(it, options);
     choose_texts(it, options);

@@ -79,7 +79,7 @@ static void sizes(void) {
         }
 }
 
-/* Each flag of zeros makes a 0 count, and other bits are refused. */
+/* Each flag of zeros makes a 0 count; other bits are refused, and so is what is reserved. */
 static void zeros(void) {
     lazydfa_options options = LAZYDFA_OPTIONS_INIT;
     int call, bit;
@@ -87,6 +87,10 @@ static void zeros(void) {
         options.zeros = (uint32_t)1 << bit;
         for (call = 0; call < OPTION_CALLS; call++) CODE(with_options(call, &options, NULL), LAZYDFA_ARGUMENT);
     }
+    options.zeros = 0;
+    options.reserved = 1;
+    for (call = 0; call < OPTION_CALLS; call++) CODE(with_options(call, &options, NULL), LAZYDFA_ARGUMENT);
+    options.reserved = 0;
     options.zeros = LAZYDFA_ZERO_CACHE_CAPACITY;
     for (call = 0; call < 4; call++) CODE(with_options(call, &options, NULL), LAZYDFA_CAPACITY);
     options.zeros |= LAZYDFA_ZERO_CACHE_LIMIT;
