@@ -1,6 +1,7 @@
 pub mod Moving
 pub mod Answering
 pub mod Nowhere
+mod Anchoring
 pub mod Meaning
 pub mod Joining
 mod Skips
