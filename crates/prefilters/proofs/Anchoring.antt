@@ -32,8 +32,8 @@ of_upto :
     (kind : MatchKind) (earliest : Bool) (i j : ℕ) (path other : List ℕ) → kind ≡ LeftmostFirst → earliest ≡ false
     → Upto path other → IsChosen kind earliest i path j other
 of_upto kind earliest i j path other k e u =
-    subst (λ v. IsChosen v earliest i path j other) (sym k) (subst (λ v. IsChosen LeftmostFirst v i path j other) (sym e)
-    u)
+    subst (λ v. IsChosen v earliest i path j other) (sym k)
+    (subst (λ v. IsChosen LeftmostFirst v i path j other) (sym e) u)
 
 upto_cons : (e : ℕ) (a b : List ℕ) → Upto a b → Upto (e ∷ a) (e ∷ b)
 upto_cons e a b (inl s) = inl (ap (λ v. e ∷ v) s)

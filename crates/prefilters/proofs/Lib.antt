@@ -2,6 +2,7 @@ pub mod Moving
 pub mod Answering
 pub mod Nowhere
 mod Anchoring
+pub mod FirstSteps
 pub mod Meaning
 pub mod Joining
 mod Skips

@@ -105,8 +105,8 @@ NoneIsFound = (d : Engine) (input : Input) → MaySkipAll d input → IsSpan d i
 abbrev pub anchored_from : (p : ℕ) → Input → Input
 anchored_from p input = record input { start = p; anchored = Yes }
 
--- Where no match begins before offset `p`, what an anchored search from there on answers is the match of the whole span,
--- and it begins at `p`: no reverse search is needed, under `MatchKind::LeftmostFirst`, if the search is not earliest.
+-- If no match begins before offset `p`, what an anchored search from there on answers is the match of the whole span,
+-- which begins at `p`: under `MatchKind::LeftmostFirst`, if the search is not earliest, no reverse search is needed.
 abbrev pub AnchoredIsSpan : Type 0
 AnchoredIsSpan =
     (d : Engine) (input : Input) (p : ℕ) (half : Half) → d.kind ≡ LeftmostFirst → input.earliest ≡ false
