@@ -79,10 +79,14 @@ leaves n t A i seen q (e ∷ path) j z more (StaysHere r h new rest) =
     (v.0, e ∷ v.1, (r, hop_more n (truth n t i) A q e r more h, new, v.2), v.3)
 leaves n t A i seen q (e ∷ path) j z more (ReadsByte r edge m rest) = (q, [], refl, inr (r, m))
 
+-- every look is in the set
+abbrev AreAll : ℕ → Type 0
+AreAll looks = (look : Look) → truth_of looks look ≡ true
+
 -- a table that has the bytes which the states of the closure read
 pub begins :
     (a : Automaton) (looks : ℕ) (slice items : List ℕ) (table : List Bool)
-    → ((look : Look) → truth_of looks look ≡ true) → slice ≡ items → IsClosure (nfa_of a) (truth_of looks) (a.start_anchored ∷ []) items
+    → AreAll looks → slice ≡ items → IsClosure (nfa_of a) (truth_of looks) (a.start_anchored ∷ []) items
     → ((q : ℕ) → In q slice → ReadsFirstBytes table (node_in a.states q))
     → (kind : MatchKind) → BeginsAtFirstByte (engine_of a kind) table
 begins a looks slice items table all same closure lists kind h e o bytes none i pattern path (z, p, match) =
