@@ -1,7 +1,7 @@
 pub mod Moving
 pub mod Answering
 pub mod Nowhere
-mod Anchoring
+pub mod Anchoring
 pub mod FirstSteps
 pub mod Meaning
 pub mod Joining

@@ -24,12 +24,12 @@ BeginsAtFirstByte d table =
 abbrev pub HasNoFirstByte : (table : List Bool) → List ℕ → (s p : ℕ) → Type 0
 HasNoFirstByte table hay s p = (o : ℕ) → s ≤ o → o < p → is_first_byte table (slice_index hay o) ≡ false
 
--- the least offset from `s` on that has a first byte, if it is before the end `e` of the span and less than twelve
--- bytes away; or None
+-- the least offset from `s` on that has a first byte, if it is before the end `e` of the span and less than 32 bytes
+-- away; or None
 abbrev pub FindsFirstByte : (table : List Bool) → List ℕ → (s e : ℕ) → Option ℕ → Type 0
-FindsFirstByte table hay s e None = HasNoFirstByte table hay s (min e (s + 12))
+FindsFirstByte table hay s e None = HasNoFirstByte table hay s (min e (s + 32))
 FindsFirstByte table hay s e (Some p) =
-    (s ≤ p) × (p < min e (s + 12)) × (is_first_byte table (slice_index hay p) ≡ true) × HasNoFirstByte table hay s p
+    (s ≤ p) × (p < min e (s + 32)) × (is_first_byte table (slice_index hay p) ≡ true) × HasNoFirstByte table hay s p
 
 -- the state is not a match state, and each byte that it reads is a first byte
 pub record ReadsFirstBytes (table : List Bool) (x : Node) : Type 0 where

@@ -2,8 +2,9 @@
 ghost use Rattle.std.specs.Prelude.{◌≡◌, ◌<◌, ◌≤◌, ℕ, Bool, List, IfOk, IfSome, IsTrue, is_some, length, true};
 ghost use Rattle.automata_base.specs.Lists.{In};
 ghost use Rattle.automata_base.specs.Nfas.Engines.{engine_of};
-ghost use Rattle.automata_base.specs.Nfas.Nfa.{takes_at};
-ghost use Rattle.automata_base.specs.Nfas.Nodes.{node_of};
+ghost use Rattle.automata_base.specs.Haystacks.Looks.{within};
+ghost use Rattle.automata_base.specs.Nfas.Nfa.{takes_at, takes_in};
+ghost use Rattle.automata_base.specs.Nfas.Nodes.{node_of, ranges_of};
 ghost use Rattle.automata_base.specs.Retraced.Reach.{node_in};
 ghost use Rattle.automata_base.specs.declared.util.search.MatchKind.{MatchKind};
 ghost use Rattle.prefilters.specs.FirstBytes.{BeginsAtFirstByte, FindsFirstByte, ReadsFirstBytes, is_first_byte};
@@ -11,14 +12,14 @@ ghost use Rattle.prefilters.specs.FirstBytes.{BeginsAtFirstByte, FindsFirstByte,
 use automata_base::nfa::thompson::closure::close;
 use automata_base::nfa::thompson::reach::{is_match, set_for};
 use automata_base::nfa::thompson::reading::target;
-use automata_base::nfa::thompson::{NFA, State};
+use automata_base::nfa::thompson::{NFA, State, Transition};
 use automata_base::util::look::LookSet;
 use automata_base::util::primitives::StateID;
 use std::alloc::AllocError;
 use std::marker::Model;
 
 /// The number of bytes after which `FirstBytes::find` gives up.
-const NEAR: usize = 12;
+const NEAR: usize = 32;
 
 /// The bits of every look.
 const ALL_LOOKS: u32 = 0x3FFFF;
@@ -38,8 +39,29 @@ impl Model for FirstBytes {
     ghost invariant = { λ bytes. length bytes.table ≡ 256 };
 }
 
-/// Adds the bytes that the state reads to the table.
-fn add_bytes(table: &mut [bool; 256], state: &State)
+/// Adds the bytes from `lo` to `hi` to the table.
+fn add_range(table: &mut [bool; 256], lo: u8, hi: u8)
+    ensures kept { (byte : ℕ) → is_first_byte table.old byte ≡ true → is_first_byte table.new byte ≡ true }
+    ensures added { (byte : ℕ) → within lo hi byte ≡ true → is_first_byte table.new byte ≡ true }
+{
+    for byte in usize::from(lo)..usize::from(hi) + 1 {
+        table[byte] = true;
+    }
+}
+
+/// Adds the bytes that a sparse state reads to the table.
+fn add_ranges(table: &mut [bool; 256], transitions: &[Transition])
+    ensures kept { (byte : ℕ) → is_first_byte table.old byte ≡ true → is_first_byte table.new byte ≡ true }
+    ensures added { (byte : ℕ) → is_some (takes_in (ranges_of transitions.now) byte) ≡ true
+        → is_first_byte table.new byte ≡ true }
+{
+    for transition in transitions {
+        add_range(table, transition.lo, transition.hi);
+    }
+}
+
+/// Adds the bytes that a state of any kind reads to the table, by a test of each byte.
+fn add_tested(table: &mut [bool; 256], state: &State)
     ensures kept { (byte : ℕ) → is_first_byte table.old byte ≡ true → is_first_byte table.new byte ≡ true }
     ensures added { (byte : ℕ) → byte < 256 → is_some (takes_at (node_of state.now) byte) ≡ true
         → is_first_byte table.new byte ≡ true }
@@ -48,6 +70,19 @@ fn add_bytes(table: &mut [bool; 256], state: &State)
         if target(state, byte as u8).is_some() {
             table[byte] = true;
         }
+    }
+}
+
+/// Adds the bytes that the state reads to the table.
+fn add_bytes(table: &mut [bool; 256], state: &State)
+    ensures kept { (byte : ℕ) → is_first_byte table.old byte ≡ true → is_first_byte table.new byte ≡ true }
+    ensures added { (byte : ℕ) → byte < 256 → is_some (takes_at (node_of state.now) byte) ≡ true
+        → is_first_byte table.new byte ≡ true }
+{
+    match state {
+        State::ByteRange { lo, hi, .. } => add_range(table, *lo, *hi),
+        State::Sparse(transitions) => add_ranges(table, transitions),
+        _ => add_tested(table, state),
     }
 }
 
@@ -88,7 +123,7 @@ impl FirstBytes {
     }
 
     /// Returns the first offset of the span `start..end` whose byte is one with which a match can begin. It gives up
-    /// after twelve bytes, and then returns none: over longer distances a lazy DFA is as fast.
+    /// after 32 bytes, and then returns none: over longer distances a lazy DFA is as fast.
     #[inline(always)]
     pub fn find(&self, hay: &[u8], start: usize, end: usize) -> Option<usize>
         requires span { start ≤ end }

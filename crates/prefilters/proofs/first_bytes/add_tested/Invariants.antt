@@ -2,7 +2,7 @@ use Rattle.std.proofs.Common.{ℕ, ◌≡◌, ◌<◌, is_some, true}
 use Rattle.automata_base.specs.Nfas.Nfa.{takes_at}
 use Rattle.automata_base.specs.Nfas.Nodes.{node_of}
 use Rattle.prefilters.specs.FirstBytes.{is_first_byte}
-use Rattle.prefilters.proofs.first_bytes.add_bytes.Given as goal
+use Rattle.prefilters.proofs.first_bytes.add_tested.Given as goal
 
 abbrev pub invariant-loop-byte : goal.invariant-loop-byte
 invariant-loop-byte l =
