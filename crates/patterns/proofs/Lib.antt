@@ -1,3 +1,4 @@
+mod Attempting
 mod Building
 mod Compilable
 mod Drafting

@@ -17,11 +17,12 @@ use Rattle.automata_base.specs.declared.util.search.Direction.TheVariants.{Forwa
 use Rattle.automata_config.specs.declared.error.SearchError.{SearchError}
 use Rattle.automata_hybrid.specs.Searches.Contracts.{IsHalf}
 use Rattle.automata_hybrid.specs.Searches.Passes.{WithoutBase, without_base}
-use Rattle.regex_automata.specs.Regexes.SoundPairs.{forward_engine}
+use Rattle.regex_automata.specs.Regexes.SoundPairs.{IsSoundPair, forward_engine}
 use Rattle.regex_automata.specs.Spans.Contracts.{IsSpanOf, IsTruthOf}
 use Rattle.regex_automata.specs.Spans.Errors.{IsNextError}
 use Rattle.regex_automata.specs.Spans.Iteration.{GoesPast, IsNextMatch}
 use Rattle.regex_automata.specs.Spans.OfPaths.{MatchesAreSpans}
+use Rattle.regex_automata.specs.Spans.Outcomes.{MatchLiesIn}
 use Rattle.regex_automata.specs.Spans.Runs.{IsNextRun}
 use Rattle.regex_automata.specs.declared.hybrid.regex.caches.Cache.{Cache}
 use Rattle.meaning.specs.Patterns.{end_of, find_any, numbered_match}
@@ -31,7 +32,7 @@ use Rattle.prefilters.proofs.Answering.{answer_moves, span_moves, truth_moves}
 use Rattle.prefilters.proofs.Nowhere.{none_found}
 use Rattle.patterns.specs.Iteration.{IsNextMeant, rest_of}
 use Rattle.patterns.specs.Patterns.{IsFor, IsRegexOf}
-use Rattle.patterns.specs.Searches.{IsNextSearch, ReadsNothing}
+use Rattle.patterns.specs.Searches.{FindsAtOnce, IsNextSearch, IsSearchedAfter, ReadsNothing, SearchesOn}
 use Rattle.patterns.specs.Searches.{IsBegin, IsSearchedFrom, SearchesAll, SearchesFrom, SearchesNothing, rest_from}
 use Rattle.patterns.specs.declared.compile.Options.{Options}
 use Rattle.patterns.specs.declared.pattern.Pattern.{Pattern}
@@ -160,21 +161,30 @@ module _ (p : Pattern) (hay : List ℕ) (start : ℕ) where
             (λ (less : start < at). omega (arith, less, from, ordered)) (eq-or-lt_of_le l),
       )
 
+-- an attempt and a search, by what either does
+pub after_as :
+    {F G : Type 0} {S T : Cache → Type 0} (p : Pattern) (input : Input) (old new : Cache) → (F → G)
+    → ((between : Cache) → S between → T between) → IsSearchedAfter p input old new F S
+    → IsSearchedAfter p input old new G T
+after_as p input old new f g (FindsAtOnce a found) = FindsAtOnce a (f found)
+after_as p input old new f g (SearchesOn between a s) = SearchesOn between a (g between s)
+
 -- how the match after one that ended at `last` is searched for
 abbrev Runs :
     Pattern → List ℕ → Option ℕ → (old new : Cache) → Result (Option Match) SearchError → (at : ℕ) → Type 0
 Runs p hay last old new r at =
-    IsNextRun p.regex (rest_from hay at) last old new (result_err r)
-    × IfErr r (IsNextError p.regex old new (rest_from hay at) last)
+    IsSearchedAfter p (rest_from hay at) old new ((m : Match) × (r ≡ Ok (Some m)))
+    (λ between.
+    IsNextRun p.regex (rest_from hay at) last between new (result_err r)
+    × IfErr r (IsNextError p.regex between new (rest_from hay at) last))
 
 pub next_searched :
     (p : Pattern) (hay : List ℕ) (start at : ℕ) (last : Option ℕ) (old new : Cache)
     (r : Result (Option Match) SearchError) → start ≡ unwrap_or last 0 → IsBegin p hay start (Some at)
-    → IsNextRun p.regex (rest_from hay at) last old new (result_err r)
-    → IfErr r (IsNextError p.regex old new (rest_from hay at) last) → IsNextSearch p hay last old new r
-next_searched p hay start at last old new r begin b run fails =
+    → Runs p hay last old new r at → IsNextSearch p hay last old new r
+next_searched p hay start at last old new r begin b runs =
     subst (λ v. IsSearchedFrom p hay v (Runs p hay last old new r) (ReadsNothing None old new r)) begin
-    (searched_from p hay start at b (run, fails))
+    (searched_from p hay start at b runs)
 
 pub next_unsearched :
     (p : Pattern) (hay : List ℕ) (start : ℕ) (last : Option ℕ) (old new : Cache)
@@ -253,6 +263,30 @@ next_is_from p law hay start at last input (Ok found) same bytes within begin b 
     (next_from p hay start at last found begin b
     (subst (λ (v : Input). IsNextItem (IsSpan (forward_engine p.regex)) v v.start last found) same
     ((law is.sound input (bytes, within)).next last found h))))
+
+-- a match that an attempt finds
+pub next_at_once :
+    (p : Pattern) (hay : List ℕ) (start at : ℕ) (last : Option ℕ) (input : Input) (m : Match)
+    → input ≡ rest_from hay at → IsHaystack input.haystack → start ≡ unwrap_or last 0 → IsBegin p hay start (Some at)
+    → (IsSoundPair p.regex → IsSpan (forward_engine p.regex) input (Some m)) → m.start < m.end
+    → IsNextMeant p.regex hay last (Some m)
+next_at_once p hay start at last input m same bytes begin b span long o res is for =
+    next_means p.regex o res is hay for (subst (λ (v : Input). IsHaystack v.haystack) same bytes) start last (Some m)
+    (subst (λ v. IsNextItem (IsSpan (forward_engine p.regex)) (rest_from hay start) v last (Some m)) begin
+    (next_from p hay start at last (Some m) begin b
+    (FindsHere (subst (λ v. IsSpan (forward_engine p.regex) v (Some m)) same (span is.sound))
+    (λ e. let s = e.0 in absurd (omega (arith, s, long))))))
+
+pub past_at_once :
+    (p : Pattern) (hay : List ℕ) (start at : ℕ) (last : Option ℕ) (input : Input) (m : Match)
+    → input ≡ rest_from hay at → start ≡ unwrap_or last 0 → IsBegin p hay start (Some at)
+    → MatchLiesIn p.regex input m → m.start < m.end → GoesPast p.regex (rest_of hay last) last m
+past_at_once p hay start at last input m same begin b lies long =
+    subst (λ v. GoesPast p.regex (rest_from hay v) last m) begin
+    (past_from p hay start at last m b (there, λ e. let l = there.0 in omega (arith, l, long)))
+  where
+    there : MatchLiesIn p.regex (rest_from hay at) m
+    there = subst (λ v. MatchLiesIn p.regex v m) same lies
 
 pub next_nothing :
     (p : Pattern) (hay : List ℕ) (start : ℕ) (last : Option ℕ) → IsHaystack hay → start ≡ unwrap_or last 0

@@ -17,6 +17,7 @@ use Rattle.regex_automata.specs.declared.hybrid.regex.caches.Cache.{Cache}
 use Rattle.meaning.specs.Patterns.{span_input}
 use Rattle.prefilters.specs.Needles.{AllStartWith}
 use Rattle.prefilters.specs.Skipping.{MaySkipAll, MaySkipTo}
+use Rattle.patterns.specs.Attempts.{IsAnchoredRun}
 use Rattle.patterns.specs.Patterns.{AreMeanings, IsRegexOf, config_of}
 use Rattle.patterns.specs.declared.compile.Options.{Options}
 use Rattle.patterns.specs.declared.pattern.Pattern.{Pattern}
@@ -60,6 +61,21 @@ IsBegin pattern hay start (Some at) =
     (at ≡ start)
     ⊎ ((pattern.prefilter ≡ None → ⊥) × MaySkipTo (forward_engine pattern.regex) (rest_from hay start) at)
 
+-- an attempt to find the match of an input at once: no search, or an anchored one if the pattern has first bytes
+abbrev pub IsAttempt : Pattern → Input → (old new : Cache) → Type 0
+IsAttempt pattern input old new =
+    (new ≡ old) ⊎ ((pattern.first_bytes ≡ None → ⊥) × IsAnchoredRun pattern.regex input old new)
+
+-- an attempt to find the match of an input at once, and then a search of the input, unless the attempt has found it
+pub data IsSearchedAfter (pattern : Pattern) (input : Input) (old new : Cache) (Finds : Type 0)
+    (Searches : (between : Cache) → Type 0) : Type 0 where
+  -- the attempt finds the match
+  FindsAtOnce : IsAttempt pattern input old new → Finds → IsSearchedAfter pattern input old new Finds Searches
+  -- it is searched, with the caches that the attempt has left
+  SearchesOn :
+      (between : Cache) → IsAttempt pattern input old between → Searches between
+      → IsSearchedAfter pattern input old new Finds Searches
+
 -- a search finds nothing, reads nothing, and changes nothing in its caches
 abbrev pub ReadsNothing : {A : Type 0} → A → (old new : Cache) → Result A SearchError → Type 0
 ReadsNothing nothing old new result = (result ≡ Ok nothing) × (new ≡ old)
@@ -100,15 +116,19 @@ abbrev pub IsNextSearch :
 IsNextSearch pattern hay last old new result =
     IsSearchedFrom pattern hay (unwrap_or last 0)
     (λ at.
-    IsNextRun pattern.regex (rest_from hay at) last old new (result_err result)
-    × IfErr result (IsNextError pattern.regex old new (rest_from hay at) last))
+    IsSearchedAfter pattern (rest_from hay at) old new ((m : Match) × (result ≡ Ok (Some m)))
+    (λ between.
+    IsNextRun pattern.regex (rest_from hay at) last between new (result_err result)
+    × IfErr result (IsNextError pattern.regex between new (rest_from hay at) last)))
     (ReadsNothing None old new result)
 
 -- why a search for the match after one that ended at `last` fails
 abbrev pub FailsNext : Pattern → (old new : Cache) → List ℕ → (last : Option ℕ) → SearchError → Type 0
 FailsNext pattern old new hay last error =
     IsSearchedFrom pattern hay (unwrap_or last 0)
-    (λ at. IsNextError pattern.regex old new (rest_from hay at) last error) ⊥
+    (λ at.
+    IsSearchedAfter pattern (rest_from hay at) old new ⊥
+    (λ between. IsNextError pattern.regex between new (rest_from hay at) last error)) ⊥
 
 -- the search for an item of an iteration; nothing changes once the iteration has ended
 abbrev pub IsItemSearch :
@@ -117,5 +137,7 @@ abbrev pub IsItemSearch :
 IsItemSearch pattern hay last true old new item = new ≡ old
 IsItemSearch pattern hay last false old new item =
     IsSearchedFrom pattern hay (unwrap_or last 0)
-    (λ at. IsNextRun pattern.regex (rest_from hay at) last old new (item_error item))
+    (λ at.
+    IsSearchedAfter pattern (rest_from hay at) old new ((m : Match) × (item ≡ Some (Ok m)))
+    (λ between. IsNextRun pattern.regex (rest_from hay at) last between new (item_error item)))
     ((item ≡ None) × (new ≡ old))

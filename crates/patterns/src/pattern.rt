@@ -1,15 +1,18 @@
 //! Patterns to search for.
-ghost use Rattle.std.specs.Prelude.{◌≡◌, ◌≤◌, ℕ, List, [], ◌∷◌, Some, IfErr, IfOk, IfSome, is_some};
+ghost use Rattle.std.specs.Prelude.{◌≡◌, ◌<◌, ◌≤◌, ℕ, Bool, List, [], ◌∷◌, Some, IfErr, IfOk, IfSome, is_some};
 ghost use Rattle.std.specs.Prelude.{length, map, option_map, true};
 ghost use Rattle.std.specs.Option.{unwrap_or};
 ghost use Rattle.regex_hir.specs.Re.{Re};
 ghost use Rattle.regex_automata.specs.Spans.Iteration.{GoesPast};
+ghost use Rattle.regex_automata.specs.Spans.Outcomes.{MatchLiesIn};
 ghost use Rattle.automata_base.specs.Haystacks.Input.{IsValidInput};
 ghost use Rattle.automata_config.specs.Options.{overwritten, unset};
-ghost use Rattle.regex_automata.specs.Promises.{AreCachesOf, IsSoundPair, forward_engine};
+ghost use Rattle.automata_base.specs.Answers.Spans.{IsSpan};
+ghost use Rattle.regex_automata.specs.Promises.{AreCachesOf, IsSoundPair, LeftmostFirst, forward_engine};
 ghost use Rattle.regex_automata.specs.Regexes.Builds.{BuildsOne, IsBuildError};
 ghost use Rattle.regex_automata.specs.Regexes.Caches.{AreFresh};
 ghost use Rattle.meaning.specs.Patterns.{end_of, find_any, numbered_match, span_input};
+ghost use Rattle.prefilters.specs.FirstBytes.{BeginsAtFirstByte};
 ghost use Rattle.prefilters.specs.Needles.{BeginsAtNeedle};
 ghost use Rattle.prefilters.specs.Skipping.{IsLazy};
 ghost use Rattle.patterns.specs.Faults.{IsPatternFault};
@@ -17,10 +20,11 @@ ghost use Rattle.patterns.specs.Patterns.{IsBuiltOf, IsFor, IsJoinedNfa, IsRegex
 ghost use Rattle.patterns.specs.Patterns.{settings_of, settings_with};
 ghost use Rattle.patterns.specs.declared.compile.Options as options;
 
+use crate::attempts::{Misses, find_at_first_byte, is_full_search};
 use crate::compile::{Options, nfa_of};
 use crate::error::{Fault, PatternError};
 use crate::needles::prefilter_of;
-use prefilters::Prefilter;
+use prefilters::{FirstBytes, Prefilter};
 use regex_automata::hybrid::SearchError;
 use regex_automata::hybrid::dfa::Config;
 use regex_automata::hybrid::regex::{Cache, Regex, RegexBuildError};
@@ -33,12 +37,17 @@ use std::alloc::{AllocError, Global};
 /// that pattern's number.
 ///
 /// If every match begins with one of a few literals, the needles, searches begin at the first of them in the haystack.
+/// An iteration over matches also looks for the next match where the first byte is that can begin one, by an anchored
+/// search, which needs no reverse search.
 pub struct Pattern {
     /// The regex that searches for it. Its own searches use no needles.
     pub regex: Regex,
     prefilter: Option<Prefilter>,
+    first_bytes: Option<FirstBytes>,
     ghost begins: { (needles : List (List ℕ)) → prefilter ≡ Some needles
         → BeginsAtNeedle (forward_engine regex) needles },
+    ghost first: { (table : List Bool) → first_bytes ≡ Some table
+        → BeginsAtFirstByte (forward_engine regex) table },
 }
 
 // With its own `drop`, the proof of an owner has one step for it instead of one for each part.
@@ -47,6 +56,7 @@ impl Drop for Pattern {
         let Self {
             regex: _regex,
             prefilter: _prefilter,
+            first_bytes: _first_bytes,
         } = self;
     }
 }
@@ -70,6 +80,25 @@ fn is_lazy(regex: &Regex) -> bool
     nfa.skips_lazily() && !nfa.is_always_start_anchored()
 }
 
+/// Whether the forward DFA has the match kind `MatchKind::LeftmostFirst`.
+fn is_leftmost_first(regex: &Regex) -> bool
+    ensures { result ≡ true → (forward_engine regex.now).kind ≡ LeftmostFirst }
+{
+    match regex.forward().get_config().get_match_kind() {
+        MatchKind::LeftmostFirst => true,
+        MatchKind::All => false,
+    }
+}
+
+/// Whether an anchored search finds the match where the first one begins: the match kind is
+/// `MatchKind::LeftmostFirst`, and unanchored searches skip bytes lazily.
+fn finds_starts(regex: &Regex) -> bool
+    ensures lazy { result ≡ true → IsLazy (forward_engine regex.now) }
+    ensures kind { result ≡ true → (forward_engine regex.now).kind ≡ LeftmostFirst }
+{
+    is_leftmost_first(regex) && is_lazy(regex)
+}
+
 /// Returns the input for the haystack from an offset on.
 fn rest<'h>(hay: &'h [u8], start: usize) -> Input<'h>
     requires { start ≤ length hay.now }
@@ -81,7 +110,7 @@ fn rest<'h>(hay: &'h [u8], start: usize) -> Input<'h>
 
 impl Pattern {
     ghost use Rattle.patterns.specs.Iteration.{IsNextMeant, rest_of};
-    ghost use Rattle.patterns.specs.Searches.{HasNeedles, IsBegin, IsEndSearch, IsNextSearch, IsSpanSearch};
+    ghost use Rattle.patterns.specs.Searches.{HasNeedles, IsAttempt, IsBegin, IsEndSearch, IsNextSearch, IsSpanSearch};
     ghost use Rattle.patterns.specs.Searches.{IsTruthSearch};
 
     /// Compiles a text to a pattern.
@@ -105,6 +134,7 @@ impl Pattern {
         match Pattern::from_nfa(nfa, options) {
             Ok(mut pattern) => {
                 pattern.skip_by(prefilter_of(alloc, texts, options));
+                pattern.try_first_bytes();
                 Ok(pattern)
             }
             Err(error) => {
@@ -126,6 +156,7 @@ impl Pattern {
         Ok(Pattern {
             regex,
             prefilter: None,
+            first_bytes: None,
         })
     }
 
@@ -150,6 +181,7 @@ impl Pattern {
         Ok(Pattern {
             regex,
             prefilter: None,
+            first_bytes: None,
         })
     }
 
@@ -160,6 +192,19 @@ impl Pattern {
     {
         if !self.regex.forward().skips() {
             self.prefilter = prefilter;
+        }
+    }
+
+    /// Lets iterations attempt to find each match at once, if the match kind is `MatchKind::LeftmostFirst`, no match is
+    /// empty, and matches may begin anywhere in a haystack. If memory runs out they do without.
+    pub fn try_first_bytes(&mut self)
+        ensures regex { self.new.regex ≡ self.old.regex }
+        ensures prefilter { self.new.prefilter ≡ self.old.prefilter }
+    {
+        if finds_starts(&self.regex) {
+            if let Ok(bytes) = FirstBytes::new(self.regex.forward().get_nfa()) {
+                self.first_bytes = bytes;
+            }
         }
     }
 
@@ -248,6 +293,33 @@ impl Pattern {
             .try_search_fwd(cache.forward_mut(), &left)
     }
 
+    /// Attempts to find the match of the input at once: by one anchored search from the first offset where a match can
+    /// begin, if that is near the start of the span. The match is not empty. If this returns none, nothing is known, and
+    /// the input is yet to be searched.
+    ///
+    /// The attempts of an iteration share the count of misses; once there are many, no more attempts are made.
+    #[inline(always)]
+    pub fn find_at_once(
+        &self,
+        cache: &mut Cache,
+        input: &Input<'_>,
+        misses: &mut Misses,
+    ) -> Option<Match>
+        requires { AreCachesOf cache.old self.now.regex }
+        ensures of { AreCachesOf cache.new self.now.regex }
+        ensures span { IfSome result (λ m. IsSoundPair self.now.regex
+            → IsSpan (forward_engine self.now.regex) input.now (Some m)) }
+        ensures within { IfSome result (λ m. MatchLiesIn self.now.regex input.now m × (m.start < m.end)) }
+        ensures attempt { IsAttempt self.now input.now cache.old cache.new }
+    {
+        match &self.first_bytes {
+            Some(bytes) if !misses.are_many() && is_full_search(input) && finds_starts(&self.regex) => {
+                find_at_first_byte(&self.regex, bytes, cache, input, misses)
+            }
+            _ => None,
+        }
+    }
+
     /// Returns the match after one that ended at `last`, which is not an empty match there; the first match if `last`
     /// is none.
     pub(crate) fn next_match(
@@ -255,6 +327,7 @@ impl Pattern {
         cache: &mut Cache,
         hay: &[u8],
         last: Option<usize>,
+        misses: &mut Misses,
     ) -> Result<Option<Match>, SearchError>
         requires of { AreCachesOf cache.old self.now.regex }
         requires within { unwrap_or last 0 ≤ length hay.now }
@@ -269,6 +342,9 @@ impl Pattern {
             return Ok(None);
         };
         let remaining = rest(hay, at);
+        if let Some(found) = self.find_at_once(cache, &remaining, misses) {
+            return Ok(Some(found));
+        }
         self.regex.next_match(cache, &remaining, last)
     }
 }
