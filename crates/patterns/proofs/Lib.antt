@@ -1,4 +1,4 @@
-mod Building
+pub mod Building
 mod Compilable
 mod Drafting
 mod Faults
