@@ -23,11 +23,11 @@ use Rattle.patterns.specs.Attempts.{IsAnchoredRun, IsFullSearch}
 
 -- no match begins before the first byte
 pub may_skip :
-    (regex : Regex) (table : List Bool) (input : Input) (at : ℕ) (found : Option ℕ) → IsValidInput input
-    → IsFullSearch input → BeginsAtFirstByte (forward_engine regex) table → IsLazy (forward_engine regex)
-    → found ≡ Some at → FindsFirstByte table input.haystack input.start input.end found
-    → MaySkipTo (forward_engine regex) input at
-may_skip regex table input at found valid full begins lazy is finds = record {
+    (regex : Regex) (table : List Bool) (input : Input) (hay : List ℕ) (start end at : ℕ) (found : Option ℕ)
+    → IsValidInput input → IsFullSearch input → BeginsAtFirstByte (forward_engine regex) table
+    → IsLazy (forward_engine regex) → hay ≡ input.haystack → start ≡ input.start → end ≡ input.end → found ≡ Some at
+    → FindsFirstByte table hay start end found → MaySkipTo (forward_engine regex) input at
+may_skip regex table input hay start end at found valid full begins lazy same from upto is finds = record {
   loops = lazy;
   of_bytes = (valid.bytes, valid.within.1);
   free = full.free;
@@ -37,7 +37,11 @@ may_skip regex table input at found valid full begins lazy is finds = record {
 }
   where
     there : FindsFirstByte table input.haystack input.start input.end (Some at)
-    there = subst (λ v. FindsFirstByte table input.haystack input.start input.end v) is finds
+    there =
+        subst (λ v. FindsFirstByte table input.haystack input.start input.end v) is
+        (subst (λ v. FindsFirstByte table input.haystack input.start v found) upto
+        (subst (λ v. FindsFirstByte table input.haystack v end found) from
+        (subst (λ v. FindsFirstByte table v start end found) same finds)))
 
 -- what the anchored search finds there is the match
 pub span_at_once :

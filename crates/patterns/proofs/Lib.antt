@@ -1,5 +1,5 @@
 mod Attempting
-mod Building
+pub mod Building
 mod Compilable
 mod Drafting
 mod Faults

@@ -95,7 +95,10 @@ pub(crate) fn find_at_first_byte(
         return None;
     };
     let anchored = anchored_from(input, start);
-    match regex.forward().try_search_fwd(cache.forward_mut(), &anchored) {
+    match regex
+        .forward()
+        .try_search_fwd(cache.forward_mut(), &anchored)
+    {
         Ok(Some(half)) if half.offset() > start => {
             misses.count_match();
             let end = half.offset();

@@ -1,5 +1,6 @@
 //! Patterns to search for.
-ghost use Rattle.std.specs.Prelude.{◌≡◌, ◌<◌, ◌≤◌, ℕ, Bool, List, [], ◌∷◌, Some, IfErr, IfOk, IfSome, is_some};
+ghost use Rattle.std.specs.Prelude.{◌≡◌, ◌<◌, ◌≤◌, ℕ, Bool, List, [], ◌∷◌, None, Some, IfErr, IfOk, IfSome};
+ghost use Rattle.std.specs.Prelude.{is_some};
 ghost use Rattle.std.specs.Prelude.{length, map, option_map, true};
 ghost use Rattle.std.specs.Option.{unwrap_or};
 ghost use Rattle.regex_hir.specs.Re.{Re};
@@ -16,7 +17,7 @@ ghost use Rattle.prefilters.specs.FirstBytes.{BeginsAtFirstByte};
 ghost use Rattle.prefilters.specs.Needles.{BeginsAtNeedle};
 ghost use Rattle.prefilters.specs.Skipping.{IsLazy};
 ghost use Rattle.patterns.specs.Faults.{IsPatternFault};
-ghost use Rattle.patterns.specs.Patterns.{IsBuiltOf, IsFor, IsJoinedNfa, IsRegexOfTexts, IsRegexOf};
+ghost use Rattle.patterns.specs.Patterns.{IsBuiltOf, IsFor, IsJoinedNfa, IsNfaOf, IsRegexOfTexts, IsRegexOf};
 ghost use Rattle.patterns.specs.Patterns.{settings_of, settings_with};
 ghost use Rattle.patterns.specs.declared.compile.Options as options;
 
@@ -30,7 +31,7 @@ use regex_automata::hybrid::dfa::Config;
 use regex_automata::hybrid::regex::{Cache, Regex, RegexBuildError};
 use regex_automata::laws::{matches_are_spans, spans_follow};
 use regex_automata::nfa::thompson::NFA;
-use regex_automata::util::search::{HalfMatch, Input, Match, MatchKind};
+use regex_automata::util::search::{Anchored, HalfMatch, Input, Match, MatchKind};
 use std::alloc::{AllocError, Global};
 
 /// One pattern, or several. Of several patterns, a match belongs to the first one that matches where it begins, and has
@@ -99,6 +100,20 @@ fn finds_starts(regex: &Regex) -> bool
     is_leftmost_first(regex) && is_lazy(regex)
 }
 
+/// Whether the settings of the forward DFA have quit bytes, at which a search stops.
+fn has_quits(regex: &Regex) -> bool {
+    let config = regex.forward().get_config();
+    (0..=u8::MAX).any(|byte| config.get_quit(byte))
+}
+
+/// Whether a search may skip offsets at which no match begins: it is unanchored, and its span is not done.
+fn may_skip(input: &Input<'_>) -> bool
+    ensures free { result ≡ true → input.now.anchored ≡ Anchored.No }
+    ensures undone { result ≡ true → input.now.start ≤ input.now.end }
+{
+    matches!(input.get_anchored(), Anchored::No) && !input.is_done()
+}
+
 /// Returns the input for the haystack from an offset on.
 fn rest<'h>(hay: &'h [u8], start: usize) -> Input<'h>
     requires { start ≤ length hay.now }
@@ -110,7 +125,7 @@ fn rest<'h>(hay: &'h [u8], start: usize) -> Input<'h>
 
 impl Pattern {
     ghost use Rattle.patterns.specs.Iteration.{IsNextMeant, rest_of};
-    ghost use Rattle.patterns.specs.Searches.{HasNeedles, IsAttempt, IsBegin, IsEndSearch, IsNextSearch, IsSpanSearch};
+    ghost use Rattle.patterns.specs.Searches.{IsAttempt, IsEndSearch, IsNarrowed, IsNextSearch, IsSpanSearch};
     ghost use Rattle.patterns.specs.Searches.{IsTruthSearch};
 
     /// Compiles a text to a pattern.
@@ -133,7 +148,7 @@ impl Pattern {
         let nfa = nfa_of(alloc, texts, options)?;
         match Pattern::from_nfa(nfa, options) {
             Ok(mut pattern) => {
-                pattern.skip_by(prefilter_of(alloc, texts, options));
+                pattern.begin_at_needles(alloc, texts, options);
                 pattern.try_first_bytes();
                 Ok(pattern)
             }
@@ -185,38 +200,66 @@ impl Pattern {
         })
     }
 
-    /// Lets searches begin at needles, unless offsets inside characters are skipped.
-    fn skip_by(&mut self, prefilter: Option<Prefilter>)
-        requires { (needles : List (List ℕ)) → prefilter ≡ Some needles → HasNeedles self.old.regex needles }
-        ensures { self.new.regex ≡ self.old.regex }
+    /// Makes a pattern of a regex. Its searches use no needles.
+    pub fn from_regex(regex: Regex) -> Pattern
+        ensures regex { result.regex ≡ regex }
+        ensures plain { result.prefilter ≡ None }
+        ensures bytes { result.first_bytes ≡ None }
     {
-        if !self.regex.forward().skips() {
-            self.prefilter = prefilter;
+        Pattern {
+            regex,
+            prefilter: None,
+            first_bytes: None,
         }
     }
 
     /// Lets iterations attempt to find each match at once, if the match kind is `MatchKind::LeftmostFirst`, no match is
-    /// empty, and matches may begin anywhere in a haystack. If memory runs out they do without.
+    /// empty, matches may begin anywhere in a haystack, and searches do not stop at quit bytes. If memory runs out they do
+    /// without.
     pub fn try_first_bytes(&mut self)
         ensures regex { self.new.regex ≡ self.old.regex }
         ensures prefilter { self.new.prefilter ≡ self.old.prefilter }
     {
-        if finds_starts(&self.regex) {
+        if finds_starts(&self.regex) && !has_quits(&self.regex) {
             if let Ok(bytes) = FirstBytes::new(self.regex.forward().get_nfa()) {
                 self.first_bytes = bytes;
             }
         }
     }
 
-    /// Returns the offset where a search from `start` on begins, or none if no match begins there or later.
-    fn begin(&self, hay: &[u8], start: usize) -> Option<usize>
-        requires { start ≤ length hay.now }
-        ensures begin { IsBegin self.now hay.now start result }
-        ensures within { IfSome result (λ at. (start ≤ at) × (at ≤ length hay.now)) }
+    /// Lets searches begin at the needles of texts, if a search for needles pays. The forward DFA must be built from
+    /// the NFA that `nfa_of` returned for these texts and options; its match kind, and the reverse DFA, may be any.
+    ///
+    /// There are no needles if offsets inside characters are skipped, if searches stop at quit bytes, or if memory runs
+    /// out.
+    pub fn begin_at_needles(&mut self, alloc: Global, texts: &[&str], options: &Options)
+        requires { IsNfaOf options.now (map (λ text. text.now) texts.now) self.old.regex.forward.nfa }
+        ensures { self.new.regex ≡ self.old.regex }
     {
+        if !self.regex.forward().skips() && !has_quits(&self.regex) {
+            self.prefilter = prefilter_of(alloc, texts, options);
+        }
+    }
+
+    /// Returns the input from the first needle on, where a search finds what it finds in the given input; none if no
+    /// match begins in its span, not even at its end. The given input is returned if the search is anchored, its span
+    /// is done, or the pattern has no needles.
+    ///
+    /// No more of the haystack is read than the span and a needle that begins in it.
+    pub fn narrow<'h>(&self, input: &Input<'h>) -> Option<Input<'h>>
+        ensures narrowed { IsNarrowed self.now input.now result }
+        ensures valid { IfSome result IsValidInput }
+    {
+        let mut narrowed = input.copied();
         match &self.prefilter {
-            Some(prefilter) if is_lazy(&self.regex) => prefilter.skip(hay, start, hay.len()),
-            _ => Some(start),
+            Some(prefilter) if may_skip(input) && is_lazy(&self.regex) => {
+                let Some(at) = prefilter.skip(input.haystack(), input.start(), input.end()) else {
+                    return None;
+                };
+                narrowed.set_start(at);
+                Some(narrowed)
+            }
+            _ => Some(narrowed),
         }
     }
 
@@ -237,11 +280,11 @@ impl Pattern {
             → IsRegexOf o res self.now.regex → IsFor o hay.now
             → truth ≡ is_some (find_any o.utf8 res hay.now 0)) }
     {
-        let Some(at) = self.begin(hay, 0) else {
+        let whole = rest(hay, 0);
+        let Some(input) = self.narrow(&whole) else {
             return Ok(false);
         };
-        let searched = rest(hay, at);
-        self.regex.is_match(cache, &searched)
+        self.regex.is_match(cache, &input)
     }
 
     /// Returns the leftmost match that begins at `start` or later; of those that begin there, the one that the pattern
@@ -260,10 +303,10 @@ impl Pattern {
             → IsRegexOf o res self.now.regex → IsFor o hay.now
             → found ≡ option_map (numbered_match res hay.now) (find_any o.utf8 res hay.now start)) }
     {
-        let Some(at) = self.begin(hay, start) else {
+        let searched = rest(hay, start);
+        let Some(input) = self.narrow(&searched) else {
             return Ok(None);
         };
-        let input = rest(hay, at);
         self.regex.find(cache, &input)
     }
 
@@ -284,13 +327,13 @@ impl Pattern {
             → found ≡ option_map (end_of res hay.now) (find_any o.utf8 res hay.now start)) }
         ensures reverse { cache.new.reverse ≡ cache.old.reverse }
     {
-        let Some(at) = self.begin(hay, start) else {
+        let left = rest(hay, start);
+        let Some(input) = self.narrow(&left) else {
             return Ok(None);
         };
-        let left = rest(hay, at);
         self.regex
             .forward()
-            .try_search_fwd(cache.forward_mut(), &left)
+            .try_search_fwd(cache.forward_mut(), &input)
     }
 
     /// Attempts to find the match of the input at once: by one anchored search from the first offset where a match can
@@ -313,7 +356,8 @@ impl Pattern {
         ensures attempt { IsAttempt self.now input.now cache.old cache.new }
     {
         match &self.first_bytes {
-            Some(bytes) if !misses.are_many() && is_full_search(input) && finds_starts(&self.regex) => {
+            Some(bytes)
+                if !misses.are_many() && is_full_search(input) && finds_starts(&self.regex) => {
                 find_at_first_byte(&self.regex, bytes, cache, input, misses)
             }
             _ => None,
@@ -338,13 +382,13 @@ impl Pattern {
     {
         matches_are_spans(&self.regex);
         spans_follow(&self.regex);
-        let Some(at) = self.begin(hay, last.unwrap_or(0)) else {
+        let remaining = rest(hay, last.unwrap_or(0));
+        let Some(input) = self.narrow(&remaining) else {
             return Ok(None);
         };
-        let remaining = rest(hay, at);
-        if let Some(found) = self.find_at_once(cache, &remaining, misses) {
+        if let Some(found) = self.find_at_once(cache, &input, misses) {
             return Ok(Some(found));
         }
-        self.regex.next_match(cache, &remaining, last)
+        self.regex.next_match(cache, &input, last)
     }
 }
