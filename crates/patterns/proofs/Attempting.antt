@@ -1,7 +1,6 @@
 -- An anchored search from the first offset where a match can begin finds the match.
 use Rattle.std.proofs.Common.{ℕ, ◌≡◌, List, Bool, Option, Some, None, option_map, ap, ◌∙◌, refl, subst, sym, arith}
 use Rattle.std.specs.Prelude.{Ok, Result}
-use Rattle.std.specs.Result.{result_err}
 use Rattle.std.proofs.lemmas.Option.{none-some, same_Some}
 use Rattle.automata_base.specs.Answers.Answers.{Half, IsAnswer}
 use Rattle.automata_base.specs.Answers.Spans.{IsSpan}
