@@ -1,6 +1,6 @@
 -- An anchored search from the first offset where a match can begin finds the match.
-use Rattle.std.proofs.Common.{ℕ, ◌≡◌, List, Bool, Option, Some, None, option_map, ap, ◌∙◌, refl, subst, sym, arith}
-use Rattle.std.specs.Prelude.{Ok, Result}
+use Rattle.std.proofs.Common.{ℕ, ◌≡◌, List, Bool, Option, Some, None, option_map, ap, ◌∙◌, inr, refl, subst, sym, arith}
+use Rattle.std.specs.Prelude.{IfSome, Ok, Result}
 use Rattle.std.proofs.lemmas.Option.{none-some, same_Some}
 use Rattle.automata_base.specs.Answers.Answers.{Half, IsAnswer}
 use Rattle.automata_base.specs.Answers.Spans.{IsSpan}
@@ -19,6 +19,8 @@ use Rattle.prefilters.specs.Skipping.{IsLazy, MaySkipTo, anchored_from}
 use Rattle.prefilters.proofs.Anchoring.{anchored_span}
 use Rattle.prefilters.proofs.FirstSteps.{byte_skips}
 use Rattle.patterns.specs.Attempts.{IsAnchoredRun, IsFullSearch}
+use Rattle.patterns.specs.Searches.{IsCandidate}
+use Rattle.patterns.specs.declared.pattern.Pattern.{Pattern}
 
 -- no match begins before the first byte
 pub may_skip :
@@ -41,6 +43,19 @@ may_skip regex table input hay start end at found valid full begins lazy same fr
         (subst (λ v. FindsFirstByte table input.haystack input.start v found) upto
         (subst (λ v. FindsFirstByte table input.haystack v end found) from
         (subst (λ v. FindsFirstByte table v start end found) same finds)))
+
+-- so an anchored search may be made there
+pub candidate_is :
+    (p : Pattern) (table : List Bool) (input : Input) (hay : List ℕ) (start end : ℕ) (found : Option ℕ)
+    → p.first_bytes ≡ Some table → IsValidInput input → IsFullSearch input
+    → BeginsAtFirstByte (forward_engine p.regex) table → IsLazy (forward_engine p.regex) → hay ≡ input.haystack
+    → start ≡ input.start → end ≡ input.end → FindsFirstByte table hay start end found
+    → IfSome found (IsCandidate p input)
+candidate_is p table input hay start end None has valid full begins lazy same from upto finds = tt
+candidate_is p table input hay start end (Some at) has valid full begins lazy same from upto finds = (
+  inr (λ no. absurd (cc)),
+  may_skip p.regex table input hay start end at (Some at) valid full begins lazy same from upto refl finds,
+)
 
 -- what the anchored search finds there is the match
 pub span_at_once :

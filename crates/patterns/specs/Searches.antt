@@ -67,10 +67,18 @@ pub data IsSearchedFrom (pattern : Pattern) (hay : List ℕ) (start : ℕ) (Sear
       HasPrefilter pattern → MaySkipAll (forward_engine pattern.regex) (rest_from hay start) → FindsNone
       → IsSearchedFrom pattern hay start Searches FindsNone
 
--- an attempt to find the match of an input at once: no search, or an anchored one if the pattern has first bytes
+-- the pattern has needles, or bytes with which every match begins
+abbrev pub HasBeginnings : Pattern → Type 0
+HasBeginnings pattern = HasPrefilter pattern ⊎ (pattern.first_bytes ≡ None → ⊥)
+
+-- where an anchored search is made, in an attempt to find the match of an input at once: no match begins before
+abbrev pub IsCandidate : Pattern → Input → (at : ℕ) → Type 0
+IsCandidate pattern input at = HasBeginnings pattern × MaySkipTo (forward_engine pattern.regex) input at
+
+-- an attempt to find the match of an input at once: no search, or an anchored one if the pattern has beginnings
 abbrev pub IsAttempt : Pattern → Input → (old new : Cache) → Type 0
 IsAttempt pattern input old new =
-    (new ≡ old) ⊎ ((pattern.first_bytes ≡ None → ⊥) × IsAnchoredRun pattern.regex input old new)
+    (new ≡ old) ⊎ (HasBeginnings pattern × IsAnchoredRun pattern.regex input old new)
 
 -- an attempt to find the match of an input at once, and then a search of the input, unless the attempt has found it
 pub data IsSearchedAfter (pattern : Pattern) (input : Input) (old new : Cache) (Finds : Type 0)

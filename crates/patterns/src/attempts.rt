@@ -1,16 +1,18 @@
 //! Attempts to find the next match at once: by one anchored search from the first offset where a match can begin.
-ghost use Rattle.std.specs.Prelude.{◌≡◌, ◌<◌, ◌≤◌, ◌⊎◌, IfSome, Some, false, true};
+ghost use Rattle.std.specs.Prelude.{◌≡◌, ◌<◌, ◌≤◌, IfSome, Some, false, true};
 ghost use Rattle.automata_base.specs.Answers.Spans.{IsSpan};
 ghost use Rattle.automata_base.specs.Haystacks.Input.{IsValidInput};
 ghost use Rattle.regex_automata.specs.Promises.{AreCachesOf, IsSoundPair, LeftmostFirst, forward_engine};
 ghost use Rattle.regex_automata.specs.Spans.Outcomes.{MatchLiesIn};
-ghost use Rattle.prefilters.specs.FirstBytes.{BeginsAtFirstByte};
-ghost use Rattle.prefilters.specs.Skipping.{IsLazy, anchored_from};
+ghost use Rattle.prefilters.specs.Skipping.{MaySkipTo, anchored_from};
 ghost use Rattle.patterns.specs.Attempts.{IsAnchoredRun, IsFullSearch};
 
-use prefilters::FirstBytes;
 use regex_automata::hybrid::regex::{Cache, Regex};
 use regex_automata::util::search::{Anchored, Input, Match, Span};
+
+/// The number of searches of an iteration that make no attempt: for a few matches, it does not pay to build the states
+/// of anchored searches.
+const FEW: u32 = 16;
 
 /// The balance of misses from which on no attempts are made.
 const MANY: u32 = 64;
@@ -19,18 +21,26 @@ const MANY: u32 = 64;
 /// another attempt is made, and never what is found.
 #[derive(Clone, Copy, Debug)]
 pub struct Misses {
+    plain: u32,
     balance: u32,
 }
 
 impl Misses {
     /// Returns the balance at the beginning of an iteration.
     pub fn none() -> Misses {
-        Misses { balance: 0 }
+        Misses {
+            plain: 0,
+            balance: 0,
+        }
     }
 
-    /// Whether no more attempts are made.
-    pub(crate) fn are_many(&self) -> bool {
-        self.balance >= MANY
+    /// Whether an attempt is made, and not one of the first searches without.
+    pub(crate) fn allow_attempt(&mut self) -> bool {
+        if self.plain < FEW {
+            self.plain += 1;
+            return false;
+        }
+        self.balance < MANY
     }
 
     /// Counts an attempt that has found the match.
@@ -39,7 +49,7 @@ impl Misses {
     }
 
     /// Counts an attempt without a search, as no match can begin near the start.
-    fn count_gap(&mut self) {
+    pub(crate) fn count_gap(&mut self) {
         self.balance = self.balance.saturating_add(1);
     }
 
@@ -67,33 +77,28 @@ fn anchored_from<'h>(input: &Input<'h>, start: usize) -> Input<'h>
         .anchored(Anchored::Yes)
 }
 
-/// Attempts to find the match of the input at once. If this returns none, the input is yet to be searched.
+/// Searches anchored from an offset on before which no match begins. If this returns none, the input is yet to be
+/// searched.
 ///
-/// No attempt is made if no match can begin near the start of the span. An error of the anchored search is dropped: the
-/// search that follows does without it, or fails, too.
+/// An error of the anchored search is dropped: the search that follows does without it, or fails, too.
 #[inline(always)]
-pub(crate) fn find_at_first_byte(
+pub(crate) fn find_at(
     regex: &Regex,
-    bytes: &FirstBytes,
     cache: &mut Cache,
     input: &Input<'_>,
+    start: usize,
     misses: &mut Misses,
 ) -> Option<Match>
     requires caches { AreCachesOf cache.old regex.now }
-    requires begins { BeginsAtFirstByte (forward_engine regex.now) bytes.now }
-    requires lazy { IsLazy (forward_engine regex.now) }
+    requires skips { MaySkipTo (forward_engine regex.now) input.now start }
     requires kind { (forward_engine regex.now).kind ≡ LeftmostFirst }
     requires full { IsFullSearch input.now }
     ensures of { AreCachesOf cache.new regex.now }
     ensures span { IfSome result (λ m. IsSoundPair regex.now
         → IsSpan (forward_engine regex.now) input.now (Some m)) }
     ensures within { IfSome result (λ m. MatchLiesIn regex.now input.now m × (m.start < m.end)) }
-    ensures run { (cache.new ≡ cache.old) ⊎ IsAnchoredRun regex.now input.now cache.old cache.new }
+    ensures run { IsAnchoredRun regex.now input.now cache.old cache.new }
 {
-    let Some(start) = bytes.find(input.haystack(), input.start(), input.end()) else {
-        misses.count_gap();
-        return None;
-    };
     let anchored = anchored_from(input, start);
     match regex
         .forward()

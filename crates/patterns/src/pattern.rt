@@ -21,7 +21,7 @@ ghost use Rattle.patterns.specs.Patterns.{IsBuiltOf, IsFor, IsJoinedNfa, IsNfaOf
 ghost use Rattle.patterns.specs.Patterns.{settings_of, settings_with};
 ghost use Rattle.patterns.specs.declared.compile.Options as options;
 
-use crate::attempts::{Misses, find_at_first_byte, is_full_search};
+use crate::attempts::{Misses, find_at, is_full_search};
 use crate::compile::{Options, nfa_of};
 use crate::error::{Fault, PatternError};
 use crate::needles::prefilter_of;
@@ -125,8 +125,9 @@ fn rest<'h>(hay: &'h [u8], start: usize) -> Input<'h>
 
 impl Pattern {
     ghost use Rattle.patterns.specs.Iteration.{IsNextMeant, rest_of};
-    ghost use Rattle.patterns.specs.Searches.{IsAttempt, IsEndSearch, IsNarrowed, IsNextSearch, IsSpanSearch};
-    ghost use Rattle.patterns.specs.Searches.{IsTruthSearch};
+    ghost use Rattle.patterns.specs.Attempts.{IsFullSearch};
+    ghost use Rattle.patterns.specs.Searches.{IsAttempt, IsCandidate, IsEndSearch, IsNarrowed, IsNextSearch};
+    ghost use Rattle.patterns.specs.Searches.{IsSpanSearch, IsTruthSearch};
 
     /// Compiles a text to a pattern.
     pub fn new(alloc: Global, text: &str, options: &Options) -> Result<Pattern, PatternError>
@@ -213,14 +214,14 @@ impl Pattern {
         }
     }
 
-    /// Lets iterations attempt to find each match at once, if the match kind is `MatchKind::LeftmostFirst`, no match is
-    /// empty, matches may begin anywhere in a haystack, and searches do not stop at quit bytes. If memory runs out they do
-    /// without.
+    /// Lets iterations attempt to find each match at once, by the bytes with which matches begin. They do without if the
+    /// match kind is `MatchKind::All`, an empty match is possible, matches begin only at the start of a haystack, or
+    /// searches stop at quit bytes; and if the pattern has needles, or memory runs out.
     pub fn try_first_bytes(&mut self)
         ensures regex { self.new.regex ≡ self.old.regex }
         ensures prefilter { self.new.prefilter ≡ self.old.prefilter }
     {
-        if finds_starts(&self.regex) && !has_quits(&self.regex) {
+        if self.prefilter.is_none() && finds_starts(&self.regex) && !has_quits(&self.regex) {
             if let Ok(bytes) = FirstBytes::new(self.regex.forward().get_nfa()) {
                 self.first_bytes = bytes;
             }
@@ -336,11 +337,26 @@ impl Pattern {
             .try_search_fwd(cache.forward_mut(), &input)
     }
 
+    /// Returns the first offset of the span where a match can begin, if that is near the start, by the bytes with which
+    /// matches begin. If the pattern has needles in place of them, it is the start, to which `narrow` moves the input.
+    #[inline(always)]
+    fn candidate(&self, input: &Input<'_>) -> Option<usize>
+        requires full { IsFullSearch input.now }
+        requires lazy { IsLazy (forward_engine self.now.regex) }
+        ensures { IfSome result (IsCandidate self.now input.now) }
+    {
+        match &self.first_bytes {
+            Some(bytes) => bytes.find(input.haystack(), input.start(), input.end()),
+            None if self.prefilter.is_some() => Some(input.start()),
+            None => None,
+        }
+    }
+
     /// Attempts to find the match of the input at once: by one anchored search from the first offset where a match can
     /// begin, if that is near the start of the span. The match is not empty. If this returns none, nothing is known, and
-    /// the input is yet to be searched.
+    /// the input is yet to be searched. If the pattern has needles, the input is to be one that `narrow` returned.
     ///
-    /// The attempts of an iteration share the count of misses; once there are many, no more attempts are made.
+    /// The attempts of an iteration share the count of misses, which also decides whether one is made.
     #[inline(always)]
     pub fn find_at_once(
         &self,
@@ -355,13 +371,14 @@ impl Pattern {
         ensures within { IfSome result (λ m. MatchLiesIn self.now.regex input.now m × (m.start < m.end)) }
         ensures attempt { IsAttempt self.now input.now cache.old cache.new }
     {
-        match &self.first_bytes {
-            Some(bytes)
-                if !misses.are_many() && is_full_search(input) && finds_starts(&self.regex) => {
-                find_at_first_byte(&self.regex, bytes, cache, input, misses)
-            }
-            _ => None,
+        if !misses.allow_attempt() || !is_full_search(input) || !finds_starts(&self.regex) {
+            return None;
         }
+        let Some(start) = self.candidate(input) else {
+            misses.count_gap();
+            return None;
+        };
+        find_at(&self.regex, cache, input, start, misses)
     }
 
     /// Returns the match after one that ended at `last`, which is not an empty match there; the first match if `last`
