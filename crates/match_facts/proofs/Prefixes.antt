@@ -52,6 +52,24 @@ starts_with_shared re needles bytes all starts hay ok i j w s =
       high = let h = found.1.high in omega (arith, h, ap length b.1, length-append bytes b.0);
     }
 
+-- so the common prefix can be searched for in place of the needles
+pub starts_with_one :
+    (re : Re) (needles : List (List ℕ)) (bytes : List ℕ)
+    → ((n : ℕ) → n < length needles → BeginsWith bytes (needle_at needles n)) → StartsWithNeedle re needles
+    → StartsWithNeedle re (bytes ∷ [])
+starts_with_one re needles bytes all starts hay ok i j s =
+    let found = starts hay ok i j s in
+    let n = found.0 in
+    let b = all n found.1.numbered in (
+      0,
+      record {
+        numbered = omega arith;
+        occurs = begins_there hay bytes (needle_at needles n) i b found.1.occurs;
+        low = le_refl i;
+        high = let h = found.1.high in omega (arith, h, ap length b.1, length-append bytes b.0);
+      },
+    )
+
 pub starts_with_none : (re : Re) → StartsWith re []
 starts_with_none re hay ok i j w s =
     let span = Matches-IsSpan hay re i j s in

@@ -14,6 +14,7 @@ mod prefix;
 
 use crate::literals::literals_of;
 use crate::prefix::prefix_of;
+pub use prefix::common_prefix;
 use regex_extract::{is_anchored_end, is_anchored_start, max_len};
 use regex_hir::Hir;
 use std::alloc::{AllocError, Global};

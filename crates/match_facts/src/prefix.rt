@@ -15,14 +15,14 @@ pub(crate) fn prefix_of(alloc: Global, hir: &Hir) -> Result<Vec<u8>, AllocError>
     ensures { IfOk result (λ v. StartsWith (meaning hir.now) v.items) }
 {
     match prefixes(alloc, hir) {
-        Ok(Some(needles)) => Vec::from_slice(alloc, shared(needles.as_slice())),
+        Ok(Some(needles)) => Vec::from_slice(alloc, common_prefix(needles.as_slice())),
         Ok(None) => Ok(Vec::new(alloc)),
         Err(error) => Err(error),
     }
 }
 
-/// Returns the longest common prefix of the needles.
-fn shared(needles: &[Vec<u8>]) -> &[u8]
+/// Returns the longest common prefix of needles. A match that begins with one of them begins with the prefix.
+pub fn common_prefix(needles: &[Vec<u8>]) -> &[u8]
     ensures { (n : ℕ) → n < length needles.now
         → BeginsWith result.now (needle_at (map (λ v. v.items) needles.now) n) }
 {

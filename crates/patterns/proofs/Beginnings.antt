@@ -2,9 +2,9 @@
 use Rattle.std.proofs.Common.{ℕ, ◌≡◌, ◌+◌, ◌<◌, ◌≤◌, List, [], ◌∷◌, ◌++◌, All, Bor, None, false, true, true≢false}
 use Rattle.std.proofs.Common.{Option, Some, IfSome, refl, sym, ap, ◌∙◌, subst, arith, length, map}
 use Rattle.std.proofs.Common.{take, get_or, add-one}
-use Rattle.std.specs.Prelude.{Vec}
+use Rattle.std.specs.Prelude.{Err, IfOk, Ok, Result, Vec}
 use Rattle.std.specs.declared.alloc.Global.{Global}
-use Rattle.std.proofs.lemmas.List.{map-append}
+use Rattle.std.proofs.lemmas.List.{length-map, map-append}
 use Rattle.std.proofs.lemmas.Option.{none-some, same_Some}
 use Rattle.std.proofs.lemmas.List.Elements.{All-cons}
 use Rattle.std.proofs.Math.Seq.{take-suc}
@@ -12,6 +12,7 @@ use Rattle.regex_hir.specs.Meaning.{meaning}
 use Rattle.regex_hir.specs.Re.{Re}
 use Rattle.regex_hir.specs.declared.hir.Hir as kit_hir
 use Rattle.regex_extract.specs.Needles.{StartsWithNeedle, needles_of}
+use Rattle.regex_literal.specs.Find.{needle_at}
 use Rattle.regex_syntax.specs.Captures.{SameCaptures}
 use Rattle.regex_syntax.specs.Grammar.{Names}
 use Rattle.regex_syntax.specs.Verdict.{Reads}
@@ -27,13 +28,15 @@ use Rattle.regex_automata.specs.Regexes.SoundPairs.{forward_engine}
 use Rattle.regex_automata.specs.declared.hybrid.regex.Regex.{Regex}
 use Rattle.meaning.specs.Patterns.{any_of}
 use Rattle.meaning.specs.Translated.{joined_engine}
+use Rattle.match_facts.specs.Prefixes.{BeginsWith}
+use Rattle.match_facts.proofs.Prefixes.{starts_with_one}
 use Rattle.prefilters.specs.Needles.{AllStartWith, BeginsAtNeedle}
 use Rattle.prefilters.specs.Skipping.{IsLazy, NoneBeginsAt}
 use Rattle.prefilters.proofs.Joining.{needles_grow, needles_join}
 use Rattle.prefilters.proofs.Meaning.{meaning_none, needles_none}
 use Rattle.prefilters.proofs.Nowhere.{anchored_answers, anchored_none}
 use Rattle.patterns.specs.Patterns.{AreMeanings, IsJoinedNfa, config_of}
-use Rattle.patterns.specs.Searches.{AreNeedlesOf, HasNeedles}
+use Rattle.patterns.specs.Searches.{AreNeedlesOf, MayReplace}
 use Rattle.patterns.specs.declared.compile.Options.{Options}
 use Rattle.patterns.proofs.Searching.{looks_same}
 use Rattle.patterns.proofs.Trees.{same_matches, trees_same}
@@ -46,31 +49,23 @@ lazy_of d (LazyLoop skip l) f = (skip, l)
 abbrev anchored : List ℕ → (o e : ℕ) → Input
 anchored hay o e = record { haystack = hay; start = o; end = e; anchored = Yes; earliest = false }
 
-module _ (regex : Regex) (needles : List (List ℕ)) (plain : IsSkipping (forward_engine regex) → ⊥)
-    (has : HasNeedles regex needles) where
-  abbrev o : Options
-  o = has.0
-
-  abbrev res : List Re
-  res = has.1
-
-  abbrev made : IsJoinedNfa o res regex.forward.nfa
-  made = has.2.joined
-
-  own : forward_engine regex ≡ engine_of regex.forward.nfa LeftmostFirst
-  own = ap (engine_of regex.forward.nfa) has.2.kind
+module _ (regex : Regex) (needles : List (List ℕ)) (plain : IsSkipping (forward_engine regex) → ⊥) (o : Options)
+    (res : List Re) (made : IsJoinedNfa o res regex.forward.nfa) (unicode : o.ascii ≡ false)
+    (all : AllStartWith res needles) where
+  -- the engine, apart from its match kind
+  abbrev first : Engine
+  first = engine_of regex.forward.nfa LeftmostFirst
 
   not_ascii : {P : Type 0} → o.ascii ≡ true → P
-  not_ascii only = absurd (true≢false (sym only ∙ has.3))
+  not_ascii only = absurd (true≢false (sym only ∙ unicode))
 
   -- the regex answers as the joined engine, where no match begins by what the patterns mean
   pub begins_with : BeginsAtNeedle (forward_engine regex) needles
   begins_with hay e s p bytes within short nowhere at l k =
-      anchored_none (forward_engine regex) hay e at plain upto
-      (subst (λ d. IsAnswer Forward d (anchored hay at e) None) (sym own)
+      anchored_none first hay e at plain upto
       (((made.answers.alike LeftmostFirst).searches.answer Forward (anchored hay at e) None bytes).0
       (subst (λ d. IsAnswer Forward d (anchored hay at e) None) (sym made.joins)
-      (anchored_answers (joined_engine o.utf8 made.ks) hay e at none))))
+      (anchored_answers (joined_engine o.utf8 made.ks) hay e at none)))
     where
       upto : at ≤ e
       upto = omega (arith, k, short)
@@ -79,7 +74,7 @@ module _ (regex : Regex) (needles : List (List ℕ)) (plain : IsSkipping (forwar
       none =
           meaning_none made.ks res o.utf8 hay e at made.nfas.0
           (looks_same o.ascii hay not_ascii made.ks made.nfas.1) upto within
-          (λ j. needles_none (any_of res) needles hay s p (needles_join res needles has.4) bytes nowhere at j l k)
+          (λ j. needles_none (any_of res) needles hay s p (needles_join res needles all) bytes nowhere at j l k)
 
 -- the needles of one tree of a text are those of each of its trees
 starts_same :
@@ -100,6 +95,32 @@ needles_of_tree options text h names needles reads starts (re ∷ []) are =
     (subst (λ r. SameCaptures r (meaning h)) (sym are.0.3)
     (trees_same (config_of options) text are.0.0 h are.0.1 names are.0.2 reads)) starts)
 needles_of_tree options text h names needles reads starts (re ∷ next ∷ res) are = absurd are.1
+
+-- other needles for the same texts
+pub needles_replaced :
+    (options : Options) (texts needles others : List (List ℕ)) → MayReplace needles others
+    → AreNeedlesOf options texts needles → AreNeedlesOf options texts others
+needles_replaced options texts needles others may are res meanings i d l = may (get_or res i d) (are res meanings i d l)
+
+-- what is searched for, if a search for the others is built
+pub replaced :
+    {E : Type 0} (needles others : List (List ℕ)) (r : Result (Option (List (List ℕ))) E)
+    → IfOk r (λ o. IfSome o (λ p. p ≡ others)) → MayReplace needles others
+    → IfOk r (λ o. IfSome o (MayReplace needles))
+replaced needles others (Err e) is may = tt
+replaced needles others (Ok None) is may = tt
+replaced needles others (Ok (Some p)) is may = subst (MayReplace needles) (sym is) may
+
+-- the common prefix of needles, as the only needle
+pub common_only :
+    (vs : List (Vec ℕ Global)) (bytes : List ℕ) (was now : List (Vec ℕ Global)) (needle : Vec ℕ Global)
+    → ((n : ℕ) → n < length vs → BeginsWith bytes (needle_at (map (λ v. v.items) vs) n)) → needle.items ≡ bytes
+    → was ≡ [] → now ≡ was ++ needle ∷ [] → MayReplace (map (λ v. v.items) vs) (map (λ v. v.items) now)
+common_only vs bytes was now needle all is empty pushed re starts =
+    subst (StartsWithNeedle re)
+    (sym (ap (map (λ v. v.items)) (pushed ∙ ap (λ w. w ++ needle ∷ []) empty) ∙ ap (λ b. b ∷ []) is))
+    (starts_with_one re (map (λ v. v.items) vs) bytes
+    (λ n lt. all n (omega (arith, lt, length-map vs (λ v. v.items)))) starts)
 
 -- needles of more texts
 split_meanings :

@@ -158,6 +158,13 @@ kept_is a kept acyclic old keeping =
     let new : kept.keeps_unions ≡ false = dropped kept.keeps_unions acyclic keeping.1.0 in
     keeping.0 ∙ ap (λ v. record a { keeps_unions = v }) (new ∙ sym old)
 
+-- the forward DFA of a regex that is built from an NFA of patterns is a DFA of this NFA
+pub forward_is :
+    (o : settings.Options) (options : Options) (res : List Re) (a : Automaton) (p : Regex)
+    → IsJoinedNfa options res a → BuildsOne o a p → p.forward.nfa ≡ a
+forward_is o options res a p is (kept, b, keeping, reversed, built) =
+    ap (λ (m : Machine). m.nfa) built.0.2 ∙ kept_is a kept is.acyclic is.unions keeping
+
 pub regex_is :
     (o : settings.Options) (options : Options) (res : List Re) (a : Automaton) (p : Regex)
     → settings.match_kind_of o ≡ LeftmostFirst → IsJoinedNfa options res a → BuildsOne o a p → IsSoundPair p
@@ -167,7 +174,7 @@ regex_is o options res a p kind is (kept, b, keeping, reversed, built) sound = r
   kind = ap (λ (m : Machine). settings.match_kind_of m.config) built.0.2 ∙ kind;
   joined =
       subst (λ v. IsJoinedNfa options res v)
-      (sym (ap (λ (m : Machine). m.nfa) built.0.2 ∙ kept_is a kept is.acyclic is.unions keeping)) is;
+      (sym (forward_is o options res a p is (kept, b, keeping, reversed, built))) is;
 }
 
 -- a property of the error that is returned

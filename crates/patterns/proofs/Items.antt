@@ -12,9 +12,9 @@ use Rattle.regex_automata.specs.Spans.Outcomes.{MatchLiesIn}
 use Rattle.regex_automata.specs.declared.hybrid.regex.Regex.{Regex}
 use Rattle.regex_automata.specs.declared.hybrid.regex.caches.Cache.{Cache}
 use Rattle.patterns.specs.Iteration.{GivesMatch, IsNextMeant, most_left, rest_of}
-use Rattle.patterns.specs.Searches.{FailsNext, IsItemSearch, IsNextSearch}
+use Rattle.patterns.specs.Searches.{FailsNext, IsItemSearch, IsNextSearch, rest_from}
 use Rattle.patterns.specs.declared.pattern.Pattern.{Pattern}
-use Rattle.patterns.proofs.Skips.{searched_as}
+use Rattle.patterns.proofs.Skips.{after_as, searched_as}
 
 -- a property of an option's value, if it has one
 pub given : {A : Type 0} {a : A} {o : Option A} (P : A → Type 0) → o ≡ Some a → IfSome o P → P a
@@ -61,17 +61,28 @@ module _ (p : Pattern) (old new : Cache) (hay : List ℕ) (last : Option ℕ) wh
 
   -- why the search for an item failed
   pub fails_next : (e : SearchError) → IsNextSearch p hay last old new (Err e) → FailsNext p old new hay last e
-  fails_next e s = searched_as p hay (unwrap_or last 0) (λ at r. r.1) (λ n. let no = n.0 in absurd (cc)) s
+  fails_next e s =
+      searched_as p hay (unwrap_or last 0)
+      (λ at r.
+      after_as p (rest_from hay at) old new (λ f. let no = f.1 in absurd (cc)) (λ between x. x.1) r)
+      (λ n. let no = n.0 in absurd (cc)) s
 
   -- the search for an item of an iteration that has not ended
   pub item_search : (ended : Bool) (r : Result (Option Match) SearchError) → ended ≡ false →
       IsNextSearch p hay last old new r → IsItemSearch p hay last ended old new (item_of r)
   item_search true r on s = open_is on
-  item_search false (Ok None) on s = searched_as p hay (unwrap_or last 0) (λ at r. r.0) (λ n. (refl, n.1)) s
+  item_search false (Ok None) on s =
+      searched_as p hay (unwrap_or last 0)
+      (λ at r. after_as p (rest_from hay at) old new (λ f. (f.0, ap item_of f.1)) (λ between x. x.0) r)
+      (λ n. (refl, n.1)) s
   item_search false (Ok (Some m)) on s =
-      searched_as p hay (unwrap_or last 0) (λ at r. r.0) (λ n. let no = n.0 in absurd (cc)) s
+      searched_as p hay (unwrap_or last 0)
+      (λ at r. after_as p (rest_from hay at) old new (λ f. (f.0, ap item_of f.1)) (λ between x. x.0) r)
+      (λ n. let no = n.0 in absurd (cc)) s
   item_search false (Err e) on s =
-      searched_as p hay (unwrap_or last 0) (λ at r. r.0) (λ n. let no = n.0 in absurd (cc)) s
+      searched_as p hay (unwrap_or last 0)
+      (λ at r. after_as p (rest_from hay at) old new (λ f. (f.0, ap item_of f.1)) (λ between x. x.0) r)
+      (λ n. let no = n.0 in absurd (cc)) s
 
 -- after a match the upper bound on the remaining items is lower
 pub fewer_left :

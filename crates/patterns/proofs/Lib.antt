@@ -1,4 +1,5 @@
-mod Building
+mod Attempting
+pub mod Building
 mod Compilable
 mod Drafting
 mod Faults

@@ -1,4 +1,5 @@
 pub mod Patterns
+pub mod Attempts
 pub mod Searches
 pub mod Drafts
 pub mod Faults

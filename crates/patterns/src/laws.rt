@@ -1,5 +1,6 @@
 //! Laws that callers cite. The contract of each function is the law; its body only cites other laws.
 ghost use Rattle.patterns.specs.Facts.{FoundIsMatch};
+ghost use Rattle.patterns.specs.Searches.{NarrowedIsKept, WithoutNarrowedIsNone};
 ghost use Rattle.patterns.specs.Sets.{WalksReportEnds};
 
 use crate::set::RegexSet;
@@ -17,4 +18,11 @@ pub fn walks_report_ends(set: &RegexSet)
 /// facts.
 pub fn found_is_match()
     ensures { FoundIsMatch }
+{}
+
+/// A search of the input that `Pattern::narrow` returns finds what one of the given input finds; if it returns none,
+/// there is no match.
+pub fn narrowed_inputs_are_enough()
+    ensures kept { NarrowedIsKept }
+    ensures none { WithoutNarrowedIsNone }
 {}

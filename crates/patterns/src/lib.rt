@@ -13,6 +13,7 @@
 //! claim. Groups are parsed, but captures are not reported.
 #![tactic(auto)]
 
+mod attempts;
 mod compile;
 mod error;
 mod escapes;
@@ -26,6 +27,7 @@ mod set;
 mod threads;
 mod translate;
 
+pub use attempts::Misses;
 pub use compile::{Options, nfa_of};
 pub use error::{Fault, PatternError};
 pub use facts::facts_of;

@@ -6,6 +6,7 @@ ghost use Rattle.regex_automata.specs.Promises.{AreCachesOf, LiesInHaystack};
 ghost use Rattle.patterns.specs.Iteration.{GivesMatch, most_left};
 ghost use Rattle.patterns.specs.Searches.{IsItemSearch};
 
+use crate::attempts::Misses;
 use crate::pattern::Pattern;
 use regex_automata::hybrid::SearchError;
 use regex_automata::hybrid::regex::Cache;
@@ -20,6 +21,7 @@ pub struct Matches<'p, 'c, 'h> {
     haystack: &'h [u8],
     last: Option<usize>,
     ended: bool,
+    misses: Misses,
     ghost within: { unwrap_or last 0 ≤ length haystack.now },
     ghost of: { AreCachesOf cache.now pattern.now.regex },
 }
@@ -45,6 +47,7 @@ impl<'p, 'c, 'h> Matches<'p, 'c, 'h> {
             haystack,
             last: None,
             ended: false,
+            misses: Misses::none(),
         }
     }
 }
@@ -88,7 +91,7 @@ impl<'p, 'c, 'h> Iterator for Matches<'p, 'c, 'h> {
         }
         match self
             .pattern
-            .next_match(self.cache, self.haystack, self.last)
+            .next_match(self.cache, self.haystack, self.last, &mut self.misses)
         {
             Ok(Some(found)) => {
                 self.last = Some(found.end());

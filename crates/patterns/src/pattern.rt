@@ -1,44 +1,54 @@
 //! Patterns to search for.
-ghost use Rattle.std.specs.Prelude.{◌≡◌, ◌≤◌, ℕ, List, [], ◌∷◌, Some, IfErr, IfOk, IfSome, is_some};
+ghost use Rattle.std.specs.Prelude.{◌≡◌, ◌<◌, ◌≤◌, ℕ, Bool, List, [], ◌∷◌, None, Some, IfErr, IfOk, IfSome};
+ghost use Rattle.std.specs.Prelude.{is_some};
 ghost use Rattle.std.specs.Prelude.{length, map, option_map, true};
 ghost use Rattle.std.specs.Option.{unwrap_or};
 ghost use Rattle.regex_hir.specs.Re.{Re};
 ghost use Rattle.regex_automata.specs.Spans.Iteration.{GoesPast};
+ghost use Rattle.regex_automata.specs.Spans.Outcomes.{MatchLiesIn};
 ghost use Rattle.automata_base.specs.Haystacks.Input.{IsValidInput};
 ghost use Rattle.automata_config.specs.Options.{overwritten, unset};
-ghost use Rattle.regex_automata.specs.Promises.{AreCachesOf, IsSoundPair, forward_engine};
+ghost use Rattle.automata_base.specs.Answers.Spans.{IsSpan};
+ghost use Rattle.regex_automata.specs.Promises.{AreCachesOf, IsSoundPair, LeftmostFirst, forward_engine};
 ghost use Rattle.regex_automata.specs.Regexes.Builds.{BuildsOne, IsBuildError};
 ghost use Rattle.regex_automata.specs.Regexes.Caches.{AreFresh};
 ghost use Rattle.meaning.specs.Patterns.{end_of, find_any, numbered_match, span_input};
+ghost use Rattle.prefilters.specs.FirstBytes.{BeginsAtFirstByte};
 ghost use Rattle.prefilters.specs.Needles.{BeginsAtNeedle};
 ghost use Rattle.prefilters.specs.Skipping.{IsLazy};
 ghost use Rattle.patterns.specs.Faults.{IsPatternFault};
-ghost use Rattle.patterns.specs.Patterns.{IsBuiltOf, IsFor, IsJoinedNfa, IsRegexOfTexts, IsRegexOf};
+ghost use Rattle.patterns.specs.Patterns.{IsBuiltOf, IsFor, IsJoinedNfa, IsNfaOf, IsRegexOfTexts, IsRegexOf};
 ghost use Rattle.patterns.specs.Patterns.{settings_of, settings_with};
 ghost use Rattle.patterns.specs.declared.compile.Options as options;
 
+use crate::attempts::{Misses, find_at, is_full_search};
 use crate::compile::{Options, nfa_of};
 use crate::error::{Fault, PatternError};
 use crate::needles::prefilter_of;
-use prefilters::Prefilter;
+use prefilters::{FirstBytes, Prefilter};
 use regex_automata::hybrid::SearchError;
 use regex_automata::hybrid::dfa::Config;
 use regex_automata::hybrid::regex::{Cache, Regex, RegexBuildError};
 use regex_automata::laws::{matches_are_spans, spans_follow};
 use regex_automata::nfa::thompson::NFA;
-use regex_automata::util::search::{HalfMatch, Input, Match, MatchKind};
+use regex_automata::util::search::{Anchored, HalfMatch, Input, Match, MatchKind};
 use std::alloc::{AllocError, Global};
 
 /// One pattern, or several. Of several patterns, a match belongs to the first one that matches where it begins, and has
 /// that pattern's number.
 ///
 /// If every match begins with one of a few literals, the needles, searches begin at the first of them in the haystack.
+/// An iteration over matches also looks for the next match where the first byte is that can begin one, by an anchored
+/// search, which needs no reverse search.
 pub struct Pattern {
     /// The regex that searches for it. Its own searches use no needles.
     pub regex: Regex,
     prefilter: Option<Prefilter>,
+    first_bytes: Option<FirstBytes>,
     ghost begins: { (needles : List (List ℕ)) → prefilter ≡ Some needles
         → BeginsAtNeedle (forward_engine regex) needles },
+    ghost first: { (table : List Bool) → first_bytes ≡ Some table
+        → BeginsAtFirstByte (forward_engine regex) table },
 }
 
 // With its own `drop`, the proof of an owner has one step for it instead of one for each part.
@@ -47,6 +57,7 @@ impl Drop for Pattern {
         let Self {
             regex: _regex,
             prefilter: _prefilter,
+            first_bytes: _first_bytes,
         } = self;
     }
 }
@@ -70,6 +81,39 @@ fn is_lazy(regex: &Regex) -> bool
     nfa.skips_lazily() && !nfa.is_always_start_anchored()
 }
 
+/// Whether the forward DFA has the match kind `MatchKind::LeftmostFirst`.
+fn is_leftmost_first(regex: &Regex) -> bool
+    ensures { result ≡ true → (forward_engine regex.now).kind ≡ LeftmostFirst }
+{
+    match regex.forward().get_config().get_match_kind() {
+        MatchKind::LeftmostFirst => true,
+        MatchKind::All => false,
+    }
+}
+
+/// Whether an anchored search finds the match where the first one begins: the match kind is
+/// `MatchKind::LeftmostFirst`, and unanchored searches skip bytes lazily.
+fn finds_starts(regex: &Regex) -> bool
+    ensures lazy { result ≡ true → IsLazy (forward_engine regex.now) }
+    ensures kind { result ≡ true → (forward_engine regex.now).kind ≡ LeftmostFirst }
+{
+    is_leftmost_first(regex) && is_lazy(regex)
+}
+
+/// Whether the settings of the forward DFA have quit bytes, at which a search stops.
+fn has_quits(regex: &Regex) -> bool {
+    let config = regex.forward().get_config();
+    (0..=u8::MAX).any(|byte| config.get_quit(byte))
+}
+
+/// Whether a search may skip offsets at which no match begins: it is unanchored, and its span is not done.
+fn may_skip(input: &Input<'_>) -> bool
+    ensures free { result ≡ true → input.now.anchored ≡ Anchored.No }
+    ensures undone { result ≡ true → input.now.start ≤ input.now.end }
+{
+    matches!(input.get_anchored(), Anchored::No) && !input.is_done()
+}
+
 /// Returns the input for the haystack from an offset on.
 fn rest<'h>(hay: &'h [u8], start: usize) -> Input<'h>
     requires { start ≤ length hay.now }
@@ -81,8 +125,9 @@ fn rest<'h>(hay: &'h [u8], start: usize) -> Input<'h>
 
 impl Pattern {
     ghost use Rattle.patterns.specs.Iteration.{IsNextMeant, rest_of};
-    ghost use Rattle.patterns.specs.Searches.{HasNeedles, IsBegin, IsEndSearch, IsNextSearch, IsSpanSearch};
-    ghost use Rattle.patterns.specs.Searches.{IsTruthSearch};
+    ghost use Rattle.patterns.specs.Attempts.{IsFullSearch};
+    ghost use Rattle.patterns.specs.Searches.{IsAttempt, IsCandidate, IsEndSearch, IsNarrowed, IsNextSearch};
+    ghost use Rattle.patterns.specs.Searches.{IsSpanSearch, IsTruthSearch};
 
     /// Compiles a text to a pattern.
     pub fn new(alloc: Global, text: &str, options: &Options) -> Result<Pattern, PatternError>
@@ -104,7 +149,8 @@ impl Pattern {
         let nfa = nfa_of(alloc, texts, options)?;
         match Pattern::from_nfa(nfa, options) {
             Ok(mut pattern) => {
-                pattern.skip_by(prefilter_of(alloc, texts, options));
+                pattern.begin_at_needles(alloc, texts, options);
+                pattern.try_first_bytes();
                 Ok(pattern)
             }
             Err(error) => {
@@ -126,6 +172,7 @@ impl Pattern {
         Ok(Pattern {
             regex,
             prefilter: None,
+            first_bytes: None,
         })
     }
 
@@ -150,28 +197,70 @@ impl Pattern {
         Ok(Pattern {
             regex,
             prefilter: None,
+            first_bytes: None,
         })
     }
 
-    /// Lets searches begin at needles, unless offsets inside characters are skipped.
-    fn skip_by(&mut self, prefilter: Option<Prefilter>)
-        requires { (needles : List (List ℕ)) → prefilter ≡ Some needles → HasNeedles self.old.regex needles }
-        ensures { self.new.regex ≡ self.old.regex }
+    /// Makes a pattern of a regex. Its searches use no needles.
+    pub fn from_regex(regex: Regex) -> Pattern
+        ensures regex { result.regex ≡ regex }
+        ensures plain { result.prefilter ≡ None }
+        ensures bytes { result.first_bytes ≡ None }
     {
-        if !self.regex.forward().skips() {
-            self.prefilter = prefilter;
+        Pattern {
+            regex,
+            prefilter: None,
+            first_bytes: None,
         }
     }
 
-    /// Returns the offset where a search from `start` on begins, or none if no match begins there or later.
-    fn begin(&self, hay: &[u8], start: usize) -> Option<usize>
-        requires { start ≤ length hay.now }
-        ensures begin { IsBegin self.now hay.now start result }
-        ensures within { IfSome result (λ at. (start ≤ at) × (at ≤ length hay.now)) }
+    /// Lets iterations attempt to find each match at once, by the bytes with which matches begin. They do without if the
+    /// match kind is `MatchKind::All`, an empty match is possible, matches begin only at the start of a haystack, or
+    /// searches stop at quit bytes; and if the pattern has needles, or memory runs out.
+    pub fn try_first_bytes(&mut self)
+        ensures regex { self.new.regex ≡ self.old.regex }
+        ensures prefilter { self.new.prefilter ≡ self.old.prefilter }
     {
+        if self.prefilter.is_none() && finds_starts(&self.regex) && !has_quits(&self.regex) {
+            if let Ok(bytes) = FirstBytes::new(self.regex.forward().get_nfa()) {
+                self.first_bytes = bytes;
+            }
+        }
+    }
+
+    /// Lets searches begin at the needles of texts, if a search for needles pays. The forward DFA must be built from
+    /// the NFA that `nfa_of` returned for these texts and options; its match kind, and the reverse DFA, may be any.
+    ///
+    /// There are no needles if offsets inside characters are skipped, if searches stop at quit bytes, or if memory runs
+    /// out.
+    pub fn begin_at_needles(&mut self, alloc: Global, texts: &[&str], options: &Options)
+        requires { IsNfaOf options.now (map (λ text. text.now) texts.now) self.old.regex.forward.nfa }
+        ensures { self.new.regex ≡ self.old.regex }
+    {
+        if !self.regex.forward().skips() && !has_quits(&self.regex) {
+            self.prefilter = prefilter_of(alloc, texts, options);
+        }
+    }
+
+    /// Returns the input from the first needle on, where a search finds what it finds in the given input; none if no
+    /// match begins in its span, not even at its end. The given input is returned if the search is anchored, its span
+    /// is done, or the pattern has no needles.
+    ///
+    /// No more of the haystack is read than the span and a needle that begins in it.
+    pub fn narrow<'h>(&self, input: &Input<'h>) -> Option<Input<'h>>
+        ensures narrowed { IsNarrowed self.now input.now result }
+        ensures valid { IfSome result IsValidInput }
+    {
+        let mut narrowed = input.copied();
         match &self.prefilter {
-            Some(prefilter) if is_lazy(&self.regex) => prefilter.skip(hay, start, hay.len()),
-            _ => Some(start),
+            Some(prefilter) if may_skip(input) && is_lazy(&self.regex) => {
+                let Some(at) = prefilter.skip(input.haystack(), input.start(), input.end()) else {
+                    return None;
+                };
+                narrowed.set_start(at);
+                Some(narrowed)
+            }
+            _ => Some(narrowed),
         }
     }
 
@@ -192,11 +281,11 @@ impl Pattern {
             → IsRegexOf o res self.now.regex → IsFor o hay.now
             → truth ≡ is_some (find_any o.utf8 res hay.now 0)) }
     {
-        let Some(at) = self.begin(hay, 0) else {
+        let whole = rest(hay, 0);
+        let Some(input) = self.narrow(&whole) else {
             return Ok(false);
         };
-        let searched = rest(hay, at);
-        self.regex.is_match(cache, &searched)
+        self.regex.is_match(cache, &input)
     }
 
     /// Returns the leftmost match that begins at `start` or later; of those that begin there, the one that the pattern
@@ -215,10 +304,10 @@ impl Pattern {
             → IsRegexOf o res self.now.regex → IsFor o hay.now
             → found ≡ option_map (numbered_match res hay.now) (find_any o.utf8 res hay.now start)) }
     {
-        let Some(at) = self.begin(hay, start) else {
+        let searched = rest(hay, start);
+        let Some(input) = self.narrow(&searched) else {
             return Ok(None);
         };
-        let input = rest(hay, at);
         self.regex.find(cache, &input)
     }
 
@@ -239,13 +328,57 @@ impl Pattern {
             → found ≡ option_map (end_of res hay.now) (find_any o.utf8 res hay.now start)) }
         ensures reverse { cache.new.reverse ≡ cache.old.reverse }
     {
-        let Some(at) = self.begin(hay, start) else {
+        let left = rest(hay, start);
+        let Some(input) = self.narrow(&left) else {
             return Ok(None);
         };
-        let left = rest(hay, at);
         self.regex
             .forward()
-            .try_search_fwd(cache.forward_mut(), &left)
+            .try_search_fwd(cache.forward_mut(), &input)
+    }
+
+    /// Returns the first offset of the span where a match can begin, if that is near the start, by the bytes with which
+    /// matches begin. If the pattern has needles in place of them, it is the start, to which `narrow` moves the input.
+    #[inline(always)]
+    fn candidate(&self, input: &Input<'_>) -> Option<usize>
+        requires full { IsFullSearch input.now }
+        requires lazy { IsLazy (forward_engine self.now.regex) }
+        ensures { IfSome result (IsCandidate self.now input.now) }
+    {
+        match &self.first_bytes {
+            Some(bytes) => bytes.find(input.haystack(), input.start(), input.end()),
+            None if self.prefilter.is_some() => Some(input.start()),
+            None => None,
+        }
+    }
+
+    /// Attempts to find the match of the input at once: by one anchored search from the first offset where a match can
+    /// begin, if that is near the start of the span. The match is not empty. If this returns none, nothing is known, and
+    /// the input is yet to be searched. If the pattern has needles, the input is to be one that `narrow` returned.
+    ///
+    /// The attempts of an iteration share the count of misses, which also decides whether one is made.
+    #[inline(always)]
+    pub fn find_at_once(
+        &self,
+        cache: &mut Cache,
+        input: &Input<'_>,
+        misses: &mut Misses,
+    ) -> Option<Match>
+        requires { AreCachesOf cache.old self.now.regex }
+        ensures of { AreCachesOf cache.new self.now.regex }
+        ensures span { IfSome result (λ m. IsSoundPair self.now.regex
+            → IsSpan (forward_engine self.now.regex) input.now (Some m)) }
+        ensures within { IfSome result (λ m. MatchLiesIn self.now.regex input.now m × (m.start < m.end)) }
+        ensures attempt { IsAttempt self.now input.now cache.old cache.new }
+    {
+        if !misses.allow_attempt() || !is_full_search(input) || !finds_starts(&self.regex) {
+            return None;
+        }
+        let Some(start) = self.candidate(input) else {
+            misses.count_gap();
+            return None;
+        };
+        find_at(&self.regex, cache, input, start, misses)
     }
 
     /// Returns the match after one that ended at `last`, which is not an empty match there; the first match if `last`
@@ -255,6 +388,7 @@ impl Pattern {
         cache: &mut Cache,
         hay: &[u8],
         last: Option<usize>,
+        misses: &mut Misses,
     ) -> Result<Option<Match>, SearchError>
         requires of { AreCachesOf cache.old self.now.regex }
         requires within { unwrap_or last 0 ≤ length hay.now }
@@ -265,10 +399,13 @@ impl Pattern {
     {
         matches_are_spans(&self.regex);
         spans_follow(&self.regex);
-        let Some(at) = self.begin(hay, last.unwrap_or(0)) else {
+        let remaining = rest(hay, last.unwrap_or(0));
+        let Some(input) = self.narrow(&remaining) else {
             return Ok(None);
         };
-        let remaining = rest(hay, at);
-        self.regex.next_match(cache, &remaining, last)
+        if let Some(found) = self.find_at_once(cache, &input, misses) {
+            return Ok(Some(found));
+        }
+        self.regex.next_match(cache, &input, last)
     }
 }

@@ -1,6 +1,8 @@
 pub mod Moving
 pub mod Answering
 pub mod Nowhere
+pub mod Anchoring
+pub mod FirstSteps
 pub mod Meaning
 pub mod Joining
 mod Skips

@@ -17,7 +17,7 @@ use Rattle.automata_base.proofs.Answers.Chosen.{StartsAt, starts_at}
 use Rattle.prefilters.specs.Skipping.{IsLazy, MaySkipAll, NoneBegins, NoneBeginsAt}
 use Rattle.prefilters.proofs.Moving.{path_over}
 
-yes_no : Yes ≡ No → ⊥
+pub yes_no : Yes ≡ No → ⊥
 yes_no e = absurd (cc)
 
 -- no unanchored path accepts

@@ -1,12 +1,13 @@
 -- Where matches can begin, by paths; and that a search may begin past offsets where none does.
-use Rattle.std.specs.Prelude.{ℕ, ◌≡◌, ◌<◌, ◌≤◌, ◌+◌, ◌-◌, ◌⊎◌, suc, Bool, List, Option, Some, None}
+use Rattle.std.specs.Prelude.{ℕ, ◌≡◌, ◌<◌, ◌≤◌, ◌+◌, ◌-◌, ◌⊎◌, suc, Bool, false, List, Option, Some, None}
 use Rattle.automata_base.specs.Answers.Answers.{Half, IsAnswer, IsInput, SelectsOver}
 use Rattle.automata_base.specs.Answers.Spans.{IsMatch, IsSpan, from}
 use Rattle.automata_base.specs.Haystacks.Input.{Input}
 use Rattle.automata_base.specs.Haystacks.Matches.{Match}
 use Rattle.automata_base.specs.Haystacks.Tapes.{forward_tape}
 use Rattle.automata_base.specs.declared.util.search.Direction.TheVariants.{Forward}
-use Rattle.automata_base.specs.declared.util.search.Anchored.TheVariants.{No}
+use Rattle.automata_base.specs.declared.util.search.Anchored.TheVariants.{No, Yes}
+use Rattle.automata_base.specs.declared.util.search.MatchKind.TheVariants.{LeftmostFirst}
 use Rattle.automata_base.specs.Nfas.Engines.{Engine, LoopsLazily}
 use Rattle.automata_base.specs.Paths.Selections.{Accepts, Pair}
 
@@ -99,3 +100,15 @@ TruthsMove =
 -- If no match begins in the span, a search finds none.
 abbrev pub NoneIsFound : Type 0
 NoneIsFound = (d : Engine) (input : Input) → MaySkipAll d input → IsSpan d input None
+
+-- the input from offset `p` on, for an anchored search
+abbrev pub anchored_from : (p : ℕ) → Input → Input
+anchored_from p input = record input { start = p; anchored = Yes }
+
+-- If no match begins before offset `p`, what an anchored search from there on answers is the match of the whole span,
+-- which begins at `p`: under `MatchKind::LeftmostFirst`, if the search is not earliest, no reverse search is needed.
+abbrev pub AnchoredIsSpan : Type 0
+AnchoredIsSpan =
+    (d : Engine) (input : Input) (p : ℕ) (half : Half) → d.kind ≡ LeftmostFirst → input.earliest ≡ false
+    → MaySkipTo d input p → IsAnswer Forward d (anchored_from p input) (Some half)
+    → IsSpan d input (Some (record { pattern = half.pattern; start = p; end = half.offset }))

@@ -2,7 +2,8 @@
 //! law.
 ghost use Rattle.prefilters.specs.Needles.{BeginningsHaveNeedles, MeaningBeginsNone, NeedlesGrow, NeedlesJoin};
 ghost use Rattle.prefilters.specs.Needles.{NeedlesMeanNone};
-ghost use Rattle.prefilters.specs.Skipping.{AnswersMove, NoneIsFound, SelectionsMove, SpansMove, TruthsMove};
+ghost use Rattle.prefilters.specs.Skipping.{AnchoredIsSpan, AnswersMove, NoneIsFound, SelectionsMove, SpansMove};
+ghost use Rattle.prefilters.specs.Skipping.{TruthsMove};
 
 /// A search may skip the offsets before the first one where a match begins: from there on it selects, answers and finds
 /// the same. If no match begins in the span, it finds none.
@@ -12,6 +13,11 @@ pub fn skipped_offsets_change_nothing()
     ensures spans { SpansMove }
     ensures truths { TruthsMove }
     ensures none { NoneIsFound }
+{}
+
+/// An anchored search at the first offset where a match begins finds that match: no reverse search is needed.
+pub fn anchored_search_is_enough()
+    ensures { AnchoredIsSpan }
 {}
 
 /// Where no needle occurs, no match begins that begins with one; and where no match begins that the patterns mean, no

@@ -1,13 +1,18 @@
-//! Where matches of patterns can begin, by the literals with which they begin.
+//! Where matches of patterns can begin, by the literals or the bytes with which they begin.
 //!
 //! If every match begins with one of a few literals, the *needles*, a search may begin at the first offset where one of
 //! them occurs: a `Prefilter` finds it much faster than a lazy DFA walks there. Laws say that the search then returns
 //! what it would have returned: by the ordered paths alone (`specs/Skipping.antt`), and by what the patterns mean
 //! (`specs/Needles.antt`).
+//!
+//! `FirstBytes` has the bytes with which matches of an NFA can begin. An anchored search from the first of them finds the
+//! match with its start, if it finds one, so no reverse search is needed.
 #![tactic(auto)]
 
+mod first_bytes;
 pub mod laws;
 mod prefilter;
 mod threads;
 
+pub use first_bytes::FirstBytes;
 pub use prefilter::{Needles, Prefilter};

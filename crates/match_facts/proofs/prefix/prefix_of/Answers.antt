@@ -12,7 +12,7 @@ if_ok : {A E : Type 0} (P Q : A → Type 0) (r : Result A E) → ((x : A) → P 
 if_ok P Q (Ok x) f p = f x p
 if_ok P Q (Err e) f p = p
 
--- what `shared` promises of the texts that it is given
+-- what `common_prefix` promises of the texts that it is given
 abbrev AllBegin : (bytes : List ℕ) → List (Vec ℕ Global) → Type 0
 AllBegin bytes vs = (n : ℕ) → n < length vs → BeginsWith bytes (needle_at (map (λ v. v.items) vs) n)
 
@@ -22,10 +22,11 @@ returns-in-Ok-Some c =
     let needles = c.in-Ok-Some.needles in
     let starts : StartsWithNeedle re (needles_of needles) =
     rw c.in-Ok-Some.field-0-is at c.in-Ok-Some.ensures.starts in
-    let shared = subst (λ vs. AllBegin c.shared.result.now vs) c.as_slice.ensures.value c.shared.ensures in
-    if_ok (λ v. v.items ≡ c.shared.result.now) (λ v. StartsWith re v.items) c.from_slice.result
+    let shared =
+    subst (λ vs. AllBegin c.common_prefix.result.now vs) c.as_slice.ensures.value c.common_prefix.ensures in
+    if_ok (λ v. v.items ≡ c.common_prefix.result.now) (λ v. StartsWith re v.items) c.from_slice.result
     (λ v is. subst (StartsWith re) (sym is)
-    (starts_with_shared re (needles_of needles) c.shared.result.now
+    (starts_with_shared re (needles_of needles) c.common_prefix.result.now
     (λ n lt. shared n (omega (arith, lt, length-map needles.items (λ v. v.items)))) starts))
     c.from_slice.ensures.items
 

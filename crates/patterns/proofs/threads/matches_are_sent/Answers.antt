@@ -20,7 +20,10 @@ fields p c h = (
     search (cache_sent, sendable) depth 60,
     (
       search (sendable, crosses) depth 60,
-      (search (sendable, crosses) depth 60, (search (sendable, crosses) depth 60, tt)),
+      (
+        search (sendable, crosses) depth 60,
+        (search (sendable, crosses) depth 60, (search (sendable, crosses) depth 60, tt)),
+      ),
     ),
   ),
 )

@@ -1,29 +1,22 @@
-use Rattle.std.proofs.Common.{◌≡◌, false, inl, inr, map, refl, subst, sym}
+use Rattle.std.proofs.Common.{◌∙◌, inl, inr, refl, subst, sym}
 use Rattle.regex_automata.specs.Regexes.Builds.{BuildsOne}
 use Rattle.regex_automata.specs.declared.hybrid.regex.Regex.{Regex}
 use Rattle.patterns.specs.Patterns.{IsRegexOf, settings_of}
-use Rattle.patterns.specs.Searches.{AreNeedlesOf}
 use Rattle.patterns.proofs.Building.{of_error}
-use Rattle.patterns.proofs.Items.{given}
 use Rattle.patterns.proofs.pattern.Pattern.any_of.Goals as goal
 
-pub skip_by-requires : goal.skip_by-requires
-skip_by-requires c = λ needles e.
-    let n = c.in_ok-nfa.ensures.meant in (
-      c.args.options.now,
-      n.0,
-      c.in-Ok.ensures.meant n.0 n.2,
-      given (λ _. c.args.options.now.ascii ≡ false) e c.prefilter_of.ensures.ascii,
-      given (AreNeedlesOf c.args.options.now (map (λ text. text.now) c.args.texts.now)) e
-          c.prefilter_of.ensures.needles n.0 n.1,
-    )
+pub begin_at_needles-requires : goal.begin_at_needles-requires
+begin_at_needles-requires c =
+    let n = c.in_ok-nfa.ensures.meant in (n.0, n.1, (c.in-Ok.ensures.meant n.0 n.2).joined)
 
 pub returns-in-Ok-clause-meant : goal.returns-in-Ok-clause-meant
 returns-in-Ok-clause-meant c =
     let n = c.in_ok-nfa.ensures.meant in (
       n.0,
       n.1,
-      subst (λ (r : Regex). IsRegexOf c.args.options.now n.0 r) (sym c.skip_by.ensures) (c.in-Ok.ensures.meant n.0 n.2),
+      subst (λ (r : Regex). IsRegexOf c.args.options.now n.0 r)
+          (sym (c.try_first_bytes.ensures.regex ∙ c.begin_at_needles.ensures))
+          (c.in-Ok.ensures.meant n.0 n.2),
     )
 
 pub returns-in-Ok-clause-built : goal.returns-in-Ok-clause-built
@@ -32,8 +25,8 @@ returns-in-Ok-clause-built c = record {
   of = c.in_ok-nfa.ensures.meant;
   small = c.in_ok-nfa.ensures.small;
   built =
-      subst (λ (r : Regex). BuildsOne (settings_of c.args.options.now) c.in_ok-nfa.nfa r) (sym c.skip_by.ensures)
-      c.in-Ok.ensures.built;
+      subst (λ (r : Regex). BuildsOne (settings_of c.args.options.now) c.in_ok-nfa.nfa r)
+      (sym (c.try_first_bytes.ensures.regex ∙ c.begin_at_needles.ensures)) c.in-Ok.ensures.built;
 }
 
 pub returns-in-Err-clause-refused : goal.returns-in-Err-clause-refused

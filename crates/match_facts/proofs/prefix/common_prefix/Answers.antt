@@ -3,7 +3,7 @@ use Rattle.std.proofs.lemmas.List.{get_or-map}
 use Rattle.regex_literal.specs.Find.{needle_at}
 use Rattle.match_facts.specs.Prefixes.{BeginsWith}
 use Rattle.match_facts.proofs.Prefixes.{common_begins, shorter_begins}
-use Rattle.match_facts.proofs.prefix.shared.Goals as goal
+use Rattle.match_facts.proofs.prefix.common_prefix.Goals as goal
 
 pub loop-needle-preserved : goal.loop-needle-preserved
 loop-needle-preserved c =

@@ -1,7 +1,7 @@
 use Rattle.std.proofs.Common.{ℕ, ◌<◌, map}
 use Rattle.regex_literal.specs.Find.{needle_at}
 use Rattle.match_facts.specs.Prefixes.{BeginsWith}
-use Rattle.match_facts.proofs.prefix.shared.Given as goal
+use Rattle.match_facts.proofs.prefix.common_prefix.Given as goal
 
 abbrev pub invariant-loop-needle : goal.invariant-loop-needle
 invariant-loop-needle l =

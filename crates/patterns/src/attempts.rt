@@ -1,0 +1,117 @@
+//! Attempts to find the next match at once: by one anchored search from the first offset where a match can begin.
+ghost use Rattle.std.specs.Prelude.{◌≡◌, ◌<◌, ◌≤◌, IfSome, Some, false, true};
+ghost use Rattle.automata_base.specs.Answers.Spans.{IsSpan};
+ghost use Rattle.automata_base.specs.Haystacks.Input.{IsValidInput};
+ghost use Rattle.regex_automata.specs.Promises.{AreCachesOf, IsSoundPair, LeftmostFirst, forward_engine};
+ghost use Rattle.regex_automata.specs.Spans.Outcomes.{MatchLiesIn};
+ghost use Rattle.prefilters.specs.Skipping.{MaySkipTo, anchored_from};
+ghost use Rattle.patterns.specs.Attempts.{IsAnchoredRun, IsFullSearch};
+
+use regex_automata::hybrid::regex::{Cache, Regex};
+use regex_automata::util::search::{Anchored, Input, Match, Span};
+
+/// The number of searches of an iteration that make no attempt: for a few matches, it does not pay to build the states
+/// of anchored searches.
+const FEW: u32 = 16;
+
+/// The balance of misses from which on no attempts are made.
+const MANY: u32 = 64;
+
+/// How often attempts to find the next match of an iteration at once have failed, as a balance. It decides whether
+/// another attempt is made, and never what is found.
+#[derive(Clone, Copy, Debug)]
+pub struct Misses {
+    plain: u32,
+    balance: u32,
+}
+
+impl Misses {
+    /// Returns the balance at the beginning of an iteration.
+    pub fn none() -> Misses {
+        Misses {
+            plain: 0,
+            balance: 0,
+        }
+    }
+
+    /// Whether an attempt is made, and not one of the first searches without.
+    pub(crate) fn allow_attempt(&mut self) -> bool {
+        if self.plain < FEW {
+            self.plain += 1;
+            return false;
+        }
+        self.balance < MANY
+    }
+
+    /// Counts an attempt that has found the match.
+    fn count_match(&mut self) {
+        self.balance = self.balance.saturating_sub(1);
+    }
+
+    /// Counts an attempt without a search, as no match can begin near the start.
+    pub(crate) fn count_gap(&mut self) {
+        self.balance = self.balance.saturating_add(1);
+    }
+
+    /// Counts an attempt whose search was in vain, which costs more.
+    fn count_failure(&mut self) {
+        self.balance = self.balance.saturating_add(2);
+    }
+}
+
+/// Whether the search is unanchored and not earliest, and its span is not done.
+pub(crate) fn is_full_search(input: &Input<'_>) -> bool
+    ensures { result ≡ true → IsFullSearch input.now }
+{
+    !input.get_anchored().is_anchored() && !input.get_earliest() && !input.is_done()
+}
+
+/// Returns the input from an offset on, for an anchored search.
+fn anchored_from<'h>(input: &Input<'h>, start: usize) -> Input<'h>
+    requires { start ≤ input.now.end }
+    ensures { result ≡ anchored_from start input.now }
+{
+    input
+        .copied()
+        .range(start..input.end())
+        .anchored(Anchored::Yes)
+}
+
+/// Searches anchored from an offset on before which no match begins. If this returns none, the input is yet to be
+/// searched.
+///
+/// An error of the anchored search is dropped: the search that follows does without it, or fails, too.
+#[inline(always)]
+pub(crate) fn find_at(
+    regex: &Regex,
+    cache: &mut Cache,
+    input: &Input<'_>,
+    start: usize,
+    misses: &mut Misses,
+) -> Option<Match>
+    requires caches { AreCachesOf cache.old regex.now }
+    requires skips { MaySkipTo (forward_engine regex.now) input.now start }
+    requires kind { (forward_engine regex.now).kind ≡ LeftmostFirst }
+    requires full { IsFullSearch input.now }
+    ensures of { AreCachesOf cache.new regex.now }
+    ensures span { IfSome result (λ m. IsSoundPair regex.now
+        → IsSpan (forward_engine regex.now) input.now (Some m)) }
+    ensures within { IfSome result (λ m. MatchLiesIn regex.now input.now m × (m.start < m.end)) }
+    ensures run { IsAnchoredRun regex.now input.now cache.old cache.new }
+{
+    let anchored = anchored_from(input, start);
+    match regex
+        .forward()
+        .try_search_fwd(cache.forward_mut(), &anchored)
+    {
+        Ok(Some(half)) if half.offset() > start => {
+            misses.count_match();
+            let end = half.offset();
+            Some(Match::new(half.pattern(), Span { start, end }))
+        }
+        _ => {
+            misses.count_failure();
+            None
+        }
+    }
+}
