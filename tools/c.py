@@ -4,12 +4,12 @@
     tools/c.py [--archive FILE] ['N passed, M failed']
 
 Every call, with valid and with every kind of invalid arguments (calls.c, texts.c, options.c, limits.c, facts.c,
-pieces.c, walks.c); each allocation made to fail in turn (faults.c); the memory that caches take from malloc, compared with what
-they report (memory.c); four threads over one regex (threads.c), under helgrind too if it is installed; the script of
-the program `lazydfa`, run by a C program (script.c), which has to print what `lazydfa` prints; the example grep.c,
-which has to print what `grep -E` prints, if that is installed; and the programs of docs/C.md, which have to print what
-is said there. Each C program is compiled twice, the second time with the address and undefined behaviour sanitizers, if
-the compiler has them.
+pieces.c, walks.c); each allocation made to fail in turn (faults.c); the memory that caches take from malloc, compared
+with what they report (memory.c); four threads over one regex (threads.c), under helgrind too if it is installed; the
+script of the program `lazydfa`, run by a C program (script.c), which has to print what `lazydfa` prints; the example
+grep.c, which has to print what `grep -E` prints, if that is installed; and the programs of docs/C.md, which have to
+print what is said there. Each C program is compiled twice, the second time with the address and undefined behaviour
+sanitizers, if the compiler has them.
 
 Then that the headers, lazydfa.map and lazydfa.symbols have the same names, and the archive and the shared library
 exactly these symbols; programs over the shared library, the version, what is installed and removed, calls with

@@ -149,16 +149,36 @@ static int clear_error(lazydfa_error *error) {
     return 1;
 }
 
+/* Writes a text with a zero at its end, and returns where the zero is. */
+static char *add_text(char *at, const char *text) {
+    while ((*at = *text++) != 0) at++;
+    return at;
+}
+
+static char *add_number(char *at, size_t number) {
+    char digits[21], *first = digits + 20;
+    *first = 0;
+    do *--first = (char)('0' + number % 10);
+    while ((number /= 10) > 0);
+    return add_text(at, first);
+}
+
 /* Writes what a call returns to its error, with what the code means if there is no other message. */
 static lazydfa_status report(lazydfa_error *error, lazydfa_status status) {
-    const char *text = lazydfa_code_text(status.code);
-    size_t i = 0;
     if (!error) return status;
     error->status = status;
-    if (status.code == LAZYDFA_OK || error->length) return status;
-    do error->message[i] = text[i];
-    while (text[i++]);
+    if (status.code != LAZYDFA_OK && !error->length) add_text(error->message, lazydfa_code_text(status.code));
     return status;
+}
+
+/* Writes that texts are longer than the limit, in the words that the proved code has for one text. */
+static lazydfa_status too_long(lazydfa_error *error, size_t length, size_t limit) {
+    if (error) {
+        char *at = add_number(add_text(error->message, "the patterns have "), length);
+        at = add_number(add_text(at, " bytes, and may have "), limit);
+        error->length = (size_t)(add_text(at, "; raise text_limit") - error->message);
+    }
+    return failed(LAZYDFA_TOO_LARGE);
 }
 
 /* ---- Regexes ---- */
@@ -213,7 +233,8 @@ static lazydfa_status build_any_of(lazydfa_regex *regex, const lazydfa_text *tex
         if (texts[i].length > PTRDIFF_MAX - length) return failed(LAZYDFA_MEMORY);
         length += texts[i].length;
     }
-    if (count > 1 && chosen.texts.has_text_limit && length > chosen.texts.text_limit) return failed(LAZYDFA_TOO_LARGE);
+    if (count > 1 && chosen.texts.has_text_limit && length > chosen.texts.text_limit)
+        return too_long(error, length, chosen.texts.text_limit);
     if (count > 1) return build_copies(regex, texts, count, length, &chosen, error);
     if (count == 0) texts = &none;
     return build_texts(regex, SLICE((const uint8_t *)texts->text, length), length, &texts->length, count, &chosen,

@@ -300,6 +300,9 @@ static void many_rules(void) {
 
 /* Texts beyond the limits on text and on class escapes: the message names the limit. */
 static void long_texts(void) {
+    lazydfa_text texts[2] = { { "[0-9]{10}", 9 }, { "a", 1000000000 } };
+    lazydfa_regex regex = LAZYDFA_INIT;
+    lazydfa_error error = LAZYDFA_ERROR_INIT;
     lazydfa_options o = LAZYDFA_OPTIONS_INIT;
     o.zeros |= LAZYDFA_ZERO_TEXT_LIMIT | LAZYDFA_ZERO_CLASS_LIMIT;
     o.text_limit = 8;
@@ -309,6 +312,16 @@ static void long_texts(void) {
     CHECK(!strcmp(found("\\w\\d\\s", 6, "", &o),
                   "14 at 0, 0..0: the patterns have 3 class escapes, and may have 2; raise class_limit"));
     CHECK(!strcmp(found("\\w\\da", 5, "x1a", &o), "[0,3]"));
+    /* the same of several texts, which are not copied then */
+    CHECK(lazydfa_regex_any_of(&regex, texts, 2, &o, &error).code == LAZYDFA_TOO_LARGE);
+    CHECK(!strcmp(error.message, "the patterns have 1000000009 bytes, and may have 8; raise text_limit"));
+    CHECK(error.length == strlen(error.message));
+    o.text_limit = 0;
+    o.zeros = LAZYDFA_ZERO_TEXT_LIMIT;
+    texts[1].length = 1;
+    CHECK(lazydfa_regex_any_of(&regex, texts, 2, &o, &error).code == LAZYDFA_TOO_LARGE);
+    CHECK(!strcmp(error.message, "the patterns have 10 bytes, and may have 0; raise text_limit"));
+    CHECK(lazydfa_regex_any_of(&regex, texts, 2, &o, NULL).code == LAZYDFA_TOO_LARGE);
 }
 
 /* A message that does not fit is cut at a character, and ends with a zero. */
