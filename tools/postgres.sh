@@ -8,7 +8,8 @@
 # terminated, and one that is killed in a search;
 # each kind of search of a long text, cancelled and out of time; patterns that are costly to compile, by an ordinary
 # user: their time and their memory, and a backend and a server that are stopped meanwhile; the memory that many
-# patterns hold (tools/postgres/memory.py); a backend that runs out of memory; and databases of other encodings.
+# patterns hold (tools/postgres/memory.py); a backend that runs out of memory; databases of other encodings; and foreign
+# partitions in three clusters (tools/postgres/clusters.py).
 #
 # The last line counts these tests, added to those that the given line counts. It needs a PostgreSQL server with its
 # headers (on Debian, postgresql-15 and postgresql-server-dev-15), make, cc, pkg-config, prlimit and Python 3. Without a
@@ -321,6 +322,19 @@ ended() { # EXPRESSION
     took=$(($(milliseconds) - started))
 }
 
+# Searches through foreign partitions in three more clusters.
+test_clusters() {
+    if [ ! -f "$("$config" --sharedir)/extension/postgres_fdw.control" ]; then
+        echo "in three clusters: skipped, since postgres_fdw is not installed"
+        return
+    fi
+    mkdir "$room/clusters"
+    [ "$(id -u)" -ne 0 ] || chown postgres "$room/clusters"
+    PG_PROGRAMS=$server$bin
+    export PG_PROGRAMS
+    agrees "in three clusters" clusters.py "$room/clusters" 30000
+}
+
 test_costly() {
     sql -c "CREATE ROLE joe LOGIN" -c "CREATE TABLE small AS SELECT md5(n::text) AS s FROM generate_series(1, 1000) n" \
         -c "CREATE INDEX ON small(s text_pattern_ops)" -c "CREATE INDEX ON small(s)" -c "GRANT SELECT ON small TO joe" \
@@ -409,4 +423,5 @@ test_costly
 within "a server that is stopped" 2000 shut_down
 test_memory
 test_encodings
+test_clusters
 finish

@@ -17,14 +17,16 @@ pub struct Engine {
 }
 
 impl Engine {
-    /// Builds the DFAs from the texts of patterns.
+    /// Builds the DFAs from the texts of patterns. With `forward_only`, the reverse DFA finds nothing.
     pub fn of_texts<P: AsRef<str>>(
         patterns: &[P],
         syntax: &syntax::Config,
         thompson: &thompson::Config,
         config: &dfa::Config,
+        forward_only: bool,
     ) -> Result<Arc<Engine>, BuildError> {
         let mut options = syntax.options;
+        options.forward_only = u32::from(forward_only);
         options.bytes |= u32::from(thompson.bytes);
         if let Some(limit) = thompson.size_limit {
             (options.has_size_limit, options.size_limit) = (1, limit.unwrap_or(usize::MAX));

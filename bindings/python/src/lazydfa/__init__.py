@@ -140,6 +140,9 @@ class _Text(Generic[AnyStr]):
 class _Automaton(Generic[AnyStr]):
     """Compiled patterns, and the caches of searches that are not running."""
 
+    # Whether no search asks where a match begins. Then no part that finds this is built.
+    is_forward_only = False
+
     def __init__(self, patterns: Sequence[AnyStr], match_kind: int, limits, flags) -> None:
         self.patterns = list(patterns)
         self.is_text = all(isinstance(it, str) for it in self.patterns)
@@ -149,6 +152,7 @@ class _Automaton(Generic[AnyStr]):
         settings = native.Settings(match_kind=match_kind)
         options = native.Options(nest_limit=NEST_LIMIT, **{name: int(bool(it)) for name, it in flags.items()})
         options.bytes = options.no_unicode = int(not self.is_text)
+        options.forward_only = int(self.is_forward_only)
         for name, limit in limits.items():
             if limit is not None:
                 owner = options if name == "size_limit" else settings
@@ -280,6 +284,8 @@ class RegexSet(_Automaton[AnyStr]):
     The arguments are those of `Regex`.
     """
 
+    is_forward_only = True
+
     def __init__(
         self,
         patterns: Sequence[AnyStr],
@@ -318,6 +324,8 @@ class Lexer(_Automaton[AnyStr]):
 
     The other arguments are those of `Regex`.
     """
+
+    is_forward_only = True
 
     def __init__(
         self,

@@ -62,7 +62,7 @@ impl Builder {
     /// Builds the regex of several patterns, each numbered by its index in the list. If several match at one
     /// offset, the first is preferred.
     pub fn build_many<P: AsRef<str>>(&self, patterns: &[P]) -> Result<Regex, BuildError> {
-        let engine = Engine::of_texts(patterns, &self.syntax, &self.thompson, &self.config)?;
+        let engine = Engine::of_texts(patterns, &self.syntax, &self.thompson, &self.config, false)?;
         Ok(Regex::new_of(engine))
     }
 
