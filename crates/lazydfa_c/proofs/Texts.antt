@@ -14,7 +14,7 @@ use Rattle.patterns.specs.declared.error.Fault.TheVariants.{Syntax, UnicodeWord,
 use Rattle.patterns.specs.declared.error.Fault.TheVariants.{OutOfMemory}
 use Rattle.regex_automata.specs.declared.hybrid.regex.Regex.{Regex}
 use Rattle.regex_automata.specs.declared.hybrid.regex.build.RegexBuildError.{RegexBuildError}
-use Rattle.lazydfa_c.specs.Builds.{IsBuildErrorStatus, IsBuiltRegex, IsNotOpened, IsPairOf, OpensRegex, LacksObject}
+use Rattle.lazydfa_c.specs.Builds.{IsBuildErrorStatus, IsBuiltRegex, IsNotOpened, IsPairOf, LacksObject}
 use Rattle.lazydfa_c.specs.Builds.{HoldsRegex, RefusesRegex}
 use Rattle.lazydfa_c.specs.Codes.{number_of}
 use Rattle.lazydfa_c.specs.Facts.{ExceedsLimits, Fails, HasFacts, IsFactsFailure, IsNotText, IsNoPattern, LacksMemory}
