@@ -20,9 +20,8 @@
  * number is not a valid state, pattern, look-around assertion, anchored mode, match kind or set of flags. After
  * LAZYDFA_MEMORY, an allocation that failed, the call may be repeated.
  *
- * After an error each handle owns what it owned before, and builders, regexes and caches are as usable as before: the
- * same cache serves other searches. An out parameter is written only where the comment of its call says so; it need not
- * be initialised.
+ * After an error each handle owns what it owned before, and is as usable as before. An out parameter is written only
+ * where the comment of its call says so; it need not be initialised.
  *
  * What the program must ensure, since no library can check it. If it breaks one of these rules, the behaviour is
  * undefined:
@@ -128,8 +127,7 @@ const char *lazydfa_code_text(uint32_t code);
 /* Returns the version of the library, as "0.1.0". */
 const char *lazydfa_version(void);
 
-/* Returns whether the processor has the instructions that the library uses: 1 or 0. On one that has not, which is older
-   than 2008 or set up so, other calls end the process. */
+/* Returns 1 if the processor has the instructions that the library uses, and otherwise 0: then make no other call. */
 int lazydfa_is_supported(void);
 
 /* ---- Handles ---- */
@@ -279,7 +277,7 @@ lazydfa_status lazydfa_regex_any_of(lazydfa_regex *regex, const lazydfa_text *te
 lazydfa_status lazydfa_regex_share(lazydfa_regex *regex, lazydfa_regex *other);
 
 /* Writes the size of a regex's tables, in bytes: 16 for each state of its forward NFA, and 8 for each byte range of a
-   sparse state. The call visits all states. The larger they are, the longer a new state of the DFA can take. */
+   sparse state, but no needles of texts. The larger the tables, the longer a new state of the DFA can take. */
 lazydfa_status lazydfa_regex_size(lazydfa_regex *regex, size_t *size);
 
 /* ---- Caches ---- */
@@ -307,7 +305,9 @@ lazydfa_status lazydfa_cache_usage(lazydfa_cache *cache, lazydfa_usage *usage);
  * Every search takes a cache and a haystack of `length` bytes; the haystack may be NULL if it has none. A search
  * returns LAZYDFA_OK with a match and LAZYDFA_NONE without one, and writes only with LAZYDFA_OK, unless its comment
  * says otherwise. It fails with LAZYDFA_QUIT, LAZYDFA_GAVE_UP and LAZYDFA_ANCHORED, and with LAZYDFA_NOT_A_PAIR if the
- * regex was built from two NFAs or only searches forward. */
+ * regex was built from two NFAs or only searches forward. If the matches of texts all begin with a literal, or with one
+ * of two, and there are no quit bytes, these searches and iterations begin at the first of them in the span: they find
+ * the same, and the DFA does not read the bytes before it. */
 
 enum lazydfa_anchored {
     LAZYDFA_UNANCHORED = 0,       /* a match may begin anywhere in the span */

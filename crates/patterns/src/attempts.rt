@@ -1,7 +1,7 @@
-//! Attempts to find the next match at once: by one anchored search from the first offset where a match can begin.
+//! Attempts to find the next match of an iteration at once: by one anchored search from the first offset where a match
+//! can begin.
 ghost use Rattle.std.specs.Prelude.{◌≡◌, ◌<◌, ◌≤◌, IfSome, Some, false, true};
 ghost use Rattle.automata_base.specs.Answers.Spans.{IsSpan};
-ghost use Rattle.automata_base.specs.Haystacks.Input.{IsValidInput};
 ghost use Rattle.regex_automata.specs.Promises.{AreCachesOf, IsSoundPair, LeftmostFirst, forward_engine};
 ghost use Rattle.regex_automata.specs.Spans.Outcomes.{MatchLiesIn};
 ghost use Rattle.prefilters.specs.Skipping.{MaySkipTo, anchored_from};
@@ -34,7 +34,7 @@ impl Misses {
         }
     }
 
-    /// Whether an attempt is made, and not one of the first searches without.
+    /// Whether the next search makes an attempt. The first searches of an iteration make none, and are counted.
     pub(crate) fn allow_attempt(&mut self) -> bool {
         if self.plain < FEW {
             self.plain += 1;

@@ -100,10 +100,20 @@ fn finds_starts(regex: &Regex) -> bool
     is_leftmost_first(regex) && is_lazy(regex)
 }
 
-/// Whether the settings of the forward DFA have quit bytes, at which a search stops.
-fn has_quits(regex: &Regex) -> bool {
+/// Whether the forward DFA may have quit bytes, at which a search stops: those of its settings, or every byte beyond ASCII
+/// for a Unicode word boundary.
+fn may_quit(regex: &Regex) -> bool {
     let config = regex.forward().get_config();
-    (0..=u8::MAX).any(|byte| config.get_quit(byte))
+    config.get_unicode_word_boundary() || (0..=u8::MAX).any(|byte| config.get_quit(byte))
+}
+
+/// Whether a search for needles may pay: matches begin with one byte, or with one of two. With more first bytes there are
+/// more needles, which have no common prefix.
+fn may_have_needles(regex: &Regex) -> bool {
+    match FirstBytes::new(regex.forward().get_nfa()) {
+        Ok(Some(bytes)) => bytes.count() <= 2,
+        _ => false,
+    }
 }
 
 /// Whether a search may skip offsets at which no match begins: it is unanchored, and its span is not done.
@@ -221,7 +231,7 @@ impl Pattern {
         ensures regex { self.new.regex ≡ self.old.regex }
         ensures prefilter { self.new.prefilter ≡ self.old.prefilter }
     {
-        if self.prefilter.is_none() && finds_starts(&self.regex) && !has_quits(&self.regex) {
+        if self.prefilter.is_none() && finds_starts(&self.regex) && !may_quit(&self.regex) {
             if let Ok(bytes) = FirstBytes::new(self.regex.forward().get_nfa()) {
                 self.first_bytes = bytes;
             }
@@ -231,20 +241,21 @@ impl Pattern {
     /// Lets searches begin at the needles of texts, if a search for needles pays. The forward DFA must be built from
     /// the NFA that `nfa_of` returned for these texts and options; its match kind, and the reverse DFA, may be any.
     ///
-    /// There are no needles if offsets inside characters are skipped, if searches stop at quit bytes, or if memory runs
-    /// out.
+    /// There are no needles if matches can begin with more than two bytes, if offsets inside characters are skipped, if
+    /// searches stop at quit bytes, or if memory runs out.
     pub fn begin_at_needles(&mut self, alloc: Global, texts: &[&str], options: &Options)
         requires { IsNfaOf options.now (map (λ text. text.now) texts.now) self.old.regex.forward.nfa }
         ensures { self.new.regex ≡ self.old.regex }
     {
-        if !self.regex.forward().skips() && !has_quits(&self.regex) {
+        let regex = &self.regex;
+        if !regex.forward().skips() && !may_quit(regex) && may_have_needles(regex) {
             self.prefilter = prefilter_of(alloc, texts, options);
         }
     }
 
     /// Returns the input from the first needle on, where a search finds what it finds in the given input; none if no
-    /// match begins in its span, not even at its end. The given input is returned if the search is anchored, its span
-    /// is done, or the pattern has no needles.
+    /// match begins in its span, not even at its end. The given input is returned if it is anchored or done, or if the
+    /// pattern has no needles or is only searched for anchored.
     ///
     /// No more of the haystack is read than the span and a needle that begins in it.
     pub fn narrow<'h>(&self, input: &Input<'h>) -> Option<Input<'h>>

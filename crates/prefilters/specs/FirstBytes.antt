@@ -1,6 +1,6 @@
 -- First bytes, with one of which every match begins: where none of them is, no match begins.
 use Rattle.std.specs.Prelude.{ℕ, ◌≡◌, ◌<◌, ◌≤◌, ◌+◌, Bool, true, false, List, Option, None, Some, is_some, min}
-use Rattle.std.specs.Prelude.{slice_index, slice_index_or}
+use Rattle.std.specs.Prelude.{count_by, slice_index, slice_index_or}
 use Rattle.automata_base.specs.Haystacks.Tapes.{IsHaystack}
 use Rattle.automata_base.specs.Nfas.Engines.{Engine}
 use Rattle.automata_base.specs.Nfas.Nfa.{Node, takes_at}
@@ -10,6 +10,10 @@ use Rattle.prefilters.specs.Skipping.{NoneBeginsAt}
 -- whether the byte is one of the first bytes, which the table says of each byte
 abbrev pub is_first_byte : (table : List Bool) → (byte : ℕ) → Bool
 is_first_byte table byte = slice_index_or table byte false
+
+-- the number of first bytes
+abbrev pub count_first_bytes : (table : List Bool) → ℕ
+count_first_bytes table = count_by (λ is_first. is_first) table
 
 -- the offset is before the end `e` of a span, and its byte is a first byte
 abbrev pub HasFirstByte : (table : List Bool) → List ℕ → (e o : ℕ) → Type 0

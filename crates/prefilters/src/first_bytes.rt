@@ -7,7 +7,8 @@ ghost use Rattle.automata_base.specs.Nfas.Nfa.{takes_at, takes_in};
 ghost use Rattle.automata_base.specs.Nfas.Nodes.{node_of, ranges_of};
 ghost use Rattle.automata_base.specs.Retraced.Reach.{node_in};
 ghost use Rattle.automata_base.specs.declared.util.search.MatchKind.{MatchKind};
-ghost use Rattle.prefilters.specs.FirstBytes.{BeginsAtFirstByte, FindsFirstByte, ReadsFirstBytes, is_first_byte};
+ghost use Rattle.prefilters.specs.FirstBytes.{BeginsAtFirstByte, FindsFirstByte, ReadsFirstBytes};
+ghost use Rattle.prefilters.specs.FirstBytes.{count_first_bytes, is_first_byte};
 
 use automata_base::nfa::thompson::closure::close;
 use automata_base::nfa::thompson::reach::{is_match, set_for};
@@ -120,6 +121,19 @@ impl FirstBytes {
         } else {
             Ok(None)
         }
+    }
+
+    /// Returns the number of bytes with which a match can begin.
+    pub fn count(&self) -> usize
+        ensures { result ≡ count_first_bytes self.now }
+    {
+        let mut count = 0;
+        for byte in 0..256usize {
+            if self.table[byte] {
+                count += 1;
+            }
+        }
+        count
     }
 
     /// Returns the first offset of the span `start..end` whose byte is one with which a match can begin. It gives up
