@@ -1,0 +1,4 @@
+//! Captures.
+#![tactic(auto)]
+
+mod program;

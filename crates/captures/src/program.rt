@@ -1,0 +1,23 @@
+//! What finds the groups of one pattern.
+ghost use Rattle.std.specs.Prelude.{◌≡◌, ◌*◌, vec_len};
+
+use regex_nfa::Nfa;
+
+/// What finds the groups of one pattern, and their names.
+pub struct Program {
+    /// The NFA that is simulated.
+    pub(crate) nfa: Nfa,
+    /// The name of each group, if it has one. Group 0 has none.
+    pub(crate) names: Vec<Option<String>>,
+    ghost slots: { nfa.slot_count ≡ 2 * vec_len names },
+}
+
+// With its own `drop`, the proof of an owner has one step for it instead of one for each part.
+impl Drop for Program {
+    fn drop(self) {
+        let Self {
+            nfa: _nfa,
+            names: _names,
+        } = self;
+    }
+}
