@@ -1,5 +1,6 @@
 -- The groups of a match, and the NFAs that find them.
-use Rattle.std.specs.Prelude.{ℕ, zero, suc, ◌≡◌, ◌+◌, ◌*◌, ◌<◌, List, [], ◌∷◌, All, Option, None, Some, length}
+use Rattle.std.specs.Prelude.{ℕ, ◌≡◌, ◌+◌, ◌*◌, ◌<◌, ◌==◌, if◌then◌else◌, List, [], ◌∷◌, All, Option, None, Some}
+use Rattle.std.specs.Prelude.{length}
 use Rattle.regex_hir.specs.Find as kit
 use Rattle.regex_hir.specs.Re.{Re, accept, attempt}
 use Rattle.regex_nfa.specs.Run.{run}
@@ -16,9 +17,9 @@ span_between start end = None
 -- The span that a group of a match took part with last; none if it took no part. Group 0 is the whole match. The
 -- positions are those that the preferred path wrote to the two slots of the group.
 abbrev pub group_span : kit.Match → (group : ℕ) → Option Span
-group_span m zero = Some (record { start = m.start; end = m.trace.end })
-group_span m (suc n) =
-    span_between (kit.last_write m.trace.writes (2 * suc n)) (kit.last_write m.trace.writes (2 * suc n + 1))
+group_span m group =
+    if group == 0 then Some (record { start = m.start; end = m.trace.end })
+    else span_between (kit.last_write m.trace.writes (2 * group)) (kit.last_write m.trace.writes (2 * group + 1))
 
 -- At each offset of each haystack, the NFA finds the end and the groups of the match that the pattern prefers there.
 abbrev pub FindsGroups : Nfa → Re → Type 0

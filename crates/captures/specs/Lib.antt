@@ -1,1 +1,4 @@
+pub mod Captures
 pub mod Groups
+pub mod Rooms
+pub mod Slots

@@ -3,9 +3,8 @@ ghost use Rattle.std.specs.Prelude.{◌≡◌, ◌*◌, vec_len};
 
 use regex_nfa::Nfa;
 
-/// What finds the groups of one pattern, and their names.
+/// What finds the groups of one pattern: the NFA that is simulated, and the names of the groups.
 pub struct Program {
-    /// The NFA that is simulated.
     pub(crate) nfa: Nfa,
     /// The name of each group, if it has one. Group 0 has none.
     pub(crate) names: Vec<Option<String>>,
@@ -21,3 +20,4 @@ impl Drop for Program {
         } = self;
     }
 }
+
