@@ -14,7 +14,6 @@ use Rattle.automata_base.specs.Haystacks.Matches.{Match}
 use Rattle.automata_base.specs.declared.util.search.Span.{Span}
 use Rattle.captures.specs.Groups.{group_span, span_between}
 use Rattle.captures.specs.Slots.{slot_span, slots_span}
-use Rattle.captures.proofs.Laws.{never_written}
 
 -- what is written back through a slice of the whole vector
 pub all_written :
@@ -74,9 +73,10 @@ module _ (m : kit.Match) (found : Match) (starts : found.start ≡ m.start) (end
 
   -- the groups of an NFA with these slots
   pub spans_of_slots :
-      (width group : ℕ) → All (λ (w : ℕ × ℕ). w.0 < width + 2) m.trace.writes → (even : ℕ) → width ≡ 2 * even
+      (width group : ℕ) → ((slot : ℕ) → width + 2 ≤ slot → kit.last_write m.trace.writes slot ≡ None)
+      → (even : ℕ) → width ≡ 2 * even
       → slots_span found (group_cells m width) group ≡ group_span m group
-  spans_of_slots width group room even is =
+  spans_of_slots width group unwritten even is =
       ⊎_elim
       (λ (zero_is : group ≡ 0).
       cond-true _ _ _ (eq-eqb group 0 zero_is)
@@ -95,7 +95,7 @@ module _ (m : kit.Match) (found : Match) (starts : found.start ≡ m.start) (end
       (get_or_past (group_cells m width) (2 * group - 2) 0 (omega (arith, past, other, is, length-group_cells m width)))
       ∙ span_of_empty found _
       ∙ sym (ap (λ (o : Option ℕ). span_between o (kit.last_write m.trace.writes (2 * group + 1)))
-      (never_written m.trace.writes (width + 2) (2 * group) room (omega (arith, past, other, is)))))
+      (unwritten (2 * group) (omega (arith, past, other, is)))))
       (cases_lt (2 * group - 1) width)
       ∙ sym (cond-false _ _ _ (ne_eqb group 0 other)))
       (cases_eq group 0)

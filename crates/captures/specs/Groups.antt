@@ -7,6 +7,7 @@ use Rattle.regex_nfa.specs.Run.{run}
 use Rattle.regex_nfa.specs.declared.nfa.Nfa.{Nfa}
 use Rattle.regex_syntax.specs.Captures.{outcome}
 use Rattle.automata_base.specs.declared.util.search.Span.{Span}
+use Rattle.meaning.specs.Patterns.{any_of}
 use Rattle.captures.specs.declared.program.Program.{Program}
 
 -- The span from one offset to another, if there are both.
@@ -20,6 +21,10 @@ abbrev pub group_span : kit.Match → (group : ℕ) → Option Span
 group_span m group =
     if group == 0 then Some (record { start = m.start; end = m.trace.end })
     else span_between (kit.last_write m.trace.writes (2 * group)) (kit.last_write m.trace.writes (2 * group + 1))
+
+-- The match is the one that the patterns prefer where it starts.
+abbrev pub IsPreferred : List Re → List ℕ → kit.Match → Type 0
+IsPreferred res hay m = attempt hay (any_of res) accept m.start ≡ Some m.trace
 
 -- At each offset of each haystack, the NFA finds the end and the groups of the match that the pattern prefers there.
 abbrev pub FindsGroups : Nfa → Re → Type 0
