@@ -11,7 +11,7 @@ use Rattle.regex_vm.specs.Found.{cell, group_cells}
 use Rattle.regex.proofs.WritesLemmas.{writes_are_tidy}
 use Rattle.automata_base.specs.Haystacks.Matches.{Match}
 use Rattle.meaning.specs.Patterns.{any_of, numbered_match}
-use Rattle.captures.specs.Captures.{HoldsGroups, span_in}
+use Rattle.captures.specs.Captures.{HoldGroups, span_in}
 use Rattle.captures.specs.Groups.{FindAllGroups, IsPreferred, group_span, span_between}
 use Rattle.captures.specs.Slots.{slots_span}
 use Rattle.captures.specs.declared.captures.Captures.{Captures}
@@ -44,25 +44,21 @@ module _ (ps : List Program) (res : List Re) (hay : List ℕ) (bytes : All (λ b
       (cells : slots ≡ group_cells simulated_match (first.program.nfa.slot_count - 2)) where
     from_slots : (group : ℕ) → slots_span found slots group ≡ group_span m group
     from_slots group =
-        let count = first.program.slots in
-        let whole = first.program.nfa.whole_match in
         ap (λ (s : List ℕ). slots_span found s group) (cells ∙ same_cells _)
         ∙ spans_of_slots m found (ap (λ (f : Match). f.start) is) (ap (λ (f : Match). f.end) is) _
         (writes_are_tidy hay (any_of res) m.start m.trace preferred) (first.program.nfa.slot_count - 2) group
         (λ slot past. unwritten slot (omega (arith, past)))
-        (vec_len first.program.names - 1) (omega (arith, count, whole))
 
     pub held :
-        (c : Captures) → vec_len first.program.names ≤ vec_len c.spans
+        (c : Captures) → first.program.nfa.slot_count ≤ 2 * vec_len c.spans
         → ((group : ℕ) → group < vec_len c.spans → span_in c group ≡ slots_span found slots group)
-        → HoldsGroups m c
+        → HoldGroups m c
     held c room spans group =
         ⊎_elim (λ (inside : group < vec_len c.spans). spans group inside ∙ from_slots group)
         (λ (past : vec_len c.spans ≤ group).
-        let count = first.program.slots in
         let whole = first.program.nfa.whole_match in
         get_or_past c.spans.items group None (omega (arith, past, c.spans.ok.0))
-        ∙ sym (cond-false _ _ _ (ne_eqb group 0 (omega (arith, past, room, count, whole)))
+        ∙ sym (cond-false _ _ _ (ne_eqb group 0 (omega (arith, past, room, whole)))
         ∙ ap (λ (o : Option ℕ). span_between o (kit.last_write m.trace.writes (2 * group + 1)))
-        (unwritten (2 * group) (omega (arith, past, room, count)))))
+        (unwritten (2 * group) (omega (arith, past, room)))))
         (cases_lt group (vec_len c.spans))

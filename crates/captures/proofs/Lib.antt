@@ -1,3 +1,6 @@
+mod Found
 mod Held
 mod Laws
+mod Programs
+mod Rooms
 mod Slots

@@ -2,7 +2,7 @@
 use Rattle.std.proofs.Common.{ℕ, zero, suc, ◌≡◌, ◌+◌, ◌-◌, ◌*◌, ◌<◌, ◌≤◌, ◌==◌, ◌&&◌, nat_le, nat_lt, cond, List, [], ◌∷◌, ◌++◌}
 use Rattle.std.proofs.Common.{All, Option, Some, None, length, slice_index, take, drop, ◌∙◌, ap, ap₂, refl, sym, arith}
 use Rattle.std.proofs.Common.{ne_eqb, append-nil, ⊎_elim, le-leb, lt-ltb, eq-eqb, true, false, Bool, subst}
-use Rattle.std.proofs.lemmas.Bool.{cond-false, cond-true, and_from, and_left, lt-leb, le-ltb, cases_lt, cases_eq}
+use Rattle.std.proofs.lemmas.Bool.{cond-false, cond-true, and_from, and_left, and_right, lt-leb, le-ltb, cases_lt, cases_eq}
 use Rattle.std.proofs.lemmas.List.{drop_all, get_or_past}
 use Rattle.std.proofs.lemmas.List.FromFn.{length-map-range_with_len, get_or-map-range_with_len}
 use Rattle.std.proofs.Math.Seq.{take-length}
@@ -51,6 +51,17 @@ span_of_pair m first last start order end =
 pub span_of_empty : (m : Match) (last : ℕ) → slot_span m 0 last ≡ None
 span_of_empty m last = cond-false _ (Some _) None (and_left _ _ (le-ltb m.start 0 (omega arith)))
 
+pub span_to_empty : (m : Match) (first : ℕ) → slot_span m first 0 ≡ None
+span_to_empty m first =
+    cond-false _ (Some _) None (⊎_elim
+    (λ (none : first < 1). and_left _ _ (le-ltb m.start first (omega (arith, none))))
+    (λ (some : 1 ≤ first). and_right _ _ (and_left _ _ (lt-leb first 0 (omega (arith, some)))))
+    (cases_lt first 1))
+
+between_none : (o : Option ℕ) → span_between o None ≡ None
+between_none None = refl
+between_none (Some i) = refl
+
 module _ (m : kit.Match) (found : Match) (starts : found.start ≡ m.start) (ends : found.end ≡ m.trace.end)
     (P : ℕ → Type 0) (tidy : IsTidy P m.start m.trace.end m.trace.writes) where
   between : (group : ℕ) → slot_span found (cell (kit.last_write m.trace.writes (2 * group)))
@@ -74,9 +85,8 @@ module _ (m : kit.Match) (found : Match) (starts : found.start ≡ m.start) (end
   -- the groups of an NFA with these slots
   pub spans_of_slots :
       (width group : ℕ) → ((slot : ℕ) → width + 2 ≤ slot → kit.last_write m.trace.writes slot ≡ None)
-      → (even : ℕ) → width ≡ 2 * even
       → slots_span found (group_cells m width) group ≡ group_span m group
-  spans_of_slots width group unwritten even is =
+  spans_of_slots width group unwritten =
       ⊎_elim
       (λ (zero_is : group ≡ 0).
       cond-true _ _ _ (eq-eqb group 0 zero_is)
@@ -91,11 +101,12 @@ module _ (m : kit.Match) (found : Match) (starts : found.start ≡ m.start) (end
       (cell_at m width (2 * group - 1) (2 * group + 1) (omega arith) (omega (arith, other)))
       ∙ between group)
       (λ (past : width ≤ 2 * group - 1).
-      ap (λ (n : ℕ). slot_span found n (slice_index (group_cells m width) (2 * group - 1)))
-      (get_or_past (group_cells m width) (2 * group - 2) 0 (omega (arith, past, other, is, length-group_cells m width)))
-      ∙ span_of_empty found _
-      ∙ sym (ap (λ (o : Option ℕ). span_between o (kit.last_write m.trace.writes (2 * group + 1)))
-      (unwritten (2 * group) (omega (arith, past, other, is)))))
+      ap (slot_span found (slice_index (group_cells m width) (2 * group - 2)))
+      (get_or_past (group_cells m width) (2 * group - 1) 0 (omega (arith, past, length-group_cells m width)))
+      ∙ span_to_empty found _
+      ∙ sym (ap (span_between (kit.last_write m.trace.writes (2 * group)))
+      (unwritten (2 * group + 1) (omega (arith, past, other)))
+      ∙ between_none _))
       (cases_lt (2 * group - 1) width)
       ∙ sym (cond-false _ _ _ (ne_eqb group 0 other)))
       (cases_eq group 0)

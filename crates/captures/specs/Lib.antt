@@ -1,4 +1,7 @@
+pub mod Caches
 pub mod Captures
 pub mod Groups
-pub mod Rooms
+pub mod Names
+pub mod Programs
+pub mod Regexes
 pub mod Slots

@@ -1,5 +1,5 @@
 -- The slots that a simulation writes, and the spans of the groups that they give.
-use Rattle.std.specs.Prelude.{ℕ, ◌+◌, ◌-◌, ◌*◌, ◌==◌, ◌&&◌, nat_le, nat_lt, if◌then◌else◌, List, Option, None, Some}
+use Rattle.std.specs.Prelude.{ℕ, ◌-◌, ◌*◌, ◌≤◌, ◌==◌, ◌&&◌, nat_le, nat_lt, if◌then◌else◌, List, Option, None, Some}
 use Rattle.std.specs.Prelude.{slice_index}
 use Rattle.automata_base.specs.Haystacks.Matches.{Match}
 use Rattle.automata_base.specs.declared.util.search.Span.{Span}
@@ -15,3 +15,7 @@ abbrev pub slots_span : Match → (slots : List ℕ) → (group : ℕ) → Optio
 slots_span m slots group =
     if group == 0 then Some (record { start = m.start; end = m.end })
     else slot_span m (slice_index slots (2 * group - 2)) (slice_index slots (2 * group - 1))
+
+-- a span lies in a match
+abbrev pub LiesInMatch : Match → Span → Type 0
+LiesInMatch m span = (m.start ≤ span.start) × (span.start ≤ span.end) × (span.end ≤ m.end)

@@ -1,8 +1,8 @@
 //! The groups of one match.
-ghost use Rattle.std.specs.Prelude.{◌≡◌, ◌<◌, ◌^◌, ℕ, IfOk, None, Some, vec_len};
-ghost use Rattle.captures.specs.Slots.{slot_span, slots_span};
+ghost use Rattle.std.specs.Prelude.{◌≡◌, ◌<◌, ◌^◌, ℕ, IfOk, IfSome, None, Some, vec_len};
+ghost use Rattle.captures.specs.Slots.{LiesInMatch, slot_span, slots_span};
 
-use automata_base::util::search::{Match, Span};
+use regex_automata::util::search::{Match, Span};
 use std::alloc::{AllocError, Global};
 
 /// The match that a search found, and where each group of its pattern took part. It serves one search after another,
@@ -15,7 +15,8 @@ pub struct Captures {
 
 /// Returns the span between two slots, if it lies in the match. A slot holds an offset plus one, or 0 for none.
 fn span_of(found: &Match, first: usize, last: usize) -> Option<Span>
-    ensures { result ≡ slot_span found.now first last }
+    ensures is { result ≡ slot_span found.now first last }
+    ensures within { IfSome result (LiesInMatch found.now) }
 {
     if found.start() < first && first <= last && last - 1 <= found.end() {
         let (start, end) = (first - 1, last - 1);
@@ -28,7 +29,8 @@ fn span_of(found: &Match, first: usize, last: usize) -> Option<Span>
 /// Returns the span of a group of a match, from the slots of the groups after group 0.
 fn group_of(found: &Match, slots: &[usize], group: usize) -> Option<Span>
     requires { group < 2 ^ 63 }
-    ensures { result ≡ slots_span found.now slots.now group }
+    ensures is { result ≡ slots_span found.now slots.now group }
+    ensures within { IfSome result (LiesInMatch found.now) }
 {
     if group == 0 {
         return Some(found.span());
@@ -40,7 +42,7 @@ fn group_of(found: &Match, slots: &[usize], group: usize) -> Option<Span>
 }
 
 impl Captures {
-    ghost use Rattle.captures.specs.Captures.{span_in};
+    ghost use Rattle.captures.specs.Captures.{LieInMatch, span_in};
 
     /// Returns captures with room for this number of groups, which hold no match.
     pub(crate) fn new(alloc: Global, groups: usize) -> Result<Captures, AllocError>
@@ -67,6 +69,7 @@ impl Captures {
         ensures found { self.new.found ≡ Some found }
         ensures spans { (group : ℕ) → group < vec_len self.old.spans
             → span_in self.new group ≡ slots_span found slots.now group }
+        ensures within { LieInMatch found self.new }
         ensures room { vec_len self.new.spans ≡ vec_len self.old.spans }
     {
         self.found = Some(found);

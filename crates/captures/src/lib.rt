@@ -1,26 +1,25 @@
 //! Matches with their groups.
 //!
-//! A `CaptureRegex` is a `Pattern` that also reports where each group of a match took part. The lazy DFAs of the pattern
-//! find the span of a match, as if nobody asked for groups; then the kit's PikeVM simulates the NFA of the pattern that
-//! matched, over that span alone. So a search that needs no groups costs nothing more, and one that does reads the bytes
-//! of each match once more, and no others.
+//! A `CaptureRegex` is a `Pattern` that also finds the groups of its matches. The lazy DFAs of the pattern find a match,
+//! with no group in mind. Then the kit's PikeVM simulates the NFA of the pattern that matched, over the span of the
+//! match alone, and reports the groups. So a search that asks for no groups costs nothing more, and one that does reads
+//! the bytes of its match once more, and no others.
 //!
-//! It is proved that these are the groups that the texts mean, by the kit's specification of matching: the path that
-//! the pattern prefers, and the positions that it wrote last (`specs/Groups.antt`).
-//!
-//! ```rust
-//! let regex = CaptureRegex::new(alloc, r"(?<key>\w+)=(?<value>\w*)", &Options::default())?;
-//! let mut cache = regex.create_cache(alloc)?;
-//! let mut captures = regex.create_captures(alloc)?;
-//! if let Some(found) = regex.captures(&mut cache, line.as_bytes(), 0, &mut captures)? {
-//!     let value = regex.group_index(found.pattern(), "value");
-//! }
-//! ```
+//! It is proved that these are the groups that the texts mean by the kit's specification of matching: of all ways in
+//! which a match may go, the preferred one counts, and of the positions that it writes to a group, the last
+//! (`specs/Groups.antt`).
 #![tactic(auto)]
 
+mod cache;
 mod captures;
+mod compile;
+mod names;
 mod program;
+mod regex;
 mod simulation;
 
+pub use cache::Cache;
 pub use captures::Captures;
+pub use program::Program;
+pub use regex::CaptureRegex;
 pub use simulation::Simulation;

@@ -1,6 +1,4 @@
 //! What finds the groups of one pattern.
-ghost use Rattle.std.specs.Prelude.{◌≡◌, ◌*◌, vec_len};
-
 use regex_nfa::Nfa;
 
 /// What finds the groups of one pattern: the NFA that is simulated, and the names of the groups.
@@ -8,7 +6,6 @@ pub struct Program {
     pub(crate) nfa: Nfa,
     /// The name of each group, if it has one. Group 0 has none.
     pub(crate) names: Vec<Option<String>>,
-    ghost slots: { nfa.slot_count ≡ 2 * vec_len names },
 }
 
 // With its own `drop`, the proof of an owner has one step for it instead of one for each part.
@@ -20,4 +17,3 @@ impl Drop for Program {
         } = self;
     }
 }
-

@@ -3,10 +3,10 @@ ghost use Rattle.std.specs.Prelude.{◌≡◌, ◌≤◌, ◌-◌, IfOk, Some, l
 ghost use Rattle.regex_hir.specs.Re.{Trace};
 ghost use Rattle.regex_nfa.specs.Run.{run};
 ghost use Rattle.regex_vm.specs.Found.{group_cells};
-ghost use Rattle.captures.specs.Rooms.{room_of};
+ghost use Rattle.captures.specs.Caches.{HasRoomOf};
 
 use crate::program::Program;
-use automata_base::util::search::Match;
+use regex_automata::util::search::Match;
 use regex_vm::PikeVm;
 use std::alloc::{AllocError, Global};
 
@@ -16,13 +16,12 @@ pub struct Simulation {
     vm: PikeVm,
     /// From group 1 on, two slots for each group: an offset plus one, or 0 for none.
     pub(crate) slots: Vec<usize>,
-    ghost width: { vec_len slots ≡ vm.groups },
 }
 
 impl Simulation {
     /// Returns the memory for a program.
     pub(crate) fn new(alloc: Global, program: &Program) -> Result<Simulation, AllocError>
-        ensures { IfOk result (λ simulation. simulation.vm ≡ room_of program.now) }
+        ensures { IfOk result (HasRoomOf program.now) }
     {
         let vm = PikeVm::new(alloc, &program.nfa)?;
         let width = program.nfa.slot_count as usize - 2;
@@ -33,12 +32,12 @@ impl Simulation {
     /// Simulates the NFA of a program over the span of a match, and no byte more. If it finds the match, the slots are
     /// those of the match; otherwise they are empty.
     pub(crate) fn run(&mut self, program: &Program, hay: &[u8], found: &Match)
-        requires of { self.old.vm ≡ room_of program.now }
+        requires of { HasRoomOf program.now self.old }
         requires within { found.now.end ≤ length hay.now }
         ensures slots { (trace : Trace) → trace.end ≡ found.now.end
             → run program.now.nfa hay.now (length hay.now) program.now.nfa.start found.now.start ≡ Some trace
-            → self.new.slots.items ≡ group_cells (record { start = found.now.start; trace = trace }) self.new.vm.groups }
-        ensures room { self.new.vm ≡ self.old.vm }
+            → self.new.slots.items ≡ group_cells (record { start = found.now.start; trace = trace }) (program.now.nfa.slot_count - 2) }
+        ensures of { HasRoomOf program.now self.new }
     {
         let (start, end) = (found.start(), found.end());
         self.slots.fill(0);
