@@ -21,8 +21,8 @@ are_bytes hay fit i d l = subst (λ v. v < 256) (get_or_default hay i 0 d l) (fi
 -- `get` returns none past the list
 past : {A : Type 0} (xs : List A) (i : ℕ) (r : Option (Bor A)) → ((x : Bor A) → r ≡ Some x → ⊥) → IsItemAt xs i r
     → length xs ≤ i
-past xs i None no h = h.3
-past xs i (Some x) no h = absurd (no x refl)
+past xs i None never h = h.3
+past xs i (Some x) never h = absurd (never x refl)
 
 pub returns-in_default-clause-groups : goal.returns-in_default-clause-groups
 returns-in_default-clause-groups c = λ o res m is preferred same.
