@@ -1,6 +1,6 @@
 -- Captures that are read from the simulation of the right program hold the groups of the match.
-use Rattle.std.proofs.Common.{ℕ, ◌≡◌, ◌+◌, ◌-◌, ◌*◌, ◌<◌, ◌≤◌, ◌∙◌, List, All, Option, Some, None, length, map, ap, ap₂, arith}
-use Rattle.std.proofs.Common.{cond, ne_eqb, refl, sym, vec_len, ⊎_elim}
+use Rattle.std.proofs.Common.{ℕ, ◌≡◌, ◌+◌, ◌-◌, ◌*◌, ◌<◌, ◌≤◌, ◌∙◌, List, All, Option, None, length, map, ap, arith}
+use Rattle.std.proofs.Common.{ne_eqb, sym, vec_len, ⊎_elim}
 use Rattle.std.proofs.lemmas.Bool.{cond-false, cases_lt}
 use Rattle.std.proofs.lemmas.List.{get_or_past}
 use Rattle.std.specs.List.{range_with_len}
@@ -12,15 +12,15 @@ use Rattle.regex.proofs.WritesLemmas.{writes_are_tidy}
 use Rattle.automata_base.specs.Haystacks.Matches.{Match}
 use Rattle.meaning.specs.Patterns.{any_of, numbered_match}
 use Rattle.captures.specs.Captures.{HoldGroups, span_in}
-use Rattle.captures.specs.Groups.{FindAllGroups, IsPreferred, group_span, span_between}
+use Rattle.captures.specs.Groups.{FindAllGroups, IsPreferredMatch, group_span, span_between}
 use Rattle.captures.specs.Slots.{slots_span}
 use Rattle.captures.specs.declared.captures.Captures.{Captures}
 use Rattle.captures.specs.declared.program.Program.{Program}
-use Rattle.captures.proofs.Laws.{HasFirst, first_program, never_written, run_writes}
+use Rattle.captures.proofs.Simulating.{HasFirst, first_program, never_written, run_writes}
 use Rattle.captures.proofs.Slots.{spans_of_slots}
 
 module _ (ps : List Program) (res : List Re) (hay : List ℕ) (bytes : All (λ b. b < 256) hay) (m : kit.Match)
-    (finds : FindAllGroups ps res) (preferred : IsPreferred res hay m) where
+    (finds : FindAllGroups ps res) (preferred : IsPreferredMatch res hay m) where
   -- the program of the pattern that matched
   abbrev pub first : HasFirst ps res hay m.start m.trace
   first = first_program hay bytes m.start ps res m.trace finds preferred

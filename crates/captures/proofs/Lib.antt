@@ -1,6 +1,6 @@
 mod Found
 mod Held
-mod Laws
 mod Programs
 mod Rooms
+mod Simulating
 mod Slots

@@ -1,7 +1,7 @@
 -- The slots that a simulation writes give the spans of the groups.
-use Rattle.std.proofs.Common.{ℕ, zero, suc, ◌≡◌, ◌+◌, ◌-◌, ◌*◌, ◌<◌, ◌≤◌, ◌==◌, ◌&&◌, nat_le, nat_lt, cond, List, [], ◌∷◌, ◌++◌}
-use Rattle.std.proofs.Common.{All, Option, Some, None, length, slice_index, take, drop, ◌∙◌, ap, ap₂, refl, sym, arith}
-use Rattle.std.proofs.Common.{ne_eqb, append-nil, ⊎_elim, le-leb, lt-ltb, eq-eqb, true, false, Bool, subst}
+use Rattle.std.proofs.Common.{ℕ, ◌≡◌, ◌+◌, ◌-◌, ◌*◌, ◌<◌, ◌≤◌, List, ◌++◌}
+use Rattle.std.proofs.Common.{Option, Some, None, length, slice_index, take, drop, ◌∙◌, ap, ap₂, refl, sym, arith}
+use Rattle.std.proofs.Common.{ne_eqb, append-nil, ⊎_elim, le-leb, lt-ltb, eq-eqb}
 use Rattle.std.proofs.lemmas.Bool.{cond-false, cond-true, and_from, and_left, and_right, lt-leb, le-ltb, cases_lt, cases_eq}
 use Rattle.std.proofs.lemmas.List.{drop_all, get_or_past}
 use Rattle.std.proofs.lemmas.List.FromFn.{length-map-range_with_len, get_or-map-range_with_len}
@@ -11,7 +11,6 @@ use Rattle.regex_vm.specs.Found.{cell, group_cells}
 use Rattle.regex.specs.Writes.{IsTidy}
 use Rattle.regex.proofs.WritesLemmas.{last_write_has}
 use Rattle.automata_base.specs.Haystacks.Matches.{Match}
-use Rattle.automata_base.specs.declared.util.search.Span.{Span}
 use Rattle.captures.specs.Groups.{group_span, span_between}
 use Rattle.captures.specs.Slots.{slot_span, slots_span}
 

@@ -23,8 +23,8 @@ group_span m group =
     else span_between (kit.last_write m.trace.writes (2 * group)) (kit.last_write m.trace.writes (2 * group + 1))
 
 -- The match is the one that the patterns prefer where it starts.
-abbrev pub IsPreferred : List Re → List ℕ → kit.Match → Type 0
-IsPreferred res hay m = attempt hay (any_of res) accept m.start ≡ Some m.trace
+abbrev pub IsPreferredMatch : List Re → List ℕ → kit.Match → Type 0
+IsPreferredMatch res hay m = attempt hay (any_of res) accept m.start ≡ Some m.trace
 
 -- At each offset of each haystack, the NFA finds the end and the groups of the match that the pattern prefers there.
 abbrev pub FindsGroups : Nfa → Re → Type 0

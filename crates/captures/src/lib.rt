@@ -13,6 +13,7 @@
 mod cache;
 mod captures;
 mod compile;
+pub mod laws;
 mod names;
 mod program;
 mod regex;

@@ -9,7 +9,7 @@ ghost use Rattle.patterns.specs.Searches.{IsSpanSearch};
 ghost use Rattle.patterns.specs.declared.compile.Options as options;
 ghost use Rattle.captures.specs.Caches.{HaveAtMost, AreRoomsOf, HaveRoomFor, IsCaptureCacheOf};
 ghost use Rattle.captures.specs.Captures.{HoldFound, HoldGroups, LieInMatch, HoldResult};
-ghost use Rattle.captures.specs.Groups.{IsPreferred};
+ghost use Rattle.captures.specs.Groups.{IsPreferredMatch};
 ghost use Rattle.captures.specs.Programs.{AreProgramsOf};
 ghost use Rattle.captures.specs.Regexes.{IsCaptureRegexOf, IsCaptureRegexOfTexts};
 
@@ -135,7 +135,7 @@ impl CaptureRegex {
         requires within { found.now.end ≤ length hay.now }
         ensures found { captures.new.found ≡ Some found.now }
         ensures groups { (o : options.Options) (res : List Re) (m : kit.Match) → IsCaptureRegexOf o res self.now
-            → IsPreferred res hay.now m → found.now ≡ numbered_match res hay.now m → HoldGroups m captures.new }
+            → IsPreferredMatch res hay.now m → found.now ≡ numbered_match res hay.now m → HoldGroups m captures.new }
         ensures within { LieInMatch found.now captures.new }
         ensures rooms { AreRoomsOf simulations.new self.now.programs.items }
         ensures room { HaveRoomFor captures.new self.now }

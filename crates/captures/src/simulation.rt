@@ -41,13 +41,8 @@ impl Simulation {
     {
         let (start, end) = (found.start(), found.end());
         self.slots.fill(0);
-        let _span = self.vm.find(
-            &program.nfa,
-            hay,
-            start,
-            start,
-            end,
-            &mut self.slots,
-        );
+        let _span = self
+            .vm
+            .find(&program.nfa, hay, start, start, end, &mut self.slots);
     }
 }

@@ -1,4 +1,4 @@
-use Rattle.std.proofs.Common.{◌∙◌, Some, ap, subst, sym}
+use Rattle.std.proofs.Common.{◌∙◌, ap, subst, sym}
 use Rattle.std.specs.Prelude.{Ok}
 use Rattle.meaning.specs.Patterns.{find_any}
 use Rattle.patterns.specs.Searches.{IsSpanSearch}

@@ -1,4 +1,4 @@
-use Rattle.std.proofs.Common.{◌∙◌, List, subst}
+use Rattle.std.proofs.Common.{List, subst}
 use Rattle.captures.specs.Caches.{AreRoomsOf}
 use Rattle.captures.specs.declared.program.Program.{Program}
 use Rattle.captures.proofs.regex.CaptureRegex.create_cache.Goals as goal

@@ -4,13 +4,11 @@ use Rattle.std.specs.Slice.{IsItemAt}
 use Rattle.std.proofs.lemmas.List.{get_or_default}
 use Rattle.std.proofs.lemmas.List.Elements.{All-get_or}
 use Rattle.std.proofs.lemmas.Option.{get_or_from_slice_get, slice_get_within}
-use Rattle.regex_hir.specs.Find as kit
 use Rattle.regex_nfa.specs.Run.{run}
 use Rattle.regex_vm.specs.Found.{group_cells}
 use Rattle.automata_base.specs.Haystacks.Matches.{Match}
-use Rattle.captures.specs.Caches.{AreRoomsOf, HasRoomOf}
+use Rattle.captures.specs.Caches.{HasRoomOf}
 use Rattle.captures.specs.declared.program.Program.{Program}
-use Rattle.captures.specs.declared.simulation.Simulation.{Simulation}
 use Rattle.captures.proofs.Held.{first, held, simulated_match}
 use Rattle.captures.proofs.Rooms.{room_at, rooms_set}
 use Rattle.captures.proofs.regex.CaptureRegex.groups_of.Goals as goal

@@ -2,7 +2,7 @@ use Rattle.std.proofs.Common.{◌≡◌, ◌∙◌, ◌++◌, ◌-◌, ℕ, Opti
 use Rattle.std.specs.Prelude.{IfSome}
 use Rattle.regex_hir.specs.Find as kit
 use Rattle.regex_vm.specs.Found.{first_match, group_cells}
-use Rattle.captures.proofs.Laws.{simulated}
+use Rattle.captures.proofs.Simulating.{simulated}
 use Rattle.captures.proofs.Slots.{all_written, length-group_cells}
 use Rattle.captures.proofs.simulation.Simulation.run.Goals as goal
 

@@ -1,17 +1,16 @@
 -- An NFA that is simulated on the span of a match finds the groups of that match.
-use Rattle.std.proofs.Common.{ℕ, zero, suc, ◌≡◌, ◌+◌, ◌-◌, ◌*◌, ◌<◌, ◌≤◌, List, [], ◌∷◌, All, Option, Some, None, length}
-use Rattle.std.proofs.Common.{◌∙◌, ap, refl, sym, subst, arith, is_some, cond, true, false, Bool, slice_get}
+use Rattle.std.proofs.Common.{ℕ, suc, ◌≡◌, ◌+◌, ◌<◌, ◌≤◌, List, [], ◌∷◌, All, Option, Some, None, length}
+use Rattle.std.proofs.Common.{◌∙◌, ap, refl, sym, subst, arith, is_some, slice_get}
 use Rattle.std.proofs.Common.{ap₂, ne_eqb, true≢false, ⊎_elim}
-use Rattle.std.proofs.lemmas.Bool.{cond-false, cond-true, cases_Bool, cases_lt}
+use Rattle.std.proofs.lemmas.Bool.{cond-false, cond-true}
 use Rattle.std.proofs.lemmas.List.Elements.{All-head, All-tail, All-nil, All-cons}
 use Rattle.std.proofs.lemmas.Option.{none-some, same_Some}
 use Rattle.std.specs.Option.{option_or}
-use Rattle.std.specs.Prelude.{option_map}
 use Rattle.regex_hir.specs.Find as kit
-use Rattle.regex_hir.specs.Re.{Re, Trace, accept, attempt, write}
+use Rattle.regex_hir.specs.Re.{Re, Trace, accept, attempt}
 use Rattle.regex_hir.proofs.AttemptLemmas.{attempt_none, cond_some, option_and_then_some}
 use Rattle.regex_class.proofs.RangesLemmas.{in_ranges-nil}
-use Rattle.regex_hir.proofs.FindLemmas.{IsFirst-of_first_between, first_between_here}
+use Rattle.regex_hir.proofs.FindLemmas.{first_between_here}
 use Rattle.regex_hir.proofs.OptionLemmas.{option_or_cases, write_cases}
 use Rattle.regex_nfa.specs.Run.{measure, run, state_of}
 use Rattle.regex_nfa.specs.States.{read, visit}
@@ -25,8 +24,8 @@ use Rattle.regex_hir.specs.Looks.{holds}
 use Rattle.regex_nfa.specs.States.{next_on, byte_below}
 use Rattle.regex_syntax.specs.Captures.{outcome}
 use Rattle.regex_vm.specs.Found.{first_match}
-use Rattle.meaning.specs.Patterns.{any_of, find_any, first_at}
-use Rattle.captures.specs.Groups.{FindAllGroups, FindsGroups, group_span, span_between}
+use Rattle.meaning.specs.Patterns.{any_of, first_at}
+use Rattle.captures.specs.Groups.{FindAllGroups, FindsGroups}
 use Rattle.captures.specs.declared.program.Program.{Program}
 
 -- both end at the same offset, and wrote the same to each slot last
