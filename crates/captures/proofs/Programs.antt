@@ -1,5 +1,6 @@
 -- The programs of texts find the groups of what the texts mean.
-use Rattle.std.proofs.Common.{ℕ, suc, ◌≡◌, ◌+◌, ◌<◌, ◌∙◌, List, [], ◌∷◌, ◌++◌, Bor, Option, Some, None, length, map, take, get_or}
+use Rattle.std.proofs.Common.{ℕ, suc, ◌≡◌, ◌+◌, ◌<◌, ◌∙◌, List, [], ◌∷◌, ◌++◌, Bor, Option, Some, None, length, map}
+use Rattle.std.proofs.Common.{take, get_or}
 use Rattle.std.proofs.Common.{add-one, ap, arith, option_map, refl, subst, sym}
 use Rattle.std.specs.Prelude.{IsSomeAnd, chars, slice_get}
 use Rattle.std.proofs.lemmas.List.{length-map, length-take-le, map-append, take-map}

@@ -125,7 +125,8 @@ module _ (nfa : Nfa) (hay : List ℕ) (stop : ℕ) where
       let next : next_on nfa.transitions.items (state_of nfa q) b.0 ≡ Some r.0 =
       ap (λ s. next_on nfa.transitions.items s b.0) is ∙ b.2 in
       h r.0 (i + 1)
-      (measure_falls_byte nfa hay stop r.0 q i (byte_below_some hay stop i b.0 b.1).0 (next_on_within nfa q b.0 r.0 next))
+      (measure_falls_byte nfa hay stop r.0 q i (byte_below_some hay stop i b.0 b.1).0
+      (next_on_within nfa q b.0 r.0 next))
       t r.2
 
   visit_writes :

@@ -2,7 +2,8 @@
 use Rattle.std.proofs.Common.{ℕ, ◌≡◌, ◌+◌, ◌-◌, ◌*◌, ◌<◌, ◌≤◌, List, ◌++◌}
 use Rattle.std.proofs.Common.{Option, Some, None, length, slice_index, take, drop, ◌∙◌, ap, ap₂, refl, sym, arith}
 use Rattle.std.proofs.Common.{ne_eqb, append-nil, ⊎_elim, le-leb, lt-ltb, eq-eqb}
-use Rattle.std.proofs.lemmas.Bool.{cond-false, cond-true, and_from, and_left, and_right, lt-leb, le-ltb, cases_lt, cases_eq}
+use Rattle.std.proofs.lemmas.Bool.{cond-false, cond-true, and_from, and_left, and_right, lt-leb, le-ltb, cases_lt}
+use Rattle.std.proofs.lemmas.Bool.{cases_eq}
 use Rattle.std.proofs.lemmas.List.{drop_all, get_or_past}
 use Rattle.std.proofs.lemmas.List.FromFn.{length-map-range_with_len, get_or-map-range_with_len}
 use Rattle.std.proofs.Math.Seq.{take-length}

@@ -1,13 +1,12 @@
 //! Matches with their groups.
 //!
-//! A `CaptureRegex` is a `Pattern` that also finds the groups of its matches. The lazy DFAs of the pattern find a match,
-//! with no group in mind. Then the kit's PikeVM simulates the NFA of the pattern that matched, over the span of the
-//! match alone, and reports the groups. So a search that asks for no groups costs nothing more, and one that does reads
-//! the bytes of its match once more, and no others.
+//! A `CaptureRegex` has a `Pattern`, and finds the groups of its matches. The lazy DFAs of the pattern find a match, with
+//! no group in mind. Then the kit's PikeVM simulates the NFA of the text that matched, over the span of the match alone.
+//! So a search without groups costs nothing more, and one with groups reads the bytes of its match once more, and no
+//! others.
 //!
-//! It is proved that these are the groups that the texts mean by the kit's specification of matching: of all ways in
-//! which a match may go, the preferred one counts, and of the positions that it writes to a group, the last
-//! (`specs/Groups.antt`).
+//! It is proved that these are the groups that the texts mean by the kit's specification of matching: the spans between
+//! the positions that the preferred path wrote last (`specs/Groups.antt`).
 #![tactic(auto)]
 
 mod cache;
@@ -18,6 +17,8 @@ mod names;
 mod program;
 mod regex;
 mod simulation;
+#[cfg(test)]
+mod tests;
 
 pub use cache::Cache;
 pub use captures::Captures;

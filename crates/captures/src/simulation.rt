@@ -36,7 +36,8 @@ impl Simulation {
         requires within { found.now.end ≤ length hay.now }
         ensures slots { (trace : Trace) → trace.end ≡ found.now.end
             → run program.now.nfa hay.now (length hay.now) program.now.nfa.start found.now.start ≡ Some trace
-            → self.new.slots.items ≡ group_cells (record { start = found.now.start; trace = trace }) (program.now.nfa.slot_count - 2) }
+            → self.new.slots.items
+            ≡ group_cells (record { start = found.now.start; trace = trace }) (program.now.nfa.slot_count - 2) }
         ensures of { HasRoomOf program.now self.new }
     {
         let (start, end) = (found.start(), found.end());

@@ -1,4 +1,5 @@
-use Rattle.std.proofs.Common.{ℕ, ◌≡◌, ◌-◌, ◌*◌, ◌<◌, ◌≤◌, ◌∙◌, List, All, Bor, Option, Some, None, ap, arith, get_or, length}
+use Rattle.std.proofs.Common.{ℕ, ◌≡◌, ◌-◌, ◌*◌, ◌<◌, ◌≤◌, ◌∙◌, List, All, Bor, Option, Some, None, ap, arith, get_or}
+use Rattle.std.proofs.Common.{length}
 use Rattle.std.proofs.Common.{refl, subst, sym, vec_len}
 use Rattle.std.specs.Slice.{IsItemAt}
 use Rattle.std.proofs.lemmas.List.{get_or_default}
@@ -31,14 +32,16 @@ returns-in_default-clause-groups c = λ o res m is preferred same.
     let at = slice_get_within ps _ f.program f.is in
     let beyond = past c.deref.result.now _ c.get.result c.in_default.not-Some c.get.ensures.lookup in
     let number = ap (λ (v : Match). v.pattern) same in
-    absurd (omega (arith, at, beyond, number, c.as_usize-number.ensures.value, c.pattern.ensures, ap length c.deref.ensures.value))
+    let count = ap length c.deref.ensures.value in
+    absurd (omega (arith, at, beyond, number, c.as_usize-number.ensures.value, c.pattern.ensures, count))
 
 pub run-requires-clause-of : goal.run-requires-clause-of
 run-requires-clause-of c =
     let ps = c.args.self.now.programs.items in
     let i = c.as_usize-number.result in
     let inside : i < length ps = omega (arith, c.in-Some.ensures.lookup.3.0, ap length c.deref.ensures.value) in
-    let same = c.in-Some.ensures.lookup.1 ∙ ap (λ (xs : List Program). get_or xs i c.in-Some.program.now) c.deref.ensures.value in
+    let same =
+    c.in-Some.ensures.lookup.1 ∙ ap (λ (xs : List Program). get_or xs i c.in-Some.program.now) c.deref.ensures.value in
     subst (λ (p : Program). HasRoomOf p (get_or c.args.simulations.now i c.index-simulations-number.result)) (sym same)
     (room_at c.args.simulations.now ps i c.index-simulations-number.result c.in-Some.program.now c.requires.rooms
     inside)
@@ -48,7 +51,8 @@ returns-clause-rooms c =
     let ps = c.args.self.now.programs.items in
     let i = c.as_usize-number.result in
     let inside : i < length ps = omega (arith, c.in-Some.ensures.lookup.3.0, ap length c.deref.ensures.value) in
-    let same = c.in-Some.ensures.lookup.1 ∙ ap (λ (xs : List Program). get_or xs i c.in-Some.program.now) c.deref.ensures.value in
+    let same =
+    c.in-Some.ensures.lookup.1 ∙ ap (λ (xs : List Program). get_or xs i c.in-Some.program.now) c.deref.ensures.value in
     rooms_set c.args.simulations.now ps i c.run.new.self c.index-simulations-number.result c.in-Some.program.now
     c.requires.rooms inside (subst (λ (p : Program). HasRoomOf p c.run.new.self) same c.run.ensures.of)
 

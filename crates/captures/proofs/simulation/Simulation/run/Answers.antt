@@ -1,4 +1,5 @@
-use Rattle.std.proofs.Common.{◌≡◌, ◌∙◌, ◌++◌, ◌-◌, ℕ, Option, Some, ap, ap₂, arith, drop, length, subst, sym, take, vec_len}
+use Rattle.std.proofs.Common.{◌≡◌, ◌∙◌, ◌++◌, ◌-◌, ℕ, Option, Some, ap, ap₂, arith, drop, length, subst, sym, take}
+use Rattle.std.proofs.Common.{vec_len}
 use Rattle.std.specs.Prelude.{IfSome}
 use Rattle.regex_hir.specs.Find as kit
 use Rattle.regex_vm.specs.Found.{first_match, group_cells}
