@@ -42,11 +42,12 @@ fn group_of(found: &Match, slots: &[usize], group: usize) -> Option<Span>
 }
 
 impl Captures {
-    ghost use Rattle.captures.specs.Captures.{LieInMatch, span_in};
+    ghost use Rattle.captures.specs.Captures.{HoldNothing, LieInMatch, span_in};
 
     /// Returns captures with room for this number of groups, which hold no match.
     pub(crate) fn new(alloc: Global, groups: usize) -> Result<Captures, AllocError>
-        ensures { IfOk result (λ captures. vec_len captures.spans ≡ groups) }
+        ensures room { IfOk result (λ captures. vec_len captures.spans ≡ groups) }
+        ensures empty { IfOk result HoldNothing }
     {
         let spans = vec![in alloc; None; groups]?;
         Ok(Captures { found: None, spans })
@@ -54,8 +55,7 @@ impl Captures {
 
     /// Removes the match and its groups.
     pub(crate) fn clear(&mut self)
-        ensures found { self.new.found ≡ None }
-        ensures spans { (group : ℕ) → span_in self.new group ≡ None }
+        ensures empty { HoldNothing self.new }
         ensures room { vec_len self.new.spans ≡ vec_len self.old.spans }
     {
         self.found = None;

@@ -22,6 +22,5 @@ mod tests;
 
 pub use cache::Cache;
 pub use captures::Captures;
-pub use program::Program;
 pub use regex::CaptureRegex;
 pub use simulation::Simulation;

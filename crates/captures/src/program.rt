@@ -2,7 +2,7 @@
 use regex_nfa::Nfa;
 
 /// What finds the groups of one pattern: the NFA that is simulated, and the names of the groups.
-pub struct Program {
+pub(crate) struct Program {
     pub(crate) nfa: Nfa,
     /// The name of each group, if it has one. Group 0 has none.
     pub(crate) names: Vec<Option<String>>,

@@ -8,7 +8,7 @@ ghost use Rattle.patterns.specs.Patterns.{IsBuiltOf, IsFor, config_of};
 ghost use Rattle.patterns.specs.Searches.{IsSpanSearch};
 ghost use Rattle.patterns.specs.declared.compile.Options as options;
 ghost use Rattle.captures.specs.Caches.{HaveAtMost, AreRoomsOf, HaveRoomFor, IsCaptureCacheOf};
-ghost use Rattle.captures.specs.Captures.{HoldFound, HoldGroups, LieInMatch, HoldResult};
+ghost use Rattle.captures.specs.Captures.{HoldFound, HoldGroups, HoldNothing, HoldResult, LieInMatch};
 ghost use Rattle.captures.specs.Groups.{IsPreferredMatch};
 ghost use Rattle.captures.specs.Programs.{AreProgramsOf};
 ghost use Rattle.captures.specs.Regexes.{IsCaptureRegexOf, IsCaptureRegexOfTexts};
@@ -108,7 +108,8 @@ impl CaptureRegex {
 
     /// Returns captures with room for the groups of each pattern. They are empty.
     pub fn create_captures(&self, alloc: Global) -> Result<Captures, AllocError>
-        ensures { IfOk result (λ captures. HaveRoomFor captures self.now) }
+        ensures room { IfOk result (λ captures. HaveRoomFor captures self.now) }
+        ensures empty { IfOk result HoldNothing }
     {
         let slots = most_slots(&self.programs);
         Captures::new(alloc, slots.div_ceil(2) as usize)
