@@ -1,0 +1,6 @@
+mod Found
+mod Held
+mod Programs
+mod Rooms
+mod Simulating
+mod Slots

@@ -1,0 +1,73 @@
+//! Groups of matches, compared with those that Rust's regex crate reports.
+use super::*;
+use patterns::Options;
+use std::alloc::Global;
+use std::fmt::Write;
+use std::test::Fail;
+
+/// A pattern, a haystack, and the spans of the groups of the first match.
+const FIRST_MATCHES: [(&str, &str, &str); 8] = [
+    ("(a)(b)?", "xac", "0: 1..2 1..2 -"),
+    ("(?:(a)|b)*", "ab", "0: 0..2 0..1"),
+    ("((a)|(b))+", "ab", "0: 0..2 1..2 0..1 1..2"),
+    ("(a|ab)(c|bcd)(d*)", "abcd", "0: 0..4 0..1 1..4 4..4"),
+    (
+        r"(?P<y>\d{4})-(?P<m>\d\d)",
+        "é 2026-11",
+        "0: 3..10 3..7 8..10",
+    ),
+    ("(a*?)(a*)", "aaa", "0: 0..3 0..0 0..3"),
+    ("()", "", "0: 0..0 0..0"),
+    ("(?i)(É)+", "éÉ", "0: 0..4 2..4"),
+];
+
+/// Shows the pattern of the first match from an offset on, and the spans of its groups.
+fn shown(alloc: Global, texts: &[&str], hay: &[u8], start: usize) -> Result<String, Fail> {
+    let regex = CaptureRegex::any_of(alloc, texts, &Options::default())?;
+    let mut cache = regex.create_cache(alloc)?;
+    let mut captures = regex.create_captures(alloc)?;
+    let mut text = String::new(alloc);
+    if start > hay.len() {
+        return Ok(text);
+    }
+    if let Some(found) = regex.captures(&mut cache, hay, start, &mut captures)? {
+        write!(text, "{}:", found.pattern().as_usize())?;
+        for group in 0..regex.group_len(found.pattern()) {
+            match captures.get(group) {
+                Some(span) => write!(text, " {}..{}", span.start, span.end)?,
+                None => write!(text, " -")?,
+            }
+        }
+    }
+    Ok(text)
+}
+
+#[test]
+fn groups_are_those_of_the_preferred_path(rt: HostRuntime) -> Result<(), Fail> {
+    for (pattern, hay, expected) in FIRST_MATCHES {
+        let found = shown(rt.alloc(), &[pattern], hay.as_bytes(), 0)?;
+        assert_eq!(rt; found.as_str(), expected, "{pattern}");
+    }
+    Ok(())
+}
+
+#[test]
+fn each_pattern_has_groups_of_its_own(rt: HostRuntime) -> Result<(), Fail> {
+    let texts = ["a(b)", "(x)(?P<last>y)?"];
+    let hay = "xy ab x".as_bytes();
+    for (start, expected) in [
+        (0, "1: 0..2 0..1 1..2"),
+        (2, "0: 3..5 4..5"),
+        (5, "1: 6..7 6..7 -"),
+        (7, ""),
+    ] {
+        let found = shown(rt.alloc(), &texts, hay, start)?;
+        assert_eq!(rt; found.as_str(), expected);
+    }
+    let regex = CaptureRegex::any_of(rt.alloc(), &texts, &Options::default())?;
+    let last = texts.len() - 1;
+    let pattern = regex_automata::util::primitives::PatternID::new(last).ok_or("no ID")?;
+    assert!(rt; regex.group_index(pattern, "last") == Some(2));
+    assert!(rt; regex.group_index(pattern, "first").is_none());
+    Ok(())
+}
