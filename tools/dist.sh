@@ -105,7 +105,7 @@ make_program() {
     mkdir -p "$room/lgrep"
     strip -o "$room/lgrep/lgrep" "$program"
     chmod 755 "$room/lgrep/lgrep"
-    sed -n 's|^//! \?||p' "$top/crates/example_grep/src/main.rt" | sed -e '/^|---/d' -e 's/example_grep/lgrep/g' |
+    sed -n 's|^//! \?||p' "$top/crates/lgrep/src/main.rt" | sed -e '/^|---/d' -e 's/lgrep/lgrep/g' |
         manual lgrep 1 'print the lines of files that patterns match' | gzip -9n >"$room/lgrep/lgrep.1.gz"
 }
 
@@ -136,7 +136,7 @@ else
     archive=$top/crates/lazydfa_c/out/liblazydfa_c.a
     proved=yes
 fi
-program=${PROGRAM:-$top/crates/example_grep/out/example_grep}
+program=${PROGRAM:-$top/crates/lgrep/out/lgrep}
 build_library
 make_tarball
 make_crate

@@ -1,5 +1,5 @@
 #!/usr/bin/env python3
-"""Compares the output and the status of `example_grep` with those of `grep -E`:
+"""Compares the output and the status of `lgrep` with those of `grep -E`:
 
     tools/grep_test.py [--program FILE] ['N passed, M failed']
 
@@ -117,7 +117,7 @@ CALLS = [
     ["-rq", "lazy", "tree"],
     ["-rq", "no such", "tree"],
 ]
-# The files below `tree` that have a match, in the order of names in which `example_grep` searches them.
+# The files below `tree` that have a match, in the order of names in which `lgrep` searches them.
 ORDER = b"tree/a/.hidden\ntree/a/0\ntree/a/z\ntree/b\ntree/b.txt\n"
 LONG = 100 << 20
 
@@ -197,7 +197,7 @@ def own(program, room):
 
 def main(words):
     parser = argparse.ArgumentParser()
-    parser.add_argument("--program", default=f"{TOP}/crates/example_grep/out/example_grep")
+    parser.add_argument("--program", default=f"{TOP}/crates/lgrep/out/lgrep")
     parser.add_argument("counted", nargs="?", default="0 passed, 0 failed")
     given = parser.parse_args(words)
     counted = re.fullmatch(r"(\d+) passed, (\d+) failed", given.counted)
@@ -210,7 +210,7 @@ def main(words):
             found, wanted = (compared(run([*it, *call], room), call) for it in ([program], ["grep", "-E"]))
             rows.append((" ".join(call), found, wanted))
         for call, found, wanted in [*rows, *(own(program, room) if rows else [])]:
-            print(f"example_grep {call}: {'passed' if found == wanted else f'{found}, and not {wanted}'}")
+            print(f"lgrep {call}: {'passed' if found == wanted else f'{found}, and not {wanted}'}")
             passed, failed = passed + (found == wanted), failed + (found != wanted)
     print(f"{passed} passed, {failed} failed")
     return 1 if failed else 0
