@@ -94,7 +94,7 @@ package_extension() {
     cp "$staged$libdir/liblazydfa.a" "$room/library/lib"
     begin postgresql-15-lazydfa
     for goal in all install; do
-        make -s -C "$room/extension" "$goal" LAZYDFA="$room/library" DESTDIR="$it" \
+        env -u PROGRAM make -s -C "$room/extension" "$goal" LAZYDFA="$room/library" DESTDIR="$it" \
             COPT="-ffile-prefix-map=$room=." >"$room/log" 2>&1 || { cat "$room/log" >&2; return 1; }
     done
     strip --strip-unneeded "$it/usr/lib/postgresql/15/lib/lazydfa.so"
