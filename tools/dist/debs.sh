@@ -79,6 +79,9 @@ package_program() {
     mkdir -p "$it/usr/bin" "$it/usr/share/man/man1"
     cp "$room/lgrep/lgrep" "$it/usr/bin"
     cp "$room/lgrep/lgrep.1.gz" "$it/usr/share/man/man1"
+    install -D -m 644 "$room/lgrep/lgrep.bash" "$it/usr/share/bash-completion/completions/lgrep"
+    install -D -m 644 "$room/lgrep/_lgrep" "$it/usr/share/zsh/vendor-completions/_lgrep"
+    install -D -m 644 "$room/lgrep/lgrep.fish" "$it/usr/share/fish/vendor_completions.d/lgrep.fish"
     finish lgrep utils "libc6" "print the lines of files that patterns match" <<END
 The syntax of patterns is that of the Rust crate regex. It searches for many
 patterns at once, in time linear in the text.

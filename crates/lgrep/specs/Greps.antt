@@ -4,7 +4,8 @@ use Rattle.regex_hir.specs.Re.{Re}
 use Rattle.meaning.specs.Patterns.{HasPart}
 use Rattle.patterns.specs.Patterns.{IsRegexOf}
 use Rattle.patterns.specs.Sets.{IsDfaOf}
-use Rattle.lgrep.specs.Lines.{AreMatching, IsSearcherFor, IsWanted, bytewise, count_after, lines, numbered}
+use Rattle.lgrep.specs.Lines.{AreMatching, IsSearcherFor, IsWanted, bytewise, count_after, first_lines, lines}
+use Rattle.lgrep.specs.Lines.{numbered}
 use Rattle.lgrep.specs.Shown.{lines_shown}
 use Rattle.lgrep.specs.declared.search.Grep.{Grep}
 use Rattle.lgrep.specs.declared.show.How.{How}
@@ -35,11 +36,15 @@ IsGrepFor case_insensitive res grep =
 -- what searching the lines of a text adds
 pub record ShowsLines (res : List Re) (text : List ℕ) (old new : Grep) : Type 0 where
   -- the lines in which some part is a match of some pattern, or with `-v` the others, with their numbers
-  pub found : List (ℕ × List ℕ)
+  pub wanted : List (ℕ × List ℕ)
   -- they are all such lines, in order
   pub matching :
       AreMatching (λ line. IsWanted old.show.flags.invert (HasPart res line.1))
-      (numbered old.lines.searched (lines text)) found
+      (numbered old.lines.searched (lines text)) wanted
+  -- the lines that are found
+  pub found : List (ℕ × List ℕ)
+  -- they are all of these or, with `-m`, the first ones, up to that many of a file
+  pub first : found ≡ first_lines old.show.flags.max old.count wanted
   -- they are shown
   pub shown : new.shown.items ≡ old.shown.items ++ lines_shown old.show res found
   -- they are counted

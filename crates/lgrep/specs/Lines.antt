@@ -1,5 +1,6 @@
 -- Which lines are taken, and their numbers.
-use Rattle.std.specs.Prelude.{ℕ, ◌≡◌, ◌==◌, ◌+◌, ◌-◌, ◌^◌, Bool, true, false, List, [], ◌∷◌, ◌++◌, length, min, Some}
+use Rattle.std.specs.Prelude.{ℕ, ◌≡◌, ◌==◌, ◌+◌, ◌-◌, ◌^◌, Bool, true, false, List, [], ◌∷◌, ◌++◌, length, min, None}
+use Rattle.std.specs.Prelude.{Option, Some, take}
 use Rattle.std.specs.List.{slice_split}
 use Rattle.regex_hir.specs.Re.{Re}
 use Rattle.regex_automata.specs.Promises.{Forward, Half, Input, IsAnswer, LeftmostFirst, Machine, No, engine}
@@ -25,6 +26,11 @@ count_after count (x ∷ xs) = count_after (one_more count) xs
 abbrev pub numbered : (count : ℕ) → List (List ℕ) → List (ℕ × List ℕ)
 numbered count [] = []
 numbered count (line ∷ lines) = (one_more count, line) ∷ numbered (one_more count) lines
+
+-- the first of these, if a limit of `max` leaves out the others, and `count` are already taken
+abbrev pub first_lines : {A : Type 0} → (max : Option ℕ) → (count : ℕ) → List A → List A
+first_lines None count xs = xs
+first_lines (Some max) count xs = take (max - count) xs
 
 -- a line that was taken, with its number
 abbrev pub found_line : Line → ℕ × List ℕ

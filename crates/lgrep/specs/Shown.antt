@@ -1,5 +1,5 @@
 -- What is printed of the lines that are taken.
-use Rattle.std.specs.Prelude.{ℕ, ◌==◌, ◌+◌, ◌||◌, Bool, true, false, cond, List, [], ◌∷◌, ◌++◌, None, map}
+use Rattle.std.specs.Prelude.{ℕ, ◌==◌, ◌+◌, ◌||◌, Bool, true, false, cond, not, List, [], ◌∷◌, ◌++◌, None, map}
 use Rattle.std.specs.Prelude.{slice_range, string_bytes}
 use Rattle.std.specs.Fmt.{decimal}
 use Rattle.regex_hir.specs.Re.{Re}
@@ -10,9 +10,13 @@ use Rattle.lgrep.specs.declared.show.How.{How}
 use Rattle.lgrep.specs.declared.show.How.TheVariants as how
 use Rattle.lgrep.specs.declared.show.Show.{Show}
 
--- the name of the file and a colon, if names are asked for
+-- the name of the file and this byte, or with `-Z` a NUL in its place
+abbrev pub ended_name : Show → (byte : ℕ) → List ℕ
+ended_name show byte = string_bytes show.name ++ cond show.flags.null 0 byte ∷ []
+
+-- the name of the file and a colon or a NUL, if names are asked for
 abbrev pub name_of : Show → List ℕ
-name_of show = cond show.flags.named (string_bytes show.name ++ 58 ∷ []) []
+name_of show = cond show.flags.named (ended_name show 58) []
 
 -- the line's number and a colon, if numbers are asked for
 abbrev pub number_shown : (numbers : Bool) → (number : ℕ) → List ℕ
@@ -64,7 +68,7 @@ line_shown how.Which res prefix line = which_shown prefix line (map (is_found fa
 
 -- whether no line is shown, because only the count, names or nothing is asked for, or because the file is binary
 abbrev pub is_silent : Show → Bool
-is_silent show = show.flags.count || show.flags.names || show.flags.quiet || show.binary
+is_silent show = show.flags.count || show.flags.names || show.flags.missing || show.flags.quiet || show.binary
 
 -- what is shown of a line that is taken and has this number, by the flags
 abbrev pub found_shown : Show → List Re → ℕ × List ℕ → List ℕ
@@ -76,16 +80,17 @@ abbrev pub lines_shown : Show → List Re → (found : List (ℕ × List ℕ)) �
 lines_shown show res [] = []
 lines_shown show res (line ∷ found) = found_shown show res line ++ lines_shown show res found
 
--- the name of the file, if a line of it was taken
-abbrev pub file_shown : (name : List ℕ) → (count : ℕ) → List ℕ
-file_shown name count = cond (count == 0) [] (name ++ 10 ∷ [])
+-- the name of the file and a line feed or a NUL, if it is wanted
+abbrev pub file_shown : Show → (wanted : Bool) → List ℕ
+file_shown show wanted = cond wanted (ended_name show 10) []
 
 -- the count, if it is asked for
 abbrev pub count_shown : Show → (count : ℕ) → List ℕ
 count_shown show count = cond show.flags.count (name_of show ++ decimal count ++ 10 ∷ []) []
 
--- what is shown at the end of a file: nothing, its name or the count
+-- what is shown at the end of a file: nothing, its name if a line was taken, or with `-L` if none was, or the count
 abbrev pub end_shown : Show → (count : ℕ) → List ℕ
 end_shown show count =
     cond show.flags.quiet []
-    (cond show.flags.names (file_shown (string_bytes show.name) count) (count_shown show count))
+    (cond show.flags.names (file_shown show (not (count == 0)))
+    (cond show.flags.missing (file_shown show (count == 0)) (count_shown show count)))

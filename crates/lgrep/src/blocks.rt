@@ -10,12 +10,22 @@ use std::mem;
 
 const BLOCK: usize = 1 << 18;
 
+/// How a file with a NUL is searched.
+#[derive(Clone, Copy)]
+pub enum BinaryFiles {
+    /// As a binary file, in which a NUL ends a line.
+    Split,
+    /// As text.
+    Text,
+    /// Not at all, as if it had no match.
+    Unmatched,
+}
+
 /// The bytes that were read and not yet searched.
 pub struct Blocks {
     block: Vec<u8>,
     text: Vec<u8>,
-    /// Whether a NUL has no effect.
-    as_text: bool,
+    binary_files: BinaryFiles,
     /// Whether a NUL was read that has an effect.
     binary: bool,
 }
@@ -26,7 +36,7 @@ impl Drop for Blocks {
         let Self {
             block: _block,
             text: _text,
-            as_text: _as_text,
+            binary_files: _binary_files,
             binary: _binary,
         } = self;
     }
@@ -50,12 +60,12 @@ fn end_lines(bytes: &mut [u8])
 
 impl Blocks {
     /// Allocates a block, before anything is read.
-    pub fn new(alloc: Global, as_text: bool) -> Result<Blocks> {
+    pub fn new(alloc: Global, binary_files: BinaryFiles) -> Result<Blocks> {
         let block = vec![in alloc; 0; BLOCK]?;
         Ok(Blocks {
             block,
             text: Vec::new(alloc),
-            as_text,
+            binary_files,
             binary: false,
         })
     }
@@ -65,13 +75,18 @@ impl Blocks {
         self.binary
     }
 
+    /// Whether the file has no match, because it is binary.
+    pub fn is_unmatched(&self) -> bool {
+        self.binary && matches!(self.binary_files, BinaryFiles::Unmatched)
+    }
+
     /// Reads a block, and returns how many bytes it has, which is 0 at the end of the input. In a binary file a NUL
     /// ends a line, as a line feed does.
     pub fn read<R: Read>(&mut self, input: &mut R) -> Result<usize> {
         let read = input.read(self.block.as_mut_slice())?;
         let read = read.min(self.block.len());
         let bytes = &mut self.block[..read];
-        if !self.as_text && memchr(0, bytes).is_some() {
+        if !matches!(self.binary_files, BinaryFiles::Text) && memchr(0, bytes).is_some() {
             self.binary = true;
             end_lines(bytes);
         }

@@ -125,7 +125,7 @@ fn test_utf8(nfa: &NFA) -> Result<()>
 }
 
 /// Builds the searcher for the numbers of the patterns that match, for the patterns of an NFA.
-fn set_searcher(nfa: NFA, capacity: usize) -> Result<SetSearcher>
+pub fn set_searcher(nfa: NFA, capacity: usize) -> Result<SetSearcher>
     ensures meant { IfOk result (λ s. (case_insensitive : Bool) (res : List Re)
         → IsJoinedNfa (bytewise case_insensitive) res nfa → IsDfaOf (bytewise case_insensitive) res s.set.dfa) }
     ensures built { IfOk result (λ s. Builds (grep_settings KindAll capacity) nfa s.set.dfa) }

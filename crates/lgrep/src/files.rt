@@ -1,8 +1,13 @@
 //! Finds and searches the files, and determines the exit status.
-use crate::paths::{Found, Place, found_of, is_directory, name_of, output_place, place_of};
+use crate::blocks::BinaryFiles;
+use crate::globs::Globs;
+use crate::paths::{
+    Found, Place, found_of, is_directory, last_name, name_of, output_place, place_of,
+};
 use crate::search::Grep;
 use crate::stats::Stats;
 use anyhow::{Error, Result, bail};
+use std::alloc::Global;
 use std::fs::File;
 use std::time::Instant;
 use std::{fs, io};
@@ -12,18 +17,47 @@ use std::{fs, io};
 pub struct Reading {
     /// Whether the files below a directory are searched.
     pub recursive: bool,
-    /// Whether a file with a NUL is searched as text.
-    pub as_text: bool,
+    pub binary_files: BinaryFiles,
     /// Whether file names are never shown before what is found in them.
     pub unnamed: bool,
     /// Whether nothing is printed, and the search ends as soon as a line is taken.
     pub quiet: bool,
+    /// Whether no message about a file that cannot be read is printed.
+    pub silent: bool,
+}
+
+/// Which files and directories are searched, by their names.
+pub struct Filter {
+    pub files: Globs,
+    pub directories: Globs,
+}
+
+// An owner drops this with one call, so that its proof has no step for each field.
+impl Drop for Filter {
+    fn drop(self) {
+        let Self {
+            files: _files,
+            directories: _directories,
+        } = self;
+    }
+}
+
+impl Filter {
+    /// Whether a file or directory is searched, by its name.
+    fn takes(&mut self, alloc: Global, path: &str, is_directory: bool) -> Result<bool> {
+        if is_directory {
+            self.directories.takes(alloc, path)
+        } else {
+            self.files.takes(alloc, path)
+        }
+    }
 }
 
 /// A search of files, and its result so far.
 pub struct Search {
     grep: Grep,
     reading: Reading,
+    filter: Filter,
     /// The file that standard output is written to, if it is a file.
     output: Option<Place>,
     stats: Stats,
@@ -37,6 +71,7 @@ impl Drop for Search {
         let Self {
             grep: _grep,
             reading: _reading,
+            filter: _filter,
             output: _output,
             stats: _stats,
             is_found: _is_found,
@@ -47,10 +82,11 @@ impl Drop for Search {
 
 impl Search {
     /// Returns a search that has not searched any file.
-    pub fn new(rt: &HostRuntime, grep: Grep, reading: Reading) -> Search {
+    pub fn new(rt: &HostRuntime, grep: Grep, reading: Reading, filter: Filter) -> Search {
         Search {
             grep,
             reading,
+            filter,
             output: output_place(rt),
             stats: Stats::new(),
             is_found: false,
@@ -58,24 +94,27 @@ impl Search {
         }
     }
 
-    /// Notes an error, and prints it after the path.
+    /// Notes an error, and prints it after the path unless messages are not asked for.
     fn fail(&mut self, rt: &HostRuntime, path: &str, error: &Error) -> Result<()> {
         self.has_failed = true;
+        if self.reading.silent {
+            return Ok(());
+        }
         Ok(eprintln!(rt; "lgrep: {path}: {error}")?)
     }
 
     /// Searches standard input or a file; fails if lines are written to this very file.
     fn run(&mut self, rt: &HostRuntime, path: &str) -> Result<()> {
-        let as_text = self.reading.as_text;
+        let binary_files = self.reading.binary_files;
         let mut output = io::writer(rt);
         if path == "-" {
-            return self.grep.run(&mut rt.reader(), &mut output, as_text);
+            return self.grep.run(&mut rt.reader(), &mut output, binary_files);
         }
         let mut file = File::open(rt, path)?;
         if self.grep.shows_lines() && self.output == Some(place_of(&file)?) {
             bail!("input file is also the output");
         }
-        self.grep.run(&mut file, &mut output, as_text)
+        self.grep.run(&mut file, &mut output, binary_files)
     }
 
     /// Searches a file, and prints its error, if any.
@@ -103,6 +142,15 @@ impl Search {
         }
     }
 
+    /// Appends what is below a directory, unless it is left out by its name.
+    fn push(&mut self, rt: &HostRuntime, found: Found, all: &mut Vec<Found>) -> Result<()> {
+        let name = last_name(found.path.as_str());
+        if self.filter.takes(rt.alloc(), name, found.is_directory)? {
+            all.push(found)?;
+        }
+        Ok(())
+    }
+
     /// Lists what is below a directory, in reverse order of names, and prints an error for each entry that cannot be
     /// read.
     fn list(&mut self, rt: &HostRuntime, directory: &str) -> Result<Vec<Found>> {
@@ -114,7 +162,7 @@ impl Search {
                 Err(error) => Err(Error::from(error)),
             };
             match found {
-                Ok(Some(found)) => all.push(found)?,
+                Ok(Some(found)) => self.push(rt, found, &mut all)?,
                 Ok(None) => {}
                 Err(error) => self.fail(rt, directory, &error)?,
             }
@@ -163,14 +211,27 @@ impl Search {
     /// Reports that a path is a directory, and prints what is shown at the end of a file in which no line is taken.
     fn pass_directory(&mut self, rt: &HostRuntime, path: &str) -> Result<()> {
         self.has_failed = true;
-        eprintln!(rt; "lgrep: {path}: Is a directory")?;
+        if !self.reading.silent {
+            eprintln!(rt; "lgrep: {path}: Is a directory")?;
+        }
         self.grep.begin(String::from_str(rt.alloc(), path)?);
         self.grep.end(&mut io::writer(rt))
     }
 
-    /// Searches the file or directory that an argument names.
+    /// Searches the file or directory that an argument names, unless it is left out by its name.
     fn search_given(&mut self, rt: &HostRuntime, path: &str) -> Result<()> {
-        if path == "-" || !is_directory(rt, path) {
+        if path == "-" {
+            return self.search_file(rt, path);
+        }
+        let is_directory = is_directory(rt, path);
+        let name = if is_directory {
+            path.trim_end_matches('/')
+        } else {
+            path
+        };
+        if !self.filter.takes(rt.alloc(), name, is_directory)? {
+            Ok(())
+        } else if !is_directory {
             self.search_file(rt, path)
         } else if self.reading.recursive {
             self.search_directory(rt, path)

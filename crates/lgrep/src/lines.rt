@@ -4,7 +4,7 @@ ghost use Rattle.regex_hir.specs.Re.{Re};
 ghost use Rattle.regex_automata.specs.Promises.{IsCacheOf, IsLookAcyclic, nfa_of};
 ghost use Rattle.meaning.specs.Patterns.{HasPart};
 ghost use Rattle.lgrep.specs.Lines.{AreMatching, HasMatch, IsSearcherFor, IsWanted, count_after};
-ghost use Rattle.lgrep.specs.Lines.{found_line, lines, numbered};
+ghost use Rattle.lgrep.specs.Lines.{first_lines, found_line, lines, numbered};
 
 use crate::stats::Usage;
 use anyhow::Result;
@@ -39,6 +39,20 @@ impl Drop for LineSearcher {
 pub struct Line<'t> {
     pub number: u64,
     pub bytes: &'t [u8],
+}
+
+/// Returns the first lines of those that may be taken, if a limit leaves out the others. `count` lines of the file are
+/// already taken.
+pub fn first_lines<'a, 't>(lines: &'a [Line<'t>], max: Option<u64>, count: u64) -> &'a [Line<'t>]
+    ensures { result.now ≡ first_lines max count lines.now }
+{
+    match max {
+        Some(max) => {
+            let left = max.saturating_sub(count).min(lines.len() as u64);
+            &lines[..left as usize]
+        }
+        None => lines,
+    }
 }
 
 /// Whether a line is taken, by whether it has a match.

@@ -3,7 +3,7 @@ use anyhow::Result;
 use std::alloc::Global;
 use std::fs;
 use std::fs::{DirEntry, File};
-use std::os::unix::fs::MetadataExt;
+use std::os::unix::fs::{FileTypeExt, MetadataExt};
 
 /// A file or directory below a directory.
 pub struct Found {
@@ -27,6 +27,24 @@ pub fn name_of(path: &str) -> &str {
         "(standard input)"
     } else {
         path
+    }
+}
+
+/// Returns the last name of a path.
+pub fn last_name(path: &str) -> &str {
+    match path.rsplit_once('/') {
+        Some((_, name)) => name,
+        None => path,
+    }
+}
+
+/// Whether standard input is a terminal, by the number of its device: consoles and serial lines have the major numbers
+/// 4 and 5, pseudoterminals 136 to 143.
+pub fn is_terminal(rt: &HostRuntime) -> bool {
+    match fs::metadata(rt, "/dev/stdin") {
+        Ok(found) => found.file_type().is_char_device()
+            && matches!(found.rdev() >> 8 & 0xFFF, 4 | 5 | 136..=143),
+        Err(_) => false,
     }
 }
 

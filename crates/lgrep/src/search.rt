@@ -5,9 +5,9 @@ ghost use Rattle.lgrep.specs.Lines.{count_after, found_line, one_more};
 ghost use Rattle.lgrep.specs.Greps.{IsGrepFor, KeepsView, ShowsLines};
 ghost use Rattle.lgrep.specs.Shown.{end_shown, found_shown, lines_shown};
 
-use crate::blocks::Blocks;
-use crate::lines::{Line, LineSearcher};
-use crate::show::{Show, file_shown, is_silent, prefix};
+use crate::blocks::{BinaryFiles, Blocks};
+use crate::lines::{Line, LineSearcher, first_lines};
+use crate::show::{Show, end_of, is_silent, prefix};
 use crate::stats::{Stats, Usage};
 use crate::view::View;
 use anyhow::{Error, Result};
@@ -126,7 +126,7 @@ impl Grep {
     /// Whether a line was taken that is not shown because the file is binary.
     pub fn has_hidden(&self) -> bool {
         let flags = &self.show.flags;
-        let is_asked = !(flags.count || flags.names || flags.quiet);
+        let is_asked = !(flags.count || flags.names || flags.missing || flags.quiet);
         self.show.binary && is_asked && self.count > self.plain
     }
 
@@ -163,7 +163,8 @@ impl Grep {
         Ok(())
     }
 
-    /// Searches the lines of a text, and appends what is shown of those that are taken.
+    /// Searches the lines of a text, and appends what is shown of those that are taken: with a limit, only of the first
+    /// ones.
     fn search(&mut self, text: &[u8]) -> Result<()>
         ensures { OnOk result ((case_insensitive : Bool) (res : List Re) → IsGrepFor case_insensitive res self.old
             → IsGrepFor case_insensitive res self.new × ShowsLines res text.now self.old self.new) }
@@ -171,7 +172,8 @@ impl Grep {
         let found = self
             .lines
             .matching(self.alloc, text, self.show.flags.invert)?;
-        self.push_lines(found.as_slice())?;
+        let first = first_lines(found.as_slice(), self.show.flags.max, self.count);
+        self.push_lines(first)?;
         Ok(())
     }
 
@@ -179,7 +181,7 @@ impl Grep {
     fn push_end(&mut self) -> Result<()>
         ensures { OnOk result (self.new.shown.items ≡ self.old.shown.items ++ end_shown self.old.show self.old.count) }
     {
-        let end = file_shown(self.alloc, &self.show, self.count)?;
+        let end = end_of(self.alloc, &self.show, self.count)?;
         Ok(self.shown.extend_from_slice(end.as_bytes())?)
     }
 
@@ -201,11 +203,21 @@ impl Grep {
         }
     }
 
-    /// Whether the remaining lines do not matter: a line was taken, and it is only asked whether there is one.
+    /// Whether no further line of the file is taken, because of a limit.
+    fn is_full(&self) -> bool {
+        match self.show.flags.max {
+            Some(max) => self.count >= max,
+            None => false,
+        }
+    }
+
+    /// Whether the remaining lines do not matter: no further line is taken, or a line was taken and it is only asked
+    /// whether there is one.
     fn is_decided(&self) -> bool {
         let flags = &self.show.flags;
-        let is_asked = flags.names || flags.quiet || self.show.binary && !flags.count;
-        is_asked && self.count > self.plain
+        let is_listed = flags.names || flags.missing || flags.quiet;
+        let is_asked = is_listed || self.show.binary && !flags.count;
+        self.is_full() || is_asked && self.count > self.plain
     }
 
     /// Searches the lines of a text, and writes what is shown of those that are taken.
@@ -223,6 +235,9 @@ impl Grep {
     ) -> Result<bool> {
         let read = blocks.read(input)?;
         self.bytes = self.bytes.saturating_add(read as u64);
+        if blocks.is_unmatched() {
+            return Ok(false);
+        }
         if blocks.is_binary() {
             self.note_binary();
         }
@@ -239,23 +254,33 @@ impl Grep {
         Ok(output.flush()?)
     }
 
-    /// Searches the lines of a file, block by block, until its end or until the remaining lines do not matter. With
-    /// `as_text` a file with a NUL is not binary.
+    /// Searches the lines that are left at the end of a file. If it is binary and therefore has no match, no line of it
+    /// counts.
+    fn search_last<W: Write>(&mut self, blocks: &mut Blocks, output: &mut W) -> Result<()> {
+        if blocks.is_unmatched() {
+            self.count = 0;
+            return Ok(());
+        }
+        match blocks.take_last(self.alloc) {
+            Some(text) => self.search_and_write(text.as_slice(), output),
+            None => Ok(()),
+        }
+    }
+
+    /// Searches the lines of a file, block by block, until its end or until the remaining lines do not matter.
     pub fn run<R: Read, W: Write>(
         &mut self,
         input: &mut R,
         output: &mut W,
-        as_text: bool,
+        binary_files: BinaryFiles,
     ) -> Result<()> {
-        let mut blocks = Blocks::new(self.alloc, as_text)?;
+        let mut blocks = Blocks::new(self.alloc, binary_files)?;
         for _ in 0..u64::MAX {
             if !self.turn(&mut blocks, input, output)? {
                 break;
             }
         }
-        if let Some(text) = blocks.take_last(self.alloc) {
-            self.search_and_write(text.as_slice(), output)?;
-        }
+        self.search_last(&mut blocks, output)?;
         self.end(output)
     }
 }

@@ -97,6 +97,16 @@ impl SetSearcher {
         push_numbered(prefix, numbers.as_str(), line, shown)
     }
 
+    /// Returns the number of the last pattern that matches a text, counted from 0, if one does.
+    pub fn last(&mut self, alloc: Global, text: &[u8]) -> Result<Option<usize>> {
+        let found = self.set.which(alloc, &mut self.cache, text)?;
+        let mut last = None;
+        for pattern in found.iter() {
+            last = Some(pattern.as_usize());
+        }
+        Ok(last)
+    }
+
     /// Returns how the cache was used.
     pub fn usage(&self) -> Usage {
         Usage::of(&self.cache)

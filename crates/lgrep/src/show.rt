@@ -22,10 +22,14 @@ pub enum How {
 pub struct Flags {
     /// Whether the lines without a match are taken, instead of those with one.
     pub invert: bool,
+    /// How many lines of a file are taken at most, if there is a limit.
+    pub max: Option<u64>,
     /// Whether only their number is printed.
     pub count: bool,
     /// Whether only the name of the file is printed, if it has such a line.
     pub names: bool,
+    /// Whether only the name of the file is printed, if it has no such line.
+    pub missing: bool,
     /// Whether nothing is printed.
     pub quiet: bool,
     /// What is printed of each line.
@@ -34,6 +38,8 @@ pub struct Flags {
     pub numbers: bool,
     /// Whether the name of the file is printed, too.
     pub named: bool,
+    /// Whether a NUL follows the name of a file, instead of a colon or a line feed.
+    pub null: bool,
 }
 
 /// What to print of the lines of a file.
@@ -59,10 +65,10 @@ impl Drop for Show {
 pub fn is_silent(show: &Show) -> bool
     ensures { result ≡ is_silent show.now }
 {
-    show.flags.count || show.flags.names || show.flags.quiet || show.binary
+    show.flags.count || show.flags.names || show.flags.missing || show.flags.quiet || show.binary
 }
 
-/// Returns the name of the file and a colon, or nothing if names are not asked for.
+/// Returns the name of the file and a colon or a NUL, or nothing if names are not asked for.
 fn name_of(alloc: Global, show: &Show) -> Result<String>
     ensures { IfOk result (λ name. string_bytes name ≡ name_of show.now) }
 {
@@ -70,6 +76,9 @@ fn name_of(alloc: Global, show: &Show) -> Result<String>
         return Ok(String::new(alloc));
     }
     let name = &show.name;
+    if show.flags.null {
+        return Ok(format!(in alloc; "{name}\0")?);
+    }
     Ok(format!(in alloc; "{name}:")?)
 }
 
@@ -92,12 +101,16 @@ pub fn prefix(alloc: Global, show: &Show, number: u64) -> Result<String>
     Ok(format!(in alloc; "{name}{number}")?)
 }
 
-/// Returns the name of a file, or nothing if no line of it was taken.
-fn file_end(alloc: Global, name: &str, count: u64) -> Result<String>
-    ensures { IfOk result (λ shown. string_bytes shown ≡ file_shown name.now count) }
+/// Returns the name of the file and a line feed or a NUL, or nothing if it is not wanted.
+fn file_end(alloc: Global, show: &Show, is_wanted: bool) -> Result<String>
+    ensures { IfOk result (λ shown. string_bytes shown ≡ file_shown show.now is_wanted) }
 {
-    if count == 0 {
+    if !is_wanted {
         return Ok(String::new(alloc));
+    }
+    let name = &show.name;
+    if show.flags.null {
+        return Ok(format!(in alloc; "{name}\0")?);
     }
     Ok(format!(in alloc; "{name}\n")?)
 }
@@ -114,13 +127,15 @@ fn count_end(alloc: Global, show: &Show, count: u64) -> Result<String>
 }
 
 /// Returns what is printed at the end of a file: nothing, its name, or the count.
-pub fn file_shown(alloc: Global, show: &Show, count: u64) -> Result<String>
+pub fn end_of(alloc: Global, show: &Show, count: u64) -> Result<String>
     ensures { IfOk result (λ shown. string_bytes shown ≡ end_shown show.now count) }
 {
     if show.flags.quiet {
         Ok(String::new(alloc))
     } else if show.flags.names {
-        file_end(alloc, show.name.as_str(), count)
+        file_end(alloc, show, count != 0)
+    } else if show.flags.missing {
+        file_end(alloc, show, count == 0)
     } else {
         count_end(alloc, show, count)
     }
