@@ -3,7 +3,7 @@
 #     tools/dist.sh FOLDER [--clean-root]
 # In FOLDER are then, for Linux on x86-64-v2: a tarball with the library for C (archive, shared library, headers, files
 # for pkg-config and CMake, a manual page, guides, licences, and BUILD, which says of what it was made); the Debian
-# packages liblazydfa1, liblazydfa-dev, lgrep (the example grep) and, if the server's headers are there,
+# packages liblazydfa1, liblazydfa-dev, lgrep (a grep) and, if the server's headers are there,
 # postgresql-15-lazydfa; the Rust crate with the archive in it; the Python package; and SHA256SUMS. Equal commits and
 # archives give equal bytes: times are those of the commit.
 #
@@ -35,12 +35,11 @@ filled() { # TEMPLATE
     sed "s/@VERSION@/$version/g; s/@ABI@/$abi/g" "$tools/dist/$1"
 }
 
-# Writes a manual page with this text from standard input.
+# Writes a manual page with this description from standard input.
 manual() { # NAME SECTION SHORT
     printf '.TH %s %s %s "lazydfa %s"\n.SH NAME\n%s \\- %s\n' "${1^^}" "$2" "$date" "$version" "$1" "$3"
-    printf '.SH DESCRIPTION\n.nf\n'
-    sed -e 's/\\/\\e/g' -e "s/^[.']/\\\\\&&/"
-    printf '.fi\n'
+    printf '.SH DESCRIPTION\n'
+    cat
 }
 
 # Gives all files of a folder the time of the commit.
@@ -94,7 +93,8 @@ make_tarball() {
     install_documents "$root/share/doc/lazydfa"
     filled README.in >"$root/README"
     mkdir -p "$root/share/man/man3"
-    sed -n '1,/\*\//p' "$header" | sed -e 's|^/\* ||' -e 's|^ \*/\?||' |
+    sed -n '1,/\*\//p' "$header" | sed -e 's|^/\* ||' -e 's|^ \*/\?||' -e 's/\\/\\e/g' |
+        sed -e "s/^[.']/\\\\\&&/" -e '1i .nf' -e '$a .fi' |
         manual lazydfa 3 'regular expressions by a lazy DFA' | gzip -9n >"$root/share/man/man3/lazydfa.3.gz"
     (cd "$root" && find . -type f | sort | xargs sha256sum) >"$room/sums"
     mv "$room/sums" "$root/SHA256SUMS"
@@ -105,8 +105,9 @@ make_program() {
     mkdir -p "$room/lgrep"
     strip -o "$room/lgrep/lgrep" "$program"
     chmod 755 "$room/lgrep/lgrep"
-    sed -n 's|^//! \?||p' "$top/crates/example_grep/src/main.rt" | sed -e '/^|---/d' -e 's/example_grep/lgrep/g' |
+    sed -n 's|^//! \?||p' "$top/crates/lgrep/src/main.rt" | awk -f "$tools/dist/manual.awk" |
         manual lgrep 1 'print the lines of files that patterns match' | gzip -9n >"$room/lgrep/lgrep.1.gz"
+    cp "$tools"/dist/completions/* "$room/lgrep"
 }
 
 make_crate() {
@@ -136,7 +137,7 @@ else
     archive=$top/crates/lazydfa_c/out/liblazydfa_c.a
     proved=yes
 fi
-program=${PROGRAM:-$top/crates/example_grep/out/example_grep}
+program=${PROGRAM:-$top/crates/lgrep/out/lgrep}
 build_library
 make_tarball
 make_crate

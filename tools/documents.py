@@ -102,7 +102,7 @@ def below(folder, ending):
 
 def docstring_faults():
     """Returns which examples of docstrings stand in no example crate."""
-    crates = [it for it in sorted(os.listdir(f"{TOP}/crates")) if it.startswith("example")]
+    crates = ["examples", "lgrep"]
     sources = [bare(read(path).split("\n")) for it in crates for path in below(f"crates/{it}/src", ".rt")]
     faults = []
     for path in [it for crate in DOCSTRINGS for it in below(f"crates/{crate}/src", ".rt")]:

@@ -1,14 +1,15 @@
 #!/usr/bin/env python3
-"""Compares the output and the status of `example_grep` with those of `grep -E`:
+"""Compares the output and the status of `lgrep` with those of GNU grep:
 
     tools/grep_test.py [--program FILE] ['N passed, M failed']
 
 The program is the one that `rt ci` or `rt run` left in the crate's out/, unless another is named. The texts are
 documents of this repository, and short ones: with an empty line and no line feed at the end, binary ones, and a folder
-with files, folders, links and a pipe. The output of `--which` is compared with that of one `grep -nE` for each pattern,
-and the counts of `--stats` with those of `grep -c`. A line that is too long for `grep` is searched in little memory. If
-`grep` is not installed, nothing is compared. The last line counts these tests, added to those that the given line
-counts.
+with files, folders, links and a pipe. `grep` has the flag `-E`, unless a call names another kind of patterns. The
+output of `--which` is compared with that of one `grep -nE` for each pattern, and the counts of `--stats` with those of
+`grep -c`. A line that is too long for `grep` is searched in little memory. If `grep` is not installed, nothing is
+compared. The flags of `--help`, of the manual in src/main.rt and of the completions in tools/dist have to be the same,
+and the completion of bash is run. The last line counts these tests, added to those that the given line counts.
 """
 import argparse
 import os
@@ -37,6 +38,11 @@ TEXTS = {
     "tree/a/.hidden": b"hidden lazy\n",
     "tree/a/0": b"lazy\0\n",
     "tree/other": b"nothing\n",
+    # What words, literals and languages of words are tried on.
+    "words": "foo-bar\nfoobar\n_foo\nfoo_ (foo)\nfoo\n\nfoo.bar\nFOO 1\n-x;\n\u00dcber \u00fcber\n".encode(),
+    "code/a.c": b"// TODO: foo.bar\nint main(void) {\n    foo(1);\n    return foo;\n}\n",
+    "code/sub/b.py": b"def foo():\n    # TODO\n    pass\nfoo\n",
+    "crlf": b"a foo\r\nfoo\r\nfoo\n",
 }
 LINKS = {"tree/link": "../short", "tree/loop": "a", "linked": "tree"}
 INPUT = "a lazy line\nanother\n"
@@ -116,15 +122,146 @@ CALLS = [
     ["-r", "lazy", "-"],
     ["-rq", "lazy", "tree"],
     ["-rq", "no such", "tree"],
+    # Words, lines and literals.
+    ["-w", "foo", "words"],
+    ["-nw", "foo|foo_", "words"],
+    ["-wo", "foo|foob", "words"],
+    ["-x", "foo", "words"],
+    ["-x", "foo|bar|FOO.*", "words"],
+    ["-xw", "foo", "words"],
+    ["-vx", "foo|", "words"],
+    ["-F", "foo.bar", "words"],
+    ["-Fi", "FOO.", "words"],
+    ["-Fx", "(foo)", "words"],
+    ["-Fw", "(foo)", "words"],
+    ["-Fo", "--", "-bar", "words"],
+    ["-F", "-e", "-x;", "-e", "(foo", "words"],
+    ["-Ff", "patterns", "patterns"],
+    ["-F", "\\<", "words"],
+    ["-F", "foo\nFOO", "words"],
+    ["foo.b\n^-x", "words"],
+    ["-e", "", "-c", "words"],
+    ["-y", "foo", "words"],
+    ["-i", "--no-ignore-case", "foo", "words"],
+    ["-i", "\u00dcBER", "words"],
+    ["-x", "a)(b", "words"],
+    ["-P", "fo+\\(\\d\\)", "code/a.c"],
+    # Files without a line, limits, messages and names.
+    ["-L", "foo", "words", "short"],
+    ["-L", "foo", "words"],
+    ["-Lv", "foo", "words", "short"],
+    ["-lL", "foo", "words", "short"],
+    ["-Ll", "foo", "words", "short"],
+    ["-Lc", "foo", "words", "short"],
+    ["-L", "foo", "tree", "short"],
+    ["-rL", "lazy", "tree"],
+    ["-qL", "foo", "words"],
+    ["-m1", "foo", "words"],
+    ["-m", "2", "-n", "foo", "words", "code/a.c"],
+    ["-cm2", "foo", "words", "short"],
+    ["-vm3", "foo", "words"],
+    ["-om2", "o", "words"],
+    ["-m0", "foo", "words"],
+    ["-m0", "foo", "no such file"],
+    ["-m0", "-L", "foo", "words", "short"],
+    ["-m1", "-l", "foo", "words", "short"],
+    ["-m1", "lazy", "binary"],
+    ["-m99999999999", "foo", "words"],
+    ["-m", "many", "foo", "words"],
+    ["-s", "lazy", "no such file", "short"],
+    ["-s", "lazy", "tree", "short"],
+    ["-qs", "lazy", "no such file", "short"],
+    ["-I", "lazy", "binary", "short", "ends"],
+    ["-Ic", "lazy", "binary", "short", "ends"],
+    ["-IL", "lazy", "binary", "short"],
+    ["-Il", "lazy", "binary", "short"],
+    ["-Iv", "lazy", "late"],
+    ["-Iq", "lazy", "binary"],
+    ["--binary-files=text", "lazy", "binary"],
+    ["--binary-files=without-match", "lazy", "binary", "short"],
+    ["--binary-files=other", "lazy", "binary"],
+    ["-Zl", "lazy", "short", "README.md"],
+    ["-ZL", "foo", "short", "README.md"],
+    ["-Zn", "lazy", "short", "patterns"],
+    ["-Zc", "lazy", "short", "patterns"],
+    ["-Zo", "lazy", "short"],
+    ["-ZHm1", "lazy", "short"],
+    # Long flags.
+    ["--line-number", "--with-filename", "lazy", "short"],
+    ["--ignore-case", "--only-matching", "--no-filename", "LAZY", "short", "patterns"],
+    ["--count", "--invert-match", "lazy", "short"],
+    ["--files-with-matches", "--null", "lazy", "short", "patterns"],
+    ["--files-without-match", "foo", "short"],
+    ["--quiet", "lazy", "short"],
+    ["--silent", "lazy", "short"],
+    ["--regexp=lazy", "--regexp", "two", "short"],
+    ["--regexp=a=b", "short"],
+    ["--file=patterns", "--no-messages", "short", "no such file"],
+    ["--file", "patterns", "short"],
+    ["--max-count=1", "lazy", "short"],
+    ["--max-count", "1", "lazy", "short"],
+    ["--text", "--word-regexp", "lazy", "binary"],
+    ["--line-regexp", "--fixed-strings", "foo", "words"],
+    ["--extended-regexp", "fo+", "words"],
+    ["--line-buffered", "-U", "--binary", "foo", "words"],
+    ["--count=1", "foo", "words"],
+    ["foo", "words", "--max-count"],
+    ["--color=auto", "foo", "words"],
+    ["--colour", "foo", "words"],
+    ["--color=never", "foo", "words"],
+    # Files and directories by their names.
+    ["-rn", "TODO", "code"],
+    ["-rw", "foo", "code"],
+    ["-rl", "foo", "--include=*.py", "."],
+    ["-r", "TODO", "--include=*.py", "code"],
+    ["-r", "TODO", "--include=*.c", "--include", "?.py", "code"],
+    ["-r", "TODO", "--exclude=*.c", "code"],
+    ["-r", "TODO", "--exclude=a*c", "--include=*.c", "code"],
+    ["-r", "TODO", "--include=*.c", "--exclude=a.c", "code"],
+    ["-r", "TODO", "--include=*.txt", "code"],
+    ["-r", "TODO", "--include=*.[ch]", "code"],
+    ["-r", "TODO", "--include=[!ac-z]*", "code"],
+    ["-r", "TODO", "--include=[^a]*", "code"],
+    ["-r", "TODO", "--exclude=[a-c].[]c]", "code"],
+    ["-r", "TODO", "--exclude=\\a.c", "--exclude=\\*.py", "code"],
+    ["-r", "TODO", "--include=code*", "code"],
+    ["-r", "TODO", "--exclude-dir=sub", "code"],
+    ["-r", "TODO", "--exclude-dir=sub/", "code/sub", "code/a.c"],
+    ["-r", "TODO", "--exclude-dir=s?b", "--exclude=*.txt", "."],
+    ["-r", "TODO", "--exclude-dir=code", "."],
+    ["-rc", "TODO", "--exclude-dir=code", "code"],
+    ["-rR", "TODO", "--exclude-dir=co", "code"],
+    ["foo", "--include=*.py", "code/a.c", "code/sub/b.py", "-"],
+    ["foo", "--exclude=sub/*", "code/a.c", "code/sub/b.py"],
+    ["foo", "--exclude=b.py", "code/a.c", "code/sub/b.py"],
+    ["foo", "--exclude=code/*", "code/a.c", "code/sub/b.py"],
+    ["--exclude-dir=tree", "lazy", "tree", "short"],
+    ["-r", "lazy", "--include=.*", "tree"],
+    ["-r", "lazy", "--exclude=*", "tree"],
+    ["foo$", "crlf"],
+    ["[[:alpha:]]+", "code/sub/b.py"],
 ]
-# The files below `tree` that have a match, in the order of names in which `example_grep` searches them.
+# The files below `tree` that have a match, in the order of names in which `lgrep` searches them.
 ORDER = b"tree/a/.hidden\ntree/a/0\ntree/a/z\ntree/b\ntree/b.txt\n"
 LONG = 100 << 20
+# What has all flags, besides the text of `--help`: the manual, and the completions of bash, zsh and fish.
+COMPLETIONS = "tools/dist/completions"
+FLAGGED = ["crates/lgrep/src/main.rt", *(f"{COMPLETIONS}/{it}" for it in ("lgrep.bash", "_lgrep", "lgrep.fish"))]
+# Where the flags begin and end in these files.
+BOUNDS = dict(zip(FLAGGED, [("# Flags", "# Patterns"), ('_lgrep_flags="', '"\n\ncomplete'), ("-s -S :", "'1:pattern")]))
+# What bash completes, by the last word.
+COMPLETED = {
+    "--inc": b"--include\n",
+    "a": b"auto\n",
+    "--exclude-d": b"--exclude-dir\n",
+    "sho": b"short\n",
+}
 
 
 def write_texts(room):
     """Writes the texts, the links and the pipe."""
-    os.makedirs(f"{room}/tree/a")
+    for folder in ("tree/a", "code/sub"):
+        os.makedirs(f"{room}/{folder}")
     for name, text in TEXTS.items():
         with open(f"{room}/{name}", "wb") as it:
             it.write(text)
@@ -145,6 +282,12 @@ def run(words, folder, limit=None):
         ran = subprocess.run(words, cwd=folder, stdin=given, capture_output=True, preexec_fn=in_limit,
                              env={**os.environ, "LC_ALL": "C.UTF-8"})
     return ran.returncode, ran.stdout, ran.stderr
+
+
+def reference(call):
+    """Returns the call of `grep`: with `-E`, unless the arguments have another kind of patterns."""
+    kinds = [it for it in call if re.match(r"-[a-zA-Z]*[EFP]|--(fixed|extended|perl)-", it)]
+    return ["grep", *["-E"][:not kinds], *call]
 
 
 def compared(found, call):
@@ -169,8 +312,69 @@ def which(room, name):
     return b"".join(shown[at] + lines[at] + b"\n" for at in sorted(lines))
 
 
+def text(name):
+    """Returns a text of this repository."""
+    with open(f"{TOP}/{name}", encoding="utf-8") as it:
+        return it.read()
+
+
+def version():
+    """Returns the version of the library."""
+    return re.search(r'^#define LAZYDFA_VERSION "(.*)"$', text("bindings/c/include/lazydfa.h"), re.M)[1]
+
+
+def spelled(content):
+    """Returns the flags that are spelled in a text."""
+    return set(re.findall(r"(?<![\w-])(-[A-Za-z](?![\w-])|--[a-z][a-z-]*[a-z])", content))
+
+
+def flags_in(name):
+    """Returns the flags in a file of FLAGGED: of the manual the lists of flags are read."""
+    content = text(name)
+    if name.endswith(".fish"):
+        return {"-" + it.replace("l ", "-").replace("s ", "") for it in re.findall(r" -(s \w|l \S+)", content)}
+    begin, end = BOUNDS[name]
+    section = content[content.index(begin) + len(begin) : content.index(end)]
+    lines = [it for it in section.splitlines() if not it.startswith("//!") or it.startswith("//!     ")]
+    return spelled("\n".join(lines))
+
+
+def completed(room, words):
+    """Returns what bash completes after these words, the last of which is not complete."""
+    script = f'. {TOP}/{FLAGGED[1]}; COMP_WORDS=(lgrep "$@"); COMP_CWORD=$#; _lgrep; printf "%s\\n" "${{COMPREPLY[@]}}"'
+    return run(["bash", "-c", script, "bash", *words], room)[1]
+
+
+def in_terminal(words, folder):
+    """Returns what a program prints whose standard input is a terminal."""
+    ours, its = os.openpty()
+    ran = subprocess.run(words, cwd=folder, stdin=its, capture_output=True, timeout=60)
+    os.close(ours)
+    os.close(its)
+    return ran.stdout
+
+
 def own(program, room):
-    """Tests what `grep` has no flag for: returns for each call its name, its result, and the expected one."""
+    """Tests what `grep` has no flag for, or does in another way: returns for each call its name, its result, and the
+    expected one."""
+    yield "--version", run([program, "-V"], room), (0, f"lgrep {version()}\n".encode(), b"")
+    helped = run([program, "-n", "--help"], room)
+    yield "--help", (helped[0], helped[2]), (0, b"")
+    for flag in ("-T", "--no-such", "-nA1"):
+        said = f"lgrep: no flag {flag.replace('nA1', 'A')}; see lgrep --help\n".encode()
+        yield flag, run([program, flag, "lazy", "short"], room), (2, b"", said)
+    said = b"lgrep: --color=always is not supported: lgrep prints no colors\n"
+    yield "--color=always", run([program, "--color=always", "lazy", "short"], room), (2, b"", said)
+    yield "-F -E", run([program, "-cF", "-E", "foo|FOO", "words"], room)[1], b"7\n"
+    yield "-w beside other letters", run([program, "-ow", "ber", "words"], room)[1], b"ber\nber\n"
+    manual = flags_in(FLAGGED[0])
+    yield "the flags of --help are in the manual", spelled(helped[1].decode()) - manual, set()
+    for name in FLAGGED[1:]:
+        yield f"the flags of {name}", flags_in(name) ^ manual, set()
+    for words in (["--inc"], ["--color", "=", "a"], ["-r", "--exclude-d"], ["-f", "sho"], ["lazy", "sho"]):
+        yield f"bash completes {' '.join(words)}", completed(room, words), COMPLETED[words[-1]]
+    terminal = in_terminal([program, "-l", "lazy"], f"{room}/tree")
+    yield "a terminal", terminal, b"a/.hidden\na/0\na/z\nb\nb.txt\n"
     yield "-rl lazy tree, in order", run([program, "-rl", "lazy", "tree"], room)[1], ORDER
     files = ["README.md", "short", "LICENSE-MIT"]
     found = run([program, "-nf", "six", "--which", *files], room)
@@ -197,7 +401,7 @@ def own(program, room):
 
 def main(words):
     parser = argparse.ArgumentParser()
-    parser.add_argument("--program", default=f"{TOP}/crates/example_grep/out/example_grep")
+    parser.add_argument("--program", default=f"{TOP}/crates/lgrep/out/lgrep")
     parser.add_argument("counted", nargs="?", default="0 passed, 0 failed")
     given = parser.parse_args(words)
     counted = re.fullmatch(r"(\d+) passed, (\d+) failed", given.counted)
@@ -207,10 +411,10 @@ def main(words):
         write_texts(room)
         rows = []
         for call in CALLS if shutil.which("grep") else []:
-            found, wanted = (compared(run([*it, *call], room), call) for it in ([program], ["grep", "-E"]))
-            rows.append((" ".join(call), found, wanted))
+            found, wanted = (compared(run(it, room), call) for it in ([program, *call], reference(call)))
+            rows.append((" ".join(call).replace("\n", "\\n"), found, wanted))
         for call, found, wanted in [*rows, *(own(program, room) if rows else [])]:
-            print(f"example_grep {call}: {'passed' if found == wanted else f'{found}, and not {wanted}'}")
+            print(f"lgrep {call}: {'passed' if found == wanted else f'{found}, and not {wanted}'}")
             passed, failed = passed + (found == wanted), failed + (found != wanted)
     print(f"{passed} passed, {failed} failed")
     return 1 if failed else 0

@@ -18,7 +18,7 @@ from libraries import KIT, TOP, crates_used, text
 BUILT = {
     "lazydfa_c": "the library for C, the Rust crate and the extension for PostgreSQL",
     "lazydfa": "the program `lazydfa`",
-    "example_grep": "the program `example_grep`",
+    "lgrep": "the program `lgrep`",
     "examples": "the example programs",
 }
 HEAD = """# Licences of code from elsewhere

@@ -28,7 +28,7 @@ from unproved import build
 # The memory for a part, in kB: builds took at most 0.9 GB.
 ROOM = 1 << 20
 # The gate's tests of a program, which can run another program in place of the proved one.
-TESTS_OF = {"example_grep": "grep_test.py", "examples": "examples_test.py", "lazydfa": "script_test.py"}
+TESTS_OF = {"lgrep": "grep_test.py", "examples": "examples_test.py", "lazydfa": "script_test.py"}
 # A program that is not proved may take all memory, or run forever.
 LIMITED = ["sh", "-c", 'ulimit -c 0; ulimit -v 8000000; exec "$@"', ""]
 SECONDS = 300

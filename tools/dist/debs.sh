@@ -83,6 +83,9 @@ package_program() {
     mkdir -p "$it/usr/bin" "$it/usr/share/man/man1"
     cp "$room/lgrep/lgrep" "$it/usr/bin"
     cp "$room/lgrep/lgrep.1.gz" "$it/usr/share/man/man1"
+    install -D -m 644 "$room/lgrep/lgrep.bash" "$it/usr/share/bash-completion/completions/lgrep"
+    install -D -m 644 "$room/lgrep/_lgrep" "$it/usr/share/zsh/vendor-completions/_lgrep"
+    install -D -m 644 "$room/lgrep/lgrep.fish" "$it/usr/share/fish/vendor_completions.d/lgrep.fish"
     finish lgrep utils "libc6" "print the lines of files that patterns match" <<END
 The syntax of patterns is that of the Rust crate regex. It searches for many
 patterns at once, in time linear in the text.
@@ -98,7 +101,7 @@ package_extension() {
     cp "$staged$libdir/liblazydfa.a" "$room/library/lib"
     begin postgresql-15-lazydfa
     for goal in all install; do
-        make -s -C "$room/extension" "$goal" LAZYDFA="$room/library" DESTDIR="$it" \
+        env -u PROGRAM make -s -C "$room/extension" "$goal" LAZYDFA="$room/library" DESTDIR="$it" \
             COPT="-ffile-prefix-map=$room=." >"$room/log" 2>&1 || { cat "$room/log" >&2; return 1; }
     done
     strip --strip-unneeded "$it/usr/lib/postgresql/15/lib/lazydfa.so"

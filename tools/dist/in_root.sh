@@ -96,6 +96,8 @@ use_program() {
     printf 'a lazy dog\nan eager one\n' >lines
     prints "lgrep" "1:a lazy dog" lgrep -n 'la\w+ ' lines
     prints "the manual of lgrep" "" test -s /usr/share/man/man1/lgrep.1.gz
+    prints "the completion of lgrep" "--include" bash -c '. /usr/share/bash-completion/completions/lgrep
+        COMP_WORDS=(lgrep --inc) COMP_CWORD=1; _lgrep; echo "${COMPREPLY[@]}"'
 }
 
 as_postgres() {

@@ -1,10 +1,10 @@
 #!/usr/bin/env python3
-"""Measures `example_grep`, `grep` and, if it is installed, ripgrep, with one thread:
+"""Measures `lgrep`, `grep` and, if it is installed, ripgrep, with one thread:
 
     tools/measure/grep.py [--program FILE] [MIB]
 
 The text is a log of this many MiB (100 by default) of random lines, each with a time, a level, eight words of
-LICENSE-APACHE and a number. The program is the one that `rt run` or `rt ci` left in crates/example_grep/out, unless
+LICENSE-APACHE and a number. The program is the one that `rt run` or `rt ci` left in crates/lgrep/out, unless
 another is named. For each program it prints the least of three processor times in user mode, the programs in turn, or
 the only time of a call that takes half a minute, and stops if two programs print different results. With `--which` the
 program is measured alone: without the numbers, its output must equal its output without `--which`.
@@ -81,18 +81,18 @@ def show(work, times):
 
 def main(words):
     parser = argparse.ArgumentParser()
-    parser.add_argument("--program", default=f"{TOP}/crates/example_grep/out/example_grep")
+    parser.add_argument("--program", default=f"{TOP}/crates/lgrep/out/lgrep")
     parser.add_argument("mib", nargs="?", type=int, default=100)
     given = parser.parse_args(words)
     own = os.path.abspath(given.program)
     with tempfile.TemporaryDirectory(prefix="grep-") as room:
         write_log(f"{room}/log", given.mib << 20)
-        programs = {"example_grep": [own], "grep": ["grep"]}
+        programs = {"lgrep": [own], "grep": ["grep"]}
         if shutil.which("rg"):
             programs["rg"] = ["rg", "-j1", "-N", "-a", "--no-filename", "--include-zero"]
         for work, (flags, pattern) in WORKS.items():
             fixed = pattern is None
-            kinds = {"example_grep": [], "grep": ["-F" if fixed else "-E"], "rg": ["-F"] if fixed else []}
+            kinds = {"lgrep": [], "grep": ["-F" if fixed else "-E"], "rg": ["-F"] if fixed else []}
             asked = [*flags, *([pattern] if pattern else []), "log"]
             times, sums = best({name: [*program, *kinds[name], *asked] for name, program in programs.items()}, room)
             if len(set(sums.values())) > 1:
@@ -100,7 +100,7 @@ def main(words):
             show(work, times)
         for name in ("words", "rules"):
             which = [own, "--which", "-f", name, "log"]
-            show(f"1,000 {name}, which", best({"example_grep": which}, room)[0])
+            show(f"1,000 {name}, which", best({"lgrep": which}, room)[0])
             lines = re.sub(rb"(?m)^[0-9,]+:", b"", measured(which, room)[1])
             if lines != measured([own, "-f", name, "log"], room)[1]:
                 sys.exit(f"{name}: other lines")

@@ -1,5 +1,0 @@
-use Rattle.regex_automata.specs.Promises.{KindAll}
-use Rattle.example_grep.proofs.build.test_utf8.Goals as goal
-
-pub returns : goal.returns
-returns c = c.in_ok-keeps_utf8.ensures.keeps c.if-not-branch.false KindAll

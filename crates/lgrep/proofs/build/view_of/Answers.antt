@@ -1,0 +1,37 @@
+use Rattle.std.proofs.Common.{subst, sym}
+use Rattle.automata_base.specs.Nfas.Nodes.{Automaton}
+use Rattle.patterns.specs.Patterns.{IsJoinedNfa}
+use Rattle.lgrep.specs.Built.{IsViewBuilt}
+use Rattle.lgrep.specs.Greps.{IsViewFor}
+use Rattle.lgrep.specs.Lines.{bytewise}
+use Rattle.lgrep.specs.declared.show.How.{How}
+use Rattle.lgrep.specs.declared.view.View.TheVariants as view
+use Rattle.lgrep.proofs.build.view_of.Goals as goal
+
+pub returns-in_ok-spans-in-Matches-clause-meant : goal.returns-in_ok-spans-in-Matches-clause-meant
+returns-in_ok-spans-in-Matches-clause-meant c = λ res is.
+    subst (λ (h : How). IsViewFor c.args.case_insensitive h res (view.Matches c.in_ok-spans-in-Matches.spans))
+    (sym c.in-Matches.is)
+    (c.in_ok-spans-in-Matches.ensures.meant res
+    (subst (λ (a : Automaton). IsJoinedNfa (bytewise c.args.case_insensitive) res a)
+    (sym c.in_ok-copy-in-Matches.ensures.cases) is))
+
+pub returns-in_ok-sets-in-Which-clause-meant : goal.returns-in_ok-sets-in-Which-clause-meant
+returns-in_ok-sets-in-Which-clause-meant c = λ res is.
+    subst (λ (h : How). IsViewFor c.args.case_insensitive h res (view.Which c.in_ok-sets-in-Which.sets))
+    (sym c.in-Which.is)
+    (c.in_ok-sets-in-Which.ensures.meant c.args.case_insensitive res
+    (subst (λ (a : Automaton). IsJoinedNfa (bytewise c.args.case_insensitive) res a)
+    (sym c.in_ok-copy-in-Which.ensures.cases) is))
+
+pub returns-in_ok-spans-in-Matches-clause-built : goal.returns-in_ok-spans-in-Matches-clause-built
+returns-in_ok-spans-in-Matches-clause-built c =
+    subst (λ (a : Automaton). IsViewBuilt c.args.case_insensitive c.args.capacity a
+    (view.Matches c.in_ok-spans-in-Matches.spans)) c.in_ok-copy-in-Matches.ensures.cases
+    c.in_ok-spans-in-Matches.ensures.built
+
+pub returns-in_ok-sets-in-Which-clause-built : goal.returns-in_ok-sets-in-Which-clause-built
+returns-in_ok-sets-in-Which-clause-built c =
+    subst (λ (a : Automaton). IsViewBuilt c.args.case_insensitive c.args.capacity a
+    (view.Which c.in_ok-sets-in-Which.sets)) c.in_ok-copy-in-Which.ensures.cases
+    c.in_ok-sets-in-Which.ensures.built

@@ -1,0 +1,51 @@
+-- What a grep searches for, and what a search of a text adds to what is printed.
+use Rattle.std.specs.Prelude.{ℕ, ◌≡◌, Bool, List, ◌++◌}
+use Rattle.regex_hir.specs.Re.{Re}
+use Rattle.meaning.specs.Patterns.{HasPart}
+use Rattle.patterns.specs.Patterns.{IsRegexOf}
+use Rattle.patterns.specs.Sets.{IsDfaOf}
+use Rattle.lgrep.specs.Lines.{AreMatching, IsSearcherFor, IsWanted, bytewise, count_after, first_lines, lines}
+use Rattle.lgrep.specs.Lines.{numbered}
+use Rattle.lgrep.specs.Shown.{lines_shown}
+use Rattle.lgrep.specs.declared.search.Grep.{Grep}
+use Rattle.lgrep.specs.declared.show.How.{How}
+use Rattle.lgrep.specs.declared.show.How.TheVariants as how
+use Rattle.lgrep.specs.declared.view.View.{View}
+use Rattle.lgrep.specs.declared.view.View.TheVariants as view
+
+-- the searcher for what is shown of lines is for patterns with these meanings
+abbrev pub IsViewFor : (case_insensitive : Bool) → How → List Re → View → Type 0
+IsViewFor case_insensitive how.Whole res view.Whole = Unit {0}
+IsViewFor case_insensitive how.Matches res (view.Matches s) = IsRegexOf (bytewise case_insensitive) res s.pattern.regex
+IsViewFor case_insensitive how.Which res (view.Which s) = IsDfaOf (bytewise case_insensitive) res s.set.dfa
+IsViewFor case_insensitive how res view = ⊥
+
+-- the searcher for what is shown of lines keeps its patterns
+abbrev pub KeepsView : View → View → Type 0
+KeepsView view.Whole view.Whole = Unit {0}
+KeepsView (view.Matches old) (view.Matches new) = new.pattern ≡ old.pattern
+KeepsView (view.Which old) (view.Which new) = new.set ≡ old.set
+KeepsView old new = ⊥
+
+-- a grep searches only for patterns with these meanings
+abbrev pub IsGrepFor : (case_insensitive : Bool) → List Re → Grep → Type 0
+IsGrepFor case_insensitive res grep =
+    IsSearcherFor case_insensitive res grep.lines.dfa
+    × IsViewFor case_insensitive grep.show.flags.how res grep.view
+
+-- what searching the lines of a text adds
+pub record ShowsLines (res : List Re) (text : List ℕ) (old new : Grep) : Type 0 where
+  -- the lines in which some part is a match of some pattern, or with `-v` the others, with their numbers
+  pub wanted : List (ℕ × List ℕ)
+  -- they are all such lines, in order
+  pub matching :
+      AreMatching (λ line. IsWanted old.show.flags.invert (HasPart res line.1))
+      (numbered old.lines.searched (lines text)) wanted
+  -- the lines that are found
+  pub found : List (ℕ × List ℕ)
+  -- they are all of these or, with `-m`, the first ones, up to that many of a file
+  pub first : found ≡ first_lines old.show.flags.max old.count wanted
+  -- they are shown
+  pub shown : new.shown.items ≡ old.shown.items ++ lines_shown old.show res found
+  -- they are counted
+  pub count : new.count ≡ count_after old.count found

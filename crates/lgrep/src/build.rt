@@ -1,0 +1,179 @@
+//! Builds the searchers for the patterns: their NFA, and what is built from it.
+ghost use Rattle.std.specs.Prelude.{◌≡◌, Bool, List, IfOk, OnOk, map};
+ghost use Rattle.regex_hir.specs.Re.{Re};
+ghost use Rattle.automata_base.specs.Answers.TruePairs.{KeepsUtf8};
+ghost use Rattle.automata_config.specs.Options.{overwritten, unset};
+ghost use Rattle.automata_hybrid.specs.Machines.Builds.{Builds};
+ghost use Rattle.regex_automata.specs.Promises.{Forward, KindAll, LeftmostFirst, engine_of};
+ghost use Rattle.regex_automata.specs.Regexes.Builds.{BuildsOne};
+ghost use Rattle.patterns.specs.Patterns.{HasNoLookCycle, IsJoinedNfa, IsNfaOf, IsRegexOf, settings_with};
+ghost use Rattle.patterns.specs.Sets.{IsDfaOf};
+ghost use Rattle.lgrep.specs.Lines.{bytewise};
+ghost use Rattle.lgrep.specs.Built.{IsGrepBuilt, IsViewBuilt, grep_settings};
+ghost use Rattle.lgrep.specs.Greps.{IsGrepFor, IsViewFor};
+
+use crate::lines::LineSearcher;
+use crate::search::Grep;
+use crate::sets::SetSearcher;
+use crate::show::{How, Show};
+use crate::spans::SpanSearcher;
+use crate::view::View;
+use anyhow::{Result, bail};
+use patterns::{Options, Pattern, PatternError, RegexSet, nfa_of};
+use regex_automata::hybrid::BuildError;
+use regex_automata::hybrid::dfa::{Config, DFA};
+use regex_automata::nfa::thompson::NFA;
+use regex_automata::util::search::MatchKind;
+use std::alloc::Global;
+
+/// Returns the options that patterns are read with: they match bytes, and not only UTF-8.
+pub fn bytewise(case_insensitive: bool) -> Options
+    ensures { result ≡ bytewise case_insensitive }
+{
+    Options {
+        unicode: true,
+        case_insensitive,
+        multi_line: false,
+        dot_matches_new_line: false,
+        crlf: false,
+        swap_greed: false,
+        ignore_whitespace: false,
+        octal: false,
+        utf8: false,
+        ascii: false,
+        size_limit: 10 << 20,
+        nest_limit: 250,
+        cache_capacity: 8 << 20,
+        cache_limit: 256 << 20,
+    }
+}
+
+/// Returns the NFA of the patterns.
+pub fn patterns_nfa(
+    alloc: Global,
+    patterns: &[&str],
+    case_insensitive: bool,
+) -> Result<NFA, PatternError>
+    ensures meant { IfOk result (IsNfaOf (bytewise case_insensitive) (map (λ text. text.now) patterns.now)) }
+    ensures acyclic { IfOk result HasNoLookCycle }
+{
+    let how = bytewise(case_insensitive);
+    nfa_of(alloc, patterns, &how)
+}
+
+/// Returns the settings of a DFA: which matches it reports, and the capacity of its cache, in bytes. A capacity that is
+/// too small is raised to the minimum.
+fn settings(match_kind: MatchKind, capacity: usize) -> Config
+    ensures { result ≡ grep_settings match_kind capacity }
+{
+    DFA::config()
+        .match_kind(match_kind)
+        .cache_capacity(capacity)
+        .skip_cache_capacity_check(true)
+}
+
+/// Builds the DFA of an NFA with these settings.
+fn built(nfa: NFA, config: Config) -> Result<DFA, BuildError>
+    ensures { IfOk result (Builds (overwritten unset config) nfa) }
+{
+    let mut builder = DFA::builder();
+    builder.configure(config);
+    builder.build_from_nfa(nfa)
+}
+
+/// Builds the DFA of an NFA that reports matches of this kind.
+fn dfa_of(nfa: NFA, match_kind: MatchKind, capacity: usize) -> Result<DFA>
+    ensures { IfOk result (Builds (grep_settings match_kind capacity) nfa) }
+{
+    let config = settings(match_kind, capacity);
+    let dfa = built(nfa, config)?;
+    Ok(dfa)
+}
+
+/// Builds the searcher for lines with a match of the patterns of an NFA.
+fn line_searcher(nfa: NFA, capacity: usize) -> Result<LineSearcher>
+    requires { HasNoLookCycle nfa }
+    ensures built { IfOk result (λ s. Builds (grep_settings LeftmostFirst capacity) nfa s.dfa) }
+    ensures searched { IfOk result (λ s. s.searched ≡ 0) }
+{
+    let dfa = dfa_of(nfa, MatchKind::LeftmostFirst, capacity)?;
+    LineSearcher::new(dfa)
+}
+
+/// Builds the searcher for the matches of the patterns of an NFA.
+fn span_searcher(nfa: NFA, case_insensitive: bool, capacity: usize) -> Result<SpanSearcher>
+    ensures meant { IfOk result (λ s. (res : List Re) → IsJoinedNfa (bytewise case_insensitive) res nfa
+        → IsRegexOf (bytewise case_insensitive) res s.pattern.regex) }
+    ensures built { IfOk result (λ s. BuildsOne (settings_with (grep_settings LeftmostFirst capacity)
+        (bytewise case_insensitive)) nfa s.pattern.regex) }
+{
+    let how = bytewise(case_insensitive);
+    let config = settings(MatchKind::LeftmostFirst, capacity);
+    let pattern = Pattern::from_nfa_with(nfa, &how, config)?;
+    let spans = SpanSearcher::new(pattern)?;
+    Ok(spans)
+}
+
+/// Fails if a match might split a UTF-8 encoded character. An NFA outside UTF-8 mode always passes.
+fn test_utf8(nfa: &NFA) -> Result<()>
+    ensures { OnOk result (KeepsUtf8 Forward (engine_of nfa.now KindAll)) }
+{
+    if !nfa.keeps_utf8()? {
+        bail!("a match might split a character");
+    }
+    Ok(())
+}
+
+/// Builds the searcher for the numbers of the patterns that match, for the patterns of an NFA.
+pub fn set_searcher(nfa: NFA, capacity: usize) -> Result<SetSearcher>
+    ensures meant { IfOk result (λ s. (case_insensitive : Bool) (res : List Re)
+        → IsJoinedNfa (bytewise case_insensitive) res nfa → IsDfaOf (bytewise case_insensitive) res s.set.dfa) }
+    ensures built { IfOk result (λ s. Builds (grep_settings KindAll capacity) nfa s.set.dfa) }
+{
+    test_utf8(&nfa)?;
+    let dfa = dfa_of(nfa, MatchKind::All, capacity)?;
+    SetSearcher::new(RegexSet { dfa })
+}
+
+/// Builds the searcher for what is shown of each line.
+fn view_of(nfa: &NFA, how: How, case_insensitive: bool, capacity: usize) -> Result<View>
+    ensures meant { IfOk result (λ view. (res : List Re) → IsJoinedNfa (bytewise case_insensitive) res nfa.now
+        → IsViewFor case_insensitive how res view) }
+    ensures built { IfOk result (IsViewBuilt case_insensitive capacity nfa.now) }
+{
+    match how {
+        How::Whole => Ok(View::Whole),
+        How::Matches => {
+            let copy = nfa.clone()?;
+            let spans = span_searcher(copy, case_insensitive, capacity)?;
+            Ok(View::Matches(spans))
+        }
+        How::Which => {
+            let copy = nfa.clone()?;
+            let sets = set_searcher(copy, capacity)?;
+            Ok(View::Which(sets))
+        }
+    }
+}
+
+/// Builds a grep for the patterns of an NFA, which has searched nothing yet. Each cache has this capacity, in bytes, or
+/// the minimum if that is larger; no byte makes a search quit, and no search gives up.
+pub fn grep_of(
+    alloc: Global,
+    show: Show,
+    nfa: NFA,
+    case_insensitive: bool,
+    capacity: usize,
+) -> Result<Grep>
+    requires { HasNoLookCycle nfa }
+    ensures meant { IfOk result (λ grep. (res : List Re) → IsJoinedNfa (bytewise case_insensitive) res nfa
+        → IsGrepFor case_insensitive res grep) }
+    ensures built { IfOk result (IsGrepBuilt case_insensitive capacity nfa) }
+    ensures show { IfOk result (λ grep. grep.show ≡ show) }
+    ensures searched { IfOk result (λ grep. grep.lines.searched ≡ 0) }
+    ensures count { IfOk result (λ grep. grep.count ≡ 0) }
+{
+    let view = view_of(&nfa, show.flags.how, case_insensitive, capacity)?;
+    let lines = line_searcher(nfa, capacity)?;
+    Ok(Grep::new(alloc, show, lines, view))
+}

@@ -1,0 +1,63 @@
+//! The texts of the patterns, as the flags change them.
+use anyhow::Result;
+use regex_syntax::escape;
+use std::alloc::Global;
+
+/// How the text of a pattern is read.
+#[derive(Clone, Copy)]
+pub struct Wording {
+    /// Whether it is literal.
+    pub fixed: bool,
+    /// Whether a match has to be a whole line.
+    pub lines: bool,
+    /// Whether a match has to begin and end at the bounds of words.
+    pub words: bool,
+    pub case_insensitive: bool,
+}
+
+impl Wording {
+    /// Whether a pattern has its own text.
+    pub fn is_plain(&self) -> bool {
+        !self.lines && !self.words
+    }
+
+    /// Returns the text of a pattern by itself.
+    fn inner(&self, alloc: Global, text: &str) -> Result<String> {
+        if self.fixed {
+            Ok(escape(alloc, text)?)
+        } else {
+            Ok(String::from_str(alloc, text)?)
+        }
+    }
+
+    /// Returns a text around which lines or words have to end. An ASCII letter, a digit and `_` are the characters of
+    /// words.
+    fn bounded(&self, alloc: Global, text: &str) -> Result<String> {
+        if self.lines {
+            Ok(format!(in alloc; "^(?:{text})$")?)
+        } else if self.words {
+            Ok(format!(in alloc; "(?-u:\\b{{start-half}})(?:{text})(?-u:\\b{{end-half}})")?)
+        } else {
+            Ok(String::from_str(alloc, text)?)
+        }
+    }
+
+    /// Returns the texts of patterns by themselves: as they are given, or as literals.
+    pub fn inner_texts(&self, alloc: Global, patterns: &[String]) -> Result<Vec<String>> {
+        let mut texts = Vec::new(alloc);
+        for pattern in patterns {
+            texts.push(self.inner(alloc, pattern.as_str())?)?;
+        }
+        Ok(texts)
+    }
+
+    /// Returns the texts to search for, of which a match has to be a whole line, or to begin and end at the bounds of
+    /// words, if that is asked for.
+    pub fn bounded_texts(&self, alloc: Global, inner: &[String]) -> Result<Vec<String>> {
+        let mut texts = Vec::new(alloc);
+        for text in inner {
+            texts.push(self.bounded(alloc, text.as_str())?)?;
+        }
+        Ok(texts)
+    }
+}

@@ -1,0 +1,65 @@
+//! What is shown of a line that is taken: the line, its matches, or which patterns match it.
+ghost use Rattle.std.specs.Prelude.{◌≡◌, ◌++◌, Bool, List, OnOk};
+ghost use Rattle.regex_hir.specs.Re.{Re};
+ghost use Rattle.lgrep.specs.Greps.{IsViewFor, KeepsView};
+ghost use Rattle.lgrep.specs.Shown.{line_shown};
+ghost use Rattle.lgrep.specs.declared.show.How as how;
+
+use crate::sets::SetSearcher;
+use crate::spans::{SpanSearcher, push_after};
+use crate::stats::Usage;
+use anyhow::Result;
+use std::alloc::Global;
+
+/// The searcher for what is shown of a line that is taken, if that is not the whole line.
+pub enum View {
+    Whole,
+    Matches(SpanSearcher),
+    Which(SetSearcher),
+}
+
+// An owner drops this with one call, so that its proof has no step for each field.
+impl Drop for View {
+    fn drop(self) {
+        match self {
+            View::Whole => {}
+            View::Matches(_spans) => {}
+            View::Which(_sets) => {}
+        }
+    }
+}
+
+impl View {
+    /// Appends what is shown of a line.
+    pub fn push(
+        &mut self,
+        alloc: Global,
+        prefix: &[u8],
+        line: &[u8],
+        shown: &mut Vec<u8>,
+    ) -> Result<()>
+        ensures same { OnOk result (KeepsView self.old self.new) }
+        ensures shown { OnOk result ((case_insensitive : Bool) (asked : how.How) (res : List Re)
+            → IsViewFor case_insensitive asked res self.old
+            → shown.new.items ≡ shown.old.items ++ line_shown asked res prefix.now line.now) }
+    {
+        match self {
+            View::Whole => push_after(prefix, line, shown),
+            View::Matches(spans) => spans.push_matches(prefix, line, shown),
+            View::Which(sets) => sets.push_which(alloc, prefix, line, shown),
+        }
+    }
+
+    /// Returns how the caches were used.
+    pub fn usage(&self) -> Usage {
+        match self {
+            View::Whole => Usage {
+                clears: 0,
+                states: 0,
+                bytes: 0,
+            },
+            View::Matches(spans) => spans.usage(),
+            View::Which(sets) => sets.usage(),
+        }
+    }
+}
