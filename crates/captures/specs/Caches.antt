@@ -5,7 +5,7 @@ use Rattle.regex_automata.specs.Promises.{AreCachesOf}
 use Rattle.captures.specs.declared.cache.Cache.{Cache}
 use Rattle.captures.specs.declared.captures.Captures.{Captures}
 use Rattle.captures.specs.declared.program.Program.{Program}
-use Rattle.captures.specs.declared.regex.CaptureRegex.{CaptureRegex}
+use Rattle.captures.specs.declared.capture_regex.CaptureRegex.{CaptureRegex}
 use Rattle.captures.specs.declared.simulation.Simulation.{Simulation}
 
 -- the memory of a simulation has room for the states of a program, and for its slots after those of group 0

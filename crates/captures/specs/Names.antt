@@ -1,7 +1,7 @@
 -- The names of groups.
 use Rattle.std.specs.Prelude.{ℕ, List, [], Option, Some, None, map, option_map, slice_get, string_bytes}
 use Rattle.captures.specs.declared.program.Program.{Program}
-use Rattle.captures.specs.declared.regex.CaptureRegex.{CaptureRegex}
+use Rattle.captures.specs.declared.capture_regex.CaptureRegex.{CaptureRegex}
 
 -- the names of the groups that a program finds, from group 0 on
 abbrev pub names_of : Option Program → List (Option (List ℕ))

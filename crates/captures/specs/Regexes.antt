@@ -4,7 +4,7 @@ use Rattle.regex_hir.specs.Re.{Re}
 use Rattle.patterns.specs.Patterns.{AreMeanings, IsRegexOf, config_of}
 use Rattle.patterns.specs.declared.compile.Options.{Options}
 use Rattle.captures.specs.Groups.{FindAllGroups}
-use Rattle.captures.specs.declared.regex.CaptureRegex.{CaptureRegex}
+use Rattle.captures.specs.declared.capture_regex.CaptureRegex.{CaptureRegex}
 
 -- the regex searches for what these patterns mean, and finds the groups
 pub record IsCaptureRegexOf (options : Options) (res : List Re) (regex : CaptureRegex) : Type 0 where

@@ -1,8 +1,7 @@
 //! Compiles the programs of patterns.
-ghost use Rattle.std.specs.Prelude.{◌≡◌, ◌⊎◌, [], ◌∷◌, ◌++◌, IfErr, IfOk, OnOk, map, option_map, string_bytes};
+ghost use Rattle.std.specs.Prelude.{◌≡◌, ◌⊎◌, [], ◌∷◌, ◌++◌, IfErr, IfOk, OnOk, map};
 ghost use Rattle.regex_compile.specs.Implements.{Implements};
 ghost use Rattle.regex_hir.specs.Meaning.{meaning};
-ghost use Rattle.regex_syntax.specs.Verdict.{Reads};
 ghost use Rattle.patterns.specs.Faults.{IsFaultOf, IsFirstFault};
 ghost use Rattle.patterns.specs.Patterns.{config_of};
 ghost use Rattle.patterns.specs.declared.error.Fault.TheVariants as fault;
@@ -10,44 +9,10 @@ ghost use Rattle.captures.specs.Programs.{AreProgramsOf, IsProgramOf};
 ghost use Rattle.captures.specs.declared.program.Program.{Program};
 
 use crate::program::Program;
-use patterns::{Fault, Options, PatternError};
+use patterns::{Fault, Options, PatternError, parse};
 use regex_nfa::Nfa;
-use regex_syntax::{Config, Flags, Parsed};
+use regex_syntax::Parsed;
 use std::alloc::Global;
-
-/// Converts the options to the parser's configuration.
-fn config_of(options: &Options) -> Config
-    ensures { result ≡ config_of options.now }
-{
-    Config {
-        flags: Flags {
-            case_insensitive: options.case_insensitive,
-            multi_line: options.multi_line,
-            dot_matches_new_line: options.dot_matches_new_line,
-            swap_greed: options.swap_greed,
-            unicode: options.unicode,
-            crlf: options.crlf,
-            ignore_whitespace: options.ignore_whitespace,
-        },
-        octal: options.octal,
-        utf8: options.utf8,
-        nest_limit: options.nest_limit,
-    }
-}
-
-/// Parses a text with the options.
-fn parse(alloc: Global, text: &str, options: &Options) -> Result<Parsed, Fault>
-    ensures read { IfOk result (λ p.
-        Reads (config_of options.now) text.now p.hir (map (option_map string_bytes) p.names.items)) }
-    ensures refused { IfErr result (IsFaultOf options.now text.now) }
-{
-    let config = config_of(options);
-    match regex_syntax::parse(alloc, text, &config) {
-        Ok(parsed) => Ok(parsed),
-        Err(error) if error.kind == regex_syntax::ErrorKind::OutOfMemory => Err(Fault::OutOfMemory),
-        Err(error) => Err(Fault::Syntax(error)),
-    }
-}
 
 /// Compiles a tree to an NFA.
 fn nfa_of(alloc: Global, parsed: &Parsed, limit: usize) -> Result<Nfa, Fault>

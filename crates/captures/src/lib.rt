@@ -10,17 +10,17 @@
 #![tactic(auto)]
 
 mod cache;
+mod capture_regex;
 mod captures;
 mod compile;
 pub mod laws;
 mod names;
 mod program;
-mod regex;
 mod simulation;
 #[cfg(test)]
 mod tests;
 
 pub use cache::Cache;
+pub use capture_regex::CaptureRegex;
 pub use captures::Captures;
-pub use regex::CaptureRegex;
 pub use simulation::Simulation;

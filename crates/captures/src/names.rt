@@ -3,7 +3,7 @@ ghost use Rattle.std.specs.Prelude.{◌≡◌, ◌↔◌, IsTrue, Some, length, 
 ghost use Rattle.regex.specs.Names.{IsIndexOf};
 ghost use Rattle.captures.specs.Names.{group_names};
 
-use crate::regex::CaptureRegex;
+use crate::capture_regex::CaptureRegex;
 use regex_automata::util::primitives::PatternID;
 
 /// Returns the number of the first group with this name.

@@ -1,6 +1,9 @@
 //! Groups of matches, compared with those that Rust's regex crate reports.
+ghost use Rattle.captures.specs.Caches.{HaveRoomFor, IsCaptureCacheOf};
+
 use super::*;
 use patterns::Options;
+use regex_automata::hybrid::SearchError;
 use std::alloc::Global;
 use std::fmt::Write;
 use std::test::Fail;
@@ -69,5 +72,36 @@ fn each_pattern_has_groups_of_its_own(rt: HostRuntime) -> Result<(), Fail> {
     let pattern = regex_automata::util::primitives::PatternID::new(last).ok_or("no ID")?;
     assert!(rt; regex.group_index(pattern, "last") == Some(2));
     assert!(rt; regex.group_index(pattern, "first").is_none());
+    Ok(())
+}
+
+/// Counts the matches in which a group took part.
+fn count(
+    regex: &CaptureRegex,
+    cache: &mut Cache,
+    captures: &mut Captures,
+    hay: &[u8],
+    group: usize,
+) -> Result<usize, SearchError>
+    requires of { IsCaptureCacheOf cache.old regex.now }
+    requires room { HaveRoomFor captures.old regex.now }
+{
+    let mut count = 0usize;
+    for item in regex.pattern.find_iter(&mut cache.dfas, hay) {
+        let found = item?;
+        regex.groups_of(&mut cache.simulations, hay, &found, captures);
+        count = count.saturating_add(usize::from(captures.get(group).is_some()));
+    }
+    Ok(count)
+}
+
+#[test]
+fn matches_of_an_iteration_have_groups(rt: HostRuntime) -> Result<(), Fail> {
+    let alloc = rt.alloc();
+    let regex = CaptureRegex::new(alloc, r"(\w)=(\d)?", &Options::default())?;
+    let mut cache = regex.create_cache(alloc)?;
+    let mut captures = regex.create_captures(alloc)?;
+    let hay = "a=1 b= c=2".as_bytes();
+    assert_eq!(rt; count(&regex, &mut cache, &mut captures, hay, 2)?, 2);
     Ok(())
 }

@@ -151,7 +151,7 @@ fn config_of(options: &Options) -> Config
 }
 
 /// Parses a text with the options.
-pub(crate) fn parse(alloc: Global, text: &str, options: &Options) -> Result<Parsed, Fault>
+pub fn parse(alloc: Global, text: &str, options: &Options) -> Result<Parsed, Fault>
     ensures read { IfOk result (λ p.
         Reads (config_of options.now) text.now p.hir (map (option_map string_bytes) p.names.items)) }
     ensures formed { IfOk result (λ p. IsWellFormed options.now.utf8 p.hir) }

@@ -28,7 +28,7 @@ mod threads;
 mod translate;
 
 pub use attempts::Misses;
-pub use compile::{Options, nfa_of};
+pub use compile::{Options, nfa_of, parse};
 pub use error::{Fault, PatternError};
 pub use facts::facts_of;
 pub use match_facts::Facts;

@@ -1,7 +1,7 @@
 use Rattle.std.proofs.Common.{map}
 use Rattle.patterns.specs.Patterns.{config_of}
 use Rattle.captures.proofs.Programs.{find_meanings}
-use Rattle.captures.proofs.regex.CaptureRegex.any_of.Goals as goal
+use Rattle.captures.proofs.capture_regex.CaptureRegex.any_of.Goals as goal
 
 pub returns-in-Ok-clause-meant : goal.returns-in-Ok-clause-meant
 returns-in-Ok-clause-meant c =

@@ -3,7 +3,7 @@ use Rattle.std.specs.Prelude.{Ok}
 use Rattle.meaning.specs.Patterns.{find_any}
 use Rattle.patterns.specs.Searches.{IsSpanSearch}
 use Rattle.captures.proofs.Found.{found_preferred, holds_found}
-use Rattle.captures.proofs.regex.CaptureRegex.captures.Goals as goal
+use Rattle.captures.proofs.capture_regex.CaptureRegex.captures.Goals as goal
 
 pub returns-in-Ok-Some-clause-groups : goal.returns-in-Ok-Some-clause-groups
 returns-in-Ok-Some-clause-groups c = λ o res is for.

@@ -12,7 +12,7 @@ use Rattle.captures.specs.Caches.{HasRoomOf}
 use Rattle.captures.specs.declared.program.Program.{Program}
 use Rattle.captures.proofs.Held.{first, held, simulated_match}
 use Rattle.captures.proofs.Rooms.{room_at, rooms_set}
-use Rattle.captures.proofs.regex.CaptureRegex.groups_of.Goals as goal
+use Rattle.captures.proofs.capture_regex.CaptureRegex.groups_of.Goals as goal
 
 are_bytes : (hay : List ℕ) → ((i : ℕ) → get_or hay i 0 < 256) → All (λ b. b < 256) hay
 are_bytes hay fit i d l = subst (λ v. v < 256) (get_or_default hay i 0 d l) (fit i)

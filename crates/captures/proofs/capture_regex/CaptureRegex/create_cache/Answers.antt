@@ -1,7 +1,7 @@
 use Rattle.std.proofs.Common.{List, subst}
 use Rattle.captures.specs.Caches.{AreRoomsOf}
 use Rattle.captures.specs.declared.program.Program.{Program}
-use Rattle.captures.proofs.regex.CaptureRegex.create_cache.Goals as goal
+use Rattle.captures.proofs.capture_regex.CaptureRegex.create_cache.Goals as goal
 
 pub returns-in-Ok : goal.returns-in-Ok
 returns-in-Ok c = (

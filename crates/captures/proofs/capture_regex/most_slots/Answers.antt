@@ -3,8 +3,8 @@ use Rattle.std.proofs.lemmas.List.{take_all}
 use Rattle.std.proofs.lemmas.List.Elements.{All-more, All-weaker}
 use Rattle.captures.specs.Caches.{HaveAtMost}
 use Rattle.captures.specs.declared.program.Program.{Program}
-use Rattle.captures.proofs.regex.most_slots.Goals.{then-program-most, else-program-most}
-use Rattle.captures.proofs.regex.most_slots.Goals as goal
+use Rattle.captures.proofs.capture_regex.most_slots.Goals.{then-program-most, else-program-most}
+use Rattle.captures.proofs.capture_regex.most_slots.Goals as goal
 
 pub loop-program-preserved : goal.loop-program-preserved
 loop-program-preserved c =
