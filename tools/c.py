@@ -4,12 +4,12 @@
     tools/c.py [--archive FILE] ['N passed, M failed']
 
 Every call, with valid and with every kind of invalid arguments (calls.c, texts.c, limits.c, facts.c, pieces.c,
-walks.c); each allocation made to fail in turn (faults.c); the memory that caches take from malloc, compared with what
-they report (memory.c); four threads over one regex (threads.c), under helgrind too if it is installed; the script of
-the program `lazydfa`, run by a C program (script.c), which has to print what `lazydfa` prints; the example grep.c,
-which has to print what `grep -E` prints, if that is installed; and the programs of docs/C.md, which have to print what
-is said there. Each C program is compiled twice, the second time with the address and undefined behaviour sanitizers, if
-the compiler has them.
+walks.c); regexes of texts beside the same without needles (needles.c); each allocation made to fail in turn (faults.c);
+the memory that caches take from malloc, compared with what they report (memory.c); four threads over one regex
+(threads.c), under helgrind too if it is installed; the script of the program `lazydfa`, run by a C program (script.c),
+which has to print what `lazydfa` prints; the example grep.c, which has to print what `grep -E` prints, if that is
+installed; and the programs of docs/C.md, which have to print what is said there. Each C program is compiled twice, the
+second time with the address and undefined behaviour sanitizers, if the compiler has them.
 
 Then the symbols of the archive and of the shared library, programs over the shared library, the version, what is
 installed and removed, calls with arguments in a wrong order, which the compiler must reject, the header in C++ if there
@@ -159,6 +159,7 @@ class Tests:
         self.try_program(f"facts{kind}", f"{C}/tests/facts.c", flags)
         self.try_program(f"pieces{kind}", f"{C}/tests/pieces.c", flags)
         self.try_program(f"walks{kind}", f"{C}/tests/walks.c", flags)
+        self.try_program(f"needles{kind}", f"{C}/tests/needles.c", flags)
         self.try_program(f"faults{kind}", f"{C}/tests/faults.c", [*WRAPPED, *flags])
         self.try_program(f"memory{kind}", f"{C}/tests/memory.c", [*WRAPPED, *flags])
         self.try_program(f"threads{kind}", f"{C}/tests/threads.c", ["-pthread", *flags])

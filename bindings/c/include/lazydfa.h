@@ -842,8 +842,8 @@ static inline lazydfa_status lazydfa_regex_reverse(lazydfa_regex *regex, lazydfa
 /* ---- Sizes ---- */
 
 /* Writes the size of a regex's tables, in bytes: 16 for each state of its forward NFA, and 8 for each byte range of a
-   sparse state. The call visits all states. The larger the tables, the longer a byte can take that needs a new state of
-   the DFA. */
+   sparse state. Needles of texts are not counted. The call visits all states. The larger the tables, the longer a byte
+   can take that needs a new state of the DFA. */
 static inline lazydfa_status lazydfa_regex_size(lazydfa_regex *regex, size_t *size) {
     LAZYDFA_NEED(regex);
     LAZYDFA_NEED(size);
@@ -877,7 +877,11 @@ static inline lazydfa_status lazydfa_cache_usage(lazydfa_cache *cache, lazydfa_u
  * Every search takes a cache and a haystack of `length` bytes; the haystack may be NULL if it has none. A search
  * returns LAZYDFA_OK with a match and LAZYDFA_NONE without one, and writes only with LAZYDFA_OK, unless its comment
  * says otherwise. It fails with LAZYDFA_QUIT, LAZYDFA_GAVE_UP and LAZYDFA_ANCHORED, and with LAZYDFA_NOT_A_PAIR if the
- * regex was built from two NFAs or only searches forward. */
+ * regex was built from two NFAs or only searches forward.
+ *
+ * If all matches of the texts of a regex begin with a literal, or with one of two, lazydfa_find, lazydfa_is_match,
+ * lazydfa_find_end and iterations begin at the first one in the span, unless there are quit bytes. They find what they
+ * would find without it, and the DFA does not read the bytes before it. */
 
 /* Returns the input that is the whole haystack, neither anchored nor earliest. */
 static inline lazydfa_input lazydfa_whole(size_t length) {

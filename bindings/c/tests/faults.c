@@ -1,6 +1,7 @@
 /* Makes each allocation of a program fail in turn, and then all allocations from each one on. A call whose allocation
-   fails returns LAZYDFA_MEMORY; repeated, it does what it would have done; and no block is left at the end. The linker
-   gives this file the library's calls of malloc, realloc and free (--wrap). */
+   fails returns LAZYDFA_MEMORY, unless it does without what it was for, as for needles; repeated, it does what it would
+   have done; and no block is left at the end. The linker gives this file the library's calls of malloc, realloc and
+   free (--wrap). */
 #include <stdio.h>
 #include <stdlib.h>
 #include <string.h>
@@ -311,6 +312,35 @@ static void search_texts(lazydfa_regex *re, lazydfa_cache *c) {
     WANT(lazydfa_regex_new(re, "b+", 2, NULL, NULL, NULL, 0, NULL, NULL, 0), LAZYDFA_OK);
 }
 
+/* A regex of a text opens without needles if an allocation for these fails, and finds the same. */
+static void open_with_needles(long one) {
+    lazydfa_regex re = LAZYDFA_INIT;
+    lazydfa_cache c = LAZYDFA_INIT;
+    lazydfa_input in = lazydfa_whole(8);
+    lazydfa_match m;
+    only = one;
+    WANT(lazydfa_regex_new(&re, "bc|bd+", 6, NULL, NULL, NULL, 0, NULL, NULL, 0), LAZYDFA_OK);
+    only = 0;
+    WANT(lazydfa_cache_new(&c, &re), LAZYDFA_OK);
+    WANT(lazydfa_find(&c, (const uint8_t *)"-b-abdd-", 8, &in, &m), LAZYDFA_OK);
+    IS(m.start == 4 && m.end == 7);
+    WANT(lazydfa_cache_close(&c), LAZYDFA_OK);
+    WANT(lazydfa_regex_close(&re), LAZYDFA_OK);
+    IS(blocks == 0);
+}
+
+/* Makes each allocation of the regex's opening fail in turn. */
+static void needles(void) {
+    long i, all;
+    calls = blocks = only = from = 0;
+    open_with_needles(0);
+    all = calls;
+    for (i = 1; i <= all && wrong < 20; i++) {
+        calls = 0;
+        open_with_needles(i);
+    }
+}
+
 /* What all matches of ^ab[cd]e(fg)+ have in common. */
 static void report_facts(void) {
     lazydfa_facts facts;
@@ -397,6 +427,7 @@ int main(void) {
         cycle(i, 0);
         cycle(0, i);
     }
+    needles();
     printf("%ld allocations, %ld refused, %ld wrong\n", all, refused, wrong);
     return wrong != 0;
 }

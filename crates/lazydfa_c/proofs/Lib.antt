@@ -11,3 +11,4 @@ mod Values
 mod Written
 mod Opening
 mod Texts
+mod Narrowing

@@ -1,10 +1,12 @@
 -- Opening a handle on the regex of texts, by the result of opening it on the regex of their NFA.
-use Rattle.std.proofs.Common.{ℕ, zero, suc, ◌≡◌, ◌∙◌, ◌<◌, List, Result, Ok, Err, IfOk, arith, length, sym, subst, refl}
+use Rattle.std.proofs.Common.{ℕ, zero, suc, ◌≡◌, ◌∙◌, ◌<◌, List, Result, Ok, Err, IfOk, ap}
+use Rattle.std.proofs.Common.{arith, length, sym, subst, refl}
 use Rattle.std.specs.Prelude.{IfErr, OnErr, OnOk, sum}
 use Rattle.automata_base.specs.Nfas.Nodes.{Automaton}
 use Rattle.automata_base.specs.declared.nfa.thompson.state.NfaError.{NfaError}
 use Rattle.automata_base.specs.declared.nfa.thompson.state.NfaError.TheVariants as nfa_error
 use Rattle.automata_config.specs.Options.{Options}
+use Rattle.automata_hybrid.specs.Machines.Machine.{Machine}
 use Rattle.patterns.specs.Patterns.{IsNfaOf}
 use Rattle.patterns.specs.declared.compile.Options.{Options as Reading}
 use Rattle.patterns.specs.declared.error.Fault.{Fault}
@@ -12,7 +14,7 @@ use Rattle.patterns.specs.declared.error.Fault.TheVariants.{Syntax, UnicodeWord,
 use Rattle.patterns.specs.declared.error.Fault.TheVariants.{OutOfMemory}
 use Rattle.regex_automata.specs.declared.hybrid.regex.Regex.{Regex}
 use Rattle.regex_automata.specs.declared.hybrid.regex.build.RegexBuildError.{RegexBuildError}
-use Rattle.lazydfa_c.specs.Builds.{IsBuildErrorStatus, IsBuiltRegex, IsNotOpened, IsPairOf, OpensRegex, LacksObject}
+use Rattle.lazydfa_c.specs.Builds.{IsBuildErrorStatus, IsBuiltRegex, IsNotOpened, IsPairOf, LacksObject}
 use Rattle.lazydfa_c.specs.Builds.{HoldsRegex, RefusesRegex}
 use Rattle.lazydfa_c.specs.Codes.{number_of}
 use Rattle.lazydfa_c.specs.Facts.{ExceedsLimits, Fails, HasFacts, IsFactsFailure, IsNotText, IsNoPattern, LacksMemory}
@@ -30,6 +32,7 @@ use Rattle.lazydfa_c.specs.declared.status.Status.{Status}
 use Rattle.lazydfa_c.specs.declared.text.Refusal.{Refusal}
 use Rattle.lazydfa_c.specs.declared.text.Report.{Report}
 use Rattle.lazydfa_c.specs.declared.text.TextOptions.{TextOptions}
+use Rattle.patterns.proofs.Building.{forward_is}
 use Rattle.lazydfa_c.proofs.Errors as errors
 
 -- a status of a failure
@@ -106,28 +109,50 @@ reports options text none facts old_bytes new_bytes old_lengths new_lengths (Ok 
 reports options text none facts old_bytes new_bytes old_lengths new_lengths (Err e) zeros has kept why =
     Fails (facts_fail options text e why) why (kept.0 ∙ zeros) kept.1 kept.2
 
--- the full regex of an NFA, if `forward_only` is 0
-pub opens_built :
-    (o : Options) (nfa : Automaton) (forward_only : ℕ) (old new : Handle) (done : Result (Unit {0}) Status)
-    → forward_only ≡ 0 → OpensRegex (IsBuiltRegex o nfa) (IsBuildErrorStatus o nfa) old new done
-    → OpensRegex (IsRegexFor forward_only o nfa) (IsRegexErrorStatus forward_only o nfa) old new done
-opens_built o nfa forward_only old new done is opened =
-    subst (λ n. OpensRegex (IsRegexFor n o nfa) (IsRegexErrorStatus n o nfa) old new done) (sym is) opened
+module _ (o : Options) (nfa : Automaton) where
+  -- the full regex of an NFA, if `forward_only` is 0
+  pub is_full :
+      (forward_only : ℕ) (done : Result Regex Status) → forward_only ≡ 0 → IfOk done (IsBuiltRegex o nfa)
+      → IfOk done (IsRegexFor forward_only o nfa)
+  is_full forward_only done is built = subst (λ n. IfOk done (IsRegexFor n o nfa)) (sym is) built
 
--- the regex that only searches forward, if `forward_only` is not 0
-pub opens_forward :
-    (o : Options) (nfa : Automaton) (forward_only : ℕ) (old new : Handle) (done : Result (Unit {0}) Status)
-    → (forward_only ≡ 0 → ⊥) → OpensRegex (IsForwardOnly o nfa) IsFailure old new done
-    → OpensRegex (IsRegexFor forward_only o nfa) (IsRegexErrorStatus forward_only o nfa) old new done
-opens_forward o nfa zero old new done is_not opened = elim (is_not refl) [ ]
-opens_forward o nfa (suc n) old new done is_not opened = opened
+  pub is_not_full :
+      (forward_only : ℕ) (done : Result Regex Status) → forward_only ≡ 0 → IfErr done (IsBuildErrorStatus o nfa)
+      → IfErr done (IsRegexErrorStatus forward_only o nfa)
+  is_not_full forward_only done is refused = subst (λ n. IfErr done (IsRegexErrorStatus n o nfa)) (sym is) refused
+
+  -- the regex that only searches forward, if `forward_only` is not 0
+  pub is_forward :
+      (forward_only : ℕ) (done : Result Regex Status) → (forward_only ≡ 0 → ⊥) → IfOk done (IsForwardOnly o nfa)
+      → IfOk done (IsRegexFor forward_only o nfa)
+  is_forward zero done is_not built = absurd (is_not refl)
+  is_forward (suc n) done is_not built = built
+
+  pub is_not_forward :
+      (forward_only : ℕ) (done : Result Regex Status) → (forward_only ≡ 0 → ⊥) → IfErr done IsFailure
+      → IfErr done (IsRegexErrorStatus forward_only o nfa)
+  is_not_forward zero done is_not refused = absurd (is_not refl)
+  is_not_forward (suc n) done is_not refused = refused
+
+  -- the forward DFA of either is a DFA of the NFA
+  same_nfa :
+      (forward_only : ℕ) (reading : Reading) (texts : List (List ℕ)) (regex : Regex) → IsNfaOf reading texts nfa
+      → IsRegexFor forward_only o nfa regex → regex.forward.nfa ≡ nfa
+  same_nfa zero reading texts regex meant built = forward_is o reading meant.0 nfa regex meant.2 built.0
+  same_nfa (suc n) reading texts regex meant built = ap (λ (m : Machine). m.nfa) built.built.0.2
+
+  pub searches_texts :
+      (forward_only : ℕ) (reading : Reading) (texts : List (List ℕ)) (regex : Regex) → IsNfaOf reading texts nfa
+      → IsRegexFor forward_only o nfa regex → IsNfaOf reading texts regex.forward.nfa
+  searches_texts forward_only reading texts regex meant built =
+      subst (IsNfaOf reading texts) (sym (same_nfa forward_only reading texts regex meant built)) meant
 
 module _ (o : Options) (options : TextOptions) (settings : Settings) (bytes lengths : List ℕ) where
   -- a regex is built from the NFA of the texts
   pub opens_texts :
       (nfa : Automaton) (new : Handle) (from to : Report)
       → sum lengths ≡ length bytes → IsNfaOf (reading_of options settings) (texts_in bytes lengths) nfa → to ≡ from
-      → HoldsRegex (IsRegexFor options.forward_only o nfa) new
+      → HoldsRegex (λ pattern. IsRegexFor options.forward_only o nfa pattern.regex) new
       → HoldsTexts o options settings bytes lengths new × (to ≡ from)
   opens_texts nfa new from to whole meant same opened =
       (record { whole = whole; nfa = nfa; meant = meant; holds = opened }, same)

@@ -14,7 +14,8 @@ use Rattle.regex_automata.specs.Regexes.Caches.{AreFresh}
 use Rattle.regex_automata.specs.Regexes.SoundPairs.{IsSoundPair}
 use Rattle.regex_automata.specs.declared.hybrid.regex.Regex.{Regex}
 use Rattle.regex_automata.specs.declared.hybrid.regex.build.RegexBuildError.{RegexBuildError}
-use Rattle.lazydfa_c.specs.Calls.{ReadsHandle, regex_of}
+use Rattle.patterns.specs.declared.pattern.Pattern.{Pattern}
+use Rattle.lazydfa_c.specs.Calls.{ReadsHandle}
 use Rattle.lazydfa_c.specs.Drafts.{MakesNfa, is_state}
 use Rattle.lazydfa_c.specs.Handles.{is_open}
 use Rattle.lazydfa_c.specs.Statuses.{build_status, done_status, plain, regex_status}
@@ -65,18 +66,22 @@ abbrev pub IsKeepingPairError : Options → (forward reverse : Automaton) → St
 IsKeepingPairError o forward reverse status =
     (front back : Automaton) × AreKeeping forward reverse front back × IsPairError o front back status
 
--- the object is this regex
-abbrev pub IsRegexObject : Regex → Object → Type 0
-IsRegexObject regex (RegexObject r) = r.regex.value ≡ regex
-IsRegexObject regex (Builder b) = ⊥
-IsRegexObject regex (CacheObject s) = ⊥
+-- the object is this regex, with its needles
+abbrev pub IsRegexObject : Pattern → Object → Type 0
+IsRegexObject pattern (RegexObject r) = r.pattern.value ≡ pattern
+IsRegexObject pattern (Builder b) = ⊥
+IsRegexObject pattern (CacheObject s) = ⊥
 
--- the handle is open on this regex
-pub record IsRegexIn (regex : Regex) (handle : Handle) : Type 0 where
+-- the handle is open on this regex, with its needles
+pub record IsRegexIn (pattern : Pattern) (handle : Handle) : Type 0 where
   -- the handle is open
   pub opened : handle.live ≡ 1
   -- its object is this regex
-  pub object : IsSomeAnd handle.slot.value (IsRegexObject regex)
+  pub object : IsSomeAnd handle.slot.value (IsRegexObject pattern)
+
+-- a regex of this kind, without needles
+abbrev pub HasNoNeedles : (Makes : Regex → Type 0) → Pattern → Type 0
+HasNoNeedles Makes pattern = Makes pattern.regex × (pattern.prefilter ≡ None)
 
 -- whether both starts are valid state IDs
 abbrev pub are_starts : StartStates → Bool
@@ -153,13 +158,13 @@ options_for s quits starts =
     if has_one_start s starts then Err (plain code.OneStart) else options_of s quits (kind_of s.match_kind)
 
 -- a handle is open on a regex of this kind
-pub record HoldsRegex (Makes : Regex → Type 0) (new : Handle) : Type 0 where
-  -- the regex
-  pub regex : Regex
+pub record HoldsRegex (Makes : Pattern → Type 0) (new : Handle) : Type 0 where
+  -- the regex, with its needles
+  pub pattern : Pattern
   -- it is of this kind
-  pub made : Makes regex
+  pub made : Makes pattern
   -- the handle is open on it
-  pub opened : IsRegexIn regex new
+  pub opened : IsRegexIn pattern new
 
 -- why no handle is opened on a regex
 pub data IsNotOpened (Refuses : Status → Type 0) (e : Status) : Type 0 where
@@ -169,21 +174,22 @@ pub data IsNotOpened (Refuses : Status → Type 0) (e : Status) : Type 0 where
   LacksObject : e ≡ plain code.Memory → IsNotOpened Refuses e
 
 -- a handle is opened on the regex that the library's call returned, or is unchanged, and the status says why
-abbrev pub OpensRegex : (Makes : Regex → Type 0) → (Refuses : Status → Type 0)
+abbrev pub OpensRegex : (Makes : Pattern → Type 0) → (Refuses : Status → Type 0)
     → (old new : Handle) → Result (Unit {0}) Status → Type 0
 OpensRegex Makes Refuses old new (Ok u) = HoldsRegex Makes new
 OpensRegex Makes Refuses old new (Err e) = (new ≡ old) × IsNotOpened Refuses e
 
 -- a handle is opened on the regex of an NFA, if there is one
 abbrev pub OpensOf : Options → (old new : Handle) → Result Automaton Status → Result (Unit {0}) Status → Type 0
-OpensOf o old new (Ok nfa) done = OpensRegex (IsBuiltRegex o nfa) (IsBuildErrorStatus o nfa) old new done
+OpensOf o old new (Ok nfa) done =
+    OpensRegex (HasNoNeedles (IsBuiltRegex o nfa)) (IsBuildErrorStatus o nfa) old new done
 OpensOf o old new (Err e) done = (new ≡ old) × (done ≡ Err e)
 
 -- a handle is opened on the regex of two NFAs, if there are both
 abbrev pub OpensPair : Options → (old new : Handle) → Automaton → Result Automaton Status
     → Result (Unit {0}) Status → Type 0
 OpensPair o old new forward (Ok reverse) done =
-    OpensRegex (IsKeepingPairOf o forward reverse) (IsKeepingPairError o forward reverse) old new done
+    OpensRegex (HasNoNeedles (IsKeepingPairOf o forward reverse)) (IsKeepingPairError o forward reverse) old new done
 OpensPair o old new forward (Err e) done = (new ≡ old) × (done ≡ Err e)
 
 -- a handle is opened on the regex of the NFA of a builder, which is put back
@@ -258,9 +264,9 @@ BuildsRegexPair settings quits forward reverse old new from left from_reverse le
     (options_for settings quits forward) done
     × (status ≡ done_status done)
 
--- the object's regex is shared, if the object is a regex and the allocation succeeds
+-- the object's regex is shared, with its needles, if the object is a regex and the allocation succeeds
 abbrev pub IsShareOf : Object → Result Shared Status → Type 0
-IsShareOf (RegexObject r) (Ok s) = s.regex.value ≡ r.regex.value
+IsShareOf (RegexObject r) (Ok s) = s.pattern.value ≡ r.pattern.value
 IsShareOf (RegexObject r) (Err status) = status ≡ plain code.Memory
 IsShareOf (Builder b) result = result ≡ Err (plain code.Kind)
 IsShareOf (CacheObject s) result = result ≡ Err (plain code.Kind)
@@ -287,8 +293,9 @@ pub data IsNotReversed (r : Regex) (status : Status) : Type 0 where
 -- the object's regex is reversed, if the object is a regex, its DFAs have equally many patterns, and the allocation
 -- succeeds
 abbrev pub IsReverseOf : Object → Result Shared Status → Type 0
-IsReverseOf (RegexObject r) (Ok s) = s.regex.value ≡ reversed r.regex.value
-IsReverseOf (RegexObject r) (Err status) = IsNotReversed r.regex.value status
+IsReverseOf (RegexObject r) (Ok s) =
+    HasNoNeedles (λ regex. regex ≡ reversed r.pattern.value.regex) s.pattern.value
+IsReverseOf (RegexObject r) (Err status) = IsNotReversed r.pattern.value.regex status
 IsReverseOf (Builder b) result = result ≡ Err (plain code.Kind)
 IsReverseOf (CacheObject s) result = result ≡ Err (plain code.Kind)
 
@@ -297,40 +304,40 @@ abbrev pub ReversesRegex : (old new : Handle) → Result Shared Status → Type 
 ReversesRegex old new result = ReadsHandle IsReverseOf old new result
 
 -- a fresh cache of a regex, with an empty set of its patterns
-pub record IsFreshOf (regex : Regex) (s : Searcher) : Type 0 where
-  -- it belongs to this regex
-  pub regex_is : regex_of s ≡ regex
+pub record IsFreshOf (pattern : Pattern) (s : Searcher) : Type 0 where
+  -- it belongs to this regex, and has its needles
+  pub regex_is : s.shared.pattern.value ≡ pattern
   -- the caches of both DFAs are fresh
-  pub cache : AreFresh regex s.cache
+  pub cache : AreFresh pattern.regex s.cache
   -- its set has room for all patterns of the regex, and is empty
-  pub patterns : s.patterns ≡ replicate (length regex.forward.nfa.start_pattern) false
+  pub patterns : s.patterns ≡ replicate (length pattern.regex.forward.nfa.start_pattern) false
   -- neither a search nor a walk in pieces was begun over it
   pub pieces : s.pieces ≡ record { search = None; walk = None }
 
 -- the object is a fresh cache of this regex
-abbrev pub IsCacheObject : Regex → Object → Type 0
-IsCacheObject regex (CacheObject s) = IsFreshOf regex s
-IsCacheObject regex (Builder b) = ⊥
-IsCacheObject regex (RegexObject r) = ⊥
+abbrev pub IsCacheObject : Pattern → Object → Type 0
+IsCacheObject pattern (CacheObject s) = IsFreshOf pattern s
+IsCacheObject pattern (Builder b) = ⊥
+IsCacheObject pattern (RegexObject r) = ⊥
 
 -- the handle is open on a fresh cache of this regex
-pub record IsCacheIn (regex : Regex) (handle : Handle) : Type 0 where
+pub record IsCacheIn (pattern : Pattern) (handle : Handle) : Type 0 where
   -- the handle is open
   pub opened : handle.live ≡ 1
   -- its object is a fresh cache of this regex
-  pub object : IsSomeAnd handle.slot.value (IsCacheObject regex)
+  pub object : IsSomeAnd handle.slot.value (IsCacheObject pattern)
 
 -- a handle is opened on a shared regex, or on a cache of it; without a regex, or if the allocation fails, it is
 -- unchanged
-abbrev pub OpensOn : (IsIn : Regex → Handle → Type 0) → (old new : Handle) → Result Shared Status
+abbrev pub OpensOn : (IsIn : Pattern → Handle → Type 0) → (old new : Handle) → Result Shared Status
     → Result (Unit {0}) Status → Type 0
-OpensOn IsIn old new (Ok shared) (Ok u) = IsIn shared.regex.value new
+OpensOn IsIn old new (Ok shared) (Ok u) = IsIn shared.pattern.value new
 OpensOn IsIn old new (Ok shared) (Err status) = (new ≡ old) × (status ≡ plain code.Memory)
 OpensOn IsIn old new (Err e) done = (new ≡ old) × (done ≡ Err e)
 
 -- a handle is opened on the regex that another handle gives, or on a cache of it
 pub record OpensFrom
-    (Gives : (from left : Handle) → Result Shared Status → Type 0) (IsIn : Regex → Handle → Type 0)
+    (Gives : (from left : Handle) → Result Shared Status → Type 0) (IsIn : Pattern → Handle → Type 0)
     (old new : Handle) (from left : Handle) (done : Result (Unit {0}) Status)
     : Type 0 where
   -- if the handle is already open, both handles are unchanged, and that is reported

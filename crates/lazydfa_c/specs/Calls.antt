@@ -14,6 +14,7 @@ use Rattle.regex_automata.specs.Tokens.{match_of as token_match}
 use Rattle.regex_automata.specs.declared.hybrid.regex.Regex.{Regex}
 use Rattle.regex_automata.specs.declared.tokens.error.TokenError.{TokenError}
 use Rattle.regex_automata.specs.declared.tokens.token.Token.{Token}
+use Rattle.patterns.specs.Searches.{IsNarrowed}
 use Rattle.lazydfa_c.specs.Codes.{number_of}
 use Rattle.lazydfa_c.specs.Requests.{found_from, found_half, input_of}
 use Rattle.lazydfa_c.specs.Statuses.{plain, search_status, token_status}
@@ -30,7 +31,7 @@ use Rattle.lazydfa_c.specs.declared.status.Status.{Status}
 
 -- the regex of a cache
 abbrev pub regex_of : Searcher → Regex
-regex_of s = s.shared.regex.value
+regex_of s = s.shared.pattern.value.regex
 
 -- the result of a search is reported: a match is written as C reads it, and the status says whether there is one
 abbrev pub IsTold : {A C : Type 0} → (as_read : A → C) → (written : C) → Result (Option A) SearchError → Status → Type 0
@@ -82,6 +83,24 @@ pub record OnHandle {R : Type 0}
 -- a call on a cache's handle
 abbrev pub OfHandle : (Does : Searcher → Searcher → Status → Type 0) → (old new : Handle) → Status → Type 0
 OfHandle Does old new status = OnHandle (OfObject Does) (plain code.Closed) old new status
+
+-- a search, which does this to the narrowed input: it finds there what it would find in the input, by the law
+-- `narrowed_inputs_are_enough` of `patterns`. `Ends` holds if there is no narrowed input
+pub data OfNarrowed (Does : Input → Searcher → Searcher → Status → Type 0) (Ends : Type 0) (input : Input)
+    (s t : Searcher) (status : Status) : Type 0 where
+  -- the narrowed input is searched
+  SearchesNarrowed :
+      (narrowed : Input) → IsNarrowed s.shared.pattern.value input (Some narrowed) → Does narrowed s t status
+      → OfNarrowed Does Ends input s t status
+  -- no match begins in the span: nothing changes, and the status is `LAZYDFA_NONE`
+  FindsNoStart :
+      IsNarrowed s.shared.pattern.value input None → t ≡ s → status ≡ plain code.Nothing → Ends
+      → OfNarrowed Does Ends input s t status
+
+-- a search, which does this to the narrowed input, if there is one
+abbrev pub Narrowed : (Does : Input → Searcher → Searcher → Status → Type 0) → Input → Searcher → Searcher → Status
+    → Type 0
+Narrowed Does input s t status = OfNarrowed Does (Unit {0}) input s t status
 
 -- what stays unchanged if the object is not a cache
 abbrev pub KeepsUnlessCache : (Stays : Type 0) → Object → Type 0
@@ -203,11 +222,16 @@ pub record FindsNext (found : Found) (old new : Iteration) (input : Input) (s t 
   -- the iteration is advanced past the match, or has ended
   pub iterated : new ≡ iterated old result
 
+-- the same for a narrowed input; if there is none, the iteration ends
+abbrev pub NarrowedNext : Found → (old new : Iteration) → Input → Searcher → Searcher → Status → Type 0
+NarrowedNext found old new input s t status =
+    OfNarrowed (FindsNext found old new) (new ≡ iterated old (Ok None)) input s t status
+
 -- `lazydfa_next`: the next match of an iteration
 pub record Iterates (haystack : List ℕ) (found : Found) (old new : Iteration) (s t : Searcher) (status : Status) :
     Type 0 where
   -- an iteration that has not ended searches the remaining input
-  pub searches : old.ended ≡ 0 → OfInput (FindsNext found old new) (input_of haystack old.left) s t status
+  pub searches : old.ended ≡ 0 → OfInput (NarrowedNext found old new) (input_of haystack old.left) s t status
   -- an iteration that has ended is unchanged, and the status is `LAZYDFA_NONE`
   pub over : (old.ended ≡ 0 → ⊥) → (t ≡ s) × (new ≡ old) × (status ≡ plain code.Nothing)
   -- an iteration whose remaining input is not valid is unchanged

@@ -17,7 +17,7 @@ pub record StreamView : Type 0 where
 
 -- what contracts see of a search
 abbrev pub stream_view : Inside → StreamView
-stream_view s = record { machine = s.regex.value.forward; pieces = s.pieces }
+stream_view s = record { machine = s.pattern.value.regex.forward; pieces = s.pieces }
 
 -- whether the result of a search is final, by its state, as C reads it: 1 or 0
 abbrev pub stands : Option Powerset → ℕ
@@ -40,7 +40,7 @@ pub record WalkView : Type 0 where
 
 -- what contracts see of a walk
 abbrev pub walk_view : WalkInside → WalkView
-walk_view s = record { machine = s.regex.value.forward; walk = s.walk; end = s.end }
+walk_view s = record { machine = s.pattern.value.regex.forward; walk = s.walk; end = s.end }
 
 -- the patterns that a walk lists: those that match at its position, or those that match at the end of the haystack
 abbrev pub listed_in : PiecesView → Option (List ℕ) → List ℕ

@@ -32,7 +32,7 @@ table_size states = min (sum_by state_size states) (2 ^ 64 - 1)
 
 -- the size of the forward NFA of a regex object; for any other object its kind is reported
 abbrev pub IsSizeIn : Object → Result ℕ Status → Type 0
-IsSizeIn (RegexObject r) result = result ≡ Ok (table_size r.regex.value.forward.nfa.states)
+IsSizeIn (RegexObject r) result = result ≡ Ok (table_size r.pattern.value.regex.forward.nfa.states)
 IsSizeIn (Builder b) result = result ≡ Err (plain code.Kind)
 IsSizeIn (CacheObject s) result = result ≡ Err (plain code.Kind)
 

@@ -180,7 +180,7 @@ pub record HoldsTexts (o : Options) (options : TextOptions) (settings : Settings
   -- it matches what the texts mean
   pub meant : IsNfaOf (reading_of options settings) (texts_in bytes lengths) nfa
   -- the handle is open on its regex
-  pub holds : HoldsRegex (IsRegexFor options.forward_only o nfa) handle
+  pub holds : HoldsRegex (λ pattern. IsRegexFor options.forward_only o nfa pattern.regex) handle
 
 -- the handle is opened on the regex of texts, or is unchanged, and the status says why there is no such regex
 abbrev pub OpensTexts : Options → TextOptions → Settings → (bytes lengths : List ℕ) → (old new : Handle)
@@ -242,4 +242,4 @@ pub record BuildsAnyOf (settings : Settings) (quits : List ℕ) (options : TextO
   pub builds : BuildsTexts settings quits options bytes lengths old new from to done
   -- the refusal, the message and the status are written
   pub reported :
-    (refusal ≡ to.refusal) × WritesMessage (string_bytes to.message) before after × (status ≡ done_status done)
+      (refusal ≡ to.refusal) × WritesMessage (string_bytes to.message) before after × (status ≡ done_status done)

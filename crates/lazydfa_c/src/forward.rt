@@ -1,14 +1,12 @@
 //! Regexes that only search forward: they report whether there is a match and where it ends. No part that finds starts
 //! is built.
-ghost use Rattle.std.specs.Prelude.{◌≡◌, IfErr, IfOk, None};
+ghost use Rattle.std.specs.Prelude.{IfErr, IfOk};
 ghost use Rattle.automata_config.specs.Options.{overwritten, unset};
-ghost use Rattle.lazydfa_c.specs.Builds.{OpensRegex};
 ghost use Rattle.lazydfa_c.specs.Texts.{MatchesNothing, IsFailure, IsForwardOnly};
 
 use crate::builder::state_id;
 use crate::code::Code;
-use crate::handle::Handle;
-use crate::regex::{open, pair_of};
+use crate::regex::pair_of;
 use crate::status::{Status, errors_differ};
 use regex_automata::hybrid::dfa::Config;
 use regex_automata::hybrid::regex::Regex;
@@ -37,7 +35,7 @@ fn nfa_without_match(alloc: Global, patterns: usize) -> Result<NFA, Status>
 }
 
 /// Builds the regex whose forward DFA is that of an NFA and whose reverse DFA finds nothing.
-fn forward_of(alloc: Global, nfa: NFA, config: Config) -> Result<Regex, Status>
+pub fn forward_of(alloc: Global, nfa: NFA, config: Config) -> Result<Regex, Status>
     ensures built { IfOk result (IsForwardOnly (overwritten unset config) nfa) }
     ensures refused { IfErr result IsFailure }
 {
@@ -46,18 +44,4 @@ fn forward_of(alloc: Global, nfa: NFA, config: Config) -> Result<Regex, Status>
         Ok(none) => pair_of(nfa, none, config),
         Err(status) => Err(status),
     }
-}
-
-/// Opens a handle on a regex of an NFA that only searches forward.
-pub fn open_forward(
-    alloc: Global,
-    handle: &mut Handle,
-    nfa: NFA,
-    config: Config,
-) -> Result<(), Status>
-    requires { handle.now.slot.value ≡ None }
-    ensures { OpensRegex (IsForwardOnly (overwritten unset config) nfa) IsFailure handle.old handle.new result }
-{
-    let regex = forward_of(alloc, nfa, config)?;
-    open(alloc, handle, regex)
 }

@@ -1,7 +1,7 @@
 //! Iterations over the matches of an input.
 ghost use Rattle.std.specs.Prelude.{◌≡◌, Ok, Some};
 ghost use Rattle.lazydfa_c.specs.Batches.{InTurn};
-ghost use Rattle.lazydfa_c.specs.Calls.{FindsNext, Iterates, KeepsUnlessCache, KeepsUnlessOpen, OfHandle, OfObject};
+ghost use Rattle.lazydfa_c.specs.Calls.{Iterates, KeepsUnlessCache, KeepsUnlessOpen, NarrowedNext, OfHandle, OfObject};
 ghost use Rattle.lazydfa_c.specs.Calls.{WritesIfDone, iterated, last_of};
 ghost use Rattle.lazydfa_c.specs.Requests.{match_of_found};
 
@@ -50,11 +50,19 @@ impl Searcher {
     /// Searches for the next match of an iteration that has not ended, and writes it. If there is no match, or the
     /// search fails, the iteration ends.
     fn go_on(&mut self, input: &Input<'_>, at: &mut Iteration, found: &mut Found) -> Status
-        ensures found { FindsNext found.new at.old at.new input.now self.old self.new result }
+        ensures found { NarrowedNext found.new at.old at.new input.now self.old self.new result }
         ensures written { WritesIfDone found.old found.new result }
     {
+        let Some(narrowed) = self.narrow(input) else {
+            at.ended = 1;
+            return Status::from(Code::Nothing);
+        };
         let shared = &self.shared;
-        match shared.regex.next_match(&mut self.cache, input, at.last()) {
+        match shared
+            .pattern
+            .regex
+            .next_match(&mut self.cache, &narrowed, at.last())
+        {
             Ok(Some(it)) => {
                 *found = Found::of(it);
                 at.pass(found);

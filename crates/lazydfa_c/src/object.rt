@@ -5,15 +5,17 @@ ghost use Rattle.regex_automata.specs.Promises.{AreCachesOf};
 
 use crate::stream::Stream;
 use crate::walk::Walk;
+use patterns::Pattern;
 use regex_automata::PatternSet;
-use regex_automata::hybrid::regex::{Cache, Regex};
+use regex_automata::hybrid::regex::Cache;
 use regex_automata::nfa::thompson::Builder;
 use std::sync::Arc;
 
-/// A regex that handles and caches share, on any threads.
+/// A regex that handles and caches share, on any threads. If it was built from texts, it may have needles, at which
+/// searches begin.
 #[derive(Drop)]
 pub struct Shared {
-    pub regex: Arc<Regex>,
+    pub pattern: Arc<Pattern>,
 }
 
 /// The search and the walk in pieces that were begun over a cache.
@@ -32,9 +34,9 @@ pub struct Searcher {
     pub cache: Cache,
     pub patterns: PatternSet,
     pub pieces: InPieces,
-    pub ghost of: { AreCachesOf cache shared.regex.value },
-    pub ghost part: { ForSome pieces.search (λ s. s.machine ≡ shared.regex.value.forward) },
-    pub ghost path: { ForSome pieces.walk (λ w. w.machine ≡ shared.regex.value.forward) },
+    pub ghost of: { AreCachesOf cache shared.pattern.value.regex },
+    pub ghost part: { ForSome pieces.search (λ s. s.machine ≡ shared.pattern.value.regex.forward) },
+    pub ghost path: { ForSome pieces.walk (λ w. w.machine ≡ shared.pattern.value.regex.forward) },
 }
 
 /// An object that a handle owns.

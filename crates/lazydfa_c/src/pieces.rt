@@ -21,11 +21,11 @@ impl Searcher {
         ensures { BeginsPieces earliest start.now self.old self.new result }
     {
         let shared = &self.shared;
-        let dfa = shared.regex.forward();
+        let dfa = shared.pattern.regex.forward();
         match dfa.begin_pieces(self.cache.forward_mut(), start, earliest) {
-            Ok(pieces) => match shared.regex.clone() {
-                Ok(regex) => {
-                    self.pieces.search = Some(Stream::of(regex, pieces));
+            Ok(pieces) => match shared.pattern.clone() {
+                Ok(pattern) => {
+                    self.pieces.search = Some(Stream::of(pattern, pieces));
                     Status::from(Code::Done)
                 }
                 Err(error) => Status::from(error),

@@ -2,7 +2,7 @@
 ghost use Rattle.std.specs.Prelude.{◌≡◌, IfErr, IfOk, None, Ok, OnErr, OnOk, Some};
 ghost use Rattle.automata_config.specs.Options.{overwritten, unset};
 ghost use Rattle.lazydfa_c.specs.Builds.{IsFreshOf, IsKeepingPairOf, IsKeepingPairError, IsPairOf, IsPairError};
-ghost use Rattle.lazydfa_c.specs.Builds.{IsRegexIn, IsBuiltRegex, IsBuildErrorStatus, BuildsRegex, BuildsRegexPair};
+ghost use Rattle.lazydfa_c.specs.Builds.{HasNoNeedles, IsRegexIn, IsBuiltRegex, IsBuildErrorStatus, BuildsRegex, BuildsRegexPair};
 ghost use Rattle.lazydfa_c.specs.Builds.{IsCacheIn, IsNfaIn, IsNfaOfDraft, NewsCache, OpensAfter, OpensFrom, OpensIn};
 ghost use Rattle.lazydfa_c.specs.Builds.{AllStay, IsNotReversed, OpensPairIn, OpensRegex, ReversesHandle, ReversesRegex};
 ghost use Rattle.lazydfa_c.specs.Builds.{SharesHandle, SharesRegex, WithOptions, options_for, reversed};
@@ -18,6 +18,7 @@ use crate::handle::Handle;
 use crate::object::{InPieces, Object, Searcher, Shared};
 use crate::settings::Settings;
 use crate::status::Status;
+use patterns::Pattern;
 use regex_automata::PatternSet;
 use regex_automata::hybrid::dfa::Config;
 use regex_automata::hybrid::regex::{self, Regex};
@@ -78,7 +79,7 @@ fn builder_of(config: Config) -> regex::Builder
 
 /// Builds the regex of one NFA, whose reverse DFA is built from the reversed NFA. It fails with the status of the
 /// builder's error.
-fn regex_of(nfa: NFA, config: Config) -> Result<Regex, Status>
+pub fn regex_of(nfa: NFA, config: Config) -> Result<Regex, Status>
     ensures built { IfOk result (IsBuiltRegex (overwritten unset config) nfa) }
     ensures refused { IfErr result (IsBuildErrorStatus (overwritten unset config) nfa) }
 {
@@ -100,7 +101,7 @@ pub fn pair_of(forward: NFA, reverse: NFA, config: Config) -> Result<Regex, Stat
 /// Opens a handle on a regex that others may share. If the allocation fails, the handle is unchanged.
 fn open_shared(alloc: Global, handle: &mut Handle, shared: Shared) -> Result<(), Status>
     requires { handle.now.slot.value ≡ None }
-    ensures opened { OnOk result (IsRegexIn shared.regex.value handle.new) }
+    ensures opened { OnOk result (IsRegexIn shared.pattern.value handle.new) }
     ensures same { OnErr result (handle.new ≡ handle.old) }
     ensures err { IfErr result (λ s. s ≡ plain code.Memory) }
 {
@@ -110,32 +111,27 @@ fn open_shared(alloc: Global, handle: &mut Handle, shared: Shared) -> Result<(),
 }
 
 /// Shares a regex and opens a handle on it. If an allocation fails, the handle is unchanged.
-pub fn open(alloc: Global, handle: &mut Handle, regex: Regex) -> Result<(), Status>
+pub fn open(alloc: Global, handle: &mut Handle, pattern: Pattern) -> Result<(), Status>
     requires { handle.now.slot.value ≡ None }
-    ensures opened { OnOk result (IsRegexIn regex handle.new) }
+    ensures opened { OnOk result (IsRegexIn pattern handle.new) }
     ensures same { OnErr result (handle.new ≡ handle.old) }
     ensures err { IfErr result (λ s. s ≡ plain code.Memory) }
 {
     let shared = Shared {
-        regex: Arc::new(alloc, regex)?,
+        pattern: Arc::new(alloc, pattern)?,
     };
     open_shared(alloc, handle, shared)
 }
 
 /// Opens a handle on the regex of one NFA.
-pub fn open_sound(
-    alloc: Global,
-    handle: &mut Handle,
-    nfa: NFA,
-    config: Config,
-) -> Result<(), Status>
+fn open_sound(alloc: Global, handle: &mut Handle, nfa: NFA, config: Config) -> Result<(), Status>
     requires { handle.now.slot.value ≡ None }
-    ensures { OpensRegex (IsBuiltRegex (overwritten unset config) nfa)
+    ensures { OpensRegex (HasNoNeedles (IsBuiltRegex (overwritten unset config) nfa))
         (IsBuildErrorStatus (overwritten unset config) nfa)
         handle.old handle.new result }
 {
     let regex = regex_of(nfa, config)?;
-    open(alloc, handle, regex)
+    open(alloc, handle, Pattern::from_regex(regex))
 }
 
 /// Opens a handle on the regex of two NFAs. An NFA with cycles through look-around assertions keeps its unions.
@@ -146,14 +142,14 @@ fn open_pair(
     config: Config,
 ) -> Result<(), Status>
     requires { handle.now.slot.value ≡ None }
-    ensures { OpensRegex (IsKeepingPairOf (overwritten unset config) nfas.0 nfas.1)
+    ensures { OpensRegex (HasNoNeedles (IsKeepingPairOf (overwritten unset config) nfas.0 nfas.1))
         (IsKeepingPairError (overwritten unset config) nfas.0 nfas.1) handle.old handle.new result }
 {
     let (forward, reverse) = nfas;
     let front = forward.keeping_unions();
     let back = reverse.keeping_unions();
     match pair_of(front, back, config) {
-        Ok(regex) => open(alloc, handle, regex),
+        Ok(regex) => open(alloc, handle, Pattern::from_regex(regex)),
         Err(status) => Err(status),
     }
 }
@@ -304,11 +300,11 @@ pub extern "C" fn lazydfa_raw_regex_build_pair(
 
 /// Returns another owner of a shared regex.
 fn share(shared: &Shared) -> Result<Shared, Status>
-    ensures ok { IfOk result (λ s. s.regex.value ≡ shared.now.regex.value) }
+    ensures ok { IfOk result (λ s. s.pattern.value ≡ shared.now.pattern.value) }
     ensures err { IfErr result (λ s. s ≡ plain code.Memory) }
 {
-    let regex = shared.regex.clone()?;
-    Ok(Shared { regex })
+    let pattern = shared.pattern.clone()?;
+    Ok(Shared { pattern })
 }
 
 /// Returns another owner of a handle's regex. It fails if the handle is closed or does not own a regex.
@@ -354,17 +350,18 @@ pub extern "C" fn lazydfa_raw_regex_share(
 /// Returns the regex that reads backward what a shared one reads forward: its two DFAs are swapped. It fails with
 /// `Code::PatternCounts` if they differ in their numbers of patterns.
 fn reversed(alloc: Global, shared: &Shared) -> Result<Shared, Status>
-    ensures ok { IfOk result (λ s. s.regex.value ≡ reversed shared.now.regex.value) }
-    ensures err { IfErr result (IsNotReversed shared.now.regex.value) }
+    ensures ok { IfOk result (λ s.
+        HasNoNeedles (λ regex. regex ≡ reversed shared.now.pattern.value.regex) s.pattern.value) }
+    ensures err { IfErr result (IsNotReversed shared.now.pattern.value.regex) }
 {
-    let forward = shared.regex.reverse().clone()?;
-    let reverse = shared.regex.forward().clone()?;
+    let forward = shared.pattern.regex.reverse().clone()?;
+    let reverse = shared.pattern.regex.forward().clone()?;
     if forward.pattern_len() != reverse.pattern_len() {
         return Err(Status::from(Code::PatternCounts));
     }
     let regex = Regex::builder().build_from_dfas(forward, reverse);
     Ok(Shared {
-        regex: Arc::new(alloc, regex)?,
+        pattern: Arc::new(alloc, Pattern::from_regex(regex))?,
     })
 }
 
@@ -410,11 +407,11 @@ pub extern "C" fn lazydfa_raw_regex_reverse(
 
 /// Creates a fresh cache of a regex, with room for a set of the regex's patterns.
 fn searcher_of(alloc: Global, shared: Shared) -> Result<Searcher, Status>
-    ensures ok { IfOk result (IsFreshOf shared.regex.value) }
+    ensures ok { IfOk result (IsFreshOf shared.pattern.value) }
     ensures err { IfErr result (λ s. s ≡ plain code.Memory) }
 {
-    let cache = shared.regex.create_cache()?;
-    let patterns = PatternSet::new(alloc, shared.regex.pattern_len())?;
+    let cache = shared.pattern.regex.create_cache()?;
+    let patterns = PatternSet::new(alloc, shared.pattern.regex.pattern_len())?;
     Ok(Searcher {
         shared,
         cache,

@@ -1,6 +1,7 @@
 //! Searches over a cache: the first match, whether there is one, and its two ends.
+ghost use Rattle.patterns.specs.Searches.{IsNarrowed};
 ghost use Rattle.lazydfa_c.specs.Calls.{ReportsMatch, FindsEnd, FindsStartBack, OfHandle, OfInput, OfObject, Tests};
-ghost use Rattle.lazydfa_c.specs.Calls.{WritesIfDone};
+ghost use Rattle.lazydfa_c.specs.Calls.{Narrowed, WritesIfDone};
 ghost use Rattle.lazydfa_c.specs.Requests.{input_of};
 
 use crate::code::Code;
@@ -12,13 +13,23 @@ use regex_automata::Input;
 use std::alloc::Global;
 
 impl Searcher {
+    /// Returns the input from the first needle of the regex on, or none if no match begins in the span.
+    pub fn narrow<'h>(&self, input: &Input<'h>) -> Option<Input<'h>>
+        ensures { IsNarrowed self.now.shared.pattern.value input.now result }
+    {
+        self.shared.pattern.narrow(input)
+    }
+
     /// Searches for the first match, and writes it. The status is `Code::Nothing` if there is none.
     fn find(&mut self, input: &Input<'_>, found: &mut Found) -> Status
-        ensures found { ReportsMatch found.new input.now self.old self.new result }
+        ensures found { Narrowed (ReportsMatch found.new) input.now self.old self.new result }
         ensures written { WritesIfDone found.old found.new result }
     {
+        let Some(narrowed) = self.narrow(input) else {
+            return Status::from(Code::Nothing);
+        };
         let shared = &self.shared;
-        match shared.regex.find(&mut self.cache, input) {
+        match shared.pattern.regex.find(&mut self.cache, &narrowed) {
             Ok(Some(it)) => {
                 *found = Found::of(it);
                 Status::from(Code::Done)
@@ -31,10 +42,13 @@ impl Searcher {
     /// Tests whether there is a match. The status is `Code::Done` if there is one, and `Code::Nothing` if there is
     /// none.
     fn is_match(&mut self, input: &Input<'_>) -> Status
-        ensures { Tests input.now self.old self.new result }
+        ensures { Narrowed Tests input.now self.old self.new result }
     {
+        let Some(narrowed) = self.narrow(input) else {
+            return Status::from(Code::Nothing);
+        };
         let shared = &self.shared;
-        match shared.regex.is_match(&mut self.cache, input) {
+        match shared.pattern.regex.is_match(&mut self.cache, &narrowed) {
             Ok(true) => Status::from(Code::Done),
             Ok(false) => Status::from(Code::Nothing),
             Err(error) => Status::from(error),
@@ -44,12 +58,15 @@ impl Searcher {
     /// Searches for the end of the first match with the forward DFA, and writes it with its pattern. The status is
     /// `Code::Nothing` if there is no match.
     fn find_end(&mut self, input: &Input<'_>, found: &mut FoundHalf) -> Status
-        ensures found { FindsEnd found.new input.now self.old self.new result }
+        ensures found { Narrowed (FindsEnd found.new) input.now self.old self.new result }
         ensures written { WritesIfDone found.old found.new result }
     {
+        let Some(narrowed) = self.narrow(input) else {
+            return Status::from(Code::Nothing);
+        };
         let shared = &self.shared;
-        let dfa = shared.regex.forward();
-        match dfa.try_search_fwd(self.cache.forward_mut(), input) {
+        let dfa = shared.pattern.regex.forward();
+        match dfa.try_search_fwd(self.cache.forward_mut(), &narrowed) {
             Ok(Some(half)) => {
                 *found = FoundHalf::of(half);
                 Status::from(Code::Done)
@@ -66,7 +83,7 @@ impl Searcher {
         ensures written { WritesIfDone found.old found.new result }
     {
         let shared = &self.shared;
-        let dfa = shared.regex.reverse();
+        let dfa = shared.pattern.regex.reverse();
         match dfa.try_search_rev(self.cache.reverse_mut(), input) {
             Ok(Some(half)) => {
                 *found = FoundHalf::of(half);
@@ -81,7 +98,7 @@ impl Searcher {
 /// Searches for the first match of a request over a cache. The status is `Code::Kind` if the object is not a cache, and
 /// `Code::Argument` if the request is not a valid input for the haystack.
 fn find_in(object: &mut Object, haystack: &[u8], request: &Request, found: &mut Found) -> Status
-    ensures found { OfObject (OfInput (ReportsMatch found.new) (input_of haystack.now request.now))
+    ensures found { OfObject (OfInput (Narrowed (ReportsMatch found.new)) (input_of haystack.now request.now))
         object.old object.new result }
     ensures written { WritesIfDone found.old found.new result }
 {
@@ -97,7 +114,7 @@ fn find_in(object: &mut Object, haystack: &[u8], request: &Request, found: &mut 
 /// Tests whether a request has a match, over a cache. The status is `Code::Kind` if the object is not a cache, and
 /// `Code::Argument` if the request is not a valid input for the haystack.
 fn is_match_in(object: &mut Object, haystack: &[u8], request: &Request) -> Status
-    ensures { OfObject (OfInput Tests (input_of haystack.now request.now)) object.old object.new result }
+    ensures { OfObject (OfInput (Narrowed Tests) (input_of haystack.now request.now)) object.old object.new result }
 {
     match object {
         Object::Searcher(searcher) => match request.input(haystack) {
@@ -116,7 +133,7 @@ fn find_end_in(
     request: &Request,
     found: &mut FoundHalf,
 ) -> Status
-    ensures found { OfObject (OfInput (FindsEnd found.new) (input_of haystack.now request.now))
+    ensures found { OfObject (OfInput (Narrowed (FindsEnd found.new)) (input_of haystack.now request.now))
         object.old object.new result }
     ensures written { WritesIfDone found.old found.new result }
 {
@@ -159,7 +176,7 @@ pub extern "C" fn lazydfa_raw_find(
     request: &Request,
     found: &mut Found,
 ) -> Status
-    ensures found { OfHandle (OfInput (ReportsMatch found.new) (input_of haystack.now request.now))
+    ensures found { OfHandle (OfInput (Narrowed (ReportsMatch found.new)) (input_of haystack.now request.now))
         cache.old cache.new result }
     ensures written { WritesIfDone found.old found.new result }
 {
@@ -179,7 +196,7 @@ pub extern "C" fn lazydfa_raw_is_match(
     haystack: &[u8],
     request: &Request,
 ) -> Status
-    ensures { OfHandle (OfInput Tests (input_of haystack.now request.now)) cache.old cache.new result }
+    ensures { OfHandle (OfInput (Narrowed Tests) (input_of haystack.now request.now)) cache.old cache.new result }
 {
     let Some(mut object) = cache.take(alloc) else {
         return Status::from(Code::Closed);
@@ -198,7 +215,7 @@ pub extern "C" fn lazydfa_raw_find_end(
     request: &Request,
     found: &mut FoundHalf,
 ) -> Status
-    ensures found { OfHandle (OfInput (FindsEnd found.new) (input_of haystack.now request.now))
+    ensures found { OfHandle (OfInput (Narrowed (FindsEnd found.new)) (input_of haystack.now request.now))
         cache.old cache.new result }
     ensures written { WritesIfDone found.old found.new result }
 {

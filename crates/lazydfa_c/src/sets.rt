@@ -101,7 +101,7 @@ impl Searcher {
         ensures { FindsAllEnds out.old out.new count.new input.now self.old self.new result }
     {
         let shared = &self.shared;
-        let dfa = shared.regex.forward();
+        let dfa = shared.pattern.regex.forward();
         all_halves(
             dfa,
             self.cache.forward_mut(),
@@ -117,7 +117,7 @@ impl Searcher {
         ensures { FindsAllStarts out.old out.new count.new input.now self.old self.new result }
     {
         let shared = &self.shared;
-        let dfa = shared.regex.reverse();
+        let dfa = shared.pattern.regex.reverse();
         all_halves(
             dfa,
             self.cache.reverse_mut(),
@@ -150,7 +150,7 @@ impl Searcher {
         ensures { JoinsPatterns self.old.patterns input.now self.old self.new result }
     {
         let shared = &self.shared;
-        let dfa = shared.regex.forward();
+        let dfa = shared.pattern.regex.forward();
         match dfa.try_which_overlapping_matches(
             self.cache.forward_mut(),
             input,

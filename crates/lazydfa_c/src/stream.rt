@@ -7,17 +7,17 @@ ghost use Rattle.automata_hybrid.specs.Known.Stores.{known_of};
 ghost use Rattle.automata_hybrid.specs.Pieces.State.{IsPiecesOf};
 ghost use Rattle.regex_automata.specs.Promises.{IsCacheOf};
 
+use patterns::Pattern;
 use regex_automata::HalfMatch;
 use regex_automata::hybrid::SearchError;
 use regex_automata::hybrid::dfa::{Cache, Pieces};
-use regex_automata::hybrid::regex::Regex;
 use std::marker::Model;
 use std::sync::Arc;
 
 /// A search in pieces by the forward DFA of a regex, which it shares.
 #[derive(Drop)]
 pub struct Stream {
-    regex: Arc<Regex>,
+    pattern: Arc<Pattern>,
     pieces: Pieces,
 }
 
@@ -29,17 +29,17 @@ impl Model for Stream {
 
     ghost view = { stream_view };
 
-    ghost invariant = { λ s. IsPiecesOf s.pieces s.regex.value.forward };
+    ghost invariant = { λ s. IsPiecesOf s.pieces s.pattern.value.regex.forward };
 }
 
 impl Stream {
     /// Returns a search that was begun by the regex's forward DFA.
-    pub fn of(regex: Arc<Regex>, pieces: Pieces) -> Stream
-        requires { IsPiecesOf pieces regex.value.forward }
-        ensures machine { result.machine ≡ regex.value.forward }
+    pub fn of(pattern: Arc<Pattern>, pieces: Pieces) -> Stream
+        requires { IsPiecesOf pieces pattern.value.regex.forward }
+        ensures machine { result.machine ≡ pattern.value.regex.forward }
         ensures pieces { result.pieces ≡ pieces }
     {
-        Stream { regex, pieces }
+        Stream { pattern, pieces }
     }
 
     /// Whether the result is final, whatever follows.
@@ -60,7 +60,7 @@ impl Stream {
         ensures effect { IsPieceRun self.old.machine piece.now self.old.pieces self.new.pieces
             (known_of cache.old) (known_of cache.new) (result_err result) }
     {
-        let regex = &self.regex;
+        let regex = &self.pattern.regex;
         regex.forward().read_piece(cache, &mut self.pieces, piece)
     }
 
@@ -77,6 +77,9 @@ impl Stream {
         ensures effect { IsAnswerRun self.now.machine ahead self.now.pieces
             (known_of cache.old) (known_of cache.new) (result_err result) }
     {
-        self.regex.forward().end_pieces(cache, &self.pieces, ahead)
+        self.pattern
+            .regex
+            .forward()
+            .end_pieces(cache, &self.pieces, ahead)
     }
 }

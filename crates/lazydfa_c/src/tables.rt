@@ -44,7 +44,7 @@ fn size_of(object: &Object) -> Result<usize, Status>
     ensures { IsSizeIn object.now result }
 {
     match object {
-        Object::Regex(shared) => Ok(table_size(shared.regex.forward().get_nfa())),
+        Object::Regex(shared) => Ok(table_size(shared.pattern.regex.forward().get_nfa())),
         Object::Builder(_) | Object::Searcher(_) => Err(Status::from(Code::Kind)),
     }
 }

@@ -12,15 +12,16 @@ ghost use Rattle.lazydfa_c.specs.Texts.{reading_of, refusal_at, refusal_of, size
 
 use crate::code::Code;
 use crate::explain::{not_built, too_many};
-use crate::forward::open_forward;
+use crate::forward::forward_of;
 use crate::handle::Handle;
 use crate::limits::class_escapes;
 use crate::output::write_over;
-use crate::regex::open_sound;
+use crate::regex::{open, regex_of};
 use crate::settings::Settings;
 use crate::status::Status;
-use patterns::{Fault, Options, PatternError, nfa_of};
+use patterns::{Fault, Options, Pattern, PatternError, nfa_of};
 use regex_automata::hybrid::dfa::Config;
+use regex_automata::hybrid::regex::Regex;
 use regex_automata::nfa::thompson::{BuildError as NfaBuildError, NFA};
 use std::alloc::{AllocError, Global};
 
@@ -306,22 +307,23 @@ fn write_message(message: &str, out: &mut [u8])
     out[end] = 0;
 }
 
-/// Builds the NFA of the patterns of concatenated texts. If it fails, it reports which text has an error.
-fn nfa_of_texts(
+/// Splits concatenated texts, and builds the NFA of their patterns. If it fails, it reports which text has an error.
+fn nfa_of_texts<'t>(
     alloc: Global,
-    texts: &[u8],
+    texts: &'t [u8],
     lengths: &[usize],
     options: &Options,
     report: &mut Report,
-) -> Result<NFA, Status>
+) -> Result<(Vec<&'t str>, NFA), Status>
     ensures whole { IfOk result (λ _. sum lengths.now ≡ length texts.now) }
-    ensures meant { IfOk result (IsNfaOf options.now (texts_in texts.now lengths.now)) }
+    ensures parts { IfOk result (λ r. map (λ text. text.now) r.0.items ≡ texts_in texts.now lengths.now) }
+    ensures meant { IfOk result (λ r. IsNfaOf options.now (texts_in texts.now lengths.now) r.1) }
     ensures kept { IfOk result (λ _. report.new ≡ report.old) }
     ensures err { IfErr result (LacksNfa options.now texts.now lengths.now report.old report.new) }
 {
     let parts = cut(alloc, texts, lengths, &mut report.refusal)?;
     match nfa_of(alloc, parts.as_slice(), options) {
-        Ok(nfa) => Ok(nfa),
+        Ok(nfa) => Ok((parts, nfa)),
         Err(error) => {
             *report = Report::of(alloc, &error, parts.as_slice(), options);
             Err(status_of(&error))
@@ -329,22 +331,40 @@ fn nfa_of_texts(
     }
 }
 
-/// Opens a handle on the regex of an NFA, or on one that only searches forward.
+/// Builds the regex of an NFA, or one that only searches forward.
+fn regex_for(alloc: Global, nfa: NFA, config: Config, forward_only: u32) -> Result<Regex, Status>
+    ensures built { IfOk result (IsRegexFor forward_only (overwritten unset config) nfa) }
+    ensures refused { IfErr result (IsRegexErrorStatus forward_only (overwritten unset config) nfa) }
+{
+    if forward_only == 0 {
+        regex_of(nfa, config)
+    } else {
+        forward_of(alloc, nfa, config)
+    }
+}
+
+/// Opens a handle on the regex of the NFA of texts, whose searches begin at needles of these texts if there are any.
 fn open_nfa(
     alloc: Global,
     regex: &mut Handle,
+    texts: &[&str],
+    options: &Options,
     nfa: NFA,
     config: Config,
     forward_only: u32,
 ) -> Result<(), Status>
-    requires { regex.now.slot.value ≡ None }
-    ensures { OpensRegex (IsRegexFor forward_only (overwritten unset config) nfa)
+    requires closed { regex.now.slot.value ≡ None }
+    requires meant { IsNfaOf options.now (map (λ text. text.now) texts.now) nfa }
+    ensures { OpensRegex (λ pattern. IsRegexFor forward_only (overwritten unset config) nfa pattern.regex)
         (IsRegexErrorStatus forward_only (overwritten unset config) nfa) regex.old regex.new result }
 {
-    if forward_only == 0 {
-        open_sound(alloc, regex, nfa, config)
-    } else {
-        open_forward(alloc, regex, nfa, config)
+    match regex_for(alloc, nfa, config, forward_only) {
+        Ok(built) => {
+            let mut pattern = Pattern::from_regex(built);
+            pattern.begin_at_needles(alloc, texts, options);
+            open(alloc, regex, pattern)
+        }
+        Err(status) => Err(status),
     }
 }
 
@@ -365,8 +385,17 @@ fn open_texts(
         regex.old regex.new report.old report.new result }
 {
     let reading = options.options(settings);
-    let nfa = nfa_of_texts(alloc, texts, lengths, &reading, report)?;
-    match open_nfa(alloc, regex, nfa, config, options.forward_only) {
+    let read = nfa_of_texts(alloc, texts, lengths, &reading, report)?;
+    let (parts, nfa) = read;
+    match open_nfa(
+        alloc,
+        regex,
+        parts.as_slice(),
+        &reading,
+        nfa,
+        config,
+        options.forward_only,
+    ) {
         Ok(()) => Ok(()),
         Err(status) => {
             *report = Report::of_all(alloc, not_built(alloc, status, settings));

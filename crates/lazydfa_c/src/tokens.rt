@@ -37,7 +37,7 @@ impl Searcher {
         ensures written { WritesIfDone found.old found.new result }
     {
         let shared = &self.shared;
-        match shared.regex.tokens(&mut self.cache, input).next() {
+        match shared.pattern.regex.tokens(&mut self.cache, input).next() {
             Some(Ok(token)) => {
                 *found = Found::of_token(&token);
                 left.start = found.end;

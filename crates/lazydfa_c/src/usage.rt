@@ -29,7 +29,7 @@ impl Searcher {
         ensures { Resets self.old self.new result }
     {
         let shared = &self.shared;
-        match self.cache.reset(&shared.regex) {
+        match self.cache.reset(&shared.pattern.regex) {
             Ok(()) => Status::from(Code::Done),
             Err(error) => Status::from(error),
         }
@@ -54,7 +54,7 @@ impl Searcher {
             held: footprint.held.saturating_add(self.own_usage()),
             forward_clears: forward.clear_count(),
             reverse_clears: reverse.clear_count(),
-            patterns: self.shared.regex.pattern_len(),
+            patterns: self.shared.pattern.regex.pattern_len(),
         }
     }
 }

@@ -11,10 +11,10 @@ ghost use Rattle.regex_automata.specs.Promises.{IsCacheOf};
 
 use crate::code::Code;
 use crate::status::Status;
+use patterns::Pattern;
 use regex_automata::PatternID;
 use regex_automata::hybrid::SearchError;
 use regex_automata::hybrid::dfa::{Cache, PiecesWalk, WalkEnd};
-use regex_automata::hybrid::regex::Regex;
 use std::marker::Model;
 use std::sync::Arc;
 
@@ -56,7 +56,7 @@ impl Stop {
 /// once `end` was called, those that match at the end of the haystack.
 #[derive(Drop)]
 pub struct Walk {
-    regex: Arc<Regex>,
+    pattern: Arc<Pattern>,
     walk: PiecesWalk,
     end: Option<WalkEnd>,
 }
@@ -69,19 +69,19 @@ impl Model for Walk {
 
     ghost view = { walk_view };
 
-    ghost invariant = { λ s. IsPiecesOf s.walk s.regex.value.forward };
+    ghost invariant = { λ s. IsPiecesOf s.walk s.pattern.value.regex.forward };
 }
 
 impl Walk {
     /// Returns a walk that was begun by the regex's forward DFA.
-    pub fn of(regex: Arc<Regex>, walk: PiecesWalk) -> Walk
-        requires { IsPiecesOf walk regex.value.forward }
-        ensures machine { result.machine ≡ regex.value.forward }
+    pub fn of(pattern: Arc<Pattern>, walk: PiecesWalk) -> Walk
+        requires { IsPiecesOf walk pattern.value.regex.forward }
+        ensures machine { result.machine ≡ pattern.value.regex.forward }
         ensures walk { result.walk ≡ walk }
         ensures end { result.end ≡ None }
     {
         Walk {
-            regex,
+            pattern,
             walk,
             end: None,
         }
@@ -98,7 +98,7 @@ impl Walk {
         ensures effect { IsWalkCallRun self.old.machine piece.now self.old.walk self.new.walk
             (known_of cache.old) (known_of cache.new) (result_err result) }
     {
-        let regex = &self.regex;
+        let regex = &self.pattern.regex;
         match regex.forward().walk_piece(cache, &mut self.walk, piece) {
             Ok(read) => {
                 self.end = None;
@@ -120,7 +120,7 @@ impl Walk {
         ensures effect { IsWalkEndRun self.old.machine ahead self.old.walk (known_of cache.old) (known_of cache.new)
             (result_err result) }
     {
-        let regex = &self.regex;
+        let regex = &self.pattern.regex;
         match regex.forward().end_walk(cache, &self.walk, ahead) {
             Ok(end) => {
                 self.end = Some(end);

@@ -23,11 +23,11 @@ impl Searcher {
         ensures { BeginsWalk start.now self.old self.new result }
     {
         let shared = &self.shared;
-        let dfa = shared.regex.forward();
+        let dfa = shared.pattern.regex.forward();
         match dfa.begin_walk(self.cache.forward_mut(), start) {
-            Ok(walk) => match shared.regex.clone() {
-                Ok(regex) => {
-                    self.pieces.walk = Some(Walk::of(regex, walk));
+            Ok(walk) => match shared.pattern.clone() {
+                Ok(pattern) => {
+                    self.pieces.walk = Some(Walk::of(pattern, walk));
                     Status::from(Code::Done)
                 }
                 Err(error) => Status::from(error),

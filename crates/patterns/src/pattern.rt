@@ -192,8 +192,8 @@ impl Pattern {
     }
 
     /// Returns the input from the first needle on, where a search finds what it finds in the given input; none if no
-    /// match begins in its span, not even at its end. The given input is returned if the search is anchored, its span
-    /// is done, or the pattern has no needles.
+    /// match begins in its span, not even at its end. The given input is returned if it is anchored or done, or if the
+    /// pattern has no needles or is only searched for anchored.
     ///
     /// No more of the haystack is read than the span and a needle that begins in it.
     pub fn narrow<'h>(&self, input: &Input<'h>) -> Option<Input<'h>>

@@ -1,5 +1,6 @@
-use Rattle.std.proofs.Common.{refl}
-use Rattle.lazydfa_c.specs.Builds.{AreKeeping, RefusesRegex}
+use Rattle.std.proofs.Common.{refl, subst, sym}
+use Rattle.automata_config.specs.Options.{overwritten, unset}
+use Rattle.lazydfa_c.specs.Builds.{AreKeeping, IsKeepingPairOf, RefusesRegex}
 use Rattle.lazydfa_c.proofs.Opening.{opens}
 use Rattle.lazydfa_c.proofs.regex.open_pair.Goals as goal
 
@@ -7,8 +8,11 @@ pub returns-in-Ok : goal.returns-in-Ok
 returns-in-Ok c =
     let keeping : AreKeeping c.args.nfas.0 c.args.nfas.1 c.keeping_unions-front.result c.keeping_unions-back.result =
     record { ahead = c.keeping_unions-front.ensures.same; behind = c.keeping_unions-back.ensures.same } in
-    opens _ _ c.in-Ok.regex c.args.handle.now c.open.new.handle c.open.result
-    (c.keeping_unions-front.result, c.keeping_unions-back.result, keeping, c.in-Ok.ensures.built)
+    let made =
+    subst (IsKeepingPairOf (overwritten unset c.args.config) c.args.nfas.0 c.args.nfas.1)
+    (sym c.from_regex.ensures.regex)
+    (c.keeping_unions-front.result, c.keeping_unions-back.result, keeping, c.in-Ok.ensures.built) in
+    opens _ _ c.from_regex.result c.args.handle.now c.open.new.handle c.open.result (made, c.from_regex.ensures.plain)
     c.open.ensures.opened c.open.ensures.same c.open.ensures.err
 
 pub returns-in-Err : goal.returns-in-Err

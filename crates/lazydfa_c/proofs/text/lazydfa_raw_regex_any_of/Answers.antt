@@ -10,7 +10,7 @@ returns c = record {
   to = c.build_texts-done.new.report;
   done = c.build_texts-done.result;
   builds = c.build_texts-done.ensures;
-  told = (
+  reported = (
     refl,
     subst (λ message. WritesMessage message c.args.message.now c.write_message.new.out) c.as_str.ensures.value
         c.write_message.ensures,

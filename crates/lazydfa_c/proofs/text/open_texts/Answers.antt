@@ -1,4 +1,4 @@
-use Rattle.std.proofs.Common.{subst}
+use Rattle.std.proofs.Common.{◌∙◌, ap, map, subst, sym}
 use Rattle.automata_config.specs.Options.{overwritten, unset}
 use Rattle.patterns.specs.Patterns.{IsNfaOf}
 use Rattle.lazydfa_c.specs.Texts.{LacksNfa, OpensTexts, texts_in}
@@ -10,34 +10,41 @@ pub returns-in-Ok : goal.returns-in-Ok
 returns-in-Ok c =
     let bytes = c.args.texts.now in
     let lengths = c.args.lengths.now in
-    opens_texts (overwritten unset c.args.config) c.args.options.now c.args.settings.now bytes lengths c.in_ok-nfa.nfa
-    c.open_nfa.new.regex c.args.report.now c.nfa_of_texts.new.report c.in_ok-nfa.ensures.whole
-    (subst (λ reading. IsNfaOf reading (texts_in bytes lengths) c.in_ok-nfa.nfa) c.options-reading.ensures
-    c.in_ok-nfa.ensures.meant)
-    c.in_ok-nfa.ensures.kept c.in-Ok.ensures
+    opens_texts (overwritten unset c.args.config) c.args.options.now c.args.settings.now bytes lengths
+    c.in_ok-read.read.1
+    c.open_nfa.new.regex c.args.report.now c.nfa_of_texts.new.report c.in_ok-read.ensures.whole
+    (subst (λ reading. IsNfaOf reading (texts_in bytes lengths) c.in_ok-read.read.1) c.options-reading.ensures
+    c.in_ok-read.ensures.meant)
+    c.in_ok-read.ensures.kept c.in-Ok.ensures
 
-pub returns-in-Err : goal.returns-in-Err
-returns-in-Err c =
+pub returns : goal.returns
+returns c =
     let bytes = c.args.texts.now in
     let lengths = c.args.lengths.now in
-    regex_lacks (overwritten unset c.args.config) c.args.options.now c.args.settings.now bytes lengths c.in_ok-nfa.nfa
+    regex_lacks (overwritten unset c.args.config) c.args.options.now c.args.settings.now bytes lengths
+    c.in_ok-read.read.1
     c.args.regex.now c.open_nfa.new.regex c.args.report.now c.of_all.result c.in-Err.status
-    (subst (λ reading. IsNfaOf reading (texts_in bytes lengths) c.in_ok-nfa.nfa) c.options-reading.ensures
-    c.in_ok-nfa.ensures.meant)
+    (subst (λ reading. IsNfaOf reading (texts_in bytes lengths) c.in_ok-read.read.1) c.options-reading.ensures
+    c.in_ok-read.ensures.meant)
     c.of_all.ensures c.in-Err.ensures
 
-pub returns-in_err-nfa : goal.returns-in_err-nfa
-returns-in_err-nfa c =
+pub returns-in_err-read : goal.returns-in_err-read
+returns-in_err-read c =
     let o = overwritten unset c.args.config in
     let options = c.args.options.now in
     let settings = c.args.settings.now in
     let bytes = c.args.texts.now in
     let lengths = c.args.lengths.now in
-    let e = c.in_err-nfa.field-0.0 in
+    let e = c.in_err-read.field-0.0 in
     let to = c.nfa_of_texts.new.report in
     error_at c.from_residual.result e
     (OpensTexts o options settings bytes lengths c.args.regex.now c.args.regex.now c.args.report.now to)
     c.from_residual.ensures.1
     (texts_fail o options settings bytes lengths c.args.regex.now c.args.report.now to e
     (subst (λ reading. LacksNfa reading bytes lengths c.args.report.now to e) c.options-reading.ensures
-    c.in_err-nfa.ensures.err))
+    c.in_err-read.ensures.err))
+
+pub open_nfa-requires-clause-meant : goal.open_nfa-requires-clause-meant
+open_nfa-requires-clause-meant c =
+    subst (λ texts. IsNfaOf c.options-reading.result texts c.in_ok-read.read.1)
+    (sym (ap (map (λ text. text.now)) c.as_slice.ensures.value ∙ c.in_ok-read.ensures.parts)) c.in_ok-read.ensures.meant

@@ -5,7 +5,7 @@ use Rattle.automata_hybrid.specs.Cache.Caches.{CacheView}
 use Rattle.automata_hybrid.specs.Machines.Machine.{Machine}
 use Rattle.automata_hybrid.specs.Known.Passes.{IsSearchRun}
 use Rattle.automata_hybrid.specs.Known.Stores.{known_of}
-use Rattle.regex_automata.specs.declared.hybrid.regex.Regex.{Regex}
+use Rattle.patterns.specs.declared.pattern.Pattern.{Pattern}
 use Rattle.lazydfa_c.proofs.object.Searcher.find_start.Goals as goal
 
 pub returns-in-Ok-Some-clause-found : goal.returns-in-Ok-Some-clause-found
@@ -14,7 +14,8 @@ returns-in-Ok-Some-clause-found c = record {
   told = search rules;
   returned = search rules;
   effect =
-      subst (λ (r : Regex). IsSearchRun Backward r.reverse c.args.input.now (known_of c.args.self.now.cache.reverse)
+      subst (λ (v : Pattern). IsSearchRun Backward v.regex.reverse c.args.input.now
+      (known_of c.args.self.now.cache.reverse)
       (known_of c.try_search_rev.new.cache) None) c.deref.ensures
       (subst (λ (m : Machine). IsSearchRun Backward m c.args.input.now (known_of c.args.self.now.cache.reverse)
       (known_of c.try_search_rev.new.cache) None) c.reverse-dfa.ensures
@@ -31,7 +32,8 @@ returns-in-Ok-None-clause-found c = record {
   told = search rules;
   returned = search rules;
   effect =
-      subst (λ (r : Regex). IsSearchRun Backward r.reverse c.args.input.now (known_of c.args.self.now.cache.reverse)
+      subst (λ (v : Pattern). IsSearchRun Backward v.regex.reverse c.args.input.now
+      (known_of c.args.self.now.cache.reverse)
       (known_of c.try_search_rev.new.cache) None) c.deref.ensures
       (subst (λ (m : Machine). IsSearchRun Backward m c.args.input.now (known_of c.args.self.now.cache.reverse)
       (known_of c.try_search_rev.new.cache) None) c.reverse-dfa.ensures
@@ -48,7 +50,8 @@ returns-in-Err-clause-found c = record {
   told = search rules;
   returned = search rules;
   effect =
-      subst (λ (r : Regex). IsSearchRun Backward r.reverse c.args.input.now (known_of c.args.self.now.cache.reverse)
+      subst (λ (v : Pattern). IsSearchRun Backward v.regex.reverse c.args.input.now
+      (known_of c.args.self.now.cache.reverse)
       (known_of c.try_search_rev.new.cache) (Some c.in-Err.error)) c.deref.ensures
       (subst (λ (m : Machine). IsSearchRun Backward m c.args.input.now (known_of c.args.self.now.cache.reverse)
       (known_of c.try_search_rev.new.cache) (Some c.in-Err.error)) c.reverse-dfa.ensures

@@ -3,7 +3,7 @@ use Rattle.automata_hybrid.specs.Machines.Machine.{Machine}
 use Rattle.automata_hybrid.specs.Pieces.State.{IsPiecesOf}
 use Rattle.automata_hybrid.specs.Known.Pieces.{IsWalkCallRun}
 use Rattle.automata_hybrid.specs.Known.Stores.{known_of}
-use Rattle.regex_automata.specs.declared.hybrid.regex.Regex.{Regex}
+use Rattle.patterns.specs.declared.pattern.Pattern.{Pattern}
 use Rattle.lazydfa_c.specs.Streams.{WalkView}
 use Rattle.lazydfa_c.proofs.walk.Walk.read.Goals as goal
 
@@ -11,18 +11,18 @@ pub walk_piece-requires-clause-walk : goal.walk_piece-requires-clause-walk
 walk_piece-requires-clause-walk c =
     let p = c.self.inside.walk in
     subst (λ (m : Machine). IsPiecesOf p m) (sym c.forward.ensures)
-    (subst (λ (r : Regex). IsPiecesOf p r.forward) (sym c.deref.ensures) c.self.invariant)
+    (subst (λ (v : Pattern). IsPiecesOf p v.regex.forward) (sym c.deref.ensures) c.self.invariant)
 
 pub invariant_of-self : goal.invariant_of-self
 invariant_of-self c =
     let p = c.walk_piece.new.walk in
-    subst (λ (r : Regex). IsPiecesOf p r.forward) c.deref.ensures
+    subst (λ (v : Pattern). IsPiecesOf p v.regex.forward) c.deref.ensures
     (subst (λ (m : Machine). IsPiecesOf p m) c.forward.ensures c.walk_piece.ensures.walk)
 
 pub invariant_of-self-in-Err : goal.invariant_of-self-in-Err
 invariant_of-self-in-Err c =
     let p = c.walk_piece.new.walk in
-    subst (λ (r : Regex). IsPiecesOf p r.forward) c.deref.ensures
+    subst (λ (v : Pattern). IsPiecesOf p v.regex.forward) c.deref.ensures
     (subst (λ (m : Machine). IsPiecesOf p m) c.forward.ensures c.walk_piece.ensures.walk)
 
 pub returns-in-Ok-clause-effect : goal.returns-in-Ok-clause-effect
@@ -31,7 +31,8 @@ returns-in-Ok-clause-effect c =
     let old = c.args.cache.now in let new = c.walk_piece.new.cache in
     subst (λ (v : WalkView). IsWalkCallRun v.machine piece v.walk next (known_of old) (known_of new) None)
     c.self.view_is
-    (subst (λ (r : Regex). IsWalkCallRun r.forward piece w next (known_of old) (known_of new) None) c.deref.ensures
+    (subst (λ (v : Pattern). IsWalkCallRun v.regex.forward piece w next (known_of old) (known_of new) None)
+    c.deref.ensures
     (subst (λ (m : Machine). IsWalkCallRun m piece w next (known_of old) (known_of new) None) c.forward.ensures
     c.in-Ok.ensures.effect))
 
@@ -41,6 +42,7 @@ returns-in-Err-clause-effect c =
     let old = c.args.cache.now in let new = c.walk_piece.new.cache in let e = c.in-Err.error in
     subst (λ (v : WalkView). IsWalkCallRun v.machine piece v.walk next (known_of old) (known_of new) (Some e))
     c.self.view_is
-    (subst (λ (r : Regex). IsWalkCallRun r.forward piece w next (known_of old) (known_of new) (Some e)) c.deref.ensures
+    (subst (λ (v : Pattern). IsWalkCallRun v.regex.forward piece w next (known_of old) (known_of new) (Some e))
+    c.deref.ensures
     (subst (λ (m : Machine). IsWalkCallRun m piece w next (known_of old) (known_of new) (Some e)) c.forward.ensures
     c.in-Err.ensures.effect))
