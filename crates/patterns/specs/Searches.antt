@@ -75,10 +75,12 @@ HasBeginnings pattern = HasPrefilter pattern ⊎ (pattern.first_bytes ≡ None �
 abbrev pub IsCandidate : Pattern → Input → (at : ℕ) → Type 0
 IsCandidate pattern input at = HasBeginnings pattern × MaySkipTo (forward_engine pattern.regex) input at
 
--- an attempt to find the match of an input at once: no search, or an anchored one if the pattern has beginnings
+-- an attempt to find the match of an input at once: no search, or an anchored one if the pattern has beginnings and
+-- makes attempts at them
 abbrev pub IsAttempt : Pattern → Input → (old new : Cache) → Type 0
 IsAttempt pattern input old new =
-    (new ≡ old) ⊎ (HasBeginnings pattern × IsAnchoredRun pattern.regex input old new)
+    (new ≡ old)
+    ⊎ ((pattern.attempts ≡ true) × HasBeginnings pattern × IsAnchoredRun pattern.regex input old new)
 
 -- an attempt to find the match of an input at once, and then a search of the input, unless the attempt has found it
 pub data IsSearchedAfter (pattern : Pattern) (input : Input) (old new : Cache) (Finds : Type 0)

@@ -1,7 +1,7 @@
 //! Patterns to search for.
 ghost use Rattle.std.specs.Prelude.{◌≡◌, ◌<◌, ◌≤◌, ℕ, Bool, List, [], ◌∷◌, None, Some, IfErr, IfOk, IfSome};
 ghost use Rattle.std.specs.Prelude.{is_some};
-ghost use Rattle.std.specs.Prelude.{length, map, option_map, true};
+ghost use Rattle.std.specs.Prelude.{false, length, map, option_map, true};
 ghost use Rattle.std.specs.Option.{unwrap_or};
 ghost use Rattle.regex_hir.specs.Re.{Re};
 ghost use Rattle.regex_automata.specs.Spans.Iteration.{GoesPast};
@@ -45,6 +45,7 @@ pub struct Pattern {
     pub regex: Regex,
     prefilter: Option<Prefilter>,
     first_bytes: Option<FirstBytes>,
+    attempts: bool,
     ghost begins: { (needles : List (List ℕ)) → prefilter ≡ Some needles
         → BeginsAtNeedle (forward_engine regex) needles },
     ghost first: { (table : List Bool) → first_bytes ≡ Some table
@@ -58,6 +59,7 @@ impl Drop for Pattern {
             regex: _regex,
             prefilter: _prefilter,
             first_bytes: _first_bytes,
+            attempts: _attempts,
         } = self;
     }
 }
@@ -173,6 +175,7 @@ impl Pattern {
             regex,
             prefilter: None,
             first_bytes: None,
+            attempts: false,
         })
     }
 
@@ -198,6 +201,7 @@ impl Pattern {
             regex,
             prefilter: None,
             first_bytes: None,
+            attempts: false,
         })
     }
 
@@ -206,24 +210,32 @@ impl Pattern {
         ensures regex { result.regex ≡ regex }
         ensures plain { result.prefilter ≡ None }
         ensures bytes { result.first_bytes ≡ None }
+        ensures waits { result.attempts ≡ false }
     {
         Pattern {
             regex,
             prefilter: None,
             first_bytes: None,
+            attempts: false,
         }
     }
 
-    /// Lets iterations attempt to find each match at once, by the bytes with which matches begin. They do without if the
-    /// match kind is `MatchKind::All`, an empty match is possible, matches begin only at the start of a haystack, or
-    /// searches stop at quit bytes; and if the pattern has needles, or memory runs out.
+    /// Lets iterations attempt to find each match at once: at the needles of the pattern or, if it has none, by the bytes
+    /// with which matches begin. They do without if the match kind is `MatchKind::All`, an empty match is possible,
+    /// matches begin only at the start of a haystack, searches stop at quit bytes, or memory runs out.
+    ///
+    /// The reverse DFA must find the starts of the matches that the forward DFA finds, as it does in a regex that was
+    /// built from one NFA.
     pub fn try_first_bytes(&mut self)
         ensures regex { self.new.regex ≡ self.old.regex }
         ensures prefilter { self.new.prefilter ≡ self.old.prefilter }
     {
-        if self.prefilter.is_none() && finds_starts(&self.regex) && !has_quits(&self.regex) {
-            if let Ok(bytes) = FirstBytes::new(self.regex.forward().get_nfa()) {
-                self.first_bytes = bytes;
+        if finds_starts(&self.regex) && !has_quits(&self.regex) {
+            self.attempts = true;
+            if self.prefilter.is_none() {
+                if let Ok(bytes) = FirstBytes::new(self.regex.forward().get_nfa()) {
+                    self.first_bytes = bytes;
+                }
             }
         }
     }
@@ -235,7 +247,8 @@ impl Pattern {
     /// out.
     pub fn begin_at_needles(&mut self, alloc: Global, texts: &[&str], options: &Options)
         requires { IsNfaOf options.now (map (λ text. text.now) texts.now) self.old.regex.forward.nfa }
-        ensures { self.new.regex ≡ self.old.regex }
+        ensures regex { self.new.regex ≡ self.old.regex }
+        ensures attempts { self.new.attempts ≡ self.old.attempts }
     {
         if !self.regex.forward().skips() && !has_quits(&self.regex) {
             self.prefilter = prefilter_of(alloc, texts, options);
@@ -355,6 +368,7 @@ impl Pattern {
     /// Attempts to find the match of the input at once: by one anchored search from the first offset where a match can
     /// begin, if that is near the start of the span. The match is not empty. If this returns none, nothing is known, and
     /// the input is yet to be searched. If the pattern has needles, the input is to be one that `narrow` returned.
+    /// Patterns make no attempt unless `try_first_bytes` lets them.
     ///
     /// The attempts of an iteration share the count of misses, which also decides whether one is made.
     #[inline(always)]
@@ -366,12 +380,17 @@ impl Pattern {
     ) -> Option<Match>
         requires { AreCachesOf cache.old self.now.regex }
         ensures of { AreCachesOf cache.new self.now.regex }
+        ensures allowed { IfSome result (λ _. self.now.attempts ≡ true) }
         ensures span { IfSome result (λ m. IsSoundPair self.now.regex
             → IsSpan (forward_engine self.now.regex) input.now (Some m)) }
         ensures within { IfSome result (λ m. MatchLiesIn self.now.regex input.now m × (m.start < m.end)) }
         ensures attempt { IsAttempt self.now input.now cache.old cache.new }
     {
-        if !misses.allow_attempt() || !is_full_search(input) || !finds_starts(&self.regex) {
+        if !self.attempts
+            || !misses.allow_attempt()
+            || !is_full_search(input)
+            || !finds_starts(&self.regex)
+        {
             return None;
         }
         let Some(start) = self.candidate(input) else {

@@ -17,8 +17,8 @@ returns-in-Ok c =
     c.in_ok-read.ensures.meant)
     c.in_ok-read.ensures.kept c.in-Ok.ensures
 
-pub returns-in-Err : goal.returns-in-Err
-returns-in-Err c =
+pub returns : goal.returns
+returns c =
     let bytes = c.args.texts.now in
     let lengths = c.args.lengths.now in
     regex_lacks (overwritten unset c.args.config) c.args.options.now c.args.settings.now bytes lengths

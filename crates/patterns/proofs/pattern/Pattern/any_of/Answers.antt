@@ -15,7 +15,7 @@ returns-in-Ok-clause-meant c =
       n.0,
       n.1,
       subst (λ (r : Regex). IsRegexOf c.args.options.now n.0 r)
-          (sym (c.try_first_bytes.ensures.regex ∙ c.begin_at_needles.ensures))
+          (sym (c.try_first_bytes.ensures.regex ∙ c.begin_at_needles.ensures.regex))
           (c.in-Ok.ensures.meant n.0 n.2),
     )
 
@@ -26,7 +26,7 @@ returns-in-Ok-clause-built c = record {
   small = c.in_ok-nfa.ensures.small;
   built =
       subst (λ (r : Regex). BuildsOne (settings_of c.args.options.now) c.in_ok-nfa.nfa r)
-      (sym (c.try_first_bytes.ensures.regex ∙ c.begin_at_needles.ensures)) c.in-Ok.ensures.built;
+      (sym (c.try_first_bytes.ensures.regex ∙ c.begin_at_needles.ensures.regex)) c.in-Ok.ensures.built;
 }
 
 pub returns-in-Err-clause-refused : goal.returns-in-Err-clause-refused
