@@ -102,10 +102,11 @@ fn finds_starts(regex: &Regex) -> bool
     is_leftmost_first(regex) && is_lazy(regex)
 }
 
-/// Whether the settings of the forward DFA have quit bytes, at which a search stops.
+/// Whether searches of the forward DFA may stop at quit bytes: those of its settings or, if these allow Unicode word
+/// boundaries, all bytes that are not ASCII.
 fn has_quits(regex: &Regex) -> bool {
     let config = regex.forward().get_config();
-    (0..=u8::MAX).any(|byte| config.get_quit(byte))
+    config.get_unicode_word_boundary() || (0..=u8::MAX).any(|byte| config.get_quit(byte))
 }
 
 /// Whether a search may skip offsets at which no match begins: it is unanchored, and its span is not done.
