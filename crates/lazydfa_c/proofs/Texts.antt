@@ -22,7 +22,8 @@ use Rattle.lazydfa_c.specs.Facts.{Reports, ReportsFacts, no_facts}
 use Rattle.lazydfa_c.specs.Statuses.{done_status, fault_status, nfa_code, plain, regex_status, status_at}
 use Rattle.lazydfa_c.specs.Texts.{CannotCut, HasFault, HoldsTexts, IsCutError, IsFailure, IsForwardOnly}
 use Rattle.lazydfa_c.specs.Texts.{IsRegexErrorStatus, IsReportOfAll, LacksRegex}
-use Rattle.lazydfa_c.specs.Texts.{IsRegexFor, LacksNfa, LacksParts, MatchesNothing, NotText, OpensTexts, RegexFails}
+use Rattle.lazydfa_c.specs.Texts.{IsPatternFor, IsRegexFor, LacksNfa, LacksParts, MatchesNothing, NotText, OpensTexts}
+use Rattle.lazydfa_c.specs.Texts.{RegexFails}
 use Rattle.lazydfa_c.specs.Texts.{TextsFail, WrongLengths, reading_of, texts_in}
 use Rattle.lazydfa_c.specs.declared.code.Code.TheVariants as code
 use Rattle.lazydfa_c.specs.declared.facts.Facts.{Facts}
@@ -152,7 +153,7 @@ module _ (o : Options) (options : TextOptions) (settings : Settings) (bytes leng
   pub opens_texts :
       (nfa : Automaton) (new : Handle) (from to : Report)
       → sum lengths ≡ length bytes → IsNfaOf (reading_of options settings) (texts_in bytes lengths) nfa → to ≡ from
-      → HoldsRegex (λ pattern. IsRegexFor options.forward_only o nfa pattern.regex) new
+      → HoldsRegex (IsPatternFor options.forward_only o nfa) new
       → HoldsTexts o options settings bytes lengths new × (to ≡ from)
   opens_texts nfa new from to whole meant same opened =
       (record { whole = whole; nfa = nfa; meant = meant; holds = opened }, same)

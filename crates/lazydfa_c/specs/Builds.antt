@@ -83,6 +83,10 @@ pub record IsRegexIn (pattern : Pattern) (handle : Handle) : Type 0 where
 abbrev pub HasNoNeedles : (Makes : Regex → Type 0) → Pattern → Type 0
 HasNoNeedles Makes pattern = Makes pattern.regex × (pattern.prefilter ≡ None)
 
+-- a regex of this kind, without needles, whose iterations make no attempts to find matches at once
+abbrev pub MakesNoAttempts : (Makes : Regex → Type 0) → Pattern → Type 0
+MakesNoAttempts Makes pattern = HasNoNeedles Makes pattern × (pattern.attempts ≡ false)
+
 -- whether both starts are valid state IDs
 abbrev pub are_starts : StartStates → Bool
 are_starts starts = is_state starts.anchored && is_state starts.unanchored
@@ -189,7 +193,7 @@ OpensOf o old new (Err e) done = (new ≡ old) × (done ≡ Err e)
 abbrev pub OpensPair : Options → (old new : Handle) → Automaton → Result Automaton Status
     → Result (Unit {0}) Status → Type 0
 OpensPair o old new forward (Ok reverse) done =
-    OpensRegex (HasNoNeedles (IsKeepingPairOf o forward reverse)) (IsKeepingPairError o forward reverse) old new done
+    OpensRegex (MakesNoAttempts (IsKeepingPairOf o forward reverse)) (IsKeepingPairError o forward reverse) old new done
 OpensPair o old new forward (Err e) done = (new ≡ old) × (done ≡ Err e)
 
 -- a handle is opened on the regex of the NFA of a builder, which is put back
@@ -294,7 +298,7 @@ pub data IsNotReversed (r : Regex) (status : Status) : Type 0 where
 -- succeeds
 abbrev pub IsReverseOf : Object → Result Shared Status → Type 0
 IsReverseOf (RegexObject r) (Ok s) =
-    HasNoNeedles (λ regex. regex ≡ reversed r.pattern.value.regex) s.pattern.value
+    MakesNoAttempts (λ regex. regex ≡ reversed r.pattern.value.regex) s.pattern.value
 IsReverseOf (RegexObject r) (Err status) = IsNotReversed r.pattern.value.regex status
 IsReverseOf (Builder b) result = result ≡ Err (plain code.Kind)
 IsReverseOf (CacheObject s) result = result ≡ Err (plain code.Kind)

@@ -1,20 +1,24 @@
 -- Contracts of the calls on a cache, each stated by the cache before and after the call and by the status.
-use Rattle.std.specs.Prelude.{ℕ, ◌≡◌, ◌==◌, Bool, true, false, List}
+use Rattle.std.specs.Prelude.{ℕ, ◌≡◌, ◌<◌, ◌⊎◌, ◌==◌, Bool, true, false, List}
 use Rattle.std.specs.Prelude.{Option, Some, None, Result, Ok, Err, IfOk, IsSomeAnd, OnOk, if◌then◌else◌}
 use Rattle.std.specs.Result.{result_err}
+use Rattle.automata_base.specs.Answers.Spans.{IsNextItem, IsSpan}
 use Rattle.automata_config.specs.declared.error.SearchError.{SearchError}
 use Rattle.automata_hybrid.specs.Known.Walks.{IsSetRun}
 use Rattle.regex_automata.specs.Promises.{Backward, FindsMatch, Forward, HalfMatch, Input, IsHalf, IsSearchRun}
+use Rattle.regex_automata.specs.Promises.{IsSoundPair, forward_engine}
 use Rattle.regex_automata.specs.Promises.{IsSpanOf, IsSpanRun, IsTruthOf, IsTruthReported, IsTruthRun, IsWhich}
 use Rattle.regex_automata.specs.Promises.{JoinsReported, Match, known_of}
 use Rattle.regex_automata.specs.Spans.Iteration.{IsNextMatch}
+use Rattle.regex_automata.specs.Spans.Outcomes.{MatchLiesIn}
 use Rattle.regex_automata.specs.Spans.Runs.{IsNextRun}
 use Rattle.regex_automata.specs.Tokens.{GivesToken, IsTokenRun}
 use Rattle.regex_automata.specs.Tokens.{match_of as token_match}
 use Rattle.regex_automata.specs.declared.hybrid.regex.Regex.{Regex}
+use Rattle.regex_automata.specs.declared.hybrid.regex.caches.Cache.{Cache}
 use Rattle.regex_automata.specs.declared.tokens.error.TokenError.{TokenError}
 use Rattle.regex_automata.specs.declared.tokens.token.Token.{Token}
-use Rattle.patterns.specs.Searches.{IsNarrowed}
+use Rattle.patterns.specs.Searches.{IsAttempt, IsNarrowed}
 use Rattle.lazydfa_c.specs.Codes.{number_of}
 use Rattle.lazydfa_c.specs.Requests.{found_from, found_half, input_of}
 use Rattle.lazydfa_c.specs.Statuses.{plain, search_status, token_status}
@@ -204,6 +208,34 @@ iterated at (Err e) = record at { ended = 1 }
 abbrev pub last_of : Iteration → Option ℕ
 last_of at = if at.has_last == 0 then None else Some at.last
 
+-- an attempt of an iteration that has not ended found the match at once: the result of `Pattern::find_at_once`
+pub record GivesAtOnce (found : Found) (old new : Iteration) (input : Input) (s t : Searcher) (status : Status)
+    : Type 0 where
+  -- the match
+  pub item : Match
+  -- it is written, and the status is `LAZYDFA_OK`
+  pub told : IsTold found_from found (Ok (Some item)) status
+  -- the regex makes attempts: one that only searches forward, or that was built from two NFAs, makes none
+  pub allowed : s.shared.pattern.value.attempts ≡ true
+  -- it is the match of the input by the paths
+  pub span : IsSoundPair (regex_of s) → IsSpan (forward_engine (regex_of s)) input (Some item)
+  -- and the next match of the iteration
+  pub next :
+      IsSoundPair (regex_of s)
+      → IsNextItem (IsSpan (forward_engine (regex_of s))) input input.start (last_of old) (Some item)
+  -- it lies in the span, and its pattern is one of the regex
+  pub within : MatchLiesIn (regex_of s) input item
+  -- it is not empty
+  pub long : item.start < item.end
+  -- the effect of the attempt on the forward cache; the reverse cache is unchanged
+  pub effect : IsAttempt s.shared.pattern.value input s.cache t.cache
+  -- the cache keeps its regex
+  pub same : t.shared ≡ s.shared
+  -- its search and its walk in pieces are unchanged
+  pub pieces : t.pieces ≡ s.pieces
+  -- the iteration is advanced past the match
+  pub iterated : new ≡ iterated old (Ok (Some item))
+
 -- a search of an iteration that has not ended: the result of `Regex::next_match`
 pub record FindsNext (found : Found) (old new : Iteration) (input : Input) (s t : Searcher) (status : Status)
     : Type 0 where
@@ -213,8 +245,12 @@ pub record FindsNext (found : Found) (old new : Iteration) (input : Input) (s t 
   pub told : IsTold found_from found result status
   -- if the search did not fail, this is the next match, or none; an empty match where the last one ended does not count
   pub next : IfOk result (IsNextMatch (regex_of s) input (last_of old))
+  -- the caches after an attempt to find the match at once, which found none
+  pub between : Cache
+  -- the effect of the attempt
+  pub attempt : IsAttempt s.shared.pattern.value input s.cache between
   -- the effect of one or two searches on the caches of both DFAs, also if one failed
-  pub effect : IsNextRun (regex_of s) input (last_of old) s.cache t.cache (result_err result)
+  pub effect : IsNextRun (regex_of s) input (last_of old) between t.cache (result_err result)
   -- the cache keeps its regex
   pub same : t.shared ≡ s.shared
   -- its search and its walk in pieces are unchanged
@@ -222,10 +258,15 @@ pub record FindsNext (found : Found) (old new : Iteration) (input : Input) (s t 
   -- the iteration is advanced past the match, or has ended
   pub iterated : new ≡ iterated old result
 
+-- the match is found at once, or the input is searched
+abbrev pub GivesOrFindsNext : Found → (old new : Iteration) → Input → Searcher → Searcher → Status → Type 0
+GivesOrFindsNext found old new input s t status =
+    GivesAtOnce found old new input s t status ⊎ FindsNext found old new input s t status
+
 -- the same for a narrowed input; if there is none, the iteration ends
 abbrev pub NarrowedNext : Found → (old new : Iteration) → Input → Searcher → Searcher → Status → Type 0
 NarrowedNext found old new input s t status =
-    OfNarrowed (FindsNext found old new) (new ≡ iterated old (Ok None)) input s t status
+    OfNarrowed (GivesOrFindsNext found old new) (new ≡ iterated old (Ok None)) input s t status
 
 -- `lazydfa_next`: the next match of an iteration
 pub record Iterates (haystack : List ℕ) (found : Found) (old new : Iteration) (s t : Searcher) (status : Status) :

@@ -13,6 +13,7 @@ use Rattle.patterns.specs.declared.error.Fault.{Fault}
 use Rattle.patterns.specs.declared.error.Fault.TheVariants.{Syntax, UnicodeWord, TooLarge, Malformed, Refused, Unbuilt}
 use Rattle.patterns.specs.declared.error.Fault.TheVariants.{OutOfMemory}
 use Rattle.patterns.specs.declared.error.PatternError.{PatternError}
+use Rattle.patterns.specs.declared.pattern.Pattern.{Pattern}
 use Rattle.regex_automata.specs.declared.hybrid.regex.Regex.{Regex}
 use Rattle.lazydfa_c.specs.Builds.{HoldsRegex, IsBuildErrorStatus, IsBuiltRegex, IsNotOpened, IsPairOf, WithOptions}
 use Rattle.lazydfa_c.specs.Builds.{capacity_of, kind_of, limit_of, options_of}
@@ -83,6 +84,12 @@ pub record IsForwardOnly (o : Options) (nfa : Automaton) (regex : Regex) : Type 
 abbrev pub IsRegexFor : (forward_only : ℕ) → Options → Automaton → Regex → Type 0
 IsRegexFor zero o nfa regex = IsBuiltRegex o nfa regex
 IsRegexFor (suc n) o nfa regex = IsForwardOnly o nfa regex
+
+-- the regex that is built from an NFA of texts; if it only searches forward, its iterations make no attempts to find
+-- matches at once
+abbrev pub IsPatternFor : (forward_only : ℕ) → Options → Automaton → Pattern → Type 0
+IsPatternFor forward_only o nfa pattern =
+    IsRegexFor forward_only o nfa pattern.regex × ((forward_only ≡ 0 → ⊥) → pattern.attempts ≡ false)
 
 -- the status if no regex is built: that of an error of `build_from_nfa`; for a regex that only searches forward, that
 -- of any error
@@ -180,7 +187,7 @@ pub record HoldsTexts (o : Options) (options : TextOptions) (settings : Settings
   -- it matches what the texts mean
   pub meant : IsNfaOf (reading_of options settings) (texts_in bytes lengths) nfa
   -- the handle is open on its regex
-  pub holds : HoldsRegex (λ pattern. IsRegexFor options.forward_only o nfa pattern.regex) handle
+  pub holds : HoldsRegex (IsPatternFor options.forward_only o nfa) handle
 
 -- the handle is opened on the regex of texts, or is unchanged, and the status says why there is no such regex
 abbrev pub OpensTexts : Options → TextOptions → Settings → (bytes lengths : List ℕ) → (old new : Handle)

@@ -3,14 +3,16 @@ ghost use Rattle.std.specs.Prelude.{◌≡◌, Ok, Some};
 ghost use Rattle.lazydfa_c.specs.Batches.{InTurn};
 ghost use Rattle.lazydfa_c.specs.Calls.{Iterates, KeepsUnlessCache, KeepsUnlessOpen, NarrowedNext, OfHandle, OfObject};
 ghost use Rattle.lazydfa_c.specs.Calls.{WritesIfDone, iterated, last_of};
-ghost use Rattle.lazydfa_c.specs.Requests.{match_of_found};
+ghost use Rattle.lazydfa_c.specs.Requests.{found_from};
+ghost use Rattle.lazydfa_c.specs.Statuses.{plain};
+ghost use Rattle.lazydfa_c.specs.declared.code.Code.TheVariants as code;
 
 use crate::code::Code;
 use crate::handle::Handle;
 use crate::input::{Found, Request};
 use crate::object::{Object, Searcher};
 use crate::status::Status;
-use regex_automata::Input;
+use regex_automata::{Input, Match};
 use std::alloc::Global;
 
 /// An iteration: the input that remains to be searched, the offset, in bytes, where the last match ended if there was
@@ -25,13 +27,17 @@ pub struct Iteration {
 }
 
 impl Iteration {
-    /// Advances an iteration past a match.
-    fn pass(&mut self, found: &Found)
-        ensures { self.new ≡ iterated self.old (Ok (Some (match_of_found found.now))) }
+    /// Writes a match, and advances an iteration past it.
+    fn give(&mut self, it: Match, found: &mut Found) -> Status
+        ensures iterated { self.new ≡ iterated self.old (Ok (Some it)) }
+        ensures found { found.new ≡ found_from it }
+        ensures status { result ≡ plain code.Done }
     {
+        *found = Found::of(it);
         self.left.start = found.end;
         self.last = found.end;
         self.has_last = 1;
+        Status::from(Code::Done)
     }
 
     /// Returns the offset where the last match ended, if there was one.
@@ -49,6 +55,8 @@ impl Iteration {
 impl Searcher {
     /// Searches for the next match of an iteration that has not ended, and writes it. If there is no match, or the
     /// search fails, the iteration ends.
+    ///
+    /// A match that is found at once is not empty, so it is not an empty match at the end of the last one.
     fn go_on(&mut self, input: &Input<'_>, at: &mut Iteration, found: &mut Found) -> Status
         ensures found { NarrowedNext found.new at.old at.new input.now self.old self.new result }
         ensures written { WritesIfDone found.old found.new result }
@@ -58,16 +66,18 @@ impl Searcher {
             return Status::from(Code::Nothing);
         };
         let shared = &self.shared;
+        if let Some(it) = shared
+            .pattern
+            .find_at_once(&mut self.cache, &narrowed, &mut self.misses)
+        {
+            return at.give(it, found);
+        }
         match shared
             .pattern
             .regex
             .next_match(&mut self.cache, &narrowed, at.last())
         {
-            Ok(Some(it)) => {
-                *found = Found::of(it);
-                at.pass(found);
-                Status::from(Code::Done)
-            }
+            Ok(Some(it)) => at.give(it, found),
             Ok(None) => {
                 at.ended = 1;
                 Status::from(Code::Nothing)

@@ -5,14 +5,14 @@ ghost use Rattle.regex_automata.specs.Promises.{AreCachesOf};
 
 use crate::stream::Stream;
 use crate::walk::Walk;
-use patterns::Pattern;
+use patterns::{Misses, Pattern};
 use regex_automata::PatternSet;
 use regex_automata::hybrid::regex::Cache;
 use regex_automata::nfa::thompson::Builder;
 use std::sync::Arc;
 
 /// A regex that handles and caches share, on any threads. If it was built from texts, it may have needles, at which
-/// searches begin.
+/// searches begin. If it was built from texts or from one NFA, iterations may attempt to find matches at once.
 #[derive(Drop)]
 pub struct Shared {
     pub pattern: Arc<Pattern>,
@@ -25,13 +25,14 @@ pub struct InPieces {
     pub walk: Option<Walk>,
 }
 
-/// A cache, the regex that it belongs to, and the search and the walk in pieces that were begun over it. Since they are
-/// kept together, no call can use a cache, a search or a walk with another regex, and the regex lives as long as any of
+/// A cache, the regex that it belongs to, how often attempts to find matches at once have failed, and the search and the
+/// walk in pieces that were begun over it. Since they are kept together, no call can use a cache, a search or a walk with another regex, and the regex lives as long as any of
 /// its caches.
 #[derive(Drop)]
 pub struct Searcher {
     pub shared: Shared,
     pub cache: Cache,
+    pub misses: Misses,
     pub patterns: PatternSet,
     pub pieces: InPieces,
     pub ghost of: { AreCachesOf cache shared.pattern.value.regex },

@@ -4,7 +4,7 @@ ghost use Rattle.automata_config.specs.Options.{overwritten, unset};
 ghost use Rattle.lazydfa_c.specs.Builds.{IsFreshOf, IsKeepingPairOf, IsKeepingPairError, IsPairOf, IsPairError};
 ghost use Rattle.lazydfa_c.specs.Builds.{HasNoNeedles, IsRegexIn, IsBuiltRegex, IsBuildErrorStatus, BuildsRegex, BuildsRegexPair};
 ghost use Rattle.lazydfa_c.specs.Builds.{IsCacheIn, IsNfaIn, IsNfaOfDraft, NewsCache, OpensAfter, OpensFrom, OpensIn};
-ghost use Rattle.lazydfa_c.specs.Builds.{AllStay, IsNotReversed, OpensPairIn, OpensRegex, ReversesHandle, ReversesRegex};
+ghost use Rattle.lazydfa_c.specs.Builds.{AllStay, IsNotReversed, MakesNoAttempts, OpensPairIn, OpensRegex, ReversesHandle, ReversesRegex};
 ghost use Rattle.lazydfa_c.specs.Builds.{SharesHandle, SharesRegex, WithOptions, options_for, reversed};
 ghost use Rattle.lazydfa_c.specs.Calls.{ReadsHandle};
 ghost use Rattle.lazydfa_c.specs.Handles.{is_open};
@@ -18,7 +18,7 @@ use crate::handle::Handle;
 use crate::object::{InPieces, Object, Searcher, Shared};
 use crate::settings::Settings;
 use crate::status::Status;
-use patterns::Pattern;
+use patterns::{Misses, Pattern};
 use regex_automata::PatternSet;
 use regex_automata::hybrid::dfa::Config;
 use regex_automata::hybrid::regex::{self, Regex};
@@ -131,7 +131,9 @@ fn open_sound(alloc: Global, handle: &mut Handle, nfa: NFA, config: Config) -> R
         handle.old handle.new result }
 {
     let regex = regex_of(nfa, config)?;
-    open(alloc, handle, Pattern::from_regex(regex))
+    let mut pattern = Pattern::from_regex(regex);
+    pattern.try_first_bytes();
+    open(alloc, handle, pattern)
 }
 
 /// Opens a handle on the regex of two NFAs. An NFA with cycles through look-around assertions keeps its unions.
@@ -142,7 +144,7 @@ fn open_pair(
     config: Config,
 ) -> Result<(), Status>
     requires { handle.now.slot.value ≡ None }
-    ensures { OpensRegex (HasNoNeedles (IsKeepingPairOf (overwritten unset config) nfas.0 nfas.1))
+    ensures { OpensRegex (MakesNoAttempts (IsKeepingPairOf (overwritten unset config) nfas.0 nfas.1))
         (IsKeepingPairError (overwritten unset config) nfas.0 nfas.1) handle.old handle.new result }
 {
     let (forward, reverse) = nfas;
@@ -351,7 +353,7 @@ pub extern "C" fn lazydfa_raw_regex_share(
 /// `Code::PatternCounts` if they differ in their numbers of patterns.
 fn reversed(alloc: Global, shared: &Shared) -> Result<Shared, Status>
     ensures ok { IfOk result (λ s.
-        HasNoNeedles (λ regex. regex ≡ reversed shared.now.pattern.value.regex) s.pattern.value) }
+        MakesNoAttempts (λ regex. regex ≡ reversed shared.now.pattern.value.regex) s.pattern.value) }
     ensures err { IfErr result (IsNotReversed shared.now.pattern.value.regex) }
 {
     let forward = shared.pattern.regex.reverse().clone()?;
@@ -415,6 +417,7 @@ fn searcher_of(alloc: Global, shared: Shared) -> Result<Searcher, Status>
     Ok(Searcher {
         shared,
         cache,
+        misses: Misses::none(),
         patterns,
         pieces: InPieces {
             search: None,

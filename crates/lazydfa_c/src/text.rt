@@ -1,11 +1,11 @@
 //! Regexes built from the texts of patterns.
-ghost use Rattle.std.specs.Prelude.{◌≡◌, [], IfErr, IfOk, None, length, map, string_bytes, sum};
+ghost use Rattle.std.specs.Prelude.{◌≡◌, [], IfErr, IfOk, None, false, length, map, string_bytes, sum};
 ghost use Rattle.automata_config.specs.Options.{overwritten, unset};
 ghost use Rattle.patterns.specs.Patterns.{IsNfaOf};
 ghost use Rattle.lazydfa_c.specs.Builds.{OpensRegex};
 ghost use Rattle.lazydfa_c.specs.Limits.{admits};
 ghost use Rattle.lazydfa_c.specs.Statuses.{fault_status};
-ghost use Rattle.lazydfa_c.specs.Texts.{BuildsAnyOf, BuildsTexts, IsCutError, IsRegexErrorStatus, IsRegexFor};
+ghost use Rattle.lazydfa_c.specs.Texts.{BuildsAnyOf, BuildsTexts, IsCutError, IsPatternFor, IsRegexErrorStatus, IsRegexFor};
 ghost use Rattle.lazydfa_c.specs.Texts.{IsReportOfAll, LacksNfa, OpensTexts, OpensWithin, WritesMessage};
 ghost use Rattle.lazydfa_c.specs.Texts.{nest_limit_of, none_refused};
 ghost use Rattle.lazydfa_c.specs.Texts.{reading_of, refusal_at, refusal_of, size_limit_of, texts_in};
@@ -343,6 +343,27 @@ fn regex_for(alloc: Global, nfa: NFA, config: Config, forward_only: u32) -> Resu
     }
 }
 
+/// Lets searches of a regex of texts begin at needles of these texts if there are any, and lets its iterations attempt
+/// to find matches at once unless it only searches forward.
+fn pattern_for(
+    alloc: Global,
+    regex: Regex,
+    texts: &[&str],
+    options: &Options,
+    forward_only: u32,
+) -> Pattern
+    requires { IsNfaOf options.now (map (λ text. text.now) texts.now) regex.forward.nfa }
+    ensures regex { result.regex ≡ regex }
+    ensures waits { (forward_only ≡ 0 → ⊥) → result.attempts ≡ false }
+{
+    let mut pattern = Pattern::from_regex(regex);
+    pattern.begin_at_needles(alloc, texts, options);
+    if forward_only == 0 {
+        pattern.try_first_bytes();
+    }
+    pattern
+}
+
 /// Opens a handle on the regex of the NFA of texts, whose searches begin at needles of these texts if there are any.
 fn open_nfa(
     alloc: Global,
@@ -355,13 +376,12 @@ fn open_nfa(
 ) -> Result<(), Status>
     requires closed { regex.now.slot.value ≡ None }
     requires meant { IsNfaOf options.now (map (λ text. text.now) texts.now) nfa }
-    ensures { OpensRegex (λ pattern. IsRegexFor forward_only (overwritten unset config) nfa pattern.regex)
+    ensures { OpensRegex (IsPatternFor forward_only (overwritten unset config) nfa)
         (IsRegexErrorStatus forward_only (overwritten unset config) nfa) regex.old regex.new result }
 {
     match regex_for(alloc, nfa, config, forward_only) {
         Ok(built) => {
-            let mut pattern = Pattern::from_regex(built);
-            pattern.begin_at_needles(alloc, texts, options);
+            let pattern = pattern_for(alloc, built, texts, options, forward_only);
             open(alloc, regex, pattern)
         }
         Err(status) => Err(status),
