@@ -64,8 +64,9 @@
 //!
 //! A pattern has the syntax of Rust's regex crate; an invalid pattern is shown with a caret below the error. A line is
 //! a run of bytes up to a line feed. It need not be text: a byte that is not part of a character matches
-//! `(?-u:[\x80-\xFF])`, but not `.`. With `-w` word characters are the ASCII letters, the digits and `_`: other letters
-//! do not count, and a match may begin or end beside them.
+//! `(?-u:[\x80-\xFF])`, but not `.`. Of the matches that begin at one place `-o` prints the one that the crate prefers,
+//! such as the first of several alternatives, where GNU grep prints the longest. With `-w` word characters are the ASCII
+//! letters, the digits and `_`: other letters do not count, and a match may begin or end beside them.
 //!
 //! With `--which` a line begins, after its file name and its number, with the numbers of all patterns that match
 //! somewhere in it, in increasing order, separated by commas, and a colon. Patterns are numbered from 1 in the order in
