@@ -1,6 +1,6 @@
-# Lays out the manual of a program as a manual page. A line "# Title" begins a section. Of an indented line what precedes
-# two spaces is a term, and what follows describes it; a line that is indented further continues the description. Other
-# indented lines are left as they are, and the rest is filled.
+# Lays out the manual of a program as a manual page. A line "# Title" begins a section. Of an indented line what
+# precedes two spaces is a term, and what follows describes it; a line that is indented further continues the
+# description. Other indented lines are left as they are, and the rest is filled.
 function escaped(text) {
     gsub(/\\/, "\\e", text)
     gsub(/-/, "\\-", text)

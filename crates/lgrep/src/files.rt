@@ -224,12 +224,7 @@ impl Search {
             return self.search_file(rt, path);
         }
         let is_directory = is_directory(rt, path);
-        let name = if is_directory {
-            path.trim_end_matches('/')
-        } else {
-            path
-        };
-        if !self.filter.takes(rt.alloc(), name, is_directory)? {
+        if !self.filter.takes(rt.alloc(), path, is_directory)? {
             Ok(())
         } else if !is_directory {
             self.search_file(rt, path)

@@ -57,15 +57,16 @@
 //!     -U, --binary, --line-buffered   no effect
 //!
 //! A value is the rest of its argument or the next argument: `-m3`, `-m 3`, `--max-count=3` and `--max-count 3` are the
-//! same. Letters may share an argument, as in `-rni`. `--` ends the flags. The last of `-l` and `-L` counts, and so does
-//! the last of `-F` and `-E`.
+//! same. Letters may share an argument, as in `-rni`. `--` ends the flags. The last of `-l` and `-L` counts, and so
+//! does the last of `-F` and `-E`.
 //!
 //! # Patterns
 //!
 //! A pattern has the syntax of Rust's regex crate; an invalid pattern is shown with a caret below the error. A line is
 //! a run of bytes up to a line feed. It need not be text: a byte that is not part of a character matches
-//! `(?-u:[\x80-\xFF])`, but not `.`. With `-w` word characters are the ASCII letters, the digits and `_`: other letters
-//! do not count, and a match may begin or end beside them.
+//! `(?-u:[\x80-\xFF])`, but not `.`. Of the matches that begin at one place `-o` prints the one that the crate prefers,
+//! such as the first of several alternatives, where GNU grep prints the longest. With `-w` word characters are the
+//! ASCII letters, the digits and `_`: other letters do not count, and a match may begin or end beside them.
 //!
 //! With `--which` a line begins, after its file name and its number, with the numbers of all patterns that match
 //! somewhere in it, in increasing order, separated by commas, and a colon. Patterns are numbered from 1 in the order in
@@ -78,8 +79,8 @@
 //! is an error without `-r`. It is an error if a file cannot be read, or has a line that does not fit into memory; the
 //! other files are still searched.
 //!
-//! In a glob `*` is any text, `?` is any character, `[a-z_]` is one of these characters and `[!a-z_]` any other, and `\`
-//! makes the next character itself. Below a directory a glob has to match the name of a file; of a FILE that is an
+//! In a glob `*` is any text, `?` is any character, `[a-z_]` is one of these characters and `[!a-z_]` any other, and
+//! `\` makes the next character itself. Below a directory a glob has to match the name of a file; of a FILE that is an
 //! argument it has to match the last names of the path. The last of several globs that matches decides. If none does, a
 //! file is searched unless the first of them is an `--include`.
 //!
