@@ -27,6 +27,11 @@ static const char *const more[][2] = {
     { "[a-z]*", NULL },       { "b*|a", NULL },         { "[ab]{2,3}?", "[c-z]" },
 };
 
+/* Texts with Unicode word boundaries, at which a search stops at a byte that is not ASCII. */
+static const char *const words[][2] = {
+    { "\\b[a-z]+", NULL }, { "\\Ba", NULL }, { "a|b\\b", NULL }, { "b", "\\Ba" }, { "ab\\b|abab", NULL },
+};
+
 /* What haystacks are made of. */
 static const char *const parts[] = { "a",  "b",    "c",    "ab",   "aab",      "aba",    " ",       "\n",
                                      "://", "http", "AKIA", "AGPA", "Sherlock", "Holmes", "Sherloc", "\xC3\xA9" };
@@ -189,12 +194,13 @@ static void in_turn(lazydfa_regex *regex) {
 }
 
 /* Iterations with regexes of texts: with a quit byte that haystacks have or not, and with small caches or not. */
-static void texts_in_turn(const char *const *texts, uint32_t kind, uint32_t forward_only) {
+static void texts_in_turn(const char *const *texts, uint32_t kind, uint32_t forward_only, uint32_t word_boundary) {
     lazydfa_regex regex = LAZYDFA_INIT, back = LAZYDFA_INIT;
     lazydfa_settings settings;
     size_t quits;
     memset(&settings, 0, sizeof settings);
     settings.match_kind = kind;
+    settings.unicode_word_boundary = word_boundary;
     for (quits = 0; quits < 2; quits++) {
         for (settings.has_cache_capacity = 0; settings.has_cache_capacity < 2; settings.has_cache_capacity++) {
             settings.skip_cache_capacity_check = 1;
@@ -254,10 +260,13 @@ int main(void) {
         for (kind = LAZYDFA_LEFTMOST_FIRST; kind <= LAZYDFA_ALL; kind++) {
             for (forward_only = 0; forward_only < 2; forward_only++) {
                 beside(texts, kind, forward_only);
-                texts_in_turn(texts, kind, forward_only);
+                texts_in_turn(texts, kind, forward_only, 0);
             }
         }
     }
+    for (i = 0; i < sizeof words / sizeof *words; i++)
+        for (forward_only = 0; forward_only < 2; forward_only++)
+            texts_in_turn(words[i], LAZYDFA_LEFTMOST_FIRST, forward_only, 1);
     nfas_in_turn();
     ends_early();
     return counted();
