@@ -27,6 +27,11 @@ static const char *const more[][2] = {
     { "[a-z]*", NULL },       { "b*|a", NULL },         { "[ab]{2,3}?", "[c-z]" },
 };
 
+/* Texts with Unicode word boundaries, at which a search stops at a byte that is not ASCII. */
+static const char *const words[][2] = {
+    { "\\b[a-z]+", NULL }, { "\\Ba", NULL }, { "a|b\\b", NULL }, { "b", "\\Ba" }, { "ab\\b|abab", NULL },
+};
+
 /* What haystacks are made of. */
 static const char *const parts[] = { "a",  "b",    "c",    "ab",   "aab",      "aba",    " ",       "\n",
                                      "://", "http", "AKIA", "AGPA", "Sherlock", "Holmes", "Sherloc", "\xC3\xA9" };
@@ -187,13 +192,14 @@ static void in_turn(lazydfa_regex *regex) {
 }
 
 /* Iterations with regexes of texts: with a quit byte that haystacks have or not, and with small caches or not. */
-static void texts_in_turn(const char *const *texts, uint32_t kind, uint32_t forward_only) {
+static void texts_in_turn(const char *const *texts, uint32_t kind, uint32_t forward_only, uint32_t word_boundary) {
     static const uint8_t quit = 'c';
     lazydfa_regex regex = LAZYDFA_INIT, back = LAZYDFA_INIT;
     lazydfa_options options = LAZYDFA_OPTIONS_INIT;
     uint32_t small;
     options.match_kind = kind;
     options.forward_only = forward_only;
+    options.unicode_word_boundary = word_boundary;
     options.skip_cache_capacity_check = 1;
     options.quits = &quit;
     for (options.quit_count = 0; options.quit_count < 2; options.quit_count++) {
@@ -255,10 +261,13 @@ int main(void) {
         for (kind = LAZYDFA_LEFTMOST_FIRST; kind <= LAZYDFA_ALL; kind++) {
             for (forward_only = 0; forward_only < 2; forward_only++) {
                 beside(texts, kind, forward_only);
-                texts_in_turn(texts, kind, forward_only);
+                texts_in_turn(texts, kind, forward_only, 0);
             }
         }
     }
+    for (i = 0; i < sizeof words / sizeof *words; i++)
+        for (forward_only = 0; forward_only < 2; forward_only++)
+            texts_in_turn(words[i], LAZYDFA_LEFTMOST_FIRST, forward_only, 1);
     nfas_in_turn();
     ends_early();
     return counted();
