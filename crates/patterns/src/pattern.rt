@@ -261,7 +261,7 @@ impl Pattern {
         ensures attempts { self.new.attempts ≡ self.old.attempts }
     {
         let regex = &self.regex;
-        if !regex.forward().skips() && !may_quit(regex) && may_have_needles(regex) {
+        if !regex.forward().skips() && may_have_needles(regex) && !may_quit(regex) {
             self.prefilter = prefilter_of(alloc, texts, options);
         }
     }
