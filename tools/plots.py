@@ -3,7 +3,7 @@
 
     tools/plots.py [--test]
 
-It writes docs/words.svg, docs/sets.svg, docs/capacity.svg and docs/searched.svg. With `--test` it writes nothing, and
+It writes docs/words.svg, docs/sets.svg, docs/capacity.svg, docs/searched.svg and docs/suite.svg. With `--test` it writes nothing, and
 fails if one of them differs from what it would write. A column of a table is a position from left to right, and a value
 is a height, by powers of ten; in the last picture, each row has a bar for each program.
 """
@@ -14,7 +14,14 @@ import re
 import sys
 
 TOP = os.path.dirname(os.path.dirname(os.path.abspath(__file__)))
-COLOURS = {"here": "#2a6f97", "twin": "#e09f3e", "RE2": "#9e2a2b", "the kit's regex": "#588157", "regex": "#588157"}
+COLOURS = {
+    "here": "#2a6f97",
+    "twin": "#e09f3e",
+    "RE2": "#9e2a2b",
+    "the kit's regex": "#588157",
+    "regex": "#588157",
+    "PCRE2, JIT": "#6d597a",
+}
 UNITS = {"µs": 1.0, "ms": 1000.0}
 LEFT, TOP_EDGE, WIDTH, HEIGHT = 70, 50, 480, 260
 # For each picture: its title, the first cell of its table's head, its first row, and its number of rows.
@@ -26,7 +33,10 @@ PICTURES = {
 
 # The picture of bars: its title, the first cell of its table's head, and the value at which a bar is cut. Programs are
 # the columns that have a colour.
-BARS = {"searched.svg": ("Instructions a byte: a longer bar is one of more instructions", "Search", 360)}
+BARS = {
+    "searched.svg": ("Instructions a byte: a longer bar is one of more instructions", "Search", 360),
+    "suite.svg": ("Times of other programs by ours: a longer bar is a slower program", "Kind of work", 8),
+}
 
 
 def rows_of(text, head):
