@@ -18,7 +18,7 @@ cd "$1"
 [ "$(pwd -P)" != "$top" ] || { echo 'tools/vendor.sh: FOLDER is this repository' >&2; exit 2; }
 touch crates.txt
 for crate in automata_base automata_determinize automata_transform automata_config automata_hybrid \
-    regex_automata match_facts meaning prefilters patterns captures; do
+    regex_automata match_facts meaning prefilters patterns; do
     mkdir -p "crates/$crate"
     for part in src specs proofs; do
         rm -rf "crates/$crate/$part"

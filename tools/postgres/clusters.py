@@ -106,8 +106,7 @@ def faults(clusters):
 
 
 def milliseconds(query, at_once):
-    setup = f"SET enable_async_append = {at_once}; SET enable_partitionwise_aggregate = on;"
-    said = psql(f"{setup} EXPLAIN (ANALYZE, TIMING off, COSTS off) {query}")
+    said = psql(f"SET enable_async_append = {at_once}; EXPLAIN (ANALYZE, TIMING off, COSTS off) {query}")
     return float(re.search(r"Execution Time: ([\d.]+) ms", said)[1])
 
 
